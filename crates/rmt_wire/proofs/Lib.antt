@@ -1,0 +1,12 @@
+pub mod Numbers
+pub mod Lines
+pub mod Spellings
+pub mod Align
+pub mod Fronts
+pub mod Opens
+pub mod Giving
+pub mod Dropped
+pub mod Nexts
+pub mod Reading
+pub mod Spelling
+pub mod Beginnings

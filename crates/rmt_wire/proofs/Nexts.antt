@@ -1,0 +1,175 @@
+-- One call of a reader's `next`.
+use Rattle.std.proofs.Common.{◌≡◌, ℕ, eqb, true, min, ◌+◌, ◌-◌, ◌<◌, ◌≤◌, List, [], ◌++◌, length, take, drop, Option, Some, None, Result, Ok, Err, sym, ap, subst, ◌∙◌, arith}
+use Rattle.std.proofs.lemmas.Bool.Decides.{nat_tests}
+use Rattle.std.proofs.lemmas.List.{take_rest, nil_from_length, length-append, length-drop, length-take-le, drop-append-le, drop-take, drop-drop}
+use Rattle.rmt_wire.specs.Request.{PlainRequest, SpellsRequest}
+use Rattle.rmt_wire.specs.Request.PlainRequest.{Open, Close, Write, WriteDropped, Read, Op}
+use Rattle.rmt_wire.specs.Parts.{Gives}
+use Rattle.rmt_wire.specs.Front.{Seen, front_of}
+use Rattle.rmt_wire.specs.Lent.{plain_request, lent_front}
+use Rattle.rmt_wire.specs.Reader.{dropped_line, held, IsDropped, Unread, gone_at, taken_of, IsNext, StaysFaulty, told_front, held_after}
+use Rattle.rmt_wire.specs.declared.request.Request.{Request}
+use Rattle.rmt_wire.specs.declared.fault.WireFault.{WireFault}
+use Rattle.rmt_wire.proofs.Fronts.{FrontView}
+use Rattle.rmt_wire.proofs.Opens.{front_view}
+use Rattle.rmt_wire.proofs.Giving.{gives, room, answer_to, rest_behind, fault_stays}
+use Rattle.rmt_wire.proofs.Dropped.{unread_whole, plain_unread, whole_given, less_given, dropped_found, line_split, empty_unread, taken_kept, within_some, let_go_unread, let_go_dropped}
+
+-- a spelling has a letter at least
+pub spelled_some : (text : List ℕ) (request : PlainRequest) → SpellsRequest text request → 0 < length text
+spelled_some text (Open device mode) s = rw s.3 (omega arith)
+spelled_some text Close s = rw s.2 (omega arith)
+spelled_some text (Write written) s = rw s.3 (omega arith)
+spelled_some text (WriteDropped count) s = rw s.5 (omega arith)
+spelled_some text (Read count) s = rw s.2 (omega arith)
+spelled_some text (Op op count) s = rw s.4 (omega arith)
+
+-- what is given is let go
+given_shrinks : (bytes rest : List ℕ) (request : PlainRequest) → Gives bytes (Ok (Some request)) rest → length rest < length bytes
+given_shrinks bytes rest request g =
+    let some = spelled_some g.0 request g.1 in
+    let all = ap (length {A = ℕ}) g.2 in
+    let parts = length-append g.0 rest in
+    omega arith
+
+-- a fault is seen whatever follows
+always_at : (bytes : List ℕ) (seen : Seen (PlainRequest × ℕ)) (fault : WireFault) (more : List ℕ) → seen ≡ Err fault → FrontView bytes seen → front_of (bytes ++ more) ≡ Err fault
+always_at bytes (Ok None) fault more e v = absurd (cc)
+always_at bytes (Ok (Some p)) fault more e v = absurd (cc)
+always_at bytes (Err other) fault more e v = ap front_of (fault_stays v.0 v.1 more v.2 bytes v.3) ∙ v.6 (v.1 ++ more) ∙ e
+
+pub faulty_always : (bytes : List ℕ) (fault : WireFault) (more : List ℕ) → front_of bytes ≡ Err fault → front_of (bytes ++ more) ≡ Err fault
+faulty_always bytes fault more e = always_at bytes (front_of bytes) fault more e (front_view bytes)
+
+gives_of : (bytes : List ℕ) (seen : Seen (PlainRequest × ℕ)) → front_of bytes ≡ seen → Gives bytes (answer_to seen) (rest_behind seen bytes)
+gives_of bytes seen e = subst (λ s. Gives bytes (answer_to s) (rest_behind s bytes)) e (gives bytes)
+
+-- with no dropped write at the front, what is seen of the bytes kept is given
+pub plain_next : (kept : List ℕ) (dropped : ℕ) (found : Result (Option (Request × ℕ)) WireFault) → dropped_line kept ≡ None → lent_front found ≡ front_of kept
+    → IsNext (held kept dropped) (told_front found) (held_after found (held kept dropped))
+plain_next kept dropped (Ok None) none e = record {
+  continues = λ bytes u.
+      let same = plain_unread kept dropped bytes none u in
+      (bytes, u, gives_of bytes (Ok None) (ap front_of same ∙ sym e));
+  room = λ bytes u.
+      let same = plain_unread kept dropped bytes none u in
+      room bytes (ap front_of same ∙ sym e);
+  shrinks = tt;
+}
+plain_next kept dropped (Ok (Some f)) none e =
+    let g = gives_of kept (Ok (Some (plain_request f.0, f.1))) (sym e) in
+    record {
+      continues = λ bytes u.
+          let same = plain_unread kept dropped bytes none u in
+          (drop f.1 kept, unread_whole (drop f.1 kept), subst (λ b. Gives b (Ok (Some (plain_request f.0))) (drop f.1 kept)) (sym same) g);
+      room = tt;
+      shrinks = given_shrinks kept (drop f.1 kept) (plain_request f.0) g;
+    }
+plain_next kept dropped (Err fault) none e = record {
+  continues = λ bytes u.
+      let same = plain_unread kept dropped bytes none u in
+      (bytes, u, gives_of bytes (Err fault) (ap front_of same ∙ sym e));
+  room = tt;
+  shrinks = tt;
+}
+
+pub plain_faulty : (kept : List ℕ) (dropped : ℕ) (found : Result (Option (Request × ℕ)) WireFault) → dropped_line kept ≡ None → lent_front found ≡ front_of kept
+    → StaysFaulty (held kept dropped) (told_front found)
+plain_faulty kept dropped (Ok None) none e = tt
+plain_faulty kept dropped (Ok (Some f)) none e = tt
+plain_faulty kept dropped (Err fault) none e = λ bytes more u.
+    let same = plain_unread kept dropped bytes none u in
+    gives_of (bytes ++ more) (Err fault) (ap (λ b. front_of (b ++ more)) same ∙ faulty_always kept fault more (sym e))
+
+-- at a dropped write
+pub whole_next : (kept : List ℕ) (dropped : ℕ) (line : ℕ × ℕ) → dropped_line kept ≡ Some line → line.1 ≤ dropped + (length kept - line.0) → 0 < line.0 → line.0 ≤ length kept
+    → IsNext (held kept dropped) (Ok (Some (WriteDropped line.1))) (held (drop (line.0 + (line.1 - dropped)) kept) 0)
+whole_next kept dropped line e enough some within = record {
+  continues = λ bytes u. (drop (line.0 + (line.1 - dropped)) kept, unread_whole (drop (line.0 + (line.1 - dropped)) kept), whole_given kept dropped line bytes e enough u);
+  room = tt;
+  shrinks = omega (arith, length-drop (line.0 + (line.1 - dropped)) kept);
+}
+
+pub less_next : (kept : List ℕ) (dropped : ℕ) (line : ℕ × ℕ) → dropped_line kept ≡ Some line → dropped + (length kept - line.0) < line.1
+    → IsNext (held kept dropped) (Ok None) (held kept dropped)
+less_next kept dropped line e less = record {
+  continues = λ bytes u. (bytes, u, (less_given kept dropped line bytes e less u).0);
+  room = λ bytes u. (less_given kept dropped line bytes e less u).1;
+  shrinks = tt;
+}
+
+-- the length of a dropped write's line
+pub line_some : (kept : List ℕ) (line : ℕ × ℕ) → dropped_line kept ≡ Some line → (0 < line.0) × (line.0 ≤ length kept)
+line_some kept line e =
+    let d = dropped_found kept line e in
+    let long = d.long in
+    (omega arith, (line_split kept line d).2)
+
+-- bytes that are taken out behind a front of what is kept
+pub taken_out : (items : List ℕ) (start len count : ℕ) → start + len ≤ length items
+    → drop start (take (start + len) items ++ drop (start + len + count) items) ≡ take len (drop start items) ++ drop (len + count) (drop start items)
+taken_out items start len count within =
+    let size : start ≤ length (take (start + len) items) = omega (arith, length-take-le (start + len) items within) in
+    let sum : start + len + count ≡ start + (len + count) = omega arith in
+    drop-append-le start (take (start + len) items) (drop (start + len + count) items) size
+    ∙ ap (λ l. l ++ drop (start + len + count) items) (drop-take start len items)
+    ∙ ap (λ n. take len (drop start items) ++ drop n items) sum
+    ∙ ap (λ l. take len (drop start items) ++ l) (sym (drop-drop (len + count) start items))
+
+-- the bytes kept are none exactly where their start is the end
+pub empty_at : (items : List ℕ) (start dropped : ℕ) (bytes : List ℕ) (len : ℕ) → len ≡ length items → start ≤ length items → Unread (held (drop start items) dropped) bytes
+    → (eqb len start ≡ true → bytes ≡ []) × (bytes ≡ [] → eqb len start ≡ true)
+empty_at items start dropped bytes len e within u =
+    let b = empty_unread (held (drop start items) dropped) bytes u in (
+      λ t.
+          let same : len ≡ start = grind (arith, nat_tests) in
+          b.0 (nil_from_length (drop start items) (omega (arith, length-drop start items))),
+      λ z.
+          let none : length (drop start items) ≡ 0 = ap (length {A = ℕ}) (b.1 z) in
+          let same : len ≡ start = omega (arith, length-drop start items) in
+          grind (arith, nat_tests),
+    )
+
+-- the room is what the bytes pushed do not take
+pub room_at : (items : List ℕ) (start dropped : ℕ) (bytes : List ℕ) (all : List ℕ) (gone : ℕ) → all ≡ items → length items ≤ 65548 → start ≤ length items
+    → gone ≡ gone_at (dropped_line (take (length all - start) (drop start all))) (length (take (length all - start) (drop start all))) dropped
+    → Unread (held (drop start items) dropped) bytes → 65548 - (length (take (length all - start) (drop start all)) - gone) + taken_of bytes ≡ 65548
+room_at items start dropped bytes all gone e most within g u =
+    let t = taken_kept (drop start items) dropped bytes u in
+    let same : take (length all - start) (drop start all) ≡ drop start items = take_rest all start ∙ ap (drop start) e in
+    let g' : gone ≡ gone_at (dropped_line (drop start items)) (length (drop start items)) dropped = g ∙ ap (λ l. gone_at (dropped_line l) (length l) dropped) same in
+    let size = length-drop start items in
+    rw same (omega arith)
+
+-- what is left to do once data were let go: the line is still there, and the bytes kept are what the bytes pushed take
+pub record HasLetGo (items : List ℕ) (start dropped gone : ℕ) (old : List ℕ) : Type 0 where
+  pub within : start ≤ length items
+  pub fewer : length items ≤ length old
+  pub at_line : IsDropped (dropped_line (drop start items)) (dropped + gone)
+  pub unread : (bytes : List ℕ) → Unread (held (drop start old) dropped) bytes → Unread (held (drop start items) (dropped + gone)) bytes
+  pub taken : (bytes : List ℕ) → Unread (held (drop start old) dropped) bytes → length (drop start items) ≡ taken_of bytes
+
+pub has_let_go : (old items : List ℕ) (start dropped gone : ℕ) (line : ℕ × ℕ) (all : List ℕ) → all ≡ old → start ≤ length old
+    → dropped_line (take (length all - start) (drop start all)) ≡ Some line → IsDropped (dropped_line (drop start old)) dropped
+    → gone ≡ gone_at (dropped_line (take (length all - start) (drop start all))) (length (take (length all - start) (drop start all))) dropped
+    → items ≡ take (start + line.0) old ++ drop (start + line.0 + gone) old → HasLetGo items start dropped gone old
+has_let_go old items start dropped gone line all same within e kept_line g is =
+    let kept : List ℕ = drop start old in
+    let view : take (length all - start) (drop start all) ≡ kept = take_rest all start ∙ ap (drop start) same in
+    let e' : dropped_line kept ≡ Some line = ap dropped_line (sym view) ∙ e in
+    let g' : gone ≡ gone_at (dropped_line kept) (length kept) dropped = g ∙ ap (λ l. gone_at (dropped_line l) (length l) dropped) view in
+    let some = line_some kept line e' in
+    let few = within_some (dropped_line kept) line dropped e' kept_line in
+    let size = length-drop start old in
+    let amount : gone ≡ min (length kept - line.0) (line.1 - dropped) = g' ∙ ap (λ o. gone_at o (length kept) dropped) e' in
+    let new : drop start items ≡ take line.0 kept ++ drop (line.0 + gone) kept = ap (drop start) is ∙ taken_out old start line.0 gone (omega (arith, some.1)) in
+    let new_size : length (drop start items) + gone ≡ length kept = omega (arith, ap (length {A = ℕ}) new, length-append (take line.0 kept) (drop (line.0 + gone) kept), length-take-le line.0 kept some.1, length-drop (line.0 + gone) kept, some.1) in
+    let all_size : length items ≡ start + line.0 + (length old - (start + line.0 + gone)) =
+    ap (length {A = ℕ}) is ∙ omega (arith, length-append (take (start + line.0) old) (drop (start + line.0 + gone) old), length-take-le (start + line.0) old (omega (arith, some.1)), length-drop (start + line.0 + gone) old) in
+    record {
+      within = omega arith;
+      fewer = omega (arith, some.1);
+      at_line = subst (λ l. IsDropped (dropped_line l) (dropped + gone)) (sym new) (let_go_dropped kept dropped gone line e' (omega arith));
+      unread = λ bytes u. subst (λ l. Unread (held l (dropped + gone)) bytes) (sym new) (let_go_unread kept dropped gone line bytes e' (omega arith) (omega arith) u);
+      taken = λ bytes u. (let t = taken_kept kept dropped bytes u in omega arith);
+    }

@@ -1,0 +1,27 @@
+-- Streams whose failures are counted.
+use Rattle.std.specs.Prelude.{ℕ, ◌+◌, ◌-◌, ◌^◌, ◌≤◌, min, max, refl}
+use Rattle.std.specs.Coded.{Coded, code_by, coded×, coded_ℕ}
+
+-- a stream, the failures counted so far, and how many reads it still passes on
+pub record Counting (T : Type 0) : Type 0 where
+  pub inner : T
+  pub failures : ℕ
+  pub left : ℕ
+
+-- it is stored as the tuple of its fields
+abbrev pub counting_code : {T : Type 0} → Coded T → Coded (Counting T)
+counting_code {T} code =
+    code_by
+    (T × (ℕ × ℕ))
+    (coded× code (coded× coded_ℕ coded_ℕ))
+    (λ c. (c.inner, (c.failures, c.left)))
+    (λ p. record { inner = p.0; failures = p.1.0; left = p.1.1 })
+    (λ _. refl)
+
+-- the count after one failure more, which stays at the greatest u64
+abbrev pub raised : ℕ → ℕ
+raised n = max n (min (n + 1) (2 ^ 64 - 1))
+
+-- the count has risen, or stands at its greatest value
+abbrev pub HasRisen : ℕ → ℕ → Type 0
+HasRisen before now = raised before ≤ now

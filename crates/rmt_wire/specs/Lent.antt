@@ -1,0 +1,30 @@
+-- A request or an answer that lends bytes, as the value that it is.
+use Rattle.std.specs.Prelude.{ℕ, Option, Some, None, Result, Ok, Err}
+use Rattle.rmt_wire.specs.Request.{PlainRequest}
+use Rattle.rmt_wire.specs.Request.PlainRequest.{Open, Close, Write, WriteDropped, Read, Op}
+use Rattle.rmt_wire.specs.Reply.{PlainReply}
+use Rattle.rmt_wire.specs.Reply.PlainReply.{Done, Data, Error}
+use Rattle.rmt_wire.specs.declared.fault.WireFault.{WireFault}
+use Rattle.rmt_wire.specs.declared.request.Request.{Request}
+use Rattle.rmt_wire.specs.declared.request.Request.TheVariants as lent
+use Rattle.rmt_wire.specs.declared.reply.Reply.{Reply}
+use Rattle.rmt_wire.specs.declared.reply.Reply.TheVariants as answer
+
+abbrev pub plain_request : Request → PlainRequest
+plain_request (lent.Open device mode) = Open device.now mode
+plain_request lent.Close = Close
+plain_request (lent.Write bytes) = Write bytes.now
+plain_request (lent.WriteDropped count) = WriteDropped count
+plain_request (lent.Read count) = Read count
+plain_request (lent.Op op count) = Op op count
+
+abbrev pub plain_reply : Reply → PlainReply
+plain_reply (answer.Done number) = Done number
+plain_reply (answer.Data bytes) = Data bytes.now
+plain_reply (answer.Error number text) = Error number text.now
+
+-- a lent request and its length
+abbrev pub lent_front : Result (Option (Request × ℕ)) WireFault → Result (Option (PlainRequest × ℕ)) WireFault
+lent_front (Ok None) = Ok None
+lent_front (Ok (Some found)) = Ok (Some (plain_request found.0, found.1))
+lent_front (Err fault) = Err fault

@@ -1,0 +1,9 @@
+pub mod Number
+pub mod Request
+pub mod Reply
+pub mod Lent
+pub mod Front
+pub mod Parts
+pub mod Reader
+pub mod Counted
+pub mod Writer

@@ -1,0 +1,25 @@
+-- Numbers and lines as they stand in a stream (rmt(8); the limits are this project's).
+use Rattle.std.specs.Prelude.{◌≡◌, ◌≢◌, ℕ, ◌≤◌, List, length}
+use Rattle.std.specs.List.{AllByRecursion}
+use Rattle.std.specs.Str.Parse.{IsNumeral, digits_value}
+
+abbrev pub line_feed : ℕ
+line_feed = 10
+
+abbrev pub space : ℕ
+space = 32
+
+-- the text is 1 to 10 digits that write n, and n is at most 2147483647
+pub record SpellsNumber (text : List ℕ) (n : ℕ) : Type 0 where
+  pub digits : IsNumeral 10 text
+  pub few : length text ≤ 10
+  pub value : digits_value 10 text ≡ n
+  pub small : n ≤ 2147483647
+
+-- the text has no line feed
+abbrev pub HasNoLineFeed : List ℕ → Type 0
+HasNoLineFeed text = AllByRecursion (λ b. b ≢ line_feed) text
+
+-- a device, mode or close line, without its end: at most 255 bytes
+abbrev pub IsLine : List ℕ → Type 0
+IsLine text = (length text ≤ 255) × HasNoLineFeed text

@@ -1,0 +1,46 @@
+-- Answers as values, and how each is spelled (rmt(8)).
+use Rattle.std.specs.Prelude.{◌≡◌, ℕ, ◌≤◌, List, [], ◌∷◌, ◌++◌, length, take, decimal}
+use Rattle.rmt_wire.specs.Number.{SpellsNumber, HasNoLineFeed, line_feed}
+
+-- an answer as a value
+pub data PlainReply : Type 0 where
+  Done : (number : ℕ) → PlainReply
+  Data : (bytes : List ℕ) → PlainReply
+  Error : (number : ℕ) → (text : List ℕ) → PlainReply
+
+-- what a client waits for: a number, or the data of a read of at most that many bytes
+pub data Wanted : Type 0 where
+  Number : Wanted
+  DataUpTo : (most : ℕ) → Wanted
+
+-- `A`, number, LF, where a number is wanted · `A`, count, LF, that many bytes, where data is wanted ·
+-- `E`, number, LF, any text, LF, of whose text the first 255 bytes count
+abbrev pub SpellsReply : List ℕ → PlainReply → Wanted → Type 0
+SpellsReply bytes (Done n) Number = (number : List ℕ) × SpellsNumber number n × (bytes ≡ 65 ∷ (number ++ line_feed ∷ []))
+SpellsReply bytes (Done n) (DataUpTo most) = ⊥
+SpellsReply bytes (Data given) Number = ⊥
+SpellsReply bytes (Data given) (DataUpTo most) =
+    (number : List ℕ) × SpellsNumber number (length given) × (length given ≤ most) × (bytes ≡ 65 ∷ (number ++ line_feed ∷ given))
+SpellsReply bytes (Error n text) wanted =
+    (number : List ℕ) × (line : List ℕ) × SpellsNumber number n × HasNoLineFeed line × (text ≡ take 255 line)
+    × (bytes ≡ 69 ∷ (number ++ line_feed ∷ (line ++ line_feed ∷ [])))
+
+-- an answer that a writer can spell: its number is one, and its text one line of at most 255 bytes
+abbrev pub HasSpelling : PlainReply → Type 0
+HasSpelling (Done n) = n ≤ 2147483647
+HasSpelling (Data bytes) = length bytes ≤ 2147483647
+HasSpelling (Error n text) = (n ≤ 2147483647) × (length text ≤ 255) × HasNoLineFeed text
+
+-- what a writer writes: numbers without leading zeros
+abbrev pub reply_text : PlainReply → List ℕ
+reply_text (Done n) = 65 ∷ (decimal n ++ line_feed ∷ [])
+reply_text (Data bytes) = 65 ∷ (decimal (length bytes) ++ line_feed ∷ bytes)
+reply_text (Error n text) = 69 ∷ (decimal n ++ line_feed ∷ (text ++ line_feed ∷ []))
+
+-- the answer is one to this wanted kind
+abbrev pub AnswersTo : PlainReply → Wanted → Type 0
+AnswersTo (Done n) Number = Unit {0}
+AnswersTo (Done n) (DataUpTo most) = ⊥
+AnswersTo (Data bytes) Number = ⊥
+AnswersTo (Data bytes) (DataUpTo most) = length bytes ≤ most
+AnswersTo (Error n text) wanted = Unit {0}

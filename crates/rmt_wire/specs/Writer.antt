@@ -1,0 +1,7 @@
+-- What a writer of answers leaves in its stream.
+use Rattle.std.specs.Prelude.{ℕ, Option, List, take}
+use Rattle.std.specs.Io.KnownBytes.{Appends}
+
+-- a beginning of the text went out: none of it, some or all
+abbrev pub AppendsBeginning : Option (List ℕ) → Option (List ℕ) → List ℕ → Type 0
+AppendsBeginning old new text = (n : ℕ) × Appends old new (take n text)

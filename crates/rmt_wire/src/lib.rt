@@ -1,0 +1,31 @@
+//! The wire of the remote magtape protocol (rmt(8)): requests and answers, their grammar, a reader that lends
+//! requests from a fixed buffer, and a writer of answers.
+//!
+//! `RequestReader` splits a stream into requests, however it is cut; `write_reply` writes an answer; `Counted` counts
+//! the failures of the streams of both.
+#![tactic(auto)]
+
+mod counted;
+#[cfg(test)]
+mod fake;
+mod fault;
+mod head;
+mod laws;
+mod limits;
+mod line;
+mod number;
+mod parse;
+mod reader;
+mod reply;
+mod request;
+mod short_text;
+mod writer;
+
+pub use counted::Counted;
+pub use fault::WireFault;
+pub use laws::one_reading;
+pub use limits::{DATA_LIMIT, LINE_LIMIT, NUMBER_LIMIT, READER_LIMIT};
+pub use reader::RequestReader;
+pub use reply::Reply;
+pub use request::Request;
+pub use writer::{OutputFault, write_reply};

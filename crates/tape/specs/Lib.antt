@@ -1,0 +1,4 @@
+pub mod Tape
+pub mod Call
+pub mod Failures
+pub mod List

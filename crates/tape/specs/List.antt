@@ -1,0 +1,51 @@
+-- A list of entries as a tape.
+use Rattle.std.specs.Prelude.{◌≡◌, ℕ, ◌≤◌, List, [], ◌++◌, length, take, drop, map, true, Result, Ok, Err}
+use Rattle.tape.specs.Tape.{PlainEntry, Tape, TapeRequest, TapeAnswer, tape, offset_of}
+use Rattle.tape.specs.Tape.PlainEntry.{Record, Mark}
+use Rattle.tape.specs.Call.{IsCall}
+use Rattle.tape.specs.declared.entry.Entry.{Entry}
+use Rattle.tape.specs.declared.entry.Entry.TheVariants as entry
+use Rattle.tape.specs.declared.fault.TapeFault.{TapeFault}
+use Rattle.tape.specs.declared.fault.TapeFault.TheVariants.{OutOfMemory}
+
+-- what a reel in memory is: its tape, and how many bytes it takes
+pub record ListTape : Type 0 where
+  pub tape : Tape
+  pub capacity : ℕ
+
+-- a reel in memory always tells its tape
+abbrev pub IsTape : ListTape → Tape → Type 0
+IsTape reel t = reel.tape ≡ t
+
+-- a call of a reel in memory, whose device never fails
+abbrev pub IsListCall : ListTape → ListTape → TapeRequest → TapeAnswer → Type 0
+IsListCall old new request answer = IsCall IsTape (λ r. r.capacity) (λ _. 0) true old new request answer
+
+-- an entry as plain bytes
+abbrev pub plain_of : Entry → PlainEntry
+plain_of (entry.Record bytes) = Record bytes.items
+plain_of entry.Mark = Mark
+
+-- the entries as plain bytes, in order
+abbrev pub plain_entries : List Entry → List PlainEntry
+plain_entries entries = map plain_of entries
+
+-- the tape of these entries at this place
+abbrev pub tape_at : ℕ → List PlainEntry → Tape
+tape_at place entries = tape (take place entries) (drop place entries)
+
+-- the bytes that a read finds: none at a mark
+abbrev pub bytes_of : PlainEntry → List ℕ
+bytes_of (Record bytes) = bytes
+bytes_of Mark = []
+
+-- the place is one of the entries', the offset is that of the place, and the entries fit the capacity
+pub record IsStanding (entries : List PlainEntry) (place offset capacity : ℕ) : Type 0 where
+  pub within : place ≤ length entries
+  pub offset_is : offset ≡ offset_of (take place entries)
+  pub fits : offset_of entries ≤ capacity
+
+-- what was written stands at the place with nothing behind it, or memory was wanting and nothing changed
+abbrev pub IsPut : Result Unit TapeFault → ℕ → List PlainEntry → List PlainEntry → List PlainEntry → Type 0
+IsPut (Ok x) place written old new = new ≡ take place old ++ written
+IsPut (Err fault) place written old new = (fault ≡ OutOfMemory) × (new ≡ old)

@@ -1,0 +1,125 @@
+-- A reel of tape, and what each call does to it (the operations are mtio's, their effects this project's).
+use Rattle.std.specs.Prelude.{◌≡◌, ◌⊎◌, ℕ, ◌+◌, ◌*◌, ◌<◌, ◌≤◌, ◌==◌, if◌then◌else◌, List, [], ◌∷◌, ◌++◌, length, sum_by, take, replicate, Result, Ok, Err}
+use Rattle.tape.specs.declared.fault.TapeFault.{TapeFault}
+use Rattle.tape.specs.declared.fault.TapeFault.TheVariants.{Device, Full, BadOperation, OutOfMemory}
+
+-- what stands at a place: a record of these bytes, or a mark
+pub data PlainEntry : Type 0 where
+  Record : (bytes : List ℕ) → PlainEntry
+  Mark : PlainEntry
+
+-- how many bytes of the reel an entry takes
+abbrev pub size_of : PlainEntry → ℕ
+size_of (Record bytes) = length bytes + 8
+size_of Mark = 4
+
+-- the offset of a place: the sum of the sizes of the entries before it
+abbrev pub offset_of : List PlainEntry → ℕ
+offset_of before = sum_by size_of before
+
+-- the entries before the place, and those after it: the place is the number of the first, and the reel's
+-- entries are both, one after the other
+pub record Tape : Type 0 where
+  pub before : List PlainEntry
+  pub after : List PlainEntry
+
+abbrev pub tape : List PlainEntry → List PlainEntry → Tape
+tape before after = record { before = before; after = after }
+
+-- all entries of the reel
+abbrev pub entries_of : Tape → List PlainEntry
+entries_of t = t.before ++ t.after
+
+-- a record has 1 to 65,536 bytes
+abbrev pub IsRecord : List ℕ → Type 0
+IsRecord bytes = (0 < length bytes) × (length bytes ≤ 65536)
+
+pub data TapeRequest : Type 0 where
+  Write : (bytes : List ℕ) → TapeRequest
+  Read : (count : ℕ) → TapeRequest
+  -- MTWEOF: that many marks
+  WriteMarks : (count : ℕ) → TapeRequest
+  -- MTREW, and the rewind of a close
+  Rewind : TapeRequest
+  -- MTNOP
+  Nothing : TapeRequest
+  -- a number that is no operation of a reel
+  Unknown : TapeRequest
+
+pub data TapeAnswer : Type 0 where
+  Done : TapeAnswer
+  Gave : (bytes : List ℕ) → TapeAnswer
+  Fault : (fault : TapeFault) → TapeAnswer
+
+-- A write that stopped in a fault: the entries before the place stand, and after it what stood, nothing,
+-- or what was being written.
+abbrev pub IsCutShort : Tape → List PlainEntry → Tape → Type 0
+IsCutShort t written u = (u.before ≡ t.before) × ((u.after ≡ t.after) ⊎ (u.after ≡ []) ⊎ (u.after ≡ written))
+
+-- The record stands at the place, nothing after it, and the place is after it. It fits if room for one mark is
+-- left behind it.
+abbrev pub WriteStep : ℕ → List ℕ → Tape → TapeAnswer → Tape → Type 0
+WriteStep capacity bytes t Done u = (offset_of t.before + length bytes + 12 ≤ capacity) × (u ≡ tape (t.before ++ Record bytes ∷ []) [])
+WriteStep capacity bytes t (Fault Full) u = (capacity < offset_of t.before + length bytes + 12) × (u ≡ t)
+WriteStep capacity bytes t (Fault Device) u = IsCutShort t (Record bytes ∷ []) u
+WriteStep capacity bytes t (Fault OutOfMemory) u = u ≡ t
+WriteStep capacity bytes t _ u = ⊥
+
+-- That many marks stand at the place, nothing after them, and the place is after them. None change nothing.
+-- A fault may leave any number of them up to the count.
+abbrev pub MarksStep : ℕ → ℕ → Tape → TapeAnswer → Tape → Type 0
+MarksStep capacity count t Done u =
+    ((count ≡ 0) × (u ≡ t))
+    ⊎ ((0 < count) × (offset_of t.before + 4 * count ≤ capacity) × (u ≡ tape (t.before ++ replicate count Mark) []))
+MarksStep capacity count t (Fault Full) u = (0 < count) × (capacity < offset_of t.before + 4 * count) × (u ≡ t)
+MarksStep capacity count t (Fault Device) u = (0 < count) × ((some : ℕ) × (some ≤ count) × IsCutShort t (replicate some Mark) u)
+MarksStep capacity count t (Fault OutOfMemory) u = (0 < count) × (u ≡ t)
+MarksStep capacity count t _ u = ⊥
+
+-- A read at these entries: of a record the first bytes are given and it is passed whole; of a mark none, and it
+-- is passed; at the end none, and the place stays.
+abbrev pub Passes : ℕ → List PlainEntry → Tape → List ℕ → Tape → Type 0
+Passes count [] t bytes u = (bytes ≡ []) × (u ≡ t)
+Passes count (Record written ∷ rest) t bytes u = (bytes ≡ take count written) × (u ≡ tape (t.before ++ Record written ∷ []) rest)
+Passes count (Mark ∷ rest) t bytes u = (bytes ≡ []) × (u ≡ tape (t.before ++ Mark ∷ []) rest)
+
+abbrev pub ReadStep : ℕ → Tape → TapeAnswer → Tape → Type 0
+ReadStep count t (Gave bytes) u = Passes count t.after t bytes u
+ReadStep count t (Fault Device) u = u ≡ t
+ReadStep count t _ u = ⊥
+
+-- the place is the beginning
+abbrev pub RewindStep : Tape → TapeAnswer → Tape → Type 0
+RewindStep t Done u = u ≡ tape [] (entries_of t)
+RewindStep t _ u = ⊥
+
+abbrev pub NothingStep : Tape → TapeAnswer → Tape → Type 0
+NothingStep t Done u = u ≡ t
+NothingStep t _ u = ⊥
+
+abbrev pub UnknownStep : Tape → TapeAnswer → Tape → Type 0
+UnknownStep t (Fault BadOperation) u = u ≡ t
+UnknownStep t _ u = ⊥
+
+-- One call on a tape of this capacity: the answer, and the tape after it.
+abbrev pub TapeStep : ℕ → Tape → TapeRequest → TapeAnswer → Tape → Type 0
+TapeStep capacity t (Write bytes) answer u = WriteStep capacity bytes t answer u
+TapeStep capacity t (Read count) answer u = ReadStep count t answer u
+TapeStep capacity t (WriteMarks count) answer u = MarksStep capacity count t answer u
+TapeStep capacity t Rewind answer u = RewindStep t answer u
+TapeStep capacity t Nothing answer u = NothingStep t answer u
+TapeStep capacity t Unknown answer u = UnknownStep t answer u
+
+-- what an operation's number asks for
+abbrev pub op_request : ℕ → ℕ → TapeRequest
+op_request op count = if op == 0 then WriteMarks count else if op == 5 then Rewind else if op == 7 then Nothing else Unknown
+
+-- what a call that gives no bytes answered
+abbrev pub done_answer : Result Unit TapeFault → TapeAnswer
+done_answer (Ok x) = Done
+done_answer (Err fault) = Fault fault
+
+-- what a read into this buffer answered
+abbrev pub given_answer : Result ℕ TapeFault → List ℕ → TapeAnswer
+given_answer (Ok n) into = Gave (take n into)
+given_answer (Err fault) into = Fault fault

@@ -1,0 +1,52 @@
+ghost use Rattle.std.specs.Prelude.{◌≡◌, ◌^◌, ◌<◌, ◌≤◌, length, take};
+ghost use Rattle.tape.specs.Tape.{size_of};
+ghost use Rattle.tape.specs.List.{plain_of, bytes_of};
+
+/// What a record takes of a reel beside its bytes, in bytes.
+pub(crate) const RECORD_FRAME: u64 = 8;
+
+/// What a mark takes of a reel, in bytes.
+pub(crate) const MARK_SIZE: u64 = 4;
+
+/// What stands on a tape at one place.
+#[derive(Debug, Drop)]
+pub enum Entry {
+    /// A record, of 1 to 65,536 bytes.
+    Record(Vec<u8>),
+    /// A file mark.
+    Mark,
+}
+
+impl Entry {
+    /// How many bytes of a reel the entry takes.
+    pub(crate) fn size(&self) -> u64
+        requires { size_of (plain_of self.now) < 2 ^ 64 }
+        ensures { result ≡ size_of (plain_of self.now) }
+    {
+        match self {
+            Entry::Record(bytes) => bytes.len() as u64 + RECORD_FRAME,
+            Entry::Mark => MARK_SIZE,
+        }
+    }
+
+    /// Copies the first bytes of a record, and of a mark none. Answers how many.
+    pub(crate) fn read_into(&self, into: &mut [u8]) -> usize
+        ensures bound { result ≤ length into.new }
+        ensures copied { take result into.new ≡ take (length into.old) (bytes_of (plain_of self.now)) }
+    {
+        match self {
+            Entry::Record(bytes) => copy_front(bytes, into),
+            Entry::Mark => 0,
+        }
+    }
+}
+
+/// Copies the first of the bytes, as many as `into` takes. Answers how many.
+fn copy_front(bytes: &[u8], into: &mut [u8]) -> usize
+    ensures bound { result ≤ length into.new }
+    ensures copied { take result into.new ≡ take (length into.old) bytes.now }
+{
+    let count = bytes.len().min(into.len());
+    into[..count].copy_from_slice(&bytes[..count]);
+    count
+}

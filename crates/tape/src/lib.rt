@@ -1,0 +1,19 @@
+//! Reels of tape: records and marks, a place among them, and what each call does to both.
+//!
+//! A reel is a list of entries with a capacity in bytes. `Reel` is what every reel promises; `ListReel` keeps
+//! its entries in memory.
+#![tactic(auto)]
+
+mod entry;
+mod fault;
+mod list;
+mod op;
+mod reel;
+#[cfg(test)]
+mod slow;
+
+pub use entry::Entry;
+pub use fault::TapeFault;
+pub use list::ListReel;
+pub use op::{MTNOP, MTREW, MTWEOF};
+pub use reel::{RECORD_LIMIT, Reel};

@@ -1,0 +1,148 @@
+ghost use Rattle.std.specs.Prelude.{◌≡◌, ◌≢◌, ◌≤◌, IfOk, [], length, true};
+ghost use Rattle.tape.specs.Tape.{IsRecord, MarksStep, TapeStep, op_request, done_answer, given_answer, tape};
+ghost use Rattle.tape.specs.Tape.TapeRequest.{Write, Read, Rewind};
+ghost use Rattle.tape.specs.Tape.TapeAnswer.{Done};
+ghost use Rattle.tape.specs.List.{IsListCall, IsTape};
+ghost use Rattle.tape.specs.declared.fault.TapeFault.TheVariants.{Device};
+
+mod entries;
+#[cfg(test)]
+mod tests;
+
+use crate::entry::{MARK_SIZE, RECORD_FRAME};
+use crate::{Entry, MTNOP, MTREW, MTWEOF, Reel, TapeFault};
+use entries::{put_marks, put_record};
+use std::alloc::Global;
+use std::marker::Model;
+
+/// A reel in memory, seen as its tape and its capacity in bytes.
+///
+/// It always tells its tape, and no device of it fails: no call answers `Device`.
+#[derive(Drop)]
+pub struct ListReel {
+    alloc: Global,
+    entries: Vec<Entry>,
+    place: usize,
+    offset: u64,
+    capacity: u64,
+}
+
+impl Model for ListReel {
+    ghost use Rattle.tape.specs.List.{IsStanding, ListTape, plain_entries, tape_at};
+
+    ghost Value = { ListTape };
+
+    ghost view = { λ r. record { tape = tape_at r.place (plain_entries r.entries.items); capacity = r.capacity } };
+
+    ghost invariant = { λ r. IsStanding (plain_entries r.entries.items) r.place r.offset r.capacity };
+}
+
+impl ListReel {
+    /// An empty reel of this capacity, in bytes. It takes no memory yet.
+    pub fn new(alloc: Global, capacity: u64) -> ListReel
+        ensures blank { result.tape ≡ tape [] [] }
+        ensures capacity { result.capacity ≡ capacity }
+    {
+        ListReel {
+            alloc,
+            entries: Vec::new(alloc),
+            place: 0,
+            offset: 0,
+            capacity,
+        }
+    }
+
+    /// Writes so many marks at the place.
+    ///
+    /// Answers `Full` and `OutOfMemory`. Nothing changed then.
+    fn write_marks(&mut self, count: u32) -> Result<(), TapeFault>
+        ensures step { MarksStep self.old.capacity count self.old.tape (done_answer result) self.new.tape }
+        ensures device { result ≢ Err Device }
+        ensures capacity { self.new.capacity ≡ self.old.capacity }
+    {
+        if count == 0 {
+            return Ok(());
+        }
+        let size = u64::from(count) * MARK_SIZE;
+        if self.capacity - self.offset < size {
+            return Err(TapeFault::Full);
+        }
+        put_marks(&mut self.entries, self.place, count as usize)?;
+        self.place = self.entries.len();
+        self.offset += size;
+        Ok(())
+    }
+}
+
+impl Reel for ListReel {
+    ghost holds = { IsTape };
+
+    ghost capacity = { λ r. r.capacity };
+
+    ghost failures = { λ _. 0 };
+
+    ghost GROWS = { true };
+
+    const GROWS: bool = true;
+
+    fn write(&mut self, bytes: &[u8]) -> Result<(), TapeFault>
+        requires { IsRecord bytes.now }
+        ensures call { IsListCall self.old self.new (Write bytes.now) (done_answer result) }
+        ensures step { TapeStep self.old.capacity self.old.tape (Write bytes.now) (done_answer result) self.new.tape }
+        ensures device { result ≢ Err Device }
+    {
+        let size = bytes.len() as u64 + RECORD_FRAME;
+        if self.capacity - self.offset < size + MARK_SIZE {
+            return Err(TapeFault::Full);
+        }
+        let copy = Vec::from_slice(self.alloc, bytes)?;
+        put_record(&mut self.entries, self.place, copy)?;
+        self.place = self.entries.len();
+        self.offset += size;
+        Ok(())
+    }
+
+    fn read(&mut self, into: &mut [u8]) -> Result<usize, TapeFault>
+        ensures bound { IfOk result (λ n. n ≤ length into.new) }
+        ensures call { IsListCall self.old self.new (Read (length into.old)) (given_answer result into.new) }
+        ensures step { TapeStep self.old.capacity self.old.tape (Read (length into.old)) (given_answer result into.new) self.new.tape }
+        ensures device { result ≢ Err Device }
+    {
+        if self.place == self.entries.len() {
+            return Ok(0);
+        }
+        let entry = &self.entries[self.place];
+        let copied = entry.read_into(into);
+        self.offset += entry.size();
+        self.place += 1;
+        Ok(copied)
+    }
+
+    fn op(&mut self, op: u32, count: u32) -> Result<(), TapeFault>
+        ensures call { IsListCall self.old self.new (op_request op count) (done_answer result) }
+        ensures step { TapeStep self.old.capacity self.old.tape (op_request op count) (done_answer result) self.new.tape }
+        ensures device { result ≢ Err Device }
+    {
+        match op {
+            MTWEOF => self.write_marks(count),
+            MTREW => {
+                self.rewind();
+                Ok(())
+            }
+            MTNOP => Ok(()),
+            _ => Err(TapeFault::BadOperation),
+        }
+    }
+
+    fn rewind(&mut self)
+        ensures call { IsListCall self.old self.new Rewind Done }
+        ensures step { TapeStep self.old.capacity self.old.tape Rewind Done self.new.tape }
+    {
+        self.place = 0;
+        self.offset = 0;
+    }
+
+    fn failures(&self) -> u64 {
+        0
+    }
+}

@@ -1,0 +1,150 @@
+//! A tape computed anew from all its entries at each call, to compare reels with.
+
+ghost use Rattle.std.specs.Prelude.{◌≤◌};
+
+use crate::{MTNOP, MTREW, MTWEOF, RECORD_LIMIT, Reel, TapeFault};
+use std::alloc::Global;
+
+/// A call of a reel.
+#[derive(Clone, Copy, Debug)]
+pub(crate) enum Call {
+    Write(&'static [u8]),
+    /// A read into so many bytes, of which there are 8 at most.
+    Read(usize),
+    Op(u32, u32),
+    Rewind,
+}
+
+/// Makes the call, and answers the bytes that it gave. Bytes that are no record are not written: `EndOrMark`.
+pub(crate) fn make_call<'a, R: Reel>(
+    reel: &mut R,
+    request: Call,
+    into: &'a mut [u8; 8],
+) -> Result<&'a [u8], TapeFault> {
+    match request {
+        Call::Write(bytes) => {
+            if bytes.is_empty() || bytes.len() > RECORD_LIMIT {
+                return Err(TapeFault::EndOrMark);
+            }
+            reel.write(bytes)?;
+            Ok(&[])
+        }
+        Call::Read(count) => {
+            let part = &mut into[..count.min(8)];
+            let given = reel.read(part)?;
+            Ok(&part[..given])
+        }
+        Call::Op(op, count) => {
+            reel.op(op, count)?;
+            Ok(&[])
+        }
+        Call::Rewind => {
+            reel.rewind();
+            Ok(&[])
+        }
+    }
+}
+
+/// A tape as all its entries, where `None` is a mark, the place and the capacity.
+#[derive(Drop)]
+pub(crate) struct SlowReel {
+    alloc: Global,
+    entries: Vec<Option<Vec<u8>>>,
+    place: usize,
+    capacity: u64,
+}
+
+impl SlowReel {
+    pub(crate) fn new(alloc: Global, capacity: u64) -> SlowReel {
+        SlowReel {
+            alloc,
+            entries: Vec::new(alloc),
+            place: 0,
+            capacity,
+        }
+    }
+
+    /// Makes the call, and answers the bytes that it gave.
+    pub(crate) fn call<'a>(
+        &mut self,
+        request: Call,
+        into: &'a mut [u8; 8],
+    ) -> Result<&'a [u8], TapeFault> {
+        match request {
+            Call::Write(bytes) => self.write(bytes)?,
+            Call::Read(count) => {
+                let given = self.read(count, into);
+                return Ok(&into[..given]);
+            }
+            Call::Op(MTWEOF, count) => self.write_marks(count)?,
+            Call::Op(MTREW, _) | Call::Rewind => self.place = 0,
+            Call::Op(MTNOP, _) => {}
+            Call::Op(_, _) => return Err(TapeFault::BadOperation),
+        }
+        Ok(&[])
+    }
+
+    /// The offset of the place: the sizes of all entries before it.
+    fn offset(&self) -> u64 {
+        let mut sum = 0u64;
+        for entry in self.entries.iter().take(self.place) {
+            let size = match entry {
+                Some(bytes) => (bytes.len() as u64).saturating_add(8),
+                None => 4,
+            };
+            sum = sum.saturating_add(size);
+        }
+        sum
+    }
+
+    fn write(&mut self, bytes: &[u8]) -> Result<(), TapeFault> {
+        let wanted = self
+            .offset()
+            .saturating_add(bytes.len() as u64)
+            .saturating_add(12);
+        if wanted > self.capacity {
+            return Err(TapeFault::Full);
+        }
+        let copy = Vec::from_slice(self.alloc, bytes)?;
+        self.entries.truncate(self.place);
+        self.entries
+            .push(Some(copy))
+            .map_err(|_| TapeFault::OutOfMemory)?;
+        self.place = self.entries.len();
+        Ok(())
+    }
+
+    fn write_marks(&mut self, count: u32) -> Result<(), TapeFault> {
+        if count == 0 {
+            return Ok(());
+        }
+        let wanted = self
+            .offset()
+            .saturating_add(u64::from(count).saturating_mul(4));
+        if wanted > self.capacity {
+            return Err(TapeFault::Full);
+        }
+        self.entries.truncate(self.place);
+        for _ in 0..count {
+            self.entries.push(None).map_err(|_| TapeFault::OutOfMemory)?;
+        }
+        self.place = self.entries.len();
+        Ok(())
+    }
+
+    /// Copies the first bytes of the entry at the place, and answers how many.
+    fn read(&mut self, count: usize, into: &mut [u8; 8]) -> usize
+        ensures { result ≤ 8 }
+    {
+        let Some(entry) = self.entries.get(self.place) else {
+            return 0;
+        };
+        self.place = self.place.saturating_add(1);
+        let Some(bytes) = entry else {
+            return 0;
+        };
+        let given = count.min(bytes.len()).min(8);
+        into[..given].copy_from_slice(&bytes[..given]);
+        given
+    }
+}
