@@ -1,16 +1,56 @@
 -- A call of a reel in memory, from its step.
-use Rattle.std.proofs.Common.{◌≡◌, refl, ap, subst, arith, Result, Ok, Err}
+use Rattle.std.proofs.Common.{◌≡◌, ℕ, inl, inr, refl, ap, subst, arith, Result, Ok, Err}
 use Rattle.tape.specs.Tape.{Tape, TapeRequest, TapeAnswer, TapeStep, done_answer}
-use Rattle.tape.specs.Tape.TapeAnswer.{Fault}
+use Rattle.tape.specs.Tape.TapeRequest.{Write, Read, WriteMarks, Rewind, Nothing, Unknown}
+use Rattle.tape.specs.Tape.TapeAnswer.{Done, Gave, Fault}
+use Rattle.tape.specs.Call.{CanAnswer}
 use Rattle.tape.specs.List.{ListTape, IsListCall}
 use Rattle.tape.specs.declared.fault.TapeFault.{TapeFault}
-use Rattle.tape.specs.declared.fault.TapeFault.TheVariants.{Device}
+use Rattle.tape.specs.declared.fault.TapeFault.TheVariants.{Device, Full, EndOrMark, BadOperation, OutOfMemory}
+
+-- a step's answer is one that the call can have
+can_of : (capacity : ℕ) (t u : Tape) (request : TapeRequest) (answer : TapeAnswer) → TapeStep capacity t request answer u → CanAnswer request answer
+can_of capacity t u (Write bytes) Done step = inl refl
+can_of capacity t u (Write bytes) (Gave given) step = absurd step
+can_of capacity t u (Write bytes) (Fault Device) step = inr (inr (inl refl))
+can_of capacity t u (Write bytes) (Fault Full) step = inr (inl refl)
+can_of capacity t u (Write bytes) (Fault EndOrMark) step = absurd step
+can_of capacity t u (Write bytes) (Fault BadOperation) step = absurd step
+can_of capacity t u (Write bytes) (Fault OutOfMemory) step = inr (inr (inr refl))
+can_of capacity t u (Read count) Done step = absurd step
+can_of capacity t u (Read count) (Gave given) step = inl (given, refl)
+can_of capacity t u (Read count) (Fault Device) step = inr refl
+can_of capacity t u (Read count) (Fault Full) step = absurd step
+can_of capacity t u (Read count) (Fault EndOrMark) step = absurd step
+can_of capacity t u (Read count) (Fault BadOperation) step = absurd step
+can_of capacity t u (Read count) (Fault OutOfMemory) step = absurd step
+can_of capacity t u (WriteMarks count) Done step = inl refl
+can_of capacity t u (WriteMarks count) (Gave given) step = absurd step
+can_of capacity t u (WriteMarks count) (Fault Device) step = inr (inr (inl refl))
+can_of capacity t u (WriteMarks count) (Fault Full) step = inr (inl refl)
+can_of capacity t u (WriteMarks count) (Fault EndOrMark) step = absurd step
+can_of capacity t u (WriteMarks count) (Fault BadOperation) step = absurd step
+can_of capacity t u (WriteMarks count) (Fault OutOfMemory) step = inr (inr (inr refl))
+can_of capacity t u Rewind Done step = refl
+can_of capacity t u Rewind (Gave given) step = absurd step
+can_of capacity t u Rewind (Fault fault) step = absurd step
+can_of capacity t u Nothing Done step = refl
+can_of capacity t u Nothing (Gave given) step = absurd step
+can_of capacity t u Nothing (Fault fault) step = absurd step
+can_of capacity t u Unknown Done step = absurd step
+can_of capacity t u Unknown (Gave given) step = absurd step
+can_of capacity t u Unknown (Fault Device) step = absurd step
+can_of capacity t u Unknown (Fault Full) step = absurd step
+can_of capacity t u Unknown (Fault EndOrMark) step = absurd step
+can_of capacity t u Unknown (Fault BadOperation) step = refl
+can_of capacity t u Unknown (Fault OutOfMemory) step = absurd step
 
 pub list_call : (old new : ListTape) (request : TapeRequest) (answer : TapeAnswer) → TapeStep old.capacity old.tape request answer new.tape
     → new.capacity ≡ old.capacity → (answer ≡ Fault Device → ⊥)
     → IsListCall old new request answer
 list_call old new request answer step same sound = record {
   step = λ t held. let P : Tape → Type 0 = λ t. TapeStep old.capacity t request answer new.tape in (new.tape, refl, subst P held step);
+  can = can_of old.capacity old.tape new.tape request answer step;
   device = λ is. absurd (sound is);
   memory = λ _. refl;
   counted = omega arith;

@@ -1,14 +1,26 @@
 -- One call of a reel.
-use Rattle.std.specs.Prelude.{◌≡◌, ℕ, ◌≤◌, Bool, IsTrue}
+use Rattle.std.specs.Prelude.{◌≡◌, ◌⊎◌, ℕ, ◌≤◌, List, Bool, IsTrue}
 use Rattle.tape.specs.Failures.{HasRisen, Steps}
 use Rattle.tape.specs.Tape.{Tape, TapeRequest, TapeAnswer, TapeStep}
-use Rattle.tape.specs.Tape.TapeAnswer.{Fault}
-use Rattle.tape.specs.declared.fault.TapeFault.TheVariants.{Device, OutOfMemory}
+use Rattle.tape.specs.Tape.TapeRequest.{Write, Read, WriteMarks, Rewind, Nothing, Unknown}
+use Rattle.tape.specs.Tape.TapeAnswer.{Done, Gave, Fault}
+use Rattle.tape.specs.declared.fault.TapeFault.TheVariants.{Device, Full, BadOperation, OutOfMemory}
+
+-- the answers that a call can have, whatever stands on the tape
+abbrev pub CanAnswer : TapeRequest → TapeAnswer → Type 0
+CanAnswer (Write bytes) answer = (answer ≡ Done) ⊎ (answer ≡ Fault Full) ⊎ (answer ≡ Fault Device) ⊎ (answer ≡ Fault OutOfMemory)
+CanAnswer (Read count) answer = ((bytes : List ℕ) × (answer ≡ Gave bytes)) ⊎ (answer ≡ Fault Device)
+CanAnswer (WriteMarks count) answer = (answer ≡ Done) ⊎ (answer ≡ Fault Full) ⊎ (answer ≡ Fault Device) ⊎ (answer ≡ Fault OutOfMemory)
+CanAnswer Rewind answer = answer ≡ Done
+CanAnswer Nothing answer = answer ≡ Done
+CanAnswer Unknown answer = answer ≡ Fault BadOperation
 
 pub record IsCall {S : Type 0} (holds : S → Tape → Type 0) (capacity : S → ℕ) (failures : S → ℕ) (grows : Bool)
     (old new : S) (request : TapeRequest) (answer : TapeAnswer) : Type 0 where
   -- where the reel tells, the call is a step of its tape
   pub step : Steps holds old new (λ t u. TapeStep (capacity old) t request answer u)
+  -- and whether it tells or not, the answer is one that the call can have
+  pub can : CanAnswer request answer
   -- the device is at fault only where it failed in the call
   pub device : answer ≡ Fault Device → HasRisen (failures old) (failures new)
   -- memory is wanting only where the reel grows

@@ -1,0 +1,10 @@
+pub mod Held
+pub mod OneReel
+pub mod Seats
+pub mod Steps
+pub mod Opens
+pub mod Carried
+pub mod Spelling
+pub mod Takes
+pub mod Serving
+pub mod Endings

@@ -1,0 +1,345 @@
+-- Requests answered one after another.
+use Rattle.std.proofs.Common.{◌≡◌, ℕ, suc, ◌+◌, ◌-◌, ◌<◌, ◌≤◌, List, [], ◌∷◌, ◌++◌, length, take, drop, Option, Some, None, Result, Ok, Err, refl, sym, ap, subst, ◌∙◌, arith, append_assoc, append-nil, min}
+use Rattle.std.proofs.lemmas.List.{take-append-drop, map-append}
+use Rattle.std.proofs.lemmas.Grind.{flat_map-append}
+use Rattle.std.proofs.Math.Seq.{take-add}
+use Rattle.std.proofs.KnownBytes.{Appends-nil, Appends-trans}
+use Rattle.std.specs.Io.KnownBytes.{Appends, Consumes}
+use Rattle.rmt_wire.specs.Request.{PlainRequest, SpellsRequest}
+use Rattle.rmt_wire.specs.Request.PlainRequest.{Open, Close, Write, WriteDropped, Read, Op}
+use Rattle.rmt_wire.specs.Reply.{PlainReply, reply_text}
+use Rattle.rmt_wire.specs.Parts.{Spelled, HasNoSpelling, HasFault}
+use Rattle.std.specs.Result.{IsErr, IsErrAnd}
+use Rattle.rmt_wire.specs.Counted.{Counting, HasRisen}
+use Rattle.rmt_wire.specs.declared.writer.OutputFault.{OutputFault}
+use Rattle.rmt_wire.specs.Lent.{plain_request}
+use Rattle.rmt_wire.specs.Reader.{Held, Unread, IsNext, told}
+use Rattle.rmt_wire.specs.declared.request.Request.{Request}
+use Rattle.rmt_wire.specs.declared.fault.WireFault.{WireFault}
+use Rattle.tape.specs.declared.reel.Reel.{Ghosts as ReelPromise}
+use Rattle.rmt_server.specs.declared.drives.holds.Holds.{Ghosts as HoldsPromise}
+use Rattle.rmt_server.specs.declared.drives.stacks.Stacks.{Ghosts as StacksPromise}
+use Rattle.rmt_server.specs.declared.drives.table.DriveTable.{DriveTable}
+use Rattle.rmt_server.specs.declared.session.opened.Opened.{Opened}
+use Rattle.rmt_server.specs.Carrying.{IsSayable, IsCarriedOut, IsClosed, Tells}
+use Rattle.rmt_server.specs.Session.{Scene, ServeRun, none as no_steps, one_more as one_step}
+use Rattle.rmt_server.specs.Serving.{Exchange, requests_of, replies_text, IsAnswered, IsCutOff, Advances, AnswersAs, CarryRun, IsSettled, IsFaulty, EndsAs, IsServedAs, none, one_more}
+use Rattle.rmt_server.specs.declared.stream.Served.{Served}
+use Rattle.rmt_server.specs.declared.stream.Served.TheVariants.{Broken}
+use Rattle.rmt_server.specs.declared.stream.ServeFault.{ServeFault}
+use Rattle.rmt_server.specs.declared.stream.ServeFault.TheVariants.{Output}
+
+-- more bytes change no whole request
+pub spelled_more : (bytes rest more : List ℕ) (requests : List PlainRequest) → Spelled bytes requests rest → Spelled (bytes ++ more) requests (rest ++ more)
+spelled_more bytes rest more [] s = ap (λ b. b ++ more) s
+spelled_more bytes rest more (r ∷ requests) s =
+    (s.0, s.1 ++ more, s.2, ap (λ b. b ++ more) s.3 ∙ append_assoc s.0 s.1 more, spelled_more s.1 rest more requests s.4)
+
+-- what is spelled in the rest is spelled after it
+pub spelled_then : (bytes rest later : List ℕ) (requests others : List PlainRequest) → Spelled bytes requests rest → Spelled rest others later → Spelled bytes (requests ++ others) later
+spelled_then bytes rest later [] others s t = subst (λ b. Spelled b others later) (sym s) t
+spelled_then bytes rest later (r ∷ requests) others s t = (s.0, s.1, s.2, s.3, spelled_then s.1 rest later requests others s.4 t)
+
+requests_append : (done more : List Exchange) → requests_of (done ++ more) ≡ requests_of done ++ requests_of more
+requests_append done more = map-append (λ (e : Exchange). e.0) done more
+
+replies_append : (done more : List Exchange) → replies_text (done ++ more) ≡ replies_text done ++ replies_text more
+replies_append done more = flat_map-append (λ (e : Exchange). reply_text e.1) done more
+
+-- nothing yet
+pub answered_none : (known : Option (List ℕ)) (bytes : List ℕ) → IsAnswered known known bytes [] bytes
+answered_none known bytes = record { spelled = refl; written = Appends-nil known }
+
+-- one answer more
+pub answered_one : (known now after : Option (List ℕ)) (bytes rest later text : List ℕ) (done : List Exchange) (request : PlainRequest) (reply : PlainReply)
+    → IsAnswered known now bytes done rest → SpellsRequest text request → rest ≡ text ++ later → Appends now after (reply_text reply)
+    → IsAnswered known after bytes (done ++ (request, reply) ∷ []) later
+answered_one known now after bytes rest later text done request reply a s e w = record {
+  spelled = subst (λ r. Spelled bytes r later) (sym (requests_append done ((request, reply) ∷ []))) (spelled_then bytes rest later (requests_of done) (request ∷ []) a.spelled (text, later, s, e, refl));
+  written = subst (Appends known after) (sym (replies_append done ((request, reply) ∷ []) ∙ ap (λ t. replies_text done ++ t) (append-nil (reply_text reply))))
+      (Appends-trans known now after (replies_text done) (reply_text reply) a.written w);
+}
+
+take_more_text : (front back : List ℕ) (n : ℕ) → take (length front + n) (front ++ back) ≡ front ++ take n back
+take_more_text [] back n = ap (λ k. take k back) (omega arith)
+take_more_text (x ∷ front) back n =
+    let e : length (x ∷ front) + n ≡ suc (length front + n) = omega arith in
+    ap (λ k. take k (x ∷ (front ++ back))) e ∙ ap (λ l. x ∷ l) (take_more_text front back n)
+
+-- a beginning of one answer more
+pub cut_one : (known now after : Option (List ℕ)) (bytes rest later text : List ℕ) (done : List Exchange) (request : PlainRequest) (reply : PlainReply) (n : ℕ)
+    → IsAnswered known now bytes done rest → SpellsRequest text request → rest ≡ text ++ later → Appends now after (take n (reply_text reply))
+    → IsCutOff known after bytes (done ++ (request, reply) ∷ []) later
+cut_one known now after bytes rest later text done request reply n a s e w = record {
+  spelled = subst (λ r. Spelled bytes r later) (sym (requests_append done ((request, reply) ∷ []))) (spelled_then bytes rest later (requests_of done) (request ∷ []) a.spelled (text, later, s, e, refl));
+  count = length (replies_text done) + n;
+  written = subst (Appends known after)
+      (sym (ap (take (length (replies_text done) + n)) (replies_append done ((request, reply) ∷ []) ∙ ap (λ t. replies_text done ++ t) (append-nil (reply_text reply))) ∙ take_more_text (replies_text done) (reply_text reply) n))
+      (Appends-trans known now after (replies_text done) (take n (reply_text reply)) a.written w);
+}
+
+-- what was answered first, and then more
+pub answered_then : (known now after : Option (List ℕ)) (bytes rest piece later : List ℕ) (done more : List Exchange)
+    → IsAnswered known now bytes done rest → IsAnswered now after (rest ++ piece) more later → IsAnswered known after (bytes ++ piece) (done ++ more) later
+answered_then known now after bytes rest piece later done more a b = record {
+  spelled = subst (λ r. Spelled (bytes ++ piece) r later) (sym (requests_append done more))
+      (spelled_then (bytes ++ piece) (rest ++ piece) later (requests_of done) (requests_of more) (spelled_more bytes rest piece (requests_of done) a.spelled) b.spelled);
+  written = subst (Appends known after) (sym (replies_append done more)) (Appends-trans known now after (replies_text done) (replies_text more) a.written b.written);
+}
+
+pub cut_then : (known now after : Option (List ℕ)) (bytes rest piece later : List ℕ) (done more : List Exchange)
+    → IsAnswered known now bytes done rest → IsCutOff now after (rest ++ piece) more later → IsCutOff known after (bytes ++ piece) (done ++ more) later
+cut_then known now after bytes rest piece later done more a b = record {
+  spelled = subst (λ r. Spelled (bytes ++ piece) r later) (sym (requests_append done more))
+      (spelled_then (bytes ++ piece) (rest ++ piece) later (requests_of done) (requests_of more) (spelled_more bytes rest piece (requests_of done) a.spelled) b.spelled);
+  count = length (replies_text done) + b.count;
+  written = subst (Appends known after) (sym (ap (take (length (replies_text done) + b.count)) (replies_append done more) ∙ take_more_text (replies_text done) (replies_text more) b.count))
+      (Appends-trans known now after (replies_text done) (take b.count (replies_text more)) a.written b.written);
+}
+
+-- more bytes behind those that a reader took
+pub answered_more : (known now : Option (List ℕ)) (bytes rest more : List ℕ) (done : List Exchange) → IsAnswered known now bytes done rest → IsAnswered known now (bytes ++ more) done (rest ++ more)
+answered_more known now bytes rest more done a = record { spelled = spelled_more bytes rest more (requests_of done) a.spelled; written = a.written }
+
+pub cut_more : (known now : Option (List ℕ)) (bytes rest more : List ℕ) (done : List Exchange) → IsCutOff known now bytes done rest → IsCutOff known now (bytes ++ more) done (rest ++ more)
+cut_more known now bytes rest more done a = record { spelled = spelled_more bytes rest more (requests_of done) a.spelled; count = a.count; written = a.written }
+
+-- a count that has risen since later has risen since before
+pub risen_since : (first before now : ℕ) → first ≤ before → HasRisen before now → HasRisen first now
+risen_since first before now e h = omega arith
+
+-- the count of an operation that is spelled can be said in a reply
+pub sayable : (text : List ℕ) (request : PlainRequest) → SpellsRequest text request → IsSayable request
+sayable text (Open device mode) s = tt
+sayable text Close s = tt
+sayable text (Write bytes) s = tt
+sayable text (WriteDropped count) s = tt
+sayable text (Read count) s = tt
+sayable text (Op op count) s = s.3.small
+
+module _ {H S Seat R : Type 0} {h : HoldsPromise H Seat} {s : StacksPromise S R} {r : ReelPromise R} {old : DriveTable H S Seat R} {seat : Seat} {opened : Option (Opened R)} where
+  -- from nothing done
+  pub advances_none : {P : List Exchange → List ℕ → Type 0} (bytes : List ℕ) → P [] bytes → Advances h s r old seat opened old seat opened P
+  advances_none bytes p = record { done = []; rest = bytes; run = none; outcome = p }
+
+  -- the same with another outcome
+  pub advances_as : {new : DriveTable H S Seat R} {seat' : Seat} {opened' : Option (Opened R)} {P Q : List Exchange → List ℕ → Type 0}
+      → Advances h s r old seat opened new seat' opened' P → ((done : List Exchange) (rest : List ℕ) → P done rest → Q done rest) → Advances h s r old seat opened new seat' opened' Q
+  advances_as a f = record { done = a.done; rest = a.rest; run = a.run; outcome = f a.done a.rest a.outcome }
+
+  -- one request more
+  pub advances_one : {between new : DriveTable H S Seat R} {seat1 seat2 : Seat} {opened1 opened2 : Option (Opened R)} {P Q : List Exchange → List ℕ → Type 0} (request : PlainRequest) (reply : PlainReply)
+      → Advances h s r old seat opened between seat1 opened1 P → IsCarriedOut h s r between seat1 opened1 request reply new seat2 opened2
+      → ((done : List Exchange) (rest : List ℕ) → P done rest → (later : List ℕ) × Q (done ++ (request, reply) ∷ []) later) → Advances h s r old seat opened new seat2 opened2 Q
+  advances_one request reply a step f =
+      let w = f a.done a.rest a.outcome in
+      record { done = a.done ++ (request, reply) ∷ []; rest = w.0; run = one_more request reply a.run step; outcome = w.1 }
+
+-- one run after another
+run_then : {H S Seat R : Type 0} {h : HoldsPromise H Seat} {s : StacksPromise S R} {r : ReelPromise R} {old between : DriveTable H S Seat R} {seat seat1 : Seat} {opened opened1 : Option (Opened R)} {done : List Exchange} {new : DriveTable H S Seat R} {seat2 : Seat} {opened2 : Option (Opened R)} {more : List Exchange}
+    → CarryRun h s r old seat opened done between seat1 opened1 → CarryRun h s r between seat1 opened1 more new seat2 opened2 → CarryRun h s r old seat opened (done ++ more) new seat2 opened2
+run_then {done = done} a none = rw append-nil a
+run_then {done = done} a (one_more {done = more} request reply b step) = rw (← append_assoc done more ((request, reply) ∷ [])) (one_more request reply (run_then a b) step)
+
+pub advances_then : {H S Seat R : Type 0} {h : HoldsPromise H Seat} {s : StacksPromise S R} {r : ReelPromise R} {old between new : DriveTable H S Seat R} {seat seat1 seat2 : Seat} {opened opened1 opened2 : Option (Opened R)} {P Q : List Exchange → List ℕ → Type 0}
+    → Advances h s r old seat opened between seat1 opened1 P
+    → ((done : List Exchange) (rest : List ℕ) → P done rest → Advances h s r between seat1 opened1 new seat2 opened2 (λ more later. Q (done ++ more) later))
+    → Advances h s r old seat opened new seat2 opened2 Q
+advances_then a f =
+    let b = f a.done a.rest a.outcome in
+    record { done = a.done ++ b.done; rest = b.rest; run = run_then a.run b.run; outcome = b.outcome }
+
+-- a piece of a text and what follows it
+pub piece_then : (bytes text : List ℕ) (at count : ℕ) → (bytes ++ take at text) ++ take count (drop at text) ≡ bytes ++ take (at + count) text
+piece_then bytes text at count = append_assoc bytes (take at text) (take count (drop at text)) ∙ ap (λ l. bytes ++ l) (sym (take-add at count text))
+
+pub piece_all : (bytes text : List ℕ) (at : ℕ) → (bytes ++ take at text) ++ drop at text ≡ bytes ++ text
+piece_all bytes text at = append_assoc bytes (take at text) (drop at text) ∙ ap (λ l. bytes ++ l) (take-append-drop at text)
+
+-- the whole text is a piece and the rest
+pub cut_whole : (known now : Option (List ℕ)) (bytes text rest : List ℕ) (at count : ℕ) (done : List Exchange) → IsCutOff known now ((bytes ++ take at text) ++ take count (drop at text)) done rest
+    → IsCutOff known now (bytes ++ text) done (rest ++ drop (at + count) text)
+cut_whole known now bytes text rest at count done c =
+    let whole : ((bytes ++ take at text) ++ take count (drop at text)) ++ drop (at + count) text ≡ bytes ++ text = ap (λ l. l ++ drop (at + count) text) (piece_then bytes text at count) ∙ piece_all bytes text (at + count) in
+    subst (λ b. IsCutOff known now b done (rest ++ drop (at + count) text)) whole (cut_more known now ((bytes ++ take at text) ++ take count (drop at text)) rest (drop (at + count) text) done c)
+
+pub answered_whole : (known now : Option (List ℕ)) (bytes text rest : List ℕ) (at count : ℕ) (done : List Exchange) → IsAnswered known now ((bytes ++ take at text) ++ take count (drop at text)) done rest
+    → IsAnswered known now (bytes ++ text) done (rest ++ drop (at + count) text)
+answered_whole known now bytes text rest at count done c =
+    let whole : ((bytes ++ take at text) ++ take count (drop at text)) ++ drop (at + count) text ≡ bytes ++ text = ap (λ l. l ++ drop (at + count) text) (piece_then bytes text at count) ∙ piece_all bytes text (at + count) in
+    subst (λ b. IsAnswered known now b done (rest ++ drop (at + count) text)) whole (answered_more known now ((bytes ++ take at text) ++ take count (drop at text)) rest (drop (at + count) text) done c)
+
+-- a fault stays, whatever follows
+pub faulty_more : (rest more : List ℕ) (fault : WireFault) → IsFaulty rest fault → IsFaulty (rest ++ more) fault
+faulty_more rest more fault f = λ later. subst (λ t. HasFault t fault × HasNoSpelling t) (sym (append_assoc rest more later)) (f (more ++ later))
+
+-- where an answer could not be written
+pub cut_as : {W : Type 0} (contents : W → Option (List ℕ)) (result : Result (Option WireFault) OutputFault) (output output' : Counting W) (wire : Held) (bytes : List ℕ) (done : List Exchange) (rest : List ℕ)
+    → IsErr result → IsCutOff (contents output.inner) (contents output'.inner) bytes done rest → HasRisen output.failures output'.failures
+    → AnswersAs contents result output output' wire bytes done rest
+cut_as contents (Ok x) output output' wire bytes done rest e c r = absurd (cc)
+cut_as contents (Err failed) output output' wire bytes done rest e c r = (c, r)
+
+-- What a reader that was settled does with one piece more, by what answering gave.
+module _ {H S Seat R : Type 0} {h : HoldsPromise H Seat} {s : StacksPromise S R} {r : ReelPromise R} {old between new : DriveTable H S Seat R} {seat seat1 seat2 : Seat} {opened opened1 opened2 : Option (Opened R)} where
+  pub piece_cut : {W : Type 0} (contents : W → Option (List ℕ)) (result : Result (Option WireFault) OutputFault) (first out out' : Counting W) (wire wire' : Held) (bytes text part : List ℕ) (at count : ℕ)
+      → part ≡ drop at text → IsErr result → first.failures ≤ out.failures
+      → Advances h s r old seat opened between seat1 opened1 (λ done rest. IsAnswered (contents first.inner) (contents out.inner) (bytes ++ take at text) done rest × IsSettled wire rest)
+      → ((rest : List ℕ) → IsSettled wire rest → Advances h s r between seat1 opened1 new seat2 opened2
+      (λ more later. IsCutOff (contents out.inner) (contents out'.inner) (rest ++ take count part) more later × HasRisen out.failures out'.failures))
+      → Advances h s r old seat opened new seat2 opened2 (AnswersAs contents result first out' wire' (bytes ++ text))
+  piece_cut contents result first out out' wire wire' bytes text part at count same failed since a f =
+      advances_then a (λ done rest p.
+      let b = f rest p.1 in
+      record {
+        done = b.done;
+        rest = b.rest ++ drop (at + count) text;
+        run = b.run;
+        outcome = cut_as contents result first out' wire' (bytes ++ text) (done ++ b.done) (b.rest ++ drop (at + count) text) failed
+            (cut_whole _ _ bytes text b.rest at count (done ++ b.done) (cut_then _ _ _ (bytes ++ take at text) rest (take count (drop at text)) b.rest done b.done p.0 (subst (λ l. IsCutOff (contents out.inner) (contents out'.inner) (rest ++ take count l) b.done b.rest) same b.outcome.0)))
+            (risen_since first.failures out.failures out'.failures since b.outcome.1);
+      })
+
+  pub piece_faulty : {W : Type 0} (contents : W → Option (List ℕ)) (fault : WireFault) (first out out' : Counting W) (wire wire' : Held) (bytes text part : List ℕ) (at count : ℕ)
+      → part ≡ drop at text → Advances h s r old seat opened between seat1 opened1 (λ done rest. IsAnswered (contents first.inner) (contents out.inner) (bytes ++ take at text) done rest × IsSettled wire rest)
+      → ((rest : List ℕ) → IsSettled wire rest → Advances h s r between seat1 opened1 new seat2 opened2
+      (λ more later. IsAnswered (contents out.inner) (contents out'.inner) (rest ++ take count part) more later × IsFaulty later fault))
+      → Advances h s r old seat opened new seat2 opened2 (AnswersAs contents (Ok (Some fault)) first out' wire' (bytes ++ text))
+  piece_faulty contents fault first out out' wire wire' bytes text part at count same a f =
+      advances_then a (λ done rest p.
+      let b = f rest p.1 in
+      record {
+        done = b.done;
+        rest = b.rest ++ drop (at + count) text;
+        run = b.run;
+        outcome = (
+          answered_whole _ _ bytes text b.rest at count (done ++ b.done) (answered_then _ _ _ (bytes ++ take at text) rest (take count (drop at text)) b.rest done b.done p.0 (subst (λ l. IsAnswered (contents out.inner) (contents out'.inner) (rest ++ take count l) b.done b.rest) same b.outcome.0)),
+          faulty_more b.rest (drop (at + count) text) fault b.outcome.1,
+        );
+      })
+
+  pub piece_answered : {W : Type 0} (contents : W → Option (List ℕ)) (first out out' : Counting W) (wire wire' : Held) (bytes text part : List ℕ) (at count : ℕ)
+      → part ≡ drop at text → Advances h s r old seat opened between seat1 opened1 (λ done rest. IsAnswered (contents first.inner) (contents out.inner) (bytes ++ take at text) done rest × IsSettled wire rest)
+      → ((rest : List ℕ) → IsSettled wire rest → Advances h s r between seat1 opened1 new seat2 opened2
+      (λ more later. IsAnswered (contents out.inner) (contents out'.inner) (rest ++ take count part) more later × IsSettled wire' later))
+      → Advances h s r old seat opened new seat2 opened2 (λ done rest. IsAnswered (contents first.inner) (contents out'.inner) (bytes ++ take (at + count) text) done rest × IsSettled wire' rest)
+  piece_answered contents first out out' wire wire' bytes text part at count same a f =
+      advances_then a (λ done rest p.
+      let b = f rest p.1 in
+      record {
+        done = b.done;
+        rest = b.rest;
+        run = b.run;
+        outcome = (
+          subst (λ t. IsAnswered (contents first.inner) (contents out'.inner) t (done ++ b.done) b.rest) (piece_then bytes text at count)
+              (answered_then _ _ _ (bytes ++ take at text) rest (take count (drop at text)) b.rest done b.done p.0 (subst (λ l. IsAnswered (contents out.inner) (contents out'.inner) (rest ++ take count l) b.done b.rest) same b.outcome.0)),
+          b.outcome.1,
+        );
+      })
+
+-- One call of `next`, by what it answered.
+pub next_none : (old new : Held) (result : Result (Option Request) WireFault) → IsNext old (told result) new → result ≡ Ok None → (bytes : List ℕ) → Unread old bytes → IsSettled new bytes
+next_none old new result n e bytes u =
+    let m = subst (λ a. IsNext old (told a) new) e n in
+    let w = m.continues bytes u in
+    let same = w.2.2 in
+    let held : Unread new bytes = subst (Unread new) same w.1 in
+    record { unread = held; begins = w.2.0; none = w.2.1; room = m.room bytes held }
+
+pub next_some : (old new : Held) (result : Result (Option Request) WireFault) (request : Request) → IsNext old (told result) new → result ≡ Ok (Some request) → (bytes : List ℕ) → Unread old bytes
+    → (rest : List ℕ) × Unread new rest × (text : List ℕ) × SpellsRequest text (plain_request request) × (bytes ≡ text ++ rest)
+next_some old new result request n e bytes u =
+    let m = subst (λ a. IsNext old (told a) new) e n in
+    let w = m.continues bytes u in
+    (w.0, w.1, w.2.0, w.2.1, w.2.2)
+
+pub next_shorter : (old new : Held) (result : Result (Option Request) WireFault) (request : Request) → IsNext old (told result) new → result ≡ Ok (Some request) → length new.kept < length old.kept
+next_shorter old new result request n e = (subst (λ a. IsNext old (told a) new) e n).shrinks
+
+-- a reader that is settled takes some of a piece that is not empty
+pub push_some : (count len taken : ℕ) → count ≡ min len (65548 - taken) → taken < 65548 → 0 < len → (0 < count) × (count ≤ len)
+push_some count len taken e room some = (omega arith, omega arith)
+
+-- where the output failed
+pub output_ends : {In W : Type 0} (remaining : In → Option (List ℕ)) (contents : W → Option (List ℕ)) (result : Result Served ServeFault) (input input' : Counting In) (output output' : Counting W)
+    (read : List ℕ) (done : List Exchange) (rest : List ℕ) → IsErrAnd result (λ e. e ≡ Output)
+    → IsCutOff (contents output.inner) (contents output'.inner) read done rest → HasRisen output.failures output'.failures → EndsAs remaining contents result input input' output output' read done rest
+output_ends remaining contents (Ok ending) input input' output output' read done rest e c r = absurd e
+output_ends remaining contents (Err fault) input input' output output' read done rest e c r =
+    subst (λ f. EndsAs remaining contents (Err f) input input' output output' read done rest) (sym e) (c, r)
+
+-- where bytes are no request
+pub broken_ends : (rest : List ℕ) (fault : WireFault) → IsFaulty rest fault → HasFault rest fault × HasNoSpelling rest
+broken_ends rest fault f = subst (λ t. HasFault t fault × HasNoSpelling t) (append-nil rest) (f [])
+
+-- What became of the bytes read so far and one piece more.
+module _ {H S Seat R : Type 0} {h : HoldsPromise H Seat} {s : StacksPromise S R} {r : ReelPromise R} {old between new : DriveTable H S Seat R} {seat seat1 seat2 : Seat} {opened opened1 opened2 : Option (Opened R)} where
+  pub read_cut : {In W : Type 0} (remaining : In → Option (List ℕ)) (contents : W → Option (List ℕ)) (result : Result Served ServeFault) (input input' : Counting In) (first out out' : Counting W) (wire : Held) (read part : List ℕ)
+      → IsErrAnd result (λ e. e ≡ Output) → first.failures ≤ out.failures
+      → Advances h s r old seat opened between seat1 opened1 (λ done rest. IsAnswered (contents first.inner) (contents out.inner) read done rest × IsSettled wire rest)
+      → ((rest : List ℕ) → IsSettled wire rest → Advances h s r between seat1 opened1 new seat2 opened2
+      (λ more later. IsCutOff (contents out.inner) (contents out'.inner) (rest ++ part) more later × HasRisen out.failures out'.failures))
+      → Advances h s r old seat opened new seat2 opened2 (EndsAs remaining contents result input input' first out' (read ++ part))
+  read_cut remaining contents result input input' first out out' wire read part failed since a f =
+      advances_then a (λ done rest p.
+      let b = f rest p.1 in
+      record {
+        done = b.done;
+        rest = b.rest;
+        run = b.run;
+        outcome = output_ends remaining contents result input input' first out' (read ++ part) (done ++ b.done) b.rest failed
+            (cut_then _ _ _ read rest part b.rest done b.done p.0 b.outcome.0) (risen_since first.failures out.failures out'.failures since b.outcome.1);
+      })
+
+  pub read_faulty : {In W : Type 0} (remaining : In → Option (List ℕ)) (contents : W → Option (List ℕ)) (fault : WireFault) (input input' : Counting In) (first out out' : Counting W) (wire : Held) (read part : List ℕ)
+      → Advances h s r old seat opened between seat1 opened1 (λ done rest. IsAnswered (contents first.inner) (contents out.inner) read done rest × IsSettled wire rest)
+      → ((rest : List ℕ) → IsSettled wire rest → Advances h s r between seat1 opened1 new seat2 opened2
+      (λ more later. IsAnswered (contents out.inner) (contents out'.inner) (rest ++ part) more later × IsFaulty later fault))
+      → Advances h s r old seat opened new seat2 opened2 (EndsAs remaining contents (Ok (Broken fault)) input input' first out' (read ++ part))
+  read_faulty remaining contents fault input input' first out out' wire read part a f =
+      advances_then a (λ done rest p.
+      let b = f rest p.1 in
+      let e = broken_ends b.rest fault b.outcome.1 in
+      record { done = b.done; rest = b.rest; run = b.run; outcome = (answered_then _ _ _ read rest part b.rest done b.done p.0 b.outcome.0, e.0, e.1) })
+
+  pub read_answered : {W : Type 0} (contents : W → Option (List ℕ)) (first out out' : Counting W) (wire wire' : Held) (read part : List ℕ)
+      → Advances h s r old seat opened between seat1 opened1 (λ done rest. IsAnswered (contents first.inner) (contents out.inner) read done rest × IsSettled wire rest)
+      → ((rest : List ℕ) → IsSettled wire rest → Advances h s r between seat1 opened1 new seat2 opened2
+      (λ more later. IsAnswered (contents out.inner) (contents out'.inner) (rest ++ part) more later × IsSettled wire' later))
+      → Advances h s r old seat opened new seat2 opened2 (λ done rest. IsAnswered (contents first.inner) (contents out'.inner) (read ++ part) done rest × IsSettled wire' rest)
+  read_answered contents first out out' wire wire' read part a f =
+      advances_then a (λ done rest p.
+      let b = f rest p.1 in
+      record { done = b.done; rest = b.rest; run = b.run; outcome = (answered_then _ _ _ read rest part b.rest done b.done p.0 b.outcome.0, b.outcome.1) })
+
+-- Where stacks and reel tell, a run of requests carried out is a run of serve steps
+pub run_steps : {H S Seat R : Type 0} {h : HoldsPromise H Seat} {s : StacksPromise S R} {r : ReelPromise R} {old : DriveTable H S Seat R} {seat : Seat} {opened : Option (Opened R)}
+    {done : List Exchange} {last : DriveTable H S Seat R} {last_seat : Seat} {last_opened : Option (Opened R)}
+    → CarryRun h s r old seat opened done last last_seat last_opened → (start : Scene) → Tells s r old.stacks opened start
+    → (finish : Scene) × ServeRun r.GROWS start done finish × Tells s r last.stacks last_opened finish
+run_steps none start tells = (start, no_steps, tells)
+run_steps (one_more request reply run carried) start tells =
+    let so_far = run_steps run start tells in
+    let step = carried.step so_far.0 so_far.2 in
+    (step.after, one_step request reply step.troubled step.asked step.found so_far.1 step.step, step.tells)
+
+pub served_as : {H S Seat R In Out : Type 0} {h : HoldsPromise H Seat} {s : StacksPromise S R} {r : ReelPromise R} (remaining : In → Option (List ℕ)) (contents : Out → Option (List ℕ))
+    (result : Result Served ServeFault) (input input' : Counting In) (output output' : Counting Out)
+    {old : DriveTable H S Seat R} {seat : Seat} {opened : Option (Opened R)} {last : DriveTable H S Seat R} {last_seat : Seat} {last_opened : Option (Opened R)} {new : DriveTable H S Seat R} {seat' : Seat}
+    (read : List ℕ) → Consumes (remaining input.inner) (remaining input'.inner) read
+    → Advances h s r old seat opened last last_seat last_opened (EndsAs remaining contents result input input' output output' read)
+    → IsClosed h s r last last_seat last_opened new seat'
+    → IsServedAs h s r remaining contents result input input' output output' old seat opened new seat'
+served_as remaining contents result input input' output output' {last = last} {last_seat = last_seat} {last_opened = last_opened} read consumed a ended = record {
+  read = read;
+  done = a.done;
+  rest = a.rest;
+  consumed = consumed;
+  ends = a.outcome;
+  last = last;
+  last_seat = last_seat;
+  last_opened = last_opened;
+  run = a.run;
+  ended = ended;
+  steps = λ start tells. (let w = run_steps a.run start tells in (w.0, w.1, ended.step w.0 w.2));
+}

@@ -1,0 +1,36 @@
+use Rattle.std.proofs.Common.{refl, sym, subst, arith}
+use Rattle.rmt_server.specs.Carrying.{IsAt}
+use Rattle.rmt_server.proofs.Seats.{HoldsJust-given}
+use Rattle.rmt_server.proofs.session.drive.close.Goals as goal
+
+pub put_back-requires-clause-drive : goal.put_back-requires-clause-drive
+put_back-requires-clause-drive g c =
+    let at = subst (IsAt g.H.Holds g.S.Stacks c.args.drives.now c.args.seat.now) (sym c.in-Some.ensures.value) c.requires in
+    at.below _ refl
+
+pub give-requires-clause-drive : goal.give-requires-clause-drive
+give-requires-clause-drive g c =
+    let at = subst (IsAt g.H.Holds g.S.Stacks c.args.drives.now c.args.seat.now) (sym c.in-Some.ensures.value) c.requires in
+    omega (arith, at.below _ refl, at.enough)
+
+pub returns-clause-closed : goal.returns-clause-closed
+returns-clause-closed g c =
+    let at = subst (IsAt g.H.Holds g.S.Stacks c.args.drives.now c.args.seat.now) (sym c.in-Some.ensures.value) c.requires in
+    rw (← c.in-Some.ensures.value) (record {
+      at = record {
+        own = c.give.ensures.own;
+        enough = omega (arith, at.enough, c.give.ensures.same_drives, c.put_back.ensures.same_drives);
+        held = rw c.give.ensures.step (HoldsJust-given (g.H.Holds.shows c.args.seat.now) c.in-Some.device.drive at.held);
+        below = λ d e. absurd cc;
+        latched = λ d e. absurd cc;
+      };
+      step = λ v t. c.put_back.ensures.step _ v.shop v.session t.shop t.session;
+      view = c.give.ensures.step;
+      told = c.give.ensures.told;
+      kept = record {
+        others = c.give.ensures.others;
+        same_holds = c.give.ensures.same_drives;
+        same_stacks = c.put_back.ensures.same_drives;
+        counted = c.put_back.ensures.counted;
+      };
+    })

@@ -1,0 +1,19 @@
+-- What a device was opened for.
+use Rattle.std.specs.Prelude.{ℕ, ◌%◌, ◌==◌, Bool, true, false, if◌then◌else◌, Option, Some, None}
+use Rattle.rmt_server.specs.declared.access.Access.{Access}
+use Rattle.rmt_server.specs.declared.access.Access.TheVariants.{Read, Write, Both}
+
+-- the number of the mode modulo 4: 0 read only, 1 write only, 2 both, 3 none; higher bits say nothing
+abbrev pub access_of : ℕ → Option Access
+access_of mode =
+    if mode % 4 == 0 then Some Read else if mode % 4 == 1 then Some Write else if mode % 4 == 2 then Some Both else None
+
+abbrev pub reads : Access → Bool
+reads Read = true
+reads Write = false
+reads Both = true
+
+abbrev pub writes : Access → Bool
+writes Read = false
+writes Write = true
+writes Both = true

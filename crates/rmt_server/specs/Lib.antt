@@ -1,0 +1,13 @@
+pub mod Holding
+pub mod Local
+pub mod Shop
+pub mod Stacking
+pub mod Opening
+pub mod OneReel
+pub mod Access
+pub mod Refusals
+pub mod Desk
+pub mod Session
+pub mod Carrying
+pub mod Serving
+pub mod Stdio

@@ -1,0 +1,53 @@
+-- Errors as they are sent: the numbers and texts are those of errno.
+use Rattle.std.specs.Prelude.{ℕ, List, codes}
+use Rattle.rmt_wire.specs.Reply.{PlainReply}
+use Rattle.rmt_wire.specs.Reply.PlainReply.{Error}
+use Rattle.tape.specs.declared.fault.TapeFault.{TapeFault}
+use Rattle.tape.specs.declared.fault.TapeFault.TheVariants as tape
+use Rattle.rmt_server.specs.declared.drives.fault.DriveFault.{DriveFault}
+use Rattle.rmt_server.specs.declared.drives.fault.DriveFault.TheVariants as drive
+use Rattle.rmt_server.specs.declared.refusal.Refusal.{Refusal}
+use Rattle.rmt_server.specs.declared.refusal.Refusal.TheVariants.{NoSuchFile, InputOutput, NotConfigured, BadDescriptor, NoMemory, Permission, Busy, Invalid, NoSpace}
+
+abbrev pub number_of : Refusal → ℕ
+number_of NoSuchFile = 2
+number_of InputOutput = 5
+number_of NotConfigured = 6
+number_of BadDescriptor = 9
+number_of NoMemory = 12
+number_of Permission = 13
+number_of Busy = 16
+number_of Invalid = 22
+number_of NoSpace = 28
+
+abbrev pub text_of : Refusal → List ℕ
+text_of NoSuchFile = codes "No such file or directory"
+text_of InputOutput = codes "Input/output error"
+text_of NotConfigured = codes "Device not configured"
+text_of BadDescriptor = codes "Bad file descriptor"
+text_of NoMemory = codes "Cannot allocate memory"
+text_of Permission = codes "Permission denied"
+text_of Busy = codes "Device busy"
+text_of Invalid = codes "Invalid argument"
+text_of NoSpace = codes "No space left on device"
+
+-- the answer that says it
+abbrev pub refused : Refusal → PlainReply
+refused r = Error (number_of r) (text_of r)
+
+-- what a reel's fault is to a client
+abbrev pub tape_refusal : TapeFault → Refusal
+tape_refusal tape.Device = InputOutput
+tape_refusal tape.Full = NoSpace
+tape_refusal tape.EndOrMark = InputOutput
+tape_refusal tape.BadOperation = Invalid
+tape_refusal tape.OutOfMemory = NoMemory
+
+-- what a drive's fault is to a client
+abbrev pub drive_refusal : DriveFault → Refusal
+drive_refusal drive.NoSuchDrive = NoSuchFile
+drive_refusal (drive.Busy n) = Busy
+drive_refusal drive.NoReel = NotConfigured
+drive_refusal drive.Device = InputOutput
+drive_refusal drive.OutOfMemory = NoMemory
+drive_refusal drive.NameTaken = InputOutput

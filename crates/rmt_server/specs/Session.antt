@@ -1,0 +1,181 @@
+-- What a session has open, and what each request does (rmt(8); effects and the order of checks are this project's).
+use Rattle.std.specs.Prelude.{◌≡◌, ℕ, ◌<◌, min, ◌==◌, nat_lt, Bool, ◌||◌, IsTrue, if◌then◌else◌, List, [], ◌∷◌, ◌++◌, length, Option, Some, None, MatchOption, Result, Ok, Err}
+use Rattle.rmt_wire.specs.Request.{PlainRequest, data_limit}
+use Rattle.rmt_wire.specs.Request.PlainRequest.{Open, Close, Write, WriteDropped, Read, Op}
+use Rattle.rmt_wire.specs.Reply.{PlainReply}
+use Rattle.rmt_wire.specs.Reply.PlainReply.{Done, Data}
+use Rattle.tape.specs.Tape.{Tape, TapeRequest, TapeAnswer, TapeStep, entries_of, op_request}
+use Rattle.tape.specs.Tape.TapeRequest.{Write as WriteRecord, Read as ReadRecord, Unknown}
+use Rattle.tape.specs.Tape.TapeAnswer.{Done as Did, Gave, Fault}
+use Rattle.tape.specs.declared.fault.TapeFault.{TapeFault}
+use Rattle.tape.specs.declared.fault.TapeFault.TheVariants as fault
+use Rattle.rmt_server.specs.declared.access.Access.{Access}
+use Rattle.rmt_server.specs.declared.refusal.Refusal.{Refusal}
+use Rattle.rmt_server.specs.declared.refusal.Refusal.TheVariants.{BadDescriptor, Invalid, NotConfigured, Permission}
+use Rattle.rmt_server.specs.declared.drives.fault.DriveFault.{DriveFault}
+use Rattle.rmt_server.specs.declared.drives.fault.DriveFault.TheVariants as drive
+use Rattle.rmt_server.specs.Access.{access_of, reads, writes}
+use Rattle.rmt_server.specs.Refusals.{refused, tape_refusal, drive_refusal}
+use Rattle.rmt_server.specs.Shop.{Shop, after_unlatch}
+use Rattle.rmt_server.specs.Opening.{OpenStep, found_in_open}
+
+-- a latched reel: its tape, and how many bytes it takes
+pub record PlainReel : Type 0 where
+  pub tape : Tape
+  pub capacity : ℕ
+
+abbrev pub plain_reel : Tape → ℕ → PlainReel
+plain_reel t capacity = record { tape = t; capacity = capacity }
+
+pub data PlainSession : Type 0 where
+  -- nothing is open
+  Idle : PlainSession
+  -- a drive is open, and its reel lies in the bin
+  Offline : (drive : ℕ) → (access : Access) → PlainSession
+  -- a drive is open, and its reel is latched
+  Online : (drive : ℕ) → (access : Access) → (reel : PlainReel) → PlainSession
+
+-- drives, reels and bin, and the session that works on them
+pub record Scene : Type 0 where
+  pub shop : Shop
+  pub session : PlainSession
+
+abbrev pub scene : Shop → PlainSession → Scene
+scene shop session = record { shop = shop; session = session }
+
+-- as much of a session as the checks look at
+pub data Status : Type 0 where
+  NothingOpen : Status
+  ReelAway : Status
+  Ready : (access : Access) → Status
+
+abbrev pub status_of : PlainSession → Status
+status_of Idle = NothingOpen
+status_of (Offline drive access) = ReelAway
+status_of (Online drive access reel) = Ready access
+
+-- a record has 1 to 65,536 bytes
+abbrev pub write_refusal : Access → ℕ → Option Refusal
+write_refusal access count =
+    if writes access then (if (count == 0) || nat_lt data_limit count then Some Invalid else None) else Some BadDescriptor
+
+abbrev pub read_refusal : Access → ℕ → Option Refusal
+read_refusal access count = if reads access then (if count == 0 then Some Invalid else None) else Some BadDescriptor
+
+-- of mtio's operations MTWEOF 0, MTREW 5 and MTNOP 7 are known
+abbrev pub op_refusal : Access → ℕ → Option Refusal
+op_refusal access op =
+    if op == 0 then (if writes access then None else Some Permission) else if (op == 5) || (op == 7) then None else Some Invalid
+
+-- the first check that refuses the request, if one does; those of an open come after what was open is closed
+abbrev pub refusal : Status → PlainRequest → Option Refusal
+refusal status (Open device mode) = None
+refusal NothingOpen request = Some BadDescriptor
+refusal ReelAway Close = None
+refusal ReelAway request = Some NotConfigured
+refusal (Ready access) Close = None
+refusal (Ready access) (Write bytes) = write_refusal access (length bytes)
+refusal (Ready access) (WriteDropped count) = if writes access then Some Invalid else Some BadDescriptor
+refusal (Ready access) (Read count) = read_refusal access count
+refusal (Ready access) (Op op count) = op_refusal access op
+
+-- what a request asks of the reel; a read gives 65,536 bytes at most
+abbrev pub tape_request : PlainRequest → TapeRequest
+tape_request (Write bytes) = WriteRecord bytes
+tape_request (Read count) = ReadRecord (min count data_limit)
+tape_request (Op op count) = op_request op count
+tape_request request = Unknown
+
+-- how a client is told that it was done
+abbrev pub done_reply : PlainRequest → PlainReply
+done_reply (Write bytes) = Done (length bytes)
+done_reply (Op op count) = Done count
+done_reply request = Done 0
+
+-- a record for which there is no room is no error: nothing of it was written
+abbrev pub fault_reply : PlainRequest → TapeFault → PlainReply
+fault_reply (Write bytes) fault.Full = Done 0
+fault_reply request other = refused (tape_refusal other)
+
+-- what a client is told of the reel's answer
+abbrev pub reel_reply : PlainRequest → TapeAnswer → PlainReply
+reel_reply request Did = done_reply request
+reel_reply request (Gave bytes) = Data bytes
+reel_reply request (Fault why) = fault_reply request why
+
+-- the device is at fault only where there was trouble, and memory is wanting only where the reel grows
+abbrev pub IsExcused : Bool → Bool → TapeAnswer → Type 0
+IsExcused troubled grows (Fault fault.Device) = IsTrue troubled
+IsExcused troubled grows (Fault fault.OutOfMemory) = IsTrue grows
+IsExcused troubled grows answer = Unit {0}
+
+-- the latched reel makes one step, and all else stays
+abbrev pub ReelStep : Bool → Bool → Scene → PlainRequest → PlainReply → Scene → Type 0
+ReelStep troubled grows before request reply after =
+    (drive : ℕ) × (access : Access) × (reel : PlainReel) × (answer : TapeAnswer) × (t : Tape)
+    × (before.session ≡ Online drive access reel)
+    × TapeStep reel.capacity reel.tape (tape_request request) answer t
+    × IsExcused troubled grows answer
+    × (reply ≡ reel_reply request answer)
+    × (after ≡ scene before.shop (Online drive access (plain_reel t reel.capacity)))
+
+-- the shop once the session has nothing open: a latched reel lies on its stack again
+abbrev pub closed_shop : Shop → PlainSession → Shop
+closed_shop shop Idle = shop
+closed_shop shop (Offline drive access) = shop
+closed_shop shop (Online drive access reel) = after_unlatch shop drive (entries_of reel.tape) reel.capacity
+
+abbrev pub closed : Scene → Scene
+closed v = scene (closed_shop v.shop v.session) Idle
+
+-- what a client is told of an open
+abbrev pub open_reply : {R : Type 0} → Result (ℕ × R) DriveFault → PlainReply
+open_reply (Ok opened) = Done 0
+open_reply (Err why) = refused (drive_refusal why)
+
+-- a drive that was opened is open for that access, with its reel
+abbrev pub session_after : Access → Result (ℕ × PlainReel) DriveFault → PlainSession
+session_after access (Ok opened) = Online opened.0 access opened.1
+session_after access (Err why) = Idle
+
+-- a drive is busy only where the take found another seat, and the device is at fault only where there was trouble
+abbrev pub IsOpenExcused : {R : Type 0} → Bool → Result (ℕ × R) DriveFault → Type 0
+IsOpenExcused troubled (Err (drive.Busy n)) = 0 < n
+IsOpenExcused troubled (Err drive.Device) = IsTrue troubled
+IsOpenExcused troubled (Err drive.NameTaken) = ⊥
+IsOpenExcused troubled result = Unit {0}
+
+-- What an open does once nothing is open. `asked` is the drive that was taken or found held, if any, and `found`
+-- the number of the seat that the take found there.
+abbrev pub OpensAs : Bool → Option ℕ → ℕ → Scene → List ℕ → Option Access → PlainReply → Scene → Type 0
+OpensAs troubled asked found before device None reply after = (reply ≡ refused Invalid) × (after ≡ before)
+OpensAs troubled asked found before device (Some access) reply after =
+    (result : Result (ℕ × PlainReel) DriveFault)
+    × OpenStep (λ reel t. reel.tape ≡ t) (λ reel. reel.capacity) device asked result before.shop after.shop
+    × (found ≡ found_in_open result)
+    × IsOpenExcused troubled result
+    × (reply ≡ open_reply result)
+    × (after.session ≡ session_after access result)
+
+-- a request that no check refuses
+abbrev pub DoneStep : Bool → Bool → Scene → PlainRequest → PlainReply → Scene → Type 0
+DoneStep troubled grows before Close reply after = (reply ≡ Done 0) × (after ≡ closed before)
+DoneStep troubled grows before request reply after = ReelStep troubled grows before request reply after
+
+-- One request, its reply, and drives and session after it. `troubled` says that a device failed, `grows` that the
+-- reels can ask for memory; `asked` and `found` tell of the take of an open.
+abbrev pub ServeStep : Bool → Bool → Option ℕ → ℕ → Scene → PlainRequest → PlainReply → Scene → Type 0
+ServeStep troubled grows asked found before (Open device mode) reply after =
+    OpensAs troubled asked found (closed before) device (access_of mode) reply after
+ServeStep troubled grows asked found before request reply after =
+    MatchOption (refusal (status_of before.session) request)
+    (DoneStep troubled grows before request reply after)
+    (λ r. (reply ≡ refused r) × (after ≡ before))
+
+-- Requests and their replies, one step after another.
+pub data ServeRun (grows : Bool) (start : Scene) : List (PlainRequest × PlainReply) → Scene → Type 0 where
+  none : ServeRun grows start [] start
+  one_more : {done : List (PlainRequest × PlainReply)} {before after : Scene}
+      (request : PlainRequest) (reply : PlainReply) (troubled : Bool) (asked : Option ℕ) (found : ℕ)
+      → ServeRun grows start done before → ServeStep troubled grows asked found before request reply after
+      → ServeRun grows start (done ++ (request, reply) ∷ []) after

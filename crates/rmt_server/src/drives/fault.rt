@@ -1,0 +1,24 @@
+use thiserror::Error;
+
+/// Why a drive was not opened, or a reel not moved. After each nothing has changed.
+#[derive(Clone, Copy, Debug, PartialEq, Eq, Error)]
+pub enum DriveFault {
+    /// There is no drive of that name.
+    #[error("NoSuchDrive")]
+    NoSuchDrive,
+    /// The seat of this number holds the drive.
+    #[error("Busy")]
+    Busy(u64),
+    /// There is no reel on the drive's stack.
+    #[error("NoReel")]
+    NoReel,
+    /// What keeps the reels failed.
+    #[error("Device")]
+    Device,
+    /// A growth was refused.
+    #[error("OutOfMemory")]
+    OutOfMemory,
+    /// The bin has a reel of that name.
+    #[error("NameTaken")]
+    NameTaken,
+}

@@ -1,0 +1,103 @@
+ghost use Rattle.std.specs.Prelude.{◌≡◌, ◌<◌, [], ◌∷◌, None, IfOk, IfErr, IsOk};
+ghost use Rattle.tape.specs.Failures.{Steps};
+ghost use Rattle.tape.specs.List.{IsTape};
+ghost use Rattle.tape.specs.Tape.{Tape, entries_of};
+ghost use Rattle.rmt_server.specs.declared.drives.fault.DriveFault.TheVariants.{NoReel};
+ghost use Rattle.rmt_server.specs.OneReel.{the_drive, the_reel, IsShop};
+ghost use Rattle.rmt_server.specs.Shop.{shop, rack, kept, after_offline};
+ghost use Rattle.rmt_server.specs.Stacking.{LatchStep, HasLatched};
+
+use crate::drives::{DriveFault, Stacks};
+use std::alloc::Global;
+use std::mem;
+use tape::{ListReel, Reel};
+
+/// The name of the drive.
+const DRIVE: &[u8] = b"/dev/st0";
+
+// Where the reel is.
+#[derive(Drop)]
+enum ReelPlace {
+    Stack(ListReel),
+    Latched,
+    Bin(ListReel),
+}
+
+/// The drive `/dev/st0` with one reel in memory, and a bin.
+#[derive(Drop)]
+pub struct ListStacks {
+    reel: ReelPlace,
+}
+
+impl ListStacks {
+    /// The drive with one empty reel of this capacity, in bytes. It takes no memory yet.
+    pub fn new(alloc: Global, capacity: u64) -> ListStacks
+        ensures { IsShop result (shop (rack the_drive None (kept the_reel [] capacity ∷ []) ∷ []) []) }
+    {
+        let reel = ListReel::new(alloc, capacity);
+        ListStacks {
+            reel: ReelPlace::Stack(reel),
+        }
+    }
+}
+
+impl Stacks for ListStacks {
+    ghost use Rattle.std.proofs.Common.{sym, ◌∙◌};
+    ghost use Rattle.rmt_server.specs.OneReel.{shop_of-once, shop_of-sized};
+
+    type Reel = ListReel;
+
+    ghost holds = { IsShop };
+
+    ghost drives = { λ _. 1 };
+
+    ghost failures = { λ _. 0 };
+
+    fn drive(&self, name: &[u8]) -> Option<usize> {
+        if name == DRIVE { Some(0) } else { None }
+    }
+
+    /// Answers `NoReel` alone.
+    fn latch(&mut self, drive: usize) -> Result<ListReel, DriveFault>
+        requires { drive < 1 }
+        ensures step { Steps IsShop self.old self.new (LatchStep IsTape (λ r. r.capacity) drive result) }
+        ensures latched { IfOk result (λ _. HasLatched IsShop self.new drive) }
+        ensures faults { IfErr result (λ fault. fault ≡ NoReel) }
+    {
+        match mem::replace(&mut self.reel, ReelPlace::Latched) {
+            ReelPlace::Stack(mut reel) => {
+                reel.rewind();
+                Ok(reel)
+            }
+            elsewhere => {
+                self.reel = elsewhere;
+                Err(DriveFault::NoReel)
+            }
+        }
+    }
+
+    fn unlatch(&mut self, drive: usize, reel: ListReel) {
+        self.reel = ReelPlace::Stack(reel);
+    }
+
+    /// Always moves the reel, and takes no memory.
+    fn offline(&mut self, drive: usize, reel: ListReel) -> Result<(), (ListReel, DriveFault)>
+        requires drive { drive < 1 }
+        requires latched { HasLatched IsShop self.old drive }
+        ensures moved { (t : Tape) → IsTape reel t → Steps IsShop self.old self.new (λ s now. now ≡ after_offline s drive (entries_of t) reel.capacity) }
+        ensures done { IsOk result }
+    {
+        self.reel = ReelPlace::Bin(reel);
+        Ok(())
+    }
+
+    fn failures(&self) -> u64 {
+        0
+    }
+
+    ghost single = { λ stacks s t h k. h ∙ sym k };
+
+    ghost once = { λ stacks s h. shop_of-once stacks.reel s h };
+
+    ghost sized = { λ stacks s h. shop_of-sized stacks.reel s h };
+}

@@ -1,0 +1,8 @@
+/// What a take answers.
+#[derive(Clone, Copy, Debug, PartialEq, Eq)]
+pub enum Taken {
+    /// No seat held the drive. Now this one does.
+    Held,
+    /// The seat of this number holds it.
+    Busy(u64),
+}

@@ -1,0 +1,92 @@
+ghost use Rattle.std.specs.Prelude.{◌≡◌};
+ghost use Rattle.rmt_wire.specs.Lent.{plain_reply};
+ghost use Rattle.rmt_server.specs.Refusals.{number_of, text_of, refused, tape_refusal, drive_refusal};
+
+use crate::drives::DriveFault;
+use rmt_wire::Reply;
+use tape::TapeFault;
+
+/// Why a request was refused, as errno names it.
+#[derive(Clone, Copy, Debug, PartialEq, Eq)]
+pub(crate) enum Refusal {
+    NoSuchFile,
+    InputOutput,
+    NotConfigured,
+    BadDescriptor,
+    NoMemory,
+    Permission,
+    Busy,
+    Invalid,
+    NoSpace,
+}
+
+impl Refusal {
+    /// The number that errno has for it.
+    fn number(self) -> u32
+        ensures { result ≡ number_of self }
+    {
+        match self {
+            Refusal::NoSuchFile => 2,
+            Refusal::InputOutput => 5,
+            Refusal::NotConfigured => 6,
+            Refusal::BadDescriptor => 9,
+            Refusal::NoMemory => 12,
+            Refusal::Permission => 13,
+            Refusal::Busy => 16,
+            Refusal::Invalid => 22,
+            Refusal::NoSpace => 28,
+        }
+    }
+
+    /// What is sent beside the number.
+    fn text(self) -> &'static [u8]
+        ensures { result.now ≡ text_of self }
+    {
+        match self {
+            Refusal::NoSuchFile => b"No such file or directory",
+            Refusal::InputOutput => b"Input/output error",
+            Refusal::NotConfigured => b"Device not configured",
+            Refusal::BadDescriptor => b"Bad file descriptor",
+            Refusal::NoMemory => b"Cannot allocate memory",
+            Refusal::Permission => b"Permission denied",
+            Refusal::Busy => b"Device busy",
+            Refusal::Invalid => b"Invalid argument",
+            Refusal::NoSpace => b"No space left on device",
+        }
+    }
+
+    /// The answer that says it.
+    pub(crate) fn reply(self) -> Reply<'static>
+        ensures { plain_reply result ≡ refused self }
+    {
+        Reply::Error {
+            number: self.number(),
+            text: self.text(),
+        }
+    }
+
+    /// What a reel's fault is to a client.
+    pub(crate) fn of_tape(fault: TapeFault) -> Refusal
+        ensures { result ≡ tape_refusal fault }
+    {
+        match fault {
+            TapeFault::Device | TapeFault::EndOrMark => Refusal::InputOutput,
+            TapeFault::Full => Refusal::NoSpace,
+            TapeFault::BadOperation => Refusal::Invalid,
+            TapeFault::OutOfMemory => Refusal::NoMemory,
+        }
+    }
+
+    /// What a drive's fault is to a client.
+    pub(crate) fn of_drive(fault: DriveFault) -> Refusal
+        ensures { result ≡ drive_refusal fault }
+    {
+        match fault {
+            DriveFault::NoSuchDrive => Refusal::NoSuchFile,
+            DriveFault::Busy(_) => Refusal::Busy,
+            DriveFault::NoReel => Refusal::NotConfigured,
+            DriveFault::Device | DriveFault::NameTaken => Refusal::InputOutput,
+            DriveFault::OutOfMemory => Refusal::NoMemory,
+        }
+    }
+}

@@ -1,0 +1,108 @@
+//! The session of one client: what it has open, and what it answers.
+ghost use Rattle.std.specs.Prelude.{◌≡◌, ◌≤◌, length, Ok, Err, IfOk};
+ghost use Rattle.rmt_wire.specs.Lent.{plain_request, plain_reply};
+ghost use Rattle.rmt_wire.specs.Reply.{HasSpelling};
+
+mod calls;
+mod carry;
+mod drive;
+mod opened;
+
+use crate::drives::{DriveTable, Holds, Stacks};
+use crate::session::carry::{Given, carry};
+pub(crate) use opened::Opened;
+use rmt_wire::{DATA_LIMIT, Reply, Request};
+use std::alloc::{AllocError, Global};
+use std::marker::Model;
+
+/// The session of one client.
+///
+/// It has nothing open, or a drive that its seat holds, with the drive's reel unless that lies in the bin.
+/// Contracts see the seat and what is open.
+#[derive(Drop)]
+pub struct Session<H: Holds, S: Stacks> {
+    seat: H::Seat,
+    opened: Option<Opened<S::Reel>>,
+    buffer: Vec<u8>,
+}
+
+impl<H: Holds, S: Stacks> Model for Session<H, S> {
+    ghost use Rattle.std.specs.Prelude.{◌≡◌, length};
+    ghost use Rattle.rmt_server.specs.Desk.{Desk};
+
+    ghost Value = { Desk H.Seat S.Reel };
+
+    ghost view = { λ s. record { seat = s.seat; opened = s.opened } };
+
+    ghost invariant = { λ s. length s.buffer.items ≡ 65536 };
+}
+
+impl<H: Holds, S: Stacks> Session<H, S> {
+    ghost use Rattle.std.specs.Prelude.{MatchResult, MatchOption, None};
+    ghost use Rattle.std.specs.Borrow.{sem};
+    ghost use Rattle.std.specs.Io.BufRead.{Rests};
+    ghost use Rattle.rmt_server.specs.contracts.session.Session.{the_row};
+    ghost use Rattle.rmt_server.specs.Carrying.{IsAt, IsClosed, IsCarriedOut, IsSayable, HoldsJust, IsOnline, online_drive};
+
+    /// A session with nothing open. The seat holds no drive.
+    ///
+    /// It reserves the buffer for reads, and hands the seat back where that is refused.
+    pub fn new(alloc: Global, seat: H::Seat) -> Result<Session<H, S>, (H::Seat, AllocError)>
+        requires { HoldsJust (H.shows seat) None }
+        ensures made { MatchResult result (λ s. s ≡ record { seat = seat; opened = None }) (λ refused. refused.0 ≡ seat) }
+        ensures at { IfOk result (λ s. (holds : H) (stacks : S) → H.belongs holds seat → S.drives stacks ≤ H.drives holds → IsAt H.Holds S.Stacks (record { holds = holds; stacks = stacks }) s.seat s.opened) }
+    {
+        match Vec::from_elem(alloc, 0u8, DATA_LIMIT) {
+            Ok(buffer) => Ok(Session {
+                seat,
+                opened: None,
+                buffer,
+            }),
+            Err(error) => Err((seat, error)),
+        }
+    }
+
+    /// Carries out a request and answers it. What a read gives is lent.
+    ///
+    /// The drives are those of the seat and of what is open.
+    pub fn carry_out(&mut self, drives: &mut DriveTable<H, S>, request: Request<'_>) -> Reply<'_>
+        requires { IsAt H.Holds S.Stacks drives.old self.old.seat self.old.opened }
+        ensures* rests { sem 𝓛 (Rests (the_row H.row S.row H.Seat.row S.Reel.row H.Holds S.Stacks S.Reel.Reel) self.entry (λ new. IsCarriedOut H.Holds S.Stacks S.Reel.Reel drives.old self.old.seat self.old.opened (plain_request request.entry) (plain_reply result) drives.new new.seat new.opened)) }
+        ensures spelling { IsSayable (plain_request request.entry) → HasSpelling (plain_reply result) }
+    {
+        let outcome = carry(
+            drives,
+            &mut self.seat,
+            &mut self.opened,
+            self.buffer.as_mut_slice(),
+            request,
+        );
+        match outcome {
+            Ok(Given::Number(number)) => Reply::Done { number },
+            Ok(Given::Bytes(count)) => Reply::Data {
+                bytes: &self.buffer.as_slice()[..count],
+            },
+            Err(refusal) => refusal.reply(),
+        }
+    }
+
+    /// Ends the session: what is open is closed, and the seat holds no drive.
+    ///
+    /// The drives are those of the seat and of what is open.
+    pub fn end(&mut self, drives: &mut DriveTable<H, S>)
+        requires { IsAt H.Holds S.Stacks drives.old self.old.seat self.old.opened }
+        ensures closed { IsClosed H.Holds S.Stacks S.Reel.Reel drives.old self.old.seat self.old.opened drives.new self.new.seat }
+        ensures nothing { self.new.opened ≡ None }
+    {
+        drive::close(drives, &mut self.seat, &mut self.opened);
+    }
+
+    /// The drive and the reel of the open device, while the reel is online.
+    pub fn reel(&self) -> Option<(usize, &S::Reel)>
+        ensures { MatchOption result (online_drive self.now.opened ≡ None) (λ told. IsOnline self.now.opened told.0 told.1.now) }
+    {
+        let device = self.opened.as_ref()?;
+        let reel = device.reel.as_ref()?;
+        Some((device.drive, reel))
+    }
+}

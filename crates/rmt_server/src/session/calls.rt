@@ -1,0 +1,127 @@
+//! The requests that the open reel serves.
+ghost use Rattle.std.specs.Prelude.{◌≡◌, ◌<◌, ◌≤◌, ◌&&◌, Some, None, IfOk, length};
+ghost use Rattle.rmt_wire.specs.Request.PlainRequest.{Write, WriteDropped, Read, Op};
+ghost use Rattle.rmt_server.specs.Session.{refusal, Ready, read_refusal, write_refusal, op_refusal};
+ghost use Rattle.std.specs.Prelude.{ℕ};
+ghost use Rattle.rmt_server.specs.Carrying.{refusal_in, ReelServes, number_reply, data_reply, status_at};
+
+use crate::access::Access;
+use crate::refusal::Refusal;
+use crate::session::Opened;
+use rmt_wire::DATA_LIMIT;
+use tape::{MTNOP, MTREW, MTWEOF, Reel, TapeFault};
+
+/// Writes one record. It answers how many bytes were written: none where there is no room.
+pub(crate) fn write<R: Reel>(opened: &mut Option<Opened<R>>, bytes: &[u8]) -> Result<u32, Refusal>
+    ensures call { ReelServes R.Reel opened.old opened.new (Write bytes.now) (number_reply result) }
+    ensures number { IfOk result (λ n. n ≤ 65536) }
+{
+    let Some(device) = opened else {
+        return Err(Refusal::BadDescriptor);
+    };
+    let Some(reel) = &mut device.reel else {
+        return Err(Refusal::NotConfigured);
+    };
+    check_write(device.access, bytes.len())?;
+    match reel.write(bytes) {
+        Ok(()) => Ok(bytes.len() as u32),
+        Err(TapeFault::Full) => Ok(0),
+        Err(fault) => Err(Refusal::of_tape(fault)),
+    }
+}
+
+/// Why a write of so many bytes that were dropped is refused.
+pub(crate) fn refuse_dropped<R>(opened: &Option<Opened<R>>) -> Refusal
+    ensures { (count : ℕ) → refusal (status_at opened.now) (WriteDropped count) ≡ Some result }
+{
+    match opened {
+        None => Refusal::BadDescriptor,
+        Some(device) if device.reel.is_none() => Refusal::NotConfigured,
+        Some(device) if device.access.writes() => Refusal::Invalid,
+        Some(_) => Refusal::BadDescriptor,
+    }
+}
+
+/// Reads one record, of which it copies at most `count` bytes. It answers how many it copied.
+pub(crate) fn read<R: Reel>(
+    opened: &mut Option<Opened<R>>,
+    into: &mut [u8],
+    count: u32,
+) -> Result<usize, Refusal>
+    requires { length into.old ≡ 65536 }
+    ensures call { ReelServes R.Reel opened.old opened.new (Read count) (data_reply result into.new) }
+    ensures bound { IfOk result (λ n. n ≤ length into.new) }
+{
+    let Some(device) = opened else {
+        return Err(Refusal::BadDescriptor);
+    };
+    let Some(reel) = &mut device.reel else {
+        return Err(Refusal::NotConfigured);
+    };
+    check_read(device.access, count)?;
+    let most = (count as usize).min(DATA_LIMIT);
+    match reel.read(&mut into[..most]) {
+        Ok(n) => Ok(n),
+        Err(fault) => Err(Refusal::of_tape(fault)),
+    }
+}
+
+/// Does an operation of mtio. It answers the count.
+pub(crate) fn operate<R: Reel>(
+    opened: &mut Option<Opened<R>>,
+    op: u32,
+    count: u32,
+) -> Result<u32, Refusal>
+    ensures call { ReelServes R.Reel opened.old opened.new (Op op count) (number_reply result) }
+    ensures number { IfOk result (λ n. n ≡ count) }
+{
+    let Some(device) = opened else {
+        return Err(Refusal::BadDescriptor);
+    };
+    let Some(reel) = &mut device.reel else {
+        return Err(Refusal::NotConfigured);
+    };
+    check_op(device.access, op)?;
+    match reel.op(op, count) {
+        Ok(()) => Ok(count),
+        Err(fault) => Err(Refusal::of_tape(fault)),
+    }
+}
+
+/// Whether so many bytes may be written as one record.
+fn check_write(access: Access, len: usize) -> Result<(), Refusal>
+    ensures { write_refusal access len ≡ refusal_in result }
+{
+    if !access.writes() {
+        return Err(Refusal::BadDescriptor);
+    }
+    if len == 0 || len > DATA_LIMIT {
+        return Err(Refusal::Invalid);
+    }
+    Ok(())
+}
+
+/// Whether so many bytes of a record may be read.
+fn check_read(access: Access, count: u32) -> Result<(), Refusal>
+    ensures { read_refusal access count ≡ refusal_in result }
+{
+    if !access.reads() {
+        return Err(Refusal::BadDescriptor);
+    }
+    if count == 0 {
+        return Err(Refusal::Invalid);
+    }
+    Ok(())
+}
+
+/// Whether the operation is known, and may be done.
+fn check_op(access: Access, op: u32) -> Result<(), Refusal>
+    ensures { op_refusal access op ≡ refusal_in result }
+{
+    match op {
+        MTWEOF if access.writes() => Ok(()),
+        MTWEOF => Err(Refusal::Permission),
+        MTREW | MTNOP => Ok(()),
+        _ => Err(Refusal::Invalid),
+    }
+}

@@ -1,0 +1,9 @@
+use crate::access::Access;
+
+/// An open device: its drive, what it was opened for, and its reel, unless that lies in the bin.
+#[derive(Drop)]
+pub(crate) struct Opened<R> {
+    pub(crate) drive: usize,
+    pub(crate) access: Access,
+    pub(crate) reel: Option<R>,
+}

@@ -1,0 +1,57 @@
+//! Serving one stream with one drive in memory, as `rmtd --stdio` does.
+ghost use Rattle.std.specs.Prelude.{◌≡◌, ℕ, List, Some};
+ghost use Rattle.rmt_server.specs.Stdio.{IsEnding, IsStatus};
+
+use crate::drives::{DriveTable, ListStacks, LocalHolds};
+use crate::session::Session;
+use crate::stream::{Served, serve};
+use rmt_wire::{Counted, RequestReader};
+use std::alloc::Global;
+use std::io::{Read, Write};
+
+/// What a program ends with that was told a wrong word, or whose stream failed.
+const FAILED: u8 = 1;
+
+/// Serves one stream. None where memory was refused at the start, or a stream failed.
+fn serve_alone<R: Read, W: Write>(
+    alloc: Global,
+    input: &mut Counted<R>,
+    output: &mut Counted<W>,
+    capacity: u64,
+) -> Option<Served>
+    ensures { (bytes : List ℕ) → R.remaining input.old.inner ≡ Some bytes → IsEnding bytes result }
+{
+    let mut wire = RequestReader::new(alloc).ok()?;
+    let mut holds = LocalHolds::new(alloc, 1).ok()?;
+    let seat = holds.seat()?;
+    let stacks = ListStacks::new(alloc, capacity);
+    let mut drives = DriveTable { holds, stacks };
+    let Ok(mut session) = Session::new(alloc, seat) else {
+        return None;
+    };
+    serve(input, output, &mut wire, &mut session, &mut drives).ok()
+}
+
+/// Serves the requests of `input` and writes the answers to `output`, with one drive `/dev/st0`, whose one reel is
+/// in memory, empty, and of this capacity in bytes.
+///
+/// Answers the exit status of `rmtd --stdio`: 0 where the input ended between two requests, 2 where it ended inside
+/// one, 3 where it came to bytes that are no request, and 1 where a stream failed, or where memory was refused
+/// before the first request was read.
+pub fn run_stdio<R: Read + Drop, W: Write + Drop>(
+    alloc: Global,
+    input: R,
+    output: W,
+    capacity: u64,
+) -> u8
+    ensures { (bytes : List ℕ) → R.remaining input ≡ Some bytes → IsStatus bytes result }
+{
+    let mut input = Counted::new(input);
+    let mut output = Counted::new(output);
+    match serve_alone(alloc, &mut input, &mut output, capacity) {
+        Some(Served::End) => 0,
+        None => FAILED,
+        Some(Served::Truncated) => 2,
+        Some(Served::Broken(_)) => 3,
+    }
+}

@@ -1,0 +1,152 @@
+//! Serving one stream of requests.
+ghost use Rattle.std.specs.Prelude.{◌≡◌, ◌<◌, ◌≤◌, ℕ, List, [], ◌++◌, Option, None, Ok, Err};
+ghost use Rattle.std.specs.Io.KnownBytes.{Consumes};
+ghost use Rattle.rmt_wire.specs.Reader.{Unread};
+ghost use Rattle.rmt_server.specs.Carrying.{IsAt};
+ghost use Rattle.rmt_server.specs.Serving.{IsServedAs, Advances, AnswersAs, IsSettled, EndsAs};
+
+use crate::drives::{DriveTable, Holds, Stacks};
+use crate::session::Session;
+use rmt_wire::{Counted, OutputFault, RequestReader, WireFault, write_reply};
+use std::io::{Read, Write};
+use thiserror::Error;
+
+/// The most bytes that are read at once.
+const PIECE: usize = 65536;
+
+/// How the stream of a session ended.
+#[derive(Clone, Copy, Debug, PartialEq, Eq)]
+pub enum Served {
+    /// Between two requests.
+    End,
+    /// Inside a request, which was not carried out.
+    Truncated,
+    /// At bytes that are no request.
+    Broken(WireFault),
+}
+
+/// Which end of a session failed.
+#[derive(Clone, Copy, Debug, PartialEq, Eq, Error)]
+pub enum ServeFault {
+    /// A read failed.
+    #[error("Input")]
+    Input,
+    /// A write failed, or took none of some bytes.
+    #[error("Output")]
+    Output,
+}
+
+impl From<OutputFault> for ServeFault {
+    ghost use Rattle.std.specs.Prelude.{◌≡◌};
+    ghost use Rattle.rmt_server.specs.declared.stream.ServeFault.TheVariants.{Output};
+
+    ghost from_gives = { λ _ e. e ≡ Output };
+
+    fn from(_: OutputFault) -> Self {
+        ServeFault::Output
+    }
+}
+
+/// Carries out and answers each whole request that the reader holds, up to bytes that are none.
+fn answer_all<W: Write, H: Holds, S: Stacks>(
+    output: &mut Counted<W>,
+    wire: &mut RequestReader,
+    session: &mut Session<H, S>,
+    drives: &mut DriveTable<H, S>,
+) -> Result<Option<WireFault>, OutputFault>
+    requires at { IsAt H.Holds S.Stacks drives.old session.old.seat session.old.opened }
+    requires held { (bytes : List ℕ) × Unread wire.old bytes }
+    ensures at { IsAt H.Holds S.Stacks drives.new session.new.seat session.new.opened }
+    ensures answers { (bytes : List ℕ) → Unread wire.old bytes → Advances H.Holds S.Stacks S.Reel.Reel drives.old session.old.seat session.old.opened drives.new session.new.seat session.new.opened (AnswersAs W.contents result output.old output.new wire.new bytes) }
+    ensures counted { output.old.failures ≤ output.new.failures }
+{
+    loop {
+        match wire.next() {
+            Err(fault) => return Ok(Some(fault)),
+            Ok(None) => return Ok(None),
+            Ok(Some(request)) => {
+                let reply = session.carry_out(drives, request);
+                write_reply(output, &reply)?;
+            }
+        }
+    }
+}
+
+/// Takes in a piece of the stream, and answers each request that is whole then, up to bytes that are none.
+fn take_in<W: Write, H: Holds, S: Stacks>(
+    piece: &[u8],
+    output: &mut Counted<W>,
+    wire: &mut RequestReader,
+    session: &mut Session<H, S>,
+    drives: &mut DriveTable<H, S>,
+) -> Result<Option<WireFault>, OutputFault>
+    requires at { IsAt H.Holds S.Stacks drives.old session.old.seat session.old.opened }
+    requires settled { (bytes : List ℕ) × IsSettled wire.old bytes }
+    ensures at { IsAt H.Holds S.Stacks drives.new session.new.seat session.new.opened }
+    ensures answers { (bytes : List ℕ) → IsSettled wire.old bytes → Advances H.Holds S.Stacks S.Reel.Reel drives.old session.old.seat session.old.opened drives.new session.new.seat session.new.opened (AnswersAs W.contents result output.old output.new wire.new (bytes ++ piece.now)) }
+    ensures counted { output.old.failures ≤ output.new.failures }
+{
+    let mut at = 0;
+    while at < piece.len() {
+        at += wire.push(&piece[at..]);
+        if let Some(fault) = answer_all(output, wire, session, drives)? {
+            return Ok(Some(fault));
+        }
+    }
+    Ok(None)
+}
+
+/// Answers the requests of a stream up to its end, its first bytes that are no request, or a failure.
+fn converse<R: Read, W: Write, H: Holds, S: Stacks>(
+    input: &mut Counted<R>,
+    output: &mut Counted<W>,
+    wire: &mut RequestReader,
+    session: &mut Session<H, S>,
+    drives: &mut DriveTable<H, S>,
+) -> Result<Served, ServeFault>
+    requires at { IsAt H.Holds S.Stacks drives.old session.old.seat session.old.opened }
+    requires empty { Unread wire.old [] }
+    ensures at { IsAt H.Holds S.Stacks drives.new session.new.seat session.new.opened }
+    ensures converses { (read : List ℕ) × Consumes (R.remaining input.old.inner) (R.remaining input.new.inner) read × Advances H.Holds S.Stacks S.Reel.Reel drives.old session.old.seat session.old.opened drives.new session.new.seat session.new.opened (EndsAs R.remaining W.contents result input.old input.new output.old output.new read) }
+{
+    let mut piece = [0; PIECE];
+    if let Some(fault) = answer_all(output, wire, session, drives)? {
+        return Ok(Served::Broken(fault));
+    }
+    loop {
+        match input.read(&mut piece) {
+            Err(_) => return Err(ServeFault::Input),
+            Ok(0) if wire.is_empty() => return Ok(Served::End),
+            Ok(0) => return Ok(Served::Truncated),
+            Ok(count) => {
+                if let Some(fault) = take_in(&piece[..count], output, wire, session, drives)? {
+                    return Ok(Served::Broken(fault));
+                }
+            }
+        }
+    }
+}
+
+/// Serves one stream: carries out its requests in order and writes the answers, then ends the session.
+///
+/// The stream ends between two requests (`End`), inside one (`Truncated`), which is not carried out, or at bytes
+/// that are no request (`Broken`). It answers `Input` where a read failed and `Output` where a write did. In every
+/// case what was open is closed. It takes no memory of its own, and reads large pieces.
+pub fn serve<R: Read, W: Write, H: Holds, S: Stacks>(
+    input: &mut Counted<R>,
+    output: &mut Counted<W>,
+    wire: &mut RequestReader,
+    session: &mut Session<H, S>,
+    drives: &mut DriveTable<H, S>,
+) -> Result<Served, ServeFault>
+    // the drives are those of the session's seat and of what is open
+    requires at { IsAt H.Holds S.Stacks drives.old session.old.seat session.old.opened }
+    // the reader has given all that was pushed
+    requires empty { Unread wire.old [] }
+    ensures served { IsServedAs H.Holds S.Stacks S.Reel.Reel R.remaining W.contents result input.old input.new output.old output.new drives.old session.old.seat session.old.opened drives.new session.new.seat }
+    ensures nothing { session.new.opened ≡ None }
+{
+    let ending = converse(input, output, wire, session, drives);
+    session.end(drives);
+    ending
+}
