@@ -67,12 +67,12 @@ pub open-seen : {R : Type 0} (r : ReelPromise R) (device : List ℕ) (access : A
     → OpenStep r.holds r.capacity device asked result shop shop' → OpenSeen r device access asked result shop shop'
 unfolding is_device
 open-seen r device access asked (Ok taken) shop shop' x h = record {
-  plain = Ok (taken.0, plain_reel (tape [] h.1.0.entries) (r.capacity taken.1));
-  step = (h.0, (h.1.0, h.1.1, h.1.2, refl, h.1.4));
+  plain = Ok (taken.0, plain_reel (tape [] h.2.0.entries) (r.capacity taken.1));
+  step = (h.0, h.1, (h.2.0, h.2.1, h.2.2, refl, h.2.4));
   found = refl;
   excused = x;
   reply = refl;
-  seen = (tape [] h.1.0.entries, h.1.3, refl);
+  seen = (tape [] h.2.0.entries, h.2.3, refl);
 }
 open-seen r device access asked (Err NoSuchDrive) shop shop' x h = record { plain = Err NoSuchDrive; step = h; found = refl; excused = x; reply = refl; seen = refl }
 open-seen r device access asked (Err (Busy n)) shop shop' x h = record { plain = Err (Busy n); step = h; found = refl; excused = x; reply = refl; seen = refl }

@@ -1,5 +1,5 @@
 -- Requests answered one after another.
-use Rattle.std.proofs.Common.{◌≡◌, ℕ, suc, ◌+◌, ◌-◌, ◌<◌, ◌≤◌, List, [], ◌∷◌, ◌++◌, length, take, drop, Option, Some, None, Result, Ok, Err, refl, sym, ap, subst, ◌∙◌, arith, append_assoc, append-nil, min}
+use Rattle.std.proofs.Common.{◌≡◌, ℕ, ◌+◌, ◌-◌, ◌<◌, ◌≤◌, List, [], ◌∷◌, ◌++◌, length, take, drop, Option, Some, None, Result, Ok, Err, refl, sym, ap, subst, ◌∙◌, arith, append_assoc, append-nil, min, Bool, IsTrue}
 use Rattle.std.proofs.lemmas.List.{take-append-drop, map-append}
 use Rattle.std.proofs.lemmas.Grind.{flat_map-append}
 use Rattle.std.proofs.Math.Seq.{take-add}
@@ -7,7 +7,7 @@ use Rattle.std.proofs.KnownBytes.{Appends-nil, Appends-trans}
 use Rattle.std.specs.Io.KnownBytes.{Appends, Consumes}
 use Rattle.rmt_wire.specs.Request.{PlainRequest, SpellsRequest}
 use Rattle.rmt_wire.specs.Request.PlainRequest.{Open, Close, Write, WriteDropped, Read, Op}
-use Rattle.rmt_wire.specs.Reply.{PlainReply, reply_text}
+use Rattle.rmt_wire.specs.Reply.{PlainReply, reply_text, HasSpelling}
 use Rattle.rmt_wire.specs.Parts.{Spelled, HasNoSpelling, HasFault}
 use Rattle.std.specs.Result.{IsErr, IsErrAnd}
 use Rattle.rmt_wire.specs.Counted.{Counting, HasRisen}
@@ -21,7 +21,7 @@ use Rattle.rmt_server.specs.declared.drives.holds.Holds.{Ghosts as HoldsPromise}
 use Rattle.rmt_server.specs.declared.drives.stacks.Stacks.{Ghosts as StacksPromise}
 use Rattle.rmt_server.specs.declared.drives.table.DriveTable.{DriveTable}
 use Rattle.rmt_server.specs.declared.session.opened.Opened.{Opened}
-use Rattle.rmt_server.specs.Carrying.{IsSayable, IsCarriedOut, IsClosed, Tells}
+use Rattle.rmt_server.specs.Carrying.{IsSayable, IsCarriedOut, IsClosed, Tells, MayFail, HasTrouble, ReelFailed, ReelFailedIn, reel_of}
 use Rattle.rmt_server.specs.Session.{Scene, ServeRun, none as no_steps, one_more as one_step}
 use Rattle.rmt_server.specs.Serving.{Exchange, requests_of, replies_text, IsAnswered, IsCutOff, Advances, AnswersAs, CarryRun, IsSettled, IsFaulty, EndsAs, IsServedAs, none, one_more}
 use Rattle.rmt_server.specs.declared.stream.Served.{Served}
@@ -60,22 +60,17 @@ answered_one known now after bytes rest later text done request reply a s e w = 
       (Appends-trans known now after (replies_text done) (reply_text reply) a.written w);
 }
 
-take_more_text : (front back : List ℕ) (n : ℕ) → take (length front + n) (front ++ back) ≡ front ++ take n back
-take_more_text [] back n = ap (λ k. take k back) (omega arith)
-take_more_text (x ∷ front) back n =
-    let e : length (x ∷ front) + n ≡ suc (length front + n) = omega arith in
-    ap (λ k. take k (x ∷ (front ++ back))) e ∙ ap (λ l. x ∷ l) (take_more_text front back n)
-
 -- a beginning of one answer more
 pub cut_one : (known now after : Option (List ℕ)) (bytes rest later text : List ℕ) (done : List Exchange) (request : PlainRequest) (reply : PlainReply) (n : ℕ)
     → IsAnswered known now bytes done rest → SpellsRequest text request → rest ≡ text ++ later → Appends now after (take n (reply_text reply))
     → IsCutOff known after bytes (done ++ (request, reply) ∷ []) later
 cut_one known now after bytes rest later text done request reply n a s e w = record {
   spelled = subst (λ r. Spelled bytes r later) (sym (requests_append done ((request, reply) ∷ []))) (spelled_then bytes rest later (requests_of done) (request ∷ []) a.spelled (text, later, s, e, refl));
-  count = length (replies_text done) + n;
-  written = subst (Appends known after)
-      (sym (ap (take (length (replies_text done) + n)) (replies_append done ((request, reply) ∷ []) ∙ ap (λ t. replies_text done ++ t) (append-nil (reply_text reply))) ∙ take_more_text (replies_text done) (reply_text reply) n))
-      (Appends-trans known now after (replies_text done) (take n (reply_text reply)) a.written w);
+  before = done;
+  last = (request, reply);
+  split = refl;
+  count = n;
+  written = Appends-trans known now after (replies_text done) (take n (reply_text reply)) a.written w;
 }
 
 -- what was answered first, and then more
@@ -92,9 +87,12 @@ pub cut_then : (known now after : Option (List ℕ)) (bytes rest piece later : L
 cut_then known now after bytes rest piece later done more a b = record {
   spelled = subst (λ r. Spelled (bytes ++ piece) r later) (sym (requests_append done more))
       (spelled_then (bytes ++ piece) (rest ++ piece) later (requests_of done) (requests_of more) (spelled_more bytes rest piece (requests_of done) a.spelled) b.spelled);
-  count = length (replies_text done) + b.count;
-  written = subst (Appends known after) (sym (ap (take (length (replies_text done) + b.count)) (replies_append done more) ∙ take_more_text (replies_text done) (replies_text more) b.count))
-      (Appends-trans known now after (replies_text done) (take b.count (replies_text more)) a.written b.written);
+  before = done ++ b.before;
+  last = b.last;
+  split = ap (λ l. done ++ l) b.split ∙ sym (append_assoc done b.before (b.last ∷ []));
+  count = b.count;
+  written = subst (Appends known after) (sym (append_assoc (replies_text done) (replies_text b.before) (take b.count (reply_text b.last.1))) ∙ ap (λ t. t ++ take b.count (reply_text b.last.1)) (sym (replies_append done b.before)))
+      (Appends-trans known now after (replies_text done) (replies_text b.before ++ take b.count (reply_text b.last.1)) a.written b.written);
 }
 
 -- more bytes behind those that a reader took
@@ -102,7 +100,7 @@ pub answered_more : (known now : Option (List ℕ)) (bytes rest more : List ℕ)
 answered_more known now bytes rest more done a = record { spelled = spelled_more bytes rest more (requests_of done) a.spelled; written = a.written }
 
 pub cut_more : (known now : Option (List ℕ)) (bytes rest more : List ℕ) (done : List Exchange) → IsCutOff known now bytes done rest → IsCutOff known now (bytes ++ more) done (rest ++ more)
-cut_more known now bytes rest more done a = record { spelled = spelled_more bytes rest more (requests_of done) a.spelled; count = a.count; written = a.written }
+cut_more known now bytes rest more done a = record { spelled = spelled_more bytes rest more (requests_of done) a.spelled; before = a.before; last = a.last; split = a.split; count = a.count; written = a.written }
 
 -- a count that has risen since later has risen since before
 pub risen_since : (first before now : ℕ) → first ≤ before → HasRisen before now → HasRisen first now
@@ -129,17 +127,17 @@ module _ {H S Seat R : Type 0} {h : HoldsPromise H Seat} {s : StacksPromise S R}
 
   -- one request more
   pub advances_one : {between new : DriveTable H S Seat R} {seat1 seat2 : Seat} {opened1 opened2 : Option (Opened R)} {P Q : List Exchange → List ℕ → Type 0} (request : PlainRequest) (reply : PlainReply)
-      → Advances h s r old seat opened between seat1 opened1 P → IsCarriedOut h s r between seat1 opened1 request reply new seat2 opened2
+      → Advances h s r old seat opened between seat1 opened1 P → IsCarriedOut h s r between seat1 opened1 request reply new seat2 opened2 → HasSpelling reply
       → ((done : List Exchange) (rest : List ℕ) → P done rest → (later : List ℕ) × Q (done ++ (request, reply) ∷ []) later) → Advances h s r old seat opened new seat2 opened2 Q
-  advances_one request reply a step f =
+  advances_one request reply a step spelling f =
       let w = f a.done a.rest a.outcome in
-      record { done = a.done ++ (request, reply) ∷ []; rest = w.0; run = one_more request reply a.run step; outcome = w.1 }
+      record { done = a.done ++ (request, reply) ∷ []; rest = w.0; run = one_more request reply a.run step spelling; outcome = w.1 }
 
 -- one run after another
 run_then : {H S Seat R : Type 0} {h : HoldsPromise H Seat} {s : StacksPromise S R} {r : ReelPromise R} {old between : DriveTable H S Seat R} {seat seat1 : Seat} {opened opened1 : Option (Opened R)} {done : List Exchange} {new : DriveTable H S Seat R} {seat2 : Seat} {opened2 : Option (Opened R)} {more : List Exchange}
     → CarryRun h s r old seat opened done between seat1 opened1 → CarryRun h s r between seat1 opened1 more new seat2 opened2 → CarryRun h s r old seat opened (done ++ more) new seat2 opened2
 run_then {done = done} a none = rw append-nil a
-run_then {done = done} a (one_more {done = more} request reply b step) = rw (← append_assoc done more ((request, reply) ∷ [])) (one_more request reply (run_then a b) step)
+run_then {done = done} a (one_more {done = more} request reply b step spelling) = rw (← append_assoc done more ((request, reply) ∷ [])) (one_more request reply (run_then a b) step spelling)
 
 pub advances_then : {H S Seat R : Type 0} {h : HoldsPromise H Seat} {s : StacksPromise S R} {r : ReelPromise R} {old between new : DriveTable H S Seat R} {seat seat1 seat2 : Seat} {opened opened1 opened2 : Option (Opened R)} {P Q : List Exchange → List ℕ → Type 0}
     → Advances h s r old seat opened between seat1 opened1 P
@@ -312,16 +310,39 @@ module _ {H S Seat R : Type 0} {h : HoldsPromise H Seat} {s : StacksPromise S R}
       let b = f rest p.1 in
       record { done = b.done; rest = b.rest; run = b.run; outcome = (answered_then _ _ _ read rest part b.rest done b.done p.0 b.outcome.0, b.outcome.1) })
 
+moved_may_fail : {S R : Type 0} {s : StacksPromise S R} {r : ReelPromise R} {fails : Bool} → MayFail s r fails
+    → (reel : R) (moved : Option R) → ReelFailed r reel moved → IsTrue fails
+moved_may_fail m reel None t = absurd t
+moved_may_fail m reel (Some moved) t = m.reels reel moved t
+
+reel_may_fail : {S R : Type 0} {s : StacksPromise S R} {r : ReelPromise R} {fails : Bool} → MayFail s r fails
+    → (reel : Option R) (opened : Option (Opened R)) → ReelFailedIn r reel opened → IsTrue fails
+reel_may_fail m None opened t = absurd t
+reel_may_fail m (Some reel) None t = absurd t
+reel_may_fail m (Some reel) (Some device) t = moved_may_fail m reel device.reel t
+
+-- where there was trouble, a device can fail
+may_fail : {H S Seat R : Type 0} {s : StacksPromise S R} {r : ReelPromise R} {fails : Bool} → MayFail s r fails
+    → (old : DriveTable H S Seat R) (opened : Option (Opened R)) (request : PlainRequest) (new : DriveTable H S Seat R) (opened' : Option (Opened R))
+    → HasTrouble s r old opened request new opened' → IsTrue fails
+may_fail m old opened (Open device mode) new opened' t = m.stacks old.stacks new.stacks t
+may_fail m old opened Close new opened' t = reel_may_fail m (reel_of opened) opened' t
+may_fail m old opened (Write bytes) new opened' t = reel_may_fail m (reel_of opened) opened' t
+may_fail m old opened (WriteDropped count) new opened' t = reel_may_fail m (reel_of opened) opened' t
+may_fail m old opened (Read count) new opened' t = reel_may_fail m (reel_of opened) opened' t
+may_fail m old opened (Op op count) new opened' t = reel_may_fail m (reel_of opened) opened' t
+
 -- Where stacks and reel tell, a run of requests carried out is a run of serve steps
 pub run_steps : {H S Seat R : Type 0} {h : HoldsPromise H Seat} {s : StacksPromise S R} {r : ReelPromise R} {old : DriveTable H S Seat R} {seat : Seat} {opened : Option (Opened R)}
     {done : List Exchange} {last : DriveTable H S Seat R} {last_seat : Seat} {last_opened : Option (Opened R)}
-    → CarryRun h s r old seat opened done last last_seat last_opened → (start : Scene) → Tells s r old.stacks opened start
-    → (finish : Scene) × ServeRun r.GROWS start done finish × Tells s r last.stacks last_opened finish
-run_steps none start tells = (start, no_steps, tells)
-run_steps (one_more request reply run carried) start tells =
-    let so_far = run_steps run start tells in
+    → CarryRun h s r old seat opened done last last_seat last_opened → (fails : Bool) → MayFail s r fails → (start : Scene) → Tells s r old.stacks opened start
+    → (finish : Scene) × ServeRun fails r.GROWS start done finish × Tells s r last.stacks last_opened finish
+run_steps none fails may start tells = (start, no_steps, tells)
+run_steps (one_more {between = between} {after = after} {opened1 = opened1} {opened2 = opened2} request reply run carried spelling) fails may start tells =
+    let so_far = run_steps run fails may start tells in
     let step = carried.step so_far.0 so_far.2 in
-    (step.after, one_step request reply step.troubled step.asked step.found so_far.1 step.step, step.tells)
+    let excused : IsTrue step.troubled → IsTrue fails = λ t. may_fail may between opened1 request after opened2 (step.trouble t) in
+    (step.after, one_step request reply step.troubled step.asked step.found so_far.1 excused step.step, step.tells)
 
 pub served_as : {H S Seat R In Out : Type 0} {h : HoldsPromise H Seat} {s : StacksPromise S R} {r : ReelPromise R} (remaining : In → Option (List ℕ)) (contents : Out → Option (List ℕ))
     (result : Result Served ServeFault) (input input' : Counting In) (output output' : Counting Out)
@@ -341,5 +362,5 @@ served_as remaining contents result input input' output output' {last = last} {l
   last_opened = last_opened;
   run = a.run;
   ended = ended;
-  steps = λ start tells. (let w = run_steps a.run start tells in (w.0, w.1, ended.step w.0 w.2));
+  steps = λ fails may start tells. (let w = run_steps a.run fails may start tells in (w.0, w.1, ended.step w.0 w.2));
 }

@@ -95,7 +95,8 @@ pub record KeepsDrives {H S Seat R : Type 0} (h : HoldsPromise H Seat) (s : Stac
   pub same_stacks : s.drives new.stacks ≡ s.drives old.stacks
   pub counted : s.failures old.stacks ≤ s.failures new.stacks
 
--- What was open is closed: a latched reel lies on its stack again, and the drive is given back.
+-- What was open is closed: a latched reel lies on its stack again, and the drive is given back. Where nothing was
+-- open nothing is done.
 pub record IsClosed {H S Seat R : Type 0} (h : HoldsPromise H Seat) (s : StacksPromise S R) (r : ReelPromise R)
     (old : DriveTable H S Seat R) (seat : Seat) (opened : Option (Opened R)) (new : DriveTable H S Seat R) (seat' : Seat) : Type 0 where
   pub at : IsAt h s new seat' None
@@ -103,6 +104,7 @@ pub record IsClosed {H S Seat R : Type 0} (h : HoldsPromise H Seat) (s : StacksP
   pub view : h.shows seat' ≡ view_after_close (h.shows seat) (drive_of opened)
   pub told : (d n : ℕ) → h.tells old.holds d n → h.tells new.holds d (word_after_close (drive_of opened) d n)
   pub kept : KeepsDrives h s old new seat
+  pub idle : opened ≡ None → (new ≡ old) × (seat' ≡ seat)
 
 -- one call of the open reel, which alone changes
 abbrev pub CallsIn : {R : Type 0} → ReelPromise R → Opened R → Option R → Option (Opened R) → PlainRequest → PlainReply → Type 0
@@ -205,6 +207,11 @@ abbrev pub HasTrouble : {H S Seat R : Type 0} → StacksPromise S R → ReelProm
     → DriveTable H S Seat R → Option (Opened R) → Type 0
 HasTrouble s r old opened (Open device mode) new opened' = HasRisen (s.failures old.stacks) (s.failures new.stacks)
 HasTrouble s r old opened request new opened' = ReelFailedIn r (reel_of opened) opened'
+
+-- stacks and reels count failures only where `fails` says that a device can fail
+pub record MayFail {S R : Type 0} (s : StacksPromise S R) (r : ReelPromise R) (fails : Bool) : Type 0 where
+  pub stacks : (old new : S) → HasRisen (s.failures old) (s.failures new) → IsTrue fails
+  pub reels : (old new : R) → HasRisen (r.failures old) (r.failures new) → IsTrue fails
 
 -- Where stacks and reel told `before`, they tell `after`, one serve step further. The take of an open is that of
 -- the seat's last step, and found there what the holds tell.

@@ -35,7 +35,7 @@ word_after_open (Err fault) number d n = n
 
 -- the first line that applies: no drive of that name, busy, and then what the latch answers
 abbrev pub OpenStep : {R : Type 0} → (R → Tape → Type 0) → (R → ℕ) → List ℕ → Option ℕ → Result (ℕ × R) DriveFault → Shop → Shop → Type 0
-OpenStep holds capacity name asked (Ok opened) s now = IsDriveNamed name s (Some opened.0) × LatchStep holds capacity opened.0 (Ok opened.1) s now
+OpenStep holds capacity name asked (Ok opened) s now = (asked ≡ Some opened.0) × IsDriveNamed name s (Some opened.0) × LatchStep holds capacity opened.0 (Ok opened.1) s now
 OpenStep holds capacity name asked (Err NoSuchDrive) s now = IsDriveNamed name s None × (now ≡ s)
 OpenStep holds capacity name asked (Err (Busy n)) s now = (d : ℕ) × (asked ≡ Some d) × IsDriveNamed name s (Some d) × (now ≡ s)
 OpenStep holds capacity name asked (Err fault) s now = (d : ℕ) × (asked ≡ Some d) × IsDriveNamed name s (Some d) × LatchStep holds capacity d (Err fault) s now

@@ -1,9 +1,9 @@
 -- What a server does with a stream of requests.
-use Rattle.std.specs.Prelude.{◌≡◌, ◌≢◌, ℕ, ◌<◌, List, [], ◌∷◌, ◌++◌, map, take, Option, Some, None, Result, Ok, Err}
+use Rattle.std.specs.Prelude.{◌≡◌, ◌≢◌, ℕ, ◌<◌, Bool, List, [], ◌∷◌, ◌++◌, map, take, Option, Some, None, Result, Ok, Err}
 use Rattle.std.specs.List.{flat_map}
 use Rattle.std.specs.Io.KnownBytes.{Appends, Consumes, IsAtEnd}
 use Rattle.rmt_wire.specs.Request.{PlainRequest}
-use Rattle.rmt_wire.specs.Reply.{PlainReply, reply_text}
+use Rattle.rmt_wire.specs.Reply.{PlainReply, HasSpelling, reply_text}
 use Rattle.rmt_wire.specs.Parts.{IsOpen, HasNoSpelling, Spelled, HasFault}
 use Rattle.rmt_wire.specs.Counted.{Counting, HasRisen}
 use Rattle.rmt_wire.specs.Reader.{Held, Unread, taken_of}
@@ -19,7 +19,7 @@ use Rattle.rmt_server.specs.declared.stream.Served.TheVariants.{End, Truncated, 
 use Rattle.rmt_server.specs.declared.stream.ServeFault.{ServeFault}
 use Rattle.rmt_server.specs.declared.stream.ServeFault.TheVariants.{Input, Output}
 use Rattle.rmt_server.specs.Session.{Scene, closed, ServeRun}
-use Rattle.rmt_server.specs.Carrying.{Tells, IsClosed, IsCarriedOut}
+use Rattle.rmt_server.specs.Carrying.{Tells, IsClosed, IsCarriedOut, MayFail}
 
 -- requests with their replies
 abbrev pub Exchange : Type 0
@@ -32,7 +32,8 @@ requests_of done = map (λ e. e.0) done
 abbrev pub replies_text : List Exchange → List ℕ
 replies_text done = flat_map (λ e. reply_text e.1) done
 
--- requests carried out one after another, whatever is told: drives, seat and what is open before and after
+-- requests carried out one after another, whatever is told, with replies that have a spelling: drives, seat and what
+-- is open before and after
 pub data CarryRun {H S Seat R : Type 0} (h : HoldsPromise H Seat) (s : StacksPromise S R) (r : ReelPromise R)
     (drives : DriveTable H S Seat R) (seat : Seat) (opened : Option (Opened R)) : List Exchange → DriveTable H S Seat R → Seat → Option (Opened R) → Type 0 where
   none : CarryRun h s r drives seat opened [] drives seat opened
@@ -40,6 +41,7 @@ pub data CarryRun {H S Seat R : Type 0} (h : HoldsPromise H Seat) (s : StacksPro
       (request : PlainRequest) (reply : PlainReply)
       → CarryRun h s r drives seat opened done between seat1 opened1
       → IsCarriedOut h s r between seat1 opened1 request reply after seat2 opened2
+      → HasSpelling reply
       → CarryRun h s r drives seat opened (done ++ (request, reply) ∷ []) after seat2 opened2
 
 -- The bytes are the spellings of these requests and then the rest, and the replies to them, in order, were written.
@@ -47,11 +49,14 @@ pub record IsAnswered (known known' : Option (List ℕ)) (bytes : List ℕ) (don
   pub spelled : Spelled bytes (requests_of done) rest
   pub written : Appends known known' (replies_text done)
 
--- The same, but of the replies only a beginning was written.
+-- The same, but of the last reply only a beginning was written.
 pub record IsCutOff (known known' : Option (List ℕ)) (bytes : List ℕ) (done : List Exchange) (rest : List ℕ) : Type 0 where
   pub spelled : Spelled bytes (requests_of done) rest
+  pub before : List Exchange
+  pub last : Exchange
+  pub split : done ≡ before ++ last ∷ []
   pub count : ℕ
-  pub written : Appends known known' (take count (replies_text done))
+  pub written : Appends known known' (replies_text before ++ take count (reply_text last.1))
 
 -- Requests were carried out, from drives, seat and what is open to those after, with an outcome.
 pub record Advances {H S Seat R : Type 0} (h : HoldsPromise H Seat) (s : StacksPromise S R) (r : ReelPromise R)
@@ -113,5 +118,5 @@ pub record IsServedAs {H S Seat R In Out : Type 0} (h : HoldsPromise H Seat) (s 
   pub last_opened : Option (Opened R)
   pub run : CarryRun h s r old seat opened done last last_seat last_opened
   pub ended : IsClosed h s r last last_seat last_opened new seat'
-  pub steps : (start : Scene) → Tells s r old.stacks opened start
-      → (finish : Scene) × ServeRun r.GROWS start done finish × s.holds new.stacks (closed finish).shop
+  pub steps : (fails : Bool) → MayFail s r fails → (start : Scene) → Tells s r old.stacks opened start
+      → (finish : Scene) × ServeRun fails r.GROWS start done finish × s.holds new.stacks (closed finish).shop

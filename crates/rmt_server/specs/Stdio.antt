@@ -1,32 +1,50 @@
--- The exit status of a server of one stream.
-use Rattle.std.specs.Prelude.{◌≡◌, ◌≢◌, ◌⊎◌, ℕ, List, [], ◌++◌, Option, Some, None}
-use Rattle.rmt_wire.specs.Request.{PlainRequest}
-use Rattle.rmt_wire.specs.Parts.{Parts, IsOpen, HasFault}
-use Rattle.rmt_wire.specs.declared.fault.WireFault.{WireFault}
+-- What a server of one stream does, and the status that it ends with.
+use Rattle.std.specs.Prelude.{◌≡◌, ◌⊎◌, ℕ, false, true, List, [], ◌∷◌, Option, Some, None, Ok}
+use Rattle.std.specs.Io.KnownBytes.{Consumes}
+use Rattle.rmt_wire.specs.Counted.{Counting, HasRisen}
 use Rattle.rmt_server.specs.declared.stream.Served.{Served}
 use Rattle.rmt_server.specs.declared.stream.Served.TheVariants.{End, Truncated, Broken}
+use Rattle.rmt_server.specs.OneReel.{the_drive, the_reel}
+use Rattle.rmt_server.specs.Session.{Scene, scene, ServeRun}
+use Rattle.rmt_server.specs.Session.PlainSession.{Idle}
+use Rattle.rmt_server.specs.Serving.{Exchange, IsAnswered, IsCutOff, EndsAs}
+use Rattle.rmt_server.specs.Shop.{shop, rack, kept}
 
--- the bytes are whole requests
-abbrev pub IsWhole : List ℕ → Type 0
-IsWhole bytes = (requests : List PlainRequest) × Parts bytes requests []
+-- nothing is open, and the drive's one reel is empty
+abbrev pub blank_scene : ℕ → Scene
+blank_scene capacity = scene (shop (rack the_drive None (kept the_reel [] capacity ∷ []) ∷ []) []) Idle
 
--- the bytes end inside a request
-abbrev pub IsCutShort : List ℕ → Type 0
-IsCutShort bytes = (requests : List PlainRequest) × (rest : List ℕ) × Parts bytes requests rest × (rest ≢ []) × IsOpen rest
+-- the exit status, by how the stream ended: none where it failed, or where memory was refused before it was read
+abbrev pub exit_status : Option Served → ℕ
+exit_status (Some End) = 0
+exit_status None = 1
+exit_status (Some Truncated) = 2
+exit_status (Some (Broken fault)) = 3
 
--- a beginning of the bytes ends in bytes that are no request
-abbrev pub IsBroken : List ℕ → Type 0
-IsBroken bytes =
-    (read later : List ℕ) × (requests : List PlainRequest) × (rest : List ℕ) × (fault : WireFault)
-    × (bytes ≡ read ++ later) × Parts read requests rest × HasFault rest fault
+-- The stream ended, and all replies were written. Or a read failed, or nothing was read, and all replies were
+-- written; or a write failed, and of the last reply only a beginning was written.
+abbrev pub EndsWith : {R W : Type 0} → (R → Option (List ℕ)) → (W → Option (List ℕ)) → Option Served
+    → Counting R → Counting R → Counting W → Counting W → List ℕ → List Exchange → List ℕ → Type 0
+EndsWith remaining contents (Some served) input input' output output' read done rest =
+    EndsAs remaining contents (Ok served) input input' output output' read done rest
+EndsWith remaining contents None input input' output output' read done rest =
+    (IsAnswered (contents output.inner) (contents output'.inner) read done rest × (HasRisen input.failures input'.failures ⊎ (read ≡ [])))
+    ⊎ (IsCutOff (contents output.inner) (contents output'.inner) read done rest × HasRisen output.failures output'.failures)
 
--- how the bytes of a stream ended
-abbrev pub IsEnding : List ℕ → Option Served → Type 0
-IsEnding bytes None = Unit {0}
-IsEnding bytes (Some End) = IsWhole bytes
-IsEnding bytes (Some Truncated) = IsCutShort bytes
-IsEnding bytes (Some (Broken fault)) = IsBroken bytes
+-- One stream served with the drive in memory: the requests read with the replies are a run of serve steps from the
+-- empty reel, in which no device fails.
+pub record IsServedAlone {R W : Type 0} (remaining : R → Option (List ℕ)) (contents : W → Option (List ℕ)) (capacity : ℕ)
+    (input input' : Counting R) (output output' : Counting W) (ending : Option Served) : Type 0 where
+  pub read : List ℕ
+  pub done : List Exchange
+  pub rest : List ℕ
+  pub finish : Scene
+  pub consumed : Consumes (remaining input.inner) (remaining input'.inner) read
+  pub ends : EndsWith remaining contents ending input input' output output' read done rest
+  pub run : ServeRun false true (blank_scene capacity) done finish
 
--- 0 after whole requests, 2 inside one, 3 at bytes that are none; 1 says nothing of the bytes
-abbrev pub IsStatus : List ℕ → ℕ → Type 0
-IsStatus bytes status = (status ≡ 1) ⊎ ((status ≡ 0) × IsWhole bytes) ⊎ ((status ≡ 2) × IsCutShort bytes) ⊎ ((status ≡ 3) × IsBroken bytes)
+-- the same, with the status that it ends with
+abbrev pub IsStdio : {R W : Type 0} → (R → Option (List ℕ)) → (W → Option (List ℕ)) → ℕ
+    → Counting R → Counting R → Counting W → Counting W → ℕ → Type 0
+IsStdio remaining contents capacity input input' output output' status =
+    (ending : Option Served) × (status ≡ exit_status ending) × IsServedAlone remaining contents capacity input input' output output' ending

@@ -1,6 +1,5 @@
 //! Serving one stream with one drive in memory, as `rmtd --stdio` does.
-ghost use Rattle.std.specs.Prelude.{◌≡◌, ℕ, List, Some};
-ghost use Rattle.rmt_server.specs.Stdio.{IsEnding, IsStatus};
+ghost use Rattle.rmt_server.specs.Stdio.{IsServedAlone, IsStdio};
 
 use crate::drives::{DriveTable, ListStacks, LocalHolds};
 use crate::session::Session;
@@ -19,7 +18,7 @@ fn serve_alone<R: Read, W: Write>(
     output: &mut Counted<W>,
     capacity: u64,
 ) -> Option<Served>
-    ensures { (bytes : List ℕ) → R.remaining input.old.inner ≡ Some bytes → IsEnding bytes result }
+    ensures { IsServedAlone R.remaining W.contents capacity input.old input.new output.old output.new result }
 {
     let mut wire = RequestReader::new(alloc).ok()?;
     let mut holds = LocalHolds::new(alloc, 1).ok()?;
@@ -38,17 +37,15 @@ fn serve_alone<R: Read, W: Write>(
 /// Answers the exit status of `rmtd --stdio`: 0 where the input ended between two requests, 2 where it ended inside
 /// one, 3 where it came to bytes that are no request, and 1 where a stream failed, or where memory was refused
 /// before the first request was read.
-pub fn run_stdio<R: Read + Drop, W: Write + Drop>(
+pub fn run_stdio<R: Read, W: Write>(
     alloc: Global,
-    input: R,
-    output: W,
+    input: &mut Counted<R>,
+    output: &mut Counted<W>,
     capacity: u64,
 ) -> u8
-    ensures { (bytes : List ℕ) → R.remaining input ≡ Some bytes → IsStatus bytes result }
+    ensures { IsStdio R.remaining W.contents capacity input.old input.new output.old output.new result }
 {
-    let mut input = Counted::new(input);
-    let mut output = Counted::new(output);
-    match serve_alone(alloc, &mut input, &mut output, capacity) {
+    match serve_alone(alloc, input, output, capacity) {
         Some(Served::End) => 0,
         None => FAILED,
         Some(Served::Truncated) => 2,

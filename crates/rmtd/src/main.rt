@@ -2,6 +2,7 @@
 #![tactic(auto)]
 
 use rmt_server::run_stdio;
+use rmt_wire::Counted;
 use std::process::ExitCode;
 use std::{env, io};
 
@@ -16,10 +17,11 @@ const WRONG_WORDS: u8 = 1;
 fn main(rt: HostRuntime) -> io::Result<ExitCode> {
     let mut words = env::args(&rt)?.skip(1);
     let is_stdio = words.next().is_some_and(|word| word.as_str() == "--stdio");
-    let status = if is_stdio && words.next().is_none() {
-        run_stdio(rt.alloc(), rt.stdin(), rt.stdout(), CAPACITY)
-    } else {
-        WRONG_WORDS
-    };
+    if !is_stdio || words.next().is_some() {
+        return Ok(ExitCode::from(WRONG_WORDS));
+    }
+    let mut input = Counted::new(rt.stdin());
+    let mut output = Counted::new(rt.stdout());
+    let status = run_stdio(rt.alloc(), &mut input, &mut output, CAPACITY);
     Ok(ExitCode::from(status))
 }

@@ -1,12 +1,20 @@
 -- A call of a reel in memory, from its step.
-use Rattle.std.proofs.Common.{◌≡◌, ℕ, inl, inr, refl, ap, subst, arith, Result, Ok, Err}
-use Rattle.tape.specs.Tape.{Tape, TapeRequest, TapeAnswer, TapeStep, done_answer}
+use Rattle.std.proofs.Common.{◌≡◌, ℕ, ◌≤◌, List, [], ◌∷◌, inl, inr, length, refl, ap, subst, arith, Result, Ok, Err}
+use Rattle.std.proofs.lemmas.List.{length-take}
+use Rattle.tape.specs.Tape.{PlainEntry, Tape, TapeRequest, TapeAnswer, Passes, TapeStep, done_answer}
+use Rattle.tape.specs.Tape.PlainEntry.{Record, Mark}
 use Rattle.tape.specs.Tape.TapeRequest.{Write, Read, WriteMarks, Rewind, Nothing, Unknown}
 use Rattle.tape.specs.Tape.TapeAnswer.{Done, Gave, Fault}
 use Rattle.tape.specs.Call.{CanAnswer}
 use Rattle.tape.specs.List.{ListTape, IsListCall}
 use Rattle.tape.specs.declared.fault.TapeFault.{TapeFault}
 use Rattle.tape.specs.declared.fault.TapeFault.TheVariants.{Device, Full, EndOrMark, BadOperation, OutOfMemory}
+
+-- a read gives at most what was asked
+passes_bound : (count : ℕ) (left : List PlainEntry) (t u : Tape) (bytes : List ℕ) → Passes count left t bytes u → length bytes ≤ count
+passes_bound count [] t u bytes passes = omega (arith, ap length passes.0)
+passes_bound count (Record written ∷ rest) t u bytes passes = omega (arith, ap length passes.0, length-take count written)
+passes_bound count (Mark ∷ rest) t u bytes passes = omega (arith, ap length passes.0)
 
 -- a step's answer is one that the call can have
 can_of : (capacity : ℕ) (t u : Tape) (request : TapeRequest) (answer : TapeAnswer) → TapeStep capacity t request answer u → CanAnswer request answer
@@ -18,7 +26,7 @@ can_of capacity t u (Write bytes) (Fault EndOrMark) step = absurd step
 can_of capacity t u (Write bytes) (Fault BadOperation) step = absurd step
 can_of capacity t u (Write bytes) (Fault OutOfMemory) step = inr (inr (inr refl))
 can_of capacity t u (Read count) Done step = absurd step
-can_of capacity t u (Read count) (Gave given) step = inl (given, refl)
+can_of capacity t u (Read count) (Gave given) step = inl (given, passes_bound count t.after t u given step, refl)
 can_of capacity t u (Read count) (Fault Device) step = inr refl
 can_of capacity t u (Read count) (Fault Full) step = absurd step
 can_of capacity t u (Read count) (Fault EndOrMark) step = absurd step
@@ -26,11 +34,11 @@ can_of capacity t u (Read count) (Fault BadOperation) step = absurd step
 can_of capacity t u (Read count) (Fault OutOfMemory) step = absurd step
 can_of capacity t u (WriteMarks count) Done step = inl refl
 can_of capacity t u (WriteMarks count) (Gave given) step = absurd step
-can_of capacity t u (WriteMarks count) (Fault Device) step = inr (inr (inl refl))
-can_of capacity t u (WriteMarks count) (Fault Full) step = inr (inl refl)
+can_of capacity t u (WriteMarks count) (Fault Device) step = inr (step.0, inr (inl refl))
+can_of capacity t u (WriteMarks count) (Fault Full) step = inr (step.0, inl refl)
 can_of capacity t u (WriteMarks count) (Fault EndOrMark) step = absurd step
 can_of capacity t u (WriteMarks count) (Fault BadOperation) step = absurd step
-can_of capacity t u (WriteMarks count) (Fault OutOfMemory) step = inr (inr (inr refl))
+can_of capacity t u (WriteMarks count) (Fault OutOfMemory) step = inr (step.0, inr (inr refl))
 can_of capacity t u Rewind Done step = refl
 can_of capacity t u Rewind (Gave given) step = absurd step
 can_of capacity t u Rewind (Fault fault) step = absurd step

@@ -1,16 +1,18 @@
 -- One call of a reel.
-use Rattle.std.specs.Prelude.{◌≡◌, ◌⊎◌, ℕ, ◌≤◌, List, Bool, IsTrue}
+use Rattle.std.specs.Prelude.{◌≡◌, ◌⊎◌, ℕ, ◌<◌, ◌≤◌, List, Bool, IsTrue, length}
 use Rattle.tape.specs.Failures.{HasRisen, Steps}
 use Rattle.tape.specs.Tape.{Tape, TapeRequest, TapeAnswer, TapeStep}
 use Rattle.tape.specs.Tape.TapeRequest.{Write, Read, WriteMarks, Rewind, Nothing, Unknown}
 use Rattle.tape.specs.Tape.TapeAnswer.{Done, Gave, Fault}
 use Rattle.tape.specs.declared.fault.TapeFault.TheVariants.{Device, Full, BadOperation, OutOfMemory}
 
--- the answers that a call can have, whatever stands on the tape
+-- The answers that a call can have, whatever stands on the tape: a read gives at most what was asked, and
+-- marks have a fault only from a count of 1 on.
 abbrev pub CanAnswer : TapeRequest → TapeAnswer → Type 0
 CanAnswer (Write bytes) answer = (answer ≡ Done) ⊎ (answer ≡ Fault Full) ⊎ (answer ≡ Fault Device) ⊎ (answer ≡ Fault OutOfMemory)
-CanAnswer (Read count) answer = ((bytes : List ℕ) × (answer ≡ Gave bytes)) ⊎ (answer ≡ Fault Device)
-CanAnswer (WriteMarks count) answer = (answer ≡ Done) ⊎ (answer ≡ Fault Full) ⊎ (answer ≡ Fault Device) ⊎ (answer ≡ Fault OutOfMemory)
+CanAnswer (Read count) answer = ((bytes : List ℕ) × (length bytes ≤ count) × (answer ≡ Gave bytes)) ⊎ (answer ≡ Fault Device)
+CanAnswer (WriteMarks count) answer =
+    (answer ≡ Done) ⊎ ((0 < count) × ((answer ≡ Fault Full) ⊎ (answer ≡ Fault Device) ⊎ (answer ≡ Fault OutOfMemory)))
 CanAnswer Rewind answer = answer ≡ Done
 CanAnswer Nothing answer = answer ≡ Done
 CanAnswer Unknown answer = answer ≡ Fault BadOperation

@@ -30,9 +30,13 @@ tape before after = record { before = before; after = after }
 abbrev pub entries_of : Tape → List PlainEntry
 entries_of t = t.before ++ t.after
 
--- a record has 1 to 65,536 bytes
+-- the greatest length of a record, in bytes
+abbrev pub record_limit : ℕ
+record_limit = 65536
+
+-- a record has 1 byte at least, and at most so many
 abbrev pub IsRecord : List ℕ → Type 0
-IsRecord bytes = (0 < length bytes) × (length bytes ≤ 65536)
+IsRecord bytes = (0 < length bytes) × (length bytes ≤ record_limit)
 
 pub data TapeRequest : Type 0 where
   Write : (bytes : List ℕ) → TapeRequest
@@ -57,23 +61,25 @@ abbrev pub IsCutShort : Tape → List PlainEntry → Tape → Type 0
 IsCutShort t written u = (u.before ≡ t.before) × ((u.after ≡ t.after) ⊎ (u.after ≡ []) ⊎ (u.after ≡ written))
 
 -- The record stands at the place, nothing after it, and the place is after it. It fits if room for one mark is
--- left behind it.
+-- left behind it. Without that room the answer is `Full`, whatever the device or memory.
 abbrev pub WriteStep : ℕ → List ℕ → Tape → TapeAnswer → Tape → Type 0
 WriteStep capacity bytes t Done u = (offset_of t.before + length bytes + 12 ≤ capacity) × (u ≡ tape (t.before ++ Record bytes ∷ []) [])
 WriteStep capacity bytes t (Fault Full) u = (capacity < offset_of t.before + length bytes + 12) × (u ≡ t)
-WriteStep capacity bytes t (Fault Device) u = IsCutShort t (Record bytes ∷ []) u
-WriteStep capacity bytes t (Fault OutOfMemory) u = u ≡ t
+WriteStep capacity bytes t (Fault Device) u = (offset_of t.before + length bytes + 12 ≤ capacity) × IsCutShort t (Record bytes ∷ []) u
+WriteStep capacity bytes t (Fault OutOfMemory) u = (offset_of t.before + length bytes + 12 ≤ capacity) × (u ≡ t)
 WriteStep capacity bytes t _ u = ⊥
 
--- That many marks stand at the place, nothing after them, and the place is after them. None change nothing.
--- A fault may leave any number of them up to the count.
+-- That many marks stand at the place, nothing after them, and the place is after them. A count of 0
+-- changes nothing and is done. Without room for all of them the answer is `Full`, whatever the device or memory.
+-- A device's fault may leave any number of them up to the count.
 abbrev pub MarksStep : ℕ → ℕ → Tape → TapeAnswer → Tape → Type 0
 MarksStep capacity count t Done u =
     ((count ≡ 0) × (u ≡ t))
     ⊎ ((0 < count) × (offset_of t.before + 4 * count ≤ capacity) × (u ≡ tape (t.before ++ replicate count Mark) []))
 MarksStep capacity count t (Fault Full) u = (0 < count) × (capacity < offset_of t.before + 4 * count) × (u ≡ t)
-MarksStep capacity count t (Fault Device) u = (0 < count) × ((some : ℕ) × (some ≤ count) × IsCutShort t (replicate some Mark) u)
-MarksStep capacity count t (Fault OutOfMemory) u = (0 < count) × (u ≡ t)
+MarksStep capacity count t (Fault Device) u =
+    (0 < count) × (offset_of t.before + 4 * count ≤ capacity) × ((some : ℕ) × (some ≤ count) × IsCutShort t (replicate some Mark) u)
+MarksStep capacity count t (Fault OutOfMemory) u = (0 < count) × (offset_of t.before + 4 * count ≤ capacity) × (u ≡ t)
 MarksStep capacity count t _ u = ⊥
 
 -- A read at these entries: of a record the first bytes are given and it is passed whole; of a mark none, and it

@@ -2,21 +2,30 @@ use std::alloc::AllocError;
 use thiserror::Error;
 
 /// Why a call of a reel was not carried out.
+///
+/// After each of these the place and the entries before it are as they were before the call.
 #[derive(Clone, Copy, Debug, PartialEq, Eq, Error)]
 pub enum TapeFault {
     /// The medium failed in the call.
+    ///
+    /// After a read the entries from the place on are as they were too. After a write of a record they are as they
+    /// were, or gone, or the new record alone; after a write of marks they are as they were, or gone, or so many of
+    /// the new marks as were written, up to all of them.
     #[error("Device")]
     Device,
-    /// It does not fit. Nothing changed.
+    /// There is no room: the record and a mark behind it, or the marks, are beyond the capacity. Nothing changed.
+    ///
+    /// It comes before `Device` and `OutOfMemory`: without room a write answers only this.
     #[error("Full")]
     Full,
-    /// The end, the beginning or a mark was met before the count was reached.
+    /// The end, the beginning or a mark was met before the count was reached. No call of a reel answers it: the
+    /// operations that would are not built.
     #[error("EndOrMark")]
     EndOrMark,
-    /// There is no such operation. Nothing changed.
+    /// The number is no operation of a reel. Nothing changed.
     #[error("BadOperation")]
     BadOperation,
-    /// A growth was refused. Nothing changed.
+    /// There was room on the reel, but a growth in memory was refused. Nothing changed.
     #[error("OutOfMemory")]
     OutOfMemory,
 }

@@ -29,28 +29,43 @@ pub trait Reel {
     /// Whether a call can ask for memory. Where it cannot, no call answers `OutOfMemory`.
     const GROWS: bool;
 
-    /// Writes one record at the place. What stood from there on is lost.
+    /// Writes one record, of 1 to 65,536 bytes, at the place. What stood from there on is lost, and the place is
+    /// behind the record, at the end.
     ///
-    /// Answers `Full` where the record and one mark do not fit, `Device` and `OutOfMemory`.
+    /// It needs room for its length and 12 bytes more from the place on: 8 for the record and 4 for a mark, so that
+    /// a mark still fits behind it. The room is looked at before the device and before memory.
+    ///
+    /// Answers `Full` where there is not that room, and `OutOfMemory`; nothing changed then. Answers `Device` where
+    /// the medium failed: the place and the entries before it stay, and from the place on stands what stood before,
+    /// nothing, or the record.
     fn write(&mut self, bytes: &[u8]) -> Result<(), TapeFault>
         requires { IsRecord bytes.now }
         ensures { IsCall holds capacity failures GROWS self.old self.new (Write bytes.now) (done_answer result) };
 
-    /// Copies the first bytes of the record at the place into `into`, and passes the record. Answers how many
-    /// bytes it copied: 0 at a mark, which it passes, and at the end, where it stays.
+    /// Copies the first bytes of the record at the place, as many as `into` takes, to the front of `into`, and
+    /// passes the record whole: what it has beyond that is skipped. Answers how many bytes it copied: 0 at a mark,
+    /// which it passes, and at the end, where it stays. The entries stay as they are.
     ///
-    /// Answers `Device`.
+    /// Answers `Device` where the medium failed. The place did not move then.
     fn read(&mut self, into: &mut [u8]) -> Result<usize, TapeFault>
         ensures bound { IfOk result (λ n. n ≤ length into.new) }
         ensures call { IsCall holds capacity failures GROWS self.old self.new (Read (length into.old)) (given_answer result into.new) };
 
-    /// Carries out an operation of mtio by its number.
+    /// Carries out an operation of rmt(8)'s `I` request, by its number in mtio.
     ///
-    /// Answers `Full`, `Device`, `OutOfMemory`, and `BadOperation` for a number that is none of the reel's.
+    /// - 0, `MTWEOF`: writes `count` marks at the place, of 4 bytes each. What stood from there on is lost, and the
+    ///   place is behind the marks, at the end. A count of 0 changes nothing and is done.
+    /// - 5, `MTREW`: goes to the beginning, whatever the count.
+    /// - 7, `MTNOP`: does nothing, whatever the count.
+    ///
+    /// Answers `BadOperation` to any other number, and nothing changed then. Only marks, from a count of 1 on, have
+    /// the other faults: `Full` where there is no room for all of them, and `OutOfMemory`, and nothing changed then;
+    /// `Device` where the medium failed: the place and the entries before it stay, and from the place on stands what
+    /// stood before, nothing, or any number of the marks up to the count. The room is looked at first.
     fn op(&mut self, op: u32, count: u32) -> Result<(), TapeFault>
         ensures { IsCall holds capacity failures GROWS self.old self.new (op_request op count) (done_answer result) };
 
-    /// Goes to the beginning. It never fails.
+    /// Goes to the beginning. The entries stay as they are. It never fails.
     fn rewind(&mut self)
         ensures { IsCall holds capacity failures GROWS self.old self.new Rewind Done };
 

@@ -14,7 +14,6 @@ use crate::session::Opened;
 use tape::Reel;
 
 /// Rewinds a reel, unless it lies in the bin, and lays it on its stack.
-
 fn put_back<S: Stacks>(stacks: &mut S, drive: usize, reel: Option<S::Reel>)
     requires drive { drive < S.drives stacks.old }
     requires latched { (d : ℕ) → online_in drive reel ≡ Some d → HasLatched S.holds stacks.old d }

@@ -1,9 +1,10 @@
-use Rattle.std.proofs.Common.{rules, None, sym, subst, ◌+◌}
-use Rattle.std.specs.Io.KnownBytes.{Consumes}
+use Rattle.std.proofs.Common.{rules, false, None, refl, sym, subst, ◌+◌}
 use Rattle.rmt_server.proofs.Seats.{HoldsJust-newcomer}
-use Rattle.rmt_server.proofs.Endings.{is_ending}
-use Rattle.rmt_server.specs.Carrying.{HoldsJust}
-use Rattle.rmt_server.specs.Stdio.{IsEnding}
+use Rattle.rmt_server.specs.Carrying.{HoldsJust, IsSeenAs}
+use Rattle.rmt_server.specs.Session.PlainSession.{Idle}
+use Rattle.tape.specs.contracts.list.ListReelReel.TheImpl as ListReelPromise
+use Rattle.rmt_server.specs.Stdio.{blank_scene, IsServedAlone}
+use Rattle.rmt_server.proofs.Endings.{served_none, none_fails, ends_with}
 use Rattle.rmt_server.proofs.stdio.serve_alone.Goals as goal
 
 pub new-requires-3 : goal.new-requires-3
@@ -12,9 +13,27 @@ new-requires-3 g c = subst (λ v. HoldsJust v None) (sym c.in_ok-seat.ensures.ne
 pub serve-requires-clause-at : goal.serve-requires-clause-at
 serve-requires-clause-at g c = c.in-Ok.ensures.at _ _ c.in_ok-seat.ensures.own (search rules)
 
+pub returns-in_err-wire : goal.returns-in_err-wire
+returns-in_err-wire g c = served_none (search rules)
+
+pub returns-in_err-holds : goal.returns-in_err-holds
+returns-in_err-holds g c = served_none (search rules)
+
+pub returns-in_default : goal.returns-in_default
+returns-in_default g c = served_none (search rules)
+
 pub returns : goal.returns
-returns g c bytes e =
+returns g c =
     let served = c.serve.ensures.served in
-    subst (IsEnding bytes) (sym c.ok-3.ensures.value)
-    (is_ending g.R.Read.remaining g.W.Write.contents c.serve.result c.args.input.now c.serve.new.input c.args.output.now c.serve.new.output served.read bytes served.done served.rest served.ends
-    (subst (λ known. Consumes known (g.R.Read.remaining c.serve.new.input.inner) served.read) e served.consumed))
+    let idle : IsSeenAs ListReelPromise.ghosts c.in-Ok.session.opened Idle = subst (λ s. IsSeenAs ListReelPromise.ghosts s.opened Idle) (sym c.in-Ok.ensures.made) refl in
+    let blank = blank_scene c.args.capacity in
+    let steps = served.steps false none_fails blank record { shop = c.new-stacks.ensures; session = idle } in
+    subst (IsServedAlone g.R.Read.remaining g.W.Write.contents c.args.capacity c.args.input.now c.serve.new.input c.args.output.now c.serve.new.output) (sym c.ok-3.ensures.value) record {
+      read = served.read;
+      done = served.done;
+      rest = served.rest;
+      finish = steps.0;
+      consumed = served.consumed;
+      ends = ends_with g.R.Read.remaining g.W.Write.contents c.serve.result c.args.input.now c.serve.new.input c.args.output.now c.serve.new.output served.read served.done served.rest served.ends;
+      run = steps.1;
+    }

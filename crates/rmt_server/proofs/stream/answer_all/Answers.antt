@@ -27,13 +27,14 @@ loop-fault-preserved g c =
     let at_some = c.in-Ok-Some.is ∙ ap Ok c.in-Ok-Some.field-0-is in
     let w = next_some c.loop-fault.wire c.next.follows.lender-at-none c.next.result c.in-Ok-Some.request c.next.follows.holds-at-none at_some held.0 held.1 in
     let carried = c.carry_out.follows.holds-at-none in
+    let spelling = c.carry_out.ensures.spelling (sayable w.2 _ w.3) in
     let before = c.loop-fault.invariant.1 in
     let later = c.write_reply.ensures.counted in (
       carried.at,
       omega arith,
       (w.0, w.1),
       λ bytes u.
-          advances_one _ _ (c.loop-fault.invariant.3 bytes u) carried
+          advances_one _ _ (c.loop-fault.invariant.3 bytes u) carried spelling
           (λ done rest p.
           let v = next_some c.loop-fault.wire c.next.follows.lender-at-none c.next.result c.in-Ok-Some.request c.next.follows.holds-at-none at_some rest p.1 in
           (v.0, (answered_one _ _ _ bytes rest v.0 v.2 done _ _ p.0 v.3 v.4 c.in_ok-write_reply-in-Ok-Some.ensures.written, v.1))),
@@ -44,7 +45,9 @@ returns-in_err-write_reply-in-Ok-Some-clause-answers g c = λ bytes u.
     let at_some = c.in-Ok-Some.is ∙ ap Ok c.in-Ok-Some.field-0-is in
     let cut = c.in_err-write_reply-in-Ok-Some.ensures.beginning in
     let risen = risen_since c.args.output.now.failures c.loop-fault.output.failures c.write_reply.new.out.failures c.loop-fault.invariant.1 c.in_err-write_reply-in-Ok-Some.ensures.fault in
-    advances_one _ _ (c.loop-fault.invariant.3 bytes u) c.carry_out.follows.holds-at-none
+    let held = c.loop-fault.invariant.2 in
+    let w = next_some c.loop-fault.wire c.next.follows.lender-at-none c.next.result c.in-Ok-Some.request c.next.follows.holds-at-none at_some held.0 held.1 in
+    advances_one _ _ (c.loop-fault.invariant.3 bytes u) c.carry_out.follows.holds-at-none (c.carry_out.ensures.spelling (sayable w.2 _ w.3))
     (λ done rest p.
     let v = next_some c.loop-fault.wire c.next.follows.lender-at-none c.next.result c.in-Ok-Some.request c.next.follows.holds-at-none at_some rest p.1 in (
       v.0,

@@ -33,4 +33,5 @@ returns-clause-closed g c =
         same_stacks = c.put_back.ensures.same_drives;
         counted = c.put_back.ensures.counted;
       };
+      idle = λ e. absurd cc;
     })

@@ -1,0 +1,223 @@
+#!/usr/bin/env python3
+"""Measures `rmtd --stdio` on long streams, beside `cat > /dev/null` and GNU rmt on the same bytes in the same run.
+
+    stdio.py [PROGRAM]
+
+It prints ratios of the least of several times, each with the start of a process in it, and what memory the server holds
+early, in the middle and at the end of a stream. The streams are files in the temporary folder, some 700 MB in all.
+GNU rmt is given the null device in place of a drive, where it answers each operation by an error.
+"""
+
+from __future__ import annotations
+
+import argparse
+import fcntl
+import os
+import re
+import shutil
+import subprocess
+import sys
+import tempfile
+import termios
+import time
+from dataclasses import dataclass
+from pathlib import Path
+from typing import Callable, Iterator, NamedTuple, Sequence
+
+BUILT = Path(__file__).resolve().parent.parent / "crates/rmtd/out/rmtd"
+
+REPEATS = 5
+PIECE = 1 << 20
+
+DRIVE = b"/dev/st0"
+NULL_DEVICE = b"/dev/null"
+
+NO_OPERATION = b"I7\n1\n"
+REWIND = b"I5\n1\n"
+WRITE = b"W65536\n" + bytes(range(256)) * 256
+ANSWERS = {NO_OPERATION: b"A1\n", REWIND: b"A1\n", WRITE: b"A65536\n"}
+
+# The reel in memory holds 1,048,576 bytes: 15 records of 65,536 bytes with their lengths, and not one more.
+RECORDS_A_REEL = 15
+
+Words = Sequence[str]
+
+
+def operations(count: int) -> Iterator[bytes]:
+    """Requests that do nothing."""
+    for _ in range(count):
+        yield NO_OPERATION
+
+
+def writes(count: int) -> Iterator[bytes]:
+    """Writes of the greatest record, with a rewind each time the reel is full."""
+    for number in range(1, count + 1):
+        yield WRITE
+        if number % RECORDS_A_REEL == 0:
+            yield REWIND
+
+
+def from_file(words: Words, source: Path) -> None:
+    """Runs a program with the stream as its standard input."""
+    with source.open("rb") as stream:
+        subprocess.run(words, stdin=stream, stdout=subprocess.DEVNULL, check=True)
+
+
+def one_byte_a_piece(words: Words, source: Path) -> None:
+    """Runs a program with the stream written to it byte by byte, by a pipe in packet mode: one byte is one read."""
+    pieces = [bytes((byte,)) for byte in source.read_bytes()]
+    read_end, write_end = os.pipe2(os.O_DIRECT | os.O_CLOEXEC)
+    with subprocess.Popen(words, stdin=read_end, stdout=subprocess.DEVNULL) as process:
+        os.close(read_end)
+        for piece in pieces:
+            os.write(write_end, piece)
+        os.close(write_end)
+
+
+@dataclass(frozen=True)
+class Workload:
+    """A kind of stream: its requests after the open, how many of them, and how a program is given them."""
+
+    title: str
+    requests: Callable[[int], Iterator[bytes]]
+    count: int
+    feed: Callable[[Words, Path], None]
+
+
+WORKLOADS = (
+    Workload("200,000 operations", operations, 200_000, from_file),
+    Workload("20,000 operations, one byte a piece", operations, 20_000, one_byte_a_piece),
+    Workload("256 MiB of 64 KiB writes", writes, 4_096, from_file),
+)
+
+
+class Streams(NamedTuple):
+    """The files of one workload: all of it, half of it, and all of it for the null device."""
+
+    whole: Path
+    half: Path
+    to_null: Path
+
+
+def write_stream(path: Path, device: bytes, requests: Iterator[bytes]) -> Path:
+    """Makes a file of an open and these requests."""
+    with path.open("wb") as stream:
+        stream.write(b"O" + device + b"\n2\n")
+        stream.writelines(requests)
+    return path
+
+
+def write_streams(folder: Path, workload: Workload) -> Streams:
+    """Makes the files of a workload; those of the workload before it are written over."""
+    return Streams(
+        write_stream(folder / "whole", DRIVE, workload.requests(workload.count)),
+        write_stream(folder / "half", DRIVE, workload.requests(workload.count // 2)),
+        write_stream(folder / "to_null", NULL_DEVICE, workload.requests(workload.count)),
+    )
+
+
+def answers_are_right(words: Words, workload: Workload, source: Path) -> bool:
+    """Whether the server carries out every request of the stream, so that the times are those of the work meant."""
+    with source.open("rb") as stream:
+        answered = subprocess.run(words, stdin=stream, stdout=subprocess.PIPE, check=True).stdout
+    return answered == b"A0\n" + b"".join(ANSWERS[it] for it in workload.requests(workload.count))
+
+
+def seconds_of(feed: Callable[[Words, Path], None], words: Words, source: Path) -> float:
+    """How long a program takes from its start to its end."""
+    begin = time.perf_counter()
+    feed(words, source)
+    return time.perf_counter() - begin
+
+
+def least_times(workload: Workload, runs: Sequence[tuple[Words, Path]]) -> list[float]:
+    """The least time of each run. They take turns, so that what else the machine does falls on all of them."""
+    rounds = [[seconds_of(workload.feed, *run) for run in runs] for _ in range(REPEATS)]
+    return [min(times) for times in zip(*rounds)]
+
+
+def ratios(server: Words, rmt: Words | None, workload: Workload, streams: Streams) -> str:
+    """A line of the table: the server beside `cat`, beside GNU rmt, and beside itself on half of the stream."""
+    runs = [(server, streams.whole), (server, streams.half), (("cat",), streams.whole)]
+    if rmt:
+        runs.append((rmt, streams.to_null))
+    whole, half, cat, *others = least_times(workload, runs)
+    beside_rmt = f"{whole / others[0]:.2f}" if others else "-"
+    return f"{workload.title:<38}{whole / cat:>10.2f}{beside_rmt:>14}{whole / half:>16.2f}"
+
+
+def kilobytes(process: subprocess.Popen[bytes], field: str) -> int:
+    """A field of the process's status, in units of 1,024 bytes."""
+    status = Path(f"/proc/{process.pid}/status").read_text()
+    return int(re.search(rf"^{field}:\s*(\d+) kB$", status, re.MULTILINE).group(1))
+
+
+def wait_until_read(process: subprocess.Popen[bytes]) -> None:
+    """Returns once the program has read all that stands in the pipe to it, or has ended."""
+    unread = bytearray(4)
+    while process.poll() is None:
+        fcntl.ioctl(process.stdin, termios.FIONREAD, unread)
+        if not any(unread):
+            return
+        time.sleep(0.001)
+
+
+def resident_along(words: Words, source: Path) -> list[int]:
+    """What memory a program holds after a sixteenth, a half and all of the stream, and the most that it ever held."""
+    size = source.stat().st_size
+    with source.open("rb") as stream, subprocess.Popen(
+        words, stdin=subprocess.PIPE, stdout=subprocess.DEVNULL
+    ) as process:
+        found = []
+        for place in (size // 16, size // 2, size):
+            while (rest := place - stream.tell()) > 0:
+                process.stdin.write(stream.read(min(rest, PIECE)))
+            process.stdin.flush()
+            wait_until_read(process)
+            found.append(kilobytes(process, "VmRSS"))
+        return [*found, kilobytes(process, "VmHWM")]
+
+
+def gnu_rmt() -> Words | None:
+    """GNU's server of the same protocol, where this machine has it: other servers of that name are left out."""
+    found = shutil.which("rmt", path=os.pathsep.join((os.environ.get("PATH", os.defpath), "/usr/sbin")))
+    if not found:
+        return None
+    told = subprocess.run((found, "--version"), stdin=subprocess.DEVNULL, capture_output=True, check=False)
+    return (found,) if b"GNU" in told.stdout else None
+
+
+def measure(server: Words, rmt: Words | None) -> bool:
+    """Prints both tables; answers whether the server's answers were right."""
+    memory = []
+    print(f"{'time of the server':<38}{'to cat':>10}{'to GNU rmt':>14}{'to half of it':>16}")
+    with tempfile.TemporaryDirectory(prefix="rmtd-bench-") as folder:
+        for workload in WORKLOADS:
+            streams = write_streams(Path(folder), workload)
+            if not answers_are_right(server, workload, streams.whole):
+                print(f"{workload.title}: the server's answers are not as expected")
+                return False
+            print(ratios(server, rmt, workload, streams), flush=True)
+            if workload.feed is from_file:
+                memory.append((workload.title, resident_along(server, streams.whole)))
+    print(f"\n{'resident memory of the server, KiB':<38}{'early':>10}{'middle':>10}{'end':>10}{'most':>10}")
+    for title, sizes in memory:
+        print(f"{title:<38}" + "".join(f"{size:>10}" for size in sizes))
+    return True
+
+
+def main() -> int:
+    """Measures the server, and ends with 0 where its answers were right."""
+    parser = argparse.ArgumentParser(description="Ratios of one run of the tape server on long streams.")
+    parser.add_argument("program", nargs="?", type=Path, default=BUILT, help="the built rmtd")
+    program = parser.parse_args().program.resolve()
+    if not program.is_file():
+        parser.error(f"there is no program {program}: make build builds it")
+    rmt = gnu_rmt()
+    print(f"Ratios of this run, of the least of {REPEATS} times each. One byte a piece: with the feeder's own cost.")
+    print("" if rmt else "GNU rmt is not on this machine, and is left out.\n")
+    return 0 if measure((str(program), "--stdio"), rmt) else 1
+
+
+if __name__ == "__main__":
+    sys.exit(main())
