@@ -1,5 +1,6 @@
 -- Each reply has a spelling.
 use Rattle.std.proofs.Common.{◌≡◌, ℕ, ◌==◌, Bool, true, false, cond, List, [], ◌∷◌, length, Result, Ok, Err, refl, arith, length-take}
+use Rattle.rmt_wire.specs.Request.{data_limit}
 use Rattle.std.proofs.lemmas.Bool.Decides.{nat_tests}
 use Rattle.rmt_wire.specs.Number.{HasNoLineFeed}
 use Rattle.rmt_wire.specs.Reply.{HasSpelling}
@@ -38,7 +39,7 @@ refused-spelled Busy = (omega arith, omega arith, is_line-means (text_of Busy) r
 refused-spelled Invalid = (omega arith, omega arith, is_line-means (text_of Invalid) refl)
 refused-spelled NoSpace = (omega arith, omega arith, is_line-means (text_of NoSpace) refl)
 
-pub outcome-spelled : (outcome : Result Given Refusal) (buffer : List ℕ) → length buffer ≡ 65536 → IsGiven outcome buffer → HasSpelling (outcome_reply outcome buffer)
+pub outcome-spelled : (outcome : Result Given Refusal) (buffer : List ℕ) → length buffer ≡ data_limit → IsGiven outcome buffer → HasSpelling (outcome_reply outcome buffer)
 outcome-spelled (Ok (Number n)) buffer l h = h
 outcome-spelled (Ok (Bytes n)) buffer l h = omega (arith, length-take n buffer)
 outcome-spelled (Err r) buffer l h = refused-spelled r

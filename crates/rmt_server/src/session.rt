@@ -28,13 +28,14 @@ pub struct Session<H: Holds, S: Stacks> {
 
 impl<H: Holds, S: Stacks> Model for Session<H, S> {
     ghost use Rattle.std.specs.Prelude.{◌≡◌, length};
+    ghost use Rattle.rmt_wire.specs.Request.{data_limit};
     ghost use Rattle.rmt_server.specs.Desk.{Desk};
 
     ghost Value = { Desk H.Seat S.Reel };
 
     ghost view = { λ s. record { seat = s.seat; opened = s.opened } };
 
-    ghost invariant = { λ s. length s.buffer.items ≡ 65536 };
+    ghost invariant = { λ s. length s.buffer.items ≡ data_limit };
 }
 
 impl<H: Holds, S: Stacks> Session<H, S> {
@@ -46,7 +47,7 @@ impl<H: Holds, S: Stacks> Session<H, S> {
 
     /// A session with nothing open. The seat holds no drive.
     ///
-    /// It reserves the buffer for reads, and hands the seat back where that is refused.
+    /// It reserves 65,536 bytes, the buffer for reads, and hands the seat back where they are refused.
     pub fn new(alloc: Global, seat: H::Seat) -> Result<Session<H, S>, (H::Seat, AllocError)>
         requires { HoldsJust (H.shows seat) None }
         ensures made { MatchResult result (λ s. s ≡ record { seat = seat; opened = None }) (λ refused. refused.0 ≡ seat) }
@@ -62,7 +63,16 @@ impl<H: Holds, S: Stacks> Session<H, S> {
         }
     }
 
-    /// Carries out a request and answers it. What a read gives is lent.
+    /// Carries out a request and answers it (rmt(8), with the operations of mtio). What a read gives is lent until the
+    /// next call.
+    ///
+    /// The first line that applies decides. An open closes what is open, then: 22 for a mode that is none, 2 for no
+    /// drive of that name, 16 where another seat holds it, 6 where no reel lies on its stack, 5 where the device
+    /// failed, 12 where memory was refused. All other requests: 9 with nothing open. Of those but a close: 6 where
+    /// the reel lies in the bin; 9 for a write or a read without that access, 22 for an operation that is none, 13
+    /// for marks without the access to write; 22 for a count of a write or read that is 0 or, for a write, above
+    /// 65,536; a write that has no room is answered with the number 0, and marks with 28; 5 where the device failed;
+    /// 12 where memory was refused. A reply without an error has the count, or the bytes of a read.
     ///
     /// The drives are those of the seat and of what is open.
     pub fn carry_out(&mut self, drives: &mut DriveTable<H, S>, request: Request<'_>) -> Reply<'_>

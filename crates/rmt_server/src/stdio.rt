@@ -8,10 +8,10 @@ use rmt_wire::{Counted, RequestReader};
 use std::alloc::Global;
 use std::io::{Read, Write};
 
-/// What a program ends with that was told a wrong word, or whose stream failed.
+/// The status where a stream failed, or memory was refused at the start.
 const FAILED: u8 = 1;
 
-/// Serves one stream. None where memory was refused at the start, or a stream failed.
+/// Serves one stream with a drive in memory. None where memory was refused at the start, or a stream failed.
 fn serve_alone<R: Read, W: Write>(
     alloc: Global,
     input: &mut Counted<R>,

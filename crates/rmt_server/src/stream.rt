@@ -130,8 +130,9 @@ fn converse<R: Read, W: Write, H: Holds, S: Stacks>(
 /// Serves one stream: carries out its requests in order and writes the answers, then ends the session.
 ///
 /// The stream ends between two requests (`End`), inside one (`Truncated`), which is not carried out, or at bytes
-/// that are no request (`Broken`). It answers `Input` where a read failed and `Output` where a write did. In every
-/// case what was open is closed. It takes no memory of its own, and reads large pieces.
+/// that are no request (`Broken`). It answers `Input` where a read failed, and `Output` where a write
+/// failed or took none of some bytes. In every case what was open is closed. It takes no memory of its own, and
+/// reads pieces of up to 65,536 bytes.
 pub fn serve<R: Read, W: Write, H: Holds, S: Stacks>(
     input: &mut Counted<R>,
     output: &mut Counted<W>,

@@ -1,6 +1,7 @@
 use thiserror::Error;
 
-/// Why a drive was not opened, or a reel not moved. After each nothing has changed.
+/// Why a drive was not opened, or a reel not moved. After each the seat holds what it held before, and stacks and
+/// bin are as they were.
 #[derive(Clone, Copy, Debug, PartialEq, Eq, Error)]
 pub enum DriveFault {
     /// There is no drive of that name.

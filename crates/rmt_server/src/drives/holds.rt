@@ -4,7 +4,7 @@ ghost use Rattle.rmt_server.specs.Holding.{has, taken, given, looked, found_by, 
 
 use crate::drives::Taken;
 
-/// Drives that seats hold, each drive by one seat at most.
+/// Drives that seats hold, each drive by one seat at most, where they tell.
 ///
 /// A seat is seen as its `View`. Each call is one step of the seat, and leaves what other seats hold. Holds tell
 /// who holds a drive, or tell nothing, as std's readers do with their bytes.

@@ -1,8 +1,8 @@
 //! The requests that the open reel serves.
-ghost use Rattle.std.specs.Prelude.{◌≡◌, ◌<◌, ◌≤◌, ◌&&◌, Some, None, IfOk, length};
+ghost use Rattle.std.specs.Prelude.{◌≡◌, ℕ, ◌<◌, ◌≤◌, ◌&&◌, Some, None, IfOk, length};
+ghost use Rattle.rmt_wire.specs.Request.{data_limit};
 ghost use Rattle.rmt_wire.specs.Request.PlainRequest.{Write, WriteDropped, Read, Op};
 ghost use Rattle.rmt_server.specs.Session.{refusal, Ready, read_refusal, write_refusal, op_refusal};
-ghost use Rattle.std.specs.Prelude.{ℕ};
 ghost use Rattle.rmt_server.specs.Carrying.{refusal_in, ReelServes, number_reply, data_reply, status_at};
 
 use crate::access::Access;
@@ -14,7 +14,7 @@ use tape::{MTNOP, MTREW, MTWEOF, Reel, TapeFault};
 /// Writes one record. It answers how many bytes were written: none where there is no room.
 pub(crate) fn write<R: Reel>(opened: &mut Option<Opened<R>>, bytes: &[u8]) -> Result<u32, Refusal>
     ensures call { ReelServes R.Reel opened.old opened.new (Write bytes.now) (number_reply result) }
-    ensures number { IfOk result (λ n. n ≤ 65536) }
+    ensures number { IfOk result (λ n. n ≤ data_limit) }
 {
     let Some(device) = opened else {
         return Err(Refusal::BadDescriptor);
@@ -48,7 +48,7 @@ pub(crate) fn read<R: Reel>(
     into: &mut [u8],
     count: u32,
 ) -> Result<usize, Refusal>
-    requires { length into.old ≡ 65536 }
+    requires { length into.old ≡ data_limit }
     ensures call { ReelServes R.Reel opened.old opened.new (Read count) (data_reply result into.new) }
     ensures bound { IfOk result (λ n. n ≤ length into.new) }
 {

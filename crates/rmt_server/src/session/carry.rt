@@ -1,5 +1,6 @@
 //! One request, over the parts of a session.
 ghost use Rattle.std.specs.Prelude.{◌≡◌, ◌≤◌, length, Ok, Err, IfOk};
+ghost use Rattle.rmt_wire.specs.Request.{data_limit};
 ghost use Rattle.rmt_wire.specs.Lent.{plain_request};
 ghost use Rattle.rmt_wire.specs.Reply.{HasSpelling};
 ghost use Rattle.rmt_server.specs.Carrying.{IsAt, Closes, CarriesOut, IsCarriedOut, number_reply, outcome_reply, IsWithin, IsGiven, IsSayable};
@@ -27,7 +28,7 @@ fn dispatch<H: Holds, S: Stacks>(
     request: Request<'_>,
 ) -> Result<Given, Refusal>
     requires at { IsAt H.Holds S.Stacks drives.old seat.old opened.old }
-    requires room { length buffer.old ≡ 65536 }
+    requires room { length buffer.old ≡ data_limit }
     ensures carried { CarriesOut H.Holds S.Stacks S.Reel.Reel drives.old seat.old opened.old (plain_request request.entry) (outcome_reply result buffer.new) drives.new seat.new opened.new }
     ensures small { IsSayable (plain_request request.entry) → IsGiven result buffer.new }
     ensures within { IsWithin result buffer.new }
@@ -52,7 +53,7 @@ pub(crate) fn carry<H: Holds, S: Stacks>(
     request: Request<'_>,
 ) -> Result<Given, Refusal>
     requires at { IsAt H.Holds S.Stacks drives.old seat.old opened.old }
-    requires room { length buffer.old ≡ 65536 }
+    requires room { length buffer.old ≡ data_limit }
     ensures carried { IsCarriedOut H.Holds S.Stacks S.Reel.Reel drives.old seat.old opened.old (plain_request request.entry) (outcome_reply result buffer.new) drives.new seat.new opened.new }
     ensures spelling { IsSayable (plain_request request.entry) → HasSpelling (outcome_reply result buffer.new) }
     ensures within { IsWithin result buffer.new }
