@@ -13,7 +13,7 @@ use Rattle.std.specs.Result.{IsErr, IsErrAnd}
 use Rattle.rmt_wire.specs.Counted.{Counting, HasRisen}
 use Rattle.rmt_wire.specs.declared.writer.OutputFault.{OutputFault}
 use Rattle.rmt_wire.specs.Lent.{plain_request}
-use Rattle.rmt_wire.specs.Reader.{Held, Unread, IsNext, told}
+use Rattle.rmt_wire.specs.Reader.{Held, Unread, IsNext, reader_limit, told}
 use Rattle.rmt_wire.specs.declared.request.Request.{Request}
 use Rattle.rmt_wire.specs.declared.fault.WireFault.{WireFault}
 use Rattle.tape.specs.declared.reel.Reel.{Ghosts as ReelPromise}
@@ -255,7 +255,7 @@ pub next_shorter : (old new : Held) (result : Result (Option Request) WireFault)
 next_shorter old new result request n e = (subst (λ a. IsNext old (told a) new) e n).shrinks
 
 -- a reader that is settled takes some of a piece that is not empty
-pub push_some : (count len taken : ℕ) → count ≡ min len (65548 - taken) → taken < 65548 → 0 < len → (0 < count) × (count ≤ len)
+pub push_some : (count len taken : ℕ) → count ≡ min len (reader_limit - taken) → taken < reader_limit → 0 < len → (0 < count) × (count ≤ len)
 push_some count len taken e room some = (omega arith, omega arith)
 
 -- where the output failed

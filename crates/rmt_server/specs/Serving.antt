@@ -6,7 +6,7 @@ use Rattle.rmt_wire.specs.Request.{PlainRequest}
 use Rattle.rmt_wire.specs.Reply.{PlainReply, HasSpelling, reply_text}
 use Rattle.rmt_wire.specs.Parts.{IsOpen, HasNoSpelling, Spelled, HasFault}
 use Rattle.rmt_wire.specs.Counted.{Counting, HasRisen}
-use Rattle.rmt_wire.specs.Reader.{Held, Unread, taken_of}
+use Rattle.rmt_wire.specs.Reader.{Held, Unread, reader_limit, taken_of}
 use Rattle.rmt_wire.specs.declared.fault.WireFault.{WireFault}
 use Rattle.rmt_wire.specs.declared.writer.OutputFault.{OutputFault}
 use Rattle.tape.specs.declared.reel.Reel.{Ghosts as ReelPromise}
@@ -72,7 +72,7 @@ pub record IsSettled (wire : Held) (rest : List ℕ) : Type 0 where
   pub unread : Unread wire rest
   pub begins : IsOpen rest
   pub none : HasNoSpelling rest
-  pub room : taken_of rest < 65548
+  pub room : taken_of rest < reader_limit
 
 -- whatever follows, the rest is no request, and this is why
 abbrev pub IsFaulty : List ℕ → WireFault → Type 0

@@ -1,4 +1,4 @@
--- Beginnings of an answer that is written in two parts, its head and its bytes.
+-- Beginnings of a reply that is written in two parts, its head and its bytes.
 use Rattle.std.proofs.Common.{◌≡◌, ℕ, zero, suc, ◌+◌, Option, List, [], ◌∷◌, ◌++◌, length, take, decimal, refl, sym, ap, subst, append_assoc, Result, Ok, Err, OnErr}
 use Rattle.std.proofs.Math.Seq.{take-append-add}
 use Rattle.std.proofs.KnownBytes.{Appends-trans}
@@ -15,7 +15,7 @@ take_of_first (suc n) [] rest = (0, refl)
 take_of_first (suc n) (x ∷ xs) rest =
     let shorter = take_of_first n xs rest in (suc shorter.0, ap (λ l. x ∷ l) shorter.1)
 
--- the head of the answer to a read
+-- the head of the reply to a read
 abbrev data_head : List ℕ → List ℕ
 data_head bytes = 65 ∷ (decimal (length bytes) ++ line_feed ∷ [])
 

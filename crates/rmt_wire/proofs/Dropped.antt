@@ -6,7 +6,7 @@ use Rattle.rmt_wire.specs.Number.{SpellsNumber, line_feed}
 use Rattle.rmt_wire.specs.Request.{data_limit}
 use Rattle.rmt_wire.specs.Request.PlainRequest.{WriteDropped}
 use Rattle.rmt_wire.specs.Front.{Seen, number_front, front_of}
-use Rattle.rmt_wire.specs.Reader.{dropped_if_long, dropped_line, Held, held, IsDropped, UnreadAt, Unread, gone_at, taken_at, taken_of}
+use Rattle.rmt_wire.specs.Reader.{reader_limit, dropped_if_long, dropped_line, Held, held, IsDropped, UnreadAt, Unread, gone_at, taken_at, taken_of}
 use Rattle.rmt_wire.specs.Parts.{Gives}
 use Rattle.rmt_wire.proofs.Numbers.{NumberView, number_view}
 use Rattle.rmt_wire.proofs.Spellings.{number_is_seen, length_line, write_seen, written_less}
@@ -298,7 +298,7 @@ less_seen kept dropped line bytes e less u =
 
 -- until then none is
 pub less_given : (kept : List ℕ) (dropped : ℕ) (line : ℕ × ℕ) (bytes : List ℕ) → dropped_line kept ≡ Some line → dropped + (length kept - line.0) < line.1
-    → Unread (held kept dropped) bytes → Gives bytes (Ok None) bytes × (taken_of bytes < 65548)
+    → Unread (held kept dropped) bytes → Gives bytes (Ok None) bytes × (taken_of bytes < reader_limit)
 less_given kept dropped line bytes e less u =
     let n = less_seen kept dropped line bytes e less u in
     (gives_none bytes n, room bytes n)

@@ -9,7 +9,7 @@ use Rattle.rmt_wire.specs.Request.{PlainRequest, SpellsRequest, data_limit}
 use Rattle.rmt_wire.specs.Request.PlainRequest.{Write, WriteDropped, Read, Op}
 use Rattle.rmt_wire.specs.Parts.{IsOpen, IsCause}
 use Rattle.rmt_wire.specs.Front.{Seen, after, ends_number, number_front, write_head, read_head, count_head, op_head, letter_head, head_of, written_at, request_at, front_of}
-use Rattle.rmt_wire.specs.Reader.{dropped_line, taken_at, taken_of}
+use Rattle.rmt_wire.specs.Reader.{reader_limit, dropped_line, taken_at, taken_of}
 use Rattle.rmt_wire.specs.declared.fault.WireFault.{WireFault}
 use Rattle.rmt_wire.specs.declared.fault.WireFault.TheVariants.{BadNumber}
 use Rattle.rmt_wire.specs.declared.head.Head.TheVariants as head
@@ -19,7 +19,7 @@ use Rattle.rmt_wire.proofs.Spellings.{drop_past, length_line, drop_line, number_
 -- What the bytes begin with: a beginning of a spelling, for which there is room; a spelling; or bytes that a byte
 -- rules out, whatever follows it
 abbrev pub FrontView : List ℕ → Seen (PlainRequest × ℕ) → Type 0
-FrontView bytes (Ok None) = IsOpen bytes × (taken_of bytes < 65548)
+FrontView bytes (Ok None) = IsOpen bytes × (taken_of bytes < reader_limit)
 FrontView bytes (Ok (Some p)) = (text rest : List ℕ) × (bytes ≡ text ++ rest) × SpellsRequest text p.0 × (p.1 ≡ length text)
 FrontView bytes (Err fault) =
     (seen later : List ℕ) × (byte : ℕ) × (bytes ≡ seen ++ byte ∷ later) × IsOpen seen × IsCause seen byte fault
@@ -95,10 +95,10 @@ read_view bytes (Err fault) v =
     (82 ∷ v.0, v.1, v.2, ap (λ l. 82 ∷ l) v.4, open_read v.0 v.3, (v.0, v.3.each, few_digits v.0 v.3, inr (inl refl)), λ more. read_faulty (v.0 ++ v.2 ∷ more) BadNumber (v.6 more))
 
 -- the room that a write's line takes, with none of its data or some
-taken_write : (bytes : List ℕ) (p : ℕ × ℕ) → number_front false bytes ≡ Ok (Some p) → length bytes + 1 < p.1 + 2 + p.0 → p.1 ≤ 10 → taken_of (87 ∷ bytes) < 65548
+taken_write : (bytes : List ℕ) (p : ℕ × ℕ) → number_front false bytes ≡ Ok (Some p) → length bytes + 1 < p.1 + 2 + p.0 → p.1 ≤ 10 → taken_of (87 ∷ bytes) < reader_limit
 unfolding dropped_line
 taken_write bytes p e short few =
-    rw e (by_test (λ o. taken_at o (87 ∷ bytes) < 65548) (ltb data_limit p.0) (Some (p.1 + 2, p.0)) None
+    rw e (by_test (λ o. taken_at o (87 ∷ bytes) < reader_limit) (ltb data_limit p.0) (Some (p.1 + 2, p.0)) None
     (λ large. omega arith)
     (λ small. (let s : p.0 ≤ data_limit = grind (arith, nat_tests) in omega arith)))
 

@@ -4,13 +4,13 @@ use Rattle.std.proofs.lemmas.List.{drop_at}
 use Rattle.rmt_wire.specs.Request.{PlainRequest, SpellsRequest}
 use Rattle.rmt_wire.specs.Parts.{IsOpen, HasNoSpelling, HasFault, Gives}
 use Rattle.rmt_wire.specs.Front.{Seen, front_of}
-use Rattle.rmt_wire.specs.Reader.{taken_of}
+use Rattle.rmt_wire.specs.Reader.{reader_limit, taken_of}
 use Rattle.rmt_wire.specs.declared.fault.WireFault.{WireFault}
 use Rattle.rmt_wire.proofs.Spellings.{request_seen}
 use Rattle.rmt_wire.proofs.Fronts.{FrontView}
 use Rattle.rmt_wire.proofs.Opens.{front_view}
 
--- the answer to what is seen, and what is left behind it
+-- what a reader answers to what is seen, and what is left behind it
 abbrev pub answer_to : Seen (PlainRequest × ℕ) → Result (Option PlainRequest) WireFault
 answer_to (Ok None) = Ok None
 answer_to (Ok (Some p)) = Ok (Some p.0)
@@ -64,12 +64,12 @@ pub gives : (bytes : List ℕ) → Gives bytes (answer_to (front_of bytes)) (res
 gives bytes = gives_at bytes (front_of bytes) refl (front_view bytes)
 
 -- where a beginning is all that there is, there is room for more
-room_at : (bytes : List ℕ) (seen : Seen (PlainRequest × ℕ)) → seen ≡ Ok None → FrontView bytes seen → taken_of bytes < 65548
+room_at : (bytes : List ℕ) (seen : Seen (PlainRequest × ℕ)) → seen ≡ Ok None → FrontView bytes seen → taken_of bytes < reader_limit
 room_at bytes (Ok None) e v = v.1
 room_at bytes (Ok (Some p)) e v = absurd (cc)
 room_at bytes (Err fault) e v = absurd (cc)
 
-pub room : (bytes : List ℕ) → front_of bytes ≡ Ok None → taken_of bytes < 65548
+pub room : (bytes : List ℕ) → front_of bytes ≡ Ok None → taken_of bytes < reader_limit
 room bytes e = room_at bytes (front_of bytes) e (front_view bytes)
 
 -- an open beginning is not a fault

@@ -8,5 +8,7 @@ pub mod Giving
 pub mod Dropped
 pub mod Nexts
 pub mod Reading
+pub mod Replies
+pub mod Splitting
 pub mod Spelling
 pub mod Beginnings

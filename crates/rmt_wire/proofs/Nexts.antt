@@ -1,5 +1,5 @@
 -- One call of a reader's `next`.
-use Rattle.std.proofs.Common.{◌≡◌, ℕ, eqb, true, min, ◌+◌, ◌-◌, ◌<◌, ◌≤◌, List, [], ◌++◌, length, take, drop, Option, Some, None, Result, Ok, Err, sym, ap, subst, ◌∙◌, arith}
+use Rattle.std.proofs.Common.{◌≡◌, ℕ, eqb, true, min, ◌+◌, ◌-◌, ◌<◌, ◌≤◌, List, [], ◌++◌, length, take, drop, Option, Some, None, Result, Ok, Err, refl, sym, ap, subst, ◌∙◌, arith}
 use Rattle.std.proofs.lemmas.Bool.Decides.{nat_tests}
 use Rattle.std.proofs.lemmas.List.{take_rest, nil_from_length, length-append, length-drop, length-take-le, drop-append-le, drop-take, drop-drop}
 use Rattle.rmt_wire.specs.Request.{PlainRequest, SpellsRequest}
@@ -7,7 +7,7 @@ use Rattle.rmt_wire.specs.Request.PlainRequest.{Open, Close, Write, WriteDropped
 use Rattle.rmt_wire.specs.Parts.{Gives}
 use Rattle.rmt_wire.specs.Front.{Seen, front_of}
 use Rattle.rmt_wire.specs.Lent.{plain_request, lent_front}
-use Rattle.rmt_wire.specs.Reader.{dropped_line, held, IsDropped, Unread, gone_at, taken_of, IsNext, StaysFaulty, told_front, held_after}
+use Rattle.rmt_wire.specs.Reader.{reader_limit, dropped_line, held, IsDropped, Unread, gone_at, taken_of, IsNext, StaysFaulty, told_front, held_after}
 use Rattle.rmt_wire.specs.declared.request.Request.{Request}
 use Rattle.rmt_wire.specs.declared.fault.WireFault.{WireFault}
 use Rattle.rmt_wire.proofs.Fronts.{FrontView}
@@ -25,7 +25,7 @@ spelled_some text (Read count) s = rw s.2 (omega arith)
 spelled_some text (Op op count) s = rw s.4 (omega arith)
 
 -- what is given is let go
-given_shrinks : (bytes rest : List ℕ) (request : PlainRequest) → Gives bytes (Ok (Some request)) rest → length rest < length bytes
+pub given_shrinks : (bytes rest : List ℕ) (request : PlainRequest) → Gives bytes (Ok (Some request)) rest → length rest < length bytes
 given_shrinks bytes rest request g =
     let some = spelled_some g.0 request g.1 in
     let all = ap (length {A = ℕ}) g.2 in
@@ -130,10 +130,20 @@ empty_at items start dropped bytes len e within u =
           grind (arith, nat_tests),
     )
 
+-- where the start is the end, nothing is held
+pub all_given : (items : List ℕ) (start dropped : ℕ) (len : ℕ) → len ≡ length items → start ≤ length items → IsDropped (dropped_line (drop start items)) dropped
+    → eqb len start ≡ true → Unread (held (drop start items) dropped) []
+unfolding dropped_line
+all_given items start dropped len e within at_line t =
+    let same : len ≡ start = grind (arith, nat_tests) in
+    let none : drop start items ≡ [] = nil_from_length (drop start items) (omega (arith, length-drop start items)) in
+    let none_dropped : dropped ≡ 0 = subst (λ l. IsDropped (dropped_line l) dropped) none at_line in
+    subst (λ l. Unread (held l dropped) []) (sym none) (none_dropped, refl)
+
 -- the room is what the bytes pushed do not take
-pub room_at : (items : List ℕ) (start dropped : ℕ) (bytes : List ℕ) (all : List ℕ) (gone : ℕ) → all ≡ items → length items ≤ 65548 → start ≤ length items
+pub room_at : (items : List ℕ) (start dropped : ℕ) (bytes : List ℕ) (all : List ℕ) (gone : ℕ) → all ≡ items → length items ≤ reader_limit → start ≤ length items
     → gone ≡ gone_at (dropped_line (take (length all - start) (drop start all))) (length (take (length all - start) (drop start all))) dropped
-    → Unread (held (drop start items) dropped) bytes → 65548 - (length (take (length all - start) (drop start all)) - gone) + taken_of bytes ≡ 65548
+    → Unread (held (drop start items) dropped) bytes → reader_limit - (length (take (length all - start) (drop start all)) - gone) + taken_of bytes ≡ reader_limit
 room_at items start dropped bytes all gone e most within g u =
     let t = taken_kept (drop start items) dropped bytes u in
     let same : take (length all - start) (drop start all) ≡ drop start items = take_rest all start ∙ ap (drop start) e in

@@ -9,7 +9,7 @@ use Rattle.rmt_wire.specs.Request.{PlainRequest, SpellsMode, SpellsRequest}
 use Rattle.rmt_wire.specs.Request.PlainRequest.{Open, Close}
 use Rattle.rmt_wire.specs.Parts.{IsOpen}
 use Rattle.rmt_wire.specs.Front.{Seen, after, ends_number, number_front, line_front, mode_head, open_head, close_head, write_head, read_head, op_head, letter_head, head_of, request_at, front_of}
-use Rattle.rmt_wire.specs.Reader.{taken_of, dropped_line}
+use Rattle.rmt_wire.specs.Reader.{reader_limit, taken_of, dropped_line}
 use Rattle.rmt_wire.specs.declared.fault.WireFault.{WireFault}
 use Rattle.rmt_wire.specs.declared.fault.WireFault.TheVariants.{UnknownCommand, BadNumber, LineTooLong}
 use Rattle.rmt_wire.specs.declared.head.Head.TheVariants as head
@@ -266,7 +266,7 @@ op_at bytes = op_view bytes (number_front false bytes) (number_view false 0 0 by
 nothing_open : IsOpen []
 nothing_open = (67 ∷ line_feed ∷ [], Close, ([], (omega arith, tt), refl))
 
-nothing_taken : taken_of [] < 65548
+nothing_taken : taken_of [] < reader_limit
 unfolding dropped_line
 nothing_taken = omega arith
 

@@ -64,7 +64,7 @@ line_some seen e l =
     ⊎_elim (not_empty 79 l.0 seen e) (⊎_elim (not_empty 67 l.0 seen e) (λ w. not_empty 79 (w.0 ++ line_feed ∷ l.0) seen e w.2)) l.3
 
 -- a line feed ends the first line
-first_line : (device rest other rest' : List ℕ) → HasNoLineFeed device → HasNoLineFeed other → device ++ line_feed ∷ rest ≡ other ++ line_feed ∷ rest' → length device ≡ length other
+pub first_line : (device rest other rest' : List ℕ) → HasNoLineFeed device → HasNoLineFeed other → device ++ line_feed ∷ rest ≡ other ++ line_feed ∷ rest' → length device ≡ length other
 first_line device rest other rest' d o e =
     ⊎_elim
     (λ (less : length device < length other).

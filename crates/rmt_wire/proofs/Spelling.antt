@@ -1,4 +1,4 @@
--- What a writer writes spells its answer.
+-- What a writer writes spells its reply.
 use Rattle.std.proofs.Common.{◌≡◌, ℕ, ◌^◌, ◌<◌, ◌≤◌, List, [], ◌∷◌, ◌++◌, length, length-append, take, decimal, refl, sym, arith}
 use Rattle.std.proofs.lemmas.Fmt.{decimal_is_IsNumeral, length-decimal-le}
 use Rattle.std.proofs.lemmas.List.{take_all}
@@ -25,7 +25,7 @@ decimal_spells n small =
       small = small;
     }
 
--- what a writer writes of an answer spells it, for each wanted kind that it answers
+-- what a writer writes of a reply spells it, for each wanted kind that it is one to
 pub reply_text_spells : (reply : PlainReply) → HasSpelling reply → (wanted : Wanted) → AnswersTo reply wanted
     → SpellsReply (reply_text reply) reply wanted
 reply_text_spells (Done n) spelled Number answers = (decimal n, decimal_spells n spelled, refl)

@@ -1,4 +1,4 @@
--- A request or an answer that lends bytes, as the value that it is.
+-- A request or a reply that lends bytes, as the value that it is.
 use Rattle.std.specs.Prelude.{ℕ, Option, Some, None, Result, Ok, Err}
 use Rattle.rmt_wire.specs.Request.{PlainRequest}
 use Rattle.rmt_wire.specs.Request.PlainRequest.{Open, Close, Write, WriteDropped, Read, Op}
@@ -8,7 +8,7 @@ use Rattle.rmt_wire.specs.declared.fault.WireFault.{WireFault}
 use Rattle.rmt_wire.specs.declared.request.Request.{Request}
 use Rattle.rmt_wire.specs.declared.request.Request.TheVariants as lent
 use Rattle.rmt_wire.specs.declared.reply.Reply.{Reply}
-use Rattle.rmt_wire.specs.declared.reply.Reply.TheVariants as answer
+use Rattle.rmt_wire.specs.declared.reply.Reply.TheVariants as reply
 
 abbrev pub plain_request : Request → PlainRequest
 plain_request (lent.Open device mode) = Open device.now mode
@@ -19,9 +19,9 @@ plain_request (lent.Read count) = Read count
 plain_request (lent.Op op count) = Op op count
 
 abbrev pub plain_reply : Reply → PlainReply
-plain_reply (answer.Done number) = Done number
-plain_reply (answer.Data bytes) = Data bytes.now
-plain_reply (answer.Error number text) = Error number text.now
+plain_reply (reply.Done number) = Done number
+plain_reply (reply.Data bytes) = Data bytes.now
+plain_reply (reply.Error number text) = Error number text.now
 
 -- a lent request and its length
 abbrev pub lent_front : Result (Option (Request × ℕ)) WireFault → Result (Option (PlainRequest × ℕ)) WireFault

@@ -7,6 +7,10 @@ use Rattle.rmt_wire.specs.Lent.{plain_request}
 use Rattle.rmt_wire.specs.declared.request.Request.{Request}
 use Rattle.rmt_wire.specs.declared.fault.WireFault.{WireFault}
 
+-- the bytes of the longest request that is kept: a letter, ten digits, a line feed and the data
+abbrev pub reader_limit : ℕ
+reader_limit = data_limit + 12
+
 -- a write of so many bytes after a line of so many, if it is to be dropped
 abbrev pub dropped_if_long : Seen (ℕ × ℕ) → Option (ℕ × ℕ)
 dropped_if_long (Ok (Some count)) = if nat_lt data_limit count.0 then Some (count.1 + 2, count.0) else None
@@ -55,7 +59,7 @@ taken_at (Some line) bytes = line.0 + (length bytes - (line.0 + line.1))
 abbrev pub taken_of : List ℕ → ℕ
 taken_of bytes = taken_at (dropped_line bytes) bytes
 
--- an answer of `next`, with its request as a value
+-- what `next` answers, with its request as a value
 abbrev pub told : Result (Option Request) WireFault → Result (Option PlainRequest) WireFault
 told (Ok None) = Ok None
 told (Ok (Some request)) = Ok (Some (plain_request request))
@@ -68,7 +72,7 @@ Continues old answer new = (bytes : List ℕ) → Unread old bytes → (rest : L
 
 -- after none was given, there is room for one byte or more
 abbrev pub LeavesRoom : Result (Option PlainRequest) WireFault → Held → Type 0
-LeavesRoom (Ok None) new = (bytes : List ℕ) → Unread new bytes → taken_of bytes < 65548
+LeavesRoom (Ok None) new = (bytes : List ℕ) → Unread new bytes → taken_of bytes < reader_limit
 LeavesRoom (Ok (Some request)) new = Unit {0}
 LeavesRoom (Err fault) new = Unit {0}
 

@@ -1,8 +1,8 @@
--- Answers as values, and how each is spelled (rmt(8)).
+-- Replies as values, and how each is spelled (rmt(8)).
 use Rattle.std.specs.Prelude.{◌≡◌, ℕ, ◌≤◌, List, [], ◌∷◌, ◌++◌, length, take, decimal}
 use Rattle.rmt_wire.specs.Number.{SpellsNumber, HasNoLineFeed, line_feed}
 
--- an answer as a value
+-- a reply as a value
 pub data PlainReply : Type 0 where
   Done : (number : ℕ) → PlainReply
   Data : (bytes : List ℕ) → PlainReply
@@ -25,7 +25,7 @@ SpellsReply bytes (Error n text) wanted =
     (number : List ℕ) × (line : List ℕ) × SpellsNumber number n × HasNoLineFeed line × (text ≡ take 255 line)
     × (bytes ≡ 69 ∷ (number ++ line_feed ∷ (line ++ line_feed ∷ [])))
 
--- an answer that a writer can spell: its number is one, and its text one line of at most 255 bytes
+-- a reply that a writer can spell: its number is one, and its text one line of at most 255 bytes
 abbrev pub HasSpelling : PlainReply → Type 0
 HasSpelling (Done n) = n ≤ 2147483647
 HasSpelling (Data bytes) = length bytes ≤ 2147483647
@@ -37,7 +37,7 @@ reply_text (Done n) = 65 ∷ (decimal n ++ line_feed ∷ [])
 reply_text (Data bytes) = 65 ∷ (decimal (length bytes) ++ line_feed ∷ bytes)
 reply_text (Error n text) = 69 ∷ (decimal n ++ line_feed ∷ (text ++ line_feed ∷ []))
 
--- the answer is one to this wanted kind
+-- the reply is one to this wanted kind
 abbrev pub AnswersTo : PlainReply → Wanted → Type 0
 AnswersTo (Done n) Number = Unit {0}
 AnswersTo (Done n) (DataUpTo most) = ⊥

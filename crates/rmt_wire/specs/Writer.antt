@@ -1,4 +1,4 @@
--- What a writer of answers leaves in its stream.
+-- What a writer of replies leaves in its stream.
 use Rattle.std.specs.Prelude.{ℕ, Option, List, take}
 use Rattle.std.specs.Io.KnownBytes.{Appends}
 

@@ -1,21 +1,24 @@
 use thiserror::Error;
 
-/// Why bytes are no request, or no answer. Each is known at the first byte that rules every spelling out.
+/// Why bytes are no request, or no reply. Each is known at the first byte that rules every spelling out.
+///
+/// `RequestReader` gives the first three. The others are for a reader of replies.
 #[derive(Clone, Copy, Debug, PartialEq, Eq, Error)]
 pub enum WireFault {
     /// The first byte of a request is none of `O C W R I`.
     #[error("UnknownCommand")]
     UnknownCommand,
-    /// A number has a byte that is no digit, no digit at all, an eleventh digit, or a value above `NUMBER_LIMIT`.
+    /// A number has a byte that neither is a digit nor ends the number, no digit at all, an eleventh digit, or a value
+    /// above `NUMBER_LIMIT`, which is 2147483647.
     #[error("BadNumber")]
     BadNumber,
     /// A device, mode or close line has a byte after its first `LINE_LIMIT` that does not end it.
     #[error("LineTooLong")]
     LineTooLong,
-    /// The first byte of an answer is neither `A` nor `E`.
+    /// The first byte of a reply is neither `A` nor `E`.
     #[error("NotAReply")]
     NotAReply,
-    /// An answer to a read has more bytes than were wanted, or a byte came while no answer was wanted.
+    /// A reply to a read has more bytes than were wanted, or a byte came while no reply was wanted.
     #[error("TooMuchData")]
     TooMuchData,
 }

@@ -1,14 +1,26 @@
-ghost use Rattle.std.specs.Prelude.{◌≡◌, ℕ, List, Option, Result};
+ghost use Rattle.std.specs.Prelude.{◌≡◌, ◌⊎◌, ℕ, List, [], ◌++◌, Option, Result};
 ghost use Rattle.rmt_wire.specs.Request.{PlainRequest};
-ghost use Rattle.rmt_wire.specs.Parts.{Parts, Gives};
+ghost use Rattle.rmt_wire.specs.Reply.{PlainReply, Wanted, SpellsReply};
+ghost use Rattle.rmt_wire.specs.Parts.{IsOpen, HasFault, Parts, Gives};
 ghost use Rattle.rmt_wire.specs.declared.fault.WireFault.{WireFault};
 
-/// A stream falls into requests and a rest in one way, and at each place a reader can give one thing only.
+/// A stream falls into requests and a rest, and in one way only: the rest is a beginning of a request, or has a
+/// fault. At each place a reader can give one thing only.
 ///
 /// It does nothing: its contract is a law of the definitions.
 pub fn one_reading()
     ensures parts { (bytes rest other : List ℕ) (requests others : List PlainRequest) →
         Parts bytes requests rest → Parts bytes others other → (requests ≡ others) × (rest ≡ other) }
+    ensures some_parts { (bytes : List ℕ) → (requests : List PlainRequest) × (rest : List ℕ) × Parts bytes requests rest
+        × (IsOpen rest ⊎ ((fault : WireFault) × HasFault rest fault)) }
     ensures answers { (bytes rest other : List ℕ) (answer another : Result (Option PlainRequest) WireFault) →
         Gives bytes answer rest → Gives bytes another other → (answer ≡ another) × (rest ≡ other) }
+{}
+
+/// Where a client knows what it waits for, no spelling of a reply begins another, and each is of one reply.
+///
+/// It does nothing: its contract is a law of the definitions.
+pub fn one_reply()
+    ensures { (wanted : Wanted) (text more : List ℕ) (reply other : PlainReply) →
+        SpellsReply text reply wanted → SpellsReply (text ++ more) other wanted → (more ≡ []) × (reply ≡ other) }
 {}

@@ -1,7 +1,7 @@
-//! The wire of the remote magtape protocol (rmt(8)): requests and answers, their grammar, a reader that lends
-//! requests from a fixed buffer, and a writer of answers.
+//! The wire of the remote magtape protocol (rmt(8)): requests and replies, their grammar, a reader that lends
+//! requests from a fixed buffer, and a writer of replies.
 //!
-//! `RequestReader` splits a stream into requests, however it is cut; `write_reply` writes an answer; `Counted` counts
+//! `RequestReader` splits a stream into requests, however it is cut; `write_reply` writes a reply; `Counted` counts
 //! the failures of the streams of both.
 #![tactic(auto)]
 
@@ -19,11 +19,15 @@ mod reader;
 mod reply;
 mod request;
 mod short_text;
+#[cfg(test)]
+mod slow;
+#[cfg(test)]
+mod tests;
 mod writer;
 
 pub use counted::Counted;
 pub use fault::WireFault;
-pub use laws::one_reading;
+pub use laws::{one_reading, one_reply};
 pub use limits::{DATA_LIMIT, LINE_LIMIT, NUMBER_LIMIT, READER_LIMIT};
 pub use reader::RequestReader;
 pub use reply::Reply;

@@ -98,13 +98,13 @@ pub struct RequestReader {
 
 impl Model for RequestReader {
     ghost use Rattle.std.specs.Prelude.{◌≤◌, ◌+◌, ℕ, List, length, drop};
-    ghost use Rattle.rmt_wire.specs.Reader.{Held, held, dropped_line, IsDropped};
+    ghost use Rattle.rmt_wire.specs.Reader.{Held, held, dropped_line, IsDropped, reader_limit};
 
     ghost Value = { Held };
 
     ghost view = { λ r. held (drop r.start r.buffer.items) r.dropped };
 
-    ghost invariant = { λ r. (r.start ≤ length r.buffer.items) × (length r.buffer.items ≤ 65548) × (65548 ≤ length r.buffer.items + r.buffer.spare) × IsDropped (dropped_line (drop r.start r.buffer.items)) r.dropped };
+    ghost invariant = { λ r. (r.start ≤ length r.buffer.items) × (length r.buffer.items ≤ reader_limit) × (reader_limit ≤ length r.buffer.items + r.buffer.spare) × IsDropped (dropped_line (drop r.start r.buffer.items)) r.dropped };
 }
 
 impl RequestReader {
@@ -112,7 +112,8 @@ impl RequestReader {
     ghost use Rattle.std.specs.Io.BufRead.{Rests};
     ghost use Rattle.rmt_wire.specs.contracts.reader.RequestReader.{the_row};
 
-    /// A reader to which nothing was pushed.
+    /// A reader to which nothing was pushed. It reserves `READER_LIMIT` bytes (65,548) once, and fails only where
+    /// these are refused.
     pub fn new(alloc: Global) -> Result<RequestReader, AllocError>
         ensures { IfOk result (λ r. Unread r []) }
     {
@@ -123,9 +124,10 @@ impl RequestReader {
         })
     }
 
-    /// Whether every byte that was pushed was given.
+    /// Whether every byte that was pushed was given. Then the reader stands as a new one does.
     pub fn is_empty(&self) -> bool
-        ensures { (bytes : List ℕ) → Unread self.now bytes → (IsTrue result ↔ (bytes ≡ [])) }
+        ensures value { (bytes : List ℕ) → Unread self.now bytes → (IsTrue result ↔ (bytes ≡ [])) }
+        ensures seen { IsTrue result → Unread self.now [] }
     {
         self.buffer.len() == self.start
     }

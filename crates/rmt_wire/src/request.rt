@@ -1,27 +1,34 @@
-/// A request to a tape server (rmt(8)). The bytes of a device and of a write are lent by the reader.
+/// A request to a tape server (rmt(8)). The device of an open and the data of a write are lent by the reader.
+///
+/// In a syntax, LF is the byte 10, and a number is 1 to 10 digits of a value up to `NUMBER_LIMIT`. Each line, without
+/// its LF, has up to `LINE_LIMIT` bytes. E22 is an error reply; other errors, as of no open device, may come first.
 #[derive(Clone, Copy, Debug)]
 pub enum Request<'a> {
     /// Closes an open device, then opens this one.
     ///
-    /// Syntax: `O` device LF mode LF. The mode is a number, and perhaps a space and any text: modulo 4 it says
-    /// read only (0), write only (1) or both (2).
+    /// Syntax: `O` device LF mode LF. The mode is a number, and perhaps a space and any text. Modulo 4 it is the
+    /// access: 0 read only, 1 write only, 2 both. 3 is refused with E22.
     Open { device: &'a [u8], mode: u32 },
     /// Closes the device.
     ///
-    /// Syntax: `C` any text LF.
+    /// Syntax: `C` text LF. The text may be empty, and is ignored.
     Close,
     /// Writes one record.
     ///
-    /// Syntax: `W` count LF, then that many bytes, of which there are at most `DATA_LIMIT`.
+    /// Syntax: `W` count LF, then that many bytes, of which there are up to `DATA_LIMIT`. 0 bytes are refused with
+    /// E22.
     Write { bytes: &'a [u8] },
-    /// A write of more than `DATA_LIMIT` bytes, which were read and dropped.
+    /// A write of more than `DATA_LIMIT` bytes, which were read and dropped. It is refused with E22.
+    ///
+    /// Syntax: that of `Write`, with a count above `DATA_LIMIT`.
     WriteDropped { count: u32 },
     /// Reads one record, of which at most `count` bytes are given.
     ///
-    /// Syntax: `R` count LF.
+    /// Syntax: `R` count LF. A count above `DATA_LIMIT` is cut to it. 0 is refused with E22.
     Read { count: u32 },
-    /// Does an operation of mtio.
+    /// Does an operation of mtio with this count.
     ///
-    /// Syntax: `I` operation LF count LF.
+    /// Syntax: `I` operation LF count LF. The operations are MTWEOF 0, MTFSF 1, MTBSF 2, MTFSR 3, MTBSR 4, MTREW 5,
+    /// MTOFFL 6 and MTNOP 7. A number above 7 is refused with E22.
     Op { op: u32, count: u32 },
 }

@@ -15,16 +15,17 @@ use itoa::Buffer;
 use std::io::Write;
 use thiserror::Error;
 
-/// The stream of answers failed, or took none of some bytes. A beginning of the answer went out.
+/// The stream of replies failed, or took none of some bytes. A beginning of the reply went out.
 #[derive(Clone, Copy, Debug, PartialEq, Eq, Error)]
 #[error("Output")]
 pub struct OutputFault;
 
-/// Writes an answer, with no leading zeros in its numbers, and takes no memory.
+/// Writes a reply, with no leading zeros in its numbers, and takes no memory.
 ///
-/// The answer has a spelling: its number is at most `NUMBER_LIMIT`, and its text one line of at most `LINE_LIMIT`
-/// bytes. The head of an answer is one write, as far as the stream takes it, and so are the bytes of a read.
-/// It ends at the first failure of the stream.
+/// The reply has a spelling: its number, or the count of its data, is at most `NUMBER_LIMIT`, and its text one line of
+/// at most `LINE_LIMIT` bytes. The head of a reply is one write, as far as the stream takes it, and so are the data.
+///
+/// It gives `OutputFault` at the first write of the stream that fails, or takes none of its bytes, and writes no more.
 #[tactic(auto, using(crate::proofs::Spelling::reply_text_spells))]
 pub fn write_reply<W: Write>(out: &mut Counted<W>, reply: &Reply<'_>) -> Result<(), OutputFault>
     requires { HasSpelling (plain_reply reply.now) }

@@ -1,0 +1,5 @@
+mod fed;
+mod first_bytes;
+mod limits;
+mod streams;
+mod words;
