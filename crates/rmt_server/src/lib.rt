@@ -7,6 +7,8 @@ mod refusal;
 mod session;
 mod stdio;
 mod stream;
+#[cfg(test)]
+mod tests;
 
 pub use drives::{
     DriveFault, DriveTable, Holds, LastStep, ListStacks, LocalHolds, LocalSeat, Stacks, StepKind,

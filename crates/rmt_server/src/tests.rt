@@ -1,0 +1,21 @@
+//! Whole streams against bytes that were written by hand, and against a server computed plainly.
+//!
+//! Where the capacity of the reel does not matter it is a mebibyte.
+
+mod ample;
+mod beginnings;
+mod compared;
+mod dice;
+mod failures;
+mod fixture;
+mod pieces;
+mod rows;
+mod script;
+mod served;
+mod session;
+mod slow;
+mod spelled;
+mod turns;
+
+/// A capacity in bytes that no row fills.
+pub(crate) const CAPACITY: u64 = 1048576;

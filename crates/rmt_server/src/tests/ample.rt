@@ -1,0 +1,16 @@
+//! With memory enough nothing is refused for want of it.
+
+use super::pieces::{Pieces, check};
+use super::script::{READ_BACK_ANSWERS, READ_BACK_BYTES};
+
+#[test]
+fn ample_memory(rt: HostRuntime) {
+    check(
+        &rt,
+        rt.alloc(),
+        Pieces::whole(READ_BACK_BYTES),
+        READ_BACK_ANSWERS,
+        0,
+        "ample memory",
+    );
+}

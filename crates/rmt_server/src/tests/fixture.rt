@@ -1,0 +1,93 @@
+//! One drive in memory, and one stream that is served with it.
+
+ghost use Rattle.std.specs.Prelude.{◌<◌, IfOk, length};
+ghost use Rattle.rmt_server.specs.Carrying.{IsAt};
+ghost use Rattle.rmt_server.specs.contracts.drives.local.LocalHoldsHolds.TheImpl.{ghosts as of_holds};
+ghost use Rattle.rmt_server.specs.contracts.drives.list.ListStacksStacks.TheImpl.{ghosts as of_stacks};
+
+use super::CAPACITY;
+use crate::{
+    DriveTable, Holds, ListStacks, LocalHolds, ServeFault, Served, Session, run_stdio, serve,
+};
+use rmt_wire::{Counted, RequestReader};
+use std::alloc::Global;
+use std::io::{Read, Write};
+use std::test::Fail;
+
+/// The drives of these tests.
+pub(crate) type Drives = DriveTable<LocalHolds, ListStacks>;
+
+/// What serving came to, how often each end failed, and the drives afterwards with the first one's holder.
+#[derive(Drop)]
+pub(crate) struct Ended {
+    pub(crate) ending: Result<Served, ServeFault>,
+    pub(crate) failed_reads: u64,
+    pub(crate) failed_writes: u64,
+    pub(crate) holder: Option<u64>,
+    pub(crate) drives: Drives,
+}
+
+/// One drive with one empty reel, and a session with nothing open.
+pub(crate) fn begin(
+    alloc: Global,
+    capacity: u64,
+) -> Result<(Drives, Session<LocalHolds, ListStacks>), Fail>
+    ensures { IfOk result (λ made. IsAt of_holds of_stacks made.0 made.1.seat made.1.opened) }
+{
+    let mut holds = LocalHolds::new(alloc, 1)?;
+    let Some(seat) = holds.seat() else {
+        return Err(Fail::new("no seat"));
+    };
+    let stacks = ListStacks::new(alloc, capacity);
+    let drives = DriveTable { holds, stacks };
+    match Session::new(alloc, seat) {
+        Ok(session) => Ok((drives, session)),
+        Err(_) => Err(Fail::new("no session")),
+    }
+}
+
+/// Serves one stream.
+pub(crate) fn serve_once<R: Read + Drop, W: Write + Drop>(
+    alloc: Global,
+    input: R,
+    output: W,
+) -> Result<Ended, Fail> {
+    let mut input = Counted::new(input);
+    let mut output = Counted::new(output);
+    let mut wire = RequestReader::new(alloc)?;
+    let (mut drives, mut session) = begin(alloc, CAPACITY)?;
+    let ending = serve(
+        &mut input,
+        &mut output,
+        &mut wire,
+        &mut session,
+        &mut drives,
+    );
+    Ok(Ended {
+        ending,
+        failed_reads: input.failures(),
+        failed_writes: output.failures(),
+        holder: first_holder(&mut drives.holds),
+        drives,
+    })
+}
+
+/// The number of the seat that holds the first drive, or 0. None where no seat is left to ask.
+pub(crate) fn first_holder(holds: &mut LocalHolds) -> Option<u64>
+    requires { 0 < length holds.old.numbers }
+{
+    let mut seat = holds.seat()?;
+    Some(holds.holder(&mut seat, 0))
+}
+
+/// The status that one stream ends with.
+pub(crate) fn status_of<R: Read + Drop, W: Write + Drop>(
+    alloc: Global,
+    input: R,
+    output: W,
+    capacity: u64,
+) -> u8 {
+    let mut input = Counted::new(input);
+    let mut output = Counted::new(output);
+    run_stdio(alloc, &mut input, &mut output, capacity)
+}
