@@ -1,5 +1,5 @@
 -- Dropped writes at the front, and what a reader holds there.
-use Rattle.std.proofs.Common.{◌≡◌, ℕ, ◌+◌, ◌-◌, ◌<◌, ◌≤◌, Bool, true, false, cond, ltb, eqb, min, List, [], ◌∷◌, ◌++◌, length, take, drop, Option, Some, None, Ok, Err, refl, sym, ap, subst, ◌∙◌, arith, append_assoc, ⊎_elim, inl, inr, ◌⊎◌}
+use Rattle.std.proofs.Common.{◌≡◌, ℕ, ◌+◌, ◌-◌, ◌<◌, ◌≤◌, Bool, true, false, cond, ltb, eqb, min, List, [], ◌∷◌, ◌++◌, length, take, drop, Option, Some, None, Ok, Err, refl, sym, ap, subst, ◌∙◌, arith, append_assoc, ⊎_elim, inl, inr, ◌⊎◌, ◌↔◌}
 use Rattle.std.proofs.lemmas.Bool.Decides.{nat_tests}
 use Rattle.std.proofs.lemmas.List.{length-append, length-take-le, length-drop, take-append-drop, take-append-le, drop-append-le, take_at, drop_at, drop-drop}
 use Rattle.rmt_wire.specs.Number.{SpellsNumber, line_feed}
@@ -7,20 +7,11 @@ use Rattle.rmt_wire.specs.Request.{data_limit}
 use Rattle.rmt_wire.specs.Request.PlainRequest.{WriteDropped}
 use Rattle.rmt_wire.specs.Front.{Seen, number_front, front_of}
 use Rattle.rmt_wire.specs.Reader.{reader_limit, dropped_if_long, dropped_line, Held, held, IsDropped, UnreadAt, Unread, gone_at, taken_at, taken_of}
-use Rattle.rmt_wire.specs.Parts.{Gives}
+use Rattle.rmt_wire.specs.Parts.{Gives, IsDroppedLine}
 use Rattle.rmt_wire.proofs.Numbers.{NumberView, number_view}
 use Rattle.rmt_wire.proofs.Spellings.{number_is_seen, length_line, write_seen, written_less}
 use Rattle.rmt_wire.proofs.Fronts.{digits_spell}
 use Rattle.rmt_wire.proofs.Giving.{gives, room, answer_to, rest_behind}
-
--- the line of a write to be dropped stands first
-pub record IsDroppedLine (bytes : List ℕ) (line : ℕ × ℕ) : Type 0 where
-  pub number : List ℕ
-  pub rest : List ℕ
-  pub spelled : SpellsNumber number line.1
-  pub large : data_limit < line.1
-  pub split : bytes ≡ 87 ∷ (number ++ line_feed ∷ rest)
-  pub long : line.0 ≡ length number + 2
 
 chosen : {A : Type 0} (b : Bool) (x y z : A) → cond b x y ≡ z → ((b ≡ true) × (x ≡ z)) ⊎ ((b ≡ false) × (y ≡ z))
 chosen true x y z e = inl (refl, e)
@@ -29,7 +20,7 @@ chosen false x y z e = inr (refl, e)
 some_same : {A : Type 0} (x y : A) → Some x ≡ Some y → x ≡ y
 some_same x y e = cc
 
-long_write : (bytes : List ℕ) (seen : Seen (ℕ × ℕ)) (line : ℕ × ℕ) → NumberView false 0 0 bytes seen → dropped_if_long seen ≡ Some line → IsDroppedLine (87 ∷ bytes) line
+long_write : (bytes : List ℕ) (seen : Seen (ℕ × ℕ)) (line : ℕ × ℕ) → NumberView false 0 0 bytes seen → dropped_if_long seen ≡ Some line → IsDroppedLine (87 ∷ bytes) line.0 line.1
 long_write bytes (Ok None) line v e = absurd (cc)
 long_write bytes (Ok (Some p)) line v e =
     ⊎_elim
@@ -53,16 +44,16 @@ long_write bytes (Ok (Some p)) line v e =
     (chosen (ltb data_limit p.0) (Some (p.1 + 2, p.0)) None (Some line) e)
 long_write bytes (Err fault) line v e = absurd (cc)
 
-letter_write : (letter : ℕ) (bytes : List ℕ) (line : ℕ × ℕ) → cond (eqb letter 87) (dropped_if_long (number_front false bytes)) None ≡ Some line → IsDroppedLine (letter ∷ bytes) line
+letter_write : (letter : ℕ) (bytes : List ℕ) (line : ℕ × ℕ) → cond (eqb letter 87) (dropped_if_long (number_front false bytes)) None ≡ Some line → IsDroppedLine (letter ∷ bytes) line.0 line.1
 letter_write letter bytes line e =
     ⊎_elim
     (λ (h : (eqb letter 87 ≡ true) × (dropped_if_long (number_front false bytes) ≡ Some line)).
     let is : 87 ≡ letter = grind (arith, nat_tests) in
-    subst (λ l. IsDroppedLine (l ∷ bytes) line) is (long_write bytes (number_front false bytes) line (number_view false 0 0 bytes (omega arith) (omega arith)) h.1))
+    subst (λ l. IsDroppedLine (l ∷ bytes) line.0 line.1) is (long_write bytes (number_front false bytes) line (number_view false 0 0 bytes (omega arith) (omega arith)) h.1))
     (λ h. absurd (cc))
     (chosen (eqb letter 87) (dropped_if_long (number_front false bytes)) None (Some line) e)
 
-pub dropped_found : (bytes : List ℕ) (line : ℕ × ℕ) → dropped_line bytes ≡ Some line → IsDroppedLine bytes line
+pub dropped_found : (bytes : List ℕ) (line : ℕ × ℕ) → dropped_line bytes ≡ Some line → IsDroppedLine bytes line.0 line.1
 unfolding dropped_line
 dropped_found [] line e = absurd (cc)
 dropped_found (letter ∷ bytes) line e = letter_write letter bytes line e
@@ -75,7 +66,7 @@ dropped_seen number rest n s great =
     ap dropped_if_long (number_is_seen false number n line_feed rest s refl) ∙ ap (λ b. cond b (Some (length number + 2, n)) None) large
 
 -- the line is what is kept in front, and the rest is behind it
-pub line_split : (bytes : List ℕ) (line : ℕ × ℕ) (d : IsDroppedLine bytes line) → (drop line.0 bytes ≡ d.rest) × ((more : List ℕ) → take line.0 bytes ++ more ≡ 87 ∷ (d.number ++ line_feed ∷ more)) × (line.0 ≤ length bytes)
+pub line_split : (bytes : List ℕ) (line : ℕ × ℕ) (d : IsDroppedLine bytes line.0 line.1) → (drop line.0 bytes ≡ d.rest) × ((more : List ℕ) → take line.0 bytes ++ more ≡ 87 ∷ (d.number ++ line_feed ∷ more)) × (line.0 ≤ length bytes)
 line_split bytes line d =
     let size = length_line 87 d.number d.rest in
     let long = d.long in
@@ -306,3 +297,10 @@ less_given kept dropped line bytes e less u =
 -- with no dropped write at the front, the bytes kept are those that were pushed
 pub plain_unread : (kept : List ℕ) (dropped : ℕ) (bytes : List ℕ) → dropped_line kept ≡ None → Unread (held kept dropped) bytes → bytes ≡ kept
 plain_unread kept dropped bytes e u = (unread_none (dropped_line kept) (held kept dropped) bytes e u).1
+
+-- a write to be dropped is found where the grammar has one, and only there
+pub dropped_exactly : (bytes : List ℕ) (len count : ℕ) → (dropped_line bytes ≡ Some (len, count)) ↔ IsDroppedLine bytes len count
+dropped_exactly bytes len count = (
+  dropped_found bytes (len, count),
+  λ d. ap dropped_line d.split ∙ dropped_seen d.number d.rest count d.spelled d.large ∙ ap (λ n. Some (n, count)) (sym d.long),
+)

@@ -1,8 +1,8 @@
 -- How a stream falls into requests: whole texts, told by the grammar alone.
-use Rattle.std.specs.Prelude.{◌≡◌, ◌≢◌, ◌⊎◌, ℕ, ◌≤◌, List, [], ◌∷◌, ◌++◌, length, Option, Some, None, Result, Ok, Err}
+use Rattle.std.specs.Prelude.{◌≡◌, ◌≢◌, ◌⊎◌, ℕ, ◌+◌, ◌<◌, ◌≤◌, List, [], ◌∷◌, ◌++◌, length, Option, Some, None, Result, Ok, Err}
 use Rattle.std.specs.Str.Parse.{AllDigits}
 use Rattle.rmt_wire.specs.Number.{SpellsNumber, HasNoLineFeed, IsLine, line_feed}
-use Rattle.rmt_wire.specs.Request.{PlainRequest, SpellsRequest}
+use Rattle.rmt_wire.specs.Request.{PlainRequest, SpellsRequest, data_limit}
 use Rattle.rmt_wire.specs.declared.fault.WireFault.{WireFault}
 use Rattle.rmt_wire.specs.declared.fault.WireFault.TheVariants.{UnknownCommand, BadNumber, LineTooLong, NotAReply, TooMuchData}
 
@@ -64,3 +64,12 @@ abbrev pub Gives : List ℕ → Result (Option PlainRequest) WireFault → List 
 Gives bytes (Ok (Some request)) rest = (text : List ℕ) × SpellsRequest text request × (bytes ≡ text ++ rest)
 Gives bytes (Ok None) rest = IsOpen bytes × HasNoSpelling bytes × (rest ≡ bytes)
 Gives bytes (Err fault) rest = HasFault bytes fault × HasNoSpelling bytes × (rest ≡ bytes)
+
+-- the bytes begin with a line of `len` bytes, with its line feed: that of a write of `count` bytes, too many to keep
+pub record IsDroppedLine (bytes : List ℕ) (len count : ℕ) : Type 0 where
+  pub number : List ℕ
+  pub rest : List ℕ
+  pub spelled : SpellsNumber number count
+  pub large : data_limit < count
+  pub split : bytes ≡ 87 ∷ (number ++ line_feed ∷ rest)
+  pub long : len ≡ length number + 2

@@ -27,7 +27,7 @@ mod writer;
 
 pub use counted::Counted;
 pub use fault::WireFault;
-pub use laws::{one_reading, one_reply};
+pub use laws::{dropped_writes, one_reading, one_reply};
 pub use limits::{DATA_LIMIT, LINE_LIMIT, NUMBER_LIMIT, READER_LIMIT};
 pub use reader::RequestReader;
 pub use reply::Reply;

@@ -1,0 +1,5 @@
+use Rattle.rmt_wire.proofs.Dropped.{dropped_exactly}
+use Rattle.rmt_wire.proofs.laws.dropped_writes.Goals as goal
+
+pub returns : goal.returns
+returns c = dropped_exactly
