@@ -18,8 +18,8 @@ pub ends_with : {R W : Type 0} (remaining : R → Option (List ℕ)) (contents :
     → EndsAs remaining contents result input input' output output' read done rest
     → EndsWith remaining contents (result_ok result) input input' output output' read done rest
 ends_with remaining contents (Ok served) input input' output output' read done rest e = e
-ends_with remaining contents (Err Input) input input' output output' read done rest e = inl (e.0, inl e.3)
-ends_with remaining contents (Err Output) input input' output output' read done rest e = inr e
+ends_with remaining contents (Err Input) input input' output output' read done rest e = inl e
+ends_with remaining contents (Err Output) input input' output output' read done rest e = inr (inl e)
 
 -- no device of the drive and the reel in memory fails
 pub none_fails : MayFail ListStacksPromise.ghosts ListReelPromise.ghosts false
@@ -35,6 +35,6 @@ served_none {remaining = remaining} {contents} {capacity} {input} {output} e =
       rest = [];
       finish = blank_scene capacity;
       consumed = Consumes-nil (remaining input.inner);
-      ends = inl (record { spelled = refl; written = Appends-nil (contents output.inner) }, inr refl);
+      ends = inr (inr (record { spelled = refl; written = Appends-nil (contents output.inner) }, refl));
       run = none;
     }

@@ -88,7 +88,8 @@ AnswersAs contents (Err failed) output output' wire bytes done rest =
     IsCutOff (contents output.inner) (contents output'.inner) bytes done rest × HasRisen output.failures output'.failures
 
 -- How serving ends, by what follows the last whole request of the bytes read: nothing, or a beginning of a request,
--- both with no byte of the input left; or bytes that are no request. An end of a stream comes only where it failed.
+-- both with no byte of the input left; or bytes that are no request. `Input` and
+-- `Output` come only where that stream failed.
 abbrev pub EndsAs : {R W : Type 0} → (R → Option (List ℕ)) → (W → Option (List ℕ)) → Result Served ServeFault
     → Counting R → Counting R → Counting W → Counting W → List ℕ → List Exchange → List ℕ → Type 0
 EndsAs remaining contents (Ok End) input input' output output' read done rest =

@@ -1,13 +1,14 @@
 -- What a server of one stream does, and the status that it ends with.
-use Rattle.std.specs.Prelude.{◌≡◌, ◌⊎◌, ℕ, false, true, List, [], ◌∷◌, Option, Some, None, Ok}
+use Rattle.std.specs.Prelude.{◌≡◌, ◌⊎◌, ℕ, false, true, List, [], ◌∷◌, Option, Some, None, Ok, Err}
 use Rattle.std.specs.Io.KnownBytes.{Consumes}
-use Rattle.rmt_wire.specs.Counted.{Counting, HasRisen}
+use Rattle.rmt_wire.specs.Counted.{Counting}
 use Rattle.rmt_server.specs.declared.stream.Served.{Served}
 use Rattle.rmt_server.specs.declared.stream.Served.TheVariants.{End, Truncated, Broken}
+use Rattle.rmt_server.specs.declared.stream.ServeFault.TheVariants.{Input, Output}
 use Rattle.rmt_server.specs.OneReel.{the_drive, the_reel}
 use Rattle.rmt_server.specs.Session.{Scene, scene, ServeRun}
 use Rattle.rmt_server.specs.Session.PlainSession.{Idle}
-use Rattle.rmt_server.specs.Serving.{Exchange, IsAnswered, IsCutOff, EndsAs}
+use Rattle.rmt_server.specs.Serving.{Exchange, IsAnswered, EndsAs}
 use Rattle.rmt_server.specs.Shop.{shop, rack, kept}
 
 -- nothing is open, and the drive's one reel is empty
@@ -21,15 +22,16 @@ exit_status None = 1
 exit_status (Some Truncated) = 2
 exit_status (Some (Broken fault)) = 3
 
--- The stream ended, and all replies were written. Or a read failed, or nothing was read, and all replies were
--- written; or a write failed, and of the last reply only a beginning was written.
+-- The stream ended, and all replies were written. Or a read failed, and the requests read were answered; or a write
+-- failed, and of the last reply only a beginning was written; or nothing was read.
 abbrev pub EndsWith : {R W : Type 0} → (R → Option (List ℕ)) → (W → Option (List ℕ)) → Option Served
     → Counting R → Counting R → Counting W → Counting W → List ℕ → List Exchange → List ℕ → Type 0
 EndsWith remaining contents (Some served) input input' output output' read done rest =
     EndsAs remaining contents (Ok served) input input' output output' read done rest
 EndsWith remaining contents None input input' output output' read done rest =
-    (IsAnswered (contents output.inner) (contents output'.inner) read done rest × (HasRisen input.failures input'.failures ⊎ (read ≡ [])))
-    ⊎ (IsCutOff (contents output.inner) (contents output'.inner) read done rest × HasRisen output.failures output'.failures)
+    EndsAs remaining contents (Err Input) input input' output output' read done rest
+    ⊎ EndsAs remaining contents (Err Output) input input' output output' read done rest
+    ⊎ (IsAnswered (contents output.inner) (contents output'.inner) read done rest × (read ≡ []))
 
 -- One stream served with the drive in memory: the requests read with the replies are a run of serve steps from the
 -- empty reel, in which no device fails.

@@ -5,7 +5,7 @@
 pub enum Reply<'a> {
     /// It was done. Syntax: `A` number LF.
     Done { number: u32 },
-    /// What a read gave, up to `DATA_LIMIT` bytes. Syntax: `A` number LF, then that many bytes.
+    /// What a read gave, up to `DATA_LIMIT` bytes from a session. Syntax: `A` number LF, then that many bytes.
     Data { bytes: &'a [u8] },
     /// It was refused, with the number and the text of an error. The text has up to `LINE_LIMIT` bytes, and no LF.
     /// Syntax: `E` number LF text LF.

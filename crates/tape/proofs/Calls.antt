@@ -1,11 +1,11 @@
 -- A call of a reel in memory, from its step.
-use Rattle.std.proofs.Common.{◌≡◌, ℕ, ◌≤◌, List, [], ◌∷◌, inl, inr, length, refl, ap, subst, arith, Result, Ok, Err}
+use Rattle.std.proofs.Common.{◌≡◌, ℕ, ◌<◌, ◌≤◌, List, [], ◌∷◌, inl, inr, length, refl, ap, subst, arith, Result, Ok, Err}
 use Rattle.std.proofs.lemmas.List.{length-take}
-use Rattle.tape.specs.Tape.{PlainEntry, Tape, TapeRequest, TapeAnswer, Passes, TapeStep, done_answer}
+use Rattle.tape.specs.Tape.{PlainEntry, Tape, TapeRequest, TapeAnswer, Passes, SpaceStep, TapeStep, done_answer}
 use Rattle.tape.specs.Tape.PlainEntry.{Record, Mark}
-use Rattle.tape.specs.Tape.TapeRequest.{Write, Read, WriteMarks, Rewind, Nothing, Unknown}
+use Rattle.tape.specs.Tape.TapeRequest.{Write, Read, WriteMarks, ForwardFiles, BackFiles, ForwardRecords, BackRecords, Rewind, Nothing, Unknown}
 use Rattle.tape.specs.Tape.TapeAnswer.{Done, Gave, Fault}
-use Rattle.tape.specs.Call.{CanAnswer}
+use Rattle.tape.specs.Call.{CanAnswer, CanSpace}
 use Rattle.tape.specs.List.{ListTape, IsListCall}
 use Rattle.tape.specs.declared.fault.TapeFault.{TapeFault}
 use Rattle.tape.specs.declared.fault.TapeFault.TheVariants.{Device, Full, EndOrMark, BadOperation, OutOfMemory}
@@ -15,6 +15,16 @@ passes_bound : (count : ℕ) (left : List PlainEntry) (t u : Tape) (bytes : List
 passes_bound count [] t u bytes passes = omega (arith, ap length passes.0)
 passes_bound count (Record written ∷ rest) t u bytes passes = omega (arith, ap length passes.0, length-take count written)
 passes_bound count (Mark ∷ rest) t u bytes passes = omega (arith, ap length passes.0)
+
+-- spacing's answer is one that it can have
+can_space : (count met place : ℕ) (t u : Tape) (answer : TapeAnswer) → SpaceStep count met place t answer u → CanSpace count answer
+can_space count met place t u Done step = inl refl
+can_space count met place t u (Gave given) step = absurd step
+can_space count met place t u (Fault Device) step = inr (step.0, inr refl)
+can_space count met place t u (Fault Full) step = absurd step
+can_space count met place t u (Fault EndOrMark) step = let some : 0 < count = omega (arith, step.0) in inr (some, inl refl)
+can_space count met place t u (Fault BadOperation) step = absurd step
+can_space count met place t u (Fault OutOfMemory) step = absurd step
 
 -- a step's answer is one that the call can have
 can_of : (capacity : ℕ) (t u : Tape) (request : TapeRequest) (answer : TapeAnswer) → TapeStep capacity t request answer u → CanAnswer request answer
@@ -39,6 +49,10 @@ can_of capacity t u (WriteMarks count) (Fault Full) step = inr (step.0, inl refl
 can_of capacity t u (WriteMarks count) (Fault EndOrMark) step = absurd step
 can_of capacity t u (WriteMarks count) (Fault BadOperation) step = absurd step
 can_of capacity t u (WriteMarks count) (Fault OutOfMemory) step = inr (step.0, inr (inr refl))
+can_of capacity t u (ForwardFiles count) answer step = can_space count _ _ t u answer step
+can_of capacity t u (BackFiles count) answer step = can_space count _ _ t u answer step
+can_of capacity t u (ForwardRecords count) answer step = can_space count _ _ t u answer step
+can_of capacity t u (BackRecords count) answer step = can_space count _ _ t u answer step
 can_of capacity t u Rewind Done step = refl
 can_of capacity t u Rewind (Gave given) step = absurd step
 can_of capacity t u Rewind (Fault fault) step = absurd step

@@ -1,3 +1,4 @@
 pub mod Calls
 pub mod Entries
 pub mod Standing
+pub mod Spacing

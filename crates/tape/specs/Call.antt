@@ -2,9 +2,13 @@
 use Rattle.std.specs.Prelude.{◌≡◌, ◌⊎◌, ℕ, ◌<◌, ◌≤◌, List, Bool, IsTrue, length}
 use Rattle.tape.specs.Failures.{HasRisen, Steps}
 use Rattle.tape.specs.Tape.{Tape, TapeRequest, TapeAnswer, TapeStep}
-use Rattle.tape.specs.Tape.TapeRequest.{Write, Read, WriteMarks, Rewind, Nothing, Unknown}
+use Rattle.tape.specs.Tape.TapeRequest.{Write, Read, WriteMarks, ForwardFiles, BackFiles, ForwardRecords, BackRecords, Rewind, Nothing, Unknown}
 use Rattle.tape.specs.Tape.TapeAnswer.{Done, Gave, Fault}
-use Rattle.tape.specs.declared.fault.TapeFault.TheVariants.{Device, Full, BadOperation, OutOfMemory}
+use Rattle.tape.specs.declared.fault.TapeFault.TheVariants.{Device, Full, EndOrMark, BadOperation, OutOfMemory}
+
+-- spacing has a fault only from a count of 1 on
+abbrev pub CanSpace : ℕ → TapeAnswer → Type 0
+CanSpace count answer = (answer ≡ Done) ⊎ ((0 < count) × ((answer ≡ Fault EndOrMark) ⊎ (answer ≡ Fault Device)))
 
 -- The answers that a call can have, whatever stands on the tape: a read gives at most what was asked, and
 -- marks have a fault only from a count of 1 on.
@@ -13,6 +17,10 @@ CanAnswer (Write bytes) answer = (answer ≡ Done) ⊎ (answer ≡ Fault Full) �
 CanAnswer (Read count) answer = ((bytes : List ℕ) × (length bytes ≤ count) × (answer ≡ Gave bytes)) ⊎ (answer ≡ Fault Device)
 CanAnswer (WriteMarks count) answer =
     (answer ≡ Done) ⊎ ((0 < count) × ((answer ≡ Fault Full) ⊎ (answer ≡ Fault Device) ⊎ (answer ≡ Fault OutOfMemory)))
+CanAnswer (ForwardFiles count) answer = CanSpace count answer
+CanAnswer (BackFiles count) answer = CanSpace count answer
+CanAnswer (ForwardRecords count) answer = CanSpace count answer
+CanAnswer (BackRecords count) answer = CanSpace count answer
 CanAnswer Rewind answer = answer ≡ Done
 CanAnswer Nothing answer = answer ≡ Done
 CanAnswer Unknown answer = answer ≡ Fault BadOperation

@@ -1,5 +1,5 @@
 -- A list of entries as a tape.
-use Rattle.std.specs.Prelude.{◌≡◌, ℕ, ◌≤◌, List, [], ◌++◌, length, take, drop, map, true, Result, Ok, Err}
+use Rattle.std.specs.Prelude.{◌≡◌, ℕ, ◌-◌, ◌^◌, ◌≤◌, List, [], ◌++◌, length, take, drop, map, true, Result, Ok, Err}
 use Rattle.tape.specs.Tape.{PlainEntry, Tape, TapeRequest, TapeAnswer, tape, offset_of}
 use Rattle.tape.specs.Tape.PlainEntry.{Record, Mark}
 use Rattle.tape.specs.Call.{IsCall}
@@ -49,3 +49,9 @@ pub record IsStanding (entries : List PlainEntry) (place offset capacity : ℕ) 
 abbrev pub IsPut : Result Unit TapeFault → ℕ → List PlainEntry → List PlainEntry → List PlainEntry → Type 0
 IsPut (Ok x) place written old new = new ≡ take place old ++ written
 IsPut (Err fault) place written old new = (fault ≡ OutOfMemory) × (new ≡ old)
+
+-- The walk ended at this place, with its offset, and what is left of the count is what was not met on the way.
+pub record IsSpaced (entries : List PlainEntry) (count met place : ℕ) (at offset left : ℕ) : Type 0 where
+  pub place_is : at ≡ place
+  pub standing : IsStanding entries at offset (2 ^ 64 - 1)
+  pub left_is : left ≡ count - met

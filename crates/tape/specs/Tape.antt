@@ -1,7 +1,7 @@
 -- A reel of tape, and what each call does to it (the operations are mtio's, their effects this project's).
-use Rattle.std.specs.Prelude.{◌≡◌, ◌⊎◌, ℕ, ◌+◌, ◌*◌, ◌<◌, ◌≤◌, ◌==◌, if◌then◌else◌, List, [], ◌∷◌, ◌++◌, length, sum_by, take, replicate, Result, Ok, Err}
+use Rattle.std.specs.Prelude.{◌≡◌, ◌⊎◌, ℕ, zero, suc, ◌+◌, ◌-◌, ◌*◌, ◌<◌, ◌≤◌, ◌==◌, if◌then◌else◌, List, [], ◌∷◌, ◌++◌, length, reverse, sum_by, take, drop, replicate, Result, Ok, Err}
 use Rattle.tape.specs.declared.fault.TapeFault.{TapeFault}
-use Rattle.tape.specs.declared.fault.TapeFault.TheVariants.{Device, Full, BadOperation, OutOfMemory}
+use Rattle.tape.specs.declared.fault.TapeFault.TheVariants.{Device, Full, EndOrMark, BadOperation, OutOfMemory}
 
 -- what stands at a place: a record of these bytes, or a mark
 pub data PlainEntry : Type 0 where
@@ -43,6 +43,14 @@ pub data TapeRequest : Type 0 where
   Read : (count : ℕ) → TapeRequest
   -- MTWEOF: that many marks
   WriteMarks : (count : ℕ) → TapeRequest
+  -- MTFSF: forward over that many marks
+  ForwardFiles : (count : ℕ) → TapeRequest
+  -- MTBSF: back over that many marks
+  BackFiles : (count : ℕ) → TapeRequest
+  -- MTFSR: forward over that many records
+  ForwardRecords : (count : ℕ) → TapeRequest
+  -- MTBSR: back over that many records
+  BackRecords : (count : ℕ) → TapeRequest
   -- MTREW, and the rewind of a close
   Rewind : TapeRequest
   -- MTNOP
@@ -94,6 +102,64 @@ ReadStep count t (Gave bytes) u = Passes count t.after t bytes u
 ReadStep count t (Fault Device) u = u ≡ t
 ReadStep count t _ u = ⊥
 
+-- the same entries, at this place
+abbrev pub stands_at : ℕ → Tape → Tape
+stands_at place t = tape (take place (entries_of t)) (drop place (entries_of t))
+
+abbrev pub mark_count : PlainEntry → ℕ
+mark_count (Record bytes) = 0
+mark_count Mark = 1
+
+-- how many marks there are in the way
+abbrev pub marks_met : List PlainEntry → ℕ
+marks_met way = sum_by mark_count way
+
+-- how many records there are in the way before the first mark
+abbrev pub records_met : List PlainEntry → ℕ
+records_met [] = 0
+records_met (Record bytes ∷ rest) = 1 + records_met rest
+records_met (Mark ∷ rest) = 0
+
+-- how many entries are passed up to and with the mark of that number, or all where there are fewer marks
+abbrev pub passed_for_marks : ℕ → List PlainEntry → ℕ
+passed_for_marks zero way = 0
+passed_for_marks (suc count) [] = 0
+passed_for_marks (suc count) (Record bytes ∷ rest) = 1 + passed_for_marks (suc count) rest
+passed_for_marks (suc count) (Mark ∷ rest) = 1 + passed_for_marks count rest
+
+-- how many entries are passed for that many records: a mark met first is passed too, and nothing behind it
+abbrev pub passed_for_records : ℕ → List PlainEntry → ℕ
+passed_for_records zero way = 0
+passed_for_records (suc count) [] = 0
+passed_for_records (suc count) (Record bytes ∷ rest) = 1 + passed_for_records count rest
+passed_for_records (suc count) (Mark ∷ rest) = 1
+
+-- Spacing by a count, where so many were met on the way, to a place. With fewer than the count the place is the
+-- same, and the answer is `EndOrMark`. The entries stand. A device's fault changes nothing, and a count of 0 has none.
+abbrev pub SpaceStep : ℕ → ℕ → ℕ → Tape → TapeAnswer → Tape → Type 0
+SpaceStep count met place t Done u = (count ≤ met) × (u ≡ stands_at place t)
+SpaceStep count met place t (Fault EndOrMark) u = (met < count) × (u ≡ stands_at place t)
+SpaceStep count met place t (Fault Device) u = (0 < count) × (u ≡ t)
+SpaceStep count met place t _ u = ⊥
+
+-- The place is after the last of that many marks, or the end.
+abbrev pub ForwardFilesStep : ℕ → Tape → TapeAnswer → Tape → Type 0
+ForwardFilesStep count t answer u = SpaceStep count (marks_met t.after) (length t.before + passed_for_marks count t.after) t answer u
+
+-- The place is before the last of that many marks, counted back, or 0.
+abbrev pub BackFilesStep : ℕ → Tape → TapeAnswer → Tape → Type 0
+BackFilesStep count t answer u =
+    SpaceStep count (marks_met (reverse t.before)) (length t.before - passed_for_marks count (reverse t.before)) t answer u
+
+-- The place is that many records on, after the mark that was met first, or the end.
+abbrev pub ForwardRecordsStep : ℕ → Tape → TapeAnswer → Tape → Type 0
+ForwardRecordsStep count t answer u = SpaceStep count (records_met t.after) (length t.before + passed_for_records count t.after) t answer u
+
+-- The place is that many records back, before the mark that was met first, or 0.
+abbrev pub BackRecordsStep : ℕ → Tape → TapeAnswer → Tape → Type 0
+BackRecordsStep count t answer u =
+    SpaceStep count (records_met (reverse t.before)) (length t.before - passed_for_records count (reverse t.before)) t answer u
+
 -- the place is the beginning
 abbrev pub RewindStep : Tape → TapeAnswer → Tape → Type 0
 RewindStep t Done u = u ≡ tape [] (entries_of t)
@@ -112,13 +178,25 @@ abbrev pub TapeStep : ℕ → Tape → TapeRequest → TapeAnswer → Tape → T
 TapeStep capacity t (Write bytes) answer u = WriteStep capacity bytes t answer u
 TapeStep capacity t (Read count) answer u = ReadStep count t answer u
 TapeStep capacity t (WriteMarks count) answer u = MarksStep capacity count t answer u
+TapeStep capacity t (ForwardFiles count) answer u = ForwardFilesStep count t answer u
+TapeStep capacity t (BackFiles count) answer u = BackFilesStep count t answer u
+TapeStep capacity t (ForwardRecords count) answer u = ForwardRecordsStep count t answer u
+TapeStep capacity t (BackRecords count) answer u = BackRecordsStep count t answer u
 TapeStep capacity t Rewind answer u = RewindStep t answer u
 TapeStep capacity t Nothing answer u = NothingStep t answer u
 TapeStep capacity t Unknown answer u = UnknownStep t answer u
 
 -- what an operation's number asks for
 abbrev pub op_request : ℕ → ℕ → TapeRequest
-op_request op count = if op == 0 then WriteMarks count else if op == 5 then Rewind else if op == 7 then Nothing else Unknown
+op_request op count =
+    if op == 0 then WriteMarks count
+    else if op == 1 then ForwardFiles count
+    else if op == 2 then BackFiles count
+    else if op == 3 then ForwardRecords count
+    else if op == 4 then BackRecords count
+    else if op == 5 then Rewind
+    else if op == 7 then Nothing
+    else Unknown
 
 -- what a call that gives no bytes answered
 abbrev pub done_answer : Result Unit TapeFault → TapeAnswer

@@ -3,12 +3,12 @@ use thiserror::Error;
 
 /// Why a call of a reel was not carried out.
 ///
-/// After each of these the place and the entries before it are as they were before the call.
+/// After each of these but `EndOrMark` the place and the entries before it are as they were before the call.
 #[derive(Clone, Copy, Debug, PartialEq, Eq, Error)]
 pub enum TapeFault {
     /// The medium failed in the call.
     ///
-    /// After a read the entries from the place on are as they were too. After a write of a record they are as they
+    /// After a read, and after spacing, the entries from the place on are as they were too. After a write of a record they are as they
     /// were, or gone, or the new record alone; after a write of marks they are as they were, or gone, or so many of
     /// the new marks as were written, up to all of them.
     #[error("Device")]
@@ -18,8 +18,8 @@ pub enum TapeFault {
     /// It comes before `Device` and `OutOfMemory`: without room a write answers only this.
     #[error("Full")]
     Full,
-    /// The end, the beginning or a mark was met before the count was reached. No call of a reel answers it: the
-    /// operations that would are not built.
+    /// Spacing met the end, the beginning or a mark before its count was reached. The entries are as they were. The
+    /// place is the end or the beginning, or past the mark that was met: behind it forward, before it back.
     #[error("EndOrMark")]
     EndOrMark,
     /// The number is no operation of a reel. Nothing changed.

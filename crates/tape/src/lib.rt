@@ -15,5 +15,5 @@ mod slow;
 pub use entry::Entry;
 pub use fault::TapeFault;
 pub use list::ListReel;
-pub use op::{MTNOP, MTREW, MTWEOF};
+pub use op::{MTBSF, MTBSR, MTFSF, MTFSR, MTNOP, MTREW, MTWEOF};
 pub use reel::{RECORD_LIMIT, Reel};

@@ -1,17 +1,19 @@
 ghost use Rattle.std.specs.Prelude.{◌≡◌, ◌≢◌, ◌≤◌, IfOk, [], length, true};
-ghost use Rattle.tape.specs.Tape.{IsRecord, MarksStep, TapeStep, op_request, done_answer, given_answer, tape};
+ghost use Rattle.tape.specs.Tape.{IsRecord, MarksStep, ForwardFilesStep, BackFilesStep, ForwardRecordsStep, BackRecordsStep, TapeStep, op_request, done_answer, given_answer, tape};
 ghost use Rattle.tape.specs.Tape.TapeRequest.{Write, Read, Rewind};
 ghost use Rattle.tape.specs.Tape.TapeAnswer.{Done};
 ghost use Rattle.tape.specs.List.{IsListCall, IsTape};
 ghost use Rattle.tape.specs.declared.fault.TapeFault.TheVariants.{Device};
 
 mod entries;
+mod space;
 #[cfg(test)]
 mod tests;
 
 use crate::entry::{MARK_SIZE, RECORD_FRAME};
-use crate::{Entry, MTNOP, MTREW, MTWEOF, Reel, TapeFault};
+use crate::{Entry, MTBSF, MTBSR, MTFSF, MTFSR, MTNOP, MTREW, MTWEOF, Reel, TapeFault};
 use entries::{put_marks, put_record};
+use space::{back_files, back_records, forward_files, forward_records};
 use std::alloc::Global;
 use std::marker::Model;
 
@@ -72,6 +74,62 @@ impl ListReel {
         self.offset += size;
         Ok(())
     }
+
+    /// Goes behind the last of so many marks ahead.
+    ///
+    /// Answers `EndOrMark` where there are fewer. The place is the end then.
+    fn forward_files(&mut self, count: u32) -> Result<(), TapeFault>
+        ensures step { ForwardFilesStep count self.old.tape (done_answer result) self.new.tape }
+        ensures device { result ≢ Err Device }
+        ensures capacity { self.new.capacity ≡ self.old.capacity }
+    {
+        let spaced = forward_files(&self.entries, self.place, self.offset, count);
+        self.place = spaced.place;
+        self.offset = spaced.offset;
+        spaced.answer()
+    }
+
+    /// Goes before the last of so many marks, counted back.
+    ///
+    /// Answers `EndOrMark` where there are fewer. The place is the beginning then.
+    fn back_files(&mut self, count: u32) -> Result<(), TapeFault>
+        ensures step { BackFilesStep count self.old.tape (done_answer result) self.new.tape }
+        ensures device { result ≢ Err Device }
+        ensures capacity { self.new.capacity ≡ self.old.capacity }
+    {
+        let spaced = back_files(&self.entries, self.place, self.offset, count);
+        self.place = spaced.place;
+        self.offset = spaced.offset;
+        spaced.answer()
+    }
+
+    /// Goes forward over so many records.
+    ///
+    /// Answers `EndOrMark` where a mark or the end is met first. The place is behind that mark, or the end, then.
+    fn forward_records(&mut self, count: u32) -> Result<(), TapeFault>
+        ensures step { ForwardRecordsStep count self.old.tape (done_answer result) self.new.tape }
+        ensures device { result ≢ Err Device }
+        ensures capacity { self.new.capacity ≡ self.old.capacity }
+    {
+        let spaced = forward_records(&self.entries, self.place, self.offset, count);
+        self.place = spaced.place;
+        self.offset = spaced.offset;
+        spaced.answer()
+    }
+
+    /// Goes back over so many records.
+    ///
+    /// Answers `EndOrMark` where a mark or the beginning is met first. The place is before that mark, or the beginning, then.
+    fn back_records(&mut self, count: u32) -> Result<(), TapeFault>
+        ensures step { BackRecordsStep count self.old.tape (done_answer result) self.new.tape }
+        ensures device { result ≢ Err Device }
+        ensures capacity { self.new.capacity ≡ self.old.capacity }
+    {
+        let spaced = back_records(&self.entries, self.place, self.offset, count);
+        self.place = spaced.place;
+        self.offset = spaced.offset;
+        spaced.answer()
+    }
 }
 
 impl Reel for ListReel {
@@ -125,6 +183,10 @@ impl Reel for ListReel {
     {
         match op {
             MTWEOF => self.write_marks(count),
+            MTFSF => self.forward_files(count),
+            MTBSF => self.back_files(count),
+            MTFSR => self.forward_records(count),
+            MTBSR => self.back_records(count),
             MTREW => {
                 self.rewind();
                 Ok(())

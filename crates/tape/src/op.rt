@@ -1,6 +1,18 @@
 /// Writes `count` file marks, of 4 bytes each (mtio).
 pub const MTWEOF: u32 = 0;
 
+/// Goes forward over `count` file marks, behind the last of them (mtio).
+pub const MTFSF: u32 = 1;
+
+/// Goes back over `count` file marks, before the last of them (mtio).
+pub const MTBSF: u32 = 2;
+
+/// Goes forward over `count` records, and over no mark (mtio).
+pub const MTFSR: u32 = 3;
+
+/// Goes back over `count` records, and over no mark (mtio).
+pub const MTBSR: u32 = 4;
+
 /// Goes to the beginning, whatever the count (mtio).
 pub const MTREW: u32 = 5;
 

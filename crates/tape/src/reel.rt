@@ -55,13 +55,24 @@ pub trait Reel {
     ///
     /// - 0, `MTWEOF`: writes `count` marks at the place, of 4 bytes each. What stood from there on is lost, and the
     ///   place is behind the marks, at the end. A count of 0 changes nothing and is done.
+    /// - 1, `MTFSF`: goes forward, behind the last of `count` marks. With fewer marks ahead it goes to the end, and
+    ///   answers `EndOrMark`.
+    /// - 2, `MTBSF`: goes back, before the last of `count` marks, counted back. With fewer marks it goes to the
+    ///   beginning, and answers `EndOrMark`.
+    /// - 3, `MTFSR`: goes forward over `count` records. Where it meets a mark first it stops behind the mark, and where
+    ///   it meets the end, there; both answer `EndOrMark`.
+    /// - 4, `MTBSR`: goes back over `count` records. Where it meets a mark first it stops before the mark, and where it
+    ///   meets the beginning, there; both answer `EndOrMark`.
     /// - 5, `MTREW`: goes to the beginning, whatever the count.
     /// - 7, `MTNOP`: does nothing, whatever the count.
     ///
-    /// Answers `BadOperation` to any other number, and nothing changed then. Only marks, from a count of 1 on, have
-    /// the other faults: `Full` where there is no room for all of them, and `OutOfMemory`, and nothing changed then;
-    /// `Device` where the medium failed: the place and the entries before it stay, and from the place on stands what
-    /// stood before, nothing, or any number of the marks up to the count. The room is looked at first.
+    /// Operations 1 to 4 leave the entries as they are, and a count of 0 leaves the place too and is done.
+    ///
+    /// Answers `BadOperation` to any other number, and nothing changed then. The other faults come from a count of 1 on.
+    /// Spacing answers `Device` where the medium failed, and nothing changed then. Marks answer `Full` where there is no
+    /// room for all of them, and `OutOfMemory`, and nothing changed then; `Device` where the medium failed: the place and
+    /// the entries before it stay, and from the place on stands what stood before, nothing, or any number of the marks
+    /// up to the count. The room is looked at first.
     fn op(&mut self, op: u32, count: u32) -> Result<(), TapeFault>
         ensures { IsCall holds capacity failures GROWS self.old self.new (op_request op count) (done_answer result) };
 

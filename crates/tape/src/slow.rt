@@ -2,7 +2,7 @@
 
 ghost use Rattle.std.specs.Prelude.{◌≤◌};
 
-use crate::{MTNOP, MTREW, MTWEOF, RECORD_LIMIT, Reel, TapeFault};
+use crate::{MTBSF, MTBSR, MTFSF, MTFSR, MTNOP, MTREW, MTWEOF, RECORD_LIMIT, Reel, TapeFault};
 use std::alloc::Global;
 
 /// A call of a reel.
@@ -77,6 +77,10 @@ impl SlowReel {
                 return Ok(&into[..given]);
             }
             Call::Op(MTWEOF, count) => self.write_marks(count)?,
+            Call::Op(MTFSF, count) => self.forward_files(count)?,
+            Call::Op(MTBSF, count) => self.back_files(count)?,
+            Call::Op(MTFSR, count) => self.forward_records(count)?,
+            Call::Op(MTBSR, count) => self.back_records(count)?,
             Call::Op(MTREW, _) | Call::Rewind => self.place = 0,
             Call::Op(MTNOP, _) => {}
             Call::Op(_, _) => return Err(TapeFault::BadOperation),
@@ -84,8 +88,80 @@ impl SlowReel {
         Ok(&[])
     }
 
+    /// The place, as a number of entries.
+    pub(crate) fn place(&self) -> usize {
+        self.place
+    }
+
+    /// The first mark at or after the place.
+    fn mark_ahead(&self) -> Option<usize> {
+        for (at, entry) in self.entries.iter().enumerate().skip(self.place) {
+            if entry.is_none() {
+                return Some(at);
+            }
+        }
+        None
+    }
+
+    /// The last mark before the place.
+    fn mark_behind(&self) -> Option<usize> {
+        let mut found = None;
+        for (at, entry) in self.entries.iter().enumerate().take(self.place) {
+            if entry.is_none() {
+                found = Some(at);
+            }
+        }
+        found
+    }
+
+    fn forward_files(&mut self, count: u32) -> Result<(), TapeFault> {
+        for _ in 0..count {
+            let Some(mark) = self.mark_ahead() else {
+                self.place = self.entries.len();
+                return Err(TapeFault::EndOrMark);
+            };
+            self.place = mark.saturating_add(1);
+        }
+        Ok(())
+    }
+
+    fn back_files(&mut self, count: u32) -> Result<(), TapeFault> {
+        for _ in 0..count {
+            let Some(mark) = self.mark_behind() else {
+                self.place = 0;
+                return Err(TapeFault::EndOrMark);
+            };
+            self.place = mark;
+        }
+        Ok(())
+    }
+
+    fn forward_records(&mut self, count: u32) -> Result<(), TapeFault> {
+        let mark = self.mark_ahead();
+        let end = self.entries.len();
+        let stop = mark.unwrap_or(end);
+        let wanted = self.place.saturating_add(count as usize);
+        if wanted <= stop {
+            self.place = wanted;
+            return Ok(());
+        }
+        self.place = stop.saturating_add(1).min(end);
+        Err(TapeFault::EndOrMark)
+    }
+
+    fn back_records(&mut self, count: u32) -> Result<(), TapeFault> {
+        let mark = self.mark_behind();
+        let first = mark.map_or(0, |at| at.saturating_add(1));
+        if self.place.saturating_sub(first) >= count as usize {
+            self.place = self.place.saturating_sub(count as usize);
+            return Ok(());
+        }
+        self.place = mark.unwrap_or(0);
+        Err(TapeFault::EndOrMark)
+    }
+
     /// The offset of the place: the sizes of all entries before it.
-    fn offset(&self) -> u64 {
+    pub(crate) fn offset(&self) -> u64 {
         let mut sum = 0u64;
         for entry in self.entries.iter().take(self.place) {
             let size = match entry {

@@ -7,6 +7,9 @@ use crate::slow::{Call, SlowReel, make_call};
 use std::process::Abort;
 use std::test::Fail;
 
+/// A record for each entry of the greatest list that spacing is compared on. No two have one length.
+const RECORDS: [&[u8]; 5] = [b"a", b"bb", b"ccc", b"dddd", b"eeeee"];
+
 /// What a caller learns of a write that knows the reel to be in memory.
 fn write_in_memory(reel: &mut ListReel, bytes: &[u8]) -> Result<(), TapeFault>
     requires { IsRecord bytes.now }
@@ -144,5 +147,116 @@ fn refuses_other_operations(rt: HostRuntime) -> Result<(), Fail> {
         ],
     );
     assert_eq!(rt; ListReel::new(rt.alloc(), 0).failures(), 0);
+    Ok(())
+}
+
+/// Makes the call on both reels. They have to answer alike, and to stand at one place.
+fn make_both(rt: &impl Abort, reel: &mut ListReel, slow: &mut SlowReel, call: Call) {
+    let mut into = [0u8; 8];
+    let mut slow_into = [0u8; 8];
+    assert_eq!(rt;
+        make_call(reel, call, &mut into),
+        slow.call(call, &mut slow_into),
+        "{call:?}"
+    );
+    assert_eq!(rt; reel.place, slow.place(), "place after {call:?}");
+    assert_eq!(rt; reel.offset, slow.offset(), "offset after {call:?}");
+}
+
+/// Writes so many entries on both reels, goes to the place, and makes the call there. Each binary digit of `shape`
+/// that is 1, from the lowest on, makes that entry a mark.
+fn compare_from(
+    rt: &impl Abort,
+    alloc: Global,
+    (length, shape): (usize, u32),
+    place: usize,
+    call: Call,
+) {
+    let mut reel = ListReel::new(alloc, 1000);
+    let mut slow = SlowReel::new(alloc, 1000);
+    let mut digits = shape;
+    for record in RECORDS.iter().take(length) {
+        let entry = if digits % 2 == 1 {
+            Call::Op(MTWEOF, 1)
+        } else {
+            Call::Write(record)
+        };
+        make_both(rt, &mut reel, &mut slow, entry);
+        digits /= 2;
+    }
+    make_both(rt, &mut reel, &mut slow, Call::Rewind);
+    for _ in 0..place {
+        make_both(rt, &mut reel, &mut slow, Call::Read(8));
+    }
+    make_both(rt, &mut reel, &mut slow, call);
+    make_both(rt, &mut reel, &mut slow, Call::Read(8));
+    assert_eq!(rt; reel.entries.len(), length, "entries after {call:?}");
+}
+
+/// Compares every spacing by up to six, from each place of the list.
+fn compare_spacing(rt: &impl Abort, alloc: Global, list: (usize, u32)) {
+    for place in 0..=list.0 {
+        for op in MTFSF..=MTBSR {
+            for count in 0..=6 {
+                compare_from(rt, alloc, list, place, Call::Op(op, count));
+            }
+        }
+    }
+}
+
+#[test]
+fn spaces_as_the_slow_reel_does(rt: HostRuntime) -> Result<(), Fail> {
+    for (length, shapes) in [1, 2, 4, 8, 16, 32].iter().enumerate() {
+        for shape in 0..*shapes {
+            compare_spacing(&rt, rt.alloc(), (length, shape));
+        }
+    }
+    Ok(())
+}
+
+#[test]
+fn spaces_over_records_up_to_a_mark(rt: HostRuntime) -> Result<(), Fail> {
+    compare(
+        &rt,
+        rt.alloc(),
+        100,
+        &[
+            (Call::Op(MTFSR, 1), Err(TapeFault::EndOrMark)),
+            (Call::Write(b"a"), Ok(b"")),
+            (Call::Write(b"b"), Ok(b"")),
+            (Call::Op(MTWEOF, 1), Ok(b"")),
+            (Call::Op(MTBSR, 1), Err(TapeFault::EndOrMark)),
+            (Call::Op(MTBSR, 5), Err(TapeFault::EndOrMark)),
+            (Call::Op(MTFSR, 2), Ok(b"")),
+            (Call::Op(MTFSR, 1), Err(TapeFault::EndOrMark)),
+            (Call::Op(MTBSF, 1), Ok(b"")),
+            (Call::Op(MTBSF, 1), Err(TapeFault::EndOrMark)),
+            (Call::Op(MTFSF, 2), Err(TapeFault::EndOrMark)),
+            (Call::Op(MTBSF, 0), Ok(b"")),
+            (Call::Op(MTBSF, u32::MAX), Err(TapeFault::EndOrMark)),
+            (Call::Read(8), Ok(b"a")),
+        ],
+    );
+    Ok(())
+}
+
+#[test]
+fn spaces_over_marks(rt: HostRuntime) -> Result<(), Fail> {
+    compare(
+        &rt,
+        rt.alloc(),
+        100,
+        &[
+            (Call::Write(b"a"), Ok(b"")),
+            (Call::Op(MTWEOF, 1), Ok(b"")),
+            (Call::Write(b"b"), Ok(b"")),
+            (Call::Op(MTWEOF, 1), Ok(b"")),
+            (Call::Op(MTBSF, 2), Ok(b"")),
+            (Call::Read(8), Ok(b"")),
+            (Call::Op(MTBSR, 1), Err(TapeFault::EndOrMark)),
+            (Call::Op(MTFSF, 1), Ok(b"")),
+            (Call::Read(1), Ok(b"b")),
+        ],
+    );
     Ok(())
 }
