@@ -1,5 +1,5 @@
 -- Each request that is carried out is a serve step where stacks and reel tell, and leaves the drives those of the session.
-use Rattle.std.proofs.Common.{◌≡◌, ℕ, false, List, Option, Some, None, MatchOption, refl, ap, ◌∙◌, arith}
+use Rattle.std.proofs.Common.{◌≡◌, ℕ, ◌<◌, false, List, Option, Some, None, MatchOption, refl, ap, subst, ◌∙◌, arith}
 use Rattle.rmt_wire.specs.Request.{PlainRequest}
 use Rattle.rmt_wire.specs.Request.PlainRequest.{Open, Close, Write, WriteDropped, Read, Op}
 use Rattle.rmt_wire.specs.Reply.{PlainReply}
@@ -18,7 +18,7 @@ use Rattle.rmt_server.specs.Refusals.{refused}
 use Rattle.rmt_server.specs.Carrying.{drive_of, online_drive, view_after_close, IsAt, Tells, KeepsDrives, IsClosed, OpensFor, Closes, CarriesOut, CallsIn, CallsReel, ReelServes, status_at, status_in, reel_of, IsServed, IsCarriedOut, TakesFor, SeatSteps}
 use Rattle.rmt_server.proofs.Takes.{open-takes, invalid-takes}
 use Rattle.rmt_server.proofs.Steps.{ReelServed, reel-serves, status-seen}
-use Rattle.rmt_server.proofs.Opens.{is_device, is_device-means, HasRisen-earlier, asked-last, is-excused, open-seen}
+use Rattle.rmt_server.proofs.Opens.{is_device, is_device-means, HasRisen-earlier, asked-last, busy-asked, is-excused, open-seen}
 
 module _ {H S Seat R : Type 0} (h : HoldsPromise H Seat) (s : StacksPromise S R) (r : ReelPromise R)
     (old : DriveTable H S Seat R) (seat : Seat) (opened : Option (Opened R)) where
@@ -38,6 +38,7 @@ module _ {H S Seat R : Type 0} (h : HoldsPromise H Seat) (s : StacksPromise S R)
     found = 0;
     seat = λ d x. absurd cc;
     told = λ d n x. absurd cc;
+    taken = λ x. absurd (omega arith);
     step = rw a (e, refl);
   }
   opens device mode (Some access) a reply between rested new seat' opened' before c (result, e, o) tells =
@@ -52,6 +53,7 @@ module _ {H S Seat R : Type 0} (h : HoldsPromise H Seat) (s : StacksPromise S R)
         found = found_in_open result;
         seat = asked-last result (h.shows seat');
         told = λ d n x t. o.found d _ x (c.told d n t);
+        taken = λ x. (let w = busy-asked result _ _ o.view x in (w.0, w.1, subst (λ n. w.0 < n) c.kept.same_holds (o.below w.0 w.1)));
         step = rw a (seen.plain, seen.step, seen.found, seen.excused, e ∙ seen.reply, refl);
       }
 
@@ -72,6 +74,7 @@ module _ {H S Seat R : Type 0} (h : HoldsPromise H Seat) (s : StacksPromise S R)
     found = 0;
     seat = λ d x. absurd cc;
     told = λ d n x. absurd cc;
+    taken = λ x. absurd (omega arith);
     step = rw (ap status_of tells.session) (e, refl);
   }
 
@@ -87,6 +90,7 @@ module _ {H S Seat R : Type 0} (h : HoldsPromise H Seat) (s : StacksPromise S R)
     found = 0;
     seat = λ d x. absurd cc;
     told = λ d n x. absurd cc;
+    taken = λ x. absurd (omega arith);
     step = rw (status-seen r (Some device) before.session tells.session, not-refused device.access device.reel) (e, refl);
   }
 
@@ -112,16 +116,16 @@ module _ {H S Seat R : Type 0} (h : HoldsPromise H Seat) (s : StacksPromise S R)
   serves-step (Some device) Close reply new seat' opened' c before tells = closes-some h s r old seat None device reply new seat' opened' before c tells
   serves-step opened (Write bytes) reply new seat' opened' (n, same, serves) before tells =
       let p = reel-parts h s r old seat opened (Write bytes) reply new opened' before n serves tells in
-      record { after = scene before.shop p.after; tells = scene-tells h s r old seat opened new opened' before (Write bytes) reply _ n tells p; troubled = p.troubled; trouble = p.trouble; asked = None; found = 0; seat = λ d x. absurd cc; told = λ d n x. absurd cc; step = p.step }
+      record { after = scene before.shop p.after; tells = scene-tells h s r old seat opened new opened' before (Write bytes) reply _ n tells p; troubled = p.troubled; trouble = p.trouble; asked = None; found = 0; seat = λ d x. absurd cc; told = λ d n x. absurd cc; taken = λ x. absurd (omega arith); step = p.step }
   serves-step opened (WriteDropped count) reply new seat' opened' (n, same, serves) before tells =
       let p = reel-parts h s r old seat opened (WriteDropped count) reply new opened' before n serves tells in
-      record { after = scene before.shop p.after; tells = scene-tells h s r old seat opened new opened' before (WriteDropped count) reply _ n tells p; troubled = p.troubled; trouble = p.trouble; asked = None; found = 0; seat = λ d x. absurd cc; told = λ d n x. absurd cc; step = p.step }
+      record { after = scene before.shop p.after; tells = scene-tells h s r old seat opened new opened' before (WriteDropped count) reply _ n tells p; troubled = p.troubled; trouble = p.trouble; asked = None; found = 0; seat = λ d x. absurd cc; told = λ d n x. absurd cc; taken = λ x. absurd (omega arith); step = p.step }
   serves-step opened (Read count) reply new seat' opened' (n, same, serves) before tells =
       let p = reel-parts h s r old seat opened (Read count) reply new opened' before n serves tells in
-      record { after = scene before.shop p.after; tells = scene-tells h s r old seat opened new opened' before (Read count) reply _ n tells p; troubled = p.troubled; trouble = p.trouble; asked = None; found = 0; seat = λ d x. absurd cc; told = λ d n x. absurd cc; step = p.step }
+      record { after = scene before.shop p.after; tells = scene-tells h s r old seat opened new opened' before (Read count) reply _ n tells p; troubled = p.troubled; trouble = p.trouble; asked = None; found = 0; seat = λ d x. absurd cc; told = λ d n x. absurd cc; taken = λ x. absurd (omega arith); step = p.step }
   serves-step opened (Op op count) reply new seat' opened' (n, same, serves) before tells =
       let p = reel-parts h s r old seat opened (Op op count) reply new opened' before n serves tells in
-      record { after = scene before.shop p.after; tells = scene-tells h s r old seat opened new opened' before (Op op count) reply _ n tells p; troubled = p.troubled; trouble = p.trouble; asked = None; found = 0; seat = λ d x. absurd cc; told = λ d n x. absurd cc; step = p.step }
+      record { after = scene before.shop p.after; tells = scene-tells h s r old seat opened new opened' before (Op op count) reply _ n tells p; troubled = p.troubled; trouble = p.trouble; asked = None; found = 0; seat = λ d x. absurd cc; told = λ d n x. absurd cc; taken = λ x. absurd (omega arith); step = p.step }
 
   -- what a call of the reel leaves open
   calls-in-same : (device : Opened R) (reel : Option R) (new : Option (Opened R)) (request : PlainRequest) (reply : PlainReply)
@@ -134,7 +138,7 @@ module _ {H S Seat R : Type 0} (h : HoldsPromise H Seat) (s : StacksPromise S R)
   calls-same None new request reply call = absurd call
   calls-same (Some device) new request reply call = calls-in-same device device.reel new request reply refl call
 
-  serves-same : (opened new : Option (Opened R)) (request : PlainRequest) (reply : PlainReply) (by : Option Refusal)
+  pub serves-same : (opened new : Option (Opened R)) (request : PlainRequest) (reply : PlainReply) (by : Option Refusal)
       → MatchOption by (CallsReel r opened new request reply) (λ x. (reply ≡ refused x) × (new ≡ opened))
       → (drive_of new ≡ drive_of opened) × (online_drive new ≡ online_drive opened)
   serves-same opened new request reply None call = calls-same opened new request reply call

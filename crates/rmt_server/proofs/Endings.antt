@@ -1,11 +1,13 @@
 -- How a server of one stream ends.
-use Rattle.std.proofs.Common.{◌≡◌, ℕ, false, List, [], Option, None, Result, Ok, Err, refl, sym, subst, inl, inr, arith}
+use Rattle.std.proofs.Common.{◌≡◌, ℕ, false, List, [], ◌∷◌, length, slice_index, Option, Some, None, IfOk, Result, Ok, Err, refl, sym, ap, subst, ◌∙◌, inl, inr, arith}
 use Rattle.std.proofs.KnownBytes.{Appends-nil, Consumes-nil}
 use Rattle.std.specs.Result.{result_ok}
 use Rattle.rmt_wire.specs.Counted.{Counting}
 use Rattle.tape.specs.contracts.list.ListReelReel.TheImpl as ListReelPromise
+use Rattle.rmt_server.specs.Local.{Holders}
+use Rattle.rmt_server.specs.contracts.drives.local.LocalHoldsHolds.TheImpl as LocalHoldsPromise
 use Rattle.rmt_server.specs.contracts.drives.list.ListStacksStacks.TheImpl as ListStacksPromise
-use Rattle.rmt_server.specs.Carrying.{MayFail}
+use Rattle.rmt_server.specs.Carrying.{MayFail, IsAlone}
 use Rattle.rmt_server.specs.Session.{none}
 use Rattle.rmt_server.specs.Serving.{Exchange, EndsAs}
 use Rattle.rmt_server.specs.Stdio.{blank_scene, EndsWith, IsServedAlone}
@@ -24,6 +26,17 @@ ends_with remaining contents (Err Output) input input' output output' read done 
 -- no device of the drive and the reel in memory fails
 pub none_fails : MayFail ListStacksPromise.ghosts ListReelPromise.ghosts false
 none_fails = record { stacks = λ old new h. absurd (omega arith); reels = λ old new h. absurd (omega arith) }
+
+-- what is so of a result is so of its value
+pub kept_ok : {T E : Type 0} (P : T → Type 0) (result : Result T E) (value : T) → IfOk result P → Some value ≡ result_ok result → P value
+kept_ok P (Ok x) value p e = let same : value ≡ x = cc in subst P (sym same) p
+kept_ok P (Err x) value p e = absurd cc
+
+-- no seat holds the drive
+pub none_holds : (all : Holders) (drive : Option ℕ) → all.numbers ≡ 0 ∷ [] → IsAlone LocalHoldsPromise.ghosts all drive
+none_holds all drive e d l =
+    let first : d ≡ 0 = (let few : length all.numbers ≡ 1 = ap length e in omega (arith, few)) in
+    (0, (l, ap (λ n. slice_index all.numbers n) first ∙ ap (λ l. slice_index l 0) e), λ x. absurd (omega arith))
 
 -- nothing was read or written
 pub served_none : {R W : Type 0} {remaining : R → Option (List ℕ)} {contents : W → Option (List ℕ)} {capacity : ℕ} {input : Counting R} {output : Counting W} {ending : Option Served}

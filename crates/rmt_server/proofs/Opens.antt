@@ -1,5 +1,5 @@
 -- An open that is carried out is a serve step where the stacks tell.
-use Rattle.std.proofs.Common.{◌≡◌, ℕ, ◌≤◌, Bool, true, false, IsTrue, List, [], Option, Some, Result, Ok, Err, refl, arith}
+use Rattle.std.proofs.Common.{◌≡◌, ℕ, ◌<◌, ◌≤◌, Bool, true, false, IsTrue, List, [], Option, Some, Result, Ok, Err, refl, ap, arith}
 use Rattle.tape.specs.Tape.{Tape, tape}
 use Rattle.tape.specs.Failures.{HasRisen}
 use Rattle.tape.specs.declared.reel.Reel.{Ghosts as ReelPromise}
@@ -52,6 +52,17 @@ asked-last (Err NoReel) v d e = e
 asked-last (Err Device) v d e = e
 asked-last (Err OutOfMemory) v d e = e
 asked-last (Err NameTaken) v d e = e
+
+-- a take that found another seat was of a drive
+pub busy-asked : {R : Type 0} (result : Result (ℕ × R) DriveFault) (v w : View) → SeatStep result v w → 0 < found_in_open result
+    → (d : ℕ) × (drive_asked result w ≡ Some d)
+busy-asked (Ok taken) v w s x = absurd (omega arith)
+busy-asked (Err NoSuchDrive) v w s x = absurd (omega arith)
+busy-asked (Err (Busy n)) v w s x = (s.1.0, ap last_drive s.1.1)
+busy-asked (Err NoReel) v w s x = absurd (omega arith)
+busy-asked (Err Device) v w s x = absurd (omega arith)
+busy-asked (Err OutOfMemory) v w s x = absurd (omega arith)
+busy-asked (Err NameTaken) v w s x = absurd (omega arith)
 
 -- what an open answered and left, as it is seen
 pub record OpenSeen {R : Type 0} (r : ReelPromise R) (device : List ℕ) (access : Access) (asked : Option ℕ) (result : Result (ℕ × R) DriveFault) (shop shop' : Shop) : Type 0 where

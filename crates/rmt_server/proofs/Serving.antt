@@ -21,7 +21,8 @@ use Rattle.rmt_server.specs.declared.drives.holds.Holds.{Ghosts as HoldsPromise}
 use Rattle.rmt_server.specs.declared.drives.stacks.Stacks.{Ghosts as StacksPromise}
 use Rattle.rmt_server.specs.declared.drives.table.DriveTable.{DriveTable}
 use Rattle.rmt_server.specs.declared.session.opened.Opened.{Opened}
-use Rattle.rmt_server.specs.Carrying.{IsSayable, IsCarriedOut, IsClosed, Tells, MayFail, HasTrouble, ReelFailed, ReelFailedIn, reel_of}
+use Rattle.rmt_server.specs.Carrying.{drive_of, IsSayable, IsCarriedOut, IsClosed, Tells, MayFail, MayShare, HasTrouble, ReelFailed, ReelFailedIn, reel_of}
+use Rattle.rmt_server.proofs.Alone.{may-share, may-find}
 use Rattle.rmt_server.specs.Session.{Scene, ServeRun, none as no_steps, one_more as one_step}
 use Rattle.rmt_server.specs.Serving.{Exchange, requests_of, replies_text, IsAnswered, IsCutOff, Advances, AnswersAs, CarryRun, IsSettled, IsFaulty, EndsAs, IsServedAs, none, one_more}
 use Rattle.rmt_server.specs.declared.stream.Served.{Served}
@@ -335,14 +336,15 @@ may_fail m old opened (Op op count) new opened' t = reel_may_fail m (reel_of ope
 -- Where stacks and reel tell, a run of requests carried out is a run of serve steps
 pub run_steps : {H S Seat R : Type 0} {h : HoldsPromise H Seat} {s : StacksPromise S R} {r : ReelPromise R} {old : DriveTable H S Seat R} {seat : Seat} {opened : Option (Opened R)}
     {done : List Exchange} {last : DriveTable H S Seat R} {last_seat : Seat} {last_opened : Option (Opened R)}
-    → CarryRun h s r old seat opened done last last_seat last_opened → (fails : Bool) → MayFail s r fails → (start : Scene) → Tells s r old.stacks opened start
-    → (finish : Scene) × ServeRun fails r.GROWS start done finish × Tells s r last.stacks last_opened finish
-run_steps none fails may start tells = (start, no_steps, tells)
-run_steps (one_more {between = between} {after = after} {opened1 = opened1} {opened2 = opened2} request reply run carried spelling) fails may start tells =
-    let so_far = run_steps run fails may start tells in
+    → CarryRun h s r old seat opened done last last_seat last_opened → (fails shared : Bool) → MayFail s r fails → MayShare h old.holds (drive_of opened) shared
+    → (start : Scene) → Tells s r old.stacks opened start
+    → (finish : Scene) × ServeRun fails shared r.GROWS start done finish × Tells s r last.stacks last_opened finish × MayShare h last.holds (drive_of last_opened) shared
+run_steps none fails shared may share start tells = (start, no_steps, tells, share)
+run_steps (one_more {between = between} {after = after} {opened1 = opened1} {opened2 = opened2} request reply run carried spelling) fails shared may share start tells =
+    let so_far = run_steps run fails shared may share start tells in
     let step = carried.step so_far.0 so_far.2 in
     let excused : IsTrue step.troubled → IsTrue fails = λ t. may_fail may between opened1 request after opened2 (step.trouble t) in
-    (step.after, one_step request reply step.troubled step.asked step.found so_far.1 excused step.step, step.tells)
+    (step.after, one_step request reply step.troubled step.asked step.found so_far.1 excused (may-find so_far.3 step) step.step, step.tells, may-share so_far.3 carried)
 
 pub served_as : {H S Seat R In Out : Type 0} {h : HoldsPromise H Seat} {s : StacksPromise S R} {r : ReelPromise R} (remaining : In → Option (List ℕ)) (contents : Out → Option (List ℕ))
     (result : Result Served ServeFault) (input input' : Counting In) (output output' : Counting Out)
@@ -362,5 +364,5 @@ served_as remaining contents result input input' output output' {last = last} {l
   last_opened = last_opened;
   run = a.run;
   ended = ended;
-  steps = λ fails may start tells. (let w = run_steps a.run fails may start tells in (w.0, w.1, ended.step w.0 w.2));
+  steps = λ fails shared may share start tells. (let w = run_steps a.run fails shared may share start tells in (w.0, w.1, ended.step w.0 w.2));
 }

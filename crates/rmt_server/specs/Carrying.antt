@@ -1,5 +1,5 @@
 -- What a session promises of each request, whatever its drives, seats and reels are.
-use Rattle.std.specs.Prelude.{◌≡◌, ◌≢◌, ℕ, ◌<◌, ◌≤◌, ◌↔◌, Bool, IsTrue, Option, Some, None, MatchOption, Result, Ok, Err, List, length, take}
+use Rattle.std.specs.Prelude.{◌≡◌, ◌≢◌, ◌⊎◌, ℕ, ◌<◌, ◌≤◌, ◌↔◌, Bool, IsTrue, Option, Some, None, MatchOption, Result, Ok, Err, List, length, take}
 use Rattle.rmt_wire.specs.Request.{PlainRequest}
 use Rattle.rmt_wire.specs.Request.PlainRequest.{Open, Close, Op}
 use Rattle.rmt_wire.specs.Reply.{PlainReply}
@@ -153,6 +153,7 @@ pub record IsOpenedFor {H S Seat R : Type 0} (h : HoldsPromise H Seat) (s : Stac
   pub opens : opened ≡ opened_by access result
   pub at : IsAt h s new seat' opened
   pub view : SeatStep result (h.shows seat) (h.shows seat')
+  pub below : (d : ℕ) → drive_asked result (h.shows seat') ≡ Some d → d < h.drives old.holds
   pub found : (d n : ℕ) → drive_asked result (h.shows seat') ≡ Some d → h.tells old.holds d n → found_in_open result ≡ n
   pub told : (d n : ℕ) → h.tells old.holds d n → h.tells new.holds d (word_after_open result (h.shows seat).number d n)
   pub stacks : Steps s.holds old.stacks new.stacks (OpenStep r.holds r.capacity device (drive_asked result (h.shows seat')) result)
@@ -213,6 +214,14 @@ pub record MayFail {S R : Type 0} (s : StacksPromise S R) (r : ReelPromise R) (f
   pub stacks : (old new : S) → HasRisen (s.failures old) (s.failures new) → IsTrue fails
   pub reels : (old new : R) → HasRisen (r.failures old) (r.failures new) → IsTrue fails
 
+-- the holds tell of each drive that it is free, or that it is the one that is open
+abbrev pub IsAlone : {H Seat : Type 0} → HoldsPromise H Seat → H → Option ℕ → Type 0
+IsAlone h holds drive = (d : ℕ) → d < h.drives holds → (n : ℕ) × h.tells holds d n × (0 < n → drive ≡ Some d)
+
+-- another seat may hold a drive only where `shared` says so
+abbrev pub MayShare : {H Seat : Type 0} → HoldsPromise H Seat → H → Option ℕ → Bool → Type 0
+MayShare h holds drive shared = IsTrue shared ⊎ IsAlone h holds drive
+
 -- Where stacks and reel told `before`, they tell `after`, one serve step further. The take of an open is that of
 -- the seat's last step, and found there what the holds tell.
 pub record IsServed {H S Seat R : Type 0} (h : HoldsPromise H Seat) (s : StacksPromise S R) (r : ReelPromise R)
@@ -226,6 +235,7 @@ pub record IsServed {H S Seat R : Type 0} (h : HoldsPromise H Seat) (s : StacksP
   pub found : ℕ
   pub seat : (d : ℕ) → asked ≡ Some d → last_drive (h.shows seat') ≡ Some d
   pub told : (d n : ℕ) → asked ≡ Some d → h.tells old.holds d n → found ≡ word_after_close (drive_of opened) d n
+  pub taken : 0 < found → (d : ℕ) × (asked ≡ Some d) × (d < h.drives old.holds)
   pub step : ServeStep troubled r.GROWS asked found before request reply after
 
 -- the count of a seat's steps after one more, or after two where a drive was given back first

@@ -19,7 +19,7 @@ use Rattle.rmt_server.specs.declared.stream.Served.TheVariants.{End, Truncated, 
 use Rattle.rmt_server.specs.declared.stream.ServeFault.{ServeFault}
 use Rattle.rmt_server.specs.declared.stream.ServeFault.TheVariants.{Input, Output}
 use Rattle.rmt_server.specs.Session.{Scene, closed, ServeRun}
-use Rattle.rmt_server.specs.Carrying.{Tells, IsClosed, IsCarriedOut, MayFail}
+use Rattle.rmt_server.specs.Carrying.{drive_of, Tells, IsClosed, IsCarriedOut, MayFail, MayShare}
 
 -- requests with their replies
 abbrev pub Exchange : Type 0
@@ -88,8 +88,8 @@ AnswersAs contents (Err failed) output output' wire bytes done rest =
     IsCutOff (contents output.inner) (contents output'.inner) bytes done rest × HasRisen output.failures output'.failures
 
 -- How serving ends, by what follows the last whole request of the bytes read: nothing, or a beginning of a request,
--- both with no byte of the input left; or bytes that are no request. `Input` and
--- `Output` come only where that stream failed.
+-- both with no byte of the input left; or bytes that are no request. `Input` and `Output` come only where that
+-- stream failed.
 abbrev pub EndsAs : {R W : Type 0} → (R → Option (List ℕ)) → (W → Option (List ℕ)) → Result Served ServeFault
     → Counting R → Counting R → Counting W → Counting W → List ℕ → List Exchange → List ℕ → Type 0
 EndsAs remaining contents (Ok End) input input' output output' read done rest =
@@ -119,5 +119,6 @@ pub record IsServedAs {H S Seat R In Out : Type 0} (h : HoldsPromise H Seat) (s 
   pub last_opened : Option (Opened R)
   pub run : CarryRun h s r old seat opened done last last_seat last_opened
   pub ended : IsClosed h s r last last_seat last_opened new seat'
-  pub steps : (fails : Bool) → MayFail s r fails → (start : Scene) → Tells s r old.stacks opened start
-      → (finish : Scene) × ServeRun fails r.GROWS start done finish × s.holds new.stacks (closed finish).shop
+  pub steps : (fails shared : Bool) → MayFail s r fails → MayShare h old.holds (drive_of opened) shared
+      → (start : Scene) → Tells s r old.stacks opened start
+      → (finish : Scene) × ServeRun fails shared r.GROWS start done finish × s.holds new.stacks (closed finish).shop

@@ -172,11 +172,12 @@ ServeStep troubled grows asked found before request reply after =
     (DoneStep troubled grows before request reply after)
     (λ r. (reply ≡ refused r) × (after ≡ before))
 
--- Requests and their replies, one step after another. There is trouble only where `fails` says that a device can fail.
-pub data ServeRun (fails grows : Bool) (start : Scene) : List (PlainRequest × PlainReply) → Scene → Type 0 where
-  none : ServeRun fails grows start [] start
+-- Requests and their replies, one step after another. There is trouble only where `fails` says that a device can
+-- fail, and a take finds another seat only where `shared` says that another may hold a drive.
+pub data ServeRun (fails shared grows : Bool) (start : Scene) : List (PlainRequest × PlainReply) → Scene → Type 0 where
+  none : ServeRun fails shared grows start [] start
   one_more : {done : List (PlainRequest × PlainReply)} {before after : Scene}
       (request : PlainRequest) (reply : PlainReply) (troubled : Bool) (asked : Option ℕ) (found : ℕ)
-      → ServeRun fails grows start done before → (IsTrue troubled → IsTrue fails)
+      → ServeRun fails shared grows start done before → (IsTrue troubled → IsTrue fails) → (0 < found → IsTrue shared)
       → ServeStep troubled grows asked found before request reply after
-      → ServeRun fails grows start (done ++ (request, reply) ∷ []) after
+      → ServeRun fails shared grows start (done ++ (request, reply) ∷ []) after

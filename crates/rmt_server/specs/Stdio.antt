@@ -34,7 +34,7 @@ EndsWith remaining contents None input input' output output' read done rest =
     ⊎ (IsAnswered (contents output.inner) (contents output'.inner) read done rest × (read ≡ []))
 
 -- One stream served with the drive in memory: the requests read with the replies are a run of serve steps from the
--- empty reel, in which no device fails.
+-- empty reel, in which no device fails and no drive is busy.
 pub record IsServedAlone {R W : Type 0} (remaining : R → Option (List ℕ)) (contents : W → Option (List ℕ)) (capacity : ℕ)
     (input input' : Counting R) (output output' : Counting W) (ending : Option Served) : Type 0 where
   pub read : List ℕ
@@ -43,7 +43,7 @@ pub record IsServedAlone {R W : Type 0} (remaining : R → Option (List ℕ)) (c
   pub finish : Scene
   pub consumed : Consumes (remaining input.inner) (remaining input'.inner) read
   pub ends : EndsWith remaining contents ending input input' output output' read done rest
-  pub run : ServeRun false true (blank_scene capacity) done finish
+  pub run : ServeRun false false true (blank_scene capacity) done finish
 
 -- the same, with the status that it ends with
 abbrev pub IsStdio : {R W : Type 0} → (R → Option (List ℕ)) → (W → Option (List ℕ)) → ℕ

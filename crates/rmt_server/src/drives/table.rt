@@ -28,6 +28,7 @@ impl<H: Holds, S: Stacks> DriveTable<H, S> {
         ensures own { H.belongs self.new.holds seat.new }
         ensures others { (s : H.Seat) → (H.shows s).number ≢ (H.shows seat.old).number → H.belongs self.old.holds s → H.belongs self.new.holds s }
         ensures found { (d n : ℕ) → drive_asked result (H.shows seat.new) ≡ Some d → H.tells self.old.holds d n → found_in_open result ≡ n }
+        ensures asked { (d : ℕ) → drive_asked result (H.shows seat.new) ≡ Some d → d < H.drives self.old.holds }
         ensures told { (d n : ℕ) → H.tells self.old.holds d n → H.tells self.new.holds d (word_after_open result (H.shows seat.old).number d n) }
         ensures same_drives { H.drives self.new.holds ≡ H.drives self.old.holds }
         ensures below { IfOk result (λ opened. opened.0 < S.drives self.new.stacks) }

@@ -1,10 +1,11 @@
-use Rattle.std.proofs.Common.{rules, false, None, refl, sym, subst, ◌+◌}
+use Rattle.std.proofs.Common.{rules, false, None, refl, sym, ap, subst, ◌∙◌, ◌+◌, inr}
 use Rattle.rmt_server.proofs.Seats.{HoldsJust-newcomer}
 use Rattle.rmt_server.specs.Carrying.{HoldsJust, IsSeenAs}
 use Rattle.rmt_server.specs.Session.PlainSession.{Idle}
 use Rattle.tape.specs.contracts.list.ListReelReel.TheImpl as ListReelPromise
 use Rattle.rmt_server.specs.Stdio.{blank_scene, IsServedAlone}
-use Rattle.rmt_server.proofs.Endings.{served_none, none_fails, ends_with}
+use Rattle.rmt_server.proofs.Endings.{served_none, none_fails, none_holds, kept_ok, ends_with}
+use Rattle.rmt_server.specs.Local.{Holders}
 use Rattle.rmt_server.proofs.stdio.serve_alone.Goals as goal
 
 pub new-requires-3 : goal.new-requires-3
@@ -27,7 +28,8 @@ returns g c =
     let served = c.serve.ensures.served in
     let idle : IsSeenAs ListReelPromise.ghosts c.in-Ok.session.opened Idle = subst (λ s. IsSeenAs ListReelPromise.ghosts s.opened Idle) (sym c.in-Ok.ensures.made) refl in
     let blank = blank_scene c.args.capacity in
-    let steps = served.steps false none_fails blank record { shop = c.new-stacks.ensures; session = idle } in
+    let empty = ap (λ (h : Holders). h.numbers) c.in_ok-seat.ensures.next.1 ∙ ap (λ (h : Holders). h.numbers) (kept_ok _ c.new-2.result _ c.new-2.ensures c.in_ok-holds.ensures.value) in
+    let steps = served.steps false false none_fails (inr (none_holds c.seat.new.self _ empty)) blank record { shop = c.new-stacks.ensures; session = idle } in
     subst (IsServedAlone g.R.Read.remaining g.W.Write.contents c.args.capacity c.args.input.now c.serve.new.input c.args.output.now c.serve.new.output) (sym c.ok-3.ensures.value) record {
       read = served.read;
       done = served.done;
