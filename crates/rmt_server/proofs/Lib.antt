@@ -8,4 +8,3 @@ pub mod Alone
 pub mod Spelling
 pub mod Takes
 pub mod Serving
-pub mod Endings

@@ -2,8 +2,7 @@
 use Rattle.std.proofs.Common.{◌≡◌, ◌≢◌, ℕ, ◌<◌, ◌≤◌, ◌⊎◌, Bool, true, false, IsTrue, List, length, replicate, slice_set, slice_index_or, Some, None, sym, ap, ◌∙◌, inl, inr, arith, length-set, get_or-set_same, get_or-set_other}
 use Rattle.std.proofs.lemmas.List.{length-replicate, get_or-replicate, get_or_past}
 use Rattle.rmt_server.specs.declared.drives.view.View.{View}
-use Rattle.rmt_server.specs.Holding.{has, given, newcomer, taken}
-use Rattle.rmt_server.specs.Carrying.{HoldsJust}
+use Rattle.rmt_server.specs.Holding.{has, given, newcomer, taken, HoldsJust}
 
 le_or_lt : (m n : ℕ) → (m < n) ⊎ (n ≤ m)
 le_or_lt m n = grind arith

@@ -22,7 +22,7 @@ use Rattle.rmt_server.specs.declared.drives.view.View.{View}
 use Rattle.rmt_server.specs.declared.drives.view.StepKind.TheVariants.{Take}
 use Rattle.rmt_server.specs.Access.{access_of}
 use Rattle.rmt_server.specs.Refusals.{refused}
-use Rattle.rmt_server.specs.Holding.{has, given, word_after_give, last_drive, last_step, counted}
+use Rattle.rmt_server.specs.Holding.{HoldsJust, given, word_after_give, last_drive, last_step, counted}
 use Rattle.rmt_server.specs.Stacking.{HasLatched}
 use Rattle.rmt_server.specs.Opening.{SeatStep, IsOpenFault, drive_asked, found_in_open, word_after_open, OpenStep}
 use Rattle.rmt_server.specs.Session.{PlainSession, plain_reel, Scene, Status, NothingOpen, ReelAway, Ready, refusal, reel_reply, tape_request, open_reply, closed, ServeStep}
@@ -49,10 +49,6 @@ status_in access (Some reel) = Ready access
 abbrev pub status_at : {R : Type 0} → Option (Opened R) → Status
 status_at None = NothingOpen
 status_at (Some device) = status_in device.access device.reel
-
--- the seat holds that drive, or none, and no other
-abbrev pub HoldsJust : View → Option ℕ → Type 0
-HoldsJust v drive = (d : ℕ) → IsTrue (has v d) ↔ (drive ≡ Some d)
 
 -- These drives are those of the seat and of what is open: the seat belongs to them and holds the open drive alone,
 -- and where they tell, the open reel is latched there.

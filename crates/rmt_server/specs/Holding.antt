@@ -1,5 +1,5 @@
 -- What a seat at the drives knows, and what each of its steps does.
-use Rattle.std.specs.Prelude.{◌≡◌, ℕ, ◌+◌, ◌-◌, ◌^◌, ◌<◌, min, Bool, true, false, cond, ◌==◌, List, replicate, slice_set, slice_index_or, Option, Some, None}
+use Rattle.std.specs.Prelude.{◌≡◌, ℕ, ◌+◌, ◌-◌, ◌^◌, ◌<◌, min, ◌↔◌, Bool, IsTrue, true, false, cond, ◌==◌, List, replicate, slice_set, slice_index_or, Option, Some, None}
 use Rattle.rmt_server.specs.declared.drives.view.StepKind.{StepKind}
 use Rattle.rmt_server.specs.declared.drives.view.StepKind.TheVariants.{Take, Give, Look}
 use Rattle.rmt_server.specs.declared.drives.view.LastStep.{LastStep}
@@ -10,6 +10,10 @@ use Rattle.rmt_server.specs.declared.drives.taken.Taken.TheVariants.{Held, Busy}
 -- the seat holds the drive
 abbrev pub has : View → ℕ → Bool
 has v d = slice_index_or v.held d false
+
+-- the seat holds that drive, or none, and no other
+abbrev pub HoldsJust : View → Option ℕ → Type 0
+HoldsJust v drive = (d : ℕ) → IsTrue (has v d) ↔ (drive ≡ Some d)
 
 -- one step more, up to the greatest u64
 abbrev pub counted : ℕ → ℕ

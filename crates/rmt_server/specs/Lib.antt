@@ -10,4 +10,3 @@ pub mod Desk
 pub mod Session
 pub mod Carrying
 pub mod Serving
-pub mod Stdio

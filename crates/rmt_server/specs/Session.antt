@@ -62,10 +62,10 @@ write_refusal access count =
 abbrev pub read_refusal : Access → ℕ → Option Refusal
 read_refusal access count = if reads access then (if count == 0 then Some Invalid else None) else Some BadDescriptor
 
--- of mtio's operations MTWEOF 0, MTREW 5 and MTNOP 7 are known
+-- of mtio's operations 0 to 7 all are known but MTOFFL 6; MTWEOF 0 writes
 abbrev pub op_refusal : Access → ℕ → Option Refusal
 op_refusal access op =
-    if op == 0 then (if writes access then None else Some Permission) else if (op == 5) || (op == 7) then None else Some Invalid
+    if op == 0 then (if writes access then None else Some Permission) else if (op == 6) || nat_lt 7 op then Some Invalid else None
 
 -- the first check that refuses the request, if one does; those of an open come after what was open is closed
 abbrev pub refusal : Status → PlainRequest → Option Refusal

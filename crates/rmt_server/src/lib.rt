@@ -5,7 +5,6 @@ mod access;
 mod drives;
 mod refusal;
 mod session;
-mod stdio;
 mod stream;
 #[cfg(test)]
 mod tests;
@@ -15,5 +14,4 @@ pub use drives::{
     Taken, View,
 };
 pub use session::Session;
-pub use stdio::run_stdio;
 pub use stream::{ServeFault, Served, serve};

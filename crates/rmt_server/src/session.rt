@@ -43,7 +43,8 @@ impl<H: Holds, S: Stacks> Session<H, S> {
     ghost use Rattle.std.specs.Borrow.{sem};
     ghost use Rattle.std.specs.Io.BufRead.{Rests};
     ghost use Rattle.rmt_server.specs.contracts.session.Session.{the_row};
-    ghost use Rattle.rmt_server.specs.Carrying.{IsAt, IsClosed, IsCarriedOut, IsSayable, HoldsJust, IsOnline, online_drive};
+    ghost use Rattle.rmt_server.specs.Carrying.{IsAt, IsClosed, IsCarriedOut, IsSayable, IsOnline, online_drive};
+    ghost use Rattle.rmt_server.specs.Holding.{HoldsJust};
 
     /// A session with nothing open. The seat holds no drive.
     ///

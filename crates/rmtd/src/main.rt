@@ -1,7 +1,7 @@
 //! The tape server.
 #![tactic(auto)]
 
-use rmt_server::run_stdio;
+use rmt_tools::run_stdio;
 use rmt_wire::Counted;
 use std::process::ExitCode;
 use std::{env, io};

@@ -1,6 +1,6 @@
-ghost use Rattle.std.specs.Prelude.{◌≡◌, ◌≢◌, ◌<◌, ◌≤◌, ◌+◌, IfOk, IfSome, MatchOption, replicate};
+ghost use Rattle.std.specs.Prelude.{◌≡◌, ◌≢◌, ◌<◌, ◌≤◌, ◌+◌, None, IfOk, IfSome, MatchOption, replicate};
 ghost use Rattle.rmt_server.specs.declared.drives.view.View.{View};
-ghost use Rattle.rmt_server.specs.Holding.{newcomer, moved, last_step};
+ghost use Rattle.rmt_server.specs.Holding.{newcomer, moved, last_step, HoldsJust};
 ghost use Rattle.rmt_server.specs.Local.{holders, IsSeatOf};
 
 use crate::drives::{Holds, LastStep, StepKind, Taken, View};
@@ -64,6 +64,7 @@ impl LocalHolds {
     pub fn seat(&mut self) -> Option<LocalSeat>
         ensures next { MatchOption result ((self.old.last ≡ u64.MAX) × (self.new ≡ self.old)) (λ seat. (self.old.last < u64.MAX) × (self.new ≡ holders self.old.numbers (self.old.last + 1)) × (seat ≡ newcomer (self.old.last + 1))) }
         ensures own { IfSome result (λ seat. IsSeatOf self.new seat) }
+        ensures idle { IfSome result (λ seat. HoldsJust seat None) }
         ensures others { (v : View) → IsSeatOf self.old v → IsSeatOf self.new v }
     {
         if self.last == u64::MAX {

@@ -9,7 +9,7 @@ use crate::access::Access;
 use crate::refusal::Refusal;
 use crate::session::Opened;
 use rmt_wire::DATA_LIMIT;
-use tape::{MTNOP, MTREW, MTWEOF, Reel, TapeFault};
+use tape::{MTBSF, MTBSR, MTFSF, MTFSR, MTNOP, MTREW, MTWEOF, Reel, TapeFault};
 
 /// Writes one record. It answers how many bytes were written: none where there is no room.
 pub(crate) fn write<R: Reel>(opened: &mut Option<Opened<R>>, bytes: &[u8]) -> Result<u32, Refusal>
@@ -121,7 +121,7 @@ fn check_op(access: Access, op: u32) -> Result<(), Refusal>
     match op {
         MTWEOF if access.writes() => Ok(()),
         MTWEOF => Err(Refusal::Permission),
-        MTREW | MTNOP => Ok(()),
+        MTFSF | MTBSF | MTFSR | MTBSR | MTREW | MTNOP => Ok(()),
         _ => Err(Refusal::Invalid),
     }
 }

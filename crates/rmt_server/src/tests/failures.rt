@@ -60,7 +60,7 @@ fn a_failing_reader_ends_the_session(rt: HostRuntime) -> Result<(), Fail> {
             rest: &READ_BACK_BYTES[..len],
         };
         let mut output = Vec::new(rt.alloc());
-        let ended = serve_once(rt.alloc(), input, &mut output)?;
+        let ended = serve_once(rt.alloc(), input, &mut output, CAPACITY)?;
         assert_eq!(rt; ended.ending, Err(ServeFault::Input), "after {len}");
         assert_eq!(rt; (ended.failed_reads, ended.failed_writes), (1, 0));
         assert_eq!(rt; ended.holder, Some(0));
@@ -83,7 +83,7 @@ fn a_failing_writer_ends_the_session(rt: HostRuntime) -> Result<(), Fail> {
                 most: usize::MAX,
                 fails,
             };
-            let ended = serve_once(rt.alloc(), Pieces::whole(READ_BACK_BYTES), output)?;
+            let ended = serve_once(rt.alloc(), Pieces::whole(READ_BACK_BYTES), output, CAPACITY)?;
             assert_eq!(rt; ended.ending, Err(ServeFault::Output), "at {room}");
             assert_eq!(rt; (ended.failed_reads, ended.failed_writes), (0, 1));
             assert_eq!(rt; ended.holder, Some(0));
@@ -120,7 +120,7 @@ fn a_writer_may_take_a_byte_a_call(rt: HostRuntime) -> Result<(), Fail> {
         most: 1,
         fails: true,
     };
-    let ended = serve_once(rt.alloc(), Pieces::whole(READ_BACK_BYTES), output)?;
+    let ended = serve_once(rt.alloc(), Pieces::whole(READ_BACK_BYTES), output, CAPACITY)?;
     assert_eq!(rt; ended.ending, Ok(Served::End));
     assert_eq!(rt; taken.as_slice(), READ_BACK_ANSWERS);
     Ok(())

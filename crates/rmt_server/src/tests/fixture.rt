@@ -5,9 +5,8 @@ ghost use Rattle.rmt_server.specs.Carrying.{IsAt};
 ghost use Rattle.rmt_server.specs.contracts.drives.local.LocalHoldsHolds.TheImpl.{ghosts as of_holds};
 ghost use Rattle.rmt_server.specs.contracts.drives.list.ListStacksStacks.TheImpl.{ghosts as of_stacks};
 
-use super::CAPACITY;
 use crate::{
-    DriveTable, Holds, ListStacks, LocalHolds, ServeFault, Served, Session, run_stdio, serve,
+    DriveTable, Holds, ListStacks, LocalHolds, ServeFault, Served, Session, serve,
 };
 use rmt_wire::{Counted, RequestReader};
 use std::alloc::Global;
@@ -51,11 +50,12 @@ pub(crate) fn serve_once<R: Read + Drop, W: Write + Drop>(
     alloc: Global,
     input: R,
     output: W,
+    capacity: u64,
 ) -> Result<Ended, Fail> {
     let mut input = Counted::new(input);
     let mut output = Counted::new(output);
     let mut wire = RequestReader::new(alloc)?;
-    let (mut drives, mut session) = begin(alloc, CAPACITY)?;
+    let (mut drives, mut session) = begin(alloc, capacity)?;
     let ending = serve(
         &mut input,
         &mut output,
@@ -80,14 +80,21 @@ pub(crate) fn first_holder(holds: &mut LocalHolds) -> Option<u64>
     Some(holds.holder(&mut seat, 0))
 }
 
-/// The status that one stream ends with.
+/// How one stream ended, as a number: 0 between two requests, 2 inside one, 3 at bytes that are no request, and 1
+/// where a stream failed or memory was refused.
 pub(crate) fn status_of<R: Read + Drop, W: Write + Drop>(
     alloc: Global,
     input: R,
     output: W,
     capacity: u64,
 ) -> u8 {
-    let mut input = Counted::new(input);
-    let mut output = Counted::new(output);
-    run_stdio(alloc, &mut input, &mut output, capacity)
+    let Ok(ended) = serve_once(alloc, input, output, capacity) else {
+        return 1;
+    };
+    match ended.ending {
+        Ok(Served::End) => 0,
+        Ok(Served::Truncated) => 2,
+        Ok(Served::Broken(_)) => 3,
+        Err(_) => 1,
+    }
 }

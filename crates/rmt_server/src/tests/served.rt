@@ -28,7 +28,7 @@ fn check_ending(
     record: &[u8],
 ) -> Result<(), Fail> {
     let mut output = Vec::new(alloc);
-    let mut ended = serve_once(alloc, Pieces::whole(bytes), &mut output)?;
+    let mut ended = serve_once(alloc, Pieces::whole(bytes), &mut output, CAPACITY)?;
     assert_eq!(rt; ended.ending, Ok(ending));
     assert_eq!(rt; ended.holder, Some(0));
     let mut into = [0; 8];
@@ -68,7 +68,7 @@ fn each_ending_closes_what_is_open(rt: HostRuntime) -> Result<(), Fail> {
 #[test]
 fn a_stream_is_served(rt: HostRuntime) -> Result<(), Fail> {
     let mut output = Vec::new(rt.alloc());
-    let mut ended = serve_once(rt.alloc(), READ_BACK_BYTES, &mut output)?;
+    let mut ended = serve_once(rt.alloc(), READ_BACK_BYTES, &mut output, CAPACITY)?;
     assert_eq!(rt; ended.ending, Ok(Served::End));
     assert_eq!(rt; (ended.failed_reads, ended.failed_writes), (0, 0));
     let mut into = [0; 8];

@@ -1,9 +1,7 @@
 //! Serving one stream with one drive in memory, as `rmtd --stdio` does.
-ghost use Rattle.rmt_server.specs.Stdio.{IsServedAlone, IsStdio};
+ghost use Rattle.rmt_tools.specs.Stdio.{IsServedAlone, IsStdio};
 
-use crate::drives::{DriveTable, ListStacks, LocalHolds};
-use crate::session::Session;
-use crate::stream::{Served, serve};
+use rmt_server::{DriveTable, ListStacks, LocalHolds, Served, Session, serve};
 use rmt_wire::{Counted, RequestReader};
 use std::alloc::Global;
 use std::io::{Read, Write};

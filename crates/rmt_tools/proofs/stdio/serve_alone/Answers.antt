@@ -1,15 +1,11 @@
 use Rattle.std.proofs.Common.{rules, false, None, refl, sym, ap, subst, ◌∙◌, ◌+◌, inr}
-use Rattle.rmt_server.proofs.Seats.{HoldsJust-newcomer}
-use Rattle.rmt_server.specs.Carrying.{HoldsJust, IsSeenAs}
+use Rattle.rmt_server.specs.Carrying.{IsSeenAs}
 use Rattle.rmt_server.specs.Session.PlainSession.{Idle}
 use Rattle.tape.specs.contracts.list.ListReelReel.TheImpl as ListReelPromise
-use Rattle.rmt_server.specs.Stdio.{blank_scene, IsServedAlone}
-use Rattle.rmt_server.proofs.Endings.{served_none, none_fails, none_holds, kept_ok, ends_with}
+use Rattle.rmt_tools.specs.Stdio.{blank_scene, IsServedAlone}
+use Rattle.rmt_tools.proofs.Endings.{served_none, none_fails, none_holds, kept_ok, ends_with}
 use Rattle.rmt_server.specs.Local.{Holders}
-use Rattle.rmt_server.proofs.stdio.serve_alone.Goals as goal
-
-pub new-requires-3 : goal.new-requires-3
-new-requires-3 g c = subst (λ v. HoldsJust v None) (sym c.in_ok-seat.ensures.next.2) (HoldsJust-newcomer (c.in_ok-holds.holds.last + 1))
+use Rattle.rmt_tools.proofs.stdio.serve_alone.Goals as goal
 
 pub serve-requires-clause-at : goal.serve-requires-clause-at
 serve-requires-clause-at g c = c.in-Ok.ensures.at _ _ c.in_ok-seat.ensures.own (search rules)

@@ -10,7 +10,7 @@ use Rattle.rmt_server.specs.contracts.drives.list.ListStacksStacks.TheImpl as Li
 use Rattle.rmt_server.specs.Carrying.{MayFail, IsAlone}
 use Rattle.rmt_server.specs.Session.{none}
 use Rattle.rmt_server.specs.Serving.{Exchange, EndsAs}
-use Rattle.rmt_server.specs.Stdio.{blank_scene, EndsWith, IsServedAlone}
+use Rattle.rmt_tools.specs.Stdio.{blank_scene, EndsWith, IsServedAlone}
 use Rattle.rmt_server.specs.declared.stream.Served.{Served}
 use Rattle.rmt_server.specs.declared.stream.ServeFault.{ServeFault}
 use Rattle.rmt_server.specs.declared.stream.ServeFault.TheVariants.{Input, Output}

@@ -1,0 +1,78 @@
+//! Conversations with the drive in memory, and the status that each ends with.
+
+use crate::run_stdio;
+use rmt_wire::Counted;
+use std::alloc::Global;
+use std::process::Abort;
+
+/// A capacity in bytes that no row fills.
+const CAPACITY: u64 = 1048576;
+
+/// What is answered to these bytes, and with which status, by a reel of this capacity.
+fn check(rt: &impl Abort, alloc: Global, capacity: u64, bytes: &[u8], want: &[u8], status: u8) {
+    let mut taken = Vec::new(alloc);
+    let mut input = Counted::new(bytes);
+    let mut output = Counted::new(&mut taken);
+    assert_eq!(rt; run_stdio(alloc, &mut input, &mut output, capacity), status);
+    assert_eq!(rt; taken.as_slice(), want);
+}
+
+#[test]
+fn a_record_is_read_back(rt: HostRuntime) {
+    let bytes = b"O/dev/st0\n2\nW5\nhelloI0\n1\nI5\n1\nR10\nR10\nC\n".as_slice();
+    let want = b"A0\nA5\nA1\nA1\nA5\nhelloA0\nA0\n".as_slice();
+    check(&rt, rt.alloc(), CAPACITY, bytes, want, 0);
+}
+
+/// Conversations, each with its answers and the status.
+const ROWS: [(&[u8], &[u8], u8); 12] = [
+    (b"", b"", 0),
+    (b"W3\nabc", b"E9\nBad file descriptor\n", 0),
+    (b"O/dev/st0\n2\nW5\nhel", b"A0\n", 2),
+    (
+        b"O/dev/st0\n0\nW1\nxI0\n1\n",
+        b"A0\nE9\nBad file descriptor\nE13\nPermission denied\n",
+        0,
+    ),
+    (b"O/dev/st0\n2 O_RDWR\n", b"A0\n", 0),
+    (
+        b"O/dev/st0\n513\nR1\n",
+        b"A0\nE9\nBad file descriptor\n",
+        0,
+    ),
+    (b"O/dev/st9\n2\n", b"E2\nNo such file or directory\n", 0),
+    (b"O/dev/st0\n2\nS\n", b"A0\n", 3),
+    (b"W99999999999\n", b"", 3),
+    (
+        b"O/dev/st0\n2\nI3\n1\nI8\n1\n",
+        b"A0\nE5\nInput/output error\nE22\nInvalid argument\n",
+        0,
+    ),
+    (
+        b"O/dev/st0\n2\nW1\naI0\n1\nW1\nbI0\n1\nI2\n2\nR9\nI4\n1\nI1\n1\nR1\nC\n",
+        b"A0\nA1\nA1\nA1\nA1\nA2\nA0\nE5\nInput/output error\nA1\nA1\nbA0\n",
+        0,
+    ),
+    (
+        b"O/dev/st0\n2\nW3\nabcW2\ndeI5\n1\nW1\nxR5\nC\n",
+        b"A0\nA3\nA2\nA1\nA1\nA0\nA0\n",
+        0,
+    ),
+];
+
+#[test]
+fn each_conversation_is_answered(rt: HostRuntime) {
+    for (bytes, want, status) in ROWS {
+        check(&rt, rt.alloc(), CAPACITY, bytes, want, status);
+    }
+}
+
+#[test]
+fn the_reel_runs_out(rt: HostRuntime) {
+    let bytes = b"O/dev/st0\n2\nW4\nabcdW1\nxI0\n1\nI0\n1\nC\n".as_slice();
+    let want = b"A0\nA4\nA0\nA1\nE28\nNo space left on device\nA0\n".as_slice();
+    check(&rt, rt.alloc(), 16, bytes, want, 0);
+    let bytes = b"O/dev/st0\n2\nW4\nabcdI0\n3\nI0\n1\n".as_slice();
+    let want = b"A0\nA0\nA3\nE28\nNo space left on device\n".as_slice();
+    check(&rt, rt.alloc(), 15, bytes, want, 0);
+}
