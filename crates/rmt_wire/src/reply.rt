@@ -5,7 +5,11 @@
 pub enum Reply<'a> {
     /// It was done. Syntax: `A` number LF.
     Done { number: u32 },
-    /// What a read gave, up to `DATA_LIMIT` bytes from a session. Syntax: `A` number LF, then that many bytes.
+    /// The bytes that a read gave; none at a mark or at the end of a reel.
+    ///
+    /// Syntax: `A` count LF, then that many bytes, with no LF after them. A record has up to `DATA_LIMIT` bytes, but
+    /// all up to `NUMBER_LIMIT` have a spelling. A client waits for as many as its read asked for; a reply with more
+    /// is none to it.
     Data { bytes: &'a [u8] },
     /// It was refused, with the number and the text of an error. The text has up to `LINE_LIMIT` bytes, and no LF.
     /// Syntax: `E` number LF text LF.

@@ -28,7 +28,8 @@ pub enum Request<'a> {
     Read { count: u32 },
     /// Does an operation of mtio with this count.
     ///
-    /// Syntax: `I` operation LF count LF. The operations are MTWEOF 0, MTFSF 1, MTBSF 2, MTFSR 3, MTBSR 4, MTREW 5,
-    /// MTOFFL 6 and MTNOP 7. A number above 7 is refused with E22.
+    /// Syntax: `I` operation LF count LF. Both are the numbers as they were read, whatever they are up to
+    /// `NUMBER_LIMIT`. mtio has MTWEOF 0, MTFSF 1, MTBSF 2, MTFSR 3, MTBSR 4, MTREW 5, MTOFFL 6 and MTNOP 7. Which
+    /// numbers have an effect, and how the others are answered, is the server's to say.
     Op { op: u32, count: u32 },
 }

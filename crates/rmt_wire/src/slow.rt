@@ -1,6 +1,8 @@
 //! A stream split into requests by the grammar alone, to compare the reader with: a text is looked at only as a
 //! whole, and each beginning of the stream is tried in turn. The numbers are those of the protocol, written anew.
 
+pub(crate) mod reply;
+
 use crate::{Request, WireFault};
 use std::alloc::{AllocError, Global};
 
@@ -170,15 +172,21 @@ fn number(text: &[u8]) -> Option<u32> {
     if text.is_empty() || text.len() > 10 || !text.iter().all(|b| b.is_ascii_digit()) {
         return None;
     }
-    let mut value = 0u64;
-    for digit in text {
-        let unit = u64::from(digit.wrapping_sub(b'0'));
-        value = value.wrapping_mul(10).wrapping_add(unit);
-    }
+    let value = value(text);
     if value > 2147483647 {
         return None;
     }
     u32::try_from(value).ok()
+}
+
+/// What these digits write. They are so few that a u64 holds it.
+fn value(digits: &[u8]) -> u64 {
+    let mut value = 0u64;
+    for digit in digits {
+        let unit = u64::from(digit.wrapping_sub(b'0'));
+        value = value.wrapping_mul(10).wrapping_add(unit);
+    }
+    value
 }
 
 /// Whether some bytes can follow that make a request.

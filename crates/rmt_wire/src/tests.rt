@@ -1,5 +1,9 @@
 mod fed;
 mod first_bytes;
 mod limits;
+mod replied;
+mod replies;
+mod reply_faults;
 mod streams;
 mod words;
+mod written;
