@@ -2,9 +2,10 @@
 
 use super::pieces::{Pieces, check};
 use super::script::{READ_BACK_ANSWERS, READ_BACK_BYTES};
+use std::test::Fail;
 
 #[test]
-fn ample_memory(rt: HostRuntime) {
+fn ample_memory(rt: HostRuntime) -> Result<(), Fail> {
     check(
         &rt,
         rt.alloc(),
@@ -12,5 +13,6 @@ fn ample_memory(rt: HostRuntime) {
         READ_BACK_ANSWERS,
         0,
         "ample memory",
-    );
+    )?;
+    Ok(())
 }

@@ -5,13 +5,13 @@ use super::script::{READ_BACK_ANSWERS, READ_BACK_BYTES, answered_of};
 use std::test::Fail;
 
 #[test]
-fn a_beginning_is_answered_up_to_its_last_whole_request(rt: HostRuntime) {
+fn a_beginning_is_answered_up_to_its_last_whole_request(rt: HostRuntime) -> Result<(), Fail> {
     for len in 0..READ_BACK_BYTES.len() {
         let (answered, is_whole) = answered_of(len);
         let status = if is_whole { 0 } else { 2 };
         let want = &READ_BACK_ANSWERS[..answered.min(READ_BACK_ANSWERS.len())];
         let part = &READ_BACK_BYTES[..len];
-        check(&rt, rt.alloc(), Pieces::whole(part), want, status, "whole");
+        check(&rt, rt.alloc(), Pieces::whole(part), want, status, "whole")?;
         check(
             &rt,
             rt.alloc(),
@@ -19,8 +19,9 @@ fn a_beginning_is_answered_up_to_its_last_whole_request(rt: HostRuntime) {
             want,
             status,
             "one a piece",
-        );
+        )?;
     }
+    Ok(())
 }
 
 #[test]

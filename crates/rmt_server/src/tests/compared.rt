@@ -62,7 +62,7 @@ fn a_stream_by_chance_is_answered_as_the_plain_server_does(rt: HostRuntime) -> R
         for most in [usize::MAX, 7, 65549] {
             let mut output = Vec::new(alloc);
             let input = Pieces::each(requests.as_slice(), most);
-            assert_eq!(rt; status_of(alloc, input, &mut output, *capacity), 0);
+            assert_eq!(rt; status_of(alloc, input, &mut output, *capacity)?, 0);
             assert!(rt;
                 output.as_slice() == answers.as_slice(),
                 "{capacity} {most}"
@@ -187,6 +187,39 @@ fn the_plain_server_refuses_as_was_written_by_hand(rt: HostRuntime) -> Result<()
     assert_eq!(rt;
         answers.as_slice(),
         b"E22\nInvalid argument\nA0\nE9\nBad file descriptor\nE2\nNo such file or directory\n".as_slice()
+    );
+    Ok(())
+}
+
+#[test]
+fn the_plain_server_spaces_as_was_written_by_hand(rt: HostRuntime) -> Result<(), Fail> {
+    let nothing_ahead = [
+        OPEN,
+        Request::Op { op: 3, count: 1 },
+        Request::Op { op: 8, count: 1 },
+    ];
+    let answers = slow_answers(rt.alloc(), &nothing_ahead)?;
+    assert_eq!(rt;
+        answers.as_slice(),
+        b"A0\nE5\nInput/output error\nE22\nInvalid argument\n".as_slice()
+    );
+    let both_ways = [
+        OPEN,
+        Request::Write { bytes: b"a" },
+        Request::Op { op: 0, count: 1 },
+        Request::Write { bytes: b"b" },
+        Request::Op { op: 0, count: 1 },
+        Request::Op { op: 2, count: 2 },
+        Request::Read { count: 9 },
+        Request::Op { op: 4, count: 1 },
+        Request::Op { op: 1, count: 1 },
+        Request::Read { count: 1 },
+        Request::Close,
+    ];
+    let answers = slow_answers(rt.alloc(), &both_ways)?;
+    assert_eq!(rt;
+        answers.as_slice(),
+        b"A0\nA1\nA1\nA1\nA1\nA2\nA0\nE5\nInput/output error\nA1\nA1\nbA0\n".as_slice()
     );
     Ok(())
 }

@@ -49,8 +49,10 @@ const LENGTHS: [usize; 10] = [0, 1, 1, 2, 3, 5, 30, 65535, 65536, 65537];
 /// Counts of reads.
 const COUNTS: [u32; 8] = [0, 1, 2, 10, 65535, 65536, 65537, 2147483647];
 
-/// The operations that there are now, each number up to 8, and the greatest.
-const OPERATIONS: [u32; 14] = [0, 0, 5, 5, 5, 0, 1, 2, 3, 4, 6, 7, 8, 2147483647];
+/// The operations that there are, each number up to 8, and the greatest.
+const OPERATIONS: [u32; 18] = [
+    0, 0, 5, 5, 5, 0, 1, 2, 3, 4, 1, 2, 3, 4, 6, 7, 8, 2147483647,
+];
 
 /// Counts of operations.
 const TIMES: [u32; 6] = [0, 1, 1, 2, 5, 2147483647];
@@ -68,7 +70,7 @@ pub(crate) fn next_request<'a>(dice: &mut Dice, filler: &'a [u8]) -> Request<'a>
             count: COUNTS[dice.pick(8)],
         },
         _ => Request::Op {
-            op: OPERATIONS[dice.pick(14)],
+            op: OPERATIONS[dice.pick(18)],
             count: TIMES[dice.pick(6)],
         },
     }

@@ -66,7 +66,7 @@ fn a_failing_reader_ends_the_session(rt: HostRuntime) -> Result<(), Fail> {
         assert_eq!(rt; ended.holder, Some(0));
         assert_eq!(rt; output.as_slice(), want, "after {len}");
         let mut again = Vec::new(rt.alloc());
-        assert_eq!(rt; status_of(rt.alloc(), input, &mut again, CAPACITY), 1);
+        assert_eq!(rt; status_of(rt.alloc(), input, &mut again, CAPACITY)?, 1);
         assert_eq!(rt; again.as_slice(), want, "after {len}");
     }
     Ok(())
@@ -94,7 +94,7 @@ fn a_failing_writer_ends_the_session(rt: HostRuntime) -> Result<(), Fail> {
 }
 
 #[test]
-fn a_failing_writer_gives_the_status_of_a_failed_stream(rt: HostRuntime) {
+fn a_failing_writer_gives_the_status_of_a_failed_stream(rt: HostRuntime) -> Result<(), Fail> {
     for fails in [true, false] {
         for room in [0usize, 4, 25] {
             let mut taken = Vec::new(rt.alloc());
@@ -105,10 +105,11 @@ fn a_failing_writer_gives_the_status_of_a_failed_stream(rt: HostRuntime) {
                 fails,
             };
             let input = Pieces::whole(READ_BACK_BYTES);
-            assert_eq!(rt; status_of(rt.alloc(), input, output, CAPACITY), 1);
+            assert_eq!(rt; status_of(rt.alloc(), input, output, CAPACITY)?, 1);
             assert_eq!(rt; taken.as_slice(), &READ_BACK_ANSWERS[..room.min(26)]);
         }
     }
+    Ok(())
 }
 
 #[test]

@@ -5,9 +5,7 @@ ghost use Rattle.rmt_server.specs.Carrying.{IsAt};
 ghost use Rattle.rmt_server.specs.contracts.drives.local.LocalHoldsHolds.TheImpl.{ghosts as of_holds};
 ghost use Rattle.rmt_server.specs.contracts.drives.list.ListStacksStacks.TheImpl.{ghosts as of_stacks};
 
-use crate::{
-    DriveTable, Holds, ListStacks, LocalHolds, ServeFault, Served, Session, serve,
-};
+use crate::{DriveTable, Holds, ListStacks, LocalHolds, ServeFault, Served, Session, serve};
 use rmt_wire::{Counted, RequestReader};
 use std::alloc::Global;
 use std::io::{Read, Write};
@@ -81,20 +79,17 @@ pub(crate) fn first_holder(holds: &mut LocalHolds) -> Option<u64>
 }
 
 /// How one stream ended, as a number: 0 between two requests, 2 inside one, 3 at bytes that are no request, and 1
-/// where a stream failed or memory was refused.
+/// where a stream failed.
 pub(crate) fn status_of<R: Read + Drop, W: Write + Drop>(
     alloc: Global,
     input: R,
     output: W,
     capacity: u64,
-) -> u8 {
-    let Ok(ended) = serve_once(alloc, input, output, capacity) else {
-        return 1;
-    };
-    match ended.ending {
-        Ok(Served::End) => 0,
-        Ok(Served::Truncated) => 2,
-        Ok(Served::Broken(_)) => 3,
-        Err(_) => 1,
+) -> Result<u8, Fail> {
+    match serve_once(alloc, input, output, capacity)?.ending {
+        Ok(Served::End) => Ok(0),
+        Ok(Served::Truncated) => Ok(2),
+        Ok(Served::Broken(_)) => Ok(3),
+        Err(_) => Ok(1),
     }
 }

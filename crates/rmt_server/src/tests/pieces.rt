@@ -62,19 +62,26 @@ pub(crate) fn check(
     want: &[u8],
     status: u8,
     name: &str,
-) {
+) -> Result<(), Fail> {
     let mut output = Vec::new(alloc);
     assert_eq!(rt;
-        status_of(alloc, input, &mut output, CAPACITY),
+        status_of(alloc, input, &mut output, CAPACITY)?,
         status,
         "{name}"
     );
     assert_eq!(rt; output.as_slice(), want, "{name}");
+    Ok(())
 }
 
 /// The same in one piece, a byte a piece, and cut in two at every place.
-pub(crate) fn check_cuts(rt: &impl Abort, alloc: Global, bytes: &[u8], want: &[u8], status: u8) {
-    check(rt, alloc, Pieces::whole(bytes), want, status, "whole");
+pub(crate) fn check_cuts(
+    rt: &impl Abort,
+    alloc: Global,
+    bytes: &[u8],
+    want: &[u8],
+    status: u8,
+) -> Result<(), Fail> {
+    check(rt, alloc, Pieces::whole(bytes), want, status, "whole")?;
     check(
         rt,
         alloc,
@@ -82,8 +89,9 @@ pub(crate) fn check_cuts(rt: &impl Abort, alloc: Global, bytes: &[u8], want: &[u
         want,
         status,
         "one a piece",
-    );
+    )?;
     for at in 0..bytes.len() {
-        check(rt, alloc, Pieces::cut(bytes, at), want, status, "cut");
+        check(rt, alloc, Pieces::cut(bytes, at), want, status, "cut")?;
     }
+    Ok(())
 }

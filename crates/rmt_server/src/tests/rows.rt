@@ -6,83 +6,92 @@ use std::process::Abort;
 use std::test::Fail;
 
 #[test]
-fn a_record_is_read_back(rt: HostRuntime) {
+fn a_record_is_read_back(rt: HostRuntime) -> Result<(), Fail> {
     check_cuts(
         &rt,
         rt.alloc(),
         b"O/dev/st0\n2\nW5\nhelloI0\n1\nI5\n1\nR10\nR10\nC\n",
         b"A0\nA5\nA1\nA1\nA5\nhelloA0\nA0\n",
         0,
-    );
+    )?;
+    Ok(())
 }
 
 #[test]
-fn nothing_is_answered_with_nothing(rt: HostRuntime) {
-    check_cuts(&rt, rt.alloc(), b"", b"", 0);
+fn nothing_is_answered_with_nothing(rt: HostRuntime) -> Result<(), Fail> {
+    check_cuts(&rt, rt.alloc(), b"", b"", 0)?;
+    Ok(())
 }
 
 #[test]
-fn a_write_with_nothing_open(rt: HostRuntime) {
-    check_cuts(&rt, rt.alloc(), b"W3\nabc", b"E9\nBad file descriptor\n", 0);
+fn a_write_with_nothing_open(rt: HostRuntime) -> Result<(), Fail> {
+    check_cuts(&rt, rt.alloc(), b"W3\nabc", b"E9\nBad file descriptor\n", 0)?;
+    Ok(())
 }
 
 #[test]
-fn a_part_of_a_write_is_not_answered(rt: HostRuntime) {
-    check_cuts(&rt, rt.alloc(), b"O/dev/st0\n2\nW5\nhel", b"A0\n", 2);
+fn a_part_of_a_write_is_not_answered(rt: HostRuntime) -> Result<(), Fail> {
+    check_cuts(&rt, rt.alloc(), b"O/dev/st0\n2\nW5\nhel", b"A0\n", 2)?;
+    Ok(())
 }
 
 #[test]
-fn nothing_is_written_to_a_reel_opened_for_reads(rt: HostRuntime) {
+fn nothing_is_written_to_a_reel_opened_for_reads(rt: HostRuntime) -> Result<(), Fail> {
     check_cuts(
         &rt,
         rt.alloc(),
         b"O/dev/st0\n0\nW1\nxI0\n1\n",
         b"A0\nE9\nBad file descriptor\nE13\nPermission denied\n",
         0,
-    );
+    )?;
+    Ok(())
 }
 
 #[test]
-fn the_number_of_a_mode_is_the_access(rt: HostRuntime) {
+fn the_number_of_a_mode_is_the_access(rt: HostRuntime) -> Result<(), Fail> {
     let alloc = rt.alloc();
-    check_cuts(&rt, alloc, b"O/dev/st0\n2 O_RDWR\n", b"A0\n", 0);
-    check_cuts(&rt, alloc, b"O/dev/st0\n3\n", b"E22\nInvalid argument\n", 0);
+    check_cuts(&rt, alloc, b"O/dev/st0\n2 O_RDWR\n", b"A0\n", 0)?;
+    check_cuts(&rt, alloc, b"O/dev/st0\n3\n", b"E22\nInvalid argument\n", 0)?;
     check_cuts(
         &rt,
         alloc,
         b"O/dev/st0\n513\nR1\n",
         b"A0\nE9\nBad file descriptor\n",
         0,
-    );
+    )?;
     check_cuts(
         &rt,
         alloc,
         b"O/dev/st9\n2\n",
         b"E2\nNo such file or directory\n",
         0,
-    );
+    )?;
+    Ok(())
 }
 
 #[test]
-fn another_letter_ends_the_session(rt: HostRuntime) {
-    check_cuts(&rt, rt.alloc(), b"O/dev/st0\n2\nS\n", b"A0\n", 3);
+fn another_letter_ends_the_session(rt: HostRuntime) -> Result<(), Fail> {
+    check_cuts(&rt, rt.alloc(), b"O/dev/st0\n2\nS\n", b"A0\n", 3)?;
+    Ok(())
 }
 
 #[test]
-fn a_bad_number_ends_the_session(rt: HostRuntime) {
-    check_cuts(&rt, rt.alloc(), b"W99999999999\n", b"", 3);
-    check_cuts(&rt, rt.alloc(), b"W3x", b"", 3);
+fn a_bad_number_ends_the_session(rt: HostRuntime) -> Result<(), Fail> {
+    check_cuts(&rt, rt.alloc(), b"W99999999999\n", b"", 3)?;
+    check_cuts(&rt, rt.alloc(), b"W3x", b"", 3)?;
+    Ok(())
 }
 
 #[test]
-fn a_write_loses_the_old_tail(rt: HostRuntime) {
+fn a_write_loses_the_old_tail(rt: HostRuntime) -> Result<(), Fail> {
     check_cuts(
         &rt,
         rt.alloc(),
         b"O/dev/st0\n2\nW3\nabcW2\ndeI5\n1\nW1\nxR5\nC\n",
         b"A0\nA3\nA2\nA1\nA1\nA0\nA0\n",
         0,
-    );
+    )?;
+    Ok(())
 }
 
 /// The greatest record, one byte more, none, and an operation that does nothing.
@@ -119,7 +128,7 @@ fn the_greatest_record_and_one_byte_more(rt: HostRuntime) -> Result<(), Fail> {
         LARGEST_ANSWERS,
         0,
         "whole",
-    );
+    )?;
     check(
         &rt,
         alloc,
@@ -127,7 +136,7 @@ fn the_greatest_record_and_one_byte_more(rt: HostRuntime) -> Result<(), Fail> {
         LARGEST_ANSWERS,
         0,
         "one a piece",
-    );
+    )?;
     for (from, to) in LINE_PLACES {
         for at in from..to {
             check(
@@ -137,7 +146,7 @@ fn the_greatest_record_and_one_byte_more(rt: HostRuntime) -> Result<(), Fail> {
                 LARGEST_ANSWERS,
                 0,
                 "cut",
-            );
+            )?;
         }
     }
     Ok(())
@@ -171,7 +180,41 @@ fn counts_at_their_limits(rt: HostRuntime) -> Result<(), Fail> {
         b"",
     )?;
     let (bytes, want) = (bytes.as_slice(), want.as_slice());
-    check(&rt, alloc, Pieces::whole(bytes), want, 3, "whole");
-    check(&rt, alloc, Pieces::each(bytes, 1), want, 3, "one a piece");
+    check(&rt, alloc, Pieces::whole(bytes), want, 3, "whole")?;
+    check(&rt, alloc, Pieces::each(bytes, 1), want, 3, "one a piece")?;
     Ok(())
+}
+
+#[test]
+fn records_ahead_are_wanting(rt: HostRuntime) -> Result<(), Fail> {
+    check_cuts(
+        &rt,
+        rt.alloc(),
+        b"O/dev/st0\n2\nI3\n1\nI8\n1\n",
+        b"A0\nE5\nInput/output error\nE22\nInvalid argument\n",
+        0,
+    )
+}
+
+#[test]
+fn marks_are_spaced_over_both_ways(rt: HostRuntime) -> Result<(), Fail> {
+    check_cuts(
+        &rt,
+        rt.alloc(),
+        b"O/dev/st0\n2\nW1\naI0\n1\nW1\nbI0\n1\nI2\n2\nR9\nI4\n1\nI1\n1\nR1\nC\n",
+        b"A0\nA1\nA1\nA1\nA1\nA2\nA0\nE5\nInput/output error\nA1\nA1\nbA0\n",
+        0,
+    )
+}
+
+/// Records and marks, spaced over by every operation, past the ends and by no count.
+const SPACED: &[u8] =
+    b"O/dev/st0\n2\nW1\naW1\nbI0\n1\nI4\n1\nI4\n5\nI3\n2\nI3\n1\nI2\n1\nI2\n1\nI1\n2\nI2\n0\n";
+
+const SPACED_ANSWERS: &[u8] =
+    b"A0\nA1\nA1\nA1\nE5\nInput/output error\nE5\nInput/output error\nA2\nE5\nInput/output error\nA1\nE5\nInput/output error\nE5\nInput/output error\nA0\n";
+
+#[test]
+fn records_and_marks_are_spaced_over(rt: HostRuntime) -> Result<(), Fail> {
+    check_cuts(&rt, rt.alloc(), SPACED, SPACED_ANSWERS, 0)
 }

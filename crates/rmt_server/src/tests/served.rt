@@ -81,15 +81,16 @@ fn a_stream_is_served(rt: HostRuntime) -> Result<(), Fail> {
 }
 
 #[test]
-fn nothing_is_answered_past_bytes_that_are_no_request(rt: HostRuntime) {
+fn nothing_is_answered_past_bytes_that_are_no_request(rt: HostRuntime) -> Result<(), Fail> {
     let mut output = Vec::new(rt.alloc());
     let bytes = b"C\nXC\nC\n".as_slice();
-    assert_eq!(rt; status_of(rt.alloc(), bytes, &mut output, CAPACITY), 3);
+    assert_eq!(rt; status_of(rt.alloc(), bytes, &mut output, CAPACITY)?, 3);
     assert_eq!(rt; output.as_slice(), b"E9\nBad file descriptor\n".as_slice());
+    Ok(())
 }
 
 #[test]
-fn the_capacity_is_that_of_the_reel(rt: HostRuntime) {
+fn the_capacity_is_that_of_the_reel(rt: HostRuntime) -> Result<(), Fail> {
     let bytes = b"O/dev/st0\n2\nW4\nfourI0\n1\n".as_slice();
     for (capacity, want) in [
         (16, b"A0\nA4\nA1\n".as_slice()),
@@ -97,9 +98,10 @@ fn the_capacity_is_that_of_the_reel(rt: HostRuntime) {
         (3, b"A0\nA0\nE28\nNo space left on device\n".as_slice()),
     ] {
         let mut output = Vec::new(rt.alloc());
-        assert_eq!(rt; status_of(rt.alloc(), bytes, &mut output, capacity), 0);
+        assert_eq!(rt; status_of(rt.alloc(), bytes, &mut output, capacity)?, 0);
         assert_eq!(rt; output.as_slice(), want, "at {capacity}");
     }
+    Ok(())
 }
 
 #[test]

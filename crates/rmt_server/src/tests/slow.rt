@@ -121,6 +121,7 @@ impl SlowServer {
         match op {
             0 if access == 0 => Ok(Answer::Error(13)),
             0 => self.write_marks(access, place, count),
+            1..=4 => Ok(self.space(access, place, op, count)),
             5 => {
                 self.opened = Some((access, 0));
                 Ok(Answer::Number(count))
@@ -145,6 +146,42 @@ impl SlowServer {
         Ok(Answer::Number(count))
     }
 
+    /// Goes on (operations 1 and 3) or back (2 and 4), entry by entry, until as many marks (1 and 2) or records
+    /// (3 and 4) were passed. Of records it stops at a mark, which it passes.
+    fn space(&mut self, access: u32, place: usize, op: u32, count: u32) -> Answer {
+        let (mut at, mut left) = (place, count);
+        for _ in 0..self.entries.len() {
+            let Some((entry, then)) = self.neighbour(at, op % 2 == 1) else {
+                break;
+            };
+            if left == 0 {
+                break;
+            }
+            at = then;
+            if entry.is_none() == (op <= 2) {
+                left = left.saturating_sub(1);
+            } else if op > 2 {
+                break;
+            }
+        }
+        self.opened = Some((access, at));
+        if left == 0 {
+            Answer::Number(count)
+        } else {
+            Answer::Error(5)
+        }
+    }
+
+    /// The entry after the place, or the one before it, and the place on its other side.
+    fn neighbour(&self, at: usize, on: bool) -> Option<(&Option<Vec<u8>>, usize)> {
+        let (index, then) = if on {
+            (at, at.saturating_add(1))
+        } else {
+            (at.checked_sub(1)?, at.checked_sub(1)?)
+        };
+        Some((self.entries.get(index)?, then))
+    }
+
     /// Whether there is room for so many bytes after the entries before the place: 8 bytes and its own for a
     /// record, 4 for a mark.
     fn fits(&self, place: usize, size: u64) -> bool {
@@ -163,6 +200,7 @@ impl SlowServer {
 pub(crate) fn error_text(number: u32) -> &'static [u8] {
     match number {
         2 => b"No such file or directory",
+        5 => b"Input/output error",
         9 => b"Bad file descriptor",
         13 => b"Permission denied",
         22 => b"Invalid argument",

@@ -5,6 +5,7 @@ use super::fixture::status_of;
 use super::script::{READ_BACK, READ_BACK_ANSWERS, answered_of};
 use std::cell::Cell;
 use std::io::{self, ErrorKind, Read, Write};
+use std::test::Fail;
 
 /// It gives `READ_BACK`, at most `most` bytes a call and never bytes of two requests. It fails where the answers to
 /// the whole requests given so far, and no others, were not written yet, and from then on.
@@ -61,7 +62,7 @@ impl Write for Answers<'_> {
 }
 
 #[test]
-fn each_request_is_answered_before_the_next_is_read(rt: HostRuntime) {
+fn each_request_is_answered_before_the_next_is_read(rt: HostRuntime) -> Result<(), Fail> {
     for most in [usize::MAX, 1] {
         let answered = Cell::new(0usize);
         let mut taken = Vec::new(rt.alloc());
@@ -77,7 +78,8 @@ fn each_request_is_answered_before_the_next_is_read(rt: HostRuntime) {
             answered: &answered,
             taken: &mut taken,
         };
-        assert_eq!(rt; status_of(rt.alloc(), input, output, CAPACITY), 0);
+        assert_eq!(rt; status_of(rt.alloc(), input, output, CAPACITY)?, 0);
         assert_eq!(rt; taken.as_slice(), READ_BACK_ANSWERS);
     }
+    Ok(())
 }
