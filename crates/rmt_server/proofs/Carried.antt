@@ -1,5 +1,5 @@
 -- Each request that is carried out is a serve step where stacks and reel tell, and leaves the drives those of the session.
-use Rattle.std.proofs.Common.{◌≡◌, ℕ, ◌<◌, false, List, Option, Some, None, MatchOption, refl, ap, subst, ◌∙◌, arith}
+use Rattle.std.proofs.Common.{◌≡◌, ℕ, ◌<◌, false, List, Option, Some, None, MatchOption, refl, ap, subst, ◌∙◌, inl, inr, arith}
 use Rattle.rmt_wire.specs.Request.{PlainRequest}
 use Rattle.rmt_wire.specs.Request.PlainRequest.{Open, Close, Write, WriteDropped, Read, Op}
 use Rattle.rmt_wire.specs.Reply.{PlainReply}
@@ -15,10 +15,10 @@ use Rattle.rmt_server.specs.Access.{access_of}
 use Rattle.rmt_server.specs.Opening.{drive_asked, found_in_open}
 use Rattle.rmt_server.specs.Session.{Scene, scene, status_of, refusal, closed, session_after}
 use Rattle.rmt_server.specs.Refusals.{refused}
-use Rattle.rmt_server.specs.Carrying.{drive_of, online_drive, view_after_close, IsAt, Tells, KeepsDrives, IsClosed, OpensFor, Closes, CarriesOut, CallsIn, CallsReel, ReelServes, status_at, status_in, reel_of, IsServed, IsCarriedOut, TakesFor, SeatSteps}
+use Rattle.rmt_server.specs.Carrying.{drive_of, online_drive, view_after_close, IsAt, Tells, KeepsDrives, IsClosed, OpensFor, Closes, CarriesOut, CallsIn, CallsReel, ReelServes, status_at, status_in, reel_of, ReelCanFail, CanFail, IsServed, IsCarriedOut, TakesFor, SeatSteps}
 use Rattle.rmt_server.proofs.Takes.{open-takes, invalid-takes}
 use Rattle.rmt_server.proofs.Steps.{ReelServed, reel-serves, status-seen}
-use Rattle.rmt_server.proofs.Opens.{is_device, is_device-means, HasRisen-earlier, asked-last, busy-asked, is-excused, open-seen}
+use Rattle.rmt_server.proofs.Opens.{is_device, is_device-means, is_device-is, HasRisen-earlier, asked-last, busy-asked, is-excused, open-seen}
 
 module _ {H S Seat R : Type 0} (h : HoldsPromise H Seat) (s : StacksPromise S R) (r : ReelPromise R)
     (old : DriveTable H S Seat R) (seat : Seat) (opened : Option (Opened R)) where
@@ -34,6 +34,7 @@ module _ {H S Seat R : Type 0} (h : HoldsPromise H Seat) (s : StacksPromise S R)
     tells = record { shop = rw n (c.step before tells); session = rw o refl };
     troubled = false;
     trouble = λ t. absurd cc;
+    able = λ t. absurd cc;
     asked = None;
     found = 0;
     seat = λ d x. absurd cc;
@@ -49,6 +50,7 @@ module _ {H S Seat R : Type 0} (h : HoldsPromise H Seat) (s : StacksPromise S R)
         tells = record { shop = st.1; session = rw o.opens seen.seen };
         troubled = is_device result;
         trouble = λ t. HasRisen-earlier _ _ _ c.kept.counted (is_device-means result _ _ o.fault t);
+        able = λ t. c.quiet (inl (o.able (is_device-is result t)));
         asked = drive_asked result (h.shows seat');
         found = found_in_open result;
         seat = asked-last result (h.shows seat');
@@ -70,6 +72,7 @@ module _ {H S Seat R : Type 0} (h : HoldsPromise H Seat) (s : StacksPromise S R)
     tells = record { shop = rw n tells.shop; session = rw o tells.session };
     troubled = false;
     trouble = λ t. absurd cc;
+    able = λ t. absurd cc;
     asked = None;
     found = 0;
     seat = λ d x. absurd cc;
@@ -86,6 +89,7 @@ module _ {H S Seat R : Type 0} (h : HoldsPromise H Seat) (s : StacksPromise S R)
     tells = record { shop = c.step before tells; session = rw o refl };
     troubled = false;
     trouble = λ t. absurd cc;
+    able = λ t. absurd cc;
     asked = None;
     found = 0;
     seat = λ d x. absurd cc;
@@ -116,16 +120,16 @@ module _ {H S Seat R : Type 0} (h : HoldsPromise H Seat) (s : StacksPromise S R)
   serves-step (Some device) Close reply new seat' opened' c before tells = closes-some h s r old seat None device reply new seat' opened' before c tells
   serves-step opened (Write bytes) reply new seat' opened' (n, same, serves) before tells =
       let p = reel-parts h s r old seat opened (Write bytes) reply new opened' before n serves tells in
-      record { after = scene before.shop p.after; tells = scene-tells h s r old seat opened new opened' before (Write bytes) reply _ n tells p; troubled = p.troubled; trouble = p.trouble; asked = None; found = 0; seat = λ d x. absurd cc; told = λ d n x. absurd cc; taken = λ x. absurd (omega arith); step = p.step }
+      record { after = scene before.shop p.after; tells = scene-tells h s r old seat opened new opened' before (Write bytes) reply _ n tells p; troubled = p.troubled; trouble = p.trouble; able = λ t. inr (p.able t); asked = None; found = 0; seat = λ d x. absurd cc; told = λ d n x. absurd cc; taken = λ x. absurd (omega arith); step = p.step }
   serves-step opened (WriteDropped count) reply new seat' opened' (n, same, serves) before tells =
       let p = reel-parts h s r old seat opened (WriteDropped count) reply new opened' before n serves tells in
-      record { after = scene before.shop p.after; tells = scene-tells h s r old seat opened new opened' before (WriteDropped count) reply _ n tells p; troubled = p.troubled; trouble = p.trouble; asked = None; found = 0; seat = λ d x. absurd cc; told = λ d n x. absurd cc; taken = λ x. absurd (omega arith); step = p.step }
+      record { after = scene before.shop p.after; tells = scene-tells h s r old seat opened new opened' before (WriteDropped count) reply _ n tells p; troubled = p.troubled; trouble = p.trouble; able = λ t. inr (p.able t); asked = None; found = 0; seat = λ d x. absurd cc; told = λ d n x. absurd cc; taken = λ x. absurd (omega arith); step = p.step }
   serves-step opened (Read count) reply new seat' opened' (n, same, serves) before tells =
       let p = reel-parts h s r old seat opened (Read count) reply new opened' before n serves tells in
-      record { after = scene before.shop p.after; tells = scene-tells h s r old seat opened new opened' before (Read count) reply _ n tells p; troubled = p.troubled; trouble = p.trouble; asked = None; found = 0; seat = λ d x. absurd cc; told = λ d n x. absurd cc; taken = λ x. absurd (omega arith); step = p.step }
+      record { after = scene before.shop p.after; tells = scene-tells h s r old seat opened new opened' before (Read count) reply _ n tells p; troubled = p.troubled; trouble = p.trouble; able = λ t. inr (p.able t); asked = None; found = 0; seat = λ d x. absurd cc; told = λ d n x. absurd cc; taken = λ x. absurd (omega arith); step = p.step }
   serves-step opened (Op op count) reply new seat' opened' (n, same, serves) before tells =
       let p = reel-parts h s r old seat opened (Op op count) reply new opened' before n serves tells in
-      record { after = scene before.shop p.after; tells = scene-tells h s r old seat opened new opened' before (Op op count) reply _ n tells p; troubled = p.troubled; trouble = p.trouble; asked = None; found = 0; seat = λ d x. absurd cc; told = λ d n x. absurd cc; taken = λ x. absurd (omega arith); step = p.step }
+      record { after = scene before.shop p.after; tells = scene-tells h s r old seat opened new opened' before (Op op count) reply _ n tells p; troubled = p.troubled; trouble = p.trouble; able = λ t. inr (p.able t); asked = None; found = 0; seat = λ d x. absurd cc; told = λ d n x. absurd cc; taken = λ x. absurd (omega arith); step = p.step }
 
   -- what a call of the reel leaves open
   calls-in-same : (device : Opened R) (reel : Option R) (new : Option (Opened R)) (request : PlainRequest) (reply : PlainReply)
@@ -181,6 +185,40 @@ module _ {H S Seat R : Type 0} (h : HoldsPromise H Seat) (s : StacksPromise S R)
       → Closes h s r old seat opened reply new seat' opened' → KeepsDrives h s old new seat
   closes-kept None reply new seat' opened' (e, n, same, o) = same-kept new n
   closes-kept (Some device) reply new seat' opened' (e, o, c) = c.kept
+
+module _ {H S Seat R : Type 0} (h : HoldsPromise H Seat) (s : StacksPromise S R) (r : ReelPromise R)
+    (old : DriveTable H S Seat R) (seat : Seat) where
+  -- a device can fail after a request only where one can before
+  opens-quiet : (access : Option Access) (device : List ℕ) (reply : PlainReply) (new : DriveTable H S Seat R) (seat' : Seat) (opened' : Option (Opened R))
+      → OpensFor h s r old seat device access reply new seat' opened' → CanFail s r new.stacks opened' → CanFail s r old.stacks None
+  opens-quiet None device reply new seat' opened' (e, n, same, o) f = subst (λ d. CanFail s r d.stacks None) n (subst (λ o. CanFail s r new.stacks o) o f)
+  opens-quiet (Some access) device reply new seat' opened' (result, e, o) f = inl (o.quiet f)
+
+  closes-quiet : (opened : Option (Opened R)) (reply : PlainReply) (new : DriveTable H S Seat R) (seat' : Seat) (opened' : Option (Opened R))
+      → Closes h s r old seat opened reply new seat' opened' → CanFail s r new.stacks opened' → CanFail s r old.stacks opened
+  closes-quiet None reply new seat' opened' (e, n, same, o) f = subst (λ d. CanFail s r d.stacks None) n (subst (λ o. CanFail s r new.stacks o) o f)
+  closes-quiet (Some device) reply new seat' opened' (e, o, c) f = c.quiet (subst (λ o. CanFail s r new.stacks o) o f)
+
+  calls-quiet : (device : Opened R) (reel : Option R) (new : Option (Opened R)) (request : PlainRequest) (reply : PlainReply)
+      → CallsIn r device reel new request reply → ReelCanFail r (reel_of new) → ReelCanFail r reel
+  calls-quiet device None new request reply call f = absurd call
+  calls-quiet device (Some reel) new request reply (answer, moved, n, e, call) f = call.quiet (subst (λ o. ReelCanFail r (reel_of o)) n f)
+
+  call-quiet : (opened new : Option (Opened R)) (request : PlainRequest) (reply : PlainReply)
+      → CallsReel r opened new request reply → ReelCanFail r (reel_of new) → ReelCanFail r (reel_of opened)
+  call-quiet None new request reply call f = absurd call
+  call-quiet (Some device) new request reply call f = calls-quiet device device.reel new request reply call f
+
+  serves-quiet : (opened new : Option (Opened R)) (request : PlainRequest) (reply : PlainReply) (by : Option Refusal)
+      → MatchOption by (CallsReel r opened new request reply) (λ x. (reply ≡ refused x) × (new ≡ opened))
+      → ReelCanFail r (reel_of new) → ReelCanFail r (reel_of opened)
+  serves-quiet opened new request reply None call f = call-quiet opened new request reply call f
+  serves-quiet opened new request reply (Some x) (e, n) f = subst (λ o. ReelCanFail r (reel_of o)) n f
+
+  reel-quiet : (opened new : Option (Opened R)) (request : PlainRequest) (reply : PlainReply) (drives : DriveTable H S Seat R)
+      → drives ≡ old → ReelServes r opened new request reply → CanFail s r drives.stacks new → CanFail s r old.stacks opened
+  reel-quiet opened new request reply drives n serves (inl f) = inl (subst (λ (d : DriveTable H S Seat R). s.can_fail d.stacks) n f)
+  reel-quiet opened new request reply drives n serves (inr f) = inr (serves-quiet opened new request reply (refusal (status_at opened) request) serves f)
 
 module _ {H S Seat R : Type 0} (h : HoldsPromise H Seat) (s : StacksPromise S R) (r : ReelPromise R)
     (old : DriveTable H S Seat R) (seat : Seat) where
@@ -241,6 +279,15 @@ module _ {H S Seat R : Type 0} (h : HoldsPromise H Seat) (s : StacksPromise S R)
   carried-steps (Read count) reply new seat' opened' (n, e, c) = ap h.shows e
   carried-steps (Op op count) reply new seat' opened' (n, e, c) = ap h.shows e
 
+  carried-quiet : (request : PlainRequest) (reply : PlainReply) (new : DriveTable H S Seat R) (seat' : Seat) (opened' : Option (Opened R))
+      → CarriesOut h s r old seat opened request reply new seat' opened' → CanFail s r new.stacks opened' → CanFail s r old.stacks opened
+  carried-quiet (Open device mode) reply new seat' opened' (between, rested, c, o) f = c.quiet (opens-quiet h s r between rested (access_of mode) device reply new seat' opened' o f)
+  carried-quiet Close reply new seat' opened' c f = closes-quiet h s r old seat opened reply new seat' opened' c f
+  carried-quiet (Write bytes) reply new seat' opened' (n, e, c) f = reel-quiet h s r old seat opened opened' (Write bytes) reply new n c f
+  carried-quiet (WriteDropped count) reply new seat' opened' (n, e, c) f = reel-quiet h s r old seat opened opened' (WriteDropped count) reply new n c f
+  carried-quiet (Read count) reply new seat' opened' (n, e, c) f = reel-quiet h s r old seat opened opened' (Read count) reply new n c f
+  carried-quiet (Op op count) reply new seat' opened' (n, e, c) f = reel-quiet h s r old seat opened opened' (Op op count) reply new n c f
+
   -- a request that was carried out, with all that follows
   pub carried : (request : PlainRequest) (reply : PlainReply) (new : DriveTable H S Seat R) (seat' : Seat) (opened' : Option (Opened R))
       → IsAt h s old seat opened → CarriesOut h s r old seat opened request reply new seat' opened'
@@ -251,4 +298,5 @@ module _ {H S Seat R : Type 0} (h : HoldsPromise H Seat) (s : StacksPromise S R)
     steps = carried-steps request reply new seat' opened' c;
     at = carried-at request reply new seat' opened' at c;
     kept = carried-kept request reply new seat' opened' c;
+    quiet = carried-quiet request reply new seat' opened' c;
   }

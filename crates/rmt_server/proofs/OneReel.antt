@@ -1,7 +1,7 @@
 -- The shop of one drive and one reel.
 use Rattle.std.proofs.Common.{◌≡◌, ◌≢◌, ℕ, zero, suc, ◌<◌, List, [], length, Some, None, Ok, refl, sym, ap, ◌∙◌, subst, arith}
 use Rattle.tape.specs.Tape.{tape, entries_of}
-use Rattle.tape.specs.List.{ListTape, IsTape}
+use Rattle.tape.specs.Trouble.{TroubledTape, IsTapeOf}
 use Rattle.rmt_server.specs.Shop.{Shop, IsDriveNamed, rack_at}
 use Rattle.rmt_server.specs.OneReel.{shop_of, shop_of-sized, the_drive, at_rest}
 use Rattle.rmt_server.specs.Stacking.{LatchStep}
@@ -29,13 +29,13 @@ drive_unnamed place name s n e =
     let first : (rack_at s 0).name ≡ the_drive = ap (λ (x : Shop). (rack_at x 0).name) e ∙ place-named place in
     n (sym same ∙ ap (λ k. (rack_at s k).name) zero ∙ first)
 
-latch-step : (r reel : ListTape) (d : ℕ) → d < 1 → reel.tape ≡ tape [] (entries_of r.tape) → reel.capacity ≡ r.capacity → LatchStep IsTape (λ x. x.capacity) d (Ok reel) (shop_of (Stack r)) (shop_of Latched)
+latch-step : (r reel : TroubledTape) (d : ℕ) → d < 1 → reel.tape ≡ tape [] (entries_of r.tape) → reel.capacity ≡ r.capacity → LatchStep IsTapeOf (λ x. x.capacity) d (Ok reel) (shop_of (Stack r)) (shop_of Latched)
 latch-step r reel zero l h e = (at_rest r, refl, refl, h, e)
 latch-step r reel (suc d) l h e = absurd (omega arith)
 
 -- the reel is latched off the stack
-pub latch_steps : (place after : ReelPlace) (r reel : ListTape) (d : ℕ) → place ≡ Stack r → after ≡ Latched → d < 1
+pub latch_steps : (place after : ReelPlace) (r reel : TroubledTape) (d : ℕ) → place ≡ Stack r → after ≡ Latched → d < 1
     → reel.tape ≡ tape [] (entries_of r.tape) → reel.capacity ≡ r.capacity
-    → (t : Shop) → t ≡ shop_of place → (u : Shop) × (u ≡ shop_of after) × LatchStep IsTape (λ x. x.capacity) d (Ok reel) t u
+    → (t : Shop) → t ≡ shop_of place → (u : Shop) × (u ≡ shop_of after) × LatchStep IsTapeOf (λ x. x.capacity) d (Ok reel) t u
 latch_steps place after r reel d p a l h e t s =
-    (shop_of Latched, ap shop_of (sym a), subst (λ (x : Shop). LatchStep IsTape (λ y. y.capacity) d (Ok reel) x (shop_of Latched)) (sym (s ∙ ap shop_of p)) (latch-step r reel d l h e))
+    (shop_of Latched, ap shop_of (sym a), subst (λ (x : Shop). LatchStep IsTapeOf (λ y. y.capacity) d (Ok reel) x (shop_of Latched)) (sym (s ∙ ap shop_of p)) (latch-step r reel d l h e))

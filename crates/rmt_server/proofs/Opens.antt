@@ -28,6 +28,16 @@ is_device-means (Err Device) before now h t = h
 is_device-means (Err OutOfMemory) before now h t = absurd cc
 is_device-means (Err NameTaken) before now h t = absurd cc
 
+pub is_device-is : {R : Type 0} (result : Result (ℕ × R) DriveFault) → IsTrue (is_device result) → result ≡ Err Device
+unfolding is_device
+is_device-is (Ok taken) t = absurd cc
+is_device-is (Err NoSuchDrive) t = absurd cc
+is_device-is (Err (Busy n)) t = absurd cc
+is_device-is (Err NoReel) t = absurd cc
+is_device-is (Err Device) t = refl
+is_device-is (Err OutOfMemory) t = absurd cc
+is_device-is (Err NameTaken) t = absurd cc
+
 -- a count that has risen since later has risen since earlier
 pub HasRisen-earlier : (a b c : ℕ) → a ≤ b → HasRisen b c → HasRisen a c
 HasRisen-earlier a b c l h = omega arith

@@ -21,7 +21,7 @@ use Rattle.rmt_server.specs.declared.drives.holds.Holds.{Ghosts as HoldsPromise}
 use Rattle.rmt_server.specs.declared.drives.stacks.Stacks.{Ghosts as StacksPromise}
 use Rattle.rmt_server.specs.declared.drives.table.DriveTable.{DriveTable}
 use Rattle.rmt_server.specs.declared.session.opened.Opened.{Opened}
-use Rattle.rmt_server.specs.Carrying.{drive_of, IsSayable, IsCarriedOut, IsClosed, Tells, MayFail, MayShare, HasTrouble, ReelFailed, ReelFailedIn, reel_of}
+use Rattle.rmt_server.specs.Carrying.{drive_of, IsSayable, IsCarriedOut, IsClosed, Tells, MayFail, MayShare}
 use Rattle.rmt_server.proofs.Alone.{may-share, may-find}
 use Rattle.rmt_server.specs.Session.{Scene, ServeRun, none as no_steps, one_more as one_step}
 use Rattle.rmt_server.specs.Serving.{Exchange, requests_of, replies_text, IsAnswered, IsCutOff, Advances, AnswersAs, CarryRun, IsSettled, IsFaulty, EndsAs, IsServedAs, none, one_more}
@@ -311,40 +311,18 @@ module _ {H S Seat R : Type 0} {h : HoldsPromise H Seat} {s : StacksPromise S R}
       let b = f rest p.1 in
       record { done = b.done; rest = b.rest; run = b.run; outcome = (answered_then _ _ _ read rest part b.rest done b.done p.0 b.outcome.0, b.outcome.1) })
 
-moved_may_fail : {S R : Type 0} {s : StacksPromise S R} {r : ReelPromise R} {fails : Bool} → MayFail s r fails
-    → (reel : R) (moved : Option R) → ReelFailed r reel moved → IsTrue fails
-moved_may_fail m reel None t = absurd t
-moved_may_fail m reel (Some moved) t = m.reels reel moved t
-
-reel_may_fail : {S R : Type 0} {s : StacksPromise S R} {r : ReelPromise R} {fails : Bool} → MayFail s r fails
-    → (reel : Option R) (opened : Option (Opened R)) → ReelFailedIn r reel opened → IsTrue fails
-reel_may_fail m None opened t = absurd t
-reel_may_fail m (Some reel) None t = absurd t
-reel_may_fail m (Some reel) (Some device) t = moved_may_fail m reel device.reel t
-
--- where there was trouble, a device can fail
-may_fail : {H S Seat R : Type 0} {s : StacksPromise S R} {r : ReelPromise R} {fails : Bool} → MayFail s r fails
-    → (old : DriveTable H S Seat R) (opened : Option (Opened R)) (request : PlainRequest) (new : DriveTable H S Seat R) (opened' : Option (Opened R))
-    → HasTrouble s r old opened request new opened' → IsTrue fails
-may_fail m old opened (Open device mode) new opened' t = m.stacks old.stacks new.stacks t
-may_fail m old opened Close new opened' t = reel_may_fail m (reel_of opened) opened' t
-may_fail m old opened (Write bytes) new opened' t = reel_may_fail m (reel_of opened) opened' t
-may_fail m old opened (WriteDropped count) new opened' t = reel_may_fail m (reel_of opened) opened' t
-may_fail m old opened (Read count) new opened' t = reel_may_fail m (reel_of opened) opened' t
-may_fail m old opened (Op op count) new opened' t = reel_may_fail m (reel_of opened) opened' t
-
 -- Where stacks and reel tell, a run of requests carried out is a run of serve steps
 pub run_steps : {H S Seat R : Type 0} {h : HoldsPromise H Seat} {s : StacksPromise S R} {r : ReelPromise R} {old : DriveTable H S Seat R} {seat : Seat} {opened : Option (Opened R)}
     {done : List Exchange} {last : DriveTable H S Seat R} {last_seat : Seat} {last_opened : Option (Opened R)}
-    → CarryRun h s r old seat opened done last last_seat last_opened → (fails shared : Bool) → MayFail s r fails → MayShare h old.holds (drive_of opened) shared
+    → CarryRun h s r old seat opened done last last_seat last_opened → (fails shared : Bool) → MayFail s r old.stacks opened fails → MayShare h old.holds (drive_of opened) shared
     → (start : Scene) → Tells s r old.stacks opened start
-    → (finish : Scene) × ServeRun fails shared r.GROWS start done finish × Tells s r last.stacks last_opened finish × MayShare h last.holds (drive_of last_opened) shared
-run_steps none fails shared may share start tells = (start, no_steps, tells, share)
+    → (finish : Scene) × ServeRun fails shared r.GROWS start done finish × Tells s r last.stacks last_opened finish × MayShare h last.holds (drive_of last_opened) shared × MayFail s r last.stacks last_opened fails
+run_steps none fails shared may share start tells = (start, no_steps, tells, share, may)
 run_steps (one_more {between = between} {after = after} {opened1 = opened1} {opened2 = opened2} request reply run carried spelling) fails shared may share start tells =
     let so_far = run_steps run fails shared may share start tells in
     let step = carried.step so_far.0 so_far.2 in
-    let excused : IsTrue step.troubled → IsTrue fails = λ t. may_fail may between opened1 request after opened2 (step.trouble t) in
-    (step.after, one_step request reply step.troubled step.asked step.found so_far.1 excused (may-find so_far.3 step) step.step, step.tells, may-share so_far.3 carried)
+    let excused : IsTrue step.troubled → IsTrue fails = λ t. so_far.4 (step.able t) in
+    (step.after, one_step request reply step.troubled step.asked step.found so_far.1 excused (may-find so_far.3 step) step.step, step.tells, may-share so_far.3 carried, λ f. so_far.4 (carried.quiet f))
 
 pub served_as : {H S Seat R In Out : Type 0} {h : HoldsPromise H Seat} {s : StacksPromise S R} {r : ReelPromise R} (remaining : In → Option (List ℕ)) (contents : Out → Option (List ℕ))
     (result : Result Served ServeFault) (input input' : Counting In) (output output' : Counting Out)

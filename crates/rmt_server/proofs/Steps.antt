@@ -12,7 +12,7 @@ use Rattle.rmt_server.specs.Refusals.{refused}
 use Rattle.rmt_server.specs.Shop.{Shop}
 use Rattle.rmt_server.specs.Session.{PlainSession, plain_reel, scene, status_of, refusal, IsExcused, ReelStep}
 use Rattle.rmt_server.specs.Session.PlainSession.{Online}
-use Rattle.rmt_server.specs.Carrying.{IsSeenWith, IsSeenAs, CallsIn, CallsReel, ReelServes, ReelFailedIn, reel_of, status_at, status_in}
+use Rattle.rmt_server.specs.Carrying.{IsSeenWith, IsSeenAs, CallsIn, CallsReel, ReelServes, ReelFailedIn, ReelCanFail, reel_of, status_at, status_in}
 
 -- the reel's device is at fault
 pub is_device : TapeAnswer → Bool
@@ -46,6 +46,7 @@ pub record ReelServed {R : Type 0} (r : ReelPromise R) (reel : Option R) (new : 
   pub seen : IsSeenAs r new after
   pub troubled : Bool
   pub trouble : IsTrue troubled → ReelFailedIn r reel new
+  pub able : IsTrue troubled → ReelCanFail r reel
   pub step : MatchOption refused_by (ReelStep troubled r.GROWS (scene shop session) request reply (scene shop after))
       (λ x. (reply ≡ refused x) × (scene shop after ≡ scene shop session))
 
@@ -61,6 +62,7 @@ calls-in r device (Some reel) new shop session request reply (answer, moved, n, 
       seen = rw n (u.0, u.1, refl);
       troubled = is_device answer;
       trouble = rw n (λ d. call.device (is_device-means answer d));
+      able = λ d. call.able (is_device-means answer d);
       step = (
         device.drive,
         device.access,
@@ -92,6 +94,7 @@ serves-by r old new shop session request reply (Some x) (e, n) seen = record {
   seen = rw n seen;
   troubled = false;
   trouble = λ t. absurd cc;
+  able = λ t. absurd cc;
   step = (e, refl);
 }
 

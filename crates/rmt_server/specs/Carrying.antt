@@ -1,5 +1,5 @@
 -- What a session promises of each request, whatever its drives, seats and reels are.
-use Rattle.std.specs.Prelude.{◌≡◌, ◌≢◌, ◌⊎◌, ℕ, ◌<◌, ◌≤◌, ◌↔◌, Bool, IsTrue, Option, Some, None, MatchOption, Result, Ok, Err, List, length, take}
+use Rattle.std.specs.Prelude.{◌≡◌, ◌≢◌, ◌⊎◌, ℕ, ◌<◌, ◌≤◌, Bool, IsTrue, Option, Some, None, MatchOption, Result, Ok, Err, List, length, take}
 use Rattle.rmt_wire.specs.Request.{PlainRequest}
 use Rattle.rmt_wire.specs.Request.PlainRequest.{Open, Close, Op}
 use Rattle.rmt_wire.specs.Reply.{PlainReply}
@@ -18,6 +18,7 @@ use Rattle.rmt_server.specs.declared.drives.holds.Holds.{Ghosts as HoldsPromise}
 use Rattle.rmt_server.specs.declared.drives.stacks.Stacks.{Ghosts as StacksPromise}
 use Rattle.rmt_server.specs.declared.drives.table.DriveTable.{DriveTable}
 use Rattle.rmt_server.specs.declared.drives.fault.DriveFault.{DriveFault}
+use Rattle.rmt_server.specs.declared.drives.fault.DriveFault.TheVariants.{Device}
 use Rattle.rmt_server.specs.declared.drives.view.View.{View}
 use Rattle.rmt_server.specs.declared.drives.view.StepKind.TheVariants.{Take}
 use Rattle.rmt_server.specs.Access.{access_of}
@@ -41,6 +42,19 @@ online_in drive (Some reel) = Some drive
 abbrev pub online_drive : {R : Type 0} → Option (Opened R) → Option ℕ
 online_drive None = None
 online_drive (Some device) = online_in device.drive device.reel
+
+abbrev pub reel_of : {R : Type 0} → Option (Opened R) → Option R
+reel_of None = None
+reel_of (Some device) = device.reel
+
+-- the device of the open reel, if there is one, can fail
+abbrev pub ReelCanFail : {R : Type 0} → ReelPromise R → Option R → Type 0
+ReelCanFail r None = ⊥
+ReelCanFail r (Some reel) = r.can_fail reel
+
+-- a device can fail: that of the stacks, or that of the open reel
+abbrev pub CanFail : {S R : Type 0} → StacksPromise S R → ReelPromise R → S → Option (Opened R) → Type 0
+CanFail s r stacks opened = s.can_fail stacks ⊎ ReelCanFail r (reel_of opened)
 
 abbrev pub status_in : {R : Type 0} → Access → Option R → Status
 status_in access None = ReelAway
@@ -100,6 +114,8 @@ pub record IsClosed {H S Seat R : Type 0} (h : HoldsPromise H Seat) (s : StacksP
   pub view : h.shows seat' ≡ view_after_close (h.shows seat) (drive_of opened)
   pub told : (d n : ℕ) → h.tells old.holds d n → h.tells new.holds d (word_after_close (drive_of opened) d n)
   pub kept : KeepsDrives h s old new seat
+  -- a device can fail then only where one can before
+  pub quiet : CanFail s r new.stacks None → CanFail s r old.stacks opened
   pub idle : opened ≡ None → (new ≡ old) × (seat' ≡ seat)
 
 -- one call of the open reel, which alone changes
@@ -107,7 +123,7 @@ abbrev pub CallsIn : {R : Type 0} → ReelPromise R → Opened R → Option R �
 CallsIn r device None new request reply = ⊥
 CallsIn {R} r device (Some reel) new request reply =
     (answer : TapeAnswer) × (moved : R) × (new ≡ Some (record device { reel = Some moved })) × (reply ≡ reel_reply request answer)
-    × IsCall r.holds r.capacity r.failures r.GROWS reel moved (tape_request request) answer
+    × IsCall r.holds r.capacity r.failures r.can_fail r.GROWS reel moved (tape_request request) answer
 
 abbrev pub CallsReel : {R : Type 0} → ReelPromise R → Option (Opened R) → Option (Opened R) → PlainRequest → PlainReply → Type 0
 CallsReel r None new request reply = ⊥
@@ -154,7 +170,9 @@ pub record IsOpenedFor {H S Seat R : Type 0} (h : HoldsPromise H Seat) (s : Stac
   pub told : (d n : ℕ) → h.tells old.holds d n → h.tells new.holds d (word_after_open result (h.shows seat).number d n)
   pub stacks : Steps s.holds old.stacks new.stacks (OpenStep r.holds r.capacity device (drive_asked result (h.shows seat')) result)
   pub fault : IsFaultOf result (s.failures old.stacks) (s.failures new.stacks)
+  pub able : result ≡ Err Device → s.can_fail old.stacks
   pub kept : KeepsDrives h s old new seat
+  pub quiet : CanFail s r new.stacks opened → s.can_fail old.stacks
 
 -- An open while nothing is open: of a mode that is none nothing is done.
 abbrev pub OpensFor : {H S Seat R : Type 0} → HoldsPromise H Seat → StacksPromise S R → ReelPromise R
@@ -195,20 +213,15 @@ abbrev pub ReelFailedIn : {R : Type 0} → ReelPromise R → Option R → Option
 ReelFailedIn r (Some reel) (Some device) = ReelFailed r reel device.reel
 ReelFailedIn r reel opened = ⊥
 
-abbrev pub reel_of : {R : Type 0} → Option (Opened R) → Option R
-reel_of None = None
-reel_of (Some device) = device.reel
-
 -- the device that the request was about failed: that of the stacks for an open, else that of the open reel
 abbrev pub HasTrouble : {H S Seat R : Type 0} → StacksPromise S R → ReelPromise R → DriveTable H S Seat R → Option (Opened R) → PlainRequest
     → DriveTable H S Seat R → Option (Opened R) → Type 0
 HasTrouble s r old opened (Open device mode) new opened' = HasRisen (s.failures old.stacks) (s.failures new.stacks)
 HasTrouble s r old opened request new opened' = ReelFailedIn r (reel_of opened) opened'
 
--- stacks and reels count failures only where `fails` says that a device can fail
-pub record MayFail {S R : Type 0} (s : StacksPromise S R) (r : ReelPromise R) (fails : Bool) : Type 0 where
-  pub stacks : (old new : S) → HasRisen (s.failures old) (s.failures new) → IsTrue fails
-  pub reels : (old new : R) → HasRisen (r.failures old) (r.failures new) → IsTrue fails
+-- a device can fail only where `fails` says so
+abbrev pub MayFail : {S R : Type 0} → StacksPromise S R → ReelPromise R → S → Option (Opened R) → Bool → Type 0
+MayFail s r stacks opened fails = CanFail s r stacks opened → IsTrue fails
 
 -- the holds tell of each drive that it is free, or that it is the one that is open
 abbrev pub IsAlone : {H Seat : Type 0} → HoldsPromise H Seat → H → Option ℕ → Type 0
@@ -227,6 +240,7 @@ pub record IsServed {H S Seat R : Type 0} (h : HoldsPromise H Seat) (s : StacksP
   pub tells : Tells s r new.stacks opened' after
   pub troubled : Bool
   pub trouble : IsTrue troubled → HasTrouble s r old opened request new opened'
+  pub able : IsTrue troubled → CanFail s r old.stacks opened
   pub asked : Option ℕ
   pub found : ℕ
   pub seat : (d : ℕ) → asked ≡ Some d → last_drive (h.shows seat') ≡ Some d
@@ -269,6 +283,8 @@ pub record IsCarriedOut {H S Seat R : Type 0} (h : HoldsPromise H Seat) (s : Sta
   pub at : IsAt h s new seat' opened'
   -- the counts of drives stay, that of failures does not fall, and other seats hold what they held
   pub kept : KeepsDrives h s old new seat
+  -- a device can fail then only where one can before
+  pub quiet : CanFail s r new.stacks opened' → CanFail s r old.stacks opened
 
 -- the number of an operation's count can be said in a reply
 abbrev pub IsSayable : PlainRequest → Type 0

@@ -1,9 +1,10 @@
 -- One drive with one reel.
-use Rattle.std.specs.Prelude.{◌≡◌, ℕ, ◌<◌, List, [], ◌∷◌, length, Some, None, codes, refl}
+use Rattle.std.specs.Prelude.{◌≡◌, ◌≢◌, ℕ, ◌<◌, List, [], ◌∷◌, length, Some, None, codes, refl}
 use Rattle.std.proofs.Common.{sym, ◌∙◌, ap, subst}
 use Rattle.std.proofs.Math.Nat.{not-suc-le-zero, le_trans, le-pred_of_lt}
 use Rattle.tape.specs.Tape.{entries_of}
-use Rattle.tape.specs.List.{ListTape}
+use Rattle.tape.specs.Trouble.{TroubledTape}
+use Rattle.tape.specs.declared.trouble.Trouble.TheVariants.{None as NoTrouble}
 use Rattle.rmt_server.specs.Shop.{Kept, kept, Shop, shop, rack, EachReelOnce}
 use Rattle.rmt_server.specs.declared.drives.list.ListStacks.{ListStacks}
 use Rattle.rmt_server.specs.declared.drives.list.ReelPlace.{ReelPlace}
@@ -16,7 +17,7 @@ abbrev pub the_reel : List ℕ
 the_reel = codes "reel"
 
 -- the reel at rest
-abbrev pub at_rest : ListTape → Kept
+abbrev pub at_rest : TroubledTape → Kept
 at_rest r = kept the_reel (entries_of r.tape) r.capacity
 
 -- the drive, the reel and the bin, by where the reel is
@@ -28,6 +29,16 @@ shop_of (Bin r) = shop (rack the_drive None [] ∷ []) (at_rest r ∷ [])
 -- what is told of them
 abbrev pub IsShop : ListStacks → Shop → Type 0
 IsShop stacks s = s ≡ shop_of stacks.reel
+
+-- a trouble is set for the reel that lies there
+abbrev pub IsTroubledAt : ReelPlace → Type 0
+IsTroubledAt (Stack r) = r.trouble ≢ NoTrouble
+IsTroubledAt Latched = ⊥
+IsTroubledAt (Bin r) = r.trouble ≢ NoTrouble
+
+-- the device of the reel can fail, while the reel lies on the stack or in the bin
+abbrev pub CanReelFail : ListStacks → Type 0
+CanReelFail stacks = IsTroubledAt stacks.reel
 
 none_between : (i j : ℕ) → i < j → j < 1 → ⊥
 none_between i j h l = not-suc-le-zero (le_trans h (le-pred_of_lt l))

@@ -119,6 +119,6 @@ pub record IsServedAs {H S Seat R In Out : Type 0} (h : HoldsPromise H Seat) (s 
   pub last_opened : Option (Opened R)
   pub run : CarryRun h s r old seat opened done last last_seat last_opened
   pub ended : IsClosed h s r last last_seat last_opened new seat'
-  pub steps : (fails shared : Bool) → MayFail s r fails → MayShare h old.holds (drive_of opened) shared
+  pub steps : (fails shared : Bool) → MayFail s r old.stacks opened fails → MayShare h old.holds (drive_of opened) shared
       → (start : Scene) → Tells s r old.stacks opened start
       → (finish : Scene) × ServeRun fails shared r.GROWS start done finish × s.holds new.stacks (closed finish).shop

@@ -15,6 +15,7 @@ mod served;
 mod session;
 mod slow;
 mod spelled;
+mod troubled;
 mod turns;
 
 /// A capacity in bytes that no row fills.

@@ -3,11 +3,12 @@ use Rattle.std.proofs.Common.{◌≡◌, ℕ, false, List, [], ◌∷◌, length
 use Rattle.std.proofs.KnownBytes.{Appends-nil, Consumes-nil}
 use Rattle.std.specs.Result.{result_ok}
 use Rattle.rmt_wire.specs.Counted.{Counting}
-use Rattle.tape.specs.contracts.list.ListReelReel.TheImpl as ListReelPromise
+use Rattle.tape.specs.declared.reel.Reel.{Ghosts as ReelPromise}
 use Rattle.rmt_server.specs.Local.{Holders}
 use Rattle.rmt_server.specs.contracts.drives.local.LocalHoldsHolds.TheImpl as LocalHoldsPromise
-use Rattle.rmt_server.specs.contracts.drives.list.ListStacksStacks.TheImpl as ListStacksPromise
-use Rattle.rmt_server.specs.Carrying.{MayFail, IsAlone}
+use Rattle.rmt_server.specs.declared.drives.stacks.Stacks.{Ghosts as StacksPromise}
+use Rattle.rmt_server.specs.declared.session.opened.Opened.{Opened}
+use Rattle.rmt_server.specs.Carrying.{MayFail, IsAlone, ReelCanFail, reel_of}
 use Rattle.rmt_server.specs.Session.{none}
 use Rattle.rmt_server.specs.Serving.{Exchange, EndsAs}
 use Rattle.rmt_tools.specs.Stdio.{blank_scene, EndsWith, IsServedAlone}
@@ -23,9 +24,11 @@ ends_with remaining contents (Ok served) input input' output output' read done r
 ends_with remaining contents (Err Input) input input' output output' read done rest e = inl e
 ends_with remaining contents (Err Output) input input' output output' read done rest e = inr (inl e)
 
--- no device of the drive and the reel in memory fails
-pub none_fails : MayFail ListStacksPromise.ghosts ListReelPromise.ghosts false
-none_fails = record { stacks = λ old new h. absurd (omega arith); reels = λ old new h. absurd (omega arith) }
+-- where nothing is open and no device of the stacks can fail, none can
+pub none_fails : {S R : Type 0} (s : StacksPromise S R) (r : ReelPromise R) (stacks : S) (opened : Option (Opened R))
+    → (s.can_fail stacks → ⊥) → opened ≡ None → MayFail s r stacks opened false
+none_fails s r stacks opened quiet e (inl f) = absurd (quiet f)
+none_fails s r stacks opened quiet e (inr f) = absurd (subst (λ o. ReelCanFail r (reel_of o)) e f)
 
 -- what is so of a result is so of its value
 pub kept_ok : {T E : Type 0} (P : T → Type 0) (result : Result T E) (value : T) → IfOk result P → Some value ≡ result_ok result → P value

@@ -27,7 +27,7 @@ can_space count met place t u (Fault BadOperation) step = absurd step
 can_space count met place t u (Fault OutOfMemory) step = absurd step
 
 -- a step's answer is one that the call can have
-can_of : (capacity : ℕ) (t u : Tape) (request : TapeRequest) (answer : TapeAnswer) → TapeStep capacity t request answer u → CanAnswer request answer
+pub can_of : (capacity : ℕ) (t u : Tape) (request : TapeRequest) (answer : TapeAnswer) → TapeStep capacity t request answer u → CanAnswer request answer
 can_of capacity t u (Write bytes) Done step = inl refl
 can_of capacity t u (Write bytes) (Gave given) step = absurd step
 can_of capacity t u (Write bytes) (Fault Device) step = inr (inr (inl refl))
@@ -74,6 +74,8 @@ list_call old new request answer step same sound = record {
   step = λ t held. let P : Tape → Type 0 = λ t. TapeStep old.capacity t request answer new.tape in (new.tape, refl, subst P held step);
   can = can_of old.capacity old.tape new.tape request answer step;
   device = λ is. absurd (sound is);
+  able = sound;
+  quiet = λ x. x;
   memory = λ _. refl;
   counted = omega arith;
   same_capacity = same;

@@ -2,3 +2,5 @@ pub mod Calls
 pub mod Entries
 pub mod Standing
 pub mod Spacing
+pub mod Devices
+pub mod Leaving

@@ -25,7 +25,7 @@ CanAnswer Rewind answer = answer ≡ Done
 CanAnswer Nothing answer = answer ≡ Done
 CanAnswer Unknown answer = answer ≡ Fault BadOperation
 
-pub record IsCall {S : Type 0} (holds : S → Tape → Type 0) (capacity : S → ℕ) (failures : S → ℕ) (grows : Bool)
+pub record IsCall {S : Type 0} (holds : S → Tape → Type 0) (capacity : S → ℕ) (failures : S → ℕ) (can_fail : S → Type 0) (grows : Bool)
     (old new : S) (request : TapeRequest) (answer : TapeAnswer) : Type 0 where
   -- where the reel tells, the call is a step of its tape
   pub step : Steps holds old new (λ t u. TapeStep (capacity old) t request answer u)
@@ -33,6 +33,9 @@ pub record IsCall {S : Type 0} (holds : S → Tape → Type 0) (capacity : S →
   pub can : CanAnswer request answer
   -- the device is at fault only where it failed in the call
   pub device : answer ≡ Fault Device → HasRisen (failures old) (failures new)
+  -- and only where it can fail, which no call brings about
+  pub able : answer ≡ Fault Device → can_fail old
+  pub quiet : can_fail new → can_fail old
   -- memory is wanting only where the reel grows
   pub memory : answer ≡ Fault OutOfMemory → IsTrue grows
   -- the count of failures does not fall

@@ -2,3 +2,4 @@ pub mod Tape
 pub mod Call
 pub mod Failures
 pub mod List
+pub mod Trouble

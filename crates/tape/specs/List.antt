@@ -1,12 +1,15 @@
 -- A list of entries as a tape.
-use Rattle.std.specs.Prelude.{◌≡◌, ℕ, ◌-◌, ◌^◌, ◌≤◌, List, [], ◌++◌, length, take, drop, map, true, Result, Ok, Err}
+use Rattle.std.specs.Prelude.{◌≡◌, ◌≢◌, ℕ, ◌-◌, ◌^◌, ◌≤◌, List, [], ◌++◌, length, take, drop, map, true, Result, Ok, Err}
 use Rattle.tape.specs.Tape.{PlainEntry, Tape, TapeRequest, TapeAnswer, tape, offset_of}
 use Rattle.tape.specs.Tape.PlainEntry.{Record, Mark}
 use Rattle.tape.specs.Call.{IsCall}
 use Rattle.tape.specs.declared.entry.Entry.{Entry}
 use Rattle.tape.specs.declared.entry.Entry.TheVariants as entry
 use Rattle.tape.specs.declared.fault.TapeFault.{TapeFault}
-use Rattle.tape.specs.declared.fault.TapeFault.TheVariants.{OutOfMemory}
+use Rattle.tape.specs.declared.fault.TapeFault.TheVariants.{Device, OutOfMemory}
+use Rattle.tape.specs.declared.trouble.Trouble.{Trouble}
+use Rattle.tape.specs.declared.trouble.Trouble.TheVariants.{None as NoTrouble}
+use Rattle.tape.specs.Trouble.{left_by}
 
 -- what a reel in memory is: its tape, and how many bytes it takes
 pub record ListTape : Type 0 where
@@ -19,7 +22,7 @@ IsTape reel t = reel.tape ≡ t
 
 -- a call of a reel in memory, whose device never fails
 abbrev pub IsListCall : ListTape → ListTape → TapeRequest → TapeAnswer → Type 0
-IsListCall old new request answer = IsCall IsTape (λ r. r.capacity) (λ _. 0) true old new request answer
+IsListCall old new request answer = IsCall IsTape (λ r. r.capacity) (λ _. 0) (λ _. ⊥) true old new request answer
 
 -- an entry as plain bytes
 abbrev pub plain_of : Entry → PlainEntry
@@ -45,10 +48,13 @@ pub record IsStanding (entries : List PlainEntry) (place offset capacity : ℕ) 
   pub offset_is : offset ≡ offset_of (take place entries)
   pub fits : offset_of entries ≤ capacity
 
--- what was written stands at the place with nothing behind it, or memory was wanting and nothing changed
-abbrev pub IsPut : Result Unit TapeFault → ℕ → List PlainEntry → List PlainEntry → List PlainEntry → Type 0
-IsPut (Ok x) place written old new = new ≡ take place old ++ written
-IsPut (Err fault) place written old new = (fault ≡ OutOfMemory) × (new ≡ old)
+-- From the place on stands what this trouble leaves of what was written, and it is the device's fault where there was
+-- a trouble. Or memory was wanting, and nothing changed.
+abbrev pub IsPut : Result Unit TapeFault → ℕ → Trouble → List PlainEntry → List PlainEntry → List PlainEntry → Type 0
+IsPut (Ok x) place trouble written old new = (trouble ≡ NoTrouble) × (new ≡ take place old ++ left_by trouble (drop place old) written)
+IsPut (Err Device) place trouble written old new = (trouble ≢ NoTrouble) × (new ≡ take place old ++ left_by trouble (drop place old) written)
+IsPut (Err OutOfMemory) place trouble written old new = new ≡ old
+IsPut (Err fault) place trouble written old new = ⊥
 
 -- The walk ended at this place, with its offset, and what is left of the count is what was not met on the way.
 pub record IsSpaced (entries : List PlainEntry) (count met place : ℕ) (at offset left : ℕ) : Type 0 where

@@ -1,7 +1,7 @@
 //! Reels of tape: records and marks, a place among them, and what each call does to both.
 //!
 //! A reel is a list of entries with a capacity in bytes. `Reel` is what every reel promises; `ListReel` keeps
-//! its entries in memory.
+//! its entries in memory, and `TroubledReel` is such a reel whose next device call can be told to fail.
 #![tactic(auto)]
 
 mod entry;
@@ -11,9 +11,13 @@ mod op;
 mod reel;
 #[cfg(test)]
 mod slow;
+mod trouble;
+mod troubled;
 
 pub use entry::Entry;
 pub use fault::TapeFault;
 pub use list::ListReel;
 pub use op::{MTBSF, MTBSR, MTFSF, MTFSR, MTNOP, MTREW, MTWEOF};
 pub use reel::{RECORD_LIMIT, Reel};
+pub use trouble::Trouble;
+pub use troubled::TroubledReel;

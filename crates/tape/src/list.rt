@@ -1,8 +1,9 @@
 ghost use Rattle.std.specs.Prelude.{◌≡◌, ◌≢◌, ◌≤◌, IfOk, [], length, true};
-ghost use Rattle.tape.specs.Tape.{IsRecord, MarksStep, ForwardFilesStep, BackFilesStep, ForwardRecordsStep, BackRecordsStep, TapeStep, op_request, done_answer, given_answer, tape};
-ghost use Rattle.tape.specs.Tape.TapeRequest.{Write, Read, Rewind};
+ghost use Rattle.tape.specs.Tape.{IsRecord, ForwardFilesStep, BackFilesStep, ForwardRecordsStep, BackRecordsStep, TapeStep, op_request, done_answer, given_answer, tape};
+ghost use Rattle.tape.specs.Tape.TapeRequest.{Write, Read, WriteMarks, Rewind};
 ghost use Rattle.tape.specs.Tape.TapeAnswer.{Done};
 ghost use Rattle.tape.specs.List.{IsListCall, IsTape};
+ghost use Rattle.tape.specs.Trouble.{DeviceStep};
 ghost use Rattle.tape.specs.declared.fault.TapeFault.TheVariants.{Device};
 
 mod entries;
@@ -11,7 +12,7 @@ mod space;
 mod tests;
 
 use crate::entry::{MARK_SIZE, RECORD_FRAME};
-use crate::{Entry, MTBSF, MTBSR, MTFSF, MTFSR, MTNOP, MTREW, MTWEOF, Reel, TapeFault};
+use crate::{Entry, MTBSF, MTBSR, MTFSF, MTFSR, MTNOP, MTREW, MTWEOF, Reel, TapeFault, Trouble};
 use entries::{put_marks, put_record};
 use space::{back_files, back_records, forward_files, forward_records};
 use std::alloc::Global;
@@ -54,12 +55,30 @@ impl ListReel {
         }
     }
 
-    /// Writes so many marks at the place.
+    /// Writes a record at the place, by a device that fails as `trouble` says.
     ///
-    /// Answers `Full` and `OutOfMemory`. Nothing changed then.
-    fn write_marks(&mut self, count: u32) -> Result<(), TapeFault>
-        ensures step { MarksStep self.old.capacity count self.old.tape (done_answer result) self.new.tape }
-        ensures device { result ≢ Err Device }
+    /// Answers `Full` and `OutOfMemory`, and nothing changed then. Answers `Device` where there is a trouble.
+    pub(crate) fn write_record(&mut self, bytes: &[u8], trouble: Trouble) -> Result<(), TapeFault>
+        requires { IsRecord bytes.now }
+        ensures step { DeviceStep self.old.capacity trouble self.old.tape (Write bytes.now) (done_answer result) self.new.tape }
+        ensures capacity { self.new.capacity ≡ self.old.capacity }
+    {
+        let size = bytes.len() as u64 + RECORD_FRAME;
+        if self.capacity - self.offset < size + MARK_SIZE {
+            return Err(TapeFault::Full);
+        }
+        let copy = Vec::from_slice(self.alloc, bytes)?;
+        put_record(&mut self.entries, self.place, copy, trouble)?;
+        self.place = self.entries.len();
+        self.offset += size;
+        Ok(())
+    }
+
+    /// Writes so many marks at the place, by a device that fails as `trouble` says.
+    ///
+    /// Answers `Full` and `OutOfMemory`, and nothing changed then. Answers `Device` where there is a trouble.
+    pub(crate) fn write_marks(&mut self, count: u32, trouble: Trouble) -> Result<(), TapeFault>
+        ensures step { DeviceStep self.old.capacity trouble self.old.tape (WriteMarks count) (done_answer result) self.new.tape }
         ensures capacity { self.new.capacity ≡ self.old.capacity }
     {
         if count == 0 {
@@ -69,7 +88,7 @@ impl ListReel {
         if self.capacity - self.offset < size {
             return Err(TapeFault::Full);
         }
-        put_marks(&mut self.entries, self.place, count as usize)?;
+        put_marks(&mut self.entries, self.place, count as usize, trouble)?;
         self.place = self.entries.len();
         self.offset += size;
         Ok(())
@@ -139,6 +158,8 @@ impl Reel for ListReel {
 
     ghost failures = { λ _. 0 };
 
+    ghost can_fail = { λ _. ⊥ };
+
     ghost GROWS = { true };
 
     const GROWS: bool = true;
@@ -149,15 +170,7 @@ impl Reel for ListReel {
         ensures step { TapeStep self.old.capacity self.old.tape (Write bytes.now) (done_answer result) self.new.tape }
         ensures device { result ≢ Err Device }
     {
-        let size = bytes.len() as u64 + RECORD_FRAME;
-        if self.capacity - self.offset < size + MARK_SIZE {
-            return Err(TapeFault::Full);
-        }
-        let copy = Vec::from_slice(self.alloc, bytes)?;
-        put_record(&mut self.entries, self.place, copy)?;
-        self.place = self.entries.len();
-        self.offset += size;
-        Ok(())
+        self.write_record(bytes, Trouble::None)
     }
 
     fn read(&mut self, into: &mut [u8]) -> Result<usize, TapeFault>
@@ -182,7 +195,7 @@ impl Reel for ListReel {
         ensures device { result ≢ Err Device }
     {
         match op {
-            MTWEOF => self.write_marks(count),
+            MTWEOF => self.write_marks(count, Trouble::None),
             MTFSF => self.forward_files(count),
             MTBSF => self.back_files(count),
             MTFSR => self.forward_records(count),

@@ -2,7 +2,9 @@
 
 ghost use Rattle.std.specs.Prelude.{◌≤◌};
 
-use crate::{MTBSF, MTBSR, MTFSF, MTFSR, MTNOP, MTREW, MTWEOF, RECORD_LIMIT, Reel, TapeFault};
+use crate::{
+    Entry, MTBSF, MTBSR, MTFSF, MTFSR, MTNOP, MTREW, MTWEOF, RECORD_LIMIT, Reel, TapeFault, Trouble,
+};
 use std::alloc::Global;
 
 /// A call of a reel.
@@ -45,13 +47,16 @@ pub(crate) fn make_call<'a, R: Reel>(
     }
 }
 
-/// A tape as all its entries, where `None` is a mark, the place and the capacity.
+/// A tape as all its entries, where `None` is a mark, the place and the capacity; and how its device fails next, and
+/// how often it has failed.
 #[derive(Drop)]
 pub(crate) struct SlowReel {
     alloc: Global,
     entries: Vec<Option<Vec<u8>>>,
     place: usize,
     capacity: u64,
+    trouble: Trouble,
+    failures: u64,
 }
 
 impl SlowReel {
@@ -61,11 +66,62 @@ impl SlowReel {
             entries: Vec::new(alloc),
             place: 0,
             capacity,
+            trouble: Trouble::None,
+            failures: 0,
         }
     }
 
-    /// Makes the call, and answers the bytes that it gave.
+    /// Makes the call, and answers the bytes that it gave. Where it comes to the device, the trouble that is set makes
+    /// it fail.
     pub(crate) fn call<'a>(
+        &mut self,
+        request: Call,
+        into: &'a mut [u8; 8],
+    ) -> Result<&'a [u8], TapeFault> {
+        if self.trouble == Trouble::None || !self.comes_to_device(request) {
+            return self.carry_out(request, into);
+        }
+        self.leave(request, into)?;
+        self.trouble = Trouble::None;
+        self.failures = self.failures.saturating_add(1);
+        Err(TapeFault::Device)
+    }
+
+    /// Whether there is room for what the call writes, and it has anything to do.
+    fn comes_to_device(&self, request: Call) -> bool {
+        match request {
+            Call::Write(bytes) => self.has_room((bytes.len() as u64).saturating_add(12)),
+            Call::Read(_) => true,
+            Call::Op(MTWEOF, count) => {
+                count > 0 && self.has_room(u64::from(count).saturating_mul(4))
+            }
+            Call::Op(op, count) => op <= MTBSR && count > 0,
+            Call::Rewind => false,
+        }
+    }
+
+    fn has_room(&self, size: u64) -> bool {
+        self.offset().saturating_add(size) <= self.capacity
+    }
+
+    /// Writes all, and takes away again what the trouble does not leave.
+    fn leave(&mut self, request: Call, into: &mut [u8; 8]) -> Result<(), TapeFault> {
+        let left = match self.trouble {
+            Trouble::None | Trouble::Kept => return Ok(()),
+            Trouble::Lost => 0,
+            Trouble::Written(count) => count as usize,
+        };
+        let place = self.place;
+        if let Call::Write(_) | Call::Op(MTWEOF, _) = request {
+            self.carry_out(request, into)?;
+            self.place = place;
+            self.entries.truncate(place.saturating_add(left));
+        }
+        Ok(())
+    }
+
+    /// Makes the call with a device that does not fail.
+    fn carry_out<'a>(
         &mut self,
         request: Call,
         into: &'a mut [u8; 8],
@@ -88,9 +144,34 @@ impl SlowReel {
         Ok(&[])
     }
 
+    /// Sets how the next device call fails.
+    pub(crate) fn set(&mut self, trouble: Trouble) {
+        self.trouble = trouble;
+    }
+
+    /// How the next device call fails, and how many have failed.
+    pub(crate) fn troubles(&self) -> (Trouble, u64) {
+        (self.trouble, self.failures)
+    }
+
     /// The place, as a number of entries.
     pub(crate) fn place(&self) -> usize {
         self.place
+    }
+
+    /// Whether these are its entries.
+    pub(crate) fn has(&self, entries: &[Entry]) -> bool {
+        for (entry, slow) in entries.iter().zip(self.entries.iter()) {
+            let same = match (entry, slow) {
+                (Entry::Record(bytes), Some(slow_bytes)) => bytes == slow_bytes,
+                (Entry::Mark, None) => true,
+                _ => false,
+            };
+            if !same {
+                return false;
+            }
+        }
+        entries.len() == self.entries.len()
     }
 
     /// The first mark at or after the place.

@@ -1,16 +1,17 @@
-ghost use Rattle.std.specs.Prelude.{◌≡◌, ◌<◌, [], ◌∷◌, None, IfOk, IfErr, IsOk};
+ghost use Rattle.std.specs.Prelude.{◌≡◌, ◌≢◌, ◌<◌, [], ◌∷◌, None, IfOk, IfErr, IsOk};
 ghost use Rattle.tape.specs.Failures.{Steps};
-ghost use Rattle.tape.specs.List.{IsTape};
+ghost use Rattle.tape.specs.Trouble.{IsTapeOf};
 ghost use Rattle.tape.specs.Tape.{Tape, entries_of};
+ghost use Rattle.tape.specs.declared.trouble.Trouble.TheVariants.{None as NoTrouble};
 ghost use Rattle.rmt_server.specs.declared.drives.fault.DriveFault.TheVariants.{NoReel};
-ghost use Rattle.rmt_server.specs.OneReel.{the_drive, the_reel, IsShop};
+ghost use Rattle.rmt_server.specs.OneReel.{the_drive, the_reel, IsShop, CanReelFail};
 ghost use Rattle.rmt_server.specs.Shop.{shop, rack, kept, after_offline};
 ghost use Rattle.rmt_server.specs.Stacking.{LatchStep, HasLatched};
 
 use crate::drives::{DriveFault, Stacks};
 use std::alloc::Global;
 use std::mem;
-use tape::{ListReel, Reel};
+use tape::{ListReel, Reel, TroubledReel};
 
 /// The name of the drive.
 const DRIVE: &[u8] = b"/dev/st0";
@@ -18,9 +19,9 @@ const DRIVE: &[u8] = b"/dev/st0";
 // Where the reel is.
 #[derive(Drop)]
 enum ReelPlace {
-    Stack(ListReel),
+    Stack(TroubledReel),
     Latched,
-    Bin(ListReel),
+    Bin(TroubledReel),
 }
 
 /// The drive `/dev/st0` with one reel in memory, and a bin.
@@ -32,11 +33,12 @@ pub struct ListStacks {
 impl ListStacks {
     /// The drive with one empty reel of this capacity, in bytes. It takes no memory yet.
     pub fn new(alloc: Global, capacity: u64) -> ListStacks
-        ensures { IsShop result (shop (rack the_drive None (kept the_reel [] capacity ∷ []) ∷ []) []) }
+        ensures shop { IsShop result (shop (rack the_drive None (kept the_reel [] capacity ∷ []) ∷ []) []) }
+        ensures quiet { CanReelFail result → ⊥ }
     {
         let reel = ListReel::new(alloc, capacity);
         ListStacks {
-            reel: ReelPlace::Stack(reel),
+            reel: ReelPlace::Stack(TroubledReel::new(reel)),
         }
     }
 }
@@ -45,7 +47,7 @@ impl Stacks for ListStacks {
     ghost use Rattle.std.proofs.Common.{sym, ◌∙◌};
     ghost use Rattle.rmt_server.specs.OneReel.{shop_of-once, shop_of-sized};
 
-    type Reel = ListReel;
+    type Reel = TroubledReel;
 
     ghost holds = { IsShop };
 
@@ -53,16 +55,20 @@ impl Stacks for ListStacks {
 
     ghost failures = { λ _. 0 };
 
+    ghost can_fail = { CanReelFail };
+
     fn drive(&self, name: &[u8]) -> Option<usize> {
         if name == DRIVE { Some(0) } else { None }
     }
 
     /// Answers `NoReel` alone.
-    fn latch(&mut self, drive: usize) -> Result<ListReel, DriveFault>
+    fn latch(&mut self, drive: usize) -> Result<TroubledReel, DriveFault>
         requires { drive < 1 }
-        ensures step { Steps IsShop self.old self.new (LatchStep IsTape (λ r. r.capacity) drive result) }
+        ensures step { Steps IsShop self.old self.new (LatchStep IsTapeOf (λ r. r.capacity) drive result) }
         ensures latched { IfOk result (λ _. HasLatched IsShop self.new drive) }
         ensures faults { IfErr result (λ fault. fault ≡ NoReel) }
+        ensures quiet { CanReelFail self.new → CanReelFail self.old }
+        ensures quiet_reel { IfOk result (λ reel. reel.trouble ≢ NoTrouble → CanReelFail self.old) }
     {
         match mem::replace(&mut self.reel, ReelPlace::Latched) {
             ReelPlace::Stack(mut reel) => {
@@ -76,15 +82,20 @@ impl Stacks for ListStacks {
         }
     }
 
-    fn unlatch(&mut self, drive: usize, reel: ListReel) {
+    fn unlatch(&mut self, drive: usize, reel: TroubledReel) {
         self.reel = ReelPlace::Stack(reel);
     }
 
     /// Always moves the reel, and takes no memory.
-    fn offline(&mut self, drive: usize, reel: ListReel) -> Result<(), (ListReel, DriveFault)>
+    fn offline(
+        &mut self,
+        drive: usize,
+        reel: TroubledReel,
+    ) -> Result<(), (TroubledReel, DriveFault)>
         requires drive { drive < 1 }
         requires latched { HasLatched IsShop self.old drive }
-        ensures moved { (t : Tape) → IsTape reel t → Steps IsShop self.old self.new (λ s now. now ≡ after_offline s drive (entries_of t) reel.capacity) }
+        ensures moved { (t : Tape) → IsTapeOf reel t → Steps IsShop self.old self.new (λ s now. now ≡ after_offline s drive (entries_of t) reel.capacity) }
+        ensures quiet { CanReelFail self.new → reel.trouble ≢ NoTrouble }
         ensures done { IsOk result }
     {
         self.reel = ReelPlace::Bin(reel);

@@ -1,6 +1,7 @@
-ghost use Rattle.std.specs.Prelude.{◌≡◌, ℕ, ◌<◌, ◌≤◌, IfSome, IfOk, IfErr, length};
+ghost use Rattle.std.specs.Prelude.{◌≡◌, ◌⊎◌, ℕ, ◌<◌, ◌≤◌, Err, IfSome, IfOk, IfErr, length};
 ghost use Rattle.tape.specs.Failures.{Steps};
 ghost use Rattle.tape.specs.Tape.{Tape, entries_of};
+ghost use Rattle.rmt_server.specs.declared.drives.fault.DriveFault.TheVariants.{Device};
 ghost use Rattle.rmt_server.specs.Shop.{Shop, IsDriveNamed, EachReelOnce, after_unlatch, after_offline};
 ghost use Rattle.rmt_server.specs.Stacking.{IsLatchFault, IsOfflineFault, LatchStep, StaysOnline, HasLatched};
 
@@ -24,6 +25,10 @@ pub trait Stacks {
     /// How often the device has failed, up to the greatest `u64`.
     ghost failures: { Self → ℕ };
 
+    /// A device can fail in the next call: that of the stacks, or that of a reel that lies on them or in the bin.
+    /// No call brings that about, but to lay a reel there whose device can fail.
+    ghost can_fail: { Self → Type 0 };
+
     /// The first drive of that name. It takes no memory.
     fn drive(&self, name: &[u8]) -> Option<usize>
         ensures below { IfSome result (λ d. d < drives self.now) }
@@ -37,6 +42,9 @@ pub trait Stacks {
         ensures step { Steps holds self.old self.new (LatchStep Self.Reel.holds Self.Reel.capacity drive result) }
         ensures latched { IfOk result (λ _. HasLatched holds self.new drive) }
         ensures faults { IfErr result (λ fault. IsLatchFault fault (failures self.old) (failures self.new)) }
+        ensures able { result ≡ Err Device → can_fail self.old }
+        ensures quiet { can_fail self.new → can_fail self.old }
+        ensures quiet_reel { IfOk result (λ reel. Self.Reel.can_fail reel → can_fail self.old) }
         ensures counted { failures self.old ≤ failures self.new }
         ensures same_drives { drives self.new ≡ drives self.old };
 
@@ -45,6 +53,7 @@ pub trait Stacks {
         requires drive { drive < drives self.old }
         requires latched { HasLatched holds self.old drive }
         ensures step { (t : Tape) → Self.Reel.holds reel t → Steps holds self.old self.new (λ s now. now ≡ after_unlatch s drive (entries_of t) (Self.Reel.capacity reel)) }
+        ensures quiet { can_fail self.new → can_fail self.old ⊎ Self.Reel.can_fail reel }
         ensures counted { failures self.old ≤ failures self.new }
         ensures same_drives { drives self.new ≡ drives self.old };
 
@@ -58,6 +67,8 @@ pub trait Stacks {
         ensures moved { IfOk result (λ _. (t : Tape) → Self.Reel.holds reel t → Steps holds self.old self.new (λ s now. now ≡ after_offline s drive (entries_of t) (Self.Reel.capacity reel))) }
         ensures kept { IfErr result (λ refused. Steps holds self.old self.new (StaysOnline drive refused.1)) }
         ensures back { IfErr result (λ refused. refused.0 ≡ reel) }
+        ensures able { IfErr result (λ refused. refused.1 ≡ Device → can_fail self.old) }
+        ensures quiet { can_fail self.new → can_fail self.old ⊎ Self.Reel.can_fail reel }
         ensures faults { IfErr result (λ refused. IsOfflineFault refused.1 (failures self.old) (failures self.new)) }
         ensures counted { failures self.old ≤ failures self.new }
         ensures same_drives { drives self.new ≡ drives self.old };

@@ -1,4 +1,5 @@
-ghost use Rattle.std.specs.Prelude.{◌≡◌, ◌≢◌, ℕ, ◌<◌, ◌≤◌, IfOk, IfErr, OnErr, Some};
+ghost use Rattle.std.specs.Prelude.{◌≡◌, ◌≢◌, ℕ, ◌<◌, ◌≤◌, IfOk, IfErr, OnErr, Some, Err};
+ghost use Rattle.rmt_server.specs.declared.drives.fault.DriveFault.TheVariants.{Device};
 ghost use Rattle.tape.specs.Failures.{Steps};
 ghost use Rattle.rmt_server.specs.Stacking.{HasLatched};
 ghost use Rattle.rmt_server.specs.Opening.{SeatStep, drive_asked, found_in_open, word_after_open, OpenStep, IsOpenFault};
@@ -35,6 +36,9 @@ impl<H: Holds, S: Stacks> DriveTable<H, S> {
         ensures stacks { Steps S.holds self.old.stacks self.new.stacks (OpenStep S.Reel.holds S.Reel.capacity name.now (drive_asked result (H.shows seat.new)) result) }
         ensures latched { IfOk result (λ opened. HasLatched S.holds self.new.stacks opened.0) }
         ensures faults { IfErr result (λ fault. IsOpenFault fault (S.failures self.old.stacks) (S.failures self.new.stacks)) }
+        ensures able { result ≡ Err Device → S.can_fail self.old.stacks }
+        ensures quiet { S.can_fail self.new.stacks → S.can_fail self.old.stacks }
+        ensures quiet_reel { IfOk result (λ opened. S.Reel.can_fail opened.1 → S.can_fail self.old.stacks) }
         ensures counted { S.failures self.old.stacks ≤ S.failures self.new.stacks }
         ensures same_stacks { S.drives self.new.stacks ≡ S.drives self.old.stacks }
     {

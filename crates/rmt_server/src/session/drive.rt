@@ -1,11 +1,11 @@
 //! Opening and closing a drive.
-ghost use Rattle.std.specs.Prelude.{◌≡◌, ℕ, ◌<◌, ◌≤◌, Some, None, IfOk};
+ghost use Rattle.std.specs.Prelude.{◌≡◌, ◌⊎◌, ℕ, ◌<◌, ◌≤◌, Some, None, IfOk};
 ghost use Rattle.rmt_server.specs.Shop.{Shop};
 ghost use Rattle.rmt_server.specs.Stacking.{HasLatched};
 ghost use Rattle.rmt_server.specs.Session.{PlainSession, closed_shop};
 ghost use Rattle.rmt_server.specs.declared.access.Access.{Access as AccessOf};
 ghost use Rattle.rmt_server.specs.Access.{access_of};
-ghost use Rattle.rmt_server.specs.Carrying.{IsAt, IsClosed, IsSeenWith, online_in, number_reply, OpensFor, OpensAnew};
+ghost use Rattle.rmt_server.specs.Carrying.{IsAt, IsClosed, ReelCanFail, IsSeenWith, online_in, number_reply, OpensFor, OpensAnew};
 
 use crate::access::Access;
 use crate::drives::{DriveTable, Holds, Stacks};
@@ -18,6 +18,7 @@ fn put_back<S: Stacks>(stacks: &mut S, drive: usize, reel: Option<S::Reel>)
     requires drive { drive < S.drives stacks.old }
     requires latched { (d : ℕ) → online_in drive reel ≡ Some d → HasLatched S.holds stacks.old d }
     ensures step { (access : AccessOf) (shop : Shop) (session : PlainSession) → S.holds stacks.old shop → IsSeenWith S.Reel.Reel drive access reel session → S.holds stacks.new (closed_shop shop session) }
+    ensures quiet { S.can_fail stacks.new → S.can_fail stacks.old ⊎ ReelCanFail S.Reel.Reel reel }
     ensures counted { S.failures stacks.old ≤ S.failures stacks.new }
     ensures same_drives { S.drives stacks.new ≡ S.drives stacks.old }
 {

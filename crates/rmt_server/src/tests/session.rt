@@ -25,7 +25,7 @@ fn number<H: Holds, S: Stacks>(
 }
 
 /// Whether a read of so many bytes is answered with these.
-fn gives<H: Holds, S: Stacks>(
+pub(crate) fn gives<H: Holds, S: Stacks>(
     session: &mut Session<H, S>,
     drives: &mut DriveTable<H, S>,
     count: u32,

@@ -10,6 +10,13 @@ use std::test::Fail;
 /// A record for each entry of the greatest list that spacing is compared on. No two have one length.
 const RECORDS: [&[u8]; 5] = [b"a", b"bb", b"ccc", b"dddd", b"eeeee"];
 
+impl ListReel {
+    /// The entries, the place and its offset.
+    pub(crate) fn parts(&self) -> (&[Entry], usize, u64) {
+        (&self.entries, self.place, self.offset)
+    }
+}
+
 /// What a caller learns of a write that knows the reel to be in memory.
 fn write_in_memory(reel: &mut ListReel, bytes: &[u8]) -> Result<(), TapeFault>
     requires { IsRecord bytes.now }

@@ -1,7 +1,8 @@
 use Rattle.std.proofs.Common.{rules, false, None, refl, sym, ap, subst, ◌∙◌, ◌+◌, inr}
 use Rattle.rmt_server.specs.Carrying.{IsSeenAs}
 use Rattle.rmt_server.specs.Session.PlainSession.{Idle}
-use Rattle.tape.specs.contracts.list.ListReelReel.TheImpl as ListReelPromise
+use Rattle.tape.specs.contracts.troubled.TroubledReelReel.TheImpl as TroubledReelPromise
+use Rattle.rmt_server.specs.contracts.drives.list.ListStacksStacks.TheImpl as ListStacksPromise
 use Rattle.rmt_tools.specs.Stdio.{blank_scene, IsServedAlone}
 use Rattle.rmt_tools.proofs.Endings.{served_none, none_fails, none_holds, kept_ok, ends_with}
 use Rattle.rmt_server.specs.Local.{Holders}
@@ -22,10 +23,12 @@ returns-in_default g c = served_none (search rules)
 pub returns : goal.returns
 returns g c =
     let served = c.serve.ensures.served in
-    let idle : IsSeenAs ListReelPromise.ghosts c.in-Ok.session.opened Idle = subst (λ s. IsSeenAs ListReelPromise.ghosts s.opened Idle) (sym c.in-Ok.ensures.made) refl in
+    let idle : IsSeenAs TroubledReelPromise.ghosts c.in-Ok.session.opened Idle = subst (λ s. IsSeenAs TroubledReelPromise.ghosts s.opened Idle) (sym c.in-Ok.ensures.made) refl in
     let blank = blank_scene c.args.capacity in
     let empty = ap (λ (h : Holders). h.numbers) c.in_ok-seat.ensures.next.1 ∙ ap (λ (h : Holders). h.numbers) (kept_ok _ c.new-2.result _ c.new-2.ensures c.in_ok-holds.ensures.value) in
-    let steps = served.steps false false none_fails (inr (none_holds c.seat.new.self _ empty)) blank record { shop = c.new-stacks.ensures; session = idle } in
+    let closed = ap (λ s. s.opened) c.in-Ok.ensures.made in
+    let quiet = none_fails ListStacksPromise.ghosts TroubledReelPromise.ghosts _ _ c.new-stacks.ensures.quiet closed in
+    let steps = served.steps false false quiet (inr (none_holds c.seat.new.self _ empty)) blank record { shop = c.new-stacks.ensures.shop; session = idle } in
     subst (IsServedAlone g.R.Read.remaining g.W.Write.contents c.args.capacity c.args.input.now c.serve.new.input c.args.output.now c.serve.new.output) (sym c.ok-3.ensures.value) record {
       read = served.read;
       done = served.done;

@@ -1,4 +1,4 @@
-use Rattle.std.proofs.Common.{refl, sym, subst, arith}
+use Rattle.std.proofs.Common.{inl, inr, refl, sym, subst, arith}
 use Rattle.rmt_server.specs.Carrying.{IsAt}
 use Rattle.rmt_server.proofs.Seats.{HoldsJust-given}
 use Rattle.rmt_server.proofs.session.drive.close.Goals as goal
@@ -33,5 +33,6 @@ returns-clause-closed g c =
         same_stacks = c.put_back.ensures.same_drives;
         counted = c.put_back.ensures.counted;
       };
+      quiet = λ f. elim f [ inl x ↦ c.put_back.ensures.quiet x | inr x ↦ absurd x ];
       idle = λ e. absurd cc;
     })

@@ -5,5 +5,5 @@ use Rattle.tape.proofs.list.entries.put_marks.Given as goal
 abbrev pub invariant-loop : goal.invariant-loop
 invariant-loop l = record {
   entries : l.entries.items ≡ take l.place l.fn.entries.items ++ replicate l.counter Mark;
-  room : vec_len l.entries + (l.count - l.counter) ≤ vec_capacity l.entries;
+  room : vec_len l.entries + (l.left - l.counter) ≤ vec_capacity l.entries;
 }

@@ -1,0 +1,33 @@
+//! Trouble for the reel that is online, while drives and reels are in memory.
+ghost use Rattle.std.specs.Prelude.{◌≡◌};
+ghost use Rattle.rmt_server.specs.Carrying.{IsAt};
+ghost use Rattle.rmt_server.specs.contracts.drives.list.ListStacksStacks.TheImpl.{ghosts as of_stacks};
+ghost use Rattle.rmt_server.specs.declared.drives.list.ListStacks.{ListStacks as Stacks};
+ghost use Rattle.rmt_server.specs.Troubling.{troubled, with_trouble};
+
+use crate::drives::{Holds, ListStacks};
+use crate::session::Session;
+use tape::{Trouble, TroubledReel};
+
+/// Sets how the next device call of the reel fails, if there is one.
+fn set_in(reel: &mut Option<TroubledReel>, trouble: Trouble)
+    ensures { reel.new ≡ troubled trouble reel.old }
+{
+    if let Some(reel) = reel {
+        reel.set(trouble);
+    }
+}
+
+impl<H: Holds> Session<H, ListStacks> {
+    /// Sets how the next device call of the reel that is online fails, in place of what was set before. While no reel
+    /// is online it does nothing.
+    pub fn trouble(&mut self, trouble: Trouble)
+        ensures seat { self.new.seat ≡ self.old.seat }
+        ensures at { (holds : H) (stacks : Stacks) → IsAt H.Holds of_stacks (record { holds = holds; stacks = stacks }) self.old.seat self.old.opened → IsAt H.Holds of_stacks (record { holds = holds; stacks = stacks }) self.new.seat self.new.opened }
+        ensures set { self.new.opened ≡ with_trouble trouble self.old.opened }
+    {
+        if let Some(device) = &mut self.opened {
+            set_in(&mut device.reel, trouble);
+        }
+    }
+}

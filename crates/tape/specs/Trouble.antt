@@ -1,0 +1,84 @@
+-- A device that is told how its next call fails: which calls come to it, and what a failed one leaves.
+use Rattle.std.specs.Prelude.{◌≡◌, ◌≢◌, ◌⊎◌, ℕ, ◌+◌, ◌*◌, ◌<◌, ◌≤◌, List, [], ◌∷◌, length, take, replicate, true, Option, MatchOption}
+use Rattle.tape.specs.Failures.{raised}
+use Rattle.tape.specs.Tape.{PlainEntry, Tape, TapeRequest, TapeAnswer, TapeStep, tape, offset_of}
+use Rattle.tape.specs.Tape.PlainEntry.{Record, Mark}
+use Rattle.tape.specs.Tape.TapeRequest.{Write, Read, WriteMarks, ForwardFiles, BackFiles, ForwardRecords, BackRecords, Rewind, Nothing, Unknown}
+use Rattle.tape.specs.Tape.TapeAnswer.{Fault}
+use Rattle.tape.specs.Call.{IsCall}
+use Rattle.tape.specs.declared.fault.TapeFault.TheVariants.{Device, OutOfMemory}
+use Rattle.tape.specs.declared.trouble.Trouble.{Trouble}
+use Rattle.tape.specs.declared.trouble.Trouble.TheVariants.{None, Kept, Lost, Written}
+
+-- The call comes to the device: a write and marks where there is room for them, each read, and spacing and marks
+-- from a count of 1 on. (Where a growth in memory is refused it does not come so far.)
+abbrev pub ComesToDevice : ℕ → Tape → TapeRequest → Type 0
+ComesToDevice capacity t (Write bytes) = offset_of t.before + length bytes + 12 ≤ capacity
+ComesToDevice capacity t (Read count) = Unit {0}
+ComesToDevice capacity t (WriteMarks count) = (0 < count) × (offset_of t.before + 4 * count ≤ capacity)
+ComesToDevice capacity t (ForwardFiles count) = 0 < count
+ComesToDevice capacity t (BackFiles count) = 0 < count
+ComesToDevice capacity t (ForwardRecords count) = 0 < count
+ComesToDevice capacity t (BackRecords count) = 0 < count
+ComesToDevice capacity t Rewind = ⊥
+ComesToDevice capacity t Nothing = ⊥
+ComesToDevice capacity t Unknown = ⊥
+
+-- What stands from the place on after a write that met this trouble, where `stood` stood there before: all that was
+-- written where there was none, and else what stood, nothing, or the first of the entries that were written.
+abbrev pub left_by : Trouble → List PlainEntry → List PlainEntry → List PlainEntry
+left_by None stood written = written
+left_by Kept stood written = stood
+left_by Lost stood written = []
+left_by (Written count) stood written = take count written
+
+-- What stands from the place on after a call that met this trouble: only writes change it.
+abbrev pub left_after : Trouble → TapeRequest → List PlainEntry → List PlainEntry
+left_after trouble (Write bytes) stood = left_by trouble stood (Record bytes ∷ [])
+left_after trouble (WriteMarks count) stood = left_by trouble stood (replicate count Mark)
+left_after trouble request stood = stood
+
+-- the device does not fail in the call: no trouble was set, or the call does not come to the device
+abbrev pub IsSpared : ℕ → Trouble → Tape → TapeRequest → Type 0
+IsSpared capacity trouble t request = (trouble ≡ None) ⊎ (ComesToDevice capacity t request → ⊥)
+
+-- One call on a tape whose device was told to fail so. `Device` is answered exactly where a call came to the device
+-- and a trouble was set: the place stays and the entries before it too, and from there on stands what the trouble leaves.
+-- Any other call is that of a device which does not fail; memory is wanting before the device is called.
+abbrev pub DeviceStep : ℕ → Trouble → Tape → TapeRequest → TapeAnswer → Tape → Type 0
+DeviceStep capacity trouble t request (Fault Device) u =
+    (trouble ≢ None) × ComesToDevice capacity t request × (u ≡ tape t.before (left_after trouble request t.after))
+DeviceStep capacity trouble t request (Fault OutOfMemory) u = TapeStep capacity t request (Fault OutOfMemory) u
+DeviceStep capacity trouble t request answer u = IsSpared capacity trouble t request × TapeStep capacity t request answer u
+
+-- what a reel is whose device can be told to fail: its tape, how many bytes it takes, how the next device call fails,
+-- and how many have failed
+pub record TroubledTape : Type 0 where
+  pub tape : Tape
+  pub capacity : ℕ
+  pub trouble : Trouble
+  pub failures : ℕ
+
+-- it always tells its tape
+abbrev pub IsTapeOf : TroubledTape → Tape → Type 0
+IsTapeOf reel t = reel.tape ≡ t
+
+-- A failed device call is counted, and its trouble is gone. Any other call leaves both.
+abbrev pub IsCounted : TapeAnswer → TroubledTape → TroubledTape → Type 0
+IsCounted (Fault Device) old new = (new.trouble ≡ None) × (new.failures ≡ raised old.failures)
+IsCounted answer old new = (new.trouble ≡ old.trouble) × (new.failures ≡ old.failures)
+
+-- One call of such a reel.
+pub record TroubledStep (old new : TroubledTape) (request : TapeRequest) (answer : TapeAnswer) : Type 0 where
+  pub step : DeviceStep old.capacity old.trouble old.tape request answer new.tape
+  pub counted : IsCounted answer old new
+  pub same_capacity : new.capacity ≡ old.capacity
+
+-- what it promises as a reel: its device can fail where a trouble is set
+abbrev pub IsTroubledCall : TroubledTape → TroubledTape → TapeRequest → TapeAnswer → Type 0
+IsTroubledCall old new request answer = IsCall IsTapeOf (λ r. r.capacity) (λ r. r.failures) (λ r. r.trouble ≢ None) true old new request answer
+
+-- How many of so many entries that are written stand afterwards: no number where what stood before stands.
+abbrev pub IsLeft : Trouble → ℕ → Option ℕ → Type 0
+IsLeft trouble count left = (stood written : List PlainEntry) → length written ≡ count
+    → MatchOption left (left_by trouble stood written ≡ stood) (λ n. left_by trouble stood written ≡ take n written)
