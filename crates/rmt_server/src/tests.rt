@@ -13,10 +13,13 @@ mod rows;
 mod script;
 mod served;
 mod session;
+mod shared;
 mod slow;
+pub(crate) mod slow_holds;
 mod spelled;
 mod troubled;
 mod turns;
+mod two_stacks;
 
 /// A capacity in bytes that no row fills.
 pub(crate) const CAPACITY: u64 = 1048576;

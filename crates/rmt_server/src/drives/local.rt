@@ -3,6 +3,9 @@ ghost use Rattle.rmt_server.specs.declared.drives.view.View.{View};
 ghost use Rattle.rmt_server.specs.Holding.{newcomer, moved, last_step, HoldsJust};
 ghost use Rattle.rmt_server.specs.Local.{holders, IsSeatOf};
 
+#[cfg(test)]
+mod tests;
+
 use crate::drives::{Holds, LastStep, StepKind, Taken, View};
 use std::alloc::{AllocError, Global};
 use std::marker::Model;

@@ -203,6 +203,7 @@ pub(crate) fn error_text(number: u32) -> &'static [u8] {
         5 => b"Input/output error",
         9 => b"Bad file descriptor",
         13 => b"Permission denied",
+        16 => b"Device busy",
         22 => b"Invalid argument",
         28 => b"No space left on device",
         _ => b"an error that one drive in memory does not answer",
