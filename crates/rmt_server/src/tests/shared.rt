@@ -5,9 +5,9 @@ ghost use Rattle.tape.specs.List.{ListTape};
 ghost use Rattle.rmt_server.specs.declared.drives.fault.DriveFault.{DriveFault};
 ghost use Rattle.rmt_server.specs.declared.drives.view.View.{View};
 ghost use Rattle.rmt_server.specs.Opening.{SeatStep};
-ghost use Rattle.rmt_server.specs.Holding.{has};
+ghost use Rattle.rmt_server.specs.Holding.{has, HoldsJust};
 ghost use Rattle.rmt_server.specs.Local.{IsSeatOf};
-ghost use Rattle.rmt_server.specs.Carrying.{IsAt, HoldsJust};
+ghost use Rattle.rmt_server.specs.Carrying.{IsAt};
 ghost use Rattle.rmt_server.specs.contracts.drives.local.LocalHoldsHolds.TheImpl.{ghosts as of_holds};
 ghost use Rattle.rmt_server.specs.contracts.tests.two_stacks.TwoStacksStacks.TheImpl.{ghosts as of_stacks};
 

@@ -30,6 +30,8 @@ impl Stacks for TwoStacks {
 
     ghost failures = { λ _. 0 };
 
+    ghost can_fail = { λ _. ⊥ };
+
     fn drive(&self, name: &[u8]) -> Option<usize> {
         if name == b"/dev/st0".as_slice() {
             Some(0)
