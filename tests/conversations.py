@@ -15,9 +15,11 @@ BROKEN = 3
 
 OPEN = b"O/dev/st0\n2\n"
 NO_SUCH_FILE = b"E2\nNo such file or directory\n"
+IO_ERROR = b"E5\nInput/output error\n"
 BAD_DESCRIPTOR = b"E9\nBad file descriptor\n"
 NO_PERMISSION = b"E13\nPermission denied\n"
 INVALID = b"E22\nInvalid argument\n"
+NO_SPACE = b"E28\nNo space left on device\n"
 
 GREATEST_RECORD = b"r" * 65_536
 
@@ -64,8 +66,242 @@ WRITTEN_AND_READ_BACK = Conversation(
     ),
 )
 
+# Spacing over marks (1 forward, 2 back) and records (3 forward, 4 back), and all that ends it before its count.
+SPACING = (
+    # The end is met before a record. Above 7 there is no operation.
+    Conversation(
+        "spacing on an empty reel",
+        (OPENED, Exchange(b"I3\n1\n", IO_ERROR), Exchange(b"I8\n1\n", INVALID)),
+    ),
+    # `a`, a mark, `b`, a mark. Back over both marks the place is before the first, where a read passes it. Back from
+    # there that mark is met before a record, and the place is before it again. Forward over it stands `b`.
+    Conversation(
+        "marks, spaced over both ways",
+        (
+            OPENED,
+            Exchange(b"W1\na", b"A1\n"),
+            Exchange(b"I0\n1\n", b"A1\n"),
+            Exchange(b"W1\nb", b"A1\n"),
+            Exchange(b"I0\n1\n", b"A1\n"),
+            Exchange(b"I2\n2\n", b"A2\n"),
+            Exchange(b"R9\n", b"A0\n"),
+            Exchange(b"I4\n1\n", IO_ERROR),
+            Exchange(b"I1\n1\n", b"A1\n"),
+            Exchange(b"R1\n", b"A1\nb"),
+            CLOSED,
+        ),
+    ),
+    # `a`, `b`, a mark, and the end at place 3. Back: the mark is met first, so place 2; five records are too many, so
+    # place 0. Forward: two records to place 2; then the mark is met first, so place 3. Back over the mark to place 2;
+    # there is no other, so place 0. Forward there is one mark, so the end. A count of 0 is done where it stands.
+    Conversation(
+        "records and marks, spaced over past the ends",
+        (
+            OPENED,
+            Exchange(b"W1\na", b"A1\n"),
+            Exchange(b"W1\nb", b"A1\n"),
+            Exchange(b"I0\n1\n", b"A1\n"),
+            Exchange(b"I4\n1\n", IO_ERROR),
+            Exchange(b"I4\n5\n", IO_ERROR),
+            Exchange(b"I3\n2\n", b"A2\n"),
+            Exchange(b"I3\n1\n", IO_ERROR),
+            Exchange(b"I2\n1\n", b"A1\n"),
+            Exchange(b"I2\n1\n", IO_ERROR),
+            Exchange(b"I1\n2\n", IO_ERROR),
+            Exchange(b"I2\n0\n", b"A0\n"),
+        ),
+    ),
+    # `a`, `b`, a mark, `c`. A read shows where the spacing before it stopped.
+    Conversation(
+        "where spacing stops",
+        (
+            OPENED,
+            Exchange(b"W1\na", b"A1\n"),
+            Exchange(b"W1\nb", b"A1\n"),
+            Exchange(b"I0\n1\n", b"A1\n"),
+            Exchange(b"W1\nc", b"A1\n"),
+            # back over one record: before `c`
+            Exchange(b"I4\n1\n", b"A1\n"),
+            Exchange(b"R1\n", b"A1\nc"),
+            # back over two: `c`, and then the mark is met, before which it stops; the read passes the mark
+            Exchange(b"I4\n2\n", IO_ERROR),
+            Exchange(b"R1\n", b"A0\n"),
+            Exchange(b"R1\n", b"A1\nc"),
+            # back over the mark, and over `b`
+            Exchange(b"I2\n1\n", b"A1\n"),
+            Exchange(b"I4\n1\n", b"A1\n"),
+            Exchange(b"R1\n", b"A1\nb"),
+            # two marks are not there: the beginning
+            Exchange(b"I2\n2\n", IO_ERROR),
+            Exchange(b"R1\n", b"A1\na"),
+            # three records ahead: `b`, and then the mark is met, behind which it stops
+            Exchange(b"I3\n3\n", IO_ERROR),
+            Exchange(b"R1\n", b"A1\nc"),
+            # one record back, one mark ahead is not there: the end
+            Exchange(b"I4\n1\n", b"A1\n"),
+            Exchange(b"I1\n1\n", IO_ERROR),
+            Exchange(b"R1\n", b"A0\n"),
+            # one record on is not there either: the end again
+            Exchange(b"I3\n1\n", IO_ERROR),
+            Exchange(b"R1\n", b"A0\n"),
+            # the greatest count, over all: the beginning, and the first entry
+            Exchange(b"I2\n2147483647\n", IO_ERROR),
+            Exchange(b"R1\n", b"A1\na"),
+            # the greatest count forward over records: `b`, then the mark
+            Exchange(b"I3\n2147483647\n", IO_ERROR),
+            Exchange(b"R1\n", b"A1\nc"),
+        ),
+    ),
+    # A count of 0 moves nothing in each of the four operations, also right before a mark: the read passes that mark.
+    Conversation(
+        "spacing by no count",
+        (
+            OPENED,
+            Exchange(b"W1\na", b"A1\n"),
+            Exchange(b"I0\n1\n", b"A1\n"),
+            Exchange(b"W1\nb", b"A1\n"),
+            Exchange(b"I2\n1\n", b"A1\n"),
+            Exchange(b"I1\n0\n", b"A0\n"),
+            Exchange(b"I2\n0\n", b"A0\n"),
+            Exchange(b"I3\n0\n", b"A0\n"),
+            Exchange(b"I4\n0\n", b"A0\n"),
+            Exchange(b"R1\n", b"A0\n"),
+            Exchange(b"R1\n", b"A1\nb"),
+        ),
+    ),
+    # Whatever the access a device may be spaced over, and spacing cuts nothing off. With nothing open it is refused.
+    Conversation(
+        "spacing with each access",
+        (
+            Exchange(b"I1\n1\n", BAD_DESCRIPTOR),
+            Exchange(b"I4\n0\n", BAD_DESCRIPTOR),
+            Exchange(b"O/dev/st0\n1\n", b"A0\n"),
+            Exchange(b"W1\na", b"A1\n"),
+            Exchange(b"I0\n1\n", b"A1\n"),
+            Exchange(b"W1\nb", b"A1\n"),
+            Exchange(b"I4\n1\n", b"A1\n"),
+            Exchange(b"I2\n1\n", b"A1\n"),
+            Exchange(b"O/dev/st0\n0\n", b"A0\n"),
+            Exchange(b"I3\n1\n", b"A1\n"),
+            Exchange(b"I1\n1\n", b"A1\n"),
+            Exchange(b"R1\n", b"A1\nb"),
+            Exchange(b"I2\n1\n", b"A1\n"),
+            Exchange(b"I4\n1\n", b"A1\n"),
+            Exchange(b"R1\n", b"A1\na"),
+        ),
+    ),
+    # `a`, a mark, `b`, a mark. A write before the second mark puts `c` in its place. Then there is one mark.
+    Conversation(
+        "a write where spacing stopped",
+        (
+            OPENED,
+            Exchange(b"W1\na", b"A1\n"),
+            Exchange(b"I0\n1\n", b"A1\n"),
+            Exchange(b"W1\nb", b"A1\n"),
+            Exchange(b"I0\n1\n", b"A1\n"),
+            Exchange(b"I2\n1\n", b"A1\n"),
+            Exchange(b"W1\nc", b"A1\n"),
+            Exchange(b"I2\n2\n", IO_ERROR),
+            Exchange(b"I1\n1\n", b"A1\n"),
+            Exchange(b"R1\n", b"A1\nb"),
+            Exchange(b"R1\n", b"A1\nc"),
+            Exchange(b"R1\n", b"A0\n"),
+        ),
+    ),
+    # Operation 6, which would take the reel away, is refused, and the reel is still there.
+    Conversation(
+        "no operation takes the reel away",
+        (OPENED, Exchange(b"I6\n1\n", INVALID), Exchange(b"I7\n2\n", b"A2\n"), Exchange(b"R1\n", b"A0\n")),
+    ),
+)
+
+# A record takes its length and 8 bytes, a mark 4, and a record has to leave room for a mark behind it.
+FULL_REELS = (
+    # 262,144 marks take all of the 1,048,576 bytes: one more mark is too many, also at once. Back by one mark, there is
+    # room for that mark and for no record.
+    Conversation(
+        "a reel full of marks",
+        (
+            OPENED,
+            Exchange(b"I0\n262145\n", NO_SPACE),
+            Exchange(b"I0\n262144\n", b"A262144\n"),
+            Exchange(b"I0\n1\n", NO_SPACE),
+            Exchange(b"I0\n0\n", b"A0\n"),
+            Exchange(b"W1\nx", b"A0\n"),
+            Exchange(b"I2\n1\n", b"A1\n"),
+            Exchange(b"W1\nx", b"A0\n"),
+            Exchange(b"I0\n1\n", b"A1\n"),
+            Exchange(b"I0\n1\n", NO_SPACE),
+            Exchange(b"I2\n262145\n", IO_ERROR),
+            Exchange(b"I1\n262144\n", b"A262144\n"),
+            Exchange(b"I1\n1\n", IO_ERROR),
+            Exchange(b"I5\n0\n", b"A0\n"),
+            Exchange(b"R1\n", b"A0\n"),
+            Exchange(b"I2\n1\n", b"A1\n"),
+            Exchange(b"I2\n1\n", IO_ERROR),
+            CLOSED,
+        ),
+    ),
+    # 15 of the greatest records take 983,160 bytes. With the 12 beside it a record of 65,405 bytes is a byte too long. One
+    # of 65,404 leaves room for just a mark.
+    Conversation(
+        "a reel full of records",
+        (
+            Exchange(b"O/dev/st0\n1\n", b"A0\n"),
+            *(Exchange(b"W65536\n" + GREATEST_RECORD, b"A65536\n") for _ in range(15)),
+            Exchange(b"W65405\n" + GREATEST_RECORD[:65_405], b"A0\n"),
+            Exchange(b"W65404\n" + GREATEST_RECORD[:65_404], b"A65404\n"),
+            Exchange(b"I0\n1\n", b"A1\n"),
+            Exchange(b"I0\n1\n", NO_SPACE),
+            # back over the mark and the last record there is as much room as before; the short one cuts off both
+            Exchange(b"I2\n1\n", b"A1\n"),
+            Exchange(b"I4\n1\n", b"A1\n"),
+            Exchange(b"W65405\n" + GREATEST_RECORD[:65_405], b"A0\n"),
+            Exchange(b"W1\nx", b"A1\n"),
+            Exchange(b"I4\n17\n", IO_ERROR),
+            Exchange(b"I3\n16\n", b"A16\n"),
+        ),
+    ),
+    # 262,140 marks leave 16 bytes: a record of 4 bytes with a mark behind it.
+    Conversation(
+        "16 bytes left",
+        (
+            OPENED,
+            Exchange(b"I0\n262140\n", b"A262140\n"),
+            Exchange(b"W5\nabcde", b"A0\n"),
+            Exchange(b"W4\nabcd", b"A4\n"),
+            Exchange(b"W1\nx", b"A0\n"),
+            Exchange(b"I0\n1\n", b"A1\n"),
+            Exchange(b"I0\n1\n", NO_SPACE),
+            Exchange(b"I4\n1\n", IO_ERROR),
+            Exchange(b"I4\n1\n", b"A1\n"),
+            Exchange(b"R5\n", b"A4\nabcd"),
+            CLOSED,
+        ),
+    ),
+    # A record of 1 byte and 262,138 marks leave 15 bytes: too few for that record, enough for three marks.
+    Conversation(
+        "15 bytes left",
+        (
+            OPENED,
+            Exchange(b"W1\nr", b"A1\n"),
+            Exchange(b"I0\n262138\n", b"A262138\n"),
+            Exchange(b"W4\nabcd", b"A0\n"),
+            Exchange(b"I0\n4\n", NO_SPACE),
+            Exchange(b"I0\n3\n", b"A3\n"),
+            Exchange(b"I0\n1\n", NO_SPACE),
+            Exchange(b"I2\n262141\n", b"A262141\n"),
+            Exchange(b"I4\n1\n", b"A1\n"),
+            Exchange(b"R5\n", b"A1\nr"),
+            CLOSED,
+        ),
+    ),
+)
+
 CONVERSATIONS = (
     WRITTEN_AND_READ_BACK,
+    *SPACING,
+    *FULL_REELS,
     # No request, so no answer; the input ends between requests.
     Conversation("an empty input"),
     # The data of a write are read also where nothing is open, so that the next request would be found.
