@@ -242,8 +242,8 @@ FULL_REELS = (
             CLOSED,
         ),
     ),
-    # 15 of the greatest records take 983,160 bytes. With the 12 beside it a record of 65,405 bytes is a byte too long. One
-    # of 65,404 leaves room for just a mark.
+    # 15 of the greatest records take 983,160 bytes. With the 12 beside it a record of 65,405 bytes is a byte too long.
+    # One of 65,404 leaves room for just a mark.
     Conversation(
         "a reel full of records",
         (
