@@ -4,8 +4,9 @@
     stdio.py [PROGRAM]
 
 It prints ratios of the least of several times, each with the start of a process in it, and what memory the server holds
-early, in the middle and at the end of a stream. The streams are files in the temporary folder, some 700 MB in all.
-GNU rmt is given the null device in place of a drive, where it answers each operation by an error.
+early, in the middle and at the end of a stream; then what spacing takes, by what it passes and by what stands on the
+reel. The streams are files in the temporary folder, some 700 MB in all. GNU rmt is given the null device in place of a
+drive, where it answers each operation by an error.
 """
 
 from __future__ import annotations
@@ -27,6 +28,8 @@ from typing import Callable, Iterator, NamedTuple, Sequence
 BUILT = Path(__file__).resolve().parent.parent / "crates/rmtd/out/rmtd"
 
 REPEATS = 5
+# The streams that space are short, so more of their times are cheap, and the least of them is steadier.
+SPACING_REPEATS = 20
 PIECE = 1 << 20
 
 DRIVE = b"/dev/st0"
@@ -39,6 +42,14 @@ ANSWERS = {NO_OPERATION: b"A1\n", REWIND: b"A1\n", WRITE: b"A65536\n"}
 
 # The reel in memory holds 1,048,576 bytes: 15 records of 65,536 bytes with their lengths, and not one more.
 RECORDS_A_REEL = 15
+
+RECORD = b"W1\nx"
+MARK = b"I0\n1\n"
+
+# How often a long way is spaced back and forward, and how often one entry is.
+LONG_WAYS = 500
+SHORT_WAYS = 200_000
+FEW_ENTRIES = 10
 
 Words = Sequence[str]
 
@@ -116,11 +127,11 @@ def write_streams(folder: Path, workload: Workload) -> Streams:
     )
 
 
-def answers_are_right(words: Words, workload: Workload, source: Path) -> bool:
-    """Whether the server carries out every request of the stream, so that the times are those of the work meant."""
+def answers_are_right(words: Words, source: Path, answers: Iterator[bytes]) -> bool:
+    """Whether the server answers the open and then so, so that the times are those of the work meant."""
     with source.open("rb") as stream:
         answered = subprocess.run(words, stdin=stream, stdout=subprocess.PIPE, check=True).stdout
-    return answered == b"A0\n" + b"".join(ANSWERS[it] for it in workload.requests(workload.count))
+    return answered == b"A0\n" + b"".join(answers)
 
 
 def seconds_of(feed: Callable[[Words, Path], None], words: Words, source: Path) -> float:
@@ -130,9 +141,11 @@ def seconds_of(feed: Callable[[Words, Path], None], words: Words, source: Path) 
     return time.perf_counter() - begin
 
 
-def least_times(workload: Workload, runs: Sequence[tuple[Words, Path]]) -> list[float]:
+def least_times(
+    feed: Callable[[Words, Path], None], runs: Sequence[tuple[Words, Path]], repeats: int = REPEATS
+) -> list[float]:
     """The least time of each run. They take turns, so that what else the machine does falls on all of them."""
-    rounds = [[seconds_of(workload.feed, *run) for run in runs] for _ in range(REPEATS)]
+    rounds = [[seconds_of(feed, *run) for run in runs] for _ in range(repeats)]
     return [min(times) for times in zip(*rounds)]
 
 
@@ -141,9 +154,87 @@ def ratios(server: Words, rmt: Words | None, workload: Workload, streams: Stream
     runs = [(server, streams.whole), (server, streams.half), (("cat",), streams.whole)]
     if rmt:
         runs.append((rmt, streams.to_null))
-    whole, half, cat, *others = least_times(workload, runs)
+    whole, half, cat, *others = least_times(workload.feed, runs)
     beside_rmt = f"{whole / others[0]:.2f}" if others else "-"
     return f"{workload.title:<38}{whole / cat:>10.2f}{beside_rmt:>14}{whole / half:>16.2f}"
+
+
+@dataclass(frozen=True)
+class Spacing:
+    """A reel and a way to space over it.
+
+    What is written stands on it as often as the count says, so the count leads back from the end to the first record
+    or mark.
+    """
+
+    title: str
+    written: tuple[bytes, ...]
+    back: int
+    forward: int
+    count: int
+
+
+SPACINGS = (
+    Spacing("100,000 records, by records", (RECORD,), 4, 3, 100_000),
+    Spacing("50,000 records and marks, by marks", (RECORD, MARK), 2, 1, 50_000),
+)
+
+
+class Spaced(NamedTuple):
+    """A file of a stream that spaces, and what is to be answered to it after its open."""
+
+    source: Path
+    answers: list[bytes]
+
+
+def spaced(path: Path, spacing: Spacing, few: bool, count: int, times: int) -> Spaced:
+    """Makes a file that writes the whole reel, and spaces back and forward so often by this count from its end.
+
+    Where few entries are to be left it rewinds and writes those anew before it spaces, which cuts off all others.
+    """
+    requests = list(spacing.written) * spacing.count
+    answers = [b"A1\n"] * len(requests)
+    if few:
+        requests += [REWIND, *(spacing.written * (FEW_ENTRIES // len(spacing.written)))]
+        answers += [b"A1\n"] * (1 + FEW_ENTRIES)
+    requests += [b"I%d\n%d\n" % (operation, count) for operation in (spacing.back, spacing.forward)] * times
+    answers += [b"A%d\n" % count] * (2 * times)
+    return Spaced(write_stream(path, DRIVE, iter(requests)), answers)
+
+
+def spacing_ratios(server: Words, spacing: Spacing, folder: Path) -> str | None:
+    """A line of the table of spacing, or nothing where the server's answers are not as expected.
+
+    The time of passing entries is what a stream takes beyond the same requests with a count of 0.
+    """
+    streams = [
+        spaced(folder / "all", spacing, False, spacing.count, LONG_WAYS),
+        spaced(folder / "some", spacing, False, spacing.count // 2, LONG_WAYS),
+        spaced(folder / "none", spacing, False, 0, LONG_WAYS),
+        spaced(folder / "one_of_many", spacing, False, 1, SHORT_WAYS),
+        spaced(folder / "one_of_few", spacing, True, 1, SHORT_WAYS),
+    ]
+    if not all(answers_are_right(server, it.source, iter(it.answers)) for it in streams):
+        return None
+    runs = [(server, it.source) for it in streams]
+    everything, half, nothing, of_many, of_few = least_times(from_file, runs, SPACING_REPEATS)
+    passing = (everything - nothing) / (half - nothing)
+    return f"{spacing.title:<38}{passing:>12.2f}{of_many / of_few:>22.2f}"
+
+
+def measure_spacing(server: Words) -> bool:
+    """Prints the table of spacing; answers whether the server's answers were right."""
+    print("\nSpacing back and forward, over all of 100,000 entries beside half, without what a count of 0 takes;")
+    print(f"and over one entry, at the end of 100,000 beside the end of {FEW_ENTRIES}.")
+    print(f"{'time of spacing':<38}{'all to half':>12}{'one, of many to few':>22}")
+    with tempfile.TemporaryDirectory(prefix="rmtd-bench-") as folder:
+        for spacing in SPACINGS:
+            line = spacing_ratios(server, spacing, Path(folder))
+            if line is None:
+                print(f"{spacing.title}: the server's answers are not as expected")
+                return False
+            print(line, flush=True)
+    return True
 
 
 def kilobytes(process: subprocess.Popen[bytes], field: str) -> int:
@@ -187,14 +278,15 @@ def gnu_rmt() -> Words | None:
     return (found,) if b"GNU" in told.stdout else None
 
 
-def measure(server: Words, rmt: Words | None) -> bool:
-    """Prints both tables; answers whether the server's answers were right."""
+def measure_streams(server: Words, rmt: Words | None) -> bool:
+    """Prints the tables of long streams, of times and of memory; answers whether the server's answers were right."""
     memory = []
     print(f"{'time of the server':<38}{'to cat':>10}{'to GNU rmt':>14}{'to half of it':>16}")
     with tempfile.TemporaryDirectory(prefix="rmtd-bench-") as folder:
         for workload in WORKLOADS:
             streams = write_streams(Path(folder), workload)
-            if not answers_are_right(server, workload, streams.whole):
+            answers = (ANSWERS[it] for it in workload.requests(workload.count))
+            if not answers_are_right(server, streams.whole, answers):
                 print(f"{workload.title}: the server's answers are not as expected")
                 return False
             print(ratios(server, rmt, workload, streams), flush=True)
@@ -214,9 +306,11 @@ def main() -> int:
     if not program.is_file():
         parser.error(f"there is no program {program}: make build builds it")
     rmt = gnu_rmt()
-    print(f"Ratios of this run, of the least of {REPEATS} times each. One byte a piece: with the feeder's own cost.")
+    print(f"Ratios of this run, of the least of {REPEATS} times each, and of {SPACING_REPEATS} for spacing.")
+    print("One byte a piece: with the feeder's own cost.")
     print("" if rmt else "GNU rmt is not on this machine, and is left out.\n")
-    return 0 if measure((str(program), "--stdio"), rmt) else 1
+    server = (str(program), "--stdio")
+    return 0 if measure_streams(server, rmt) and measure_spacing(server) else 1
 
 
 if __name__ == "__main__":
