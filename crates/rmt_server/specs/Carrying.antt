@@ -123,7 +123,7 @@ abbrev pub CallsIn : {R : Type 0} → ReelPromise R → Opened R → Option R �
 CallsIn r device None new request reply = ⊥
 CallsIn {R} r device (Some reel) new request reply =
     (answer : TapeAnswer) × (moved : R) × (new ≡ Some (record device { reel = Some moved })) × (reply ≡ reel_reply request answer)
-    × IsCall r.holds r.capacity r.failures r.can_fail r.GROWS reel moved (tape_request request) answer
+    × IsCall r.holds r.capacity r.failures r.can_fail r.makes r.GROWS reel moved (tape_request request) answer
 
 abbrev pub CallsReel : {R : Type 0} → ReelPromise R → Option (Opened R) → Option (Opened R) → PlainRequest → PlainReply → Type 0
 CallsReel r None new request reply = ⊥

@@ -51,6 +51,6 @@ served_none {remaining = remaining} {contents} {capacity} {input} {output} e =
       rest = [];
       finish = blank_scene capacity;
       consumed = Consumes-nil (remaining input.inner);
-      ends = inr (inr (record { spelled = refl; written = Appends-nil (contents output.inner) }, refl));
+      ends = inr (inr (record { spelled = refl; written = Appends-nil (contents output.inner) }, refl, refl, refl));
       run = none;
     }

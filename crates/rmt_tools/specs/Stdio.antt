@@ -23,7 +23,7 @@ exit_status (Some Truncated) = 2
 exit_status (Some (Broken fault)) = 3
 
 -- The stream ended, and all replies were written. Or a read failed, and the requests read were answered; or a write
--- failed, and of the last reply only a beginning was written; or nothing was read.
+-- failed, and of the last reply only a beginning was written; or neither stream was touched.
 abbrev pub EndsWith : {R W : Type 0} → (R → Option (List ℕ)) → (W → Option (List ℕ)) → Option Served
     → Counting R → Counting R → Counting W → Counting W → List ℕ → List Exchange → List ℕ → Type 0
 EndsWith remaining contents (Some served) input input' output output' read done rest =
@@ -31,7 +31,7 @@ EndsWith remaining contents (Some served) input input' output output' read done 
 EndsWith remaining contents None input input' output output' read done rest =
     EndsAs remaining contents (Err Input) input input' output output' read done rest
     ⊎ EndsAs remaining contents (Err Output) input input' output output' read done rest
-    ⊎ (IsAnswered (contents output.inner) (contents output'.inner) read done rest × (read ≡ []))
+    ⊎ (IsAnswered (contents output.inner) (contents output'.inner) read done rest × (read ≡ []) × (input' ≡ input) × (output' ≡ output))
 
 -- One stream served with the drive in memory: the requests read with the replies are a run of serve steps from the
 -- empty reel, in which no device fails and no drive is busy.

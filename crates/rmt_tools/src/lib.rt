@@ -1,4 +1,4 @@
-//! What the programs do: files, streams, words and printed lines, over the crates that are proved below them.
+//! What the programs do, over the crates below: one stream served with a drive in memory.
 #![tactic(auto)]
 
 mod stdio;

@@ -74,11 +74,13 @@ list_call old new request answer step same sound = record {
   step = λ t held. let P : Tape → Type 0 = λ t. TapeStep old.capacity t request answer new.tape in (new.tape, refl, subst P held step);
   can = can_of old.capacity old.tape new.tape request answer step;
   device = λ is. absurd (sound is);
+  failed = inl refl;
   able = sound;
   quiet = λ x. x;
   memory = λ _. refl;
   counted = omega arith;
   same_capacity = same;
+  made = tt;
 }
 
 -- a result that is not the device's fault is no such answer

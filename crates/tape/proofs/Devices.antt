@@ -81,6 +81,7 @@ untroubled capacity t request (Fault OutOfMemory) u step is = cc
 -- what a call's count says: a device at fault has failed, it could fail, and no call brings that about
 record IsSound (old new : TroubledTape) (answer : TapeAnswer) : Type 0 where
   device : answer ≡ Fault Device → raised old.failures ≤ new.failures
+  failed : (new.failures ≡ old.failures) ⊎ (answer ≡ Fault Device)
   sound : new.trouble ≢ None → old.trouble ≢ None
   counted : old.failures ≤ new.failures
 
@@ -88,6 +89,7 @@ same_count : (old new : TroubledTape) (answer : TapeAnswer) → answer ≢ Fault
     → IsSound old new answer
 same_count old new answer not same = record {
   device = λ is. absurd (not is);
+  failed = inl same.1;
   sound = λ set is. set (same.0 ∙ is);
   counted = omega (arith, same.1);
 }
@@ -97,6 +99,7 @@ sound_of old new Done counted = same_count old new Done (λ is. cc) counted
 sound_of old new (Gave given) counted = same_count old new (Gave given) (λ is. cc) counted
 sound_of old new (Fault Device) counted = record {
   device = λ _. omega (arith, counted.1);
+  failed = inr refl;
   sound = λ set. absurd (set counted.0);
   counted = omega (arith, counted.1);
 }
@@ -120,9 +123,11 @@ troubled_call old new request answer step =
       step = λ t held. let P : Tape → Type 0 = λ t. TapeStep old.capacity t request answer new.tape in (new.tape, refl, subst P held tape_is);
       can = can_of old.capacity old.tape new.tape request answer tape_is;
       device = sound.device;
+      failed = sound.failed;
       able = able_of old.capacity old.trouble old.tape request answer new.tape step.step;
       quiet = sound.sound;
       memory = λ _. refl;
       counted = sound.counted;
       same_capacity = step.same_capacity;
+      made = step;
     }

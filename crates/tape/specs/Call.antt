@@ -25,15 +25,17 @@ CanAnswer Rewind answer = answer ≡ Done
 CanAnswer Nothing answer = answer ≡ Done
 CanAnswer Unknown answer = answer ≡ Fault BadOperation
 
-pub record IsCall {S : Type 0} (holds : S → Tape → Type 0) (capacity : S → ℕ) (failures : S → ℕ) (can_fail : S → Type 0) (grows : Bool)
-    (old new : S) (request : TapeRequest) (answer : TapeAnswer) : Type 0 where
+pub record IsCall {S : Type 0} (holds : S → Tape → Type 0) (capacity : S → ℕ) (failures : S → ℕ) (can_fail : S → Type 0)
+    (makes : S → S → TapeRequest → TapeAnswer → Type 0) (grows : Bool) (old new : S) (request : TapeRequest) (answer : TapeAnswer) : Type 0 where
   -- where the reel tells, the call is a step of its tape
   pub step : Steps holds old new (λ t u. TapeStep (capacity old) t request answer u)
   -- and whether it tells or not, the answer is one that the call can have
   pub can : CanAnswer request answer
   -- the device is at fault only where it failed in the call
   pub device : answer ≡ Fault Device → HasRisen (failures old) (failures new)
-  -- and only where it can fail, which no call brings about
+  -- and where it failed in the call, that is the answer
+  pub failed : (failures new ≡ failures old) ⊎ (answer ≡ Fault Device)
+  -- it is at fault only where it can fail, which no call brings about
   pub able : answer ≡ Fault Device → can_fail old
   pub quiet : can_fail new → can_fail old
   -- memory is wanting only where the reel grows
@@ -41,3 +43,5 @@ pub record IsCall {S : Type 0} (holds : S → Tape → Type 0) (capacity : S →
   -- the count of failures does not fall
   pub counted : failures old ≤ failures new
   pub same_capacity : capacity new ≡ capacity old
+  -- and what this kind of reel promises beside that
+  pub made : makes old new request answer

@@ -22,7 +22,7 @@ IsTape reel t = reel.tape ≡ t
 
 -- a call of a reel in memory, whose device never fails
 abbrev pub IsListCall : ListTape → ListTape → TapeRequest → TapeAnswer → Type 0
-IsListCall old new request answer = IsCall IsTape (λ r. r.capacity) (λ _. 0) (λ _. ⊥) true old new request answer
+IsListCall old new request answer = IsCall IsTape (λ r. r.capacity) (λ _. 0) (λ _. ⊥) (λ _ _ _ _. Unit {0}) true old new request answer
 
 -- an entry as plain bytes
 abbrev pub plain_of : Entry → PlainEntry

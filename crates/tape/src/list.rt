@@ -160,6 +160,8 @@ impl Reel for ListReel {
 
     ghost can_fail = { λ _. ⊥ };
 
+    ghost makes = { λ _ _ _ _. Unit {0} };
+
     ghost GROWS = { true };
 
     const GROWS: bool = true;

@@ -7,10 +7,10 @@ pub const MTFSF: u32 = 1;
 /// Goes back over `count` file marks, before the last of them (mtio).
 pub const MTBSF: u32 = 2;
 
-/// Goes forward over `count` records, and over no mark (mtio).
+/// Goes forward over `count` records, and no further than over the first mark (mtio).
 pub const MTFSR: u32 = 3;
 
-/// Goes back over `count` records, and over no mark (mtio).
+/// Goes back over `count` records, and no further than over the first mark (mtio).
 pub const MTBSR: u32 = 4;
 
 /// Goes to the beginning, whatever the count (mtio).

@@ -101,6 +101,8 @@ impl Reel for TroubledReel {
 
     ghost can_fail = { λ r. r.trouble ≢ None };
 
+    ghost makes = { TroubledStep };
+
     ghost GROWS = { true };
 
     const GROWS: bool = true;

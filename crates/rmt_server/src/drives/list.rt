@@ -1,11 +1,12 @@
-ghost use Rattle.std.specs.Prelude.{◌≡◌, ◌≢◌, ◌<◌, [], ◌∷◌, None, IfOk, IfErr, IsOk};
+ghost use Rattle.std.specs.Prelude.{◌≡◌, ◌≢◌, ◌⊎◌, ◌<◌, [], ◌∷◌, None, IfOk, IfErr, IsOk};
 ghost use Rattle.tape.specs.Failures.{Steps};
-ghost use Rattle.tape.specs.Trouble.{IsTapeOf};
-ghost use Rattle.tape.specs.Tape.{Tape, entries_of};
+ghost use Rattle.tape.specs.Trouble.{IsTapeOf, TroubledTape};
+ghost use Rattle.tape.specs.Tape.{Tape, tape, entries_of};
 ghost use Rattle.tape.specs.declared.trouble.Trouble.TheVariants.{None as NoTrouble};
 ghost use Rattle.rmt_server.specs.declared.drives.fault.DriveFault.TheVariants.{NoReel};
+ghost use Rattle.rmt_server.specs.declared.drives.list.ReelPlace.TheVariants.{Stack, Bin};
 ghost use Rattle.rmt_server.specs.OneReel.{the_drive, the_reel, IsShop, CanReelFail};
-ghost use Rattle.rmt_server.specs.Shop.{shop, rack, kept, after_offline};
+ghost use Rattle.rmt_server.specs.Shop.{shop, rack, kept, after_unlatch, after_offline};
 ghost use Rattle.rmt_server.specs.Stacking.{LatchStep, HasLatched};
 
 use crate::drives::{DriveFault, Stacks};
@@ -35,6 +36,7 @@ impl ListStacks {
     pub fn new(alloc: Global, capacity: u64) -> ListStacks
         ensures shop { IsShop result (shop (rack the_drive None (kept the_reel [] capacity ∷ []) ∷ []) []) }
         ensures quiet { CanReelFail result → ⊥ }
+        ensures reel { result.reel ≡ Stack (record { tape = tape [] []; capacity = capacity; trouble = NoTrouble; failures = 0 }) }
     {
         let reel = ListReel::new(alloc, capacity);
         ListStacks {
@@ -67,6 +69,7 @@ impl Stacks for ListStacks {
         ensures step { Steps IsShop self.old self.new (LatchStep IsTapeOf (λ r. r.capacity) drive result) }
         ensures latched { IfOk result (λ _. HasLatched IsShop self.new drive) }
         ensures faults { IfErr result (λ fault. fault ≡ NoReel) }
+        ensures taken { IfOk result (λ reel. (r : TroubledTape) × (self.old.reel ≡ Stack r) × (reel ≡ record r { tape = tape [] (entries_of r.tape) })) }
         ensures quiet { CanReelFail self.new → CanReelFail self.old }
         ensures quiet_reel { IfOk result (λ reel. reel.trouble ≢ NoTrouble → CanReelFail self.old) }
     {
@@ -82,7 +85,14 @@ impl Stacks for ListStacks {
         }
     }
 
-    fn unlatch(&mut self, drive: usize, reel: TroubledReel) {
+    /// Lays the reel on the stack with its trouble, if one is set, and its count of failures.
+    fn unlatch(&mut self, drive: usize, reel: TroubledReel)
+        requires drive { drive < 1 }
+        requires latched { HasLatched IsShop self.old drive }
+        ensures step { (t : Tape) → IsTapeOf reel t → Steps IsShop self.old self.new (λ s now. now ≡ after_unlatch s drive (entries_of t) reel.capacity) }
+        ensures quiet { CanReelFail self.new → CanReelFail self.old ⊎ (reel.trouble ≢ NoTrouble) }
+        ensures laid { self.new.reel ≡ Stack reel }
+    {
         self.reel = ReelPlace::Stack(reel);
     }
 
@@ -96,6 +106,7 @@ impl Stacks for ListStacks {
         requires latched { HasLatched IsShop self.old drive }
         ensures moved { (t : Tape) → IsTapeOf reel t → Steps IsShop self.old self.new (λ s now. now ≡ after_offline s drive (entries_of t) reel.capacity) }
         ensures quiet { CanReelFail self.new → reel.trouble ≢ NoTrouble }
+        ensures laid { self.new.reel ≡ Bin reel }
         ensures done { IsOk result }
     {
         self.reel = ReelPlace::Bin(reel);

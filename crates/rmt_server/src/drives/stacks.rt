@@ -36,7 +36,8 @@ pub trait Stacks {
 
     /// Latches the first reel of the drive's stack, at its beginning.
     ///
-    /// Answers `NoReel` where no reel lies on the stack, `Device` and `OutOfMemory`. Nothing has changed then.
+    /// Answers `NoReel` where no reel lies on the stack or one is latched already, `Device` and `OutOfMemory`. Nothing
+    /// has changed then.
     fn latch(&mut self, drive: usize) -> Result<Self::Reel, DriveFault>
         requires { drive < drives self.old }
         ensures step { Steps holds self.old self.new (LatchStep Self.Reel.holds Self.Reel.capacity drive result) }
