@@ -103,6 +103,10 @@ EndsAs remaining contents (Err Input) input input' output output' read done rest
 EndsAs remaining contents (Err Output) input input' output output' read done rest =
     IsCutOff (contents output.inner) (contents output'.inner) read done rest × HasRisen output.failures output'.failures
 
+-- no read and no write failed
+abbrev pub NoneFailed : {R W : Type 0} → Counting R → Counting R → Counting W → Counting W → Type 0
+NoneFailed input input' output output' = (input'.failures ≡ input.failures) × (output'.failures ≡ output.failures)
+
 -- What was served: the bytes read, the requests carried out with their replies, and what follows them of the bytes.
 -- Then what was open was closed. Where stacks and reel tell, the requests and replies are a run of serve steps.
 pub record IsServedAs {H S Seat R In Out : Type 0} (h : HoldsPromise H Seat) (s : StacksPromise S R) (r : ReelPromise R)

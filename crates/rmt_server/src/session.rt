@@ -73,8 +73,8 @@ impl<H: Holds, S: Stacks> Session<H, S> {
     /// failed, 12 where memory was refused. All other requests: 9 with nothing open. Of those but a close: 6 where
     /// the reel lies in the bin; 9 for a write or a read without that access, 22 for operation 6 and those
     /// above 7, 13 for marks without the access to write; 22 for a count of a write or read that is 0 or, for a write, above
-    /// 65,536; a write that has no room is answered with the number 0, and marks with 28; 5 where the device failed;
-    /// 12 where memory was refused. A reply without an error has 0 for an open or a close, the count for a write or an
+    /// 65,536; a write that has no room is answered with the number 0, and marks with 28; 12 where memory was refused;
+    /// 5 where the device failed, or spacing met a mark, the end or the beginning first. A reply without an error has 0 for an open or a close, the count for a write or an
     /// operation, or the bytes of a read.
     ///
     /// The drives are those of the seat and of what is open.

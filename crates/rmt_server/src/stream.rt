@@ -1,9 +1,9 @@
 //! Serving one stream of requests.
-ghost use Rattle.std.specs.Prelude.{◌≡◌, ◌<◌, ◌≤◌, ℕ, List, [], ◌++◌, Option, None, Ok, Err};
+ghost use Rattle.std.specs.Prelude.{◌≡◌, ◌<◌, ◌≤◌, ℕ, List, [], ◌++◌, Option, None, Ok, Err, OnOk};
 ghost use Rattle.std.specs.Io.KnownBytes.{Consumes};
 ghost use Rattle.rmt_wire.specs.Reader.{Unread};
 ghost use Rattle.rmt_server.specs.Carrying.{IsAt};
-ghost use Rattle.rmt_server.specs.Serving.{IsServedAs, Advances, AnswersAs, IsSettled, EndsAs};
+ghost use Rattle.rmt_server.specs.Serving.{IsServedAs, Advances, AnswersAs, IsSettled, EndsAs, NoneFailed};
 
 use crate::drives::{DriveTable, Holds, Stacks};
 use crate::session::Session;
@@ -59,6 +59,7 @@ fn answer_all<W: Write, H: Holds, S: Stacks>(
     ensures at { IsAt H.Holds S.Stacks drives.new session.new.seat session.new.opened }
     ensures answers { (bytes : List ℕ) → Unread wire.old bytes → Advances H.Holds S.Stacks S.Reel.Reel drives.old session.old.seat session.old.opened drives.new session.new.seat session.new.opened (AnswersAs W.contents result output.old output.new wire.new bytes) }
     ensures counted { output.old.failures ≤ output.new.failures }
+    ensures steady { OnOk result (output.new.failures ≡ output.old.failures) }
 {
     loop {
         match wire.next() {
@@ -85,6 +86,7 @@ fn take_in<W: Write, H: Holds, S: Stacks>(
     ensures at { IsAt H.Holds S.Stacks drives.new session.new.seat session.new.opened }
     ensures answers { (bytes : List ℕ) → IsSettled wire.old bytes → Advances H.Holds S.Stacks S.Reel.Reel drives.old session.old.seat session.old.opened drives.new session.new.seat session.new.opened (AnswersAs W.contents result output.old output.new wire.new (bytes ++ piece.now)) }
     ensures counted { output.old.failures ≤ output.new.failures }
+    ensures steady { OnOk result (output.new.failures ≡ output.old.failures) }
 {
     let mut at = 0;
     while at < piece.len() {
@@ -108,6 +110,7 @@ fn converse<R: Read, W: Write, H: Holds, S: Stacks>(
     requires empty { Unread wire.old [] }
     ensures at { IsAt H.Holds S.Stacks drives.new session.new.seat session.new.opened }
     ensures converses { (read : List ℕ) × Consumes (R.remaining input.old.inner) (R.remaining input.new.inner) read × Advances H.Holds S.Stacks S.Reel.Reel drives.old session.old.seat session.old.opened drives.new session.new.seat session.new.opened (EndsAs R.remaining W.contents result input.old input.new output.old output.new read) }
+    ensures steady { OnOk result (NoneFailed input.old input.new output.old output.new) }
 {
     let mut piece = [0; PIECE];
     if let Some(fault) = answer_all(output, wire, session, drives)? {
@@ -145,6 +148,8 @@ pub fn serve<R: Read, W: Write, H: Holds, S: Stacks>(
     // the reader has given all that was pushed
     requires empty { Unread wire.old [] }
     ensures served { IsServedAs H.Holds S.Stacks S.Reel.Reel R.remaining W.contents result input.old input.new output.old output.new drives.old session.old.seat session.old.opened drives.new session.new.seat }
+    // a stream that failed ends as failed
+    ensures steady { OnOk result (NoneFailed input.old input.new output.old output.new) }
     ensures nothing { session.new.opened ≡ None }
 {
     let ending = converse(input, output, wire, session, drives);

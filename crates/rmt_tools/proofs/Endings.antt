@@ -1,5 +1,5 @@
 -- How a server of one stream ends.
-use Rattle.std.proofs.Common.{◌≡◌, ℕ, false, List, [], ◌∷◌, length, slice_index, Option, Some, None, IfOk, Result, Ok, Err, refl, sym, ap, subst, ◌∙◌, inl, inr, arith}
+use Rattle.std.proofs.Common.{◌≡◌, ℕ, false, List, [], ◌∷◌, length, slice_index, Option, Some, None, IfOk, OnOk, Result, Ok, Err, refl, sym, ap, subst, ◌∙◌, inl, inr, arith}
 use Rattle.std.proofs.KnownBytes.{Appends-nil, Consumes-nil}
 use Rattle.std.specs.Result.{result_ok}
 use Rattle.rmt_wire.specs.Counted.{Counting}
@@ -10,7 +10,7 @@ use Rattle.rmt_server.specs.declared.drives.stacks.Stacks.{Ghosts as StacksPromi
 use Rattle.rmt_server.specs.declared.session.opened.Opened.{Opened}
 use Rattle.rmt_server.specs.Carrying.{MayFail, IsAlone, ReelCanFail, reel_of}
 use Rattle.rmt_server.specs.Session.{none}
-use Rattle.rmt_server.specs.Serving.{Exchange, EndsAs}
+use Rattle.rmt_server.specs.Serving.{Exchange, EndsAs, NoneFailed}
 use Rattle.rmt_tools.specs.Stdio.{blank_scene, EndsWith, IsServedAlone}
 use Rattle.rmt_server.specs.declared.stream.Served.{Served}
 use Rattle.rmt_server.specs.declared.stream.ServeFault.{ServeFault}
@@ -18,11 +18,11 @@ use Rattle.rmt_server.specs.declared.stream.ServeFault.TheVariants.{Input, Outpu
 
 pub ends_with : {R W : Type 0} (remaining : R → Option (List ℕ)) (contents : W → Option (List ℕ)) (result : Result Served ServeFault)
     (input input' : Counting R) (output output' : Counting W) (read : List ℕ) (done : List Exchange) (rest : List ℕ)
-    → EndsAs remaining contents result input input' output output' read done rest
+    → EndsAs remaining contents result input input' output output' read done rest → OnOk result (NoneFailed input input' output output')
     → EndsWith remaining contents (result_ok result) input input' output output' read done rest
-ends_with remaining contents (Ok served) input input' output output' read done rest e = e
-ends_with remaining contents (Err Input) input input' output output' read done rest e = inl e
-ends_with remaining contents (Err Output) input input' output output' read done rest e = inr (inl e)
+ends_with remaining contents (Ok served) input input' output output' read done rest e f = (e, f)
+ends_with remaining contents (Err Input) input input' output output' read done rest e f = inl e
+ends_with remaining contents (Err Output) input input' output output' read done rest e f = inr (inl e)
 
 -- where nothing is open and no device of the stacks can fail, none can
 pub none_fails : {S R : Type 0} (s : StacksPromise S R) (r : ReelPromise R) (stacks : S) (opened : Option (Opened R))

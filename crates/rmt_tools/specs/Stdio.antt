@@ -8,7 +8,7 @@ use Rattle.rmt_server.specs.declared.stream.ServeFault.TheVariants.{Input, Outpu
 use Rattle.rmt_server.specs.OneReel.{the_drive, the_reel}
 use Rattle.rmt_server.specs.Session.{Scene, scene, ServeRun}
 use Rattle.rmt_server.specs.Session.PlainSession.{Idle}
-use Rattle.rmt_server.specs.Serving.{Exchange, IsAnswered, EndsAs}
+use Rattle.rmt_server.specs.Serving.{Exchange, IsAnswered, EndsAs, NoneFailed}
 use Rattle.rmt_server.specs.Shop.{shop, rack, kept}
 
 -- nothing is open, and the drive's one reel is empty
@@ -22,12 +22,12 @@ exit_status None = 1
 exit_status (Some Truncated) = 2
 exit_status (Some (Broken fault)) = 3
 
--- The stream ended, and all replies were written. Or a read failed, and the requests read were answered; or a write
+-- The stream ended with no failure, and all replies were written. Or a read failed, and the requests read were answered; or a write
 -- failed, and of the last reply only a beginning was written; or neither stream was touched.
 abbrev pub EndsWith : {R W : Type 0} → (R → Option (List ℕ)) → (W → Option (List ℕ)) → Option Served
     → Counting R → Counting R → Counting W → Counting W → List ℕ → List Exchange → List ℕ → Type 0
 EndsWith remaining contents (Some served) input input' output output' read done rest =
-    EndsAs remaining contents (Ok served) input input' output output' read done rest
+    EndsAs remaining contents (Ok served) input input' output output' read done rest × NoneFailed input input' output output'
 EndsWith remaining contents None input input' output output' read done rest =
     EndsAs remaining contents (Err Input) input input' output output' read done rest
     ⊎ EndsAs remaining contents (Err Output) input input' output output' read done rest

@@ -33,6 +33,7 @@ pub fn write_reply<W: Write>(out: &mut Counted<W>, reply: &Reply<'_>) -> Result<
     ensures beginning { OnErr result (AppendsBeginning (W.contents out.old.inner) (W.contents out.new.inner) (reply_text (plain_reply reply.now))) }
     ensures fault { OnErr result (HasRisen out.old.failures out.new.failures) }
     ensures counted { out.old.failures ≤ out.new.failures }
+    ensures steady { OnOk result (out.new.failures ≡ out.old.failures) }
     ensures left { out.new.left ≡ out.old.left }
     ensures spelled { (wanted : Wanted) → AnswersTo (plain_reply reply.now) wanted
         → SpellsReply (reply_text (plain_reply reply.now)) (plain_reply reply.now) wanted }
@@ -73,6 +74,7 @@ fn output<W: Write>(out: &mut Counted<W>, text: &[u8]) -> Result<(), OutputFault
     ensures beginning { OnErr result (AppendsBeginning (W.contents out.old.inner) (W.contents out.new.inner) text.now) }
     ensures fault { OnErr result (HasRisen out.old.failures out.new.failures) }
     ensures counted { out.old.failures ≤ out.new.failures }
+    ensures steady { OnOk result (out.new.failures ≡ out.old.failures) }
     ensures left { out.new.left ≡ out.old.left }
 {
     let mut at = 0;

@@ -4,6 +4,7 @@ use crate::run_stdio;
 use rmt_wire::Counted;
 use std::alloc::Global;
 use std::process::Abort;
+use std::test::Fail;
 
 /// A capacity in bytes that no row fills.
 const CAPACITY: u64 = 1048576;
@@ -24,8 +25,15 @@ fn a_record_is_read_back(rt: HostRuntime) {
     check(&rt, rt.alloc(), CAPACITY, bytes, want, 0);
 }
 
+/// Two records and a mark, spaced over by every operation, past the ends and by no count.
+const SPACED: &[u8] =
+    b"O/dev/st0\n2\nW1\naW1\nbI0\n1\nI4\n1\nI4\n5\nI3\n2\nI3\n1\nI2\n1\nI2\n1\nI1\n2\nI2\n0\n";
+
+const SPACED_ANSWERS: &[u8] =
+    b"A0\nA1\nA1\nA1\nE5\nInput/output error\nE5\nInput/output error\nA2\nE5\nInput/output error\nA1\nE5\nInput/output error\nE5\nInput/output error\nA0\n";
+
 /// Conversations, each with its answers and the status.
-const ROWS: [(&[u8], &[u8], u8); 12] = [
+const ROWS: [(&[u8], &[u8], u8); 15] = [
     (b"", b"", 0),
     (b"W3\nabc", b"E9\nBad file descriptor\n", 0),
     (b"O/dev/st0\n2\nW5\nhel", b"A0\n", 2),
@@ -35,14 +43,13 @@ const ROWS: [(&[u8], &[u8], u8); 12] = [
         0,
     ),
     (b"O/dev/st0\n2 O_RDWR\n", b"A0\n", 0),
-    (
-        b"O/dev/st0\n513\nR1\n",
-        b"A0\nE9\nBad file descriptor\n",
-        0,
-    ),
+    (b"O/dev/st0\n513\nR1\n", b"A0\nE9\nBad file descriptor\n", 0),
+    (b"O/dev/st0\n3\n", b"E22\nInvalid argument\n", 0),
     (b"O/dev/st9\n2\n", b"E2\nNo such file or directory\n", 0),
     (b"O/dev/st0\n2\nS\n", b"A0\n", 3),
     (b"W99999999999\n", b"", 3),
+    (b"W3x", b"", 3),
+    (SPACED, SPACED_ANSWERS, 0),
     (
         b"O/dev/st0\n2\nI3\n1\nI8\n1\n",
         b"A0\nE5\nInput/output error\nE22\nInvalid argument\n",
@@ -75,4 +82,17 @@ fn the_reel_runs_out(rt: HostRuntime) {
     let bytes = b"O/dev/st0\n2\nW4\nabcdI0\n3\nI0\n1\n".as_slice();
     let want = b"A0\nA0\nA3\nE28\nNo space left on device\n".as_slice();
     check(&rt, rt.alloc(), 15, bytes, want, 0);
+}
+
+#[test]
+fn the_greatest_record_and_one_byte_more(rt: HostRuntime) -> Result<(), Fail> {
+    let data = Vec::from_elem(rt.alloc(), b'r', 65537)?;
+    let mut bytes = Vec::from_slice(rt.alloc(), b"O/dev/st0\n2\nW65536\n")?;
+    bytes.extend_from_slice(&data.as_slice()[..65536])?;
+    bytes.extend_from_slice(b"W65537\n")?;
+    bytes.extend_from_slice(data.as_slice())?;
+    bytes.extend_from_slice(b"W0\nI7\n9\n")?;
+    let want = b"A0\nA65536\nE22\nInvalid argument\nE22\nInvalid argument\nA9\n".as_slice();
+    check(&rt, rt.alloc(), CAPACITY, bytes.as_slice(), want, 0);
+    Ok(())
 }

@@ -1,9 +1,9 @@
-use Rattle.std.proofs.Common.{Ok, arith, ap, ◌∙◌}
+use Rattle.std.proofs.Common.{Ok, refl, arith, ap, ◌∙◌}
 use Rattle.rmt_server.proofs.Serving.{advances_none, advances_as, advances_one, answered_none, answered_one, cut_one, cut_as, risen_since, sayable, next_none, next_some}
 use Rattle.rmt_server.proofs.stream.answer_all.Goals as goal
 
 pub loop-fault-init : goal.loop-fault-init
-loop-fault-init g c = (c.requires.at, omega arith, c.requires.held, λ bytes u. advances_none bytes (answered_none (g.W.Write.contents c.args.output.now.inner) bytes, u))
+loop-fault-init g c = (c.requires.at, refl, c.requires.held, λ bytes u. advances_none bytes (answered_none (g.W.Write.contents c.args.output.now.inner) bytes, u))
 
 pub returns-in-Err-clause-answers : goal.returns-in-Err-clause-answers
 returns-in-Err-clause-answers g c = λ bytes u.
@@ -29,9 +29,9 @@ loop-fault-preserved g c =
     let carried = c.carry_out.follows.holds-at-none in
     let spelling = c.carry_out.ensures.spelling (sayable w.2 _ w.3) in
     let before = c.loop-fault.invariant.1 in
-    let later = c.write_reply.ensures.counted in (
+    let later = c.in_ok-write_reply-in-Ok-Some.ensures.steady in (
       carried.at,
-      omega arith,
+      later ∙ before,
       (w.0, w.1),
       λ bytes u.
           advances_one _ _ (c.loop-fault.invariant.3 bytes u) carried spelling
@@ -44,7 +44,7 @@ pub returns-in_err-write_reply-in-Ok-Some-clause-answers : goal.returns-in_err-w
 returns-in_err-write_reply-in-Ok-Some-clause-answers g c = λ bytes u.
     let at_some = c.in-Ok-Some.is ∙ ap Ok c.in-Ok-Some.field-0-is in
     let cut = c.in_err-write_reply-in-Ok-Some.ensures.beginning in
-    let risen = risen_since c.args.output.now.failures c.loop-fault.output.failures c.write_reply.new.out.failures c.loop-fault.invariant.1 c.in_err-write_reply-in-Ok-Some.ensures.fault in
+    let risen = risen_since c.args.output.now.failures c.loop-fault.output.failures c.write_reply.new.out.failures (omega (arith, c.loop-fault.invariant.1)) c.in_err-write_reply-in-Ok-Some.ensures.fault in
     let held = c.loop-fault.invariant.2 in
     let w = next_some c.loop-fault.wire c.next.follows.lender-at-none c.next.result c.in-Ok-Some.request c.next.follows.holds-at-none at_some held.0 held.1 in
     advances_one _ _ (c.loop-fault.invariant.3 bytes u) c.carry_out.follows.holds-at-none (c.carry_out.ensures.spelling (sayable w.2 _ w.3))

@@ -1,4 +1,4 @@
-use Rattle.std.proofs.Common.{◌≤◌, ℕ, List, length}
+use Rattle.std.proofs.Common.{◌≡◌, ℕ, List, length}
 use Rattle.rmt_wire.specs.Reader.{Unread}
 use Rattle.rmt_server.specs.Carrying.{IsAt}
 use Rattle.rmt_server.specs.Serving.{Advances, IsAnswered}
@@ -7,7 +7,7 @@ use Rattle.rmt_server.proofs.stream.answer_all.Given as goal
 abbrev pub invariant-loop-fault : goal.invariant-loop-fault
 invariant-loop-fault g l =
     IsAt g.H.Holds g.S.Stacks l.drives l.session.seat l.session.opened
-    × (l.initial.output.failures ≤ l.output.failures)
+    × (l.output.failures ≡ l.initial.output.failures)
     × ((unread : List ℕ) × Unread l.wire unread)
     × ((bytes : List ℕ) → Unread l.initial.wire bytes
     → Advances g.H.Holds g.S.Stacks g.S.Reel.Reel l.initial.drives l.initial.session.seat l.initial.session.opened l.drives l.session.seat l.session.opened

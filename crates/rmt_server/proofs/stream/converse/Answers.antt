@@ -24,7 +24,7 @@ returns-in_err-fault-in-Ok-clause-converses g c =
       so_far.0 ++ part,
       Consumes-trans _ _ _ so_far.0 part so_far.1 c.in-Ok.ensures.bytes.0,
       read_cut g.R.Read.remaining g.W.Write.contents c.from_residual-in_err-fault-in-Ok.result c.args.input.now c.read.new.self c.args.output.now c.loop-wire.output c.take_in.new.output c.loop-wire.wire so_far.0 part
-          c.from_residual-in_err-fault-in-Ok.ensures.1 c.loop-wire.invariant.2 so_far.2 (λ rest settled. c.in_err-fault-in-Ok.ensures.answers rest settled),
+          c.from_residual-in_err-fault-in-Ok.ensures.1 (omega (arith, c.loop-wire.invariant.2)) so_far.2 (λ rest settled. c.in_err-fault-in-Ok.ensures.answers rest settled),
     )
 
 pub returns-in-Some-2-clause-converses : goal.returns-in-Some-2-clause-converses
@@ -42,10 +42,10 @@ loop-wire-preserved g c =
     let so_far = c.loop-wire.invariant.3 in
     let part = take c.in-Ok.count c.read.new.buf in
     let since = c.loop-wire.invariant.2 in
-    let later = c.take_in.ensures.counted in (
+    let later = c.in_ok-fault-in-Ok.ensures.steady in (
       c.take_in.ensures.at,
       c.in-Ok.ensures.failures ∙ c.loop-wire.invariant.1,
-      omega arith,
+      later ∙ since,
       (
         so_far.0 ++ part,
         Consumes-trans _ _ _ so_far.0 part so_far.1 c.in-Ok.ensures.bytes.0,

@@ -1,4 +1,4 @@
-use Rattle.std.proofs.Common.{rules, false, None, refl, sym, ap, subst, ◌∙◌, ◌+◌, inr}
+use Rattle.std.proofs.Common.{rules, false, refl, sym, ap, subst, ◌∙◌, inr}
 use Rattle.rmt_server.specs.Carrying.{IsSeenAs}
 use Rattle.rmt_server.specs.Session.PlainSession.{Idle}
 use Rattle.tape.specs.contracts.troubled.TroubledReelReel.TheImpl as TroubledReelPromise
@@ -35,6 +35,6 @@ returns g c =
       rest = served.rest;
       finish = steps.0;
       consumed = served.consumed;
-      ends = ends_with g.R.Read.remaining g.W.Write.contents c.serve.result c.args.input.now c.serve.new.input c.args.output.now c.serve.new.output served.read served.done served.rest served.ends;
+      ends = ends_with g.R.Read.remaining g.W.Write.contents c.serve.result c.args.input.now c.serve.new.input c.args.output.now c.serve.new.output served.read served.done served.rest served.ends c.serve.ensures.steady;
       run = steps.1;
     }
