@@ -1,0 +1,12 @@
+pub mod Days
+pub mod Entering
+pub mod Writing
+pub mod Digits
+pub mod Naming
+pub mod Timing
+pub mod Cutting
+pub mod Shapes
+pub mod Reading
+pub mod Again
+pub mod Lined
+pub mod Once

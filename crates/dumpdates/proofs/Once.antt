@@ -1,0 +1,183 @@
+-- A text spells one list of entries at most, or has one first bad line.
+use Rattle.std.proofs.Common.{◌≡◌, ◌⊎◌, ℕ, suc, zero, ◌-◌, ◌<◌, Bool, List, [], ◌∷◌, ◌++◌, length, get_or, position, Some, bytes_eq, refl, sym, ap, ◌∙◌, subst, arith, inl, inr}
+use Rattle.std.proofs.lemmas.Bool.{both_ways, not-true}
+use Rattle.dumpdates.specs.Entry.{PlainEntry}
+use Rattle.dumpdates.specs.Front.{first_word, after_word}
+use Rattle.dumpdates.specs.Line.{is_space, AreSpaces, PlainWords, PlainFields, SpellsDigits, SpellsMonth, SpellsWords, HasShape, SpellsLine, IsBadLine, IsBadDate}
+use Rattle.dumpdates.specs.Lines.{lines_of, SpellLines, SpellsDates, IsReached, HasFault}
+use Rattle.dumpdates.specs.Moment.{IsMoment, seconds_at}
+use Rattle.dumpdates.specs.Names.{month_names, month_name}
+use Rattle.dumpdates.specs.declared.fault.DatesFault.{DatesFault}
+use Rattle.dumpdates.specs.declared.fault.DatesFault.TheVariants.{BadLine, BadDate, OutOfMemory}
+use Rattle.dumpdates.proofs.Cutting.{AllPass, IsWord, is_cut}
+use Rattle.dumpdates.proofs.Shapes.{are_words, cut_words, shape_words, some_same}
+use Rattle.dumpdates.proofs.Timing.{spelled_is_time}
+
+-- a line of spaces has no words
+pass_behind : (p : ℕ → Bool) (a b : List ℕ) → AllPass p (a ++ b) → AllPass p b
+pass_behind p [] b h = h
+pass_behind p (x ∷ a) b h = pass_behind p a b h.1
+
+no_word : (word rest : List ℕ) → IsWord word → AreSpaces (word ++ rest) → ⊥
+no_word [] rest w s = absurd (omega (arith, w.0))
+no_word (b ∷ word) rest w s = both_ways (is_space b) (not-true (is_space b) w.1.0) s.0
+
+pub blank_no_shape : (line : List ℕ) (f : PlainFields) → AreSpaces line → HasShape line f → ⊥
+blank_no_shape line f blank h =
+    let s = shape_words line f h in
+    let cut = is_cut line in
+    let c = cut_words line s.0 s.1 in
+    let behind = pass_behind is_space cut.gap (first_word line ++ after_word line) (subst AreSpaces cut.joined blank) in
+    no_word s.0.name (after_word line) (are_words s.0 f s.2).0 (subst (λ t. AreSpaces (t ++ after_word line)) c.0 behind)
+
+-- each name is of one month
+place_of_month : (n : ℕ) → n < 12 → position (λ name. bytes_eq name (get_or month_names n [])) month_names ≡ Some n
+place_of_month zero h = refl
+place_of_month (suc zero) h = refl
+place_of_month (suc (suc zero)) h = refl
+place_of_month (suc (suc (suc zero))) h = refl
+place_of_month (suc (suc (suc (suc zero)))) h = refl
+place_of_month (suc (suc (suc (suc (suc zero))))) h = refl
+place_of_month (suc (suc (suc (suc (suc (suc zero)))))) h = refl
+place_of_month (suc (suc (suc (suc (suc (suc (suc zero))))))) h = refl
+place_of_month (suc (suc (suc (suc (suc (suc (suc (suc zero)))))))) h = refl
+place_of_month (suc (suc (suc (suc (suc (suc (suc (suc (suc zero))))))))) h = refl
+place_of_month (suc (suc (suc (suc (suc (suc (suc (suc (suc (suc zero)))))))))) h = refl
+place_of_month (suc (suc (suc (suc (suc (suc (suc (suc (suc (suc (suc zero))))))))))) h = refl
+place_of_month (suc (suc (suc (suc (suc (suc (suc (suc (suc (suc (suc (suc n)))))))))))) h = absurd (omega arith)
+
+some_number : (m n : ℕ) → Some m ≡ Some n → m ≡ n
+some_number m n e = cc
+
+one_month : (word : List ℕ) (m n : ℕ) → SpellsMonth word m → SpellsMonth word n → m ≡ n
+unfolding month_name
+one_month word m n s t =
+    let low = s.0.0 in
+    let high = s.0.1 in
+    let low_too = t.0.0 in
+    let high_too = t.0.1 in
+    let here = place_of_month (m - 1) (omega arith) in
+    let there = place_of_month (n - 1) (omega arith) in
+    let same : get_or month_names (m - 1) [] ≡ get_or month_names (n - 1) [] = sym s.1 ∙ t.1 in
+    let place = some_number (m - 1) (n - 1) (sym here ∙ ap (λ w. position (λ name. bytes_eq name w) month_names) same ∙ there) in
+    omega arith
+
+one_number : (least most : ℕ) (text : List ℕ) (m n : ℕ) → SpellsDigits least most text m → SpellsDigits least most text n → m ≡ n
+one_number least most text m n s t = sym s.value ∙ t.value
+
+same_parts : (a b : List ℕ) (c d e f g h i j k l m n o p : ℕ) → a ≡ b → c ≡ d → e ≡ f → g ≡ h → i ≡ j → k ≡ l → m ≡ n → o ≡ p
+    → (let x : PlainFields = record { name = a; level = c; moment = record { year = e; month = g; day = i; hour = k; minute = m; second = o } } in x)
+    ≡ record { name = b; level = d; moment = record { year = f; month = h; day = j; hour = l; minute = n; second = p } }
+same_parts a b c d e f g h i j k l m n o p q r s t u v w x = rw (q, r, s, t, u, v, w, x) refl
+
+same_fields : (a b : PlainFields) → a.name ≡ b.name → a.level ≡ b.level → a.moment.year ≡ b.moment.year → a.moment.month ≡ b.moment.month → a.moment.day ≡ b.moment.day
+    → a.moment.hour ≡ b.moment.hour → a.moment.minute ≡ b.moment.minute → a.moment.second ≡ b.moment.second → a ≡ b
+same_fields a b name level year month day hour minute second = same_parts _ _ _ _ _ _ _ _ _ _ _ _ _ _ _ _ name level year month day hour minute second
+
+one_meaning : (w : PlainWords) (f g : PlainFields) → SpellsWords w f → SpellsWords w g → f ≡ g
+one_meaning w f g s t =
+    let time = spelled_is_time w.time f.moment.hour f.moment.minute f.moment.second s.time in
+    let time_too = spelled_is_time w.time g.moment.hour g.moment.minute g.moment.second t.time in
+    same_fields f g (s.same_name ∙ sym t.same_name) (sym s.level.value ∙ t.level.value) (sym s.year.value ∙ t.year.value)
+    (one_month w.month f.moment.month g.moment.month s.month t.month) (sym s.day.value ∙ t.day.value)
+    (sym time.hour.value ∙ time_too.hour.value) (sym time.minute.value ∙ time_too.minute.value) (sym time.seconds.value ∙ time_too.seconds.value)
+
+-- a line has one shape at most
+pub one_shape : (line : List ℕ) (f g : PlainFields) → HasShape line f → HasShape line g → f ≡ g
+one_shape line f g h k =
+    let s = shape_words line f h in
+    let t = shape_words line g k in
+    one_meaning s.0 f g s.2 (subst (λ w. SpellsWords w g) (some_same t.0 s.0 (sym t.1 ∙ s.1)) t.2)
+
+one_entry : (line : List ℕ) (d e : PlainEntry) → SpellsLine line d → SpellsLine line e → d ≡ e
+one_entry line d e s t =
+    let named : PlainFields → PlainEntry = λ f. record { name = f.name; level = f.level; date = seconds_at f.moment } in
+    s.3 ∙ ap named (one_shape line s.0 t.0 s.1 t.1) ∙ sym t.3
+
+-- lines spell one list of entries at most
+one_list : (lines : List (List ℕ)) (es fs : List PlainEntry) → SpellLines lines es → SpellLines lines fs → es ≡ fs
+one_list [] es fs s t = s ∙ sym t
+one_list (line ∷ lines) es fs (inl s) (inl t) = one_list lines es fs s.1 t.1
+one_list (line ∷ lines) es fs (inl s) (inr t) = absurd (blank_no_shape line t.2.0 s.0 t.2.1)
+one_list (line ∷ lines) es fs (inr s) (inl t) = absurd (blank_no_shape line s.2.0 t.0 s.2.1)
+one_list (line ∷ lines) es fs (inr s) (inr t) =
+    let first = one_entry line s.0 t.0 s.2 t.2 in
+    let rest = one_list lines s.1 t.1 s.4 t.4 in
+    s.3 ∙ ap (λ e. e ∷ s.1) first ∙ ap (λ r. t.0 ∷ r) rest ∙ sym t.3
+
+pub one_text : (bytes : List ℕ) (es fs : List PlainEntry) → SpellsDates bytes es → SpellsDates bytes fs → es ≡ fs
+one_text bytes es fs s t = one_list (lines_of bytes) es fs s t
+
+-- neither blank nor an entry
+IsBad : List ℕ → Type 0
+IsBad line = (AreSpaces line → ⊥) × ((e : PlainEntry) → SpellsLine line e → ⊥)
+
+bad_line : (line : List ℕ) → IsBadLine line → IsBad line
+unfolding IsBad
+bad_line line b = (b.0, λ e s. b.1 s.0 s.1)
+
+bad_date : (line : List ℕ) → IsBadDate line → IsBad line
+unfolding IsBad
+bad_date line b =
+    (λ blank. blank_no_shape line b.0 blank b.1, λ e s. b.2 (subst (λ f. IsMoment f.moment) (one_shape line s.0 b.0 s.1 b.1) s.2))
+
+good_line : (line : List ℕ) (lines : List (List ℕ)) (es : List PlainEntry) → SpellLines (line ∷ lines) es → IsBad line → ⊥
+unfolding IsBad
+good_line line lines es (inl s) bad = bad.0 s.0
+good_line line lines es (inr s) bad = bad.1 s.0 s.2
+
+later_good : (line : List ℕ) (lines : List (List ℕ)) (es : List PlainEntry) → SpellLines (line ∷ lines) es → (later : List PlainEntry) × SpellLines lines later
+later_good line lines es (inl s) = (es, s.1)
+later_good line lines es (inr s) = (s.1, s.4)
+
+no_bad_line : (before : List (List ℕ)) (line : List ℕ) (after : List (List ℕ)) (es : List PlainEntry) → SpellLines (before ++ line ∷ after) es → IsBad line → ⊥
+no_bad_line [] line after es s bad = good_line line after es s bad
+no_bad_line (first ∷ before) line after es s bad =
+    let later = later_good first (before ++ line ∷ after) es s in
+    no_bad_line before line after later.0 later.1 bad
+
+heads : (a b : List ℕ) (more rest : List (List ℕ)) → a ∷ more ≡ b ∷ rest → (a ≡ b) × (more ≡ rest)
+heads a b more rest e = (cc, cc)
+
+-- the first bad line is one
+first_bad : (before other : List (List ℕ)) (line bad : List ℕ) (after behind : List (List ℕ)) (es fs : List PlainEntry)
+    → before ++ line ∷ after ≡ other ++ bad ∷ behind → SpellLines before es → SpellLines other fs → IsBad line → IsBad bad → (length before ≡ length other) × (line ≡ bad)
+first_bad [] [] line bad after behind es fs e s t b c = (refl, (heads line bad after behind e).0)
+first_bad [] (first ∷ other) line bad after behind es fs e s t b c =
+    absurd (good_line first other fs t (subst IsBad (heads line first after (other ++ bad ∷ behind) e).0 b))
+first_bad (first ∷ before) [] line bad after behind es fs e s t b c =
+    absurd (good_line first before es s (subst IsBad (sym (heads first bad (before ++ line ∷ after) behind e).0) c))
+first_bad (first ∷ before) (next ∷ other) line bad after behind es fs e s t b c =
+    let rest = first_bad before other line bad after behind (later_good first before es s).0 (later_good next other fs t).0
+    (heads first next (before ++ line ∷ after) (other ++ bad ∷ behind) e).1 (later_good first before es s).1 (later_good next other fs t).1 b c in
+    (ap suc rest.0, rest.1)
+
+-- a text that spells entries has no bad line
+pub spelled_no_fault : (bytes : List ℕ) (es : List PlainEntry) (fault : DatesFault) → SpellsDates bytes es → HasFault bytes fault → fault ≡ OutOfMemory
+spelled_no_fault bytes es (BadLine n) s h = absurd (no_bad_line h.before h.line h.after es (subst (λ l. SpellLines l es) h.split s) (bad_line h.line h.kind))
+spelled_no_fault bytes es (BadDate n) s h = absurd (no_bad_line h.before h.line h.after es (subst (λ l. SpellLines l es) h.split s) (bad_date h.line h.kind))
+spelled_no_fault bytes es OutOfMemory s h = refl
+
+same_place : (P Q : List ℕ → Type 0) (bytes : List ℕ) (m n : ℕ) (h : IsReached P bytes m) (k : IsReached Q bytes n) → IsBad h.line → IsBad k.line → (m ≡ n) × (h.line ≡ k.line)
+same_place P Q bytes m n h k b c =
+    let same = first_bad h.before k.before h.line k.line h.after k.after h.entries k.entries (sym h.split ∙ k.split) h.good k.good b c in
+    let here = h.number in
+    let there = k.number in
+    let long = same.0 in
+    (omega arith, same.1)
+
+-- and it has one first bad line at most
+pub one_fault : (bytes : List ℕ) (fault other : DatesFault) → HasFault bytes fault → HasFault bytes other → (fault ≡ other) ⊎ ((fault ≡ OutOfMemory) ⊎ (other ≡ OutOfMemory))
+one_fault bytes OutOfMemory other h k = inr (inl refl)
+one_fault bytes (BadLine m) OutOfMemory h k = inr (inr refl)
+one_fault bytes (BadDate m) OutOfMemory h k = inr (inr refl)
+one_fault bytes (BadLine m) (BadLine n) h k =
+    inl (ap BadLine (same_place IsBadLine IsBadLine bytes m n h k (bad_line h.line h.kind) (bad_line k.line k.kind)).0)
+one_fault bytes (BadDate m) (BadDate n) h k =
+    inl (ap BadDate (same_place IsBadDate IsBadDate bytes m n h k (bad_date h.line h.kind) (bad_date k.line k.kind)).0)
+one_fault bytes (BadLine m) (BadDate n) h k =
+    let same = same_place IsBadLine IsBadDate bytes m n h k (bad_line h.line h.kind) (bad_date k.line k.kind) in
+    absurd (h.kind.1 k.kind.0 (subst (λ l. HasShape l k.kind.0) (sym same.1) k.kind.1))
+one_fault bytes (BadDate m) (BadLine n) h k =
+    let same = same_place IsBadDate IsBadLine bytes m n h k (bad_date h.line h.kind) (bad_line k.line k.kind) in
+    absurd (k.kind.1 h.kind.0 (subst (λ l. HasShape l h.kind.0) same.1 h.kind.1))

@@ -1,0 +1,35 @@
+use Rattle.std.proofs.Common.{◌≡◌, ℕ, ◌∙◌, ap, refl, sym}
+use Rattle.std.proofs.lemmas.Bool.{false≢true}
+use Rattle.dumpdates.specs.Entry.{PlainEntry}
+use Rattle.dumpdates.specs.Moment.{seconds_at}
+use Rattle.dumpdates.specs.Found.{plain_words, plain_fields}
+use Rattle.dumpdates.specs.Line.{is_space}
+use Rattle.dumpdates.proofs.Shapes.{all_from_test, not_blank, no_words, other_words, words_shape}
+use Rattle.dumpdates.proofs.line.line_of.Goals as goal
+
+pub returns-then-is_blank : goal.returns-then-is_blank
+returns-then-is_blank c = all_from_test is_space c.args.line.now (sym c.is_blank.ensures ∙ c.if-is_blank.true)
+
+pub returns-in_default : goal.returns-in_default
+returns-in_default c =
+    let line = c.args.line.now in
+    (not_blank line (sym c.is_blank.ensures ∙ c.if-is_blank.false), no_words line (sym c.in_default.ensures))
+
+pub returns-in_default-fields_of : goal.returns-in_default-fields_of
+returns-in_default-fields_of c =
+    let line = c.args.line.now in
+    (not_blank line (sym c.is_blank.ensures ∙ c.if-is_blank.false), other_words line (plain_words c.in-Some.words) (sym c.in-Some.ensures) c.in_default-fields_of.ensures)
+
+pub returns-in_default-seconds_of : goal.returns-in_default-seconds_of
+returns-in_default-seconds_of c =
+    let line = c.args.line.now in
+    let f = plain_fields c.in-Some-fields_of.fields in
+    (f, words_shape line (plain_words c.in-Some.words) f (sym c.in-Some.ensures) c.in-Some-fields_of.ensures, λ m. false≢true (c.in_default-seconds_of.ensures.given.1 m))
+
+pub returns : goal.returns
+returns c =
+    let line = c.args.line.now in
+    let f = plain_fields c.in-Some-fields_of.fields in
+    let e : ℕ → PlainEntry = λ date. record { name = f.name; level = f.level; date = date } in
+    let same : e c.in-Some-seconds_of.date ≡ e (seconds_at f.moment) = ap e c.in-Some-seconds_of.ensures.value in
+    (f, words_shape line (plain_words c.in-Some.words) f (sym c.in-Some.ensures) c.in-Some-fields_of.ensures, c.in-Some-seconds_of.ensures.given.0 refl, same)

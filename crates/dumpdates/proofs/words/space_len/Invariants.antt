@@ -1,0 +1,8 @@
+use Rattle.std.proofs.Common.{◌≡◌, ◌+◌, drop}
+use Rattle.std.specs.List.{prefix_len}
+use Rattle.dumpdates.specs.Line.{is_space}
+use Rattle.dumpdates.proofs.words.space_len.Given as goal
+
+-- what was passed, and what the rest says
+abbrev pub invariant-loop-at : goal.invariant-loop-at
+invariant-loop-at l = l.at + prefix_len is_space (drop l.at l.bytes) ≡ prefix_len is_space l.bytes

@@ -1,0 +1,11 @@
+pub mod Entry
+pub mod Moment
+pub mod Names
+pub mod Text
+pub mod Dates
+pub mod Stored
+pub mod Clock
+pub mod Line
+pub mod Lines
+pub mod Front
+pub mod Found

@@ -1,0 +1,44 @@
+-- How dumpdates is read: line by line.
+use Rattle.std.specs.Prelude.{◌≡◌, ◌⊎◌, ℕ, ◌+◌, ◌==◌, List, [], ◌∷◌, ◌++◌, length}
+use Rattle.std.specs.List.{slice_split}
+use Rattle.dumpdates.specs.Entry.{PlainEntry}
+use Rattle.dumpdates.specs.Line.{AreSpaces, SpellsLine, IsBadLine, IsBadDate}
+use Rattle.dumpdates.specs.Text.{line_feed}
+use Rattle.dumpdates.specs.declared.fault.DatesFault.{DatesFault}
+use Rattle.dumpdates.specs.declared.fault.DatesFault.TheVariants.{BadLine, BadDate, OutOfMemory}
+
+-- the lines of a text, cut at its line feeds; behind the last line feed stands one more, which may be empty
+abbrev pub lines_of : List ℕ → List (List ℕ)
+lines_of bytes = slice_split (λ b. b == line_feed) bytes
+
+-- each line is blank, and skipped, or the next entry
+abbrev pub SpellLines : List (List ℕ) → List PlainEntry → Type 0
+SpellLines [] entries = entries ≡ []
+SpellLines (line ∷ lines) entries =
+    (AreSpaces line × SpellLines lines entries)
+    ⊎ ((e : PlainEntry) × (later : List PlainEntry) × SpellsLine line e × (entries ≡ e ∷ later) × SpellLines lines later)
+
+-- the text spells these entries
+abbrev pub SpellsDates : List ℕ → List PlainEntry → Type 0
+SpellsDates bytes entries = SpellLines (lines_of bytes) entries
+
+-- the line numbered n, counted from 1, is one of these, and all lines before it are blank or entries
+pub record IsReached (Kind : List ℕ → Type 0) (bytes : List ℕ) (n : ℕ) : Type 0 where
+  pub before : List (List ℕ)
+  pub line : List ℕ
+  pub after : List (List ℕ)
+  pub entries : List PlainEntry
+  pub split : lines_of bytes ≡ before ++ line ∷ after
+  pub number : n ≡ length before + 1
+  pub good : SpellLines before entries
+  pub kind : Kind line
+
+-- the line is an entry
+abbrev pub IsEntryLine : List ℕ → Type 0
+IsEntryLine line = (e : PlainEntry) × SpellsLine line e
+
+-- The text has this fault: the first bad line, by its number and its kind. Memory is wanted where an entry is reached.
+abbrev pub HasFault : List ℕ → DatesFault → Type 0
+HasFault bytes (BadLine n) = IsReached IsBadLine bytes n
+HasFault bytes (BadDate n) = IsReached IsBadDate bytes n
+HasFault bytes OutOfMemory = (n : ℕ) × IsReached IsEntryLine bytes n

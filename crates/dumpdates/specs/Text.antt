@@ -1,0 +1,49 @@
+-- How dumpdates is written: a line for each entry, with its date as ctime(3) has it.
+use Rattle.std.specs.Prelude.{ℕ, ◌+◌, ◌-◌, ◌/◌, ◌%◌, if◌then◌else◌, nat_lt, List, [], ◌∷◌, ◌++◌, length, replicate, flat_map, decimal}
+use Rattle.dumpdates.specs.Entry.{PlainEntry}
+use Rattle.dumpdates.specs.Moment.{PlainMoment, moment_of}
+use Rattle.dumpdates.specs.Names.{weekday_name, month_name}
+
+abbrev pub line_feed : ℕ
+line_feed = 10
+
+abbrev pub space : ℕ
+space = 32
+
+abbrev pub colon : ℕ
+colon = 58
+
+-- a number below 10 as its digit
+abbrev pub digit : ℕ → ℕ
+digit n = 48 + n
+
+-- a number below 100 as two digits
+abbrev pub two_digits : ℕ → List ℕ
+two_digits n = digit (n / 10) ∷ digit (n % 10) ∷ []
+
+-- a day of a month in two places, with a space in place of a leading 0
+abbrev pub day_text : ℕ → List ℕ
+day_text n = if nat_lt n 10 then space ∷ digit n ∷ [] else two_digits n
+
+-- hh:mm:ss
+abbrev pub time_text : PlainMoment → List ℕ
+time_text m = two_digits m.hour ++ (colon ∷ (two_digits m.minute ++ (colon ∷ two_digits m.second)))
+
+-- Www Mmm dd hh:mm:ss yyyy
+unfoldable pub ctime_text : ℕ → List ℕ
+ctime_text date =
+    let m = moment_of date in
+    weekday_name (date / 86400)
+    ++ (space ∷ (month_name m.month ++ (space ∷ (day_text m.day ++ (space ∷ (time_text m ++ (space ∷ decimal m.year)))))))
+
+-- a name in 32 places, with spaces behind it; a longer one as it is
+abbrev pub padded : List ℕ → List ℕ
+padded name = name ++ replicate (32 - length name) space
+
+-- the name, a space, the level, a space, the date, and the end of the line
+unfoldable pub line_text : PlainEntry → List ℕ
+line_text e = padded e.name ++ (space ∷ digit e.level ∷ space ∷ (ctime_text e.date ++ line_feed ∷ []))
+
+-- the one text that is written of these entries
+abbrev pub written : List PlainEntry → List ℕ
+written entries = flat_map line_text entries

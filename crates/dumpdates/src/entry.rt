@@ -1,0 +1,50 @@
+ghost use Rattle.std.specs.Prelude.{◌≡◌, ◌↔◌, ◌≤◌, IsTrue};
+ghost use Rattle.std.proofs.Props.{props};
+ghost use Rattle.dumpdates.specs.Entry.{IsName, last_second};
+
+/// The greatest date: the last second of the year 9999, in seconds since 1970 began.
+pub const LAST_SECOND: u64 = 253_402_300_799;
+
+/// The greatest level of a dump.
+pub(crate) const LAST_LEVEL: u8 = 9;
+
+/// The most bytes of a name.
+const NAME_LIMIT: usize = 255;
+
+/// An entry of dumpdates: a file system was dumped at a level, at a date.
+#[derive(Clone, Copy, Debug)]
+pub struct Entry<'a> {
+    /// The file system: 1 to 255 bytes, each of them printed ASCII and no space.
+    pub name: &'a str,
+    /// The level of the dump, 0 to 9.
+    pub level: u8,
+    /// The date of the dump, in seconds since 1970 began, UTC: 0 to `LAST_SECOND`.
+    pub date: u64,
+    pub ghost name_in: { IsName name.now } by { Prim.hlevel props },
+    pub ghost level_in: { level ≤ 9 },
+    pub ghost date_in: { date ≤ last_second },
+}
+
+impl<'a> Entry<'a> {
+    ghost use Rattle.std.specs.Prelude.{IsSome, IfSome};
+    ghost use Rattle.dumpdates.specs.Entry.{IsEntry};
+    ghost use Rattle.dumpdates.specs.Stored.{plain_entry};
+
+    /// The entry with this name, level and date, if there is one with them.
+    pub fn new(name: &'a str, level: u8, date: u64) -> Option<Entry<'a>>
+        ensures given { IsSome result ↔ IsEntry (record { name = name.now; level = level; date = date }) }
+        ensures value { IfSome result (λ e. plain_entry e ≡ record { name = name.now; level = level; date = date }) }
+    {
+        if !is_name(name.as_bytes()) || level > LAST_LEVEL || date > LAST_SECOND {
+            return None;
+        }
+        Some(Entry { name, level, date })
+    }
+}
+
+/// Whether the bytes are a name.
+pub(crate) fn is_name(name: &[u8]) -> bool
+    ensures { IsTrue result ↔ IsName name.now }
+{
+    !name.is_empty() && name.len() <= NAME_LIMIT && name.iter().all(|b| b.is_ascii_graphic())
+}

@@ -1,0 +1,88 @@
+//! What the words of a line say.
+
+ghost use Rattle.std.specs.Prelude.{◌≡◌, ℕ, ◌^◌, ◌<◌, ◌≤◌, MatchOption, IfSome};
+ghost use Rattle.dumpdates.specs.Found.{plain_words, plain_fields};
+ghost use Rattle.dumpdates.specs.Line.{PlainFields, SpellsDigits, SpellsTime, SpellsWords};
+
+use crate::entry::is_name;
+use crate::moment::Moment;
+use crate::names::{is_weekday, month_named};
+use crate::words::Words;
+
+/// What the words of a line say, whether its date is one or not.
+#[derive(Clone, Copy)]
+pub(crate) struct Fields<'a> {
+    pub(crate) name: &'a [u8],
+    pub(crate) level: u8,
+    pub(crate) moment: Moment,
+}
+
+/// What the words say. None where one of them has not its shape.
+pub(crate) fn fields_of(words: Words<'_>) -> Option<Fields<'_>>
+    ensures { MatchOption result ((f : PlainFields) → ¬ SpellsWords (plain_words words.entry) f) (λ f. SpellsWords (plain_words words.entry) (plain_fields f)) }
+{
+    if !is_name(words.name) || !is_weekday(words.weekday) {
+        return None;
+    }
+    let level = number(words.level, 1, 1)?;
+    let month = month_named(words.month)?;
+    let day = number(words.day, 1, 2)?;
+    let time = time_of(words.time)?;
+    let year = number(words.year, 4, 4)?;
+    Some(Fields {
+        name: words.name,
+        level: level as u8,
+        moment: Moment {
+            year,
+            month,
+            day: day as u8,
+            hour: time.hour,
+            minute: time.minute,
+            second: time.second,
+        },
+    })
+}
+
+/// A time of day, whether a clock shows it or not.
+#[derive(Clone, Copy)]
+struct Time {
+    hour: u8,
+    minute: u8,
+    second: u8,
+}
+
+/// The time that a word of the shape hh:mm:ss says.
+fn time_of(word: &[u8]) -> Option<Time>
+    ensures { MatchOption result ((h m s : ℕ) → ¬ SpellsTime word.now h m s) (λ t. SpellsTime word.now t.hour t.minute t.second) }
+{
+    if word.len() != 8 || word[2] != b':' || word[5] != b':' {
+        return None;
+    }
+    let hour = number(&word[..2], 2, 2)?;
+    let minute = number(&word[3..5], 2, 2)?;
+    let second = number(&word[6..], 2, 2)?;
+    Some(Time {
+        hour: hour as u8,
+        minute: minute as u8,
+        second: second as u8,
+    })
+}
+
+/// The number that a word of so many digits writes, of which there are 4 at most.
+fn number(text: &[u8], least: usize, most: usize) -> Option<u16>
+    requires { most ≤ 4 }
+    ensures value { MatchOption result ((n : ℕ) → ¬ SpellsDigits least most text.now n) (λ n. SpellsDigits least most text.now n) }
+    ensures small { IfSome result (λ n. n < 10 ^ most) }
+{
+    if text.len() < least || text.len() > most {
+        return None;
+    }
+    let mut value = 0;
+    for byte in text {
+        if !byte.is_ascii_digit() {
+            return None;
+        }
+        value = value * 10 + u16::from(*byte - b'0');
+    }
+    Some(value)
+}

@@ -1,0 +1,47 @@
+//! The lines of a file, one after the other.
+
+ghost use Rattle.std.specs.Prelude.{◌≡◌, ◌==◌, ◌≤◌, length, OnOk, IfErr};
+ghost use Rattle.std.specs.List.{position_or_len};
+ghost use Rattle.dumpdates.specs.Found.{IsAdded, IsRefused};
+ghost use Rattle.dumpdates.specs.Stored.{plain_all};
+ghost use Rattle.dumpdates.specs.Text.{line_feed};
+
+use crate::DatesFault;
+use crate::line::{LineFault, line_of};
+use crate::stored::Stored;
+use std::alloc::Global;
+
+/// How many bytes stand before the first line feed.
+pub(crate) fn line_len(bytes: &[u8]) -> usize
+    ensures value { result ≡ position_or_len (λ b. b == line_feed) bytes.now }
+    ensures within { result ≤ length bytes.now }
+{
+    for (at, byte) in bytes.iter().enumerate() {
+        if *byte == b'\n' {
+            return at;
+        }
+    }
+    bytes.len()
+}
+
+/// Adds the entry of the line of that number at the end, where the line is not blank.
+pub(crate) fn read_line(
+    alloc: Global,
+    entries: &mut Vec<Stored>,
+    line: &[u8],
+    number: usize,
+) -> Result<(), DatesFault>
+    ensures added { OnOk result (IsAdded line.now (plain_all entries.old.items) (plain_all entries.new.items)) }
+    ensures refused { IfErr result (IsRefused line.now number) }
+{
+    let found = match line_of(line) {
+        Ok(None) => return Ok(()),
+        Ok(Some(found)) => found,
+        Err(LineFault::BadShape) => return Err(DatesFault::BadLine(number)),
+        Err(LineFault::NoDate) => return Err(DatesFault::BadDate(number)),
+    };
+    entries.reserve(1)?;
+    let last = Stored::new(alloc, found.name, found.level, found.date)?;
+    entries.push_reserved(last);
+    Ok(())
+}

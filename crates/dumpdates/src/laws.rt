@@ -1,0 +1,28 @@
+ghost use Rattle.std.specs.Prelude.{◌≡◌, ◌⊎◌, ℕ, ◌≤◌, List};
+ghost use Rattle.dumpdates.specs.Entry.{PlainEntry, AreEntries, last_second};
+ghost use Rattle.dumpdates.specs.Lines.{SpellsDates, HasFault};
+ghost use Rattle.dumpdates.specs.Moment.{IsMoment, moment_of, seconds_at};
+ghost use Rattle.dumpdates.specs.Text.{written};
+ghost use Rattle.dumpdates.specs.declared.fault.DatesFault.{DatesFault};
+ghost use Rattle.dumpdates.specs.declared.fault.DatesFault.TheVariants.{OutOfMemory};
+
+/// A text spells one list of entries at most, and then has no bad line. Else it has one first bad line, of one kind.
+///
+/// It does nothing: its contract is a law of the definitions.
+pub fn one_reading()
+    ensures entries { (bytes : List ℕ) (entries others : List PlainEntry) →
+        SpellsDates bytes entries → SpellsDates bytes others → entries ≡ others }
+    ensures no_fault { (bytes : List ℕ) (entries : List PlainEntry) (fault : DatesFault) →
+        SpellsDates bytes entries → HasFault bytes fault → fault ≡ OutOfMemory }
+    ensures fault { (bytes : List ℕ) (fault other : DatesFault) →
+        HasFault bytes fault → HasFault bytes other → (fault ≡ other) ⊎ ((fault ≡ OutOfMemory) ⊎ (other ≡ OutOfMemory)) }
+{}
+
+/// What is written of entries spells just these entries: reading it gives the same list. The date that is written is the
+/// date that is read.
+///
+/// It does nothing: its contract is a law of the definitions.
+pub fn written_and_read()
+    ensures spelled { (entries : List PlainEntry) → AreEntries entries → SpellsDates (written entries) entries }
+    ensures moment { (date : ℕ) → date ≤ last_second → IsMoment (moment_of date) × (seconds_at (moment_of date) ≡ date) }
+{}

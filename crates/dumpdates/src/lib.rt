@@ -1,0 +1,28 @@
+//! The file dumpdates of dump(8): which file systems were dumped at which levels, and when.
+//!
+//! `Dates` is its list of entries. It is read exactly, written exactly, asked for the base date of a dump, and takes
+//! new entries without losing others.
+#![tactic(auto)]
+
+mod dates;
+mod entry;
+mod fault;
+mod fields;
+mod file;
+mod laws;
+mod line;
+mod list;
+mod moment;
+mod names;
+#[cfg(test)]
+mod slow;
+mod stored;
+#[cfg(test)]
+mod tests;
+mod words;
+mod writer;
+
+pub use dates::Dates;
+pub use entry::{Entry, LAST_SECOND};
+pub use fault::DatesFault;
+pub use laws::{one_reading, written_and_read};

@@ -1,0 +1,48 @@
+//! A line of the file, as what it is.
+
+ghost use Rattle.std.specs.Prelude.{◌≡◌};
+ghost use Rattle.dumpdates.specs.Found.{IsFound};
+
+use crate::fields::fields_of;
+use crate::moment::seconds_of;
+use crate::words::{is_blank, words_of};
+
+/// An entry in a line.
+#[derive(Clone, Copy)]
+pub(crate) struct Found<'a> {
+    pub(crate) name: &'a [u8],
+    pub(crate) level: u8,
+    pub(crate) date: u64,
+}
+
+/// Why a line is neither blank nor an entry.
+#[derive(Clone, Copy)]
+pub(crate) enum LineFault {
+    /// It has not the shape of an entry.
+    BadShape,
+    /// It has the shape, and its date or time is none.
+    NoDate,
+}
+
+/// The entry that a line is. None for a blank one.
+pub(crate) fn line_of(line: &[u8]) -> Result<Option<Found<'_>>, LineFault>
+    ensures { IsFound line.now result }
+{
+    if is_blank(line) {
+        return Ok(None);
+    }
+    let Some(words) = words_of(line) else {
+        return Err(LineFault::BadShape);
+    };
+    let Some(fields) = fields_of(words) else {
+        return Err(LineFault::BadShape);
+    };
+    let Some(date) = seconds_of(fields.moment) else {
+        return Err(LineFault::NoDate);
+    };
+    Ok(Some(Found {
+        name: fields.name,
+        level: fields.level,
+        date,
+    }))
+}

@@ -1,0 +1,55 @@
+ghost use Rattle.std.specs.Prelude.{◌≤◌};
+ghost use Rattle.std.proofs.Props.{props};
+ghost use Rattle.dumpdates.specs.Entry.{IsName, last_second};
+
+use crate::Entry;
+use std::alloc::{AllocError, Global};
+
+/// An entry that owns its name.
+#[derive(Drop)]
+pub(crate) struct Stored {
+    pub(crate) name: Vec<u8>,
+    pub(crate) level: u8,
+    pub(crate) date: u64,
+    pub(crate) ghost name_in: { IsName name.items } by { Prim.hlevel props },
+    pub(crate) ghost level_in: { level ≤ 9 },
+    pub(crate) ghost date_in: { date ≤ last_second },
+}
+
+impl Stored {
+    ghost use Rattle.std.specs.Prelude.{◌≡◌, IfOk};
+    ghost use Rattle.dumpdates.specs.Dates as spec;
+    ghost use Rattle.dumpdates.specs.Entry.{IsEntry};
+    ghost use Rattle.dumpdates.specs.Stored.{plain_entry, plain_stored};
+
+    /// A copy of an entry.
+    pub(crate) fn new(
+        alloc: Global,
+        name: &[u8],
+        level: u8,
+        date: u64,
+    ) -> Result<Stored, AllocError>
+        requires { IsEntry (record { name = name.now; level = level; date = date }) }
+        ensures { IfOk result (λ e. plain_stored e ≡ record { name = name.now; level = level; date = date }) }
+    {
+        Ok(Stored {
+            name: Vec::from_slice(alloc, name)?,
+            level,
+            date,
+        })
+    }
+
+    /// Whether this is an entry of the same name and level.
+    pub(crate) fn is_same(&self, entry: Entry<'_>) -> bool
+        ensures { result ≡ spec.is_same (plain_entry entry.entry) (plain_stored self.now) }
+    {
+        self.name.as_slice() == entry.name.as_bytes() && self.level == entry.level
+    }
+
+    /// Whether this is an entry of that name with a lower level.
+    pub(crate) fn is_below(&self, name: &str, level: u8) -> bool
+        ensures { result ≡ spec.is_below name.now level (plain_stored self.now) }
+    {
+        self.name.as_slice() == name.as_bytes() && self.level < level
+    }
+}

@@ -1,0 +1,5 @@
+mod days;
+mod lines;
+mod lists;
+mod memory;
+mod rows;

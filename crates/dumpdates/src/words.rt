@@ -1,0 +1,94 @@
+//! The words of a line.
+
+ghost use Rattle.std.specs.Prelude.{◌≡◌, ◌≤◌, length, option_map};
+ghost use Rattle.std.specs.List.{prefix_len, position_or_len, list_all};
+ghost use Rattle.dumpdates.specs.Found.{plain_words};
+ghost use Rattle.dumpdates.specs.Front as spec;
+ghost use Rattle.dumpdates.specs.Line as line_spec;
+
+/// The seven words of an entry's line. Where a line has fewer, the last ones are empty.
+#[derive(Clone, Copy)]
+pub(crate) struct Words<'a> {
+    pub(crate) name: &'a [u8],
+    pub(crate) level: &'a [u8],
+    pub(crate) weekday: &'a [u8],
+    pub(crate) month: &'a [u8],
+    pub(crate) day: &'a [u8],
+    pub(crate) time: &'a [u8],
+    pub(crate) year: &'a [u8],
+}
+
+/// The words of a line that has seven at most.
+#[tactic(auto, unfolding(crate::specs::Front::words_of))]
+pub(crate) fn words_of(line: &[u8]) -> Option<Words<'_>>
+    ensures { option_map plain_words result ≡ spec.words_of line.now }
+{
+    let (name, rest) = first_word(line);
+    let (level, rest) = first_word(rest);
+    let (weekday, rest) = first_word(rest);
+    let (month, rest) = first_word(rest);
+    let (day, rest) = first_word(rest);
+    let (time, rest) = first_word(rest);
+    let (year, rest) = first_word(rest);
+    if !is_blank(rest) {
+        return None;
+    }
+    Some(Words {
+        name,
+        level,
+        weekday,
+        month,
+        day,
+        time,
+        year,
+    })
+}
+
+/// Whether the bytes are spaces and tabs alone, or none.
+pub(crate) fn is_blank(bytes: &[u8]) -> bool
+    ensures { result ≡ list_all line_spec.is_space bytes.now }
+{
+    bytes.iter().all(|b| is_space(*b))
+}
+
+fn is_space(byte: u8) -> bool
+    ensures { result ≡ line_spec.is_space byte }
+{
+    byte == b' ' || byte == b'\t'
+}
+
+/// The first word, and what stands behind it. The word is empty where there is none.
+#[tactic(auto, unfolding(crate::specs::Front::first_word, crate::specs::Front::after_word, crate::specs::Front::after_spaces))]
+fn first_word(bytes: &[u8]) -> (&[u8], &[u8])
+    ensures word { result.0.now ≡ spec.first_word bytes.now }
+    ensures rest { result.1.now ≡ spec.after_word bytes.now }
+{
+    let text = &bytes[space_len(bytes)..];
+    text.split_at(word_len(text))
+}
+
+/// How many spaces and tabs stand at the front.
+fn space_len(bytes: &[u8]) -> usize
+    ensures value { result ≡ prefix_len line_spec.is_space bytes.now }
+    ensures within { result ≤ length bytes.now }
+{
+    for (at, byte) in bytes.iter().enumerate() {
+        if !is_space(*byte) {
+            return at;
+        }
+    }
+    bytes.len()
+}
+
+/// How many bytes stand before the first space or tab.
+fn word_len(bytes: &[u8]) -> usize
+    ensures value { result ≡ position_or_len line_spec.is_space bytes.now }
+    ensures within { result ≤ length bytes.now }
+{
+    for (at, byte) in bytes.iter().enumerate() {
+        if is_space(*byte) {
+            return at;
+        }
+    }
+    bytes.len()
+}

@@ -1,0 +1,86 @@
+//! The line of an entry, as it is written.
+
+ghost use Rattle.std.specs.Prelude.{◌≡◌, ◌-◌, ◌<◌, ◌≤◌, ◌++◌, replicate, OnOk};
+ghost use Rattle.dumpdates.specs.Clock.{plain_moment};
+ghost use Rattle.dumpdates.specs.Moment.{IsMoment};
+ghost use Rattle.dumpdates.specs.Stored.{plain_stored};
+ghost use Rattle.dumpdates.specs.Text as spec;
+
+use crate::LAST_SECOND;
+use crate::moment::{DAY, Moment, moment_of};
+use crate::names::{month_name, weekday_name};
+use crate::stored::Stored;
+use itoa::Buffer;
+use std::alloc::AllocError;
+
+/// How many places a name takes at least.
+const NAME_PLACES: usize = 32;
+
+const SPACES: [u8; NAME_PLACES] = [b' '; NAME_PLACES];
+
+/// Appends the line of an entry.
+pub(crate) fn push_line(out: &mut Vec<u8>, entry: &Stored) -> Result<(), AllocError>
+    ensures { OnOk result (out.new.items ≡ out.old.items ++ spec.line_text (plain_stored entry.now)) }
+{
+    push_padded(out, &entry.name)?;
+    out.extend_from_slice(&[b' ', b'0' + entry.level, b' '])?;
+    push_ctime(out, entry.date)?;
+    out.extend_from_slice(b"\n")
+}
+
+/// Appends a name, and spaces up to its places.
+fn push_padded(out: &mut Vec<u8>, name: &[u8]) -> Result<(), AllocError>
+    ensures { OnOk result (out.new.items ≡ out.old.items ++ spec.padded name.now) }
+{
+    out.extend_from_slice(name)?;
+    out.extend_from_slice(&SPACES[name.len().min(NAME_PLACES)..])
+}
+
+/// Appends a date as ctime(3) has it, in UTC.
+fn push_ctime(out: &mut Vec<u8>, date: u64) -> Result<(), AllocError>
+    requires { date ≤ LAST_SECOND }
+    ensures { OnOk result (out.new.items ≡ out.old.items ++ spec.ctime_text date) }
+{
+    let moment = moment_of(date);
+    out.extend_from_slice(&weekday_name(date / DAY))?;
+    out.extend_from_slice(b" ")?;
+    out.extend_from_slice(&month_name(moment.month))?;
+    out.extend_from_slice(b" ")?;
+    out.extend_from_slice(&day_text(moment.day))?;
+    out.extend_from_slice(b" ")?;
+    out.extend_from_slice(&time_text(moment))?;
+    out.extend_from_slice(b" ")?;
+    let mut year = Buffer::new();
+    out.extend_from_slice(year.format(moment.year).as_bytes())
+}
+
+/// A number as two digits.
+fn two_digits(n: u8) -> [u8; 2]
+    requires { n < 100 }
+    ensures { result ≡ spec.two_digits n }
+{
+    [b'0' + n / 10, b'0' + n % 10]
+}
+
+/// A day of a month in two places, with a space in place of a leading 0.
+fn day_text(day: u8) -> [u8; 2]
+    requires { day < 100 }
+    ensures { result ≡ spec.day_text day }
+{
+    if day < 10 {
+        [b' ', b'0' + day]
+    } else {
+        two_digits(day)
+    }
+}
+
+/// The time of day, as hh:mm:ss.
+fn time_text(moment: Moment) -> [u8; 8]
+    requires { IsMoment (plain_moment moment) }
+    ensures { result ≡ spec.time_text (plain_moment moment) }
+{
+    let [h, i] = two_digits(moment.hour);
+    let [m, n] = two_digits(moment.minute);
+    let [s, t] = two_digits(moment.second);
+    [h, i, b':', m, n, b':', s, t]
+}
