@@ -11,7 +11,7 @@ greatest (n ∷ ns) = max n (greatest ns)
 abbrev pub is_below : List ℕ → ℕ → PlainEntry → Bool
 is_below name level e = bytes_eq e.name name && nat_lt e.level level
 
--- the base date of a dump: the greatest date among the entries of its name with a lower level, and 0 where there is none
+-- the date that a dump is based on: that of the latest dump of the name at a lower level, and 0 if no lower level was dumped
 abbrev pub base_of : List PlainEntry → List ℕ → ℕ → ℕ
 base_of entries name level = greatest (map (λ e. e.date) (filter (is_below name level) entries))
 
@@ -23,7 +23,7 @@ is_same e other = bytes_eq other.name e.name && (other.level == e.level)
 abbrev pub others : PlainEntry → List PlainEntry → List PlainEntry
 others e entries = filter (λ other. not (is_same e other)) entries
 
--- The first entry of the new one's name and level is replaced by it, and further ones are taken out. Where there is none it goes last.
+-- The new one takes the place of the first entry of its name and level, and any more of these go. Without one it stands at the end.
 abbrev pub entered : List PlainEntry → PlainEntry → List PlainEntry
 entered [] e = e ∷ []
 entered (first ∷ entries) e = if is_same e first then e ∷ others e entries else first ∷ entered entries e

@@ -44,14 +44,15 @@ impl Dates {
         }
     }
 
-    /// The entries that a file's bytes spell: those of its lines, in their order, doubles too.
+    /// The entries of a file (dump(8)), one for each of its lines that is not blank, in the order of the lines.
     ///
-    /// A line ends with a line feed, which the last one may lack. One of spaces and tabs alone, or empty, is blank and
-    /// skipped. Every other line is a name, a level and a date in the form of ctime(3), in UTC, with spaces or tabs
-    /// between the words and perhaps at the ends. The weekday may be any.
+    /// Lines end with a line feed, but for the last, which need not. A line that holds nothing but spaces and tabs is
+    /// blank. Any other has seven words with spaces or tabs between them, and perhaps before and behind them: the name,
+    /// of 1 to 255 bytes of printed ASCII; the level, one digit; and the date as ctime(3) prints it, in UTC: a weekday,
+    /// whichever it is, a month, a day of one or two digits, `hh:mm:ss` with two digits each, and a year of four.
     ///
-    /// Answers `BadLine` or `BadDate` with the number of the first bad line, and `OutOfMemory` where a growth was refused
-    /// before one was met.
+    /// Answers `BadLine` or `BadDate` with the number of the first line that is bad, and `OutOfMemory` where memory is
+    /// refused for an entry while no line up to it is bad.
     pub fn read(alloc: Global, bytes: &[u8]) -> Result<Dates, DatesFault>
         ensures spelled { IfOk result (λ dates. SpellsDates bytes.now dates) }
         ensures only { (entries : List PlainEntry) → SpellsDates bytes.now entries → MatchResult result (λ dates. dates ≡ entries) (λ fault. fault ≡ OutOfMemory) }
@@ -71,9 +72,10 @@ impl Dates {
         }
     }
 
-    /// The text of the file, a line for each entry.
+    /// The text of the file (dump(8)), a line for each entry: the name, with spaces up to 32 places where it is shorter,
+    /// a space, the level, a space, the date as ctime(3) prints it, in UTC, and a line feed.
     ///
-    /// Answers `OutOfMemory` where a growth is refused. Without entries it takes no memory.
+    /// Answers `OutOfMemory` where memory is refused. Without entries it takes none.
     pub fn text(&self) -> Result<Vec<u8>, DatesFault>
         ensures written { IfOk result (λ text. text.items ≡ written self.now) }
         ensures spelled { IfOk result (λ text. SpellsDates text.items self.now) }
@@ -87,8 +89,8 @@ impl Dates {
         Ok(out)
     }
 
-    /// The base date of a dump: the greatest date among the entries of that name with a lower level, and 0 where
-    /// there is none.
+    /// The date that a dump of this name and level is based on, in seconds since 1970 began, UTC (dump(8)): that of the
+    /// latest dump of the name at any lower level. It is 0 if no lower level was dumped.
     pub fn base(&self, name: &str, level: u8) -> u64
         ensures { result ≡ spec.base_of self.now name.now level }
     {
@@ -101,10 +103,12 @@ impl Dates {
         greatest
     }
 
-    /// Enters a dump. The first entry of its name and level is replaced, whatever its date, and further ones are
-    /// taken out. All others stay, in their order. Where there is none of its name and level, it goes last.
+    /// Enters a dump (dump(8)). It takes the place of the first entry that has its name and level, earlier or later than
+    /// that one, and any more of these go. The entries of other names and levels stay as they are. Without an entry of
+    /// its name and level it stands at the end.
     ///
-    /// Answers `OutOfMemory` where there is none of its name and level, and a growth is refused. Nothing changed then.
+    /// Answers `OutOfMemory` where a new entry is to stand at the end and memory is refused for it. Nothing has changed
+    /// then.
     pub fn enter(&mut self, entry: Entry<'_>) -> Result<(), DatesFault>
         ensures entered { OnOk result (self.new ≡ spec.entered self.old (plain_entry entry.entry)) }
         ensures fault { IfErr result (λ fault. fault ≡ OutOfMemory) }

@@ -30,7 +30,8 @@ impl<'a> Entry<'a> {
     ghost use Rattle.dumpdates.specs.Entry.{IsEntry};
     ghost use Rattle.dumpdates.specs.Stored.{plain_entry};
 
-    /// The entry with this name, level and date, if there is one with them.
+    /// The entry with this name, level and date. None where the name is not 1 to 255 bytes of printed ASCII without a
+    /// space, the level is above 9, or the date above `LAST_SECOND`.
     pub fn new(name: &'a str, level: u8, date: u64) -> Option<Entry<'a>>
         ensures given { IsSome result ↔ IsEntry (record { name = name.now; level = level; date = date }) }
         ensures value { IfSome result (λ e. plain_entry e ≡ record { name = name.now; level = level; date = date }) }

@@ -10,7 +10,7 @@ pub enum DatesFault {
     #[error("line {0}: bad line")]
     BadLine(usize),
     /// The line of this number is the first bad one: it has the shape of an entry, and its date is no day of the
-    /// calendar from 1970 to 9999, or its time none that a clock shows.
+    /// calendar from 1970 to 9999, or its hour is above 23, or its minute or second above 59.
     #[error("line {0}: bad date")]
     BadDate(usize),
     /// A growth in memory was refused. Nothing was changed.

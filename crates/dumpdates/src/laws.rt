@@ -6,7 +6,8 @@ ghost use Rattle.dumpdates.specs.Text.{written};
 ghost use Rattle.dumpdates.specs.declared.fault.DatesFault.{DatesFault};
 ghost use Rattle.dumpdates.specs.declared.fault.DatesFault.TheVariants.{OutOfMemory};
 
-/// A text spells one list of entries at most, and then has no bad line. Else it has one first bad line, of one kind.
+/// A text spells one list of entries at most, and then has no bad line; and it has one first bad line at most, of one
+/// kind.
 ///
 /// It does nothing: its contract is a law of the definitions.
 pub fn one_reading()

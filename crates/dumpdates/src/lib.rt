@@ -1,7 +1,7 @@
 //! The file dumpdates of dump(8): which file systems were dumped at which levels, and when.
 //!
 //! `Dates` is its list of entries. It is read exactly, written exactly, asked for the base date of a dump, and takes
-//! new entries without losing others.
+//! new entries while those of other names and levels stay.
 #![tactic(auto)]
 
 mod dates;
