@@ -20,7 +20,8 @@ fn set_in(reel: &mut Option<TroubledReel>, trouble: Trouble)
 
 impl<H: Holds> Session<H, ListStacks> {
     /// Sets how the next device call of the reel that is online fails, in place of what was set before. While no reel
-    /// is online it does nothing. The trouble stays with the reel until a device call meets it, also over a close.
+    /// is online it does nothing. The trouble stays with the reel until a device call meets it: at a close these stacks
+    /// lay the reel down with it.
     pub fn trouble(&mut self, trouble: Trouble)
         ensures seat { self.new.seat ≡ self.old.seat }
         ensures at { (holds : H) (stacks : Stacks) → IsAt H.Holds of_stacks (record { holds = holds; stacks = stacks }) self.old.seat self.old.opened → IsAt H.Holds of_stacks (record { holds = holds; stacks = stacks }) self.new.seat self.new.opened }
