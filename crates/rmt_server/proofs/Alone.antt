@@ -7,12 +7,12 @@ use Rattle.rmt_wire.specs.Reply.{PlainReply}
 use Rattle.tape.specs.declared.reel.Reel.{Ghosts as ReelPromise}
 use Rattle.rmt_server.specs.declared.access.Access.{Access}
 use Rattle.rmt_server.specs.declared.session.opened.Opened.{Opened}
-use Rattle.rmt_server.specs.declared.drives.holds.Holds.{Ghosts as HoldsPromise}
-use Rattle.rmt_server.specs.declared.drives.stacks.Stacks.{Ghosts as StacksPromise}
-use Rattle.rmt_server.specs.declared.drives.table.DriveTable.{DriveTable}
-use Rattle.rmt_server.specs.declared.drives.fault.DriveFault.{DriveFault}
+use Rattle.drives.specs.declared.holds.Holds.{Ghosts as HoldsPromise}
+use Rattle.drives.specs.declared.stacks.Stacks.{Ghosts as StacksPromise}
+use Rattle.drives.specs.declared.table.DriveTable.{DriveTable}
+use Rattle.drives.specs.declared.fault.DriveFault.{DriveFault}
 use Rattle.rmt_server.specs.Access.{access_of}
-use Rattle.rmt_server.specs.Opening.{word_after_open}
+use Rattle.drives.specs.Opening.{word_after_open}
 use Rattle.rmt_server.specs.Session.{Scene, refusal}
 use Rattle.rmt_server.specs.Carrying.{drive_of, word_after_close, opened_by, IsClosed, OpensFor, Closes, CarriesOut, ReelServes, status_at, IsCarriedOut, IsServed, IsAlone, MayShare}
 use Rattle.rmt_server.proofs.Carried.{serves-same}

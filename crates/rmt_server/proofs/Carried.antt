@@ -7,12 +7,12 @@ use Rattle.tape.specs.declared.reel.Reel.{Ghosts as ReelPromise}
 use Rattle.rmt_server.specs.declared.access.Access.{Access}
 use Rattle.rmt_server.specs.declared.refusal.Refusal.{Refusal}
 use Rattle.rmt_server.specs.declared.session.opened.Opened.{Opened}
-use Rattle.rmt_server.specs.declared.drives.holds.Holds.{Ghosts as HoldsPromise}
-use Rattle.rmt_server.specs.declared.drives.stacks.Stacks.{Ghosts as StacksPromise}
-use Rattle.rmt_server.specs.declared.drives.table.DriveTable.{DriveTable}
-use Rattle.rmt_server.specs.declared.drives.view.View.{View}
+use Rattle.drives.specs.declared.holds.Holds.{Ghosts as HoldsPromise}
+use Rattle.drives.specs.declared.stacks.Stacks.{Ghosts as StacksPromise}
+use Rattle.drives.specs.declared.table.DriveTable.{DriveTable}
+use Rattle.drives.specs.declared.view.View.{View}
 use Rattle.rmt_server.specs.Access.{access_of}
-use Rattle.rmt_server.specs.Opening.{drive_asked, found_in_open}
+use Rattle.drives.specs.Opening.{drive_asked, found_in_open}
 use Rattle.rmt_server.specs.Session.{Scene, scene, status_of, refusal, closed, session_after}
 use Rattle.rmt_server.specs.Refusals.{refused}
 use Rattle.rmt_server.specs.Carrying.{drive_of, online_drive, view_after_close, IsAt, Tells, KeepsDrives, IsClosed, OpensFor, Closes, CarriesOut, CallsIn, CallsReel, ReelServes, status_at, status_in, reel_of, ReelCanFail, CanFail, IsServed, IsCarriedOut, TakesFor, SeatSteps}

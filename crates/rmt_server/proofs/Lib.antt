@@ -1,5 +1,3 @@
-pub mod Held
-pub mod OneReel
 pub mod Seats
 pub mod Steps
 pub mod Opens

@@ -4,12 +4,12 @@ use Rattle.tape.specs.Tape.{Tape, tape}
 use Rattle.tape.specs.Failures.{HasRisen}
 use Rattle.tape.specs.declared.reel.Reel.{Ghosts as ReelPromise}
 use Rattle.rmt_server.specs.declared.access.Access.{Access}
-use Rattle.rmt_server.specs.declared.drives.view.View.{View}
-use Rattle.rmt_server.specs.declared.drives.fault.DriveFault.{DriveFault}
-use Rattle.rmt_server.specs.declared.drives.fault.DriveFault.TheVariants.{NoSuchDrive, Busy, NoReel, Device, OutOfMemory, NameTaken}
-use Rattle.rmt_server.specs.Holding.{last_drive}
-use Rattle.rmt_server.specs.Shop.{Shop}
-use Rattle.rmt_server.specs.Opening.{OpenStep, SeatStep, drive_asked, found_in_open}
+use Rattle.drives.specs.declared.view.View.{View}
+use Rattle.drives.specs.declared.fault.DriveFault.{DriveFault}
+use Rattle.drives.specs.declared.fault.DriveFault.TheVariants.{NoSuchDrive, Busy, NoReel, Device, OutOfMemory, NameTaken}
+use Rattle.drives.specs.Holding.{last_drive}
+use Rattle.drives.specs.Shop.{Shop}
+use Rattle.drives.specs.Opening.{OpenStep, SeatStep, drive_asked, found_in_open}
 use Rattle.rmt_server.specs.Session.{PlainReel, plain_reel, IsOpenExcused, open_reply, session_after}
 use Rattle.rmt_server.specs.Carrying.{IsSeenAs, opened_by, IsFaultOf}
 

@@ -1,8 +1,8 @@
 -- What a seat holds after its steps.
-use Rattle.std.proofs.Common.{◌≡◌, ◌≢◌, ℕ, ◌<◌, ◌≤◌, ◌⊎◌, Bool, true, false, IsTrue, List, length, replicate, slice_set, slice_index_or, Some, None, sym, ap, ◌∙◌, inl, inr, arith, length-set, get_or-set_same, get_or-set_other}
-use Rattle.std.proofs.lemmas.List.{length-replicate, get_or-replicate, get_or_past}
-use Rattle.rmt_server.specs.declared.drives.view.View.{View}
-use Rattle.rmt_server.specs.Holding.{has, given, newcomer, taken, HoldsJust}
+use Rattle.std.proofs.Common.{◌≡◌, ◌≢◌, ℕ, ◌<◌, ◌≤◌, ◌⊎◌, Bool, true, false, IsTrue, List, length, slice_set, slice_index_or, Some, None, sym, ap, ◌∙◌, inl, inr, arith, length-set, get_or-set_same, get_or-set_other}
+use Rattle.std.proofs.lemmas.List.{get_or_past}
+use Rattle.drives.specs.declared.view.View.{View}
+use Rattle.drives.specs.Holding.{has, given, taken, HoldsJust}
 
 le_or_lt : (m n : ℕ) → (m < n) ⊎ (n ≤ m)
 le_or_lt m n = grind arith
@@ -37,13 +37,3 @@ HoldsJust-taken v d h own e = elim (eq_or_ne e d) [
   | inr other ↦ (let n : has (taken v d 0) e ≡ has v e = get_or-set_other v.held d e true false other in
       (λ t. (let m : None ≡ Some e = (h e).0 (rw (← n) t) in cc), λ k. (let q : d ≡ e = cc in absurd (other (sym q)))))
 ]
-
-none_marked : (d : ℕ) → slice_index_or (replicate 64 false) d false ≡ false
-none_marked d = elim (le_or_lt d 64) [
-  | inl l ↦ get_or-replicate 64 d false false l
-  | inr p ↦ get_or_past (replicate 64 false) d false (rw (length-replicate 64 false) p)
-]
-
--- a seat that made no step holds none
-pub HoldsJust-newcomer : (number : ℕ) → HoldsJust (newcomer number) None
-HoldsJust-newcomer number d = (λ t. (let n : has (newcomer number) d ≡ false = none_marked d in absurd cc), λ n. cc)

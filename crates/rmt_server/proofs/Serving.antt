@@ -17,9 +17,9 @@ use Rattle.rmt_wire.specs.Reader.{Held, Unread, IsNext, reader_limit, told}
 use Rattle.rmt_wire.specs.declared.request.Request.{Request}
 use Rattle.rmt_wire.specs.declared.fault.WireFault.{WireFault}
 use Rattle.tape.specs.declared.reel.Reel.{Ghosts as ReelPromise}
-use Rattle.rmt_server.specs.declared.drives.holds.Holds.{Ghosts as HoldsPromise}
-use Rattle.rmt_server.specs.declared.drives.stacks.Stacks.{Ghosts as StacksPromise}
-use Rattle.rmt_server.specs.declared.drives.table.DriveTable.{DriveTable}
+use Rattle.drives.specs.declared.holds.Holds.{Ghosts as HoldsPromise}
+use Rattle.drives.specs.declared.stacks.Stacks.{Ghosts as StacksPromise}
+use Rattle.drives.specs.declared.table.DriveTable.{DriveTable}
 use Rattle.rmt_server.specs.declared.session.opened.Opened.{Opened}
 use Rattle.rmt_server.specs.Carrying.{drive_of, IsSayable, IsCarriedOut, IsClosed, Tells, MayFail, MayShare}
 use Rattle.rmt_server.proofs.Alone.{may-share, may-find}

@@ -9,7 +9,7 @@ use Rattle.tape.specs.declared.fault.TapeFault.TheVariants as fault
 use Rattle.rmt_server.specs.declared.refusal.Refusal.{Refusal}
 use Rattle.rmt_server.specs.declared.session.opened.Opened.{Opened}
 use Rattle.rmt_server.specs.Refusals.{refused}
-use Rattle.rmt_server.specs.Shop.{Shop}
+use Rattle.drives.specs.Shop.{Shop}
 use Rattle.rmt_server.specs.Session.{PlainSession, plain_reel, scene, status_of, refusal, IsExcused, ReelStep}
 use Rattle.rmt_server.specs.Session.PlainSession.{Online}
 use Rattle.rmt_server.specs.Carrying.{IsSeenWith, IsSeenAs, CallsIn, CallsReel, ReelServes, ReelFailedIn, ReelCanFail, reel_of, status_at, status_in}

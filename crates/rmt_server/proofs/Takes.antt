@@ -3,11 +3,11 @@ use Rattle.std.proofs.Common.{◌≡◌, ◌≢◌, ℕ, List, Option, Some, Non
 use Rattle.rmt_wire.specs.Reply.PlainReply.{Error}
 use Rattle.rmt_server.specs.declared.access.Access.{Access}
 use Rattle.rmt_server.specs.declared.refusal.Refusal.TheVariants.{Busy, Invalid}
-use Rattle.rmt_server.specs.declared.drives.view.View.{View}
-use Rattle.rmt_server.specs.declared.drives.fault.DriveFault.{DriveFault}
-use Rattle.rmt_server.specs.declared.drives.fault.DriveFault.TheVariants as drive
-use Rattle.rmt_server.specs.Holding.{taken}
-use Rattle.rmt_server.specs.Opening.{SeatStep}
+use Rattle.drives.specs.declared.view.View.{View}
+use Rattle.drives.specs.declared.fault.DriveFault.{DriveFault}
+use Rattle.drives.specs.declared.fault.DriveFault.TheVariants as drive
+use Rattle.drives.specs.Holding.{taken}
+use Rattle.drives.specs.Opening.{SeatStep}
 use Rattle.rmt_server.specs.Refusals.{refused, text_of}
 use Rattle.rmt_server.specs.Session.{open_reply}
 use Rattle.rmt_server.specs.Carrying.{drive_of, opened_by, view_after_close, HasTaken, TakesFor}

@@ -14,18 +14,18 @@ use Rattle.rmt_server.specs.declared.refusal.Refusal.TheVariants.{Invalid, BadDe
 use Rattle.rmt_server.specs.declared.session.opened.Opened.{Opened}
 use Rattle.rmt_server.specs.declared.session.carry.Given.{Given}
 use Rattle.rmt_server.specs.declared.session.carry.Given.TheVariants.{Number, Bytes}
-use Rattle.rmt_server.specs.declared.drives.holds.Holds.{Ghosts as HoldsPromise}
-use Rattle.rmt_server.specs.declared.drives.stacks.Stacks.{Ghosts as StacksPromise}
-use Rattle.rmt_server.specs.declared.drives.table.DriveTable.{DriveTable}
-use Rattle.rmt_server.specs.declared.drives.fault.DriveFault.{DriveFault}
-use Rattle.rmt_server.specs.declared.drives.fault.DriveFault.TheVariants.{Device}
-use Rattle.rmt_server.specs.declared.drives.view.View.{View}
-use Rattle.rmt_server.specs.declared.drives.view.StepKind.TheVariants.{Take}
+use Rattle.drives.specs.declared.holds.Holds.{Ghosts as HoldsPromise}
+use Rattle.drives.specs.declared.stacks.Stacks.{Ghosts as StacksPromise}
+use Rattle.drives.specs.declared.table.DriveTable.{DriveTable}
+use Rattle.drives.specs.declared.fault.DriveFault.{DriveFault}
+use Rattle.drives.specs.declared.fault.DriveFault.TheVariants.{Device}
+use Rattle.drives.specs.declared.view.View.{View}
+use Rattle.drives.specs.declared.view.StepKind.TheVariants.{Take}
 use Rattle.rmt_server.specs.Access.{access_of}
 use Rattle.rmt_server.specs.Refusals.{refused}
-use Rattle.rmt_server.specs.Holding.{HoldsJust, given, word_after_give, last_drive, last_step, counted}
-use Rattle.rmt_server.specs.Stacking.{HasLatched}
-use Rattle.rmt_server.specs.Opening.{SeatStep, IsOpenFault, drive_asked, found_in_open, word_after_open, OpenStep}
+use Rattle.drives.specs.Holding.{HoldsJust, given, word_after_give, last_drive, last_step, counted}
+use Rattle.drives.specs.Stacking.{HasLatched}
+use Rattle.drives.specs.Opening.{SeatStep, IsOpenFault, drive_asked, found_in_open, word_after_open, OpenStep}
 use Rattle.rmt_server.specs.Session.{PlainSession, plain_reel, Scene, Status, NothingOpen, ReelAway, Ready, refusal, reel_reply, tape_request, open_reply, closed, ServeStep}
 use Rattle.rmt_server.specs.Session.PlainSession.{Idle, Offline, Online}
 

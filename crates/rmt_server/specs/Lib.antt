@@ -1,9 +1,3 @@
-pub mod Holding
-pub mod Local
-pub mod Shop
-pub mod Stacking
-pub mod Opening
-pub mod OneReel
 pub mod Access
 pub mod Refusals
 pub mod Desk

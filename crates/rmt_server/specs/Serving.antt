@@ -10,9 +10,9 @@ use Rattle.rmt_wire.specs.Reader.{Held, Unread, reader_limit, taken_of}
 use Rattle.rmt_wire.specs.declared.fault.WireFault.{WireFault}
 use Rattle.rmt_wire.specs.declared.writer.OutputFault.{OutputFault}
 use Rattle.tape.specs.declared.reel.Reel.{Ghosts as ReelPromise}
-use Rattle.rmt_server.specs.declared.drives.holds.Holds.{Ghosts as HoldsPromise}
-use Rattle.rmt_server.specs.declared.drives.stacks.Stacks.{Ghosts as StacksPromise}
-use Rattle.rmt_server.specs.declared.drives.table.DriveTable.{DriveTable}
+use Rattle.drives.specs.declared.holds.Holds.{Ghosts as HoldsPromise}
+use Rattle.drives.specs.declared.stacks.Stacks.{Ghosts as StacksPromise}
+use Rattle.drives.specs.declared.table.DriveTable.{DriveTable}
 use Rattle.rmt_server.specs.declared.session.opened.Opened.{Opened}
 use Rattle.rmt_server.specs.declared.stream.Served.{Served}
 use Rattle.rmt_server.specs.declared.stream.Served.TheVariants.{End, Truncated, Broken}

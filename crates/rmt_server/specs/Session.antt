@@ -12,12 +12,12 @@ use Rattle.tape.specs.declared.fault.TapeFault.TheVariants as fault
 use Rattle.rmt_server.specs.declared.access.Access.{Access}
 use Rattle.rmt_server.specs.declared.refusal.Refusal.{Refusal}
 use Rattle.rmt_server.specs.declared.refusal.Refusal.TheVariants.{BadDescriptor, Invalid, NotConfigured, Permission}
-use Rattle.rmt_server.specs.declared.drives.fault.DriveFault.{DriveFault}
-use Rattle.rmt_server.specs.declared.drives.fault.DriveFault.TheVariants as drive
+use Rattle.drives.specs.declared.fault.DriveFault.{DriveFault}
+use Rattle.drives.specs.declared.fault.DriveFault.TheVariants as drive
 use Rattle.rmt_server.specs.Access.{access_of, reads, writes}
 use Rattle.rmt_server.specs.Refusals.{refused, tape_refusal, drive_refusal}
-use Rattle.rmt_server.specs.Shop.{Shop, after_unlatch}
-use Rattle.rmt_server.specs.Opening.{OpenStep, found_in_open}
+use Rattle.drives.specs.Shop.{Shop, after_unlatch}
+use Rattle.drives.specs.Opening.{OpenStep, found_in_open}
 
 -- a latched reel: its tape, and how many bytes it takes
 pub record PlainReel : Type 0 where

@@ -2,7 +2,7 @@ ghost use Rattle.std.specs.Prelude.{◌≡◌};
 ghost use Rattle.rmt_wire.specs.Lent.{plain_reply};
 ghost use Rattle.rmt_server.specs.Refusals.{number_of, text_of, refused, tape_refusal, drive_refusal};
 
-use crate::drives::DriveFault;
+use drives::DriveFault;
 use rmt_wire::Reply;
 use tape::TapeFault;
 

@@ -9,8 +9,8 @@ mod drive;
 mod opened;
 mod trouble;
 
-use crate::drives::{DriveTable, Holds, Stacks};
 use crate::session::carry::{Given, carry};
+use drives::{DriveTable, Holds, Stacks};
 pub(crate) use opened::Opened;
 use rmt_wire::{DATA_LIMIT, Reply, Request};
 use std::alloc::{AllocError, Global};
@@ -45,7 +45,7 @@ impl<H: Holds, S: Stacks> Session<H, S> {
     ghost use Rattle.std.specs.Io.BufRead.{Rests};
     ghost use Rattle.rmt_server.specs.contracts.session.Session.{the_row};
     ghost use Rattle.rmt_server.specs.Carrying.{IsAt, IsClosed, IsCarriedOut, IsSayable, IsOnline, online_drive};
-    ghost use Rattle.rmt_server.specs.Holding.{HoldsJust};
+    ghost use Rattle.drives.specs.Holding.{HoldsJust};
 
     /// A session with nothing open. The seat holds no drive.
     ///

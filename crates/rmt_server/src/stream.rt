@@ -5,8 +5,8 @@ ghost use Rattle.rmt_wire.specs.Reader.{Unread};
 ghost use Rattle.rmt_server.specs.Carrying.{IsAt};
 ghost use Rattle.rmt_server.specs.Serving.{IsServedAs, Advances, AnswersAs, IsSettled, EndsAs, NoneFailed};
 
-use crate::drives::{DriveTable, Holds, Stacks};
 use crate::session::Session;
+use drives::{DriveTable, Holds, Stacks};
 use rmt_wire::{Counted, OutputFault, RequestReader, WireFault, write_reply};
 use std::io::{Read, Write};
 use thiserror::Error;

@@ -4,9 +4,9 @@ use Rattle.std.proofs.KnownBytes.{Appends-nil, Consumes-nil}
 use Rattle.std.specs.Result.{result_ok}
 use Rattle.rmt_wire.specs.Counted.{Counting}
 use Rattle.tape.specs.declared.reel.Reel.{Ghosts as ReelPromise}
-use Rattle.rmt_server.specs.Local.{Holders}
-use Rattle.rmt_server.specs.contracts.drives.local.LocalHoldsHolds.TheImpl as LocalHoldsPromise
-use Rattle.rmt_server.specs.declared.drives.stacks.Stacks.{Ghosts as StacksPromise}
+use Rattle.drives.specs.Local.{Holders}
+use Rattle.drives.specs.contracts.local.LocalHoldsHolds.TheImpl as LocalHoldsPromise
+use Rattle.drives.specs.declared.stacks.Stacks.{Ghosts as StacksPromise}
 use Rattle.rmt_server.specs.declared.session.opened.Opened.{Opened}
 use Rattle.rmt_server.specs.Carrying.{MayFail, IsAlone, ReelCanFail, reel_of}
 use Rattle.rmt_server.specs.Session.{none}

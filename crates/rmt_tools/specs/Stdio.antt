@@ -5,11 +5,11 @@ use Rattle.rmt_wire.specs.Counted.{Counting}
 use Rattle.rmt_server.specs.declared.stream.Served.{Served}
 use Rattle.rmt_server.specs.declared.stream.Served.TheVariants.{End, Truncated, Broken}
 use Rattle.rmt_server.specs.declared.stream.ServeFault.TheVariants.{Input, Output}
-use Rattle.rmt_server.specs.OneReel.{the_drive, the_reel}
+use Rattle.drives.specs.OneReel.{the_drive, the_reel}
 use Rattle.rmt_server.specs.Session.{Scene, scene, ServeRun}
 use Rattle.rmt_server.specs.Session.PlainSession.{Idle}
 use Rattle.rmt_server.specs.Serving.{Exchange, IsAnswered, EndsAs, NoneFailed}
-use Rattle.rmt_server.specs.Shop.{shop, rack, kept}
+use Rattle.drives.specs.Shop.{shop, rack, kept}
 
 -- nothing is open, and the drive's one reel is empty
 abbrev pub blank_scene : ℕ → Scene

@@ -1,7 +1,8 @@
 //! Serving one stream with one drive in memory, as `rmtd --stdio` does.
 ghost use Rattle.rmt_tools.specs.Stdio.{IsServedAlone, IsStdio};
 
-use rmt_server::{DriveTable, ListStacks, LocalHolds, Served, Session, serve};
+use drives::{DriveTable, ListStacks, LocalHolds};
+use rmt_server::{Served, Session, serve};
 use rmt_wire::{Counted, RequestReader};
 use std::alloc::Global;
 use std::io::{Read, Write};

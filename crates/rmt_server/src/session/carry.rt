@@ -5,9 +5,9 @@ ghost use Rattle.rmt_wire.specs.Lent.{plain_request};
 ghost use Rattle.rmt_wire.specs.Reply.{HasSpelling};
 ghost use Rattle.rmt_server.specs.Carrying.{IsAt, Closes, CarriesOut, IsCarriedOut, number_reply, outcome_reply, IsWithin, IsGiven, IsSayable};
 
-use crate::drives::{DriveTable, Holds, Stacks};
 use crate::refusal::Refusal;
 use crate::session::{Opened, calls, drive};
+use drives::{DriveTable, Holds, Stacks};
 use rmt_wire::Request;
 
 /// What a request gave.

@@ -1,16 +1,16 @@
 //! Opening and closing a drive.
 ghost use Rattle.std.specs.Prelude.{◌≡◌, ◌⊎◌, ℕ, ◌<◌, ◌≤◌, Some, None, IfOk};
-ghost use Rattle.rmt_server.specs.Shop.{Shop};
-ghost use Rattle.rmt_server.specs.Stacking.{HasLatched};
+ghost use Rattle.drives.specs.Shop.{Shop};
+ghost use Rattle.drives.specs.Stacking.{HasLatched};
 ghost use Rattle.rmt_server.specs.Session.{PlainSession, closed_shop};
 ghost use Rattle.rmt_server.specs.declared.access.Access.{Access as AccessOf};
 ghost use Rattle.rmt_server.specs.Access.{access_of};
 ghost use Rattle.rmt_server.specs.Carrying.{IsAt, IsClosed, ReelCanFail, IsSeenWith, online_in, number_reply, OpensFor, OpensAnew};
 
 use crate::access::Access;
-use crate::drives::{DriveTable, Holds, Stacks};
 use crate::refusal::Refusal;
 use crate::session::Opened;
+use drives::{DriveTable, Holds, Stacks};
 use tape::Reel;
 
 /// Rewinds a reel, unless it lies in the bin, and lays it on its stack.

@@ -1,12 +1,12 @@
 //! Trouble for the reel that is online, while drives and reels are in memory.
 ghost use Rattle.std.specs.Prelude.{◌≡◌};
 ghost use Rattle.rmt_server.specs.Carrying.{IsAt};
-ghost use Rattle.rmt_server.specs.contracts.drives.list.ListStacksStacks.TheImpl.{ghosts as of_stacks};
-ghost use Rattle.rmt_server.specs.declared.drives.list.ListStacks.{ListStacks as Stacks};
+ghost use Rattle.drives.specs.contracts.list.ListStacksStacks.TheImpl.{ghosts as of_stacks};
+ghost use Rattle.drives.specs.declared.list.ListStacks.{ListStacks as Stacks};
 ghost use Rattle.rmt_server.specs.Troubling.{troubled, with_trouble};
 
-use crate::drives::{Holds, ListStacks};
 use crate::session::Session;
+use drives::{Holds, ListStacks};
 use tape::{Trouble, TroubledReel};
 
 /// Sets how the next device call of the reel fails, if there is one.

@@ -2,10 +2,11 @@
 
 ghost use Rattle.std.specs.Prelude.{◌<◌, IfOk, length};
 ghost use Rattle.rmt_server.specs.Carrying.{IsAt};
-ghost use Rattle.rmt_server.specs.contracts.drives.local.LocalHoldsHolds.TheImpl.{ghosts as of_holds};
-ghost use Rattle.rmt_server.specs.contracts.drives.list.ListStacksStacks.TheImpl.{ghosts as of_stacks};
+ghost use Rattle.drives.specs.contracts.local.LocalHoldsHolds.TheImpl.{ghosts as of_holds};
+ghost use Rattle.drives.specs.contracts.list.ListStacksStacks.TheImpl.{ghosts as of_stacks};
 
-use crate::{DriveTable, Holds, ListStacks, LocalHolds, ServeFault, Served, Session, serve};
+use crate::{ServeFault, Served, Session, serve};
+use drives::{DriveTable, Holds, ListStacks, LocalHolds};
 use rmt_wire::{Counted, RequestReader};
 use std::alloc::Global;
 use std::io::{Read, Write};

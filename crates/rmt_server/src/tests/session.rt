@@ -4,7 +4,8 @@ ghost use Rattle.rmt_server.specs.Carrying.{IsAt};
 
 use super::CAPACITY;
 use super::fixture::{begin, first_holder};
-use crate::{DriveTable, Holds, Session, Stacks};
+use crate::Session;
+use drives::{DriveTable, Holds, Stacks};
 use rmt_wire::{Reply, Request};
 use std::test::Fail;
 use tape::Reel;

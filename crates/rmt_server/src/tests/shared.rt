@@ -2,20 +2,21 @@
 
 ghost use Rattle.std.specs.Prelude.{◌≡◌, ◌≢◌, ℕ, ◌<◌, ◌≤◌, false, None, Err, IfOk, length, replicate, slice_index_or};
 ghost use Rattle.tape.specs.List.{ListTape};
-ghost use Rattle.rmt_server.specs.declared.drives.fault.DriveFault.{DriveFault};
-ghost use Rattle.rmt_server.specs.declared.drives.view.View.{View};
-ghost use Rattle.rmt_server.specs.Opening.{SeatStep};
-ghost use Rattle.rmt_server.specs.Holding.{has, HoldsJust};
-ghost use Rattle.rmt_server.specs.Local.{IsSeatOf};
+ghost use Rattle.drives.specs.declared.fault.DriveFault.{DriveFault};
+ghost use Rattle.drives.specs.declared.view.View.{View};
+ghost use Rattle.drives.specs.Opening.{SeatStep};
+ghost use Rattle.drives.specs.Holding.{has, HoldsJust};
+ghost use Rattle.drives.specs.Local.{IsSeatOf};
 ghost use Rattle.rmt_server.specs.Carrying.{IsAt};
-ghost use Rattle.rmt_server.specs.contracts.drives.local.LocalHoldsHolds.TheImpl.{ghosts as of_holds};
+ghost use Rattle.drives.specs.contracts.local.LocalHoldsHolds.TheImpl.{ghosts as of_holds};
 ghost use Rattle.rmt_server.specs.contracts.tests.two_stacks.TwoStacksStacks.TheImpl.{ghosts as of_stacks};
 
 use super::CAPACITY;
 use super::slow::error_text;
 use super::slow_holds::{Event, SlowTwo};
 use super::two_stacks::TwoStacks;
-use crate::{DriveTable, Holds, LocalHolds, LocalSeat, Session};
+use crate::Session;
+use drives::{DriveTable, Holds, LocalHolds, LocalSeat};
 use rmt_wire::{Reply, Request};
 use std::alloc::Global;
 use std::process::Abort;
@@ -234,7 +235,7 @@ fn a_held_drive_is_refused_until_it_is_given_back(rt: HostRuntime) -> Result<(),
         assert_eq!(rt; two.answer(*number, *event), *wanted, "row {at}");
         assert_eq!(rt; two.holder(0), Some(*first), "row {at}");
         assert_eq!(rt; two.holder(1), Some(*second), "row {at}");
-        assert_eq!(rt; slow.answer(*number, *event)?, *wanted, "row {at}");
+        assert_eq!(rt; slow.answer(*number, *event), *wanted, "row {at}");
         assert_eq!(rt; slow.holds.holder(0), *first, "row {at}");
         assert_eq!(rt; slow.holds.holder(1), *second, "row {at}");
     }
@@ -259,7 +260,7 @@ fn step(
     number: u64,
     event: Event,
 ) -> Result<(), Fail> {
-    let wanted = slow.answer(number, event)?;
+    let wanted = slow.answer(number, event);
     assert_eq!(rt; two.answer(number, event), wanted);
     assert_eq!(rt; two.opened(), (slow.first.open, slow.second.open));
     assert_eq!(rt; two.holder(0), Some(slow.holds.holder(0)));

@@ -2,12 +2,13 @@
 
 ghost use Rattle.std.specs.Prelude.{IfOk};
 ghost use Rattle.rmt_server.specs.Carrying.{IsAt};
-ghost use Rattle.rmt_server.specs.contracts.drives.local.LocalHoldsHolds.TheImpl.{ghosts as of_holds};
-ghost use Rattle.rmt_server.specs.contracts.drives.list.ListStacksStacks.TheImpl.{ghosts as of_stacks};
+ghost use Rattle.drives.specs.contracts.local.LocalHoldsHolds.TheImpl.{ghosts as of_holds};
+ghost use Rattle.drives.specs.contracts.list.ListStacksStacks.TheImpl.{ghosts as of_stacks};
 
 use super::fixture::{Drives, begin};
 use super::session::gives;
-use crate::{DriveTable, Holds, ListStacks, LocalHolds, Session, Stacks};
+use crate::Session;
+use drives::{DriveTable, Holds, ListStacks, LocalHolds, Stacks};
 use rmt_wire::{Reply, Request};
 use std::alloc::Global;
 use std::process::Abort;

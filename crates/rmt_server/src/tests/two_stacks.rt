@@ -1,6 +1,6 @@
 //! Two drives, each with one reel, which tell nothing of their reels.
 
-use crate::{DriveFault, Stacks};
+use drives::{DriveFault, Stacks};
 use std::alloc::Global;
 use tape::ListReel;
 

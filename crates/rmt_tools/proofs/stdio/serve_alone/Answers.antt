@@ -2,10 +2,10 @@ use Rattle.std.proofs.Common.{rules, false, refl, sym, ap, subst, ◌∙◌, inr
 use Rattle.rmt_server.specs.Carrying.{IsSeenAs}
 use Rattle.rmt_server.specs.Session.PlainSession.{Idle}
 use Rattle.tape.specs.contracts.troubled.TroubledReelReel.TheImpl as TroubledReelPromise
-use Rattle.rmt_server.specs.contracts.drives.list.ListStacksStacks.TheImpl as ListStacksPromise
+use Rattle.drives.specs.contracts.list.ListStacksStacks.TheImpl as ListStacksPromise
 use Rattle.rmt_tools.specs.Stdio.{blank_scene, IsServedAlone}
 use Rattle.rmt_tools.proofs.Endings.{served_none, none_fails, none_holds, kept_ok, ends_with}
-use Rattle.rmt_server.specs.Local.{Holders}
+use Rattle.drives.specs.Local.{Holders}
 use Rattle.rmt_tools.proofs.stdio.serve_alone.Goals as goal
 
 pub serve-requires-clause-at : goal.serve-requires-clause-at

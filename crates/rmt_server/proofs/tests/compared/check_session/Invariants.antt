@@ -1,6 +1,6 @@
 use Rattle.rmt_server.specs.Carrying.{IsAt}
-use Rattle.rmt_server.specs.contracts.drives.local.LocalHoldsHolds.TheImpl.{ghosts as of_holds}
-use Rattle.rmt_server.specs.contracts.drives.list.ListStacksStacks.TheImpl.{ghosts as of_stacks}
+use Rattle.drives.specs.contracts.local.LocalHoldsHolds.TheImpl.{ghosts as of_holds}
+use Rattle.drives.specs.contracts.list.ListStacksStacks.TheImpl.{ghosts as of_stacks}
 use Rattle.rmt_server.proofs.tests.compared.check_session.Given as goal
 
 abbrev pub invariant-loop-at : goal.invariant-loop-at

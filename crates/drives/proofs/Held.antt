@@ -1,0 +1,28 @@
+-- The drives that a seat holds.
+use Rattle.std.proofs.Common.{◌≡◌, ℕ, ◌+◌, ◌≤◌, Bool, true, false, List, length, replicate, slice_index, slice_set, slice_index_or, ap, ◌∙◌, subst, arith, rules}
+use Rattle.std.proofs.lemmas.Grind.{common_steps}
+use Rattle.std.proofs.lemmas.List.{set-set, set-get_or, get_or-replicate}
+use Rattle.drives.specs.declared.view.View.{View}
+use Rattle.drives.specs.Holding.{given, taken, has, newcomer}
+use Rattle.drives.specs.Local.{holders, AreHolders, IsSeatOf}
+
+-- a drive that was not held is taken and given back
+pub taken_and_given : (held : List Bool) (d : ℕ) → slice_index_or held d false ≡ false → slice_set (slice_set held d true) d false ≡ held
+taken_and_given held d e = set-set held d true false ∙ subst (λ b. slice_set held d b ≡ held) e (set-get_or held d false)
+
+-- a seat of a number that was not given before
+pub newcomer_is_seat : (numbers : List ℕ) (last : ℕ) → AreHolders numbers last → IsSeatOf (holders numbers (last + 1)) (newcomer (last + 1))
+newcomer_is_seat numbers last h = record {
+  numbered = omega arith;
+  made = omega arith;
+  marks = search rules;
+  agrees = λ d l.
+      let marks : slice_index_or (replicate 64 false) d false ≡ false = get_or-replicate 64 d false false (let few : length numbers ≤ 64 = h.1 in omega arith) in
+      let below : slice_index numbers d ≤ last = h.2 d l in
+      grind (arith, common_steps);
+}
+
+-- after a take that found 0 and a give of that drive, the seat holds what it held
+pub given_back : (old mid new : View) (d : ℕ) → new ≡ given mid d → mid ≡ taken old d 0 → has old d ≡ false → new.held ≡ old.held
+given_back old mid new d g t h =
+    ap (λ (v : View). v.held) g ∙ ap (λ (v : View). slice_set v.held d false) t ∙ taken_and_given old.held d h

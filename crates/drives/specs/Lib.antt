@@ -1,0 +1,6 @@
+pub mod Holding
+pub mod Local
+pub mod Shop
+pub mod Stacking
+pub mod Opening
+pub mod OneReel

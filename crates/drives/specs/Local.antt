@@ -1,0 +1,27 @@
+-- The drives of one thread, and what ties its seats to them.
+use Rattle.std.specs.Prelude.{◌≡◌, ℕ, ◌<◌, ◌≤◌, ◌==◌, List, length, slice_index}
+use Rattle.drives.specs.declared.view.View.{View}
+use Rattle.drives.specs.Holding.{has}
+
+-- each drive's holder, or 0, and the last number that was given to a seat
+pub record Holders : Type 0 where
+  pub numbers : List ℕ
+  pub last : ℕ
+
+abbrev pub holders : List ℕ → ℕ → Holders
+holders numbers last = record { numbers = numbers; last = last }
+
+-- 1 to 64 drives, each held by a seat whose number was given, or by none
+abbrev pub AreHolders : List ℕ → ℕ → Type 0
+AreHolders numbers last = (1 ≤ length numbers) × (length numbers ≤ 64) × ((d : ℕ) → d < length numbers → slice_index numbers d ≤ last)
+
+-- the seat's number was given, and it holds the drives whose holder has that number
+pub record IsSeatOf (all : Holders) (v : View) : Type 0 where
+  pub numbered : 1 ≤ v.number
+  pub made : v.number ≤ all.last
+  pub marks : length v.held ≡ 64
+  pub agrees : (d : ℕ) → d < length all.numbers → has v d ≡ (slice_index all.numbers d == v.number)
+
+-- drive d is held by the seat n, or by none at 0
+abbrev pub IsHeldBy : Holders → ℕ → ℕ → Type 0
+IsHeldBy all d n = (d < length all.numbers) × (slice_index all.numbers d ≡ n)

@@ -1,0 +1,58 @@
+ghost use Rattle.std.specs.Prelude.{◌≡◌, ◌≢◌, ℕ, ◌<◌, ◌↔◌, IsTrue};
+ghost use Rattle.drives.specs.declared.view.View.{View};
+ghost use Rattle.drives.specs.Holding.{has, taken, given, looked, found_by, Answers, word_after_take, word_after_give};
+
+use crate::Taken;
+
+/// Drives that seats hold, each drive by one seat at most, where they tell.
+///
+/// A seat is seen as its `View`. Each call is one step of the seat, and leaves what other seats hold. Holds tell
+/// who holds a drive, or tell nothing, as std's readers do with their bytes.
+pub trait Holds {
+    /// A seat at these drives.
+    type Seat: Drop;
+
+    /// The seat was made by these holds, and they agree on the drives that it holds.
+    ghost belongs: { Self → Self.Seat → Type 0 };
+
+    /// How many drives there are. They are numbered from 0.
+    ghost drives: { Self → ℕ };
+
+    /// What the seat knows.
+    ghost shows: { Self.Seat → View };
+
+    /// The drive is held by the seat of this number, or by none at 0. Holds that tell nothing say it of no number.
+    ghost tells: { Self → ℕ → ℕ → Type 0 };
+
+    /// Takes the drive if no seat holds it.
+    fn take(&mut self, seat: &mut Self::Seat, drive: usize) -> Taken
+        requires seat { belongs self.old seat.old }
+        requires drive { drive < drives self.old }
+        ensures step { shows seat.new ≡ taken (shows seat.old) drive (found_by result) }
+        ensures answer { Answers result (shows seat.old) (shows seat.new) drive }
+        ensures found { (n : ℕ) → tells self.old drive n → found_by result ≡ n }
+        ensures told { (d n : ℕ) → tells self.old d n → tells self.new d (word_after_take (shows seat.old).number drive d n) }
+        ensures own { belongs self.new seat.new }
+        ensures others { (s : Self.Seat) → (shows s).number ≢ (shows seat.old).number → belongs self.old s → belongs self.new s }
+        ensures same_drives { drives self.new ≡ drives self.old };
+
+    /// Gives back a drive that the seat holds.
+    fn give(&mut self, seat: &mut Self::Seat, drive: usize)
+        requires seat { belongs self.old seat.old }
+        requires drive { drive < drives self.old }
+        requires held { IsTrue (has (shows seat.old) drive) }
+        ensures step { shows seat.new ≡ given (shows seat.old) drive }
+        ensures told { (d n : ℕ) → tells self.old d n → tells self.new d (word_after_give drive d n) }
+        ensures own { belongs self.new seat.new }
+        ensures others { (s : Self.Seat) → (shows s).number ≢ (shows seat.old).number → belongs self.old s → belongs self.new s }
+        ensures same_drives { drives self.new ≡ drives self.old };
+
+    /// The number of the seat that holds the drive, or 0.
+    fn holder(&self, seat: &mut Self::Seat, drive: usize) -> u64
+        requires seat { belongs self.now seat.old }
+        requires drive { drive < drives self.now }
+        ensures step { shows seat.new ≡ looked (shows seat.old) drive result }
+        ensures mine { result ≡ (shows seat.old).number ↔ IsTrue (has (shows seat.old) drive) }
+        ensures found { (n : ℕ) → tells self.now drive n → result ≡ n }
+        ensures own { belongs self.now seat.new };
+}

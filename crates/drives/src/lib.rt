@@ -1,0 +1,25 @@
+//! Drives: who holds which, and the reels that lie on their stacks and in the bin.
+//!
+//! `DriveTable` joins `Holds` (each drive has one holder at most) with `Stacks` (each reel lies in one place).
+//! `LocalHolds` and `ListStacks` are those of one thread, in memory.
+#![tactic(auto)]
+
+mod fault;
+mod holds;
+mod list;
+mod local;
+mod stacks;
+mod table;
+mod taken;
+#[cfg(test)]
+mod tests;
+mod view;
+
+pub use fault::DriveFault;
+pub use holds::Holds;
+pub use list::ListStacks;
+pub use local::{LocalHolds, LocalSeat};
+pub use stacks::Stacks;
+pub use table::DriveTable;
+pub use taken::Taken;
+pub use view::{LastStep, StepKind, View};

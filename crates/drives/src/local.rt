@@ -1,0 +1,124 @@
+ghost use Rattle.std.specs.Prelude.{◌≡◌, ◌≢◌, ◌<◌, ◌≤◌, ◌+◌, None, IfOk, IfSome, MatchOption, replicate};
+ghost use Rattle.drives.specs.declared.view.View.{View};
+ghost use Rattle.drives.specs.Holding.{newcomer, moved, last_step, HoldsJust};
+ghost use Rattle.drives.specs.Local.{holders, IsSeatOf};
+
+#[cfg(test)]
+mod tests;
+
+use crate::{Holds, LastStep, StepKind, Taken, View};
+use std::alloc::{AllocError, Global};
+use std::marker::Model;
+
+/// A seat at the drives of one thread. `LocalHolds::seat` alone makes it. Contracts see what it knows.
+#[derive(Drop)]
+pub struct LocalSeat {
+    view: View,
+}
+
+impl Model for LocalSeat {
+    ghost use Rattle.drives.specs.declared.view.View.{View};
+
+    ghost Value = { View };
+
+    ghost view = { λ s. s.view };
+}
+
+impl LocalSeat {
+    // Notes one step more.
+    fn count(&mut self, kind: StepKind, drive: usize, found: u64)
+        ensures { self.new ≡ moved self.old self.old.held (last_step kind drive found) }
+    {
+        self.view.steps = self.view.steps.saturating_add(1);
+        self.view.last = Some(LastStep { kind, drive, found });
+    }
+}
+
+/// The drives of one thread, from 1 to 64, each with the number of the seat that holds it, or 0.
+#[derive(Drop)]
+pub struct LocalHolds {
+    numbers: Vec<u64>,
+    last: u64,
+}
+
+impl Model for LocalHolds {
+    ghost use Rattle.drives.specs.Local.{Holders, holders, AreHolders};
+
+    ghost Value = { Holders };
+
+    ghost view = { λ h. holders h.numbers.items h.last };
+
+    ghost invariant = { λ h. AreHolders h.numbers.items h.last };
+}
+
+impl LocalHolds {
+    /// That many drives, from 1 to 64, which no seat holds.
+    pub fn new(alloc: Global, drives: usize) -> Result<LocalHolds, AllocError>
+        requires some { 1 ≤ drives }
+        requires few { drives ≤ 64 }
+        ensures { IfOk result (λ all. all ≡ holders (replicate drives 0) 0) }
+    {
+        let numbers = Vec::from_elem(alloc, 0u64, drives)?;
+        Ok(LocalHolds { numbers, last: 0 })
+    }
+
+    /// A seat that holds no drive. Seats have the numbers 1, 2, 3 and on; there is none once the greatest `u64`
+    /// was given. It takes no memory.
+    pub fn seat(&mut self) -> Option<LocalSeat>
+        ensures next { MatchOption result ((self.old.last ≡ u64.MAX) × (self.new ≡ self.old)) (λ seat. (self.old.last < u64.MAX) × (self.new ≡ holders self.old.numbers (self.old.last + 1)) × (seat ≡ newcomer (self.old.last + 1))) }
+        ensures own { IfSome result (λ seat. IsSeatOf self.new seat) }
+        ensures idle { IfSome result (λ seat. HoldsJust seat None) }
+        ensures others { (v : View) → IsSeatOf self.old v → IsSeatOf self.new v }
+    {
+        if self.last == u64::MAX {
+            return None;
+        }
+        self.last += 1;
+        let view = View {
+            number: self.last,
+            held: [false; 64],
+            steps: 0,
+            last: None,
+        };
+        Some(LocalSeat { view })
+    }
+}
+
+impl Holds for LocalHolds {
+    ghost use Rattle.std.specs.Prelude.{length};
+    ghost use Rattle.drives.specs.Local.{IsSeatOf, IsHeldBy};
+
+    type Seat = LocalSeat;
+
+    ghost belongs = { IsSeatOf };
+
+    ghost drives = { λ h. length h.numbers };
+
+    ghost shows = { λ s. s };
+
+    ghost tells = { IsHeldBy };
+
+    fn take(&mut self, seat: &mut LocalSeat, drive: usize) -> Taken {
+        let found = self.numbers[drive];
+        seat.count(StepKind::Take, drive, found);
+        if found == 0 {
+            self.numbers[drive] = seat.view.number;
+            seat.view.held[drive] = true;
+            Taken::Held
+        } else {
+            Taken::Busy(found)
+        }
+    }
+
+    fn give(&mut self, seat: &mut LocalSeat, drive: usize) {
+        self.numbers[drive] = 0;
+        seat.view.held[drive] = false;
+        seat.count(StepKind::Give, drive, seat.view.number);
+    }
+
+    fn holder(&self, seat: &mut LocalSeat, drive: usize) -> u64 {
+        let found = self.numbers[drive];
+        seat.count(StepKind::Look, drive, found);
+        found
+    }
+}

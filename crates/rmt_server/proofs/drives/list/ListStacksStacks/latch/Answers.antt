@@ -1,7 +1,0 @@
-use Rattle.std.proofs.Common.{sym, ◌∙◌}
-use Rattle.rmt_server.proofs.OneReel.{latch_steps}
-use Rattle.rmt_server.proofs.drives.list.ListStacksStacks.latch.Goals as goal
-
-pub returns-in-Stack-clause-step : goal.returns-in-Stack-clause-step
-returns-in-Stack-clause-step c =
-    latch_steps _ _ c.in-Stack.reel c.rewind.new.self c.args.drive (sym c.replace.ensures.value ∙ c.in-Stack.is) c.replace.ensures.after c.requires c.rewind.ensures.step.step.1 c.rewind.ensures.call.same_capacity

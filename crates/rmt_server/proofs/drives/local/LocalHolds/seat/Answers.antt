@@ -1,9 +1,0 @@
-use Rattle.rmt_server.proofs.Held.{newcomer_is_seat}
-use Rattle.rmt_server.proofs.Seats.{HoldsJust-newcomer}
-use Rattle.rmt_server.proofs.drives.local.LocalHolds.seat.Goals as goal
-
-pub returns-clause-own : goal.returns-clause-own
-returns-clause-own c = newcomer_is_seat _ _ c.self.invariant
-
-pub returns-clause-idle : goal.returns-clause-idle
-returns-clause-idle c = HoldsJust-newcomer 0

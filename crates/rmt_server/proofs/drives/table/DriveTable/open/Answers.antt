@@ -1,5 +1,0 @@
-use Rattle.rmt_server.proofs.Held.{given_back}
-use Rattle.rmt_server.proofs.drives.table.DriveTable.open.Goals as goal
-
-pub returns-in-Err-clause-held : goal.returns-in-Err-clause-held
-returns-in-Err-clause-held g c = given_back (g.H.Holds.shows c.args.seat.now) (g.H.Holds.shows c.take.new.seat) _ _ c.give.ensures.step c.in_default-take.ensures.step c.in_default-take.ensures.answer.1
