@@ -16,6 +16,7 @@ BROKEN = 3
 OPEN = b"O/dev/st0\n2\n"
 NO_SUCH_FILE = b"E2\nNo such file or directory\n"
 IO_ERROR = b"E5\nInput/output error\n"
+NOT_CONFIGURED = b"E6\nDevice not configured\n"
 BAD_DESCRIPTOR = b"E9\nBad file descriptor\n"
 NO_PERMISSION = b"E13\nPermission denied\n"
 INVALID = b"E22\nInvalid argument\n"
@@ -208,10 +209,42 @@ SPACING = (
             Exchange(b"R1\n", b"A0\n"),
         ),
     ),
-    # Operation 6, which would take the reel away, is refused, and the reel is still there.
+    # Operation 6 takes the reel away. The drive stays open, and all that asks for the reel is refused; once it is closed
+    # no reel is left to open it with.
     Conversation(
-        "no operation takes the reel away",
-        (OPENED, Exchange(b"I6\n1\n", INVALID), Exchange(b"I7\n2\n", b"A2\n"), Exchange(b"R1\n", b"A0\n")),
+        "the reel is taken away",
+        (
+            OPENED,
+            Exchange(b"I6\n1\n", b"A1\n"),
+            Exchange(b"W1\nx", NOT_CONFIGURED),
+            Exchange(b"I7\n1\n", NOT_CONFIGURED),
+            CLOSED,
+            Exchange(b"O/dev/st0\n2\n", NOT_CONFIGURED),
+        ),
+    ),
+    # With no reel in the drive that comes before every other check of a request: the access, the count, the operation's
+    # number, and a write that is too long.
+    Conversation(
+        "no reel before all other checks",
+        (
+            Exchange(b"I6\n1\n", BAD_DESCRIPTOR),
+            Exchange(b"O/dev/st0\n0\n", b"A0\n"),
+            Exchange(b"I6\n0\n", b"A0\n"),
+            Exchange(b"I6\n1\n", NOT_CONFIGURED),
+            Exchange(b"W0\n", NOT_CONFIGURED),
+            Exchange(b"W65537\n" + bytes(65_537), NOT_CONFIGURED),
+            Exchange(b"R0\n", NOT_CONFIGURED),
+            Exchange(b"R1\n", NOT_CONFIGURED),
+            Exchange(b"I0\n1\n", NOT_CONFIGURED),
+            Exchange(b"I5\n1\n", NOT_CONFIGURED),
+            Exchange(b"I8\n1\n", NOT_CONFIGURED),
+            # the mode and the name are looked at before the stack
+            Exchange(b"O/dev/st0\n3\n", INVALID),
+            Exchange(b"C\n", BAD_DESCRIPTOR),
+            Exchange(b"O/dev/st9\n2\n", NO_SUCH_FILE),
+            Exchange(b"O/dev/st0\n2\n", NOT_CONFIGURED),
+            Exchange(b"R1\n", BAD_DESCRIPTOR),
+        ),
     ),
 )
 

@@ -1,5 +1,5 @@
 -- Where no other seat holds a drive, none does after a request.
-use Rattle.std.proofs.Common.{◌≡◌, ℕ, ◌<◌, Bool, IsTrue, List, Option, Some, None, Result, Ok, Err, refl, ap, subst, ◌∙◌, inl, inr, arith}
+use Rattle.std.proofs.Common.{◌≡◌, ℕ, ◌<◌, Bool, true, false, IsTrue, List, Option, Some, None, Result, Ok, Err, refl, ap, subst, ◌∙◌, inl, inr, arith}
 use Rattle.std.proofs.lemmas.Grind.{common_steps}
 use Rattle.rmt_wire.specs.Request.{PlainRequest}
 use Rattle.rmt_wire.specs.Request.PlainRequest.{Open, Close, Write, WriteDropped, Read, Op}
@@ -13,9 +13,10 @@ use Rattle.drives.specs.declared.table.DriveTable.{DriveTable}
 use Rattle.drives.specs.declared.fault.DriveFault.{DriveFault}
 use Rattle.rmt_server.specs.Access.{access_of}
 use Rattle.drives.specs.Opening.{word_after_open}
-use Rattle.rmt_server.specs.Session.{Scene, refusal}
-use Rattle.rmt_server.specs.Carrying.{drive_of, word_after_close, opened_by, IsClosed, OpensFor, Closes, CarriesOut, ReelServes, status_at, IsCarriedOut, IsServed, IsAlone, MayShare}
+use Rattle.rmt_server.specs.Session.{Scene, refusal, is_offline}
+use Rattle.rmt_server.specs.Carrying.{drive_of, word_after_close, opened_by, IsClosed, OpensFor, Closes, CarriesOut, ReelServes, Operates, status_at, IsCarriedOut, IsServed, IsAlone, MayShare}
 use Rattle.rmt_server.proofs.Carried.{serves-same}
+use Rattle.rmt_server.proofs.Moving.{moves-off-drive}
 
 -- once the open drive was given back, a drive that was free or open is free
 free-closed : (drive : Option ℕ) (d n : ℕ) → (0 < n → drive ≡ Some d) → word_after_close drive d n ≡ 0
@@ -60,6 +61,13 @@ module _ {H S Seat R : Type 0} (h : HoldsPromise H Seat) (s : StacksPromise S R)
   alone-served opened request reply new opened' alone n serves =
       rw (n, (serves-same h s r old seat opened opened' request reply (refusal (status_at opened) request) serves).0) alone
 
+  alone-op : (offline : Bool) (opened : Option (Opened R)) (op count : ℕ) (reply : PlainReply) (new : DriveTable H S Seat R) (opened' : Option (Opened R))
+      → IsAlone h old.holds (drive_of opened) → Operates s r offline old opened op count reply new opened' → IsAlone h new.holds (drive_of opened')
+  alone-op true opened op count reply new opened' alone m =
+      let same = moves-off-drive s r old opened op count reply new opened' m in
+      rw (same.0, same.1) alone
+  alone-op false opened op count reply new opened' alone (n, c) = alone-served opened (Op op count) reply new opened' alone n c
+
   alone-carried : (opened : Option (Opened R)) (request : PlainRequest) (reply : PlainReply) (new : DriveTable H S Seat R) (seat' : Seat) (opened' : Option (Opened R))
       → IsAlone h old.holds (drive_of opened) → CarriesOut h s r old seat opened request reply new seat' opened' → IsAlone h new.holds (drive_of opened')
   alone-carried opened (Open device mode) reply new seat' opened' alone (between, rested, c, o) =
@@ -68,7 +76,7 @@ module _ {H S Seat R : Type 0} (h : HoldsPromise H Seat) (s : StacksPromise S R)
   alone-carried opened (Write bytes) reply new seat' opened' alone (n, e, c) = alone-served opened (Write bytes) reply new opened' alone n c
   alone-carried opened (WriteDropped count) reply new seat' opened' alone (n, e, c) = alone-served opened (WriteDropped count) reply new opened' alone n c
   alone-carried opened (Read count) reply new seat' opened' alone (n, e, c) = alone-served opened (Read count) reply new opened' alone n c
-  alone-carried opened (Op op count) reply new seat' opened' alone (n, e, c) = alone-served opened (Op op count) reply new opened' alone n c
+  alone-carried opened (Op op count) reply new seat' opened' alone (e, c) = alone-op (is_offline op) opened op count reply new opened' alone c
 
 module _ {H S Seat R : Type 0} {h : HoldsPromise H Seat} {s : StacksPromise S R} {r : ReelPromise R} {old : DriveTable H S Seat R} where
   -- another seat may hold a drive after a request only where one may before

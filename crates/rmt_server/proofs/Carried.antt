@@ -1,5 +1,5 @@
 -- Each request that is carried out is a serve step where stacks and reel tell, and leaves the drives those of the session.
-use Rattle.std.proofs.Common.{◌≡◌, ℕ, ◌<◌, false, List, Option, Some, None, MatchOption, refl, ap, subst, ◌∙◌, inl, inr, arith}
+use Rattle.std.proofs.Common.{◌≡◌, ℕ, ◌<◌, Bool, true, false, List, Option, Some, None, MatchOption, refl, ap, subst, ◌∙◌, inl, inr, arith}
 use Rattle.rmt_wire.specs.Request.{PlainRequest}
 use Rattle.rmt_wire.specs.Request.PlainRequest.{Open, Close, Write, WriteDropped, Read, Op}
 use Rattle.rmt_wire.specs.Reply.{PlainReply}
@@ -13,11 +13,12 @@ use Rattle.drives.specs.declared.table.DriveTable.{DriveTable}
 use Rattle.drives.specs.declared.view.View.{View}
 use Rattle.rmt_server.specs.Access.{access_of}
 use Rattle.drives.specs.Opening.{drive_asked, found_in_open}
-use Rattle.rmt_server.specs.Session.{Scene, scene, status_of, refusal, closed, session_after}
+use Rattle.rmt_server.specs.Session.{Scene, scene, status_of, refusal, is_offline, closed, session_after}
 use Rattle.rmt_server.specs.Refusals.{refused}
-use Rattle.rmt_server.specs.Carrying.{drive_of, online_drive, view_after_close, IsAt, Tells, KeepsDrives, IsClosed, OpensFor, Closes, CarriesOut, CallsIn, CallsReel, ReelServes, status_at, status_in, reel_of, ReelCanFail, CanFail, IsServed, IsCarriedOut, TakesFor, SeatSteps}
+use Rattle.rmt_server.specs.Carrying.{drive_of, online_drive, view_after_close, IsAt, Tells, KeepsDrives, IsClosed, OpensFor, Closes, CarriesOut, CallsIn, CallsReel, ReelServes, status_at, status_in, reel_of, ReelCanFail, CanFail, Operates, IsServed, IsCarriedOut, TakesFor, SeatSteps}
 use Rattle.rmt_server.proofs.Takes.{open-takes, invalid-takes}
 use Rattle.rmt_server.proofs.Steps.{ReelServed, reel-serves, status-seen}
+use Rattle.rmt_server.proofs.Moving.{op-served, moves-off-at, moves-off-kept, moves-off-quiet}
 use Rattle.rmt_server.proofs.Opens.{is_device, is_device-means, is_device-is, HasRisen-earlier, asked-last, busy-asked, is-excused, open-seen}
 
 module _ {H S Seat R : Type 0} (h : HoldsPromise H Seat) (s : StacksPromise S R) (r : ReelPromise R)
@@ -127,9 +128,9 @@ module _ {H S Seat R : Type 0} (h : HoldsPromise H Seat) (s : StacksPromise S R)
   serves-step opened (Read count) reply new seat' opened' (n, same, serves) before tells =
       let p = reel-parts h s r old seat opened (Read count) reply new opened' before n serves tells in
       record { after = scene before.shop p.after; tells = scene-tells h s r old seat opened new opened' before (Read count) reply _ n tells p; troubled = p.troubled; trouble = p.trouble; able = λ t. inr (p.able t); asked = None; found = 0; seat = λ d x. absurd cc; told = λ d n x. absurd cc; taken = λ x. absurd (omega arith); step = p.step }
-  serves-step opened (Op op count) reply new seat' opened' (n, same, serves) before tells =
-      let p = reel-parts h s r old seat opened (Op op count) reply new opened' before n serves tells in
-      record { after = scene before.shop p.after; tells = scene-tells h s r old seat opened new opened' before (Op op count) reply _ n tells p; troubled = p.troubled; trouble = p.trouble; able = λ t. inr (p.able t); asked = None; found = 0; seat = λ d x. absurd cc; told = λ d n x. absurd cc; taken = λ x. absurd (omega arith); step = p.step }
+  serves-step opened (Op op count) reply new seat' opened' (same, c) before tells =
+      let p = op-served s r old (is_offline op) opened op count reply new opened' before c tells in
+      record { after = p.after; tells = p.tells; troubled = p.troubled; trouble = p.trouble; able = p.able; asked = None; found = 0; seat = λ d x. absurd cc; told = λ d n x. absurd cc; taken = λ x. absurd (omega arith); step = p.step }
 
   -- what a call of the reel leaves open
   calls-in-same : (device : Opened R) (reel : Option R) (new : Option (Opened R)) (request : PlainRequest) (reply : PlainReply)
@@ -242,6 +243,21 @@ module _ {H S Seat R : Type 0} (h : HoldsPromise H Seat) (s : StacksPromise S R)
     counted = omega (arith, a.counted, b.counted);
   }
 
+  op-at : (offline : Bool) (op count : ℕ) (reply : PlainReply) (new : DriveTable H S Seat R) (seat' : Seat) (opened' : Option (Opened R))
+      → IsAt h s old seat opened → seat' ≡ seat → Operates s r offline old opened op count reply new opened' → IsAt h s new seat' opened'
+  op-at true op count reply new seat' opened' at e m = rw e (moves-off-at h s r old seat opened op count reply new opened' at m)
+  op-at false op count reply new seat' opened' at e (n, c) = reel-at h s r old seat opened opened' (Op op count) reply new seat' at n e c
+
+  op-kept : (offline : Bool) (op count : ℕ) (reply : PlainReply) (new : DriveTable H S Seat R) (opened' : Option (Opened R))
+      → Operates s r offline old opened op count reply new opened' → KeepsDrives h s old new seat
+  op-kept true op count reply new opened' m = moves-off-kept h s r old seat opened op count reply new opened' m
+  op-kept false op count reply new opened' (n, c) = same-kept h s r old seat new n
+
+  op-quiet : (offline : Bool) (op count : ℕ) (reply : PlainReply) (new : DriveTable H S Seat R) (opened' : Option (Opened R))
+      → Operates s r offline old opened op count reply new opened' → CanFail s r new.stacks opened' → CanFail s r old.stacks opened
+  op-quiet true op count reply new opened' m f = moves-off-quiet s r old opened op count reply new opened' m f
+  op-quiet false op count reply new opened' (n, c) f = reel-quiet h s r old seat opened opened' (Op op count) reply new n c f
+
   carried-at : (request : PlainRequest) (reply : PlainReply) (new : DriveTable H S Seat R) (seat' : Seat) (opened' : Option (Opened R))
       → IsAt h s old seat opened → CarriesOut h s r old seat opened request reply new seat' opened' → IsAt h s new seat' opened'
   carried-at (Open device mode) reply new seat' opened' at (between, rested, c, o) = opens-at h s r between rested (access_of mode) device reply new seat' opened' c.at o
@@ -249,7 +265,7 @@ module _ {H S Seat R : Type 0} (h : HoldsPromise H Seat) (s : StacksPromise S R)
   carried-at (Write bytes) reply new seat' opened' at (n, e, c) = reel-at h s r old seat opened opened' (Write bytes) reply new seat' at n e c
   carried-at (WriteDropped count) reply new seat' opened' at (n, e, c) = reel-at h s r old seat opened opened' (WriteDropped count) reply new seat' at n e c
   carried-at (Read count) reply new seat' opened' at (n, e, c) = reel-at h s r old seat opened opened' (Read count) reply new seat' at n e c
-  carried-at (Op op count) reply new seat' opened' at (n, e, c) = reel-at h s r old seat opened opened' (Op op count) reply new seat' at n e c
+  carried-at (Op op count) reply new seat' opened' at (e, c) = op-at (is_offline op) op count reply new seat' opened' at e c
 
   carried-kept : (request : PlainRequest) (reply : PlainReply) (new : DriveTable H S Seat R) (seat' : Seat) (opened' : Option (Opened R))
       → CarriesOut h s r old seat opened request reply new seat' opened' → KeepsDrives h s old new seat
@@ -260,7 +276,7 @@ module _ {H S Seat R : Type 0} (h : HoldsPromise H Seat) (s : StacksPromise S R)
   carried-kept (Write bytes) reply new seat' opened' (n, e, c) = same-kept h s r old seat new n
   carried-kept (WriteDropped count) reply new seat' opened' (n, e, c) = same-kept h s r old seat new n
   carried-kept (Read count) reply new seat' opened' (n, e, c) = same-kept h s r old seat new n
-  carried-kept (Op op count) reply new seat' opened' (n, e, c) = same-kept h s r old seat new n
+  carried-kept (Op op count) reply new seat' opened' (e, c) = op-kept (is_offline op) op count reply new opened' c
 
   opens-steps : (access : Option Access) (device : List ℕ) (reply : PlainReply) (between new : DriveTable H S Seat R) (rested seat' : Seat) (opened' : Option (Opened R))
       → h.shows rested ≡ view_after_close (h.shows seat) (drive_of opened) → OpensFor h s r between rested device access reply new seat' opened'
@@ -277,7 +293,7 @@ module _ {H S Seat R : Type 0} (h : HoldsPromise H Seat) (s : StacksPromise S R)
   carried-steps (Write bytes) reply new seat' opened' (n, e, c) = ap h.shows e
   carried-steps (WriteDropped count) reply new seat' opened' (n, e, c) = ap h.shows e
   carried-steps (Read count) reply new seat' opened' (n, e, c) = ap h.shows e
-  carried-steps (Op op count) reply new seat' opened' (n, e, c) = ap h.shows e
+  carried-steps (Op op count) reply new seat' opened' (e, c) = ap h.shows e
 
   carried-quiet : (request : PlainRequest) (reply : PlainReply) (new : DriveTable H S Seat R) (seat' : Seat) (opened' : Option (Opened R))
       → CarriesOut h s r old seat opened request reply new seat' opened' → CanFail s r new.stacks opened' → CanFail s r old.stacks opened
@@ -286,7 +302,7 @@ module _ {H S Seat R : Type 0} (h : HoldsPromise H Seat) (s : StacksPromise S R)
   carried-quiet (Write bytes) reply new seat' opened' (n, e, c) f = reel-quiet h s r old seat opened opened' (Write bytes) reply new n c f
   carried-quiet (WriteDropped count) reply new seat' opened' (n, e, c) f = reel-quiet h s r old seat opened opened' (WriteDropped count) reply new n c f
   carried-quiet (Read count) reply new seat' opened' (n, e, c) f = reel-quiet h s r old seat opened opened' (Read count) reply new n c f
-  carried-quiet (Op op count) reply new seat' opened' (n, e, c) f = reel-quiet h s r old seat opened opened' (Op op count) reply new n c f
+  carried-quiet (Op op count) reply new seat' opened' (e, c) f = op-quiet (is_offline op) op count reply new opened' c f
 
   -- a request that was carried out, with all that follows
   pub carried : (request : PlainRequest) (reply : PlainReply) (new : DriveTable H S Seat R) (seat' : Seat) (opened' : Option (Opened R))

@@ -1,6 +1,7 @@
 pub mod Seats
 pub mod Steps
 pub mod Opens
+pub mod Moving
 pub mod Carried
 pub mod Alone
 pub mod Spelling

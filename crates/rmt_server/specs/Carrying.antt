@@ -1,10 +1,12 @@
 -- What a session promises of each request, whatever its drives, seats and reels are.
-use Rattle.std.specs.Prelude.{◌≡◌, ◌≢◌, ◌⊎◌, ℕ, ◌<◌, ◌≤◌, Bool, IsTrue, Option, Some, None, MatchOption, Result, Ok, Err, List, length, take}
+use Rattle.std.specs.Prelude.{◌≡◌, ◌≢◌, ◌⊎◌, ℕ, ◌<◌, ◌≤◌, Bool, true, false, IsTrue, Option, Some, None, MatchOption, Result, Ok, Err, List, length, take}
 use Rattle.rmt_wire.specs.Request.{PlainRequest}
 use Rattle.rmt_wire.specs.Request.PlainRequest.{Open, Close, Op}
 use Rattle.rmt_wire.specs.Reply.{PlainReply}
 use Rattle.rmt_wire.specs.Reply.PlainReply.{Done, Data}
-use Rattle.tape.specs.Tape.{Tape, TapeAnswer}
+use Rattle.tape.specs.Tape.{Tape, TapeAnswer, entries_of}
+use Rattle.tape.specs.Tape.TapeRequest.{Rewind}
+use Rattle.tape.specs.Tape.TapeAnswer.{Done as Did}
 use Rattle.tape.specs.Call.{IsCall}
 use Rattle.tape.specs.Failures.{HasRisen, Steps}
 use Rattle.tape.specs.declared.reel.Reel.{Ghosts as ReelPromise}
@@ -24,9 +26,10 @@ use Rattle.drives.specs.declared.view.StepKind.TheVariants.{Take}
 use Rattle.rmt_server.specs.Access.{access_of}
 use Rattle.rmt_server.specs.Refusals.{refused}
 use Rattle.drives.specs.Holding.{HoldsJust, given, word_after_give, last_drive, last_step, counted}
-use Rattle.drives.specs.Stacking.{HasLatched}
+use Rattle.drives.specs.Shop.{after_offline}
+use Rattle.drives.specs.Stacking.{HasLatched, StaysOnline, IsOfflineFault}
 use Rattle.drives.specs.Opening.{SeatStep, IsOpenFault, drive_asked, found_in_open, word_after_open, OpenStep}
-use Rattle.rmt_server.specs.Session.{PlainSession, plain_reel, Scene, Status, NothingOpen, ReelAway, Ready, refusal, reel_reply, tape_request, open_reply, closed, ServeStep}
+use Rattle.rmt_server.specs.Session.{PlainSession, plain_reel, Scene, Status, NothingOpen, ReelAway, Ready, refusal, reel_reply, tape_request, is_offline, move_reply, open_reply, closed, ServeStep}
 use Rattle.rmt_server.specs.Session.PlainSession.{Idle, Offline, Online}
 
 -- the drive that is open
@@ -196,11 +199,69 @@ abbrev pub Closes : {H S Seat R : Type 0} → HoldsPromise H Seat → StacksProm
 Closes h s r old seat None reply new seat' opened' = (reply ≡ refused BadDescriptor) × (new ≡ old) × (seat' ≡ seat) × (opened' ≡ None)
 Closes h s r old seat (Some device) reply new seat' opened' = (reply ≡ Done 0) × (opened' ≡ None) × IsClosed h s r old seat (Some device) new seat'
 
+-- the reel is gone once it was moved, and else handed back
+abbrev pub reel_left : {R : Type 0} → Result Unit DriveFault → R → Option R
+reel_left (Ok done) reel = None
+reel_left (Err why) reel = Some reel
+
+-- where stacks and reel tell, the reel lies in the bin now, or it was not moved
+abbrev pub MovesShop : {H S Seat R : Type 0} → StacksPromise S R → ReelPromise R → DriveTable H S Seat R → ℕ → R → Result Unit DriveFault
+    → DriveTable H S Seat R → Type 0
+MovesShop s r old drive reel (Ok done) new =
+    (t : Tape) → r.holds reel t → Steps s.holds old.stacks new.stacks (λ v now. now ≡ after_offline v drive (entries_of t) (r.capacity reel))
+MovesShop s r old drive reel (Err why) new = Steps s.holds old.stacks new.stacks (StaysOnline drive why)
+
+abbrev pub IsMoveFault : Result Unit DriveFault → ℕ → ℕ → Type 0
+IsMoveFault (Ok done) before now = Unit {0}
+IsMoveFault (Err why) before now = IsOfflineFault why before now
+
+-- The open reel was rewound and moved to the bin, or was rewound and not moved; the drive stays held.
+pub record IsMoved {H S Seat R : Type 0} (s : StacksPromise S R) (r : ReelPromise R)
+    (old : DriveTable H S Seat R) (device : Opened R) (reel : R) (result : Result Unit DriveFault)
+    (new : DriveTable H S Seat R) (opened' : Option (Opened R)) : Type 0 where
+  pub rested : R
+  pub rewound : IsCall r.holds r.capacity r.failures r.can_fail r.makes r.GROWS reel rested Rewind Did
+  pub opens : opened' ≡ Some (record device { reel = reel_left result rested })
+  pub holds : new.holds ≡ old.holds
+  pub stacks : MovesShop s r old device.drive rested result new
+  pub latched : (d : ℕ) → online_drive opened' ≡ Some d → HasLatched s.holds new.stacks d
+  pub fault : IsMoveFault result (s.failures old.stacks) (s.failures new.stacks)
+  pub able : result ≡ Err Device → s.can_fail old.stacks
+  pub quiet : s.can_fail new.stacks → s.can_fail old.stacks ⊎ r.can_fail rested
+  pub same_stacks : s.drives new.stacks ≡ s.drives old.stacks
+  pub counted : s.failures old.stacks ≤ s.failures new.stacks
+
+abbrev pub MovesIn : {H S Seat R : Type 0} → StacksPromise S R → ReelPromise R → DriveTable H S Seat R → Opened R → Option R → ℕ → PlainReply
+    → DriveTable H S Seat R → Option (Opened R) → Type 0
+MovesIn s r old device None count reply new opened' = ⊥
+MovesIn s r old device (Some reel) count reply new opened' =
+    (result : Result Unit DriveFault) × (reply ≡ move_reply count result) × IsMoved s r old device reel result new opened'
+
+abbrev pub MovesReel : {H S Seat R : Type 0} → StacksPromise S R → ReelPromise R → DriveTable H S Seat R → Option (Opened R) → ℕ → PlainReply
+    → DriveTable H S Seat R → Option (Opened R) → Type 0
+MovesReel s r old None count reply new opened' = ⊥
+MovesReel s r old (Some device) count reply new opened' = MovesIn s r old device device.reel count reply new opened'
+
+-- MTOFFL: the first check that refuses it decides, else the open reel is moved to the bin.
+abbrev pub MovesOff : {H S Seat R : Type 0} → StacksPromise S R → ReelPromise R → DriveTable H S Seat R → Option (Opened R) → ℕ → ℕ → PlainReply
+    → DriveTable H S Seat R → Option (Opened R) → Type 0
+MovesOff s r old opened op count reply new opened' =
+    MatchOption (refusal (status_at opened) (Op op count)) (MovesReel s r old opened count reply new opened')
+    (λ refusal. (reply ≡ refused refusal) × (new ≡ old) × (opened' ≡ opened))
+
+-- An operation, which is MTOFFL or one of the reel's own.
+abbrev pub Operates : {H S Seat R : Type 0} → StacksPromise S R → ReelPromise R → Bool → DriveTable H S Seat R → Option (Opened R) → ℕ → ℕ → PlainReply
+    → DriveTable H S Seat R → Option (Opened R) → Type 0
+Operates s r true old opened op count reply new opened' = MovesOff s r old opened op count reply new opened'
+Operates s r false old opened op count reply new opened' = (new ≡ old) × ReelServes r opened opened' (Op op count) reply
+
 -- What each request does, whatever is told.
 abbrev pub CarriesOut : {H S Seat R : Type 0} → HoldsPromise H Seat → StacksPromise S R → ReelPromise R
     → DriveTable H S Seat R → Seat → Option (Opened R) → PlainRequest → PlainReply → DriveTable H S Seat R → Seat → Option (Opened R) → Type 0
 CarriesOut h s r old seat opened (Open device mode) reply new seat' opened' = OpensAnew h s r old seat opened device mode reply new seat' opened'
 CarriesOut h s r old seat opened Close reply new seat' opened' = Closes h s r old seat opened reply new seat' opened'
+CarriesOut h s r old seat opened (Op op count) reply new seat' opened' =
+    (seat' ≡ seat) × Operates s r (is_offline op) old opened op count reply new opened'
 CarriesOut h s r old seat opened request reply new seat' opened' =
     (new ≡ old) × (seat' ≡ seat) × ReelServes r opened opened' request reply
 
@@ -213,10 +274,17 @@ abbrev pub ReelFailedIn : {R : Type 0} → ReelPromise R → Option R → Option
 ReelFailedIn r (Some reel) (Some device) = ReelFailed r reel device.reel
 ReelFailedIn r reel opened = ⊥
 
--- the device that the request was about failed: that of the stacks for an open, else that of the open reel
+-- MTOFFL is about the device of the stacks, and other operations about that of the open reel
+abbrev pub HasOpTrouble : {H S Seat R : Type 0} → StacksPromise S R → ReelPromise R → Bool → DriveTable H S Seat R → Option (Opened R)
+    → DriveTable H S Seat R → Option (Opened R) → Type 0
+HasOpTrouble s r true old opened new opened' = HasRisen (s.failures old.stacks) (s.failures new.stacks)
+HasOpTrouble s r false old opened new opened' = ReelFailedIn r (reel_of opened) opened'
+
+-- the device that the request was about failed: that of the stacks for an open and MTOFFL, else that of the open reel
 abbrev pub HasTrouble : {H S Seat R : Type 0} → StacksPromise S R → ReelPromise R → DriveTable H S Seat R → Option (Opened R) → PlainRequest
     → DriveTable H S Seat R → Option (Opened R) → Type 0
 HasTrouble s r old opened (Open device mode) new opened' = HasRisen (s.failures old.stacks) (s.failures new.stacks)
+HasTrouble s r old opened (Op op count) new opened' = HasOpTrouble s r (is_offline op) old opened new opened'
 HasTrouble s r old opened request new opened' = ReelFailedIn r (reel_of opened) opened'
 
 -- a device can fail only where `fails` says so

@@ -1,10 +1,10 @@
 -- What a session has open, and what each request does (rmt(8); effects and the order of checks are this project's).
-use Rattle.std.specs.Prelude.{◌≡◌, ℕ, ◌<◌, min, ◌==◌, nat_lt, Bool, ◌||◌, IsTrue, if◌then◌else◌, List, [], ◌∷◌, ◌++◌, length, Option, Some, None, MatchOption, Result, Ok, Err}
+use Rattle.std.specs.Prelude.{◌≡◌, ℕ, ◌<◌, min, ◌==◌, nat_lt, Bool, true, false, ◌||◌, IsTrue, if◌then◌else◌, List, [], ◌∷◌, ◌++◌, length, Option, Some, None, MatchOption, Result, Ok, Err}
 use Rattle.rmt_wire.specs.Request.{PlainRequest, data_limit}
 use Rattle.rmt_wire.specs.Request.PlainRequest.{Open, Close, Write, WriteDropped, Read, Op}
 use Rattle.rmt_wire.specs.Reply.{PlainReply}
 use Rattle.rmt_wire.specs.Reply.PlainReply.{Done, Data}
-use Rattle.tape.specs.Tape.{Tape, TapeRequest, TapeAnswer, TapeStep, entries_of, op_request}
+use Rattle.tape.specs.Tape.{Tape, tape, TapeRequest, TapeAnswer, TapeStep, entries_of, op_request}
 use Rattle.tape.specs.Tape.TapeRequest.{Write as WriteRecord, Read as ReadRecord, Unknown}
 use Rattle.tape.specs.Tape.TapeAnswer.{Done as Did, Gave, Fault}
 use Rattle.tape.specs.declared.fault.TapeFault.{TapeFault}
@@ -16,7 +16,8 @@ use Rattle.drives.specs.declared.fault.DriveFault.{DriveFault}
 use Rattle.drives.specs.declared.fault.DriveFault.TheVariants as drive
 use Rattle.rmt_server.specs.Access.{access_of, reads, writes}
 use Rattle.rmt_server.specs.Refusals.{refused, tape_refusal, drive_refusal}
-use Rattle.drives.specs.Shop.{Shop, after_unlatch}
+use Rattle.drives.specs.Shop.{Shop, after_unlatch, after_offline}
+use Rattle.drives.specs.Stacking.{StaysOnline}
 use Rattle.drives.specs.Opening.{OpenStep, found_in_open}
 
 -- a latched reel: its tape, and how many bytes it takes
@@ -62,10 +63,10 @@ write_refusal access count =
 abbrev pub read_refusal : Access → ℕ → Option Refusal
 read_refusal access count = if reads access then (if count == 0 then Some Invalid else None) else Some BadDescriptor
 
--- of mtio's operations 0 to 7 all are known but MTOFFL 6; MTWEOF 0 writes
+-- mtio's operations are 0 to 7, of which MTWEOF 0 writes
 abbrev pub op_refusal : Access → ℕ → Option Refusal
 op_refusal access op =
-    if op == 0 then (if writes access then None else Some Permission) else if (op == 6) || nat_lt 7 op then Some Invalid else None
+    if op == 0 then (if writes access then None else Some Permission) else if nat_lt 7 op then Some Invalid else None
 
 -- the first check that refuses the request, if one does; those of an open come after what was open is closed
 abbrev pub refusal : Status → PlainRequest → Option Refusal
@@ -157,9 +158,47 @@ OpensAs troubled asked found before device (Some access) reply after =
     × (reply ≡ open_reply result)
     × (after.session ≡ session_after access result)
 
+-- mtio's MTOFFL 6 takes the reel to the bin; all other operations are the reel's own
+abbrev pub is_offline : ℕ → Bool
+is_offline op = op == 6
+
+-- a reel was not moved: the device is at fault only where there was trouble
+abbrev pub IsMoveExcused : Bool → DriveFault → Type 0
+IsMoveExcused troubled drive.Device = IsTrue troubled
+IsMoveExcused troubled drive.OutOfMemory = Unit {0}
+IsMoveExcused troubled drive.NameTaken = Unit {0}
+IsMoveExcused troubled fault = ⊥
+
+-- what a client is told of a move
+abbrev pub move_reply : ℕ → Result Unit DriveFault → PlainReply
+move_reply count (Ok done) = Done count
+move_reply count (Err why) = refused (drive_refusal why)
+
+-- The reel lies last in the bin, and its drive stays open. Or it was not moved, and stands at its beginning.
+abbrev pub MovesAs : Bool → ℕ → Access → PlainReel → Result Unit DriveFault → Shop → Scene → Type 0
+MovesAs troubled drive access reel (Ok done) before after =
+    after ≡ scene (after_offline before drive (entries_of reel.tape) reel.capacity) (Offline drive access)
+MovesAs troubled drive access reel (Err why) before after =
+    IsMoveExcused troubled why × StaysOnline drive why before after.shop
+    × (after.session ≡ Online drive access (plain_reel (tape [] (entries_of reel.tape)) reel.capacity))
+
+-- the latched reel is rewound and moved to the bin
+abbrev pub MoveStep : Bool → Scene → ℕ → PlainReply → Scene → Type 0
+MoveStep troubled before count reply after =
+    (drive : ℕ) × (access : Access) × (reel : PlainReel) × (result : Result Unit DriveFault)
+    × (before.session ≡ Online drive access reel)
+    × (reply ≡ move_reply count result)
+    × MovesAs troubled drive access reel result before.shop after
+
+-- an operation, which is MTOFFL or not
+abbrev pub OpStep : Bool → Bool → Bool → Scene → ℕ → ℕ → PlainReply → Scene → Type 0
+OpStep true troubled grows before op count reply after = MoveStep troubled before count reply after
+OpStep false troubled grows before op count reply after = ReelStep troubled grows before (Op op count) reply after
+
 -- a request that no check refuses
 abbrev pub DoneStep : Bool → Bool → Scene → PlainRequest → PlainReply → Scene → Type 0
 DoneStep troubled grows before Close reply after = (reply ≡ Done 0) × (after ≡ closed before)
+DoneStep troubled grows before (Op op count) reply after = OpStep (is_offline op) troubled grows before op count reply after
 DoneStep troubled grows before request reply after = ReelStep troubled grows before request reply after
 
 -- One request, its reply, and drives and session after it. `troubled` says that a device failed, `grows` that the

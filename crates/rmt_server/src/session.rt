@@ -71,10 +71,12 @@ impl<H: Holds, S: Stacks> Session<H, S> {
     /// The first line that applies decides. An open closes what is open, then: 22 for a mode that is none, 2 for no
     /// drive of that name, 16 where another seat holds it, 6 where no reel lies on its stack, 5 where the device
     /// failed, 12 where memory was refused. All other requests: 9 with nothing open. Of those but a close: 6 where
-    /// the reel lies in the bin; 9 for a write or a read without that access, 22 for operation 6 and those
+    /// the reel lies in the bin; 9 for a write or a read without that access, 22 for an operation
     /// above 7, 13 for marks without the access to write; 22 for a count of a write or read that is 0 or, for a write, above
     /// 65,536; a write that has no room is answered with the number 0, and marks with 28; 12 where memory was refused;
-    /// 5 where the device failed, or spacing met a mark, the end or the beginning first. A reply without an error has 0 for an open or a close, the count for a write or an
+    /// 5 where the device failed, or spacing met a mark, the end or the beginning first, or the bin has a reel of the
+    /// name of the one that operation 6 is to move there. That reel stays on its stack then, open, at its beginning.
+    /// Once it is in the bin the drive stays open and held. A reply without an error has 0 for an open or a close, the count for a write or an
     /// operation, or the bytes of a read.
     ///
     /// The drives are those of the seat and of what is open.

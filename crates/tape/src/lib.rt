@@ -17,7 +17,7 @@ mod troubled;
 pub use entry::Entry;
 pub use fault::TapeFault;
 pub use list::ListReel;
-pub use op::{MTBSF, MTBSR, MTFSF, MTFSR, MTNOP, MTREW, MTWEOF};
+pub use op::{MTBSF, MTBSR, MTFSF, MTFSR, MTNOP, MTOFFL, MTREW, MTWEOF};
 pub use reel::{RECORD_LIMIT, Reel};
 pub use trouble::Trouble;
 pub use troubled::TroubledReel;

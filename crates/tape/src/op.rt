@@ -16,5 +16,8 @@ pub const MTBSR: u32 = 4;
 /// Goes to the beginning, whatever the count (mtio).
 pub const MTREW: u32 = 5;
 
+/// Goes to the beginning and takes the reel off its drive, whatever the count (mtio). A reel cannot do it by itself.
+pub const MTOFFL: u32 = 6;
+
 /// Does nothing, whatever the count (mtio).
 pub const MTNOP: u32 = 7;

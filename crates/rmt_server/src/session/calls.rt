@@ -9,7 +9,7 @@ use crate::access::Access;
 use crate::refusal::Refusal;
 use crate::session::Opened;
 use rmt_wire::DATA_LIMIT;
-use tape::{MTBSF, MTBSR, MTFSF, MTFSR, MTNOP, MTREW, MTWEOF, Reel, TapeFault};
+use tape::{MTNOP, MTWEOF, Reel, TapeFault};
 
 /// Writes one record. It answers how many bytes were written: none where there is no room.
 pub(crate) fn write<R: Reel>(opened: &mut Option<Opened<R>>, bytes: &[u8]) -> Result<u32, Refusal>
@@ -66,7 +66,7 @@ pub(crate) fn read<R: Reel>(
     }
 }
 
-/// Does an operation of mtio. It answers the count.
+/// Does an operation of mtio that is the reel's own. It answers the count.
 pub(crate) fn operate<R: Reel>(
     opened: &mut Option<Opened<R>>,
     op: u32,
@@ -118,10 +118,11 @@ fn check_read(access: Access, count: u32) -> Result<(), Refusal>
 fn check_op(access: Access, op: u32) -> Result<(), Refusal>
     ensures { op_refusal access op ≡ refusal_in result }
 {
-    match op {
-        MTWEOF if access.writes() => Ok(()),
-        MTWEOF => Err(Refusal::Permission),
-        MTFSF | MTBSF | MTFSR | MTBSR | MTREW | MTNOP => Ok(()),
-        _ => Err(Refusal::Invalid),
+    if op == MTWEOF && !access.writes() {
+        return Err(Refusal::Permission);
     }
+    if op > MTNOP {
+        return Err(Refusal::Invalid);
+    }
+    Ok(())
 }

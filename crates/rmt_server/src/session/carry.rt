@@ -1,14 +1,17 @@
 //! One request, over the parts of a session.
-ghost use Rattle.std.specs.Prelude.{◌≡◌, ◌≤◌, length, Ok, Err, IfOk};
+ghost use Rattle.std.specs.Prelude.{◌≡◌, ℕ, ◌<◌, ◌≤◌, length, Some, Ok, Err, IfOk};
+ghost use Rattle.drives.specs.Stacking.{HasLatched};
+ghost use Rattle.rmt_server.specs.Session.{is_offline};
 ghost use Rattle.rmt_wire.specs.Request.{data_limit};
 ghost use Rattle.rmt_wire.specs.Lent.{plain_request};
 ghost use Rattle.rmt_wire.specs.Reply.{HasSpelling};
-ghost use Rattle.rmt_server.specs.Carrying.{IsAt, Closes, CarriesOut, IsCarriedOut, number_reply, outcome_reply, IsWithin, IsGiven, IsSayable};
+ghost use Rattle.rmt_server.specs.Carrying.{IsAt, drive_of, online_drive, Operates, Closes, CarriesOut, IsCarriedOut, number_reply, outcome_reply, IsWithin, IsGiven, IsSayable};
 
 use crate::refusal::Refusal;
 use crate::session::{Opened, calls, drive};
 use drives::{DriveTable, Holds, Stacks};
 use rmt_wire::Request;
+use tape::MTOFFL;
 
 /// What a request gave.
 #[derive(Clone, Copy, Debug, PartialEq, Eq)]
@@ -17,6 +20,25 @@ pub(crate) enum Given {
     Number(u32),
     /// So many bytes were read into the buffer.
     Bytes(usize),
+}
+
+/// Does an operation of mtio. It answers the count.
+fn operate<H: Holds, S: Stacks>(
+    drives: &mut DriveTable<H, S>,
+    opened: &mut Option<Opened<S::Reel>>,
+    op: u32,
+    count: u32,
+) -> Result<u32, Refusal>
+    requires below { (d : ℕ) → drive_of opened.old ≡ Some d → d < S.drives drives.old.stacks }
+    requires latched { (d : ℕ) → online_drive opened.old ≡ Some d → HasLatched S.holds drives.old.stacks d }
+    ensures operates { Operates S.Stacks S.Reel.Reel (is_offline op) drives.old opened.old op count (number_reply result) drives.new opened.new }
+    ensures number { IfOk result (λ n. n ≡ count) }
+{
+    if op == MTOFFL {
+        drive::take_offline(drives, opened, count)
+    } else {
+        calls::operate(opened, op, count)
+    }
 }
 
 /// Carries out a request. What a read gives lies in the buffer.
@@ -39,7 +61,7 @@ fn dispatch<H: Holds, S: Stacks>(
         Request::Write { bytes } => calls::write(opened, bytes)?,
         Request::WriteDropped { .. } => return Err(calls::refuse_dropped(opened)),
         Request::Read { count } => return Ok(Given::Bytes(calls::read(opened, buffer, count)?)),
-        Request::Op { op, count } => calls::operate(opened, op, count)?,
+        Request::Op { op, count } => operate(drives, opened, op, count)?,
     };
     Ok(Given::Number(number))
 }

@@ -5,7 +5,7 @@ ghost use Rattle.drives.specs.Stacking.{HasLatched};
 ghost use Rattle.rmt_server.specs.Session.{PlainSession, closed_shop};
 ghost use Rattle.rmt_server.specs.declared.access.Access.{Access as AccessOf};
 ghost use Rattle.rmt_server.specs.Access.{access_of};
-ghost use Rattle.rmt_server.specs.Carrying.{IsAt, IsClosed, ReelCanFail, IsSeenWith, online_in, number_reply, OpensFor, OpensAnew};
+ghost use Rattle.rmt_server.specs.Carrying.{IsAt, IsClosed, ReelCanFail, IsSeenWith, online_in, online_drive, drive_of, number_reply, MovesOff, OpensFor, OpensAnew};
 
 use crate::access::Access;
 use crate::refusal::Refusal;
@@ -44,6 +44,35 @@ pub(crate) fn close<H: Holds, S: Stacks>(
     let Opened { drive, reel, .. } = device;
     put_back(&mut drives.stacks, drive, reel);
     drives.holds.give(seat, drive);
+}
+
+/// Rewinds the open reel and moves it to the bin; the drive stays held. It answers the count.
+///
+/// Where the move is refused the reel stays open, at its beginning.
+pub(crate) fn take_offline<H: Holds, S: Stacks>(
+    drives: &mut DriveTable<H, S>,
+    opened: &mut Option<Opened<S::Reel>>,
+    count: u32,
+) -> Result<u32, Refusal>
+    requires below { (d : ℕ) → drive_of opened.old ≡ Some d → d < S.drives drives.old.stacks }
+    requires latched { (d : ℕ) → online_drive opened.old ≡ Some d → HasLatched S.holds drives.old.stacks d }
+    ensures moves { MovesOff S.Stacks S.Reel.Reel drives.old opened.old 6 count (number_reply result) drives.new opened.new }
+    ensures number { IfOk result (λ n. n ≡ count) }
+{
+    let Some(device) = opened else {
+        return Err(Refusal::BadDescriptor);
+    };
+    let Some(mut latched) = device.reel.take() else {
+        return Err(Refusal::NotConfigured);
+    };
+    latched.rewind();
+    match drives.stacks.offline(device.drive, latched) {
+        Ok(()) => Ok(count),
+        Err((reel, fault)) => {
+            device.reel = Some(reel);
+            Err(Refusal::of_drive(fault))
+        }
+    }
 }
 
 /// Takes the drive of that name and latches its first reel, while nothing is open. It answers 0.

@@ -192,6 +192,26 @@ fn the_plain_server_refuses_as_was_written_by_hand(rt: HostRuntime) -> Result<()
 }
 
 #[test]
+fn the_plain_server_takes_the_reel_away_as_was_written_by_hand(
+    rt: HostRuntime,
+) -> Result<(), Fail> {
+    let away = [
+        OPEN,
+        Request::Op { op: 6, count: 1 },
+        Request::Write { bytes: b"x" },
+        Request::Op { op: 7, count: 1 },
+        Request::Close,
+        OPEN,
+    ];
+    let answers = slow_answers(rt.alloc(), &away)?;
+    assert_eq!(rt;
+        answers.as_slice(),
+        b"A0\nA1\nE6\nDevice not configured\nE6\nDevice not configured\nA0\nE6\nDevice not configured\n".as_slice()
+    );
+    Ok(())
+}
+
+#[test]
 fn the_plain_server_spaces_as_was_written_by_hand(rt: HostRuntime) -> Result<(), Fail> {
     let nothing_ahead = [
         OPEN,

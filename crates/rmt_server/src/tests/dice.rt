@@ -49,10 +49,13 @@ const LENGTHS: [usize; 10] = [0, 1, 1, 2, 3, 5, 30, 65535, 65536, 65537];
 /// Counts of reads.
 const COUNTS: [u32; 8] = [0, 1, 2, 10, 65535, 65536, 65537, 2147483647];
 
-/// The operations that there are, each number up to 8, and the greatest.
-const OPERATIONS: [u32; 18] = [
-    0, 0, 5, 5, 5, 0, 1, 2, 3, 4, 1, 2, 3, 4, 6, 7, 8, 2147483647,
-];
+/// The operations that there are but the one that takes the reel away, a number above them, and the greatest.
+const OPERATIONS: [u32; 17] = [0, 0, 5, 5, 5, 0, 1, 2, 3, 4, 1, 2, 3, 4, 7, 8, 2147483647];
+
+/// The operation that takes the reel away, which is asked for once in so many operations.
+const OFFLINE: u32 = 6;
+
+const SELDOM: usize = 40;
 
 /// Counts of operations.
 const TIMES: [u32; 6] = [0, 1, 1, 2, 5, 2147483647];
@@ -69,11 +72,19 @@ pub(crate) fn next_request<'a>(dice: &mut Dice, filler: &'a [u8]) -> Request<'a>
         8..=11 => Request::Read {
             count: COUNTS[dice.pick(8)],
         },
-        _ => Request::Op {
-            op: OPERATIONS[dice.pick(18)],
-            count: TIMES[dice.pick(6)],
-        },
+        _ => next_operation(dice),
     }
+}
+
+/// An operation by chance.
+fn next_operation(dice: &mut Dice) -> Request<'static> {
+    let count = TIMES[dice.pick(6)];
+    let op = if dice.pick(SELDOM) == 0 {
+        OFFLINE
+    } else {
+        OPERATIONS[dice.pick(17)]
+    };
+    Request::Op { op, count }
 }
 
 /// A write by chance, from some place of the filler on where that has bytes enough.

@@ -94,6 +94,18 @@ fn a_write_loses_the_old_tail(rt: HostRuntime) -> Result<(), Fail> {
     Ok(())
 }
 
+#[test]
+fn the_reel_goes_to_the_bin(rt: HostRuntime) -> Result<(), Fail> {
+    check_cuts(
+        &rt,
+        rt.alloc(),
+        b"O/dev/st0\n2\nI6\n1\nW1\nxI7\n1\nC\nO/dev/st0\n2\n",
+        b"A0\nA1\nE6\nDevice not configured\nE6\nDevice not configured\nA0\nE6\nDevice not configured\n",
+        0,
+    )?;
+    Ok(())
+}
+
 /// The greatest record, one byte more, none, and an operation that does nothing.
 fn largest_writes(alloc: Global) -> Result<Vec<u8>, AllocError> {
     let mut bytes = Vec::from_slice(alloc, b"O/dev/st0\n2\nW65536\n")?;

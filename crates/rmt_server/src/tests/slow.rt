@@ -13,13 +13,14 @@ pub(crate) enum Answer {
     Error(u32),
 }
 
-/// The entries of the reel, where `None` is a mark, its capacity, and what is open: the access, which is 0 for
-/// reads, 1 for writes and 2 for both, and the place among the entries.
+/// The entries of the reel, where `None` is a mark, its capacity, whether it lies in the bin, and what is open: the
+/// access, which is 0 for reads, 1 for writes and 2 for both, and the place among the entries.
 #[derive(Drop)]
 pub(crate) struct SlowServer {
     alloc: Global,
     entries: Vec<Option<Vec<u8>>>,
     capacity: u64,
+    in_bin: bool,
     opened: Option<(u32, usize)>,
 }
 
@@ -29,6 +30,7 @@ impl SlowServer {
             alloc,
             entries: Vec::new(alloc),
             capacity,
+            in_bin: false,
             opened: None,
         }
     }
@@ -38,6 +40,8 @@ impl SlowServer {
         match request {
             Request::Open { device, mode } => Ok(self.open(device, mode)),
             Request::Close => Ok(self.close()),
+            _ if self.opened.is_none() => Ok(Answer::Error(9)),
+            _ if self.in_bin => Ok(Answer::Error(6)),
             Request::Write { bytes } => self.write(bytes),
             Request::WriteDropped { .. } => Ok(self.refuse_dropped()),
             Request::Read { count } => self.read(count),
@@ -52,6 +56,9 @@ impl SlowServer {
         }
         if device != b"/dev/st0".as_slice() {
             return Answer::Error(2);
+        }
+        if self.in_bin {
+            return Answer::Error(6);
         }
         self.opened = Some((mode % 4, 0));
         Answer::Number(0)
@@ -124,6 +131,10 @@ impl SlowServer {
             1..=4 => Ok(self.space(access, place, op, count)),
             5 => {
                 self.opened = Some((access, 0));
+                Ok(Answer::Number(count))
+            }
+            6 => {
+                self.in_bin = true;
                 Ok(Answer::Number(count))
             }
             7 => Ok(Answer::Number(count)),
@@ -201,6 +212,7 @@ pub(crate) fn error_text(number: u32) -> &'static [u8] {
     match number {
         2 => b"No such file or directory",
         5 => b"Input/output error",
+        6 => b"Device not configured",
         9 => b"Bad file descriptor",
         13 => b"Permission denied",
         16 => b"Device busy",
