@@ -1,10 +1,11 @@
 -- The shop of one drive and one reel.
-use Rattle.std.proofs.Common.{◌≡◌, ◌≢◌, ℕ, zero, suc, ◌<◌, List, [], length, Some, None, Ok, refl, sym, ap, ◌∙◌, subst, arith}
+use Rattle.std.proofs.Common.{◌≡◌, ◌≢◌, ℕ, zero, suc, ◌<◌, List, [], length, Some, None, IsSome, Ok, refl, sym, ap, ◌∙◌, subst, arith}
 use Rattle.tape.specs.Tape.{tape, entries_of}
 use Rattle.tape.specs.Trouble.{TroubledTape, IsTapeOf}
 use Rattle.drives.specs.Shop.{Shop, IsDriveNamed, rack_at}
-use Rattle.drives.specs.OneReel.{shop_of, shop_of-sized, the_drive, at_rest}
-use Rattle.drives.specs.Stacking.{LatchStep}
+use Rattle.drives.specs.OneReel.{IsShop, shop_of, shop_of-sized, the_drive, at_rest}
+use Rattle.drives.specs.Stacking.{LatchStep, HasLatched}
+use Rattle.drives.specs.declared.list.ListStacks.{ListStacks}
 use Rattle.drives.specs.declared.list.ReelPlace.{ReelPlace}
 use Rattle.drives.specs.declared.list.ReelPlace.TheVariants.{Stack, Latched, Bin}
 
@@ -39,3 +40,13 @@ pub latch_steps : (place after : ReelPlace) (r reel : TroubledTape) (d : ℕ) �
     → (t : Shop) → t ≡ shop_of place → (u : Shop) × (u ≡ shop_of after) × LatchStep IsTapeOf (λ x. x.capacity) d (Ok reel) t u
 latch_steps place after r reel d p a l h e t s =
     (shop_of Latched, ap shop_of (sym a), subst (λ (x : Shop). LatchStep IsTapeOf (λ y. y.capacity) d (Ok reel) x (shop_of Latched)) (sym (s ∙ ap shop_of p)) (latch-step r reel d l h e))
+
+away-elsewhere : (place : ReelPlace) (d : ℕ) → IsSome (rack_at (shop_of place) (suc d)).latched → ⊥
+away-elsewhere (Stack r) d h = absurd cc
+away-elsewhere Latched d h = absurd cc
+away-elsewhere (Bin r) d h = absurd cc
+
+-- no reel is latched in another drive, since there is none
+pub latched_elsewhere : (stacks : ListStacks) (drive d : ℕ) → drive < 1 → d ≢ drive → HasLatched IsShop stacks d → ⊥
+latched_elsewhere stacks drive zero l n h = n (omega arith)
+latched_elsewhere stacks drive (suc d) l n h = away-elsewhere stacks.reel d (h (shop_of stacks.reel) refl)

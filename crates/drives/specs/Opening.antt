@@ -23,6 +23,11 @@ abbrev pub drive_asked : {R : Type 0} → Result (ℕ × R) DriveFault → View 
 drive_asked (Err NoSuchDrive) new = None
 drive_asked result new = last_drive new
 
+-- the drive that was opened
+abbrev pub drive_opened : {R : Type 0} → Result (ℕ × R) DriveFault → Option ℕ
+drive_opened (Ok opened) = Some opened.0
+drive_opened (Err fault) = None
+
 -- what the take found
 abbrev pub found_in_open : {R : Type 0} → Result (ℕ × R) DriveFault → ℕ
 found_in_open (Err (Busy n)) = n

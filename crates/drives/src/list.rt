@@ -1,4 +1,4 @@
-ghost use Rattle.std.specs.Prelude.{◌≡◌, ◌≢◌, ◌⊎◌, ◌<◌, [], ◌∷◌, None, IfOk, IfErr, IsOk};
+ghost use Rattle.std.specs.Prelude.{◌≡◌, ◌≢◌, ◌⊎◌, ℕ, ◌<◌, [], ◌∷◌, None, IfOk, IfErr, IsOk};
 ghost use Rattle.tape.specs.Failures.{Steps};
 ghost use Rattle.tape.specs.Trouble.{IsTapeOf, TroubledTape};
 ghost use Rattle.tape.specs.Tape.{Tape, tape, entries_of};
@@ -68,6 +68,8 @@ impl Stacks for ListStacks {
         requires { drive < 1 }
         ensures step { Steps IsShop self.old self.new (LatchStep IsTapeOf (λ r. r.capacity) drive result) }
         ensures latched { IfOk result (λ _. HasLatched IsShop self.new drive) }
+        ensures stays { IfErr result (λ _. self.new ≡ self.old) }
+        ensures elsewhere { (d : ℕ) → d ≢ drive → HasLatched IsShop self.old d → HasLatched IsShop self.new d }
         ensures faults { IfErr result (λ fault. fault ≡ NoReel) }
         ensures taken { IfOk result (λ reel. (r : TroubledTape) × (self.old.reel ≡ Stack r) × (reel ≡ record r { tape = tape [] (entries_of r.tape) })) }
         ensures quiet { CanReelFail self.new → CanReelFail self.old }
@@ -90,6 +92,7 @@ impl Stacks for ListStacks {
         requires drive { drive < 1 }
         requires latched { HasLatched IsShop self.old drive }
         ensures step { (t : Tape) → IsTapeOf reel t → Steps IsShop self.old self.new (λ s now. now ≡ after_unlatch s drive (entries_of t) reel.capacity) }
+        ensures elsewhere { (d : ℕ) → d ≢ drive → HasLatched IsShop self.old d → HasLatched IsShop self.new d }
         ensures quiet { CanReelFail self.new → CanReelFail self.old ⊎ (reel.trouble ≢ NoTrouble) }
         ensures laid { self.new.reel ≡ Stack reel }
     {
@@ -105,6 +108,7 @@ impl Stacks for ListStacks {
         requires drive { drive < 1 }
         requires latched { HasLatched IsShop self.old drive }
         ensures moved { (t : Tape) → IsTapeOf reel t → Steps IsShop self.old self.new (λ s now. now ≡ after_offline s drive (entries_of t) reel.capacity) }
+        ensures elsewhere { (d : ℕ) → d ≢ drive → HasLatched IsShop self.old d → HasLatched IsShop self.new d }
         ensures quiet { CanReelFail self.new → reel.trouble ≢ NoTrouble }
         ensures laid { self.new.reel ≡ Bin reel }
         ensures done { IsOk result }

@@ -1,4 +1,4 @@
-ghost use Rattle.std.specs.Prelude.{◌≡◌, ◌⊎◌, ℕ, ◌<◌, ◌≤◌, Err, IfSome, IfOk, IfErr, length};
+ghost use Rattle.std.specs.Prelude.{◌≡◌, ◌≢◌, ◌⊎◌, ℕ, ◌<◌, ◌≤◌, Err, IfSome, IfOk, IfErr, length};
 ghost use Rattle.tape.specs.Failures.{Steps};
 ghost use Rattle.tape.specs.Tape.{Tape, entries_of};
 ghost use Rattle.drives.specs.declared.fault.DriveFault.TheVariants.{Device};
@@ -42,6 +42,8 @@ pub trait Stacks {
         requires { drive < drives self.old }
         ensures step { Steps holds self.old self.new (LatchStep Self.Reel.holds Self.Reel.capacity drive result) }
         ensures latched { IfOk result (λ _. HasLatched holds self.new drive) }
+        ensures stays { IfErr result (λ _. (d : ℕ) → HasLatched holds self.old d → HasLatched holds self.new d) }
+        ensures elsewhere { (d : ℕ) → d ≢ drive → HasLatched holds self.old d → HasLatched holds self.new d }
         ensures faults { IfErr result (λ fault. IsLatchFault fault (failures self.old) (failures self.new)) }
         ensures able { result ≡ Err Device → can_fail self.old }
         ensures quiet { can_fail self.new → can_fail self.old }
@@ -54,6 +56,7 @@ pub trait Stacks {
         requires drive { drive < drives self.old }
         requires latched { HasLatched holds self.old drive }
         ensures step { (t : Tape) → Self.Reel.holds reel t → Steps holds self.old self.new (λ s now. now ≡ after_unlatch s drive (entries_of t) (Self.Reel.capacity reel)) }
+        ensures elsewhere { (d : ℕ) → d ≢ drive → HasLatched holds self.old d → HasLatched holds self.new d }
         ensures quiet { can_fail self.new → can_fail self.old ⊎ Self.Reel.can_fail reel }
         ensures counted { failures self.old ≤ failures self.new }
         ensures same_drives { drives self.new ≡ drives self.old };
@@ -69,6 +72,7 @@ pub trait Stacks {
         ensures kept { IfErr result (λ refused. Steps holds self.old self.new (StaysOnline drive refused.1)) }
         ensures back { IfErr result (λ refused. refused.0 ≡ reel) }
         ensures still { IfErr result (λ _. HasLatched holds self.new drive) }
+        ensures elsewhere { (d : ℕ) → d ≢ drive → HasLatched holds self.old d → HasLatched holds self.new d }
         ensures able { IfErr result (λ refused. refused.1 ≡ Device → can_fail self.old) }
         ensures quiet { can_fail self.new → can_fail self.old ⊎ Self.Reel.can_fail reel }
         ensures faults { IfErr result (λ refused. IsOfflineFault refused.1 (failures self.old) (failures self.new)) }

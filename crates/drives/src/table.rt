@@ -2,7 +2,7 @@ ghost use Rattle.std.specs.Prelude.{◌≡◌, ◌≢◌, ℕ, ◌<◌, ◌≤�
 ghost use Rattle.drives.specs.declared.fault.DriveFault.TheVariants.{Device};
 ghost use Rattle.tape.specs.Failures.{Steps};
 ghost use Rattle.drives.specs.Stacking.{HasLatched};
-ghost use Rattle.drives.specs.Opening.{SeatStep, drive_asked, found_in_open, word_after_open, OpenStep, IsOpenFault};
+ghost use Rattle.drives.specs.Opening.{SeatStep, drive_asked, drive_opened, found_in_open, word_after_open, OpenStep, IsOpenFault};
 
 use crate::{DriveFault, Holds, Stacks, Taken};
 
@@ -35,6 +35,7 @@ impl<H: Holds, S: Stacks> DriveTable<H, S> {
         ensures below { IfOk result (λ opened. opened.0 < S.drives self.new.stacks) }
         ensures stacks { Steps S.holds self.old.stacks self.new.stacks (OpenStep S.Reel.holds S.Reel.capacity name.now (drive_asked result (H.shows seat.new)) result) }
         ensures latched { IfOk result (λ opened. HasLatched S.holds self.new.stacks opened.0) }
+        ensures elsewhere { (d : ℕ) → drive_opened result ≢ Some d → HasLatched S.holds self.old.stacks d → HasLatched S.holds self.new.stacks d }
         ensures faults { IfErr result (λ fault. IsOpenFault fault (S.failures self.old.stacks) (S.failures self.new.stacks)) }
         ensures able { result ≡ Err Device → S.can_fail self.old.stacks }
         ensures quiet { S.can_fail self.new.stacks → S.can_fail self.old.stacks }

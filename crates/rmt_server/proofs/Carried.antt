@@ -1,5 +1,5 @@
 -- Each request that is carried out is a serve step where stacks and reel tell, and leaves the drives those of the session.
-use Rattle.std.proofs.Common.{◌≡◌, ℕ, ◌<◌, Bool, true, false, List, Option, Some, None, MatchOption, refl, ap, subst, ◌∙◌, inl, inr, arith}
+use Rattle.std.proofs.Common.{◌≡◌, ℕ, ◌<◌, Bool, true, false, List, Option, Some, None, MatchOption, refl, sym, ap, subst, ◌∙◌, inl, inr, arith}
 use Rattle.rmt_wire.specs.Request.{PlainRequest}
 use Rattle.rmt_wire.specs.Request.PlainRequest.{Open, Close, Write, WriteDropped, Read, Op}
 use Rattle.rmt_wire.specs.Reply.{PlainReply}
@@ -169,12 +169,12 @@ module _ {H S Seat R : Type 0} (h : HoldsPromise H Seat) (s : StacksPromise S R)
   opens-at None device reply new seat' opened' at (e, n, same, o) = rw (n, same, o) at
   opens-at (Some access) device reply new seat' opened' at (result, e, o) = o.at
 
-  same-kept : (drives : DriveTable H S Seat R) → drives ≡ old → KeepsDrives h s old drives seat
-  same-kept drives n = rw n (record { others = λ other x b. b; same_holds = refl; same_stacks = refl; counted = omega arith })
+  same-kept : (drives : DriveTable H S Seat R) (drive drive' : Option ℕ) → drives ≡ old → KeepsDrives h s old drives seat drive drive'
+  same-kept drives drive drive' n = rw n (record { others = λ other x b. b; same_holds = refl; same_stacks = refl; counted = omega arith; elsewhere = λ d x y l. l })
 
   opens-kept : (access : Option Access) (device : List ℕ) (reply : PlainReply) (new : DriveTable H S Seat R) (seat' : Seat) (opened' : Option (Opened R))
-      → OpensFor h s r old seat device access reply new seat' opened' → KeepsDrives h s old new seat
-  opens-kept None device reply new seat' opened' (e, n, same, o) = same-kept new n
+      → OpensFor h s r old seat device access reply new seat' opened' → KeepsDrives h s old new seat None (drive_of opened')
+  opens-kept None device reply new seat' opened' (e, n, same, o) = same-kept new None (drive_of opened') n
   opens-kept (Some access) device reply new seat' opened' (result, e, o) = o.kept
 
   closes-at : (opened : Option (Opened R)) (reply : PlainReply) (new : DriveTable H S Seat R) (seat' : Seat) (opened' : Option (Opened R))
@@ -183,9 +183,9 @@ module _ {H S Seat R : Type 0} (h : HoldsPromise H Seat) (s : StacksPromise S R)
   closes-at (Some device) reply new seat' opened' at (e, o, c) = rw o c.at
 
   closes-kept : (opened : Option (Opened R)) (reply : PlainReply) (new : DriveTable H S Seat R) (seat' : Seat) (opened' : Option (Opened R))
-      → Closes h s r old seat opened reply new seat' opened' → KeepsDrives h s old new seat
-  closes-kept None reply new seat' opened' (e, n, same, o) = same-kept new n
-  closes-kept (Some device) reply new seat' opened' (e, o, c) = c.kept
+      → Closes h s r old seat opened reply new seat' opened' → KeepsDrives h s old new seat (drive_of opened) (drive_of opened')
+  closes-kept None reply new seat' opened' (e, n, same, o) = same-kept new None (drive_of opened') n
+  closes-kept (Some device) reply new seat' opened' (e, o, c) = subst (λ p. KeepsDrives h s old new seat (Some device.drive) (drive_of p)) (sym o) c.kept
 
 module _ {H S Seat R : Type 0} (h : HoldsPromise H Seat) (s : StacksPromise S R) (r : ReelPromise R)
     (old : DriveTable H S Seat R) (seat : Seat) where
@@ -234,13 +234,14 @@ same-number v (Some d) = refl
 
 module _ {H S Seat R : Type 0} (h : HoldsPromise H Seat) (s : StacksPromise S R) (r : ReelPromise R)
     (old : DriveTable H S Seat R) (seat : Seat) (opened : Option (Opened R)) where
-  joined-kept : (between new : DriveTable H S Seat R) (rested : Seat)
-      → (h.shows rested).number ≡ (h.shows seat).number → KeepsDrives h s old between seat → KeepsDrives h s between new rested → KeepsDrives h s old new seat
-  joined-kept between new rested e a b = record {
+  joined-kept : (between new : DriveTable H S Seat R) (rested : Seat) (drive drive' : Option ℕ)
+      → (h.shows rested).number ≡ (h.shows seat).number → KeepsDrives h s old between seat drive None → KeepsDrives h s between new rested None drive' → KeepsDrives h s old new seat drive drive'
+  joined-kept between new rested drive drive' e a b = record {
     others = λ other x o. b.others other (λ y. x (y ∙ e)) (a.others other x o);
     same_holds = b.same_holds ∙ a.same_holds;
     same_stacks = b.same_stacks ∙ a.same_stacks;
     counted = omega (arith, a.counted, b.counted);
+    elsewhere = λ d x y l. b.elsewhere d (λ z. absurd cc) y (a.elsewhere d x (λ z. absurd cc) l);
   }
 
   op-at : (offline : Bool) (op count : ℕ) (reply : PlainReply) (new : DriveTable H S Seat R) (seat' : Seat) (opened' : Option (Opened R))
@@ -249,9 +250,9 @@ module _ {H S Seat R : Type 0} (h : HoldsPromise H Seat) (s : StacksPromise S R)
   op-at false op count reply new seat' opened' at e (n, c) = reel-at h s r old seat opened opened' (Op op count) reply new seat' at n e c
 
   op-kept : (offline : Bool) (op count : ℕ) (reply : PlainReply) (new : DriveTable H S Seat R) (opened' : Option (Opened R))
-      → Operates s r offline old opened op count reply new opened' → KeepsDrives h s old new seat
+      → Operates s r offline old opened op count reply new opened' → KeepsDrives h s old new seat (drive_of opened) (drive_of opened')
   op-kept true op count reply new opened' m = moves-off-kept h s r old seat opened op count reply new opened' m
-  op-kept false op count reply new opened' (n, c) = same-kept h s r old seat new n
+  op-kept false op count reply new opened' (n, c) = same-kept h s r old seat new (drive_of opened) (drive_of opened') n
 
   op-quiet : (offline : Bool) (op count : ℕ) (reply : PlainReply) (new : DriveTable H S Seat R) (opened' : Option (Opened R))
       → Operates s r offline old opened op count reply new opened' → CanFail s r new.stacks opened' → CanFail s r old.stacks opened
@@ -268,14 +269,14 @@ module _ {H S Seat R : Type 0} (h : HoldsPromise H Seat) (s : StacksPromise S R)
   carried-at (Op op count) reply new seat' opened' at (e, c) = op-at (is_offline op) op count reply new seat' opened' at e c
 
   carried-kept : (request : PlainRequest) (reply : PlainReply) (new : DriveTable H S Seat R) (seat' : Seat) (opened' : Option (Opened R))
-      → CarriesOut h s r old seat opened request reply new seat' opened' → KeepsDrives h s old new seat
+      → CarriesOut h s r old seat opened request reply new seat' opened' → KeepsDrives h s old new seat (drive_of opened) (drive_of opened')
   carried-kept (Open device mode) reply new seat' opened' (between, rested, c, o) =
-      joined-kept between new rested (ap (λ (v : View). v.number) c.view ∙ same-number (h.shows seat) (drive_of opened)) c.kept
+      joined-kept between new rested (drive_of opened) (drive_of opened') (ap (λ (v : View). v.number) c.view ∙ same-number (h.shows seat) (drive_of opened)) c.kept
       (opens-kept h s r between rested (access_of mode) device reply new seat' opened' o)
   carried-kept Close reply new seat' opened' c = closes-kept h s r old seat opened reply new seat' opened' c
-  carried-kept (Write bytes) reply new seat' opened' (n, e, c) = same-kept h s r old seat new n
-  carried-kept (WriteDropped count) reply new seat' opened' (n, e, c) = same-kept h s r old seat new n
-  carried-kept (Read count) reply new seat' opened' (n, e, c) = same-kept h s r old seat new n
+  carried-kept (Write bytes) reply new seat' opened' (n, e, c) = same-kept h s r old seat new (drive_of opened) (drive_of opened') n
+  carried-kept (WriteDropped count) reply new seat' opened' (n, e, c) = same-kept h s r old seat new (drive_of opened) (drive_of opened') n
+  carried-kept (Read count) reply new seat' opened' (n, e, c) = same-kept h s r old seat new (drive_of opened) (drive_of opened') n
   carried-kept (Op op count) reply new seat' opened' (e, c) = op-kept (is_offline op) op count reply new opened' c
 
   opens-steps : (access : Option Access) (device : List ℕ) (reply : PlainReply) (between new : DriveTable H S Seat R) (rested seat' : Seat) (opened' : Option (Opened R))

@@ -1,5 +1,5 @@
 -- A move of the open reel to the bin.
-use Rattle.std.proofs.Common.{◌≡◌, ℕ, ◌≤◌, ◌⊎◌, Bool, true, false, IsTrue, Option, Some, None, MatchOption, Result, Ok, Err, refl, ap, subst, ◌∙◌, sym, inl, inr, arith}
+use Rattle.std.proofs.Common.{◌≡◌, ◌≢◌, ℕ, ◌≤◌, ◌⊎◌, Bool, true, false, IsTrue, Option, Some, None, MatchOption, Result, Ok, Err, refl, ap, subst, ◌∙◌, sym, inl, inr, arith}
 use Rattle.rmt_wire.specs.Request.PlainRequest.{Op}
 use Rattle.rmt_wire.specs.Reply.{PlainReply}
 use Rattle.tape.specs.Tape.{Tape}
@@ -13,6 +13,7 @@ use Rattle.tape.specs.Failures.{HasRisen}
 use Rattle.drives.specs.declared.fault.DriveFault.{DriveFault}
 use Rattle.drives.specs.declared.fault.DriveFault.TheVariants.{NoSuchDrive, Busy, NoReel, Device, OutOfMemory, NameTaken}
 use Rattle.rmt_server.specs.declared.refusal.Refusal.{Refusal}
+use Rattle.drives.specs.Stacking.{HasLatched}
 use Rattle.rmt_server.specs.Refusals.{refused}
 use Rattle.rmt_server.specs.Session.{Scene, plain_reel, scene, status_of, refusal, IsMoveExcused, move_reply, OpStep}
 use Rattle.rmt_server.specs.Session.PlainSession.{Offline, Online}
@@ -202,24 +203,27 @@ module _ {H S Seat R : Type 0} (h : HoldsPromise H Seat) (s : StacksPromise S R)
       → IsAt h s old seat opened → MovesOff s r old opened op count reply new opened' → IsAt h s new seat opened'
   moves-off-at opened op count reply new opened' at m = moves-at opened (refusal (status_at opened) (Op op count)) count reply new opened' at m
 
-  kept-after : (new : DriveTable H S Seat R) → new.holds ≡ old.holds → s.drives new.stacks ≡ s.drives old.stacks → s.failures old.stacks ≤ s.failures new.stacks
-      → KeepsDrives h s old new seat
-  kept-after new e d f = record { others = rw e (λ other x b. b); same_holds = rw e refl; same_stacks = d; counted = f }
+  kept-after : (new : DriveTable H S Seat R) (drive drive' : Option ℕ) → new.holds ≡ old.holds → s.drives new.stacks ≡ s.drives old.stacks → s.failures old.stacks ≤ s.failures new.stacks
+      → ((d : ℕ) → drive ≢ Some d → HasLatched s.holds old.stacks d → HasLatched s.holds new.stacks d)
+      → KeepsDrives h s old new seat drive drive'
+  kept-after new drive drive' e d f l = record { others = rw e (λ other x b. b); same_holds = rw e refl; same_stacks = d; counted = f; elsewhere = λ k n m. l k n }
 
   moves-in-kept : (device : Opened R) (lying : Option R) (count : ℕ) (reply : PlainReply) (new : DriveTable H S Seat R) (opened' : Option (Opened R))
-      → MovesIn s r old device lying count reply new opened' → KeepsDrives h s old new seat
+      → MovesIn s r old device lying count reply new opened' → KeepsDrives h s old new seat (Some device.drive) (drive_of opened')
   moves-in-kept device None count reply new opened' m = absurd m
-  moves-in-kept device (Some reel) count reply new opened' (result, e, m) = kept-after new m.holds m.same_stacks m.counted
+  moves-in-kept device (Some reel) count reply new opened' (result, e, m) =
+      kept-after new (Some device.drive) (drive_of opened') m.holds m.same_stacks m.counted (λ d n. m.elsewhere d (λ x. n (ap Some (sym x))))
 
   moves-kept : (opened : Option (Opened R)) (by : Option Refusal) (count : ℕ) (reply : PlainReply) (new : DriveTable H S Seat R) (opened' : Option (Opened R))
       → MatchOption by (MovesReel s r old opened count reply new opened') (λ x. (reply ≡ refused x) × (new ≡ old) × (opened' ≡ opened))
-      → KeepsDrives h s old new seat
+      → KeepsDrives h s old new seat (drive_of opened) (drive_of opened')
   moves-kept None None count reply new opened' m = absurd m
   moves-kept (Some device) None count reply new opened' m = moves-in-kept device device.reel count reply new opened' m
-  moves-kept opened (Some x) count reply new opened' (e, n, o) = kept-after new (ap (λ (d : DriveTable H S Seat R). d.holds) n) (ap (λ (d : DriveTable H S Seat R). s.drives d.stacks) n) (rw n (omega arith))
+  moves-kept opened (Some x) count reply new opened' (e, n, o) =
+      kept-after new (drive_of opened) (drive_of opened') (ap (λ (d : DriveTable H S Seat R). d.holds) n) (ap (λ (d : DriveTable H S Seat R). s.drives d.stacks) n) (rw n (omega arith)) (rw n (λ d m l. l))
 
   pub moves-off-kept : (opened : Option (Opened R)) (op count : ℕ) (reply : PlainReply) (new : DriveTable H S Seat R) (opened' : Option (Opened R))
-      → MovesOff s r old opened op count reply new opened' → KeepsDrives h s old new seat
+      → MovesOff s r old opened op count reply new opened' → KeepsDrives h s old new seat (drive_of opened) (drive_of opened')
   moves-off-kept opened op count reply new opened' m = moves-kept opened (refusal (status_at opened) (Op op count)) count reply new opened' m
 
 module _ {H S Seat R : Type 0} (s : StacksPromise S R) (r : ReelPromise R) (old : DriveTable H S Seat R) where

@@ -101,12 +101,15 @@ abbrev pub view_after_close : View → Option ℕ → View
 view_after_close v None = v
 view_after_close v (Some drive) = given v drive
 
--- the counts of drives stay, that of failures does not fall, and other seats hold what they held
-pub record KeepsDrives {H S Seat R : Type 0} (h : HoldsPromise H Seat) (s : StacksPromise S R) (old new : DriveTable H S Seat R) (seat : Seat) : Type 0 where
+-- The counts of drives stay, that of failures does not fall, other seats hold what they held, and reels stay latched
+-- in other drives than those that were open before and after.
+pub record KeepsDrives {H S Seat R : Type 0} (h : HoldsPromise H Seat) (s : StacksPromise S R) (old new : DriveTable H S Seat R) (seat : Seat)
+    (drive drive' : Option ℕ) : Type 0 where
   pub others : (other : Seat) → (h.shows other).number ≢ (h.shows seat).number → h.belongs old.holds other → h.belongs new.holds other
   pub same_holds : h.drives new.holds ≡ h.drives old.holds
   pub same_stacks : s.drives new.stacks ≡ s.drives old.stacks
   pub counted : s.failures old.stacks ≤ s.failures new.stacks
+  pub elsewhere : (d : ℕ) → drive ≢ Some d → drive' ≢ Some d → HasLatched s.holds old.stacks d → HasLatched s.holds new.stacks d
 
 -- What was open is closed: a latched reel lies on its stack again, and the drive is given back. Where nothing was
 -- open nothing is done.
@@ -116,7 +119,7 @@ pub record IsClosed {H S Seat R : Type 0} (h : HoldsPromise H Seat) (s : StacksP
   pub step : (v : Scene) → Tells s r old.stacks opened v → s.holds new.stacks (closed v).shop
   pub view : h.shows seat' ≡ view_after_close (h.shows seat) (drive_of opened)
   pub told : (d n : ℕ) → h.tells old.holds d n → h.tells new.holds d (word_after_close (drive_of opened) d n)
-  pub kept : KeepsDrives h s old new seat
+  pub kept : KeepsDrives h s old new seat (drive_of opened) None
   -- a device can fail then only where one can before
   pub quiet : CanFail s r new.stacks None → CanFail s r old.stacks opened
   pub idle : opened ≡ None → (new ≡ old) × (seat' ≡ seat)
@@ -174,7 +177,7 @@ pub record IsOpenedFor {H S Seat R : Type 0} (h : HoldsPromise H Seat) (s : Stac
   pub stacks : Steps s.holds old.stacks new.stacks (OpenStep r.holds r.capacity device (drive_asked result (h.shows seat')) result)
   pub fault : IsFaultOf result (s.failures old.stacks) (s.failures new.stacks)
   pub able : result ≡ Err Device → s.can_fail old.stacks
-  pub kept : KeepsDrives h s old new seat
+  pub kept : KeepsDrives h s old new seat None (drive_of opened)
   pub quiet : CanFail s r new.stacks opened → s.can_fail old.stacks
 
 -- An open while nothing is open: of a mode that is none nothing is done.
@@ -230,6 +233,7 @@ pub record IsMoved {H S Seat R : Type 0} (s : StacksPromise S R) (r : ReelPromis
   pub quiet : s.can_fail new.stacks → s.can_fail old.stacks ⊎ r.can_fail rested
   pub same_stacks : s.drives new.stacks ≡ s.drives old.stacks
   pub counted : s.failures old.stacks ≤ s.failures new.stacks
+  pub elsewhere : (d : ℕ) → d ≢ device.drive → HasLatched s.holds old.stacks d → HasLatched s.holds new.stacks d
 
 abbrev pub MovesIn : {H S Seat R : Type 0} → StacksPromise S R → ReelPromise R → DriveTable H S Seat R → Opened R → Option R → ℕ → PlainReply
     → DriveTable H S Seat R → Option (Opened R) → Type 0
@@ -349,8 +353,8 @@ pub record IsCarriedOut {H S Seat R : Type 0} (h : HoldsPromise H Seat) (s : Sta
   pub steps : SeatSteps request (h.shows seat) (drive_of opened) reply (h.shows seat') (drive_of opened')
   -- the drives are still those of the seat and of what is open
   pub at : IsAt h s new seat' opened'
-  -- the counts of drives stay, that of failures does not fall, and other seats hold what they held
-  pub kept : KeepsDrives h s old new seat
+  -- the counts of drives stay, that of failures does not fall, and other seats and their latched reels are as before
+  pub kept : KeepsDrives h s old new seat (drive_of opened) (drive_of opened')
   -- a device can fail then only where one can before
   pub quiet : CanFail s r new.stacks opened' → CanFail s r old.stacks opened
 

@@ -1,5 +1,5 @@
 //! Opening and closing a drive.
-ghost use Rattle.std.specs.Prelude.{◌≡◌, ◌⊎◌, ℕ, ◌<◌, ◌≤◌, Some, None, IfOk};
+ghost use Rattle.std.specs.Prelude.{◌≡◌, ◌≢◌, ◌⊎◌, ℕ, ◌<◌, ◌≤◌, Some, None, IfOk};
 ghost use Rattle.drives.specs.Shop.{Shop};
 ghost use Rattle.drives.specs.Stacking.{HasLatched};
 ghost use Rattle.rmt_server.specs.Session.{PlainSession, closed_shop};
@@ -18,6 +18,7 @@ fn put_back<S: Stacks>(stacks: &mut S, drive: usize, reel: Option<S::Reel>)
     requires drive { drive < S.drives stacks.old }
     requires latched { (d : ℕ) → online_in drive reel ≡ Some d → HasLatched S.holds stacks.old d }
     ensures step { (access : AccessOf) (shop : Shop) (session : PlainSession) → S.holds stacks.old shop → IsSeenWith S.Reel.Reel drive access reel session → S.holds stacks.new (closed_shop shop session) }
+    ensures elsewhere { (d : ℕ) → d ≢ drive → HasLatched S.holds stacks.old d → HasLatched S.holds stacks.new d }
     ensures quiet { S.can_fail stacks.new → S.can_fail stacks.old ⊎ ReelCanFail S.Reel.Reel reel }
     ensures counted { S.failures stacks.old ≤ S.failures stacks.new }
     ensures same_drives { S.drives stacks.new ≡ S.drives stacks.old }

@@ -1,4 +1,4 @@
-use Rattle.std.proofs.Common.{inl, inr, refl, sym, subst, arith}
+use Rattle.std.proofs.Common.{Some, inl, inr, refl, sym, ap, subst, arith}
 use Rattle.rmt_server.specs.Carrying.{IsAt}
 use Rattle.rmt_server.proofs.Seats.{HoldsJust-given}
 use Rattle.rmt_server.proofs.session.drive.close.Goals as goal
@@ -32,6 +32,7 @@ returns-clause-closed g c =
         same_holds = c.give.ensures.same_drives;
         same_stacks = c.put_back.ensures.same_drives;
         counted = c.put_back.ensures.counted;
+        elsewhere = λ d x y. c.put_back.ensures.elsewhere d (λ e. x (ap Some (sym e)));
       };
       quiet = λ f. elim f [ inl x ↦ c.put_back.ensures.quiet x | inr x ↦ absurd x ];
       idle = λ e. absurd cc;

@@ -23,6 +23,7 @@ returns-in-Ok-clause-moves g c =
       quiet = c.in-Ok.ensures.quiet;
       same_stacks = c.in-Ok.ensures.same_drives;
       counted = c.in-Ok.ensures.counted;
+      elsewhere = c.in-Ok.ensures.elsewhere;
     }
 
 pub returns-in-Err-clause-moves : goal.returns-in-Err-clause-moves
@@ -40,4 +41,5 @@ returns-in-Err-clause-moves g c =
       quiet = c.in-Err.ensures.quiet;
       same_stacks = c.in-Err.ensures.same_drives;
       counted = c.in-Err.ensures.counted;
+      elsewhere = c.in-Err.ensures.elsewhere;
     }
