@@ -4,6 +4,7 @@ pub mod Opens
 pub mod Moving
 pub mod Carried
 pub mod Alone
+pub mod Sharing
 pub mod Spelling
 pub mod Takes
 pub mod Serving

@@ -2,11 +2,13 @@
 #![tactic(auto)]
 
 mod access;
+mod laws;
 mod refusal;
 mod session;
 mod stream;
 #[cfg(test)]
 mod tests;
 
+pub use laws::one_holder;
 pub use session::Session;
 pub use stream::{ServeFault, Served, serve};
