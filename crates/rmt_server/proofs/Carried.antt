@@ -16,7 +16,7 @@ use Rattle.drives.specs.Opening.{drive_asked, found_in_open}
 use Rattle.rmt_server.specs.Session.{Scene, scene, status_of, refusal, is_offline, closed, session_after}
 use Rattle.rmt_server.specs.Refusals.{refused}
 use Rattle.rmt_server.specs.Carrying.{drive_of, online_drive, view_after_close, IsAt, Tells, KeepsDrives, IsClosed, OpensFor, Closes, CarriesOut, CallsIn, CallsReel, ReelServes, status_at, status_in, reel_of, ReelCanFail, CanFail, Operates, IsServed, IsCarriedOut, TakesFor, SeatSteps}
-use Rattle.rmt_server.proofs.Takes.{open-takes, invalid-takes}
+use Rattle.rmt_server.proofs.Takes.{open-takes, open-number, invalid-takes}
 use Rattle.rmt_server.proofs.Steps.{ReelServed, reel-serves, status-seen}
 use Rattle.rmt_server.proofs.Moving.{op-served, moves-off-at, moves-off-kept, moves-off-quiet}
 use Rattle.rmt_server.proofs.Opens.{is_device, is_device-means, is_device-is, HasRisen-earlier, asked-last, busy-asked, is-excused, open-seen}
@@ -228,10 +228,6 @@ module _ {H S Seat R : Type 0} (h : HoldsPromise H Seat) (s : StacksPromise S R)
   closes-steps None reply new seat' opened' (e, n, same, o) = ap h.shows same
   closes-steps (Some device) reply new seat' opened' (e, o, c) = c.view
 
-same-number : (v : View) (drive : Option ℕ) → (view_after_close v drive).number ≡ v.number
-same-number v None = refl
-same-number v (Some d) = refl
-
 module _ {H S Seat R : Type 0} (h : HoldsPromise H Seat) (s : StacksPromise S R) (r : ReelPromise R)
     (old : DriveTable H S Seat R) (seat : Seat) (opened : Option (Opened R)) where
   joined-kept : (between new : DriveTable H S Seat R) (rested : Seat) (drive drive' : Option ℕ)
@@ -271,13 +267,32 @@ module _ {H S Seat R : Type 0} (h : HoldsPromise H Seat) (s : StacksPromise S R)
   carried-kept : (request : PlainRequest) (reply : PlainReply) (new : DriveTable H S Seat R) (seat' : Seat) (opened' : Option (Opened R))
       → CarriesOut h s r old seat opened request reply new seat' opened' → KeepsDrives h s old new seat (drive_of opened) (drive_of opened')
   carried-kept (Open device mode) reply new seat' opened' (between, rested, c, o) =
-      joined-kept between new rested (drive_of opened) (drive_of opened') (ap (λ (v : View). v.number) c.view ∙ same-number (h.shows seat) (drive_of opened)) c.kept
+      joined-kept between new rested (drive_of opened) (drive_of opened') c.number c.kept
       (opens-kept h s r between rested (access_of mode) device reply new seat' opened' o)
   carried-kept Close reply new seat' opened' c = closes-kept h s r old seat opened reply new seat' opened' c
   carried-kept (Write bytes) reply new seat' opened' (n, e, c) = same-kept h s r old seat new (drive_of opened) (drive_of opened') n
   carried-kept (WriteDropped count) reply new seat' opened' (n, e, c) = same-kept h s r old seat new (drive_of opened) (drive_of opened') n
   carried-kept (Read count) reply new seat' opened' (n, e, c) = same-kept h s r old seat new (drive_of opened) (drive_of opened') n
   carried-kept (Op op count) reply new seat' opened' (e, c) = op-kept (is_offline op) op count reply new opened' c
+
+  opens-number : (access : Option Access) (device : List ℕ) (reply : PlainReply) (between new : DriveTable H S Seat R) (rested seat' : Seat) (opened' : Option (Opened R))
+      → OpensFor h s r between rested device access reply new seat' opened' → (h.shows seat').number ≡ (h.shows rested).number
+  opens-number None device reply between new rested seat' opened' (x, n, same, o) = ap (λ x. (h.shows x).number) same
+  opens-number (Some access) device reply between new rested seat' opened' (result, x, o) = open-number result (h.shows rested) (h.shows seat') o.view
+
+  closes-number : (before : Option (Opened R)) (reply : PlainReply) (new : DriveTable H S Seat R) (seat' : Seat) (opened' : Option (Opened R))
+      → Closes h s r old seat before reply new seat' opened' → (h.shows seat').number ≡ (h.shows seat).number
+  closes-number None reply new seat' opened' (e, n, same, o) = ap (λ x. (h.shows x).number) same
+  closes-number (Some device) reply new seat' opened' (e, o, c) = c.number
+
+  carried-number : (request : PlainRequest) (reply : PlainReply) (new : DriveTable H S Seat R) (seat' : Seat) (opened' : Option (Opened R))
+      → CarriesOut h s r old seat opened request reply new seat' opened' → (h.shows seat').number ≡ (h.shows seat).number
+  carried-number (Open device mode) reply new seat' opened' (between, rested, c, o) = opens-number (access_of mode) device reply between new rested seat' opened' o ∙ c.number
+  carried-number Close reply new seat' opened' c = closes-number opened reply new seat' opened' c
+  carried-number (Write bytes) reply new seat' opened' (n, e, c) = ap (λ x. (h.shows x).number) e
+  carried-number (WriteDropped count) reply new seat' opened' (n, e, c) = ap (λ x. (h.shows x).number) e
+  carried-number (Read count) reply new seat' opened' (n, e, c) = ap (λ x. (h.shows x).number) e
+  carried-number (Op op count) reply new seat' opened' (e, c) = ap (λ x. (h.shows x).number) e
 
   opens-steps : (access : Option Access) (device : List ℕ) (reply : PlainReply) (between new : DriveTable H S Seat R) (rested seat' : Seat) (opened' : Option (Opened R))
       → h.shows rested ≡ view_after_close (h.shows seat) (drive_of opened) → OpensFor h s r between rested device access reply new seat' opened'
@@ -313,6 +328,7 @@ module _ {H S Seat R : Type 0} (h : HoldsPromise H Seat) (s : StacksPromise S R)
     effect = c;
     step = serves-step h s r old seat opened request reply new seat' opened' c;
     steps = carried-steps request reply new seat' opened' c;
+    number = carried-number request reply new seat' opened' c;
     at = carried-at request reply new seat' opened' at c;
     kept = carried-kept request reply new seat' opened' c;
     quiet = carried-quiet request reply new seat' opened' c;

@@ -1,5 +1,5 @@
 -- The steps of a seat in a request.
-use Rattle.std.proofs.Common.{◌≡◌, ◌≢◌, ℕ, List, Option, Some, None, Result, Ok, Err, refl, arith}
+use Rattle.std.proofs.Common.{◌≡◌, ◌≢◌, ℕ, List, Option, Some, None, Result, Ok, Err, refl, ap, arith}
 use Rattle.rmt_wire.specs.Reply.PlainReply.{Error}
 use Rattle.rmt_server.specs.declared.access.Access.{Access}
 use Rattle.rmt_server.specs.declared.refusal.Refusal.TheVariants.{Busy, Invalid}
@@ -40,6 +40,16 @@ open-takes before given_back access (Err drive.NoReel) rested after e s = record
 open-takes before given_back access (Err drive.Device) rested after e s = record { accepted = λ r. absurd cc; busy = λ r. absurd (not-busy 5 _ (λ x. absurd (omega arith)) r) }
 open-takes before given_back access (Err drive.OutOfMemory) rested after e s = record { accepted = λ r. absurd cc; busy = λ r. absurd (not-busy 12 _ (λ x. absurd (omega arith)) r) }
 open-takes before given_back access (Err drive.NameTaken) rested after e s = record { accepted = λ r. absurd cc; busy = λ r. absurd (not-busy 5 _ (λ x. absurd (omega arith)) r) }
+
+-- an open leaves the seat its number
+pub open-number : {R : Type 0} (result : Result (ℕ × R) DriveFault) (rested after : View) → SeatStep result rested after → after.number ≡ rested.number
+open-number (Ok opened) rested after s = ap (λ (v : View). v.number) s.3
+open-number (Err drive.NoSuchDrive) rested after s = ap (λ (v : View). v.number) s
+open-number (Err (drive.Busy n)) rested after s = ap (λ (v : View). v.number) s.1.1
+open-number (Err drive.NoReel) rested after s = ap (λ (v : View). v.number) s.1
+open-number (Err drive.Device) rested after s = ap (λ (v : View). v.number) s.1
+open-number (Err drive.OutOfMemory) rested after s = ap (λ (v : View). v.number) s.1
+open-number (Err drive.NameTaken) rested after s = absurd s
 
 -- an open for no access takes nothing
 pub invalid-takes : (before after : View) (given_back opened : Option ℕ) → TakesFor before given_back (refused Invalid) after opened

@@ -118,6 +118,7 @@ pub record IsClosed {H S Seat R : Type 0} (h : HoldsPromise H Seat) (s : StacksP
   pub at : IsAt h s new seat' None
   pub step : (v : Scene) → Tells s r old.stacks opened v → s.holds new.stacks (closed v).shop
   pub view : h.shows seat' ≡ view_after_close (h.shows seat) (drive_of opened)
+  pub number : (h.shows seat').number ≡ (h.shows seat).number
   pub told : (d n : ℕ) → h.tells old.holds d n → h.tells new.holds d (word_after_close (drive_of opened) d n)
   pub kept : KeepsDrives h s old new seat (drive_of opened) None
   -- a device can fail then only where one can before
@@ -351,6 +352,8 @@ pub record IsCarriedOut {H S Seat R : Type 0} (h : HoldsPromise H Seat) (s : Sta
   pub step : (before : Scene) → Tells s r old.stacks opened before → IsServed h s r old opened request reply new seat' opened' before
   -- the steps of the seat at the drives
   pub steps : SeatSteps request (h.shows seat) (drive_of opened) reply (h.shows seat') (drive_of opened')
+  -- the seat keeps its number
+  pub number : (h.shows seat').number ≡ (h.shows seat).number
   -- the drives are still those of the seat and of what is open
   pub at : IsAt h s new seat' opened'
   -- the counts of drives stay, that of failures does not fall, and other seats and their latched reels are as before

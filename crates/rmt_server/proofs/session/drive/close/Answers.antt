@@ -1,4 +1,5 @@
 use Rattle.std.proofs.Common.{Some, inl, inr, refl, sym, ap, subst, arith}
+use Rattle.drives.specs.declared.view.View.{View}
 use Rattle.rmt_server.specs.Carrying.{IsAt}
 use Rattle.rmt_server.proofs.Seats.{HoldsJust-given}
 use Rattle.rmt_server.proofs.session.drive.close.Goals as goal
@@ -26,6 +27,7 @@ returns-clause-closed g c =
       };
       step = λ v t. c.put_back.ensures.step _ v.shop v.session t.shop t.session;
       view = c.give.ensures.step;
+      number = ap (λ (v : View). v.number) c.give.ensures.step;
       told = c.give.ensures.told;
       kept = record {
         others = c.give.ensures.others;
