@@ -1,3 +1,5 @@
 pub mod Held
-pub mod OneReel
+pub mod ListShop
 pub mod Seats
+pub mod Shops
+pub mod Elsewhere

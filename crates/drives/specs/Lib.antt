@@ -3,4 +3,4 @@ pub mod Local
 pub mod Shop
 pub mod Stacking
 pub mod Opening
-pub mod OneReel
+pub mod ListShop

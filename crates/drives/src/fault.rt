@@ -1,3 +1,4 @@
+use std::alloc::AllocError;
 use thiserror::Error;
 
 /// Why a drive was not opened, or a reel not moved. After each the seat holds what it held before, and stacks and
@@ -22,4 +23,15 @@ pub enum DriveFault {
     /// The bin has a reel of that name.
     #[error("NameTaken")]
     NameTaken,
+}
+
+impl From<AllocError> for DriveFault {
+    ghost use Rattle.std.specs.Prelude.{◌≡◌};
+    ghost use Rattle.drives.specs.declared.fault.DriveFault.TheVariants.{OutOfMemory};
+
+    ghost from_gives = { λ _ e. e ≡ OutOfMemory };
+
+    fn from(_: AllocError) -> DriveFault {
+        DriveFault::OutOfMemory
+    }
 }

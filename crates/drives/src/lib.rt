@@ -7,7 +7,9 @@
 mod fault;
 mod holds;
 mod list;
+mod listed;
 mod local;
+mod rack;
 mod stacks;
 mod table;
 mod taken;
@@ -18,6 +20,7 @@ mod view;
 pub use fault::DriveFault;
 pub use holds::Holds;
 pub use list::ListStacks;
+pub use listed::ListedReel;
 pub use local::{LocalHolds, LocalSeat};
 pub use stacks::Stacks;
 pub use table::DriveTable;

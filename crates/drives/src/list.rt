@@ -1,129 +1,304 @@
-ghost use Rattle.std.specs.Prelude.{◌≡◌, ◌≢◌, ◌⊎◌, ℕ, ◌<◌, [], ◌∷◌, None, IfOk, IfErr, IsOk};
+ghost use Rattle.std.specs.Prelude.{◌≡◌, ◌≢◌, ◌⊎◌, ◌<◌, ℕ, IfOk, IfErr, IfSome, Err, None, MatchBool, length};
 ghost use Rattle.tape.specs.Failures.{Steps};
-ghost use Rattle.tape.specs.Trouble.{IsTapeOf, TroubledTape};
-ghost use Rattle.tape.specs.Tape.{Tape, tape, entries_of};
+ghost use Rattle.tape.specs.Trouble.{IsTapeOf};
+ghost use Rattle.tape.specs.Tape.{Tape, entries_of};
 ghost use Rattle.tape.specs.declared.trouble.Trouble.TheVariants.{None as NoTrouble};
-ghost use Rattle.drives.specs.declared.fault.DriveFault.TheVariants.{NoReel};
-ghost use Rattle.drives.specs.declared.list.ReelPlace.TheVariants.{Stack, Bin};
-ghost use Rattle.drives.specs.OneReel.{the_drive, the_reel, IsShop, CanReelFail};
-ghost use Rattle.drives.specs.Shop.{shop, rack, kept, after_unlatch, after_offline};
-ghost use Rattle.drives.specs.Stacking.{LatchStep, HasLatched};
+ghost use Rattle.drives.specs.declared.fault.DriveFault.TheVariants.{Device};
+ghost use Rattle.drives.specs.ListShop.{IsShop, CanFail, empty_shop, shop_of, after_failure, with_shop, IsDriveAdded, IsReelAdded, IsLatched, IsMoved};
+ghost use Rattle.drives.specs.Shop.{Shop, IsDriveNamed, rack_at, times, names_in, EachReelOnce, at_first, after_unlatch, after_offline};
+ghost use Rattle.drives.specs.Stacking.{LatchStep, StaysOnline, HasLatched, IsLatchFault, IsOfflineFault};
 
-use crate::{DriveFault, Stacks};
+use crate::rack::{ListRack, any_named, any_stacked};
+use crate::{DriveFault, ListedReel, Stacks};
 use std::alloc::Global;
-use std::mem;
-use tape::{ListReel, Reel, TroubledReel};
+use std::marker::Model;
+use tape::{Reel, TroubledReel};
 
-/// The name of the drive.
-const DRIVE: &[u8] = b"/dev/st0";
-
-// Where the reel is.
-#[derive(Drop)]
-enum ReelPlace {
-    Stack(TroubledReel),
-    Latched,
-    Bin(TroubledReel),
-}
-
-/// The drive `/dev/st0` with one reel in memory, and a bin.
+/// Drives with stacks of named reels, all in memory, and a bin.
+///
+/// The bin has room for each reel that was added, so that no move takes memory.
 #[derive(Drop)]
 pub struct ListStacks {
-    reel: ReelPlace,
+    alloc: Global,
+    racks: Vec<ListRack>,
+    bin: Vec<ListedReel>,
+    reels: usize,
+    trouble: bool,
+    failures: u64,
+}
+
+impl Model for ListStacks {
+    ghost use Rattle.std.specs.Prelude.{vec_capacity};
+    ghost use Rattle.drives.specs.Shop.{shop};
+    ghost use Rattle.drives.specs.ListShop.{ListShop, IsStocked};
+
+    ghost Value = { ListShop };
+
+    ghost view = { λ s. record { shop = shop s.racks.items s.bin.items; trouble = s.trouble; failures = s.failures } };
+
+    ghost invariant = { λ s. IsStocked (shop s.racks.items s.bin.items) s.reels (vec_capacity s.bin) };
 }
 
 impl ListStacks {
-    /// The drive with one empty reel of this capacity, in bytes. It takes no memory yet.
-    pub fn new(alloc: Global, capacity: u64) -> ListStacks
-        ensures shop { IsShop result (shop (rack the_drive None (kept the_reel [] capacity ∷ []) ∷ []) []) }
-        ensures quiet { CanReelFail result → ⊥ }
-        ensures reel { result.reel ≡ Stack (record { tape = tape [] []; capacity = capacity; trouble = NoTrouble; failures = 0 }) }
+    /// No drive and an empty bin, with no trouble. It takes no memory.
+    pub fn new(alloc: Global) -> ListStacks
+        ensures empty { result ≡ empty_shop }
+        ensures told { IsShop result (shop_of result) }
+        ensures quiet { CanFail result → ⊥ }
     {
-        let reel = ListReel::new(alloc, capacity);
         ListStacks {
-            reel: ReelPlace::Stack(TroubledReel::new(reel)),
+            alloc,
+            racks: Vec::new(alloc),
+            bin: Vec::new(alloc),
+            reels: 0,
+            trouble: false,
+            failures: 0,
         }
+    }
+
+    /// Adds a drive of this name, with an empty stack. Answers its number: drives are numbered from 0.
+    ///
+    /// Answers `NameTaken` where a drive has that name, and `OutOfMemory`. Nothing has changed then.
+    pub fn add_drive(&mut self, name: &[u8]) -> Result<usize, DriveFault>
+        ensures added { IsDriveAdded self.old name.now result self.new }
+        ensures told { IsShop self.new (shop_of self.new) }
+        ensures quiet { CanFail self.new → CanFail self.old }
+    {
+        if self.number_of(name).is_some() {
+            return Err(DriveFault::NameTaken);
+        }
+        self.put_drive(name)
+    }
+
+    /// Adds an empty reel of this name and of this capacity, in bytes, at the end of the drive's stack, and reserves
+    /// room in the bin for it.
+    ///
+    /// Answers `NameTaken` where a reel on a stack, latched or in the bin has that name, and `OutOfMemory`. Nothing
+    /// has changed then.
+    pub fn add_reel(&mut self, drive: usize, name: &[u8], capacity: u64) -> Result<(), DriveFault>
+        requires { drive < length self.old.shop.racks }
+        ensures added { IsReelAdded self.old drive name.now capacity result self.new }
+        ensures told { IsShop self.new (shop_of self.new) }
+        ensures quiet { CanFail self.new → CanFail self.old }
+    {
+        if self.has_reel(name) {
+            return Err(DriveFault::NameTaken);
+        }
+        self.put_reel(drive, name, capacity)
+    }
+
+    /// The reels of the drive's stack in order, first the one that is latched or would be latched next.
+    pub fn stack(&self, drive: usize) -> &[ListedReel]
+        requires { drive < length self.now.shop.racks }
+        ensures { result.now ≡ (rack_at self.now.shop drive).stack }
+    {
+        let rack = &self.racks[drive];
+        rack.stack()
+    }
+
+    /// The reels of the bin, in the order in which they were moved there.
+    pub fn bin(&self) -> &[ListedReel]
+        ensures { result.now ≡ self.now.shop.bin }
+    {
+        &self.bin
+    }
+
+    /// Sets whether the next latch of a reel, or move of one to the bin, meets a device failure. A latch that finds no
+    /// reel, and an `unlatch`, make no call of the device and leave what was set.
+    pub fn trouble(&mut self, on: bool)
+        ensures { self.new ≡ record self.old { trouble = on } }
+    {
+        self.trouble = on;
+    }
+
+    /// The first drive of that name.
+    fn number_of(&self, name: &[u8]) -> Option<usize>
+        ensures found { IsDriveNamed name.now self.now.shop result }
+        ensures once { EachReelOnce self.now.shop }
+    {
+        self.racks.iter().position(|rack| rack.is_named(name))
+    }
+
+    /// Whether a reel on a stack, latched or in the bin has that name.
+    fn has_reel(&self, name: &[u8]) -> bool
+        ensures found { MatchBool result (0 < times name.now (names_in self.now.shop)) (times name.now (names_in self.now.shop) ≡ 0) }
+        ensures once { EachReelOnce self.now.shop }
+    {
+        any_stacked(&self.racks, name) || any_named(&self.bin, name)
+    }
+
+    /// Adds a drive of a new name. Answers `OutOfMemory`; nothing has changed then.
+    fn put_drive(&mut self, name: &[u8]) -> Result<usize, DriveFault>
+        requires { IsDriveNamed name.now self.old.shop None }
+        ensures { IsDriveAdded self.old name.now result self.new }
+    {
+        let number = self.racks.len();
+        let rack = ListRack::new(self.alloc, name)?;
+        if self.racks.push(rack).is_err() {
+            return Err(DriveFault::OutOfMemory);
+        }
+        Ok(number)
+    }
+
+    /// Adds an empty reel of a new name. Answers `OutOfMemory`; nothing has changed then.
+    fn put_reel(&mut self, drive: usize, name: &[u8], capacity: u64) -> Result<(), DriveFault>
+        requires drive { drive < length self.old.shop.racks }
+        requires free { times name.now (names_in self.old.shop) ≡ 0 }
+        ensures { IsReelAdded self.old drive name.now capacity result self.new }
+    {
+        let reel = ListedReel::new(self.alloc, name, capacity)?;
+        self.bin.reserve(self.reels - self.bin.len() + 1)?;
+        let rack = &mut self.racks[drive];
+        rack.push(reel)?;
+        self.reels += 1;
+        Ok(())
+    }
+
+    /// Latches the first reel of the drive's stack, as `Stacks::latch` does.
+    fn take_first(&mut self, drive: usize) -> Result<TroubledReel, DriveFault>
+        requires { drive < length self.old.shop.racks }
+        ensures latched { IsLatched self.old drive result self.new }
+        ensures once { EachReelOnce self.old.shop }
+    {
+        if self.trouble {
+            let rack = &self.racks[drive];
+            if rack.is_ready() {
+                return Err(self.fail());
+            }
+        }
+        let rack = &mut self.racks[drive];
+        let Some(mut reel) = rack.latch() else {
+            return Err(DriveFault::NoReel);
+        };
+        reel.rewind();
+        Ok(reel)
+    }
+
+    /// Lays the latched reel down, as `Stacks::unlatch` does.
+    fn lay_first(&mut self, drive: usize, reel: TroubledReel)
+        requires drive { drive < length self.old.shop.racks }
+        requires latched { HasLatched IsShop self.old drive }
+        ensures some { 0 < length (rack_at self.old.shop drive).stack }
+        ensures once { EachReelOnce self.old.shop }
+        ensures laid { self.new ≡ with_shop self.old (at_first self.old.shop drive (Some reel)) }
+    {
+        let rack = &mut self.racks[drive];
+        rack.unlatch(reel);
+    }
+
+    /// Moves the latched reel to the end of the bin, as `Stacks::offline` does.
+    fn move_first(
+        &mut self,
+        drive: usize,
+        reel: TroubledReel,
+    ) -> Result<(), (TroubledReel, DriveFault)>
+        requires drive { drive < length self.old.shop.racks }
+        requires latched { HasLatched IsShop self.old drive }
+        ensures some { 0 < length (rack_at self.old.shop drive).stack }
+        ensures once { EachReelOnce self.old.shop }
+        ensures moved { IsMoved self.old drive reel result self.new }
+    {
+        if self.trouble {
+            return Err((reel, self.fail()));
+        }
+        let rack = &mut self.racks[drive];
+        let mut listed = rack.remove_first();
+        listed.put(reel);
+        self.bin.push_reserved(listed);
+        Ok(())
+    }
+
+    /// Counts a failed device call, and ends the trouble that it met.
+    fn fail(&mut self) -> DriveFault
+        ensures fault { result ≡ Device }
+        ensures counted { self.new ≡ after_failure self.old }
+    {
+        self.trouble = false;
+        self.failures = self.failures.saturating_add(1);
+        DriveFault::Device
     }
 }
 
 impl Stacks for ListStacks {
-    ghost use Rattle.std.proofs.Common.{sym, ◌∙◌};
-    ghost use Rattle.drives.specs.OneReel.{shop_of-once, shop_of-sized};
+    ghost use Rattle.std.proofs.Common.{ap, sym, ◌∙◌};
+    ghost use Rattle.std.proofs.lemmas.List.{length-map};
+    ghost use Rattle.drives.specs.ListShop.{rest_rack};
 
     type Reel = TroubledReel;
 
     ghost holds = { IsShop };
 
-    ghost drives = { λ _. 1 };
+    ghost drives = { λ s. length s.shop.racks };
 
-    ghost failures = { λ _. 0 };
+    ghost failures = { λ s. s.failures };
 
-    ghost can_fail = { CanReelFail };
+    ghost can_fail = { CanFail };
 
-    fn drive(&self, name: &[u8]) -> Option<usize> {
-        if name == DRIVE { Some(0) } else { None }
+    fn drive(&self, name: &[u8]) -> Option<usize>
+        ensures below { IfSome result (λ d. d < length self.now.shop.racks) }
+        ensures named { (s : Shop) → IsShop self.now s → IsDriveNamed name.now s result }
+        ensures found { IsDriveNamed name.now self.now.shop result }
+    {
+        self.number_of(name)
     }
 
-    /// Answers `NoReel` alone.
+    /// Answers `NoReel`, and `Device` where a reel lies there and the trouble is set. It takes no memory.
+    ///
+    /// The reel keeps its own trouble, if one is set, and its count of failures.
     fn latch(&mut self, drive: usize) -> Result<TroubledReel, DriveFault>
-        requires { drive < 1 }
+        requires { drive < length self.old.shop.racks }
         ensures step { Steps IsShop self.old self.new (LatchStep IsTapeOf (λ r. r.capacity) drive result) }
         ensures latched { IfOk result (λ _. HasLatched IsShop self.new drive) }
-        ensures stays { IfErr result (λ _. self.new ≡ self.old) }
+        ensures stays { IfErr result (λ _. (d : ℕ) → HasLatched IsShop self.old d → HasLatched IsShop self.new d) }
         ensures elsewhere { (d : ℕ) → d ≢ drive → HasLatched IsShop self.old d → HasLatched IsShop self.new d }
-        ensures faults { IfErr result (λ fault. fault ≡ NoReel) }
-        ensures taken { IfOk result (λ reel. (r : TroubledTape) × (self.old.reel ≡ Stack r) × (reel ≡ record r { tape = tape [] (entries_of r.tape) })) }
-        ensures quiet { CanReelFail self.new → CanReelFail self.old }
-        ensures quiet_reel { IfOk result (λ reel. reel.trouble ≢ NoTrouble → CanReelFail self.old) }
+        ensures faults { IfErr result (λ fault. IsLatchFault fault self.old.failures self.new.failures) }
+        ensures taken { IsLatched self.old drive result self.new }
+        ensures quiet { CanFail self.new → CanFail self.old }
+        ensures quiet_reel { IfOk result (λ reel. reel.trouble ≢ NoTrouble → CanFail self.old) }
     {
-        match mem::replace(&mut self.reel, ReelPlace::Latched) {
-            ReelPlace::Stack(mut reel) => {
-                reel.rewind();
-                Ok(reel)
-            }
-            elsewhere => {
-                self.reel = elsewhere;
-                Err(DriveFault::NoReel)
-            }
-        }
+        self.take_first(drive)
     }
 
-    /// Lays the reel on the stack with its trouble, if one is set, and its count of failures.
+    /// Lays the reel on its stack with its trouble, if one is set, and its count of failures.
     fn unlatch(&mut self, drive: usize, reel: TroubledReel)
-        requires drive { drive < 1 }
+        requires drive { drive < length self.old.shop.racks }
         requires latched { HasLatched IsShop self.old drive }
         ensures step { (t : Tape) → IsTapeOf reel t → Steps IsShop self.old self.new (λ s now. now ≡ after_unlatch s drive (entries_of t) reel.capacity) }
         ensures elsewhere { (d : ℕ) → d ≢ drive → HasLatched IsShop self.old d → HasLatched IsShop self.new d }
-        ensures quiet { CanReelFail self.new → CanReelFail self.old ⊎ (reel.trouble ≢ NoTrouble) }
-        ensures laid { self.new.reel ≡ Stack reel }
+        ensures quiet { CanFail self.new → CanFail self.old ⊎ (reel.trouble ≢ NoTrouble) }
+        ensures laid { self.new ≡ with_shop self.old (at_first self.old.shop drive (Some reel)) }
     {
-        self.reel = ReelPlace::Stack(reel);
+        self.lay_first(drive, reel);
     }
 
-    /// Always moves the reel, and takes no memory.
+    /// Answers `Device` alone, where the trouble is set. It takes no memory.
+    ///
+    /// The reel lies in the bin with its trouble, if one is set, and its count of failures.
     fn offline(
         &mut self,
         drive: usize,
         reel: TroubledReel,
     ) -> Result<(), (TroubledReel, DriveFault)>
-        requires drive { drive < 1 }
+        requires drive { drive < length self.old.shop.racks }
         requires latched { HasLatched IsShop self.old drive }
-        ensures moved { (t : Tape) → IsTapeOf reel t → Steps IsShop self.old self.new (λ s now. now ≡ after_offline s drive (entries_of t) reel.capacity) }
+        ensures moved { IfOk result (λ _. (t : Tape) → IsTapeOf reel t → Steps IsShop self.old self.new (λ s now. now ≡ after_offline s drive (entries_of t) reel.capacity)) }
+        ensures kept { IfErr result (λ refused. Steps IsShop self.old self.new (StaysOnline drive refused.1)) }
+        ensures still { IfErr result (λ _. HasLatched IsShop self.new drive) }
         ensures elsewhere { (d : ℕ) → d ≢ drive → HasLatched IsShop self.old d → HasLatched IsShop self.new d }
-        ensures quiet { CanReelFail self.new → reel.trouble ≢ NoTrouble }
-        ensures laid { self.new.reel ≡ Bin reel }
-        ensures done { IsOk result }
+        ensures quiet { CanFail self.new → CanFail self.old ⊎ (reel.trouble ≢ NoTrouble) }
+        ensures faults { IfErr result (λ refused. IsOfflineFault refused.1 self.old.failures self.new.failures) }
+        ensures laid { IsMoved self.old drive reel result self.new }
     {
-        self.reel = ReelPlace::Bin(reel);
-        Ok(())
+        self.move_first(drive, reel)
     }
 
     fn failures(&self) -> u64 {
-        0
+        self.failures
     }
 
-    ghost single = { λ stacks s t h k. h ∙ sym k };
+    ghost single = { λ stacks s t h k. h.0 ∙ sym k.0 };
 
-    ghost once = { λ stacks s h. shop_of-once stacks.reel s h };
+    ghost once = { λ stacks s h. h.1 };
 
-    ghost sized = { λ stacks s h. shop_of-sized stacks.reel s h };
+    ghost sized = { λ stacks s h. ap (λ (x : Shop). length x.racks) h.0 ∙ length-map stacks.shop.racks rest_rack };
 }

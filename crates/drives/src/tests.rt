@@ -1,10 +1,23 @@
 //! Holds, stacks and their table, one call after another.
 
+ghost use Rattle.std.specs.Prelude.{◌≡◌, IfOk, length};
+
+mod list;
 pub(crate) mod slow_holds;
 
 use crate::{DriveFault, DriveTable, Holds, ListStacks, LocalHolds, Stacks, Taken};
+use std::alloc::Global;
 use std::test::Fail;
-use tape::Reel;
+
+/// The drive `/dev/st0` with one empty reel.
+fn one_reel(alloc: Global) -> Result<ListStacks, Fail>
+    ensures { IfOk result (λ stacks. length stacks.shop.racks ≡ 1) }
+{
+    let mut stacks = ListStacks::new(alloc);
+    let drive = stacks.add_drive(b"/dev/st0")?;
+    stacks.add_reel(drive, b"reel", 100)?;
+    Ok(stacks)
+}
 
 #[test]
 fn one_seat_holds_a_drive(rt: HostRuntime) -> Result<(), Fail> {
@@ -22,27 +35,9 @@ fn one_seat_holds_a_drive(rt: HostRuntime) -> Result<(), Fail> {
 }
 
 #[test]
-fn a_reel_goes_round(rt: HostRuntime) -> Result<(), Fail> {
-    let mut stacks = ListStacks::new(rt.alloc(), 100);
-    assert_eq!(rt; stacks.drive(b"/dev/st9"), None);
-    assert_eq!(rt; stacks.drive(b"/dev/st0"), Some(0));
-    let mut reel = stacks.latch(0)?;
-    reel.write(b"abc")?;
-    stacks.unlatch(0, reel);
-    let mut again = stacks.latch(0)?;
-    let mut into = [0; 5];
-    assert_eq!(rt; again.read(&mut into)?, 3);
-    assert_eq!(rt; into, *b"abc\0\0");
-    assert!(rt; stacks.offline(0, again).is_ok());
-    assert!(rt; matches!(stacks.latch(0), Err(DriveFault::NoReel)));
-    assert_eq!(rt; stacks.failures(), 0);
-    Ok(())
-}
-
-#[test]
 fn an_open_latches(rt: HostRuntime) -> Result<(), Fail> {
     let holds = LocalHolds::new(rt.alloc(), 1)?;
-    let stacks = ListStacks::new(rt.alloc(), 100);
+    let stacks = one_reel(rt.alloc())?;
     let mut drives = DriveTable { holds, stacks };
     let Some(mut seat) = drives.holds.seat() else {
         return Err(Fail::new("no seat"));
@@ -68,7 +63,7 @@ fn a_second_open_is_refused(rt: HostRuntime) -> Result<(), Fail> {
     let (Some(mut first), Some(mut second)) = (holds.seat(), holds.seat()) else {
         return Err(Fail::new("no seat"));
     };
-    let stacks = ListStacks::new(rt.alloc(), 100);
+    let stacks = one_reel(rt.alloc())?;
     let mut drives = DriveTable { holds, stacks };
     assert!(rt; drives.open(&mut first, b"/dev/st0").is_ok());
     assert!(rt;

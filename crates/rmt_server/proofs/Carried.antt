@@ -10,7 +10,6 @@ use Rattle.rmt_server.specs.declared.session.opened.Opened.{Opened}
 use Rattle.drives.specs.declared.holds.Holds.{Ghosts as HoldsPromise}
 use Rattle.drives.specs.declared.stacks.Stacks.{Ghosts as StacksPromise}
 use Rattle.drives.specs.declared.table.DriveTable.{DriveTable}
-use Rattle.drives.specs.declared.view.View.{View}
 use Rattle.rmt_server.specs.Access.{access_of}
 use Rattle.drives.specs.Opening.{drive_asked, found_in_open}
 use Rattle.rmt_server.specs.Session.{Scene, scene, status_of, refusal, is_offline, closed, session_after}

@@ -1,19 +1,24 @@
 -- What a server of one stream does, and the status that it ends with.
-use Rattle.std.specs.Prelude.{◌≡◌, ◌⊎◌, ℕ, false, true, List, [], ◌∷◌, Option, Some, None, Ok, Err}
+use Rattle.std.specs.Prelude.{◌≡◌, ◌⊎◌, ℕ, false, true, List, [], ◌∷◌, codes, Option, Some, None, Ok, Err}
 use Rattle.std.specs.Io.KnownBytes.{Consumes}
 use Rattle.rmt_wire.specs.Counted.{Counting}
 use Rattle.rmt_server.specs.declared.stream.Served.{Served}
 use Rattle.rmt_server.specs.declared.stream.Served.TheVariants.{End, Truncated, Broken}
 use Rattle.rmt_server.specs.declared.stream.ServeFault.TheVariants.{Input, Output}
-use Rattle.drives.specs.OneReel.{the_drive, the_reel}
 use Rattle.rmt_server.specs.Session.{Scene, scene, ServeRun}
 use Rattle.rmt_server.specs.Session.PlainSession.{Idle}
 use Rattle.rmt_server.specs.Serving.{Exchange, IsAnswered, EndsAs, NoneFailed}
-use Rattle.drives.specs.Shop.{shop, rack, kept}
+use Rattle.drives.specs.Shop.{shop, rack, slot, kept}
+
+abbrev pub the_drive : List ℕ
+the_drive = codes "/dev/st0"
+
+abbrev pub the_reel : List ℕ
+the_reel = codes "reel"
 
 -- nothing is open, and the drive's one reel is empty
 abbrev pub blank_scene : ℕ → Scene
-blank_scene capacity = scene (shop (rack the_drive None (kept the_reel [] capacity ∷ []) ∷ []) []) Idle
+blank_scene capacity = scene (shop (rack the_drive (slot the_reel (Some (kept [] capacity)) ∷ []) ∷ []) []) Idle
 
 -- the exit status, by how the stream ended: none where it failed, or where memory was refused before it was read
 abbrev pub exit_status : Option Served → ℕ

@@ -1,5 +1,7 @@
 //! Serving one stream with one drive in memory, as `rmtd --stdio` does.
-ghost use Rattle.rmt_tools.specs.Stdio.{IsServedAlone, IsStdio};
+ghost use Rattle.std.specs.Prelude.{◌≡◌, IfSome, length};
+ghost use Rattle.drives.specs.ListShop.{IsShop, CanFail};
+ghost use Rattle.rmt_tools.specs.Stdio.{blank_scene, IsServedAlone, IsStdio};
 
 use drives::{DriveTable, ListStacks, LocalHolds};
 use rmt_server::{Served, Session, serve};
@@ -9,6 +11,24 @@ use std::io::{Read, Write};
 
 /// The status where a stream failed, or memory was refused at the start.
 const FAILED: u8 = 1;
+
+/// The name of the drive.
+const DRIVE: &[u8] = b"/dev/st0";
+
+/// The name of the reel.
+const REEL: &[u8] = b"reel";
+
+/// The drive with its one reel, which is empty. None where memory was refused.
+fn one_reel(alloc: Global, capacity: u64) -> Option<ListStacks>
+    ensures shop { IfSome result (λ stacks. IsShop stacks (blank_scene capacity).shop) }
+    ensures quiet { IfSome result (λ stacks. CanFail stacks → ⊥) }
+    ensures drives { IfSome result (λ stacks. length stacks.shop.racks ≡ 1) }
+{
+    let mut stacks = ListStacks::new(alloc);
+    let drive = stacks.add_drive(DRIVE).ok()?;
+    stacks.add_reel(drive, REEL, capacity).ok()?;
+    Some(stacks)
+}
 
 /// Serves one stream with a drive in memory. None where memory was refused at the start, or a stream failed.
 fn serve_alone<R: Read, W: Write>(
@@ -22,7 +42,7 @@ fn serve_alone<R: Read, W: Write>(
     let mut wire = RequestReader::new(alloc).ok()?;
     let mut holds = LocalHolds::new(alloc, 1).ok()?;
     let seat = holds.seat()?;
-    let stacks = ListStacks::new(alloc, capacity);
+    let stacks = one_reel(alloc, capacity)?;
     let mut drives = DriveTable { holds, stacks };
     let Ok(mut session) = Session::new(alloc, seat) else {
         return None;

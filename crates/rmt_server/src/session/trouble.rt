@@ -2,7 +2,7 @@
 ghost use Rattle.std.specs.Prelude.{◌≡◌};
 ghost use Rattle.rmt_server.specs.Carrying.{IsAt};
 ghost use Rattle.drives.specs.contracts.list.ListStacksStacks.TheImpl.{ghosts as of_stacks};
-ghost use Rattle.drives.specs.declared.list.ListStacks.{ListStacks as Stacks};
+ghost use Rattle.drives.specs.ListShop.{ListShop};
 ghost use Rattle.rmt_server.specs.Troubling.{troubled, with_trouble};
 
 use crate::session::Session;
@@ -24,7 +24,7 @@ impl<H: Holds> Session<H, ListStacks> {
     /// lay the reel down with it.
     pub fn trouble(&mut self, trouble: Trouble)
         ensures seat { self.new.seat ≡ self.old.seat }
-        ensures at { (holds : H) (stacks : Stacks) → IsAt H.Holds of_stacks (record { holds = holds; stacks = stacks }) self.old.seat self.old.opened → IsAt H.Holds of_stacks (record { holds = holds; stacks = stacks }) self.new.seat self.new.opened }
+        ensures at { (holds : H) (stacks : ListShop) → IsAt H.Holds of_stacks (record { holds = holds; stacks = stacks }) self.old.seat self.old.opened → IsAt H.Holds of_stacks (record { holds = holds; stacks = stacks }) self.new.seat self.new.opened }
         ensures set { self.new.opened ≡ with_trouble trouble self.old.opened }
     {
         if let Some(device) = &mut self.opened {

@@ -1,6 +1,6 @@
 //! One drive in memory, and one stream that is served with it.
 
-ghost use Rattle.std.specs.Prelude.{◌<◌, IfOk, length};
+ghost use Rattle.std.specs.Prelude.{◌≡◌, ◌<◌, IfOk, length};
 ghost use Rattle.rmt_server.specs.Carrying.{IsAt};
 ghost use Rattle.drives.specs.contracts.local.LocalHoldsHolds.TheImpl.{ghosts as of_holds};
 ghost use Rattle.drives.specs.contracts.list.ListStacksStacks.TheImpl.{ghosts as of_stacks};
@@ -25,6 +25,16 @@ pub(crate) struct Ended {
     pub(crate) drives: Drives,
 }
 
+/// The drive `/dev/st0` with one empty reel.
+pub(crate) fn one_reel(alloc: Global, capacity: u64) -> Result<ListStacks, Fail>
+    ensures { IfOk result (λ stacks. length stacks.shop.racks ≡ 1) }
+{
+    let mut stacks = ListStacks::new(alloc);
+    let drive = stacks.add_drive(b"/dev/st0")?;
+    stacks.add_reel(drive, b"reel", capacity)?;
+    Ok(stacks)
+}
+
 /// One drive with one empty reel, and a session with nothing open.
 pub(crate) fn begin(
     alloc: Global,
@@ -36,7 +46,7 @@ pub(crate) fn begin(
     let Some(seat) = holds.seat() else {
         return Err(Fail::new("no seat"));
     };
-    let stacks = ListStacks::new(alloc, capacity);
+    let stacks = one_reel(alloc, capacity)?;
     let drives = DriveTable { holds, stacks };
     match Session::new(alloc, seat) {
         Ok(session) => Ok((drives, session)),

@@ -17,6 +17,9 @@ returns-in_err-wire g c = served_none (search rules)
 pub returns-in_err-holds : goal.returns-in_err-holds
 returns-in_err-holds g c = served_none (search rules)
 
+pub returns-in_err-stacks : goal.returns-in_err-stacks
+returns-in_err-stacks g c = served_none (search rules)
+
 pub returns-in_default : goal.returns-in_default
 returns-in_default g c = served_none (search rules)
 
@@ -27,8 +30,8 @@ returns g c =
     let blank = blank_scene c.args.capacity in
     let empty = ap (λ (h : Holders). h.numbers) c.in_ok-seat.ensures.next.1 ∙ ap (λ (h : Holders). h.numbers) (kept_ok _ c.new-2.result _ c.new-2.ensures c.in_ok-holds.ensures.value) in
     let closed = ap (λ s. s.opened) c.in-Ok.ensures.made in
-    let quiet = none_fails ListStacksPromise.ghosts TroubledReelPromise.ghosts _ _ c.new-stacks.ensures.quiet closed in
-    let steps = served.steps false false quiet (inr (none_holds c.seat.new.self _ empty)) blank record { shop = c.new-stacks.ensures.shop; session = idle } in
+    let quiet = none_fails ListStacksPromise.ghosts TroubledReelPromise.ghosts c.in_ok-stacks.stacks _ c.in_ok-stacks.ensures.quiet closed in
+    let steps = served.steps false false quiet (inr (none_holds c.seat.new.self _ empty)) blank record { shop = c.in_ok-stacks.ensures.shop; session = idle } in
     subst (IsServedAlone g.R.Read.remaining g.W.Write.contents c.args.capacity c.args.input.now c.serve.new.input c.args.output.now c.serve.new.output) (sym c.ok-3.ensures.value) record {
       read = served.read;
       done = served.done;

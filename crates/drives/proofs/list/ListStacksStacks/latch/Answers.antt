@@ -1,10 +1,21 @@
-use Rattle.std.proofs.Common.{sym, ◌∙◌}
-use Rattle.drives.proofs.OneReel.{latch_steps, latched_elsewhere}
+use Rattle.drives.proofs.ListShop.{latch_steps, latch_away, latch_quiet, latch_quiet_reel}
+use Rattle.drives.proofs.Elsewhere.{latch_stays, latch_elsewhere}
 use Rattle.drives.proofs.list.ListStacksStacks.latch.Goals as goal
 
-pub returns-in-Stack-clause-step : goal.returns-in-Stack-clause-step
-returns-in-Stack-clause-step c =
-    latch_steps _ _ c.in-Stack.reel c.rewind.new.self c.args.drive (sym c.replace.ensures.value ∙ c.in-Stack.is) c.replace.ensures.after c.requires c.rewind.ensures.step.step.1 c.rewind.ensures.call.same_capacity
+pub returns-clause-step : goal.returns-clause-step
+returns-clause-step c = latch_steps c.args.self.now c.take_first.new.self c.args.drive c.take_first.result c.requires c.take_first.ensures.latched
 
-pub returns-in-Stack-clause-elsewhere : goal.returns-in-Stack-clause-elsewhere
-returns-in-Stack-clause-elsewhere c = λ d n h. absurd (latched_elsewhere c.args.self.now c.args.drive d c.requires n h)
+pub returns-clause-latched : goal.returns-clause-latched
+returns-clause-latched c = latch_away c.args.self.now c.take_first.new.self c.args.drive c.take_first.result c.requires c.take_first.ensures.latched
+
+pub returns-clause-quiet : goal.returns-clause-quiet
+returns-clause-quiet c = latch_quiet c.args.self.now c.take_first.new.self c.args.drive c.take_first.result c.requires c.take_first.ensures.latched
+
+pub returns-clause-quiet_reel : goal.returns-clause-quiet_reel
+returns-clause-quiet_reel c = latch_quiet_reel c.args.self.now c.take_first.new.self c.args.drive c.take_first.result c.requires c.take_first.ensures.latched
+
+pub returns-clause-stays : goal.returns-clause-stays
+returns-clause-stays c = latch_stays c.args.self.now c.take_first.new.self c.args.drive c.take_first.result c.take_first.ensures.latched
+
+pub returns-clause-elsewhere : goal.returns-clause-elsewhere
+returns-clause-elsewhere c = latch_elsewhere c.args.self.now c.take_first.new.self c.args.drive c.take_first.result c.take_first.ensures.once c.take_first.ensures.latched

@@ -1,0 +1,11 @@
+use Rattle.drives.proofs.ListShop.{drive_told, drive_quiet, told}
+use Rattle.drives.proofs.list.ListStacks.add_drive.Goals as goal
+
+pub returns-then-is_some-clause-told : goal.returns-then-is_some-clause-told
+returns-then-is_some-clause-told c = told c.args.self.now c.number_of.ensures.once
+
+pub returns-clause-told : goal.returns-clause-told
+returns-clause-told c = drive_told c.args.self.now c.put_drive.new.self c.args.name.now c.put_drive.result c.number_of.ensures.once c.put_drive.ensures
+
+pub returns-clause-quiet : goal.returns-clause-quiet
+returns-clause-quiet c = drive_quiet c.args.self.now c.put_drive.new.self c.args.name.now c.put_drive.result c.put_drive.ensures

@@ -1,0 +1,32 @@
+use Rattle.drives.specs.Shop.{EachReelOnce}
+use Rattle.drives.specs.ListShop.{ListShop}
+use Rattle.std.proofs.Common.{◌<◌, vec_capacity, sym, subst, ap, ◌∙◌, ◌++◌, ◌∷◌, []}
+use Rattle.drives.specs.contracts.list.ListStacks.{the_view}
+use Rattle.drives.proofs.ListShop.{stocked-moved, value_some, read_some, room_some}
+use Rattle.drives.proofs.list.ListStacks.move_first.Goals as goal
+
+pub returns-then-self-clause-some : goal.returns-then-self-clause-some
+returns-then-self-clause-some c = value_some (the_view c.self.inside) c.args.self.now c.args.drive _ _ c.self.view_is c.self.invariant c.requires.latched
+
+pub remove_first-listed-requires : goal.remove_first-listed-requires
+remove_first-listed-requires c =
+    read_some (the_view c.self.inside) c.args.self.now c.args.drive c.index_mut-rack.result.now c.self.view_is c.requires.drive c.index_mut-rack.ensures.value
+    (value_some (the_view c.self.inside) c.args.self.now c.args.drive _ _ c.self.view_is c.self.invariant c.requires.latched)
+
+pub push_reserved-requires : goal.push_reserved-requires
+push_reserved-requires c =
+    subst (λ n. n < vec_capacity c.self.inside.bin) (sym c.self.inside.bin.ok.0) (room_some (the_view c.self.inside) c.args.self.now c.args.drive _ _ c.self.view_is c.requires.drive c.self.invariant
+    (value_some (the_view c.self.inside) c.args.self.now c.args.drive _ _ c.self.view_is c.self.invariant c.requires.latched))
+
+pub invariant_of-self : goal.invariant_of-self
+invariant_of-self c =
+    stocked-moved (the_view c.self.inside) c.args.self.now c.args.drive c.index_mut-rack.result.now c.remove_first-listed.new.self c.remove_first-listed.result c.args.reel c.push_reserved.new.self.items _ _ _
+    c.self.view_is c.requires.drive (value_some (the_view c.self.inside) c.args.self.now c.args.drive _ _ c.self.view_is c.self.invariant c.requires.latched)
+    c.index_mut-rack.ensures.value c.remove_first-listed.ensures.first c.remove_first-listed.ensures.name
+    (c.push_reserved.ensures.items ∙ ap (λ x. c.self.inside.bin.items ++ x ∷ []) c.put.ensures) c.push_reserved.ensures.capacity c.self.invariant
+
+pub returns-then-self-clause-once : goal.returns-then-self-clause-once
+returns-then-self-clause-once c = subst (λ (s : ListShop). EachReelOnce s.shop) c.self.view_is c.self.invariant.once
+
+pub returns-clause-once : goal.returns-clause-once
+returns-clause-once c = subst (λ (s : ListShop). EachReelOnce s.shop) c.self.view_is c.self.invariant.once

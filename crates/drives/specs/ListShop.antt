@@ -1,0 +1,116 @@
+-- Drives, stacks and bin in memory.
+use Rattle.std.specs.Prelude.{◌≡◌, ◌⊎◌, ℕ, ◌<◌, ◌≤◌, Bool, true, false, List, [], ◌∷◌, ◌++◌, length, map, Option, Some, None, Result, Ok, Err, IsSome}
+use Rattle.std.specs.List.{count_by}
+use Rattle.std.specs.Option.{option_map}
+use Rattle.tape.specs.Failures.{raised}
+use Rattle.tape.specs.Tape.{tape, entries_of}
+use Rattle.tape.specs.Trouble.{TroubledTape}
+use Rattle.tape.specs.declared.trouble.Trouble.{Trouble}
+use Rattle.tape.specs.declared.trouble.Trouble.TheVariants.{None as NoTrouble}
+use Rattle.drives.specs.Shop.{Kept, kept, Slot, slot, Rack, rack, ShopOf, Shop, shop, rack_at, with_rack, slots_in, names_in, times, EachReelOnce, IsDriveNamed, waiting_reel, at_first, to_bin}
+use Rattle.drives.specs.declared.fault.DriveFault.{DriveFault}
+use Rattle.drives.specs.declared.fault.DriveFault.TheVariants.{NoReel, Device, OutOfMemory, NameTaken}
+
+-- The drives and the bin with their reels, whether the next latch or move meets a device failure, and how many did.
+pub record ListShop : Type 0 where
+  pub shop : ShopOf TroubledTape
+  pub trouble : Bool
+  pub failures : ℕ
+
+abbrev pub with_shop : ListShop → ShopOf TroubledTape → ListShop
+with_shop s reels = record s { shop = reels }
+
+-- no drive, an empty bin, and no trouble
+abbrev pub empty_shop : ListShop
+empty_shop = record { shop = shop [] []; trouble = false; failures = 0 }
+
+-- an empty reel with no trouble
+abbrev pub blank_reel : ℕ → TroubledTape
+blank_reel capacity = record { tape = tape [] []; capacity = capacity; trouble = NoTrouble; failures = 0 }
+
+-- the reel at its beginning
+abbrev pub rewound : TroubledTape → TroubledTape
+rewound r = record r { tape = tape [] (entries_of r.tape) }
+
+-- the reel at rest
+abbrev pub at_rest : TroubledTape → Kept
+at_rest r = kept (entries_of r.tape) r.capacity
+
+abbrev pub rest_slot : Slot TroubledTape → Slot Kept
+rest_slot x = slot x.name (option_map at_rest x.reel)
+
+abbrev pub rest_rack : Rack TroubledTape → Rack Kept
+rest_rack r = rack r.name (map rest_slot r.stack)
+
+-- what is told of them: their reels at rest
+abbrev pub shop_of : ListShop → Shop
+shop_of s = shop (map rest_rack s.shop.racks) (map rest_slot s.shop.bin)
+
+-- they always tell it: each of its reels stands once
+abbrev pub IsShop : ListShop → Shop → Type 0
+IsShop stacks s = (s ≡ shop_of stacks) × EachReelOnce s
+
+-- a trouble is set
+abbrev pub is_set : Trouble → Bool
+is_set NoTrouble = false
+is_set _ = true
+
+-- a trouble is set for the reel that lies there
+abbrev pub is_set_in : Option TroubledTape → Bool
+is_set_in None = false
+is_set_in (Some r) = is_set r.trouble
+
+-- how many reels lie on the stacks and in the bin for which a trouble is set
+abbrev pub troubled_in : ShopOf TroubledTape → ℕ
+troubled_in s = count_by (λ x. is_set_in x.reel) (slots_in s)
+
+-- a device can fail: that of the stacks, or that of a reel that lies on them or in the bin
+abbrev pub CanFail : ListShop → Type 0
+CanFail s = (s.trouble ≡ true) ⊎ (0 < troubled_in s.shop)
+
+-- a device call of the stacks failed: it is counted, and the trouble is over
+abbrev pub after_failure : ListShop → ListShop
+after_failure s = record s { trouble = false; failures = raised s.failures }
+
+-- one drive more, with an empty stack
+abbrev pub with_drive : ShopOf TroubledTape → List ℕ → ShopOf TroubledTape
+with_drive s name = shop (s.racks ++ rack name [] ∷ []) s.bin
+
+-- one reel more, last on the stack of drive d
+abbrev pub with_reel : ShopOf TroubledTape → ℕ → List ℕ → ℕ → ShopOf TroubledTape
+with_reel s d name capacity = let r = rack_at s d in with_rack s d (rack r.name (r.stack ++ slot name (Some (blank_reel capacity)) ∷ []))
+
+-- A drive was added and got the next number. It is not only where a drive has that name, or for want of memory; then
+-- nothing changed.
+abbrev pub IsDriveAdded : ListShop → List ℕ → Result ℕ DriveFault → ListShop → Type 0
+IsDriveAdded old name (Ok d) new = IsDriveNamed name old.shop None × (d ≡ length old.shop.racks) × (new ≡ with_shop old (with_drive old.shop name))
+IsDriveAdded old name (Err NameTaken) new = ((d : ℕ) × IsDriveNamed name old.shop (Some d)) × (new ≡ old)
+IsDriveAdded old name (Err OutOfMemory) new = IsDriveNamed name old.shop None × (new ≡ old)
+IsDriveAdded old name (Err _) new = ⊥
+
+-- An empty reel was added. It is not only where a reel has that name, or for want of memory; then nothing changed.
+abbrev pub IsReelAdded : {U : Type 0} → ListShop → ℕ → List ℕ → ℕ → Result U DriveFault → ListShop → Type 0
+IsReelAdded old d name capacity (Ok x) new = (times name (names_in old.shop) ≡ 0) × (new ≡ with_shop old (with_reel old.shop d name capacity))
+IsReelAdded old d name capacity (Err NameTaken) new = (0 < times name (names_in old.shop)) × (new ≡ old)
+IsReelAdded old d name capacity (Err OutOfMemory) new = (times name (names_in old.shop) ≡ 0) × (new ≡ old)
+IsReelAdded old d name capacity (Err _) new = ⊥
+
+-- The reel that waits at drive d was latched, rewound, with its trouble and its count of failures. It is not only where
+-- none waits, or where one waits and the trouble is set, which is then counted and over.
+abbrev pub IsLatched : ListShop → ℕ → Result TroubledTape DriveFault → ListShop → Type 0
+IsLatched old d (Ok reel) new = (old.trouble ≡ false) × ((r : TroubledTape) × (waiting_reel old.shop d ≡ Some r) × (reel ≡ rewound r)) × (new ≡ with_shop old (at_first old.shop d None))
+IsLatched old d (Err NoReel) new = (waiting_reel old.shop d ≡ None) × (new ≡ old)
+IsLatched old d (Err Device) new = (old.trouble ≡ true) × IsSome (waiting_reel old.shop d) × (new ≡ after_failure old)
+IsLatched old d (Err _) new = ⊥
+
+-- The reel was moved to the end of the bin. It is not only where the trouble is set, which is then counted and over;
+-- the reel comes back as it was.
+abbrev pub IsMoved : {U : Type 0} → ListShop → ℕ → TroubledTape → Result U (TroubledTape × DriveFault) → ListShop → Type 0
+IsMoved old d reel (Ok x) new = (old.trouble ≡ false) × (new ≡ with_shop old (to_bin old.shop d reel))
+IsMoved old d reel (Err refused) new = (old.trouble ≡ true) × (refused ≡ (reel, Device)) × (new ≡ after_failure old)
+
+-- each reel stands once, so many reels are there, and the bin has room for all of them
+pub record IsStocked (s : ShopOf TroubledTape) (reels room : ℕ) : Type 0 where
+  pub once : EachReelOnce s
+  pub counted : reels ≡ length (slots_in s)
+  pub fits : reels ≤ room

@@ -1,0 +1,74 @@
+ghost use Rattle.std.specs.Prelude.{◌≡◌, Some, None, IfOk, MatchOption};
+ghost use Rattle.std.specs.Str.{bytes_eq};
+ghost use Rattle.drives.specs.Shop.{slot};
+ghost use Rattle.drives.specs.ListShop.{blank_reel};
+
+use std::alloc::{AllocError, Global};
+use std::marker::Model;
+use tape::{ListReel, TroubledReel};
+
+/// A reel of a stack or of the bin of a `ListStacks`. While it is latched its name alone is there.
+#[derive(Drop)]
+pub struct ListedReel {
+    name: Vec<u8>,
+    reel: Option<TroubledReel>,
+}
+
+impl Model for ListedReel {
+    ghost use Rattle.drives.specs.Shop.{Slot, slot};
+    ghost use Rattle.tape.specs.Trouble.{TroubledTape};
+
+    ghost Value = { Slot TroubledTape };
+
+    ghost view = { λ x. slot x.name.items x.reel };
+}
+
+impl ListedReel {
+    /// An empty reel of this capacity, in bytes.
+    pub(crate) fn new(alloc: Global, name: &[u8], capacity: u64) -> Result<ListedReel, AllocError>
+        ensures { IfOk result (λ made. made ≡ slot name.now (Some (blank_reel capacity))) }
+    {
+        let name = Vec::from_slice(alloc, name)?;
+        let reel = TroubledReel::new(ListReel::new(alloc, capacity));
+        Ok(ListedReel {
+            name,
+            reel: Some(reel),
+        })
+    }
+
+    /// The name of the reel.
+    pub fn name(&self) -> &[u8]
+        ensures { result.now ≡ self.now.name }
+    {
+        &self.name
+    }
+
+    /// The reel. None while it is latched.
+    pub fn reel(&self) -> Option<&TroubledReel>
+        ensures { MatchOption result (self.now.reel ≡ None) (λ reel. self.now.reel ≡ Some reel.now) }
+    {
+        self.reel.as_ref()
+    }
+
+    /// Whether the reel has that name.
+    pub(crate) fn is_named(&self, name: &[u8]) -> bool
+        ensures { result ≡ bytes_eq name.now self.now.name }
+    {
+        name == self.name.as_slice()
+    }
+
+    /// Takes the reel away, if it lies there.
+    pub(crate) fn take(&mut self) -> Option<TroubledReel>
+        ensures taken { result ≡ self.old.reel }
+        ensures away { self.new ≡ slot self.old.name None }
+    {
+        self.reel.take()
+    }
+
+    /// Lays the reel down under this name.
+    pub(crate) fn put(&mut self, reel: TroubledReel)
+        ensures { self.new ≡ slot self.old.name (Some reel) }
+    {
+        self.reel = Some(reel);
+    }
+}

@@ -1,0 +1,117 @@
+ghost use Rattle.std.specs.Prelude.{◌≡◌, ◌≢◌, ◌<◌, [], ◌∷◌, ◌++◌, None, IsSome, IfOk, MatchBool, MatchResult, length};
+ghost use Rattle.std.specs.List.{list_any};
+ghost use Rattle.std.specs.Str.{bytes_eq};
+ghost use Rattle.drives.specs.Shop.{rack, first_reel, with_first};
+
+use crate::ListedReel;
+use std::alloc::{AllocError, Global};
+use std::marker::Model;
+use tape::TroubledReel;
+
+/// Whether one of the reels has that name.
+pub(crate) fn any_named(reels: &[ListedReel], name: &[u8]) -> bool
+    ensures { result ≡ list_any (λ x. bytes_eq name.now x.name) reels.now }
+{
+    reels.iter().any(|reel| reel.is_named(name))
+}
+
+/// A drive of a `ListStacks`, with its stack. A latched reel stays first on it, and is away.
+#[derive(Drop)]
+pub(crate) struct ListRack {
+    name: Vec<u8>,
+    stack: Vec<ListedReel>,
+}
+
+impl Model for ListRack {
+    ghost use Rattle.drives.specs.Shop.{Rack, rack};
+    ghost use Rattle.tape.specs.Trouble.{TroubledTape};
+
+    ghost Value = { Rack TroubledTape };
+
+    ghost view = { λ r. rack r.name.items r.stack.items };
+}
+
+impl ListRack {
+    /// A drive with an empty stack.
+    pub(crate) fn new(alloc: Global, name: &[u8]) -> Result<ListRack, AllocError>
+        ensures { IfOk result (λ made. made ≡ rack name.now []) }
+    {
+        Ok(ListRack {
+            name: Vec::from_slice(alloc, name)?,
+            stack: Vec::new(alloc),
+        })
+    }
+
+    /// Whether the drive has that name.
+    pub(crate) fn is_named(&self, name: &[u8]) -> bool
+        ensures { MatchBool result (self.now.name ≡ name.now) (self.now.name ≢ name.now) }
+    {
+        self.name.as_slice() == name
+    }
+
+    /// The reels of the stack, in order.
+    pub(crate) fn stack(&self) -> &[ListedReel]
+        ensures { result.now ≡ self.now.stack }
+    {
+        &self.stack
+    }
+
+    /// Whether a reel of the stack has that name.
+    pub(crate) fn has_reel(&self, name: &[u8]) -> bool
+        ensures { result ≡ list_any (λ x. bytes_eq name.now x.name) self.now.stack }
+    {
+        any_named(&self.stack, name)
+    }
+
+    /// Whether a reel lies first on the stack.
+    pub(crate) fn is_ready(&self) -> bool
+        ensures { MatchBool result (IsSome (first_reel self.now.stack)) (first_reel self.now.stack ≡ None) }
+    {
+        match self.stack.first() {
+            Some(first) => first.reel().is_some(),
+            None => false,
+        }
+    }
+
+    /// Takes the first reel away, if one lies there.
+    pub(crate) fn latch(&mut self) -> Option<TroubledReel>
+        ensures taken { result ≡ first_reel self.old.stack }
+        ensures away { self.new ≡ rack self.old.name (with_first None self.old.stack) }
+    {
+        let first = self.stack.first_mut()?;
+        first.take()
+    }
+
+    /// Lays the first reel down again.
+    pub(crate) fn unlatch(&mut self, reel: TroubledReel)
+        requires { 0 < length self.old.stack }
+        ensures { self.new ≡ rack self.old.name (with_first (Some reel) self.old.stack) }
+    {
+        let first = &mut self.stack[0];
+        first.put(reel);
+    }
+
+    /// Takes the first reel off the stack, with its name.
+    pub(crate) fn remove_first(&mut self) -> ListedReel
+        requires { 0 < length self.old.stack }
+        ensures first { self.old.stack ≡ result ∷ self.new.stack }
+        ensures name { self.new.name ≡ self.old.name }
+    {
+        self.stack.remove(0)
+    }
+
+    /// Lays a reel last on the stack. Where memory is refused nothing has changed.
+    pub(crate) fn push(&mut self, reel: ListedReel) -> Result<(), AllocError>
+        ensures { MatchResult result (λ _. self.new ≡ rack self.old.name (self.old.stack ++ reel ∷ [])) (λ _. self.new ≡ self.old) }
+    {
+        self.stack.push(reel)?;
+        Ok(())
+    }
+}
+
+/// Whether a reel on one of the stacks has that name.
+pub(crate) fn any_stacked(racks: &[ListRack], name: &[u8]) -> bool
+    ensures { result ≡ list_any (λ r. list_any (λ x. bytes_eq name.now x.name) r.stack) racks.now }
+{
+    racks.iter().any(|rack| rack.has_reel(name))
+}
