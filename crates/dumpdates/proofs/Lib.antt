@@ -10,3 +10,4 @@ pub mod Reading
 pub mod Again
 pub mod Lined
 pub mod Once
+pub mod Decided

@@ -4,13 +4,16 @@ ghost use Rattle.dumpdates.specs.Lines.{SpellsDates, HasFault};
 ghost use Rattle.dumpdates.specs.Moment.{IsMoment, moment_of, seconds_at};
 ghost use Rattle.dumpdates.specs.Text.{written};
 ghost use Rattle.dumpdates.specs.declared.fault.DatesFault.{DatesFault};
-ghost use Rattle.dumpdates.specs.declared.fault.DatesFault.TheVariants.{OutOfMemory};
+ghost use Rattle.dumpdates.specs.declared.fault.DatesFault.TheVariants.{BadLine, BadDate, OutOfMemory};
 
-/// A text spells one list of entries at most, and then has no bad line; and it has one first bad line at most, of one
-/// kind.
+/// A text spells a list of entries or has a first bad line, and not both: it spells one list at most, of entries within
+/// their limits, and then has no bad line; and it has one first bad line at most, of one kind.
 ///
 /// It does nothing: its contract is a law of the definitions.
 pub fn one_reading()
+    ensures some { (bytes : List ℕ) → ((entries : List PlainEntry) × SpellsDates bytes entries)
+        ⊎ ((n : ℕ) × (HasFault bytes (BadLine n) ⊎ HasFault bytes (BadDate n))) }
+    ensures within { (bytes : List ℕ) (entries : List PlainEntry) → SpellsDates bytes entries → AreEntries entries }
     ensures entries { (bytes : List ℕ) (entries others : List PlainEntry) →
         SpellsDates bytes entries → SpellsDates bytes others → entries ≡ others }
     ensures no_fault { (bytes : List ℕ) (entries : List PlainEntry) (fault : DatesFault) →
