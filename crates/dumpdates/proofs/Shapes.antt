@@ -1,10 +1,13 @@
 -- Lines that have the shape of an entry: their words, and what these say.
-use Rattle.std.proofs.Common.{◌≡◌, ℕ, suc, zero, ◌-◌, ◌<◌, Bool, true, false, not, ◌&&◌, cond, List, [], ◌∷◌, ◌++◌, length, get_or, Some, None, refl, sym, ◌∙◌, subst, arith}
+use Rattle.std.proofs.Common.{◌≡◌, ℕ, suc, zero, ◌-◌, ◌<◌, Bool, true, false, not, ◌&&◌, cond, List, [], ◌∷◌, ◌++◌, length, get_or, Some, None, IsUtf8, refl, sym, ◌∙◌, subst, arith}
 use Rattle.std.specs.Int.{IsInRange}
 use Rattle.std.specs.List.{AllByRecursion, list_all}
 use Rattle.std.specs.Str.Parse.{AllDigits}
 use Rattle.std.proofs.lemmas.Bool.{and_from, and_parts, both_ways}
 use Rattle.std.proofs.lemmas.Bool.Decides.{nat_tests}
+use Rattle.std.proofs.lemmas.List.Elements.{All-from_recursion}
+use Rattle.std.proofs.lemmas.Str.{IsUtf8-from_ascii}
+use Rattle.std.proofs.lemmas.Str.Ascii.{IsAscii-from_all}
 use Rattle.std.proofs.lemmas.Str.Parse.{digit_from_value}
 use Rattle.dumpdates.specs.Entry.{PlainEntry, IsName, IsEntry}
 use Rattle.dumpdates.specs.Front.{words_of}
@@ -30,6 +33,14 @@ printed b h = let low = h.0 in let high = h.1 in grind (arith, nat_tests)
 all_printed : (name : List ℕ) → AllByRecursion (IsInRange 33 126) name → AllPass (λ b. not (is_space b)) name
 all_printed [] h = tt
 all_printed (b ∷ name) h = (printed b h.0, all_printed name h.1)
+
+ascii_bytes : (name : List ℕ) → AllByRecursion (IsInRange 33 126) name → AllByRecursion (λ b. b < 128) name
+ascii_bytes [] h = tt
+ascii_bytes (b ∷ name) h = (let high = h.0.1 in omega arith, ascii_bytes name h.1)
+
+-- a name is text
+pub name_is_text : (name : List ℕ) → IsName name → IsUtf8 name
+name_is_text name h = IsUtf8-from_ascii name (IsAscii-from_all name (All-from_recursion (λ b. b < 128) name (ascii_bytes name h.1)))
 
 -- digits
 all_digits : (text : List ℕ) → AllDigits 10 text → AllPass (λ b. not (is_space b)) text

@@ -1,6 +1,6 @@
-ghost use Rattle.std.specs.Prelude.{◌≡◌, [], List, IsOk, IfOk, OnOk, OnErr, IfErr, MatchResult};
+ghost use Rattle.std.specs.Prelude.{◌≡◌, ◌≤◌, [], List, length, slice_get, option_map, IsOk, IfOk, OnOk, OnErr, IfErr, MatchResult};
 ghost use Rattle.dumpdates.specs.Dates as spec;
-ghost use Rattle.dumpdates.specs.Entry.{PlainEntry};
+ghost use Rattle.dumpdates.specs.Entry.{PlainEntry, AreEntries, last_second};
 ghost use Rattle.dumpdates.specs.Lines.{SpellsDates, HasFault};
 ghost use Rattle.dumpdates.specs.Stored.{plain_entry};
 ghost use Rattle.dumpdates.specs.Text.{written};
@@ -89,10 +89,27 @@ impl Dates {
         Ok(out)
     }
 
+    /// How many entries there are. Each has a name of 1 to 255 bytes of printed ASCII without a space, a level of 0 to 9,
+    /// and a date of 0 to `LAST_SECOND`.
+    pub fn len(&self) -> usize
+        ensures value { result ≡ length self.now }
+        ensures within { AreEntries self.now }
+    {
+        self.entries.len()
+    }
+
+    /// The entry at a place, counted from 0. None where there are no more than that many.
+    pub fn get(&self, at: usize) -> Option<Entry<'_>>
+        ensures { option_map plain_entry result ≡ slice_get self.now at }
+    {
+        Some(self.entries.get(at)?.entry())
+    }
+
     /// The date that a dump of this name and level is based on, in seconds since 1970 began, UTC (dump(8)): that of the
-    /// latest dump of the name at any lower level. It is 0 if no lower level was dumped.
+    /// latest dump of the name at any lower level. It is 0 if no lower level was dumped, and at most `LAST_SECOND`.
     pub fn base(&self, name: &str, level: u8) -> u64
-        ensures { result ≡ spec.base_of self.now name.now level }
+        ensures value { result ≡ spec.base_of self.now name.now level }
+        ensures bound { result ≤ last_second }
     {
         let mut greatest = 0;
         for entry in &self.entries {

@@ -39,6 +39,17 @@ impl Stored {
         })
     }
 
+    /// The entry, which lends its name.
+    pub(crate) fn entry(&self) -> Entry<'_>
+        ensures { plain_entry result ≡ plain_stored self.now }
+    {
+        Entry {
+            name: std::str::from_utf8(&self.name).unwrap(),
+            level: self.level,
+            date: self.date,
+        }
+    }
+
     /// Whether this is an entry of the same name and level.
     pub(crate) fn is_same(&self, entry: Entry<'_>) -> bool
         ensures { result ≡ spec.is_same (plain_entry entry.entry) (plain_stored self.now) }

@@ -213,9 +213,35 @@ fn entries_within_their_limits(rt: HostRuntime) -> Result<(), Fail> {
         (entry.name, entry.level, entry.date),
         ("/usr", 3, 951827696)
     );
+    Ok(())
+}
+
+/// Each entry by its place, and none behind the last.
+#[test]
+fn entries_by_their_places(rt: HostRuntime) -> Result<(), Fail> {
+    let wanted = [
+        ("/usr", 0, 951782400),
+        ("a", 9, 0),
+        ("/usr", 0, LAST_SECOND),
+    ];
+    let text =
+        b"/usr 0 Tue Feb 29 00:00:00 2000\n\na 9 Thu Jan 1 00:00:00 1970\n/usr 0 Fri Dec 31 23:59:59 9999";
+    let dates = Dates::read(rt.alloc(), text)?;
+    assert_eq!(rt; dates.len(), 3);
+    for (at, fields) in wanted.iter().enumerate() {
+        let entry = dates.get(at).ok_or("an entry")?;
+        assert_eq!(rt; (entry.name, entry.level, entry.date), *fields);
+    }
+    assert!(rt; dates.get(3).is_none());
+    assert!(rt; dates.get(usize::MAX).is_none());
+    assert_eq!(rt; Dates::new(rt.alloc()).len(), 0);
+    Ok(())
+}
+
+#[test]
+fn laws_do_nothing() {
     one_reading();
     written_and_read();
-    Ok(())
 }
 
 #[test]
