@@ -138,19 +138,38 @@ pub(crate) fn month_days(year: u64, month: usize) -> u64
     }
 }
 
+/// The days of a year.
+fn year_days(year: u64) -> u64 {
+    if is_leap(year) { 366 } else { 365 }
+}
+
+/// The days from 1970 on before a year.
+fn days_before(year: u64) -> u64 {
+    let mut days = 0u64;
+    for y in 1970..year {
+        days = days.wrapping_add(year_days(y));
+    }
+    days
+}
+
+/// The days of a year before a month.
+fn days_of_months(year: u64, month: usize) -> u64 {
+    let mut days = 0u64;
+    for m in 0..month {
+        days = days.wrapping_add(month_days(year, m));
+    }
+    days
+}
+
 /// The date of a second of a day, where there is such a day.
 fn seconds(year: u64, month: usize, day: u64, second: Option<u64>) -> Option<u64> {
     let second = second?;
     if year < 1970 || day < 1 || day > month_days(year, month) {
         return None;
     }
-    let mut days = day.wrapping_sub(1);
-    for y in 1970..year {
-        days = days.wrapping_add(if is_leap(y) { 366 } else { 365 });
-    }
-    for m in 0..month {
-        days = days.wrapping_add(month_days(year, m));
-    }
+    let days = days_before(year)
+        .wrapping_add(days_of_months(year, month))
+        .wrapping_add(day.wrapping_sub(1));
     Some(days.wrapping_mul(86400).wrapping_add(second))
 }
 
@@ -178,16 +197,28 @@ fn line(alloc: Global, entry: &SlowEntry) -> Result<String, AllocError> {
 
 /// The year, the month from 0 and the day of a day number.
 fn civil(days: u64) -> (u64, usize, u64) {
+    let (year, left) = year_of(days);
+    let (month, left) = month_of(year, left);
+    (year, month, left.wrapping_add(1))
+}
+
+/// The year of a day number, and the days of the year before that day.
+fn year_of(days: u64) -> (u64, u64) {
     let mut left = days;
     let mut year = 1970u64;
     for _ in 0..8030 {
-        let long = if is_leap(year) { 366 } else { 365 };
-        if left < long {
+        if left < year_days(year) {
             break;
         }
-        left = left.wrapping_sub(long);
+        left = left.wrapping_sub(year_days(year));
         year = year.wrapping_add(1);
     }
+    (year, left)
+}
+
+/// The month, from 0, that has the day behind so many of the year, and the days of the month before it.
+fn month_of(year: u64, days: u64) -> (usize, u64) {
+    let mut left = days;
     let mut month = 0;
     for next in 1..12usize {
         if left < month_days(year, month) {
@@ -196,7 +227,7 @@ fn civil(days: u64) -> (u64, usize, u64) {
         left = left.wrapping_sub(month_days(year, month));
         month = next;
     }
-    (year, month, left.wrapping_add(1))
+    (month, left)
 }
 
 /// The greatest date of that name below that level, and 0 where there is none.

@@ -55,31 +55,57 @@ fn compare_joined(
     compare(rt, alloc, &bytes)
 }
 
-/// The line with the byte at that place taken out, replaced by this one, and behind this one.
+/// The line with this byte in place of the one at that place, and in front of it.
 fn compare_with(rt: &impl Abort, alloc: Global, at: usize, byte: u8) -> Result<(), Fail>
     requires { at < length LINE.now }
 {
     let (before, rest) = LINE.split_at(at);
     let (_, after) = rest.split_at(1);
-    compare_joined(rt, alloc, before, b"", after)?;
     compare_joined(rt, alloc, before, &[byte], after)?;
     compare_joined(rt, alloc, before, &[byte], rest)
 }
 
-#[test]
-fn any_byte_in_any_place(rt: HostRuntime) -> Result<(), Fail> {
-    for at in 0..LINE.len() {
-        for byte in 0..=255u8 {
-            compare_with(&rt, rt.alloc(), at, byte)?;
-        }
+/// The line without the byte at that place.
+fn compare_without(rt: &impl Abort, alloc: Global, at: usize) -> Result<(), Fail>
+    requires { at < length LINE.now }
+{
+    let (before, rest) = LINE.split_at(at);
+    let (_, after) = rest.split_at(1);
+    compare_joined(rt, alloc, before, b"", after)
+}
+
+/// The line with each byte at that place.
+fn compare_each_byte(rt: &impl Abort, alloc: Global, at: usize) -> Result<(), Fail>
+    requires { at < length LINE.now }
+{
+    for byte in 0..=255u8 {
+        compare_with(rt, alloc, at, byte)?;
     }
     Ok(())
 }
 
 #[test]
+fn any_byte_in_any_place(rt: HostRuntime) -> Result<(), Fail> {
+    for at in 0..LINE.len() {
+        compare_without(&rt, rt.alloc(), at)?;
+        compare_each_byte(&rt, rt.alloc(), at)?;
+    }
+    Ok(())
+}
+
+/// A text of one line has this fault, and the slow program says the same.
+fn is_refused(rt: &impl Abort, alloc: Global, line: &str, fault: DatesFault) -> Result<(), Fail> {
+    compare(rt, alloc, line.as_bytes())?;
+    assert!(rt;
+        matches!(Dates::read(alloc, line.as_bytes()), Err(f) if f == fault),
+        "{line}"
+    );
+    Ok(())
+}
+
+#[test]
 fn words_of_other_shapes(rt: HostRuntime) -> Result<(), Fail> {
-    let alloc = rt.alloc();
-    let bad = [
+    let lines = [
         "a",
         "a 0",
         "a 0 Thu Jan 1 00:00:00",
@@ -105,17 +131,15 @@ fn words_of_other_shapes(rt: HostRuntime) -> Result<(), Fail> {
         "a\u{e9} 0 Thu Jan 1 00:00:00 1970",
         "a\u{7f} 0 Thu Jan 1 00:00:00 1970",
     ];
-    for line in bad {
-        compare(&rt, alloc, line.as_bytes())?;
-        assert!(rt;
-            matches!(
-                Dates::read(alloc, line.as_bytes()),
-                Err(DatesFault::BadLine(1))
-            ),
-            "{line}"
-        );
+    for line in lines {
+        is_refused(&rt, rt.alloc(), line, DatesFault::BadLine(1))?;
     }
-    let none = [
+    Ok(())
+}
+
+#[test]
+fn dates_that_are_none(rt: HostRuntime) -> Result<(), Fail> {
+    let lines = [
         "a 0 Thu Jan 0 00:00:00 1970",
         "a 0 Thu Jan 32 00:00:00 1970",
         "a 0 Thu Apr 31 00:00:00 1970",
@@ -127,15 +151,8 @@ fn words_of_other_shapes(rt: HostRuntime) -> Result<(), Fail> {
         "a 0 Thu Feb 29 00:00:00 1900",
         "a 0 Thu Feb 29 00:00:00 2001",
     ];
-    for line in none {
-        compare(&rt, alloc, line.as_bytes())?;
-        assert!(rt;
-            matches!(
-                Dates::read(alloc, line.as_bytes()),
-                Err(DatesFault::BadDate(1))
-            ),
-            "{line}"
-        );
+    for line in lines {
+        is_refused(&rt, rt.alloc(), line, DatesFault::BadDate(1))?;
     }
     Ok(())
 }

@@ -14,6 +14,14 @@ fn entry_numbered(alloc: Global, number: usize) -> Result<SlowEntry, AllocError>
     slow_entry(alloc, name, level, date)
 }
 
+/// The base dates of a name, at each level.
+fn compare_bases(rt: &impl Abort, dates: &Dates, list: &[SlowEntry], name: &str) {
+    for level in 0..4u8 {
+        assert_eq!(rt; dates.base(name, level), base(list, name, level));
+    }
+}
+
+/// A list's base dates, and what it is with the entry in it.
 fn compare(
     rt: &impl Abort,
     alloc: Global,
@@ -22,9 +30,7 @@ fn compare(
 ) -> Result<(), Fail> {
     let mut dates = Dates::read(alloc, text(alloc, list)?.as_bytes())?;
     for name in ["/a", "/b", "/c"] {
-        for level in 0..4u8 {
-            assert_eq!(rt; dates.base(name, level), base(list, name, level));
-        }
+        compare_bases(rt, &dates, list, name);
     }
     dates.enter(Entry::new(&entry.name, entry.level, entry.date).ok_or("an entry")?)?;
     let wanted = text(alloc, &entered(alloc, list, entry)?)?;
@@ -32,24 +38,37 @@ fn compare(
     Ok(())
 }
 
+/// The list of so many entries that a number tells, in base 8.
+fn list_numbered(alloc: Global, len: usize, number: usize) -> Result<Vec<SlowEntry>, AllocError> {
+    let mut list = Vec::new(alloc);
+    let mut left = number;
+    for _ in 0..len {
+        list.push(entry_numbered(alloc, left)?)?;
+        left /= 8;
+    }
+    Ok(list)
+}
+
+/// Three entries into each list of that length.
+fn compare_lists(rt: &impl Abort, alloc: Global, len: usize) -> Result<(), Fail> {
+    for number in 0..512usize {
+        let list = list_numbered(alloc, len, number)?;
+        compare(rt, alloc, &list, &entry_numbered(alloc, number)?)?;
+        compare(rt, alloc, &list, &entry_numbered(alloc, number / 8)?)?;
+        compare(
+            rt,
+            alloc,
+            &list,
+            &entry_numbered(alloc, number / 64 + number)?,
+        )?;
+    }
+    Ok(())
+}
+
 #[test]
 fn each_entry_into_each_short_list(rt: HostRuntime) -> Result<(), Fail> {
-    let alloc = rt.alloc();
     for len in 0..4usize {
-        for number in 0..512usize {
-            let mut list = Vec::new(alloc);
-            for at in 0..len {
-                list.push(entry_numbered(alloc, number >> (3 * at))?)?;
-            }
-            compare(&rt, alloc, &list, &entry_numbered(alloc, number)?)?;
-            compare(&rt, alloc, &list, &entry_numbered(alloc, number / 8)?)?;
-            compare(
-                &rt,
-                alloc,
-                &list,
-                &entry_numbered(alloc, number / 64 + number)?,
-            )?;
-        }
+        compare_lists(&rt, rt.alloc(), len)?;
     }
     Ok(())
 }

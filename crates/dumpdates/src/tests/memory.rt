@@ -1,7 +1,7 @@
 //! Memory that is had, and memory that is refused. The second test passes whichever allocation is refused.
 
 use crate::{Dates, DatesFault, Entry};
-use std::alloc::Global;
+use std::alloc::{AllocError, Global};
 use std::process::Abort;
 use std::test::Fail;
 
@@ -16,6 +16,12 @@ fn ample_memory(rt: HostRuntime) -> Result<(), Fail> {
     dates.enter(Entry::new("/var", 1, 5).ok_or("an entry")?)?;
     assert_eq!(rt; dates.base("/var", 2), 5);
     Ok(())
+}
+
+/// A refused growth of the allocator is want of memory here.
+#[test]
+fn refused_growths_are_want_of_memory(rt: HostRuntime) {
+    assert!(rt; DatesFault::from(AllocError) == DatesFault::OutOfMemory);
 }
 
 /// Whether an answer is one, or memory was refused and nothing else.
