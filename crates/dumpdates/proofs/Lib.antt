@@ -11,3 +11,4 @@ pub mod Again
 pub mod Lined
 pub mod Once
 pub mod Decided
+pub mod Entered

@@ -1,5 +1,6 @@
-ghost use Rattle.std.specs.Prelude.{◌≡◌, ◌⊎◌, ℕ, ◌≤◌, List};
-ghost use Rattle.dumpdates.specs.Entry.{PlainEntry, AreEntries, last_second};
+ghost use Rattle.std.specs.Prelude.{◌≡◌, ◌⊎◌, ℕ, ◌≤◌, List, [], ◌∷◌, filter};
+ghost use Rattle.dumpdates.specs.Dates.{is_same, others, entered};
+ghost use Rattle.dumpdates.specs.Entry.{PlainEntry, IsEntry, AreEntries, last_second};
 ghost use Rattle.dumpdates.specs.Lines.{SpellsDates, HasFault};
 ghost use Rattle.dumpdates.specs.Moment.{IsMoment, moment_of, seconds_at};
 ghost use Rattle.dumpdates.specs.Text.{written};
@@ -29,4 +30,16 @@ pub fn one_reading()
 pub fn written_and_read()
     ensures spelled { (entries : List PlainEntry) → AreEntries entries → SpellsDates (written entries) entries }
     ensures moment { (date : ℕ) → date ≤ last_second → IsMoment (moment_of date) × (seconds_at (moment_of date) ≡ date) }
+{}
+
+/// An entering leaves one entry of that name and level, the new one (dump(8)), and those of other names and levels as
+/// they were. To enter it a second time changes nothing. Entries within their limits stay so.
+///
+/// It does nothing: its contract is a law of the definitions.
+pub fn one_entry()
+    ensures one { (entries : List PlainEntry) (e : PlainEntry) → filter (is_same e) (entered entries e) ≡ e ∷ [] }
+    ensures stay { (entries : List PlainEntry) (e : PlainEntry) → others e (entered entries e) ≡ others e entries }
+    ensures again { (entries : List PlainEntry) (e : PlainEntry) → entered (entered entries e) e ≡ entered entries e }
+    ensures within { (entries : List PlainEntry) (e : PlainEntry) →
+        AreEntries entries → IsEntry e → AreEntries (entered entries e) }
 {}

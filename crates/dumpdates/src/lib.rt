@@ -25,4 +25,4 @@ mod writer;
 pub use dates::Dates;
 pub use entry::{Entry, LAST_SECOND};
 pub use fault::DatesFault;
-pub use laws::{one_reading, written_and_read};
+pub use laws::{one_entry, one_reading, written_and_read};

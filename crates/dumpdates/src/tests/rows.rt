@@ -1,7 +1,7 @@
 //! Texts, entries and dates that were worked out by hand.
 
 use crate::slow::{dates_of, read, slow_list, text};
-use crate::{Dates, DatesFault, Entry, LAST_SECOND, one_reading, written_and_read};
+use crate::{Dates, DatesFault, Entry, LAST_SECOND, one_entry, one_reading, written_and_read};
 use std::alloc::Global;
 use std::process::Abort;
 use std::test::Fail;
@@ -241,6 +241,7 @@ fn entries_by_their_places(rt: HostRuntime) -> Result<(), Fail> {
 #[test]
 fn laws_do_nothing() {
     one_reading();
+    one_entry();
     written_and_read();
 }
 
