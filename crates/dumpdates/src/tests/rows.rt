@@ -106,9 +106,8 @@ fn texts_are_read(rt: HostRuntime) -> Result<(), Fail> {
 }
 
 #[test]
-fn faults_have_the_first_bad_line(rt: HostRuntime) {
-    let alloc = rt.alloc();
-    let bad_lines = [
+fn a_bad_line_is_told_by_its_number(rt: HostRuntime) {
+    let texts = [
         ("a 10 Thu Jan 1 00:00:00 1970", 1),
         ("a 0 Thu Jan 1 00:00:00 1970 +0000", 1),
         (
@@ -118,10 +117,14 @@ fn faults_have_the_first_bad_line(rt: HostRuntime) {
         ("\n\n \t\nx\n", 4),
         ("x\na 0 Thu Feb 30 00:00:00 2000\n", 1),
     ];
-    for (bytes, line) in bad_lines {
-        has_fault(&rt, alloc, bytes, DatesFault::BadLine(line));
+    for (bytes, line) in texts {
+        has_fault(&rt, rt.alloc(), bytes, DatesFault::BadLine(line));
     }
-    let bad_dates = [
+}
+
+#[test]
+fn a_bad_date_is_told_by_its_line(rt: HostRuntime) {
+    let texts = [
         ("a 0 Thu Jan 1 00:00:60 1970", 1),
         ("/usr 0 Tue Feb 30 00:00:00 2000", 1),
         ("a 0 Mon Feb 29 00:00:00 2100", 1),
@@ -131,8 +134,8 @@ fn faults_have_the_first_bad_line(rt: HostRuntime) {
             3,
         ),
     ];
-    for (bytes, line) in bad_dates {
-        has_fault(&rt, alloc, bytes, DatesFault::BadDate(line));
+    for (bytes, line) in texts {
+        has_fault(&rt, rt.alloc(), bytes, DatesFault::BadDate(line));
     }
 }
 
@@ -195,24 +198,34 @@ fn entering_keeps_places(rt: HostRuntime) -> Result<(), Fail> {
 
 #[test]
 fn entries_within_their_limits(rt: HostRuntime) -> Result<(), Fail> {
+    let entry = Entry::new("/usr", 3, 951827696).ok_or("an entry")?;
+    assert_eq!(rt;
+        (entry.name, entry.level, entry.date),
+        ("/usr", 3, 951827696)
+    );
+    assert!(rt; Entry::new("!~", 0, 0).is_some());
+    assert!(rt; Entry::new("a", 9, LAST_SECOND).is_some());
+    assert!(rt; Entry::new("a", 10, 0).is_none());
+    assert!(rt; Entry::new("a", 0, LAST_SECOND + 1).is_none());
+    Ok(())
+}
+
+#[test]
+fn names_that_are_none(rt: HostRuntime) {
+    for name in ["", " ", "a b", "a\t", "a\n", "\u{7f}", "\u{e9}"] {
+        assert!(rt; Entry::new(name, 0, 0).is_none());
+    }
+}
+
+#[test]
+fn names_of_255_and_256_bytes(rt: HostRuntime) -> Result<(), Fail> {
     let mut long = String::new(rt.alloc());
     for _ in 0..256 {
         long.push('n')?;
     }
     let longest = long.get(..255).ok_or("255 bytes")?;
     assert!(rt; Entry::new(longest, 9, LAST_SECOND).is_some());
-    assert!(rt; Entry::new("!~", 0, 0).is_some());
-    for name in ["", " ", "a b", "a\t", "a\n", "\u{7f}", "\u{e9}"] {
-        assert!(rt; Entry::new(name, 0, 0).is_none());
-    }
     assert!(rt; Entry::new(&long, 0, 0).is_none());
-    assert!(rt; Entry::new("a", 10, 0).is_none());
-    assert!(rt; Entry::new("a", 0, LAST_SECOND + 1).is_none());
-    let entry = Entry::new("/usr", 3, 951827696).ok_or("an entry")?;
-    assert_eq!(rt;
-        (entry.name, entry.level, entry.date),
-        ("/usr", 3, 951827696)
-    );
     Ok(())
 }
 
