@@ -1,4 +1,5 @@
-//! Whole streams against bytes that were written by hand.
+//! Whole streams and files against bytes that were written by hand.
 
+mod dates;
 mod failing;
 mod rows;

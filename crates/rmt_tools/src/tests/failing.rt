@@ -6,7 +6,7 @@ use std::io::{self, ErrorKind, Read, Write};
 
 /// Each read and each write fails.
 #[derive(Clone, Copy)]
-struct Failing;
+pub(super) struct Failing;
 
 impl Read for Failing {
     fn read(&mut self, _: &mut [u8]) -> io::Result<usize> {

@@ -1,0 +1,45 @@
+-- What dumpdates is asked by `rdump dates`, what is printed, and the status that it ends with.
+use Rattle.std.specs.Prelude.{◌≡◌, ◌⊎◌, ℕ, List, [], ◌∷◌, ◌++◌, Option, Some, None, codes, decimal, option_map}
+use Rattle.std.specs.Borrow.{Bor}
+use Rattle.std.specs.Io.KnownBytes.{Appends}
+use Rattle.dumpdates.specs.Dates.{base_of}
+use Rattle.dumpdates.specs.Entry.{PlainEntry}
+use Rattle.dumpdates.specs.Lines.{SpellsDates, HasFault}
+use Rattle.dumpdates.specs.Text.{written, line_feed}
+use Rattle.dumpdates.specs.declared.fault.DatesFault.{DatesFault}
+use Rattle.dumpdates.specs.declared.fault.DatesFault.TheVariants.{BadLine, BadDate, OutOfMemory}
+use Rattle.rmt_wire.specs.Counted.{Counting, HasRisen}
+use Rattle.rmt_wire.specs.Writer.{AppendsBeginning}
+
+-- the name and the level that are asked for, as plain values
+abbrev pub plain_asked : Option (Bor (List ℕ) × ℕ) → Option (List ℕ × ℕ)
+plain_asked asked = option_map (λ a. (a.0.now, a.1)) asked
+
+-- the text anew, or the base date of a name at a level as a line of digits
+abbrev pub answer_text : Option (List ℕ × ℕ) → List PlainEntry → List ℕ
+answer_text None entries = written entries
+answer_text (Some (name, level)) entries = decimal (base_of entries name level) ++ line_feed ∷ []
+
+-- the line of a fault
+abbrev pub fault_text : DatesFault → List ℕ
+fault_text (BadLine n) = codes "line " ++ decimal n ++ codes ": bad line\n"
+fault_text (BadDate n) = codes "line " ++ decimal n ++ codes ": bad date\n"
+fault_text OutOfMemory = codes "out of memory\n"
+
+-- Where the file spells entries, their answer is to be printed, with status 0. Else its fault is, with status 1. So is want
+-- of memory, which can come only where an entry is reached.
+abbrev pub IsAnswer : List ℕ → Option (List ℕ × ℕ) → List ℕ → ℕ → Type 0
+IsAnswer file asked text status =
+    ((entries : List PlainEntry) × SpellsDates file entries × (text ≡ answer_text asked entries) × (status ≡ 0))
+    ⊎ ((fault : DatesFault) × HasFault file fault × (text ≡ fault_text fault) × (status ≡ 1))
+
+-- The text was printed, and the status is as wanted. Or a write failed, a beginning of it was printed, and the status is 1.
+abbrev pub IsPrinted : {W : Type 0} → (W → Option (List ℕ)) → List ℕ → ℕ → Counting W → Counting W → ℕ → Type 0
+IsPrinted contents text wanted out out' status =
+    (Appends (contents out.inner) (contents out'.inner) text × (out'.failures ≡ out.failures) × (status ≡ wanted))
+    ⊎ (AppendsBeginning (contents out.inner) (contents out'.inner) text × HasRisen out.failures out'.failures × (status ≡ 1))
+
+-- the answer of the file to what is asked was printed
+abbrev pub IsDates : {W : Type 0} → (W → Option (List ℕ)) → List ℕ → Option (List ℕ × ℕ) → Counting W → Counting W → ℕ → Type 0
+IsDates contents file asked out out' status =
+    (text : List ℕ) × (wanted : ℕ) × IsAnswer file asked text wanted × IsPrinted contents text wanted out out' status
