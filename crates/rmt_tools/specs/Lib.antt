@@ -1,2 +1,3 @@
 pub mod Stdio
 pub mod Dates
+pub mod Rdump

@@ -1,11 +1,13 @@
-//! What the programs do, over the crates below: one stream served with a drive in memory, and a dumpdates file that is
-//! asked.
+//! What the programs do, over the crates below: one stream served with a drive in memory, a dumpdates file that is
+//! asked, and the words of `rdump`.
 #![tactic(auto)]
 
 mod dates_file;
+mod rdump_line;
 mod stdio;
 #[cfg(test)]
 mod tests;
 
 pub use dates_file::dates;
+pub use rdump_line::{RdumpLine, rdump_words};
 pub use stdio::run_stdio;

@@ -1,5 +1,6 @@
-//! Whole streams and files against bytes that were written by hand.
+//! Whole streams, files and words against what was written by hand.
 
 mod dates;
 mod failing;
 mod rows;
+mod words;

@@ -14,9 +14,12 @@ use tape::Reel;
 
 /// The first record of the reel on the stack, of which 8 bytes are read at most.
 fn first_record<'a>(drives: &mut Drives, into: &'a mut [u8; 8]) -> Result<&'a [u8], Fail> {
-    let mut reel = drives.stacks.latch(0)?;
+    let Some(drive) = drives.stacks.drive(b"/dev/st0") else {
+        return Err(Fail::new("no drive"));
+    };
+    let mut reel = drives.stacks.latch(drive)?;
     let count = reel.read(into)?;
-    drives.stacks.unlatch(0, reel);
+    drives.stacks.unlatch(drive, reel);
     Ok(&into[..count.min(8)])
 }
 
