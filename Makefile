@@ -1,15 +1,24 @@
-# Builds, runs, tests and measures the tape server. It needs the Rattle kit's `rt` in PATH, and Python 3.
+# Builds, runs, tests and measures the tape server and the dump client. It needs the Rattle kit's `rt` in PATH, and
+# Python 3.
 
 RMTD := crates/rmtd
+RDUMP := crates/rdump
 PROGRAM := $(RMTD)/out/rmtd
+CLIENT := $(RDUMP)/out/rdump
 ANSWERED := $(RMTD)/out/answered
 
-.PHONY: build run test bench help kit
+.PHONY: build server client run test bench help kit
+.NOTPARALLEL:
 
-build: kit ## prove the server and build it (the first time takes minutes)
+build: server client ## prove the programs and build them (the first time takes minutes)
+
+server: kit
 	cd $(RMTD) && rt run -- --stdio < /dev/null
 
-run: build ## the main job: one conversation through `rmtd --stdio`, its answers beside those expected
+client: kit
+	cd $(RDUMP) && rt run -- dates --file /dev/null
+
+run: server ## the main job: one conversation through `rmtd --stdio`, its answers beside those expected
 	@echo 'Sent to rmtd --stdio:'
 	@sed 's/^/  /' $(RMTD)/stdin
 	@$(PROGRAM) --stdio < $(RMTD)/stdin > $(ANSWERED)
@@ -17,15 +26,17 @@ run: build ## the main job: one conversation through `rmtd --stdio`, its answers
 	@diff --side-by-side --width=40 $(RMTD)/stdout $(ANSWERED)
 	@echo 'Each answer is as expected.'
 
-# The program that is tested is the one that `rt ci` has just proved and built, where it left one.
-test: kit ## the gate: each proof from nothing, then the built server against its protocol, to the byte
-	rm -f $(PROGRAM)
+# The programs that are tested are those that `rt ci` has just proved and built, where it left them.
+test: kit ## the gate: each proof from nothing, then the built programs from outside, to the byte
+	rm -f $(PROGRAM) $(CLIENT)
 	rt ci
-	test -x $(PROGRAM) || $(MAKE) build
+	test -x $(PROGRAM) -a -x $(CLIENT) || $(MAKE) build
 	python3 tests/rows.py $(PROGRAM)
+	python3 tests/dates.py $(CLIENT)
 
-bench: build ## long streams through the server, beside cat and GNU rmt; its memory on the way
+bench: build ## long streams through the server, beside cat and GNU rmt; a long dumpdates file, beside cat and wc
 	python3 bench/stdio.py $(PROGRAM)
+	python3 bench/dates.py $(CLIENT)
 
 help: ## list these words
 	@sed -n 's/^\([a-z]*\):.*## /  make \1\t/p' $(MAKEFILE_LIST) | expand -t 14
