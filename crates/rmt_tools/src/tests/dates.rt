@@ -50,6 +50,10 @@ fn each_text_is_printed_anew(rt: HostRuntime) {
 /// Two dumps of one file system.
 const TWO: &[u8] = b"/usr 0 Tue Feb 29 00:00:00 2000\n/usr 1 Wed Mar  1 00:00:00 2000\n";
 
+/// What is written of them.
+const TWO_ANEW: &[u8] =
+    b"/usr                             0 Tue Feb 29 00:00:00 2000\n/usr                             1 Wed Mar  1 00:00:00 2000\n";
+
 #[test]
 fn each_base_is_printed(rt: HostRuntime) {
     let alloc = rt.alloc();
@@ -90,4 +94,19 @@ fn a_failed_write_gives_the_status_of_a_failure(rt: HostRuntime) {
     assert_eq!(rt; dates(rt.alloc(), TWO, Some(("/usr", 1)), &mut out), 1);
     assert_eq!(rt; dates(rt.alloc(), b"x", None, &mut out), 1);
     assert_eq!(rt; out.failures(), 3);
+}
+
+/// Passes whichever allocation is refused: the answer is printed, or what is wrong, into a room that takes no memory.
+#[test]
+fn refused_memory_is_told(rt: HostRuntime) {
+    let mut room = [0; 256];
+    let mut out = Counted::new(room.as_mut_slice());
+    let status = dates(rt.alloc(), TWO, None, &mut out);
+    let left = out.into_inner().len();
+    let printed = &room[..room.len().saturating_sub(left)];
+    if status == 0 {
+        assert_eq!(rt; printed, TWO_ANEW);
+    } else {
+        assert_eq!(rt; printed, b"out of memory\n".as_slice());
+    }
 }
