@@ -1,12 +1,12 @@
 //! One drive in memory, and one stream that is served with it.
 
-ghost use Rattle.std.specs.Prelude.{◌≡◌, ◌<◌, IfOk, length};
+ghost use Rattle.std.specs.Prelude.{◌≡◌, ◌≤◌, IfOk, length};
 ghost use Rattle.rmt_server.specs.Carrying.{IsAt};
 ghost use Rattle.drives.specs.contracts.local.LocalHoldsHolds.TheImpl.{ghosts as of_holds};
 ghost use Rattle.drives.specs.contracts.list.ListStacksStacks.TheImpl.{ghosts as of_stacks};
 
 use crate::{ServeFault, Served, Session, serve};
-use drives::{DriveTable, Holds, ListStacks, LocalHolds};
+use drives::{DriveTable, Holds, ListStacks, LocalHolds, Stacks};
 use rmt_wire::{Counted, RequestReader};
 use std::alloc::Global;
 use std::io::{Read, Write};
@@ -76,17 +76,18 @@ pub(crate) fn serve_once<R: Read + Drop, W: Write + Drop>(
         ending,
         failed_reads: input.failures(),
         failed_writes: output.failures(),
-        holder: first_holder(&mut drives.holds),
+        holder: first_holder(&mut drives),
         drives,
     })
 }
 
-/// The number of the seat that holds the first drive, or 0. None where no seat is left to ask.
-pub(crate) fn first_holder(holds: &mut LocalHolds) -> Option<u64>
-    requires { 0 < length holds.old.numbers }
+/// The number of the seat that holds the drive, or 0. None where no seat is left to ask.
+pub(crate) fn first_holder(drives: &mut Drives) -> Option<u64>
+    requires { length drives.old.stacks.shop.racks ≤ length drives.old.holds.numbers }
 {
-    let mut seat = holds.seat()?;
-    Some(holds.holder(&mut seat, 0))
+    let drive = drives.stacks.drive(b"/dev/st0")?;
+    let mut seat = drives.holds.seat()?;
+    Some(drives.holds.holder(&mut seat, drive))
 }
 
 /// How one stream ended, as a number: 0 between two requests, 2 inside one, 3 at bytes that are no request, and 1

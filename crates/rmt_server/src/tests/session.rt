@@ -59,6 +59,6 @@ fn a_session_from_beginning_to_end(rt: HostRuntime) -> Result<(), Fail> {
     assert_eq!(rt; online, Some((0, 0)));
     session.end(&mut drives);
     assert!(rt; session.reel().is_none());
-    assert_eq!(rt; first_holder(&mut drives.holds), Some(0));
+    assert_eq!(rt; first_holder(&mut drives), Some(0));
     Ok(())
 }
