@@ -3,7 +3,9 @@
 ghost use Rattle.std.specs.Prelude.{◌≡◌, IfOk, length};
 
 mod list;
+mod orders;
 pub(crate) mod slow_holds;
+mod slow_shop;
 
 use crate::{DriveFault, DriveTable, Holds, ListStacks, LocalHolds, Stacks, Taken};
 use std::alloc::Global;

@@ -1,0 +1,68 @@
+//! Which reels lie where, kept plainly in lists of names of one letter, to compare stacks with.
+
+use std::alloc::Global;
+use std::test::Fail;
+
+/// What is done with the first reel of a drive, once it is latched.
+#[derive(Clone, Copy, Debug, PartialEq, Eq)]
+pub(crate) enum Round {
+    /// It is laid back.
+    LaidBack,
+    /// It is moved to the bin.
+    Moved,
+    /// It stays latched.
+    Latched,
+}
+
+/// The names on a drive's stack, and whether the first of them is latched.
+#[derive(Drop)]
+pub(crate) struct SlowDrive {
+    pub(crate) names: Vec<u8>,
+    pub(crate) latched: bool,
+}
+
+/// Two drives, and the names in the bin.
+#[derive(Drop)]
+pub(crate) struct SlowShop {
+    pub(crate) first: SlowDrive,
+    pub(crate) second: SlowDrive,
+    pub(crate) bin: Vec<u8>,
+}
+
+impl SlowShop {
+    /// The drives with these reels on their stacks.
+    pub(crate) fn new(alloc: Global, first: &[u8], second: &[u8]) -> Result<SlowShop, Fail> {
+        Ok(SlowShop {
+            first: SlowDrive {
+                names: Vec::from_slice(alloc, first)?,
+                latched: false,
+            },
+            second: SlowDrive {
+                names: Vec::from_slice(alloc, second)?,
+                latched: false,
+            },
+            bin: Vec::new(alloc),
+        })
+    }
+
+    /// One round at the first drive (0) or the second. Answers whether a reel could be latched.
+    pub(crate) fn act(&mut self, drive: usize, round: Round) -> Result<bool, Fail> {
+        let drive = if drive == 0 {
+            &mut self.first
+        } else {
+            &mut self.second
+        };
+        if drive.latched || drive.names.is_empty() {
+            return Ok(false);
+        }
+        match round {
+            Round::LaidBack => (),
+            Round::Moved => {
+                let name = drive.names.remove(0);
+                self.bin.push(name)?;
+            }
+            Round::Latched => drive.latched = true,
+        }
+        Ok(true)
+    }
+}
