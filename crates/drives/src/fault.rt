@@ -1,8 +1,8 @@
 use std::alloc::AllocError;
 use thiserror::Error;
 
-/// Why a drive was not opened, or a reel not moved. After each the seat holds what it held before, and stacks and
-/// bin are as they were.
+/// Why a drive was not opened or added, or a reel not moved or added. After each the seat holds what it held before,
+/// and stacks and bin are as they were.
 #[derive(Clone, Copy, Debug, PartialEq, Eq, Error)]
 pub enum DriveFault {
     /// There is no drive of that name.
@@ -20,7 +20,7 @@ pub enum DriveFault {
     /// A growth was refused.
     #[error("OutOfMemory")]
     OutOfMemory,
-    /// The bin has a reel of that name.
+    /// The bin has a reel of the name of one to be moved there, or what is to be added has a name that is taken.
     #[error("NameTaken")]
     NameTaken,
 }
