@@ -1,6 +1,8 @@
 //! Holds, stacks and their table, one call after another.
 
-ghost use Rattle.std.specs.Prelude.{◌≡◌, IfOk, length};
+ghost use Rattle.std.specs.Prelude.{◌≡◌, [], ◌∷◌, Some, IfOk, length, codes};
+ghost use Rattle.drives.specs.Shop.{shop, rack, slot, kept};
+ghost use Rattle.drives.specs.ListShop.{IsShop, CanFail, with_shop, empty_shop, with_reel, with_drive};
 
 mod list;
 mod orders;
@@ -13,7 +15,10 @@ use std::test::Fail;
 
 /// The drive `/dev/st0` with one empty reel.
 fn one_reel(alloc: Global) -> Result<ListStacks, Fail>
-    ensures { IfOk result (λ stacks. length stacks.shop.racks ≡ 1) }
+    ensures count { IfOk result (λ stacks. length stacks.shop.racks ≡ 1) }
+    ensures is { IfOk result (λ stacks. stacks ≡ with_shop empty_shop (with_reel (with_drive (shop [] []) (codes "/dev/st0")) 0 (codes "reel") 100)) }
+    ensures told { IfOk result (λ stacks. IsShop stacks (shop (rack (codes "/dev/st0") (slot (codes "reel") (Some (kept [] 100)) ∷ []) ∷ []) [])) }
+    ensures quiet { IfOk result (λ stacks. CanFail stacks → ⊥) }
 {
     let mut stacks = ListStacks::new(alloc);
     let drive = stacks.add_drive(b"/dev/st0")?;
