@@ -1,10 +1,14 @@
--- What a writer writes spells its reply.
-use Rattle.std.proofs.Common.{◌≡◌, ℕ, ◌^◌, ◌<◌, ◌≤◌, List, [], ◌∷◌, ◌++◌, length, length-append, take, decimal, refl, sym, arith}
+-- What a writer writes spells its reply or its request.
+use Rattle.std.proofs.Common.{◌≡◌, ℕ, ◌^◌, ◌<◌, ◌≤◌, List, [], ◌∷◌, ◌++◌, length, length-append, take, decimal, refl, sym, ap, subst, ◌∙◌, arith, append_assoc, append-nil, inl}
 use Rattle.std.proofs.lemmas.Fmt.{decimal_is_IsNumeral, length-decimal-le}
-use Rattle.std.proofs.lemmas.List.{take_all}
-use Rattle.rmt_wire.specs.Number.{SpellsNumber}
+use Rattle.std.proofs.lemmas.List.{take_all, nil_from_length}
+use Rattle.rmt_wire.specs.Number.{SpellsNumber, IsLine, line_feed}
 use Rattle.rmt_wire.specs.Reply.{PlainReply, Wanted, HasSpelling, AnswersTo, SpellsReply, reply_text}
 use Rattle.rmt_wire.specs.Reply.PlainReply.{Done, Data, Error}
+use Rattle.rmt_wire.specs.Request as requests
+use Rattle.rmt_wire.specs.Request.{PlainRequest, SpellsRequest, request_text, IsTextOf}
+use Rattle.rmt_wire.specs.Request.PlainRequest.{Open, Close, Write, WriteDropped, Read, Op}
+use Rattle.rmt_wire.proofs.Align.{digits_no_feed}
 use Rattle.rmt_wire.specs.Reply.Wanted.{Number, DataUpTo}
 
 -- a number as Rust prints it has at most ten digits
@@ -35,3 +39,35 @@ reply_text_spells (Data bytes) spelled (DataUpTo most) answers =
     (decimal (length bytes), decimal_spells (length bytes) spelled, answers, refl)
 reply_text_spells (Error n text) spelled wanted answers =
     (decimal n, text, decimal_spells n spelled.0, spelled.2, sym (take_all 255 text spelled.1), refl)
+
+-- a number as Rust prints it is a line
+decimal_is_line : (n : ℕ) → n ≤ 2147483647 → IsLine (decimal n)
+decimal_is_line n small =
+    let s = decimal_spells n small in
+    let few = s.few in
+    (omega arith, digits_no_feed (decimal n) s.digits.1)
+
+-- what spells the request with nothing behind it
+whole_text : (request : PlainRequest) → requests.unsent request ≡ 0 → SpellsRequest (request_text request) request → IsTextOf (request_text request) request
+whole_text request none s = λ more long.
+    let nothing : more ≡ [] = nil_from_length more (long ∙ none) in
+    subst (λ t. SpellsRequest t request) (sym (ap (λ l. request_text request ++ l) nothing ∙ append-nil (request_text request))) s
+
+-- what a writer writes of a request spells it, once the data follow that were dropped
+pub request_text_spells : (request : PlainRequest) → requests.HasSpelling request → IsTextOf (request_text request) request
+request_text_spells (Open device mode) h =
+    whole_text (Open device mode) refl (decimal mode, h.0, (decimal_is_line mode h.1, inl (decimal_spells mode h.1)), refl)
+request_text_spells Close h = whole_text Close refl ([], (omega arith, tt), refl)
+request_text_spells (Write written) h =
+    whole_text (Write written) refl (decimal (length written), decimal_spells (length written) (omega arith), h, refl)
+request_text_spells (WriteDropped count) h = λ more long. (
+  decimal count,
+  more,
+  decimal_spells count h.1,
+  h.0,
+  long,
+  ap (λ l. 87 ∷ l) (append_assoc (decimal count) (line_feed ∷ []) more),
+)
+request_text_spells (Read count) h = whole_text (Read count) refl (decimal count, decimal_spells count h, refl)
+request_text_spells (Op op count) h =
+    whole_text (Op op count) refl (decimal op, decimal count, decimal_spells op h.0, decimal_spells count h.1, refl)

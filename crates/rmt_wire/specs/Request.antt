@@ -1,5 +1,5 @@
 -- Requests as values, and how each is spelled (rmt(8)).
-use Rattle.std.specs.Prelude.{◌≡◌, ◌⊎◌, ℕ, ◌<◌, ◌≤◌, List, [], ◌∷◌, ◌++◌, length}
+use Rattle.std.specs.Prelude.{◌≡◌, ◌⊎◌, ℕ, ◌<◌, ◌≤◌, List, [], ◌∷◌, ◌++◌, length, decimal}
 use Rattle.rmt_wire.specs.Number.{SpellsNumber, IsLine, line_feed, space}
 
 -- a request as a value
@@ -36,3 +36,36 @@ SpellsRequest bytes (Read count) = (number : List ℕ) × SpellsNumber number co
 SpellsRequest bytes (Op op count) =
     (first : List ℕ) × (second : List ℕ) × SpellsNumber first op × SpellsNumber second count
     × (bytes ≡ 73 ∷ (first ++ line_feed ∷ (second ++ line_feed ∷ [])))
+
+-- a request that a writer can spell: its device is one line of at most 255 bytes, its numbers are at most 2147483647, and it
+-- writes or drops as many bytes as its kind has
+abbrev pub HasSpelling : PlainRequest → Type 0
+HasSpelling (Open device mode) = IsLine device × (mode ≤ 2147483647)
+HasSpelling Close = Unit {0}
+HasSpelling (Write written) = length written ≤ data_limit
+HasSpelling (WriteDropped count) = (data_limit < count) × (count ≤ 2147483647)
+HasSpelling (Read count) = count ≤ 2147483647
+HasSpelling (Op op count) = (op ≤ 2147483647) × (count ≤ 2147483647)
+
+-- what a writer writes: numbers without leading zeros, a mode as its number alone, a close without a text; of a dropped write
+-- the line alone
+abbrev pub request_text : PlainRequest → List ℕ
+request_text (Open device mode) = 79 ∷ (device ++ line_feed ∷ (decimal mode ++ line_feed ∷ []))
+request_text Close = 67 ∷ (line_feed ∷ [])
+request_text (Write written) = 87 ∷ (decimal (length written) ++ line_feed ∷ written)
+request_text (WriteDropped count) = 87 ∷ (decimal count ++ line_feed ∷ [])
+request_text (Read count) = 82 ∷ (decimal count ++ line_feed ∷ [])
+request_text (Op op count) = 73 ∷ (decimal op ++ line_feed ∷ (decimal count ++ line_feed ∷ []))
+
+-- how many bytes are still to follow what a writer writes
+abbrev pub unsent : PlainRequest → ℕ
+unsent (Open device mode) = 0
+unsent Close = 0
+unsent (Write written) = 0
+unsent (WriteDropped count) = count
+unsent (Read count) = 0
+unsent (Op op count) = 0
+
+-- the text spells the request, once as many bytes of any kind follow as are still to follow
+abbrev pub IsTextOf : List ℕ → PlainRequest → Type 0
+IsTextOf text request = (more : List ℕ) → length more ≡ unsent request → SpellsRequest (text ++ more) request

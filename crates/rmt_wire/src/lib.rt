@@ -1,10 +1,11 @@
 //! The wire of the remote magtape protocol (rmt(8)): requests and replies, their grammar, a reader that lends
-//! requests from a fixed buffer, and a writer of replies.
+//! requests from a fixed buffer, and writers of both.
 //!
 //! `RequestReader` splits a stream into requests, however it is cut; `write_reply` writes a reply; `Counted` counts
-//! the failures of the streams of both.
+//! the failures of the streams of both; `push_request` and `push_reply` append a request and a reply.
 #![tactic(auto)]
 
+mod append;
 mod counted;
 #[cfg(test)]
 mod fake;
@@ -25,6 +26,7 @@ mod slow;
 mod tests;
 mod writer;
 
+pub use append::{push_reply, push_request};
 pub use counted::Counted;
 pub use fault::WireFault;
 pub use laws::{dropped_writes, one_reading, one_reply};

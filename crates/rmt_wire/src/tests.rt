@@ -1,6 +1,7 @@
 mod fed;
 mod first_bytes;
 mod limits;
+mod pushed;
 mod replied;
 mod replies;
 mod reply_faults;

@@ -55,7 +55,7 @@ pub fn write_reply<W: Write>(out: &mut Counted<W>, reply: &Reply<'_>) -> Result<
 
 // A letter, a number, a line feed.
 #[tactic(auto, using(crate::proofs::Spelling::short_heads))]
-fn numbered(letter: u8, number: usize) -> ShortText
+pub(crate) fn numbered(letter: u8, number: usize) -> ShortText
     requires { number ≤ NUMBER_LIMIT }
     ensures text { result ≡ letter ∷ (decimal number ++ line_feed ∷ []) }
     ensures short { length result ≤ 12 }
