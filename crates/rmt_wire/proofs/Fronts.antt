@@ -47,7 +47,7 @@ some_write number written n s long =
     (cases_lt data_limit n)
 
 -- the end of a number on a line of its own is a line feed
-end_feed : (stop : ℕ) → ends_number false stop ≡ true → stop ≡ line_feed
+pub end_feed : (stop : ℕ) → ends_number false stop ≡ true → stop ≡ line_feed
 end_feed stop h = grind (arith, nat_tests)
 
 pub end_mode : (stop : ℕ) → ends_number true stop ≡ true → stop ≢ line_feed → stop ≡ space

@@ -12,3 +12,8 @@ pub mod Replies
 pub mod Splitting
 pub mod Spelling
 pub mod Beginnings
+pub mod Counts
+pub mod Texts
+pub mod ReplyFronts
+pub mod ReplyGiving
+pub mod ReplyNexts

@@ -14,13 +14,13 @@ by_test P true x y p q = p refl
 by_test P false x y p q = q refl
 
 -- a digit's value, by the range that it lies in
-digit_known : (d : ℕ) → is_digit d ≡ true → digit_value d ≡ d - 48
+pub digit_known : (d : ℕ) → is_digit d ≡ true → digit_value d ≡ d - 48
 digit_known d h = grind (arith, nat_tests)
 
-digit_small : (d : ℕ) → is_digit d ≡ true → digit_value d < 10
+pub digit_small : (d : ℕ) → is_digit d ≡ true → digit_value d < 10
 digit_small d h = grind (arith, nat_tests)
 
-is_digit_from_value : (d : ℕ) → digit_value d < 10 → is_digit d ≡ true
+pub is_digit_from_value : (d : ℕ) → digit_value d < 10 → is_digit d ≡ true
 is_digit_from_value d h = let r = digit_from_value d h in grind (arith, nat_tests)
 
 -- what ends a number is no digit
@@ -68,11 +68,11 @@ NumberView m v c bytes (Err fault) =
     (digits later : List ℕ) × (stop : ℕ) × AreDigits v c digits × (bytes ≡ digits ++ stop ∷ later) × (fault ≡ BadNumber)
     × ((more : List ℕ) → number_from m v c (digits ++ stop ∷ more) ≡ Err BadNumber)
 
-no_digits : (v c : ℕ) → v ≤ 2147483647 → c ≤ 10 → AreDigits v c []
+pub no_digits : (v c : ℕ) → v ≤ 2147483647 → c ≤ 10 → AreDigits v c []
 no_digits v c small few = record { each = tt; small = small; few = omega arith }
 
 -- the same with one digit more in front
-one_more : (v c b : ℕ) (digits : List ℕ) → is_digit b ≡ true → AreDigits (v * 10 + (b - 48)) (c + 1) digits → AreDigits v c (b ∷ digits)
+pub one_more : (v c b : ℕ) (digits : List ℕ) → is_digit b ≡ true → AreDigits (v * 10 + (b - 48)) (c + 1) digits → AreDigits v c (b ∷ digits)
 one_more v c b digits digit d =
     let few = d.few in
     record {

@@ -3,12 +3,15 @@ use Rattle.std.specs.Prelude.{ℕ, Option, Some, None, Result, Ok, Err}
 use Rattle.rmt_wire.specs.Request.{PlainRequest}
 use Rattle.rmt_wire.specs.Request.PlainRequest.{Open, Close, Write, WriteDropped, Read, Op}
 use Rattle.rmt_wire.specs.Reply.{PlainReply}
+use Rattle.rmt_wire.specs.Reply as kinds
 use Rattle.rmt_wire.specs.Reply.PlainReply.{Done, Data, Error}
 use Rattle.rmt_wire.specs.declared.fault.WireFault.{WireFault}
 use Rattle.rmt_wire.specs.declared.request.Request.{Request}
 use Rattle.rmt_wire.specs.declared.request.Request.TheVariants as lent
 use Rattle.rmt_wire.specs.declared.reply.Reply.{Reply}
 use Rattle.rmt_wire.specs.declared.reply.Reply.TheVariants as reply
+use Rattle.rmt_wire.specs.declared.wanted.Wanted.{Wanted}
+use Rattle.rmt_wire.specs.declared.wanted.Wanted.TheVariants as wanted
 
 abbrev pub plain_request : Request → PlainRequest
 plain_request (lent.Open device mode) = Open device.now mode
@@ -28,3 +31,18 @@ abbrev pub lent_front : Result (Option (Request × ℕ)) WireFault → Result (O
 lent_front (Ok None) = Ok None
 lent_front (Ok (Some found)) = Ok (Some (plain_request found.0, found.1))
 lent_front (Err fault) = Err fault
+
+-- what is waited for, as the value that it is
+abbrev pub plain_wanted : Wanted → kinds.Wanted
+plain_wanted wanted.Number = kinds.Wanted.Number
+plain_wanted (wanted.Data most) = kinds.Wanted.DataUpTo most
+
+abbrev pub plain_wanted_if_some : Option Wanted → Option kinds.Wanted
+plain_wanted_if_some None = None
+plain_wanted_if_some (Some wanted) = Some (plain_wanted wanted)
+
+-- a lent reply and its length
+abbrev pub lent_reply : Result (Option (Reply × ℕ)) WireFault → Result (Option (PlainReply × ℕ)) WireFault
+lent_reply (Ok None) = Ok None
+lent_reply (Ok (Some found)) = Ok (Some (plain_reply found.0, found.1))
+lent_reply (Err fault) = Err fault

@@ -5,5 +5,8 @@ pub mod Lent
 pub mod Front
 pub mod Parts
 pub mod Reader
+pub mod ReplyParts
+pub mod ReplyFront
+pub mod ReplyReader
 pub mod Counted
 pub mod Writer

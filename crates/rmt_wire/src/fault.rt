@@ -2,7 +2,7 @@ use thiserror::Error;
 
 /// Why bytes are no request, or no reply. Each is known at the first byte that rules every spelling out.
 ///
-/// `RequestReader` gives the first three. The others are for a reader of replies.
+/// `RequestReader` gives the first three; `ReplyReader` gives `BadNumber`, `NotAReply` and `TooMuchData`.
 #[derive(Clone, Copy, Debug, PartialEq, Eq, Error)]
 pub enum WireFault {
     /// The first byte of a request is none of `O C W R I`.
@@ -18,7 +18,8 @@ pub enum WireFault {
     /// The first byte of a reply is neither `A` nor `E`.
     #[error("NotAReply")]
     NotAReply,
-    /// A reply to a read has more bytes than were wanted, or a byte came while no reply was wanted.
+    /// A reply to a read says more bytes than were wanted, which comes before a bad number; or a byte came while no
+    /// reply was wanted.
     #[error("TooMuchData")]
     TooMuchData,
 }

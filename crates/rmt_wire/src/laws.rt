@@ -1,8 +1,12 @@
-ghost use Rattle.std.specs.Prelude.{◌≡◌, ◌⊎◌, ◌↔◌, ℕ, List, [], ◌++◌, Option, Some, Result};
+ghost use Rattle.std.specs.Prelude.{◌≡◌, ◌⊎◌, ◌↔◌, ℕ, List, [], ◌∷◌, ◌++◌, take, Option, Some, Result};
+ghost use Rattle.rmt_wire.specs.Number.{HasNoLineFeed, line_feed};
 ghost use Rattle.rmt_wire.specs.Request.{PlainRequest};
 ghost use Rattle.rmt_wire.specs.Reply.{PlainReply, Wanted, SpellsReply};
 ghost use Rattle.rmt_wire.specs.Parts.{IsOpen, HasFault, Parts, Gives, IsDroppedLine};
 ghost use Rattle.rmt_wire.specs.Reader.{dropped_line};
+ghost use Rattle.rmt_wire.specs.ReplyFront.{kept_of};
+ghost use Rattle.rmt_wire.specs.ReplyParts as replies;
+ghost use Rattle.rmt_wire.specs.ReplyReader.{IsErrorText};
 ghost use Rattle.rmt_wire.specs.declared.fault.WireFault.{WireFault};
 
 /// A stream falls into requests and a rest, and in one way only: the rest is a beginning of a request, or has a
@@ -32,4 +36,27 @@ pub fn dropped_writes()
 pub fn one_reply()
     ensures { (wanted : Wanted) (text more : List ℕ) (reply other : PlainReply) →
         SpellsReply text reply wanted → SpellsReply (text ++ more) other wanted → (more ≡ []) × (reply ≡ other) }
+{}
+
+/// Of the bytes since a reply was waited for, a reader can give one thing, and one only: the reply, none yet, or a
+/// fault.
+///
+/// It does nothing: its contract is a law of the definitions.
+pub fn one_reply_reading()
+    ensures answers { (wanted : Option Wanted) (bytes rest other : List ℕ) (answer another : Result (Option PlainReply) WireFault) →
+        replies.Gives wanted bytes answer rest → replies.Gives wanted bytes another other → (answer ≡ another) × (rest ≡ other) }
+    ensures some_answer { (wanted : Option Wanted) (bytes : List ℕ) →
+        (answer : Result (Option PlainReply) WireFault) × (rest : List ℕ) × replies.Gives wanted bytes answer rest }
+{}
+
+/// What is kept of a reply that is waited for: of the text of an error the first 255 bytes, and what stands from its
+/// line feed on; of any other reply all bytes.
+///
+/// It does nothing: its contract is a law of the definitions.
+pub fn long_texts()
+    ensures begun { (bytes number line : List ℕ) → IsErrorText bytes number line → HasNoLineFeed line →
+        kept_of bytes ≡ 69 ∷ (number ++ line_feed ∷ take 255 line) }
+    ensures whole { (bytes number line rest : List ℕ) → IsErrorText bytes number (line ++ line_feed ∷ rest) → HasNoLineFeed line →
+        kept_of bytes ≡ 69 ∷ (number ++ line_feed ∷ (take 255 line ++ line_feed ∷ rest)) }
+    ensures others { (bytes : List ℕ) → ((number text : List ℕ) → IsErrorText bytes number text → ⊥) → kept_of bytes ≡ bytes }
 {}

@@ -5,7 +5,7 @@ use crate::fault::WireFault;
 use crate::limits::NUMBER_LIMIT;
 
 /// The most digits that a number has.
-const MOST_DIGITS: usize = 10;
+pub(crate) const MOST_DIGITS: usize = 10;
 
 fn ends_number(byte: u8, is_mode: bool) -> bool
     ensures { result ≡ spec.ends_number is_mode byte }

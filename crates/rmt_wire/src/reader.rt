@@ -57,7 +57,7 @@ fn front(unread: &[u8], dropped: u32) -> Result<Option<(Request<'_>, usize)>, Wi
 }
 
 /// Takes `count` bytes out of a buffer, from `at` on, and keeps the room.
-fn remove(buffer: &mut BytesMut, at: usize, count: usize)
+pub(crate) fn remove(buffer: &mut BytesMut, at: usize, count: usize)
     requires { at + count ≤ length buffer.old.items }
     ensures items { buffer.new.items ≡ take at buffer.old.items ++ drop (at + count) buffer.old.items }
     ensures room { length buffer.new.items + buffer.new.spare ≡ length buffer.old.items + buffer.old.spare }
@@ -68,7 +68,7 @@ fn remove(buffer: &mut BytesMut, at: usize, count: usize)
 }
 
 /// Appends a piece behind the bytes kept from `start` on, which may be moved to the front. Answers where they start.
-fn append(buffer: &mut BytesMut, start: usize, piece: &[u8]) -> usize
+pub(crate) fn append(buffer: &mut BytesMut, start: usize, piece: &[u8]) -> usize
     requires start { start ≤ length buffer.old.items }
     requires room { length buffer.old.items - start + length piece.now ≤ READER_LIMIT }
     requires limit { (length buffer.old.items ≤ READER_LIMIT) × (READER_LIMIT ≤ length buffer.old.items + buffer.old.spare) }

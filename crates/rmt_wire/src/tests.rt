@@ -5,6 +5,8 @@ mod pushed;
 mod replied;
 mod replies;
 mod reply_faults;
+mod reply_fed;
+mod reply_rows;
 mod streams;
 mod words;
 mod written;

@@ -60,6 +60,24 @@ pub(crate) fn split<'a>(
     })
 }
 
+/// How much of a reader's room these bytes take, which were pushed and not given, where this is waited for.
+pub(crate) fn taken(unread: &[u8], wanted: Option<Wanted>) -> usize {
+    let Some((b'E', lines)) = unread.split_first() else {
+        return unread.len();
+    };
+    let Some((line, text)) = cut_line(lines) else {
+        return unread.len();
+    };
+    if wanted.is_none() || number(line).is_none() {
+        return unread.len();
+    }
+    let said = match cut_line(text) {
+        Some((said, _)) => said,
+        None => text,
+    };
+    unread.len().saturating_sub(said.len().saturating_sub(255))
+}
+
 /// Whether both are the same reply.
 pub(crate) fn is_same(one: &Reply<'_>, other: &Reply<'_>) -> bool {
     match (*one, *other) {

@@ -5,16 +5,16 @@ use std::process::Abort;
 use std::test::Fail;
 
 /// The slow program gives of these bytes, where this is waited for, what is wanted by hand; and of a short text's
-/// beginnings what lies in them.
-pub(super) fn check_replies(
+/// beginnings what lies in them. Answers what it gives.
+pub(super) fn check_replies<'a>(
     rt: &impl Abort,
     alloc: Global,
-    stream: &[u8],
+    stream: &'a [u8],
     wanted: &[Wanted],
     replies: &[Reply<'_>],
     rest: &[u8],
     fault: Option<(WireFault, usize)>,
-) -> Result<(), Fail> {
+) -> Result<Replies<'a>, Fail> {
     let found = split(alloc, stream, wanted)?;
     assert_eq!(rt; found.replies.len(), replies.len(), "{stream:?}");
     for (one, other) in found.replies.iter().zip(replies) {
@@ -27,7 +27,7 @@ pub(super) fn check_replies(
             check_beginning(rt, alloc, stream, wanted, &found, len)?;
         }
     }
-    Ok(())
+    Ok(found)
 }
 
 /// A beginning of a stream has the replies that end in it, and a fault that is shown in it.
@@ -65,7 +65,8 @@ pub(super) fn check_whole(
     wanted: Wanted,
     reply: Reply<'_>,
 ) -> Result<(), Fail> {
-    check_replies(rt, alloc, text, &[wanted], &[reply], b"", None)
+    check_replies(rt, alloc, text, &[wanted], &[reply], b"", None)?;
+    Ok(())
 }
 
 /// The text is a reply that has only begun.
@@ -75,5 +76,6 @@ pub(super) fn check_begun(
     text: &[u8],
     wanted: Wanted,
 ) -> Result<(), Fail> {
-    check_replies(rt, alloc, text, &[wanted], &[], text, None)
+    check_replies(rt, alloc, text, &[wanted], &[], text, None)?;
+    Ok(())
 }

@@ -1,6 +1,6 @@
 //! Replies whose texts are written by hand: those of whole conversations, and single ones at their limits.
 
-use super::replied::{check_begun, check_replies, check_whole};
+use super::reply_fed::{check_begun, check_replies, check_whole};
 use crate::slow::reply::Wanted;
 use crate::{Reply, Request, slow};
 use std::alloc::Global;

@@ -1,25 +1,9 @@
 //! Each byte that leaves no reply possible, at the places where one can.
 
-use super::replied::check_replies;
-use crate::slow::reply::{Wanted, split};
+use super::reply_fed::{check_last_byte, check_replies};
+use crate::slow::reply::Wanted;
 use crate::{Reply, WireFault};
-use std::alloc::Global;
-use std::process::Abort;
 use std::test::Fail;
-
-/// The last byte of a text is this fault, or none.
-fn check_last_byte(
-    rt: &impl Abort,
-    alloc: Global,
-    text: &[u8],
-    wanted: Wanted,
-    fault: Option<WireFault>,
-) -> Result<(), Fail> {
-    let found = split(alloc, text, &[wanted])?;
-    let shown = fault.map(|it| (it, text.len()));
-    assert_eq!(rt; found.fault, shown, "{text:?} {wanted:?}");
-    Ok(())
-}
 
 #[test]
 fn each_first_byte(rt: HostRuntime) -> Result<(), Fail> {

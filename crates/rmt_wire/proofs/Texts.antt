@@ -1,0 +1,104 @@
+-- The text of an error, as it is read and as it is kept.
+use Rattle.std.proofs.Common.{◌≡◌, ℕ, zero, suc, ◌⊎◌, Bool, true, false, eqb, min, List, [], ◌∷◌, ◌++◌, length, take, drop, refl, sym, ap, ◌∙◌, arith, append_assoc, append-nil, inl, inr, ⊎_elim}
+use Rattle.std.proofs.lemmas.Bool.Decides.{nat_tests}
+use Rattle.std.proofs.lemmas.List.{take_min, take-append-le, drop_at, drop_all}
+use Rattle.rmt_wire.specs.Number.{HasNoLineFeed, line_feed}
+use Rattle.rmt_wire.specs.ReplyFront.{text_len, kept_text}
+
+-- a line ends at its line feed
+pub ended_len : (line rest : List ℕ) → HasNoLineFeed line → text_len (line ++ line_feed ∷ rest) ≡ length line
+ended_len [] rest h = refl
+ended_len (b ∷ line) rest h =
+    let other = h.0 in
+    let no_end : eqb b line_feed ≡ false = grind (arith, nat_tests) in
+    rw no_end (ap suc (ended_len line rest h.1))
+
+-- and without one it is all that there is
+pub open_len : (line : List ℕ) → HasNoLineFeed line → text_len line ≡ length line
+open_len [] h = refl
+open_len (b ∷ line) h =
+    let other = h.0 in
+    let no_end : eqb b line_feed ≡ false = grind (arith, nat_tests) in
+    rw no_end (ap suc (open_len line h.1))
+
+-- a text has a line feed, or none
+abbrev pub TextView : List ℕ → Type 0
+TextView text = HasNoLineFeed text ⊎ ((line rest : List ℕ) × HasNoLineFeed line × (text ≡ line ++ line_feed ∷ rest))
+
+longer : (b : ℕ) (text : List ℕ) → eqb b line_feed ≡ false → TextView text → TextView (b ∷ text)
+longer b text other v =
+    ⊎_elim (λ h. inl (grind (arith, nat_tests), h)) (λ w. inr (b ∷ w.0, w.1, (grind (arith, nat_tests), w.2), ap (λ l. b ∷ l) w.3)) v
+
+view_at : (b : ℕ) (text : List ℕ) (test : Bool) → eqb b line_feed ≡ test → TextView text → TextView (b ∷ text)
+view_at b text true e v = inr ([], text, tt, (let same : b ≡ line_feed = grind (arith, nat_tests) in ap (λ x. x ∷ text) same))
+view_at b text false e v = longer b text e v
+
+pub text_view : (text : List ℕ) → TextView text
+text_view [] = inl tt
+text_view (b ∷ text) = view_at b text (eqb b line_feed) refl (text_view text)
+
+-- the beginning of a line is one
+pub take_no_feed : (n : ℕ) (line : List ℕ) → HasNoLineFeed line → HasNoLineFeed (take n line)
+take_no_feed zero line h = tt
+take_no_feed (suc n) [] h = tt
+take_no_feed (suc n) (b ∷ line) h = (h.0, take_no_feed n line h.1)
+
+-- what was taken can be taken again, with more behind it
+pub take_again : (n : ℕ) (xs ys : List ℕ) → take n (take n xs ++ ys) ≡ take n (xs ++ ys)
+take_again zero xs ys = refl
+take_again (suc n) [] ys = refl
+take_again (suc n) (x ∷ xs) ys = ap (λ l. x ∷ l) (take_again n xs ys)
+
+pub take_twice : (n : ℕ) (xs : List ℕ) → take n (take n xs) ≡ take n xs
+take_twice zero xs = refl
+take_twice (suc n) [] = refl
+take_twice (suc n) (x ∷ xs) = ap (λ l. x ∷ l) (take_twice n xs)
+
+-- of a line the first 255 bytes are kept
+pub kept_open : (line : List ℕ) → HasNoLineFeed line → kept_text line ≡ take 255 line
+kept_open line h =
+    ap (λ n. take (min 255 n) line ++ drop n line) (open_len line h)
+    ∙ ap (λ l. l ++ drop (length line) line) (take_min 255 line)
+    ∙ ap (λ l. take 255 line ++ l) (drop_all (length line) line (omega arith))
+    ∙ append-nil (take 255 line)
+
+-- and all that stands from its line feed on
+pub kept_ended : (line rest : List ℕ) → HasNoLineFeed line → kept_text (line ++ line_feed ∷ rest) ≡ take 255 line ++ line_feed ∷ rest
+kept_ended line rest h =
+    ap (λ n. take (min 255 n) (line ++ line_feed ∷ rest) ++ drop n (line ++ line_feed ∷ rest)) (ended_len line rest h)
+    ∙ ap (λ l. l ++ drop (length line) (line ++ line_feed ∷ rest)) (take-append-le (min 255 (length line)) line (line_feed ∷ rest) (omega arith) ∙ take_min 255 line)
+    ∙ ap (λ l. take 255 line ++ l) (drop_at line (line_feed ∷ rest) (length line) refl)
+
+no_feed_both : (a b : List ℕ) → HasNoLineFeed a → HasNoLineFeed b → HasNoLineFeed (a ++ b)
+no_feed_both [] b h k = k
+no_feed_both (x ∷ a) b h k = (h.0, no_feed_both a b h.1 k)
+
+-- what was kept is kept again, with more behind it
+again_open : (text piece : List ℕ) → HasNoLineFeed text → TextView piece → kept_text (take 255 text ++ piece) ≡ kept_text (text ++ piece)
+again_open text piece h v =
+    let kept = take_no_feed 255 text h in
+    ⊎_elim
+    (λ p. kept_open (take 255 text ++ piece) (no_feed_both (take 255 text) piece kept p) ∙ take_again 255 text piece ∙ sym (kept_open (text ++ piece) (no_feed_both text piece h p)))
+    (λ w.
+    let both : (t : List ℕ) → HasNoLineFeed t → kept_text (t ++ piece) ≡ take 255 (t ++ w.0) ++ line_feed ∷ w.1 =
+    λ t k. ap (λ l. kept_text (t ++ l)) w.3 ∙ ap kept_text (sym (append_assoc t w.0 (line_feed ∷ w.1))) ∙ kept_ended (t ++ w.0) w.1 (no_feed_both t w.0 k w.2) in
+    both (take 255 text) kept ∙ ap (λ l. l ++ line_feed ∷ w.1) (take_again 255 text w.0) ∙ sym (both text h))
+    v
+
+again_ended : (line rest piece : List ℕ) → HasNoLineFeed line → kept_text ((take 255 line ++ line_feed ∷ rest) ++ piece) ≡ kept_text ((line ++ line_feed ∷ rest) ++ piece)
+again_ended line rest piece h =
+    ap kept_text (append_assoc (take 255 line) (line_feed ∷ rest) piece)
+    ∙ kept_ended (take 255 line) (rest ++ piece) (take_no_feed 255 line h)
+    ∙ ap (λ l. l ++ line_feed ∷ (rest ++ piece)) (take_twice 255 line)
+    ∙ sym (ap kept_text (append_assoc line (line_feed ∷ rest) piece) ∙ kept_ended line (rest ++ piece) h)
+
+pub kept_again : (text piece : List ℕ) → kept_text (kept_text text ++ piece) ≡ kept_text (text ++ piece)
+kept_again text piece =
+    ⊎_elim
+    (λ h. ap (λ l. kept_text (l ++ piece)) (kept_open text h) ∙ again_open text piece h (text_view piece))
+    (λ w.
+    ap (λ l. kept_text (kept_text l ++ piece)) w.3
+    ∙ ap (λ l. kept_text (l ++ piece)) (kept_ended w.0 w.1 w.2)
+    ∙ again_ended w.0 w.1 piece w.2
+    ∙ ap (λ l. kept_text (l ++ piece)) (sym w.3))
+    (text_view text)
