@@ -1,0 +1,150 @@
+//! Drives, their stacks, the bin and three sessions, kept plainly in lists of names, to compare sessions with.
+
+use std::alloc::Global;
+use std::test::Fail;
+
+/// What a session is asked for.
+#[derive(Clone, Copy)]
+pub(crate) enum Event {
+    /// To open the drive of that number for both.
+    Open(usize),
+    /// To move its reel to the bin.
+    Offline,
+    Close,
+    End,
+}
+
+/// A session: the drive that it has open, and whether its reel is still there.
+#[derive(Clone, Copy)]
+struct SlowSession {
+    open: Option<usize>,
+    online: bool,
+}
+
+const AT_REST: SlowSession = SlowSession {
+    open: None,
+    online: false,
+};
+
+/// Two drives with their stacks, and a bin. Of each reel its name of one byte is kept; a latched reel stays first on
+/// its stack.
+#[derive(Drop)]
+pub(crate) struct SlowShop {
+    stacks: Vec<Vec<u8>>,
+    bin: Vec<u8>,
+    sessions: [SlowSession; 3],
+}
+
+impl SlowShop {
+    /// The reels `a` and `b` lie on the first drive's stack, and `c` on the second one's. Nothing is open.
+    pub(crate) fn new(alloc: Global) -> Result<SlowShop, Fail> {
+        let mut stacks = Vec::new(alloc);
+        stacks.push(Vec::from_slice(alloc, b"ab")?)?;
+        stacks.push(Vec::from_slice(alloc, b"c")?)?;
+        Ok(SlowShop {
+            stacks,
+            bin: Vec::new(alloc),
+            sessions: [AT_REST; 3],
+        })
+    }
+
+    /// The names on the drive's stack.
+    pub(crate) fn stack(&self, drive: usize) -> &[u8] {
+        match self.stacks.get(drive) {
+            Some(stack) => stack.as_slice(),
+            None => &[],
+        }
+    }
+
+    /// The names in the bin.
+    pub(crate) fn bin(&self) -> &[u8] {
+        self.bin.as_slice()
+    }
+
+    /// The number of the session that has the drive open, from 1, or 0.
+    pub(crate) fn holder(&self, drive: usize) -> u64 {
+        for (at, session) in self.sessions.iter().enumerate() {
+            if session.open == Some(drive) {
+                return (at as u64).saturating_add(1);
+            }
+        }
+        0
+    }
+
+    /// The drive that the session of that number has open with its reel, if it has.
+    pub(crate) fn online(&self, number: usize) -> Option<usize> {
+        let session = self.session(number);
+        if session.online { session.open } else { None }
+    }
+
+    /// What the session of that number answers: the number of a reply that it was done, or the one that errno has.
+    pub(crate) fn answer(&mut self, number: usize, event: Event) -> Result<u32, Fail> {
+        match event {
+            Event::Open(drive) => Ok(self.open(number, drive)),
+            Event::Offline => self.offline(number),
+            Event::Close => Ok(self.close(number)),
+            Event::End => {
+                self.close(number);
+                Ok(0)
+            }
+        }
+    }
+
+    fn session(&self, number: usize) -> SlowSession {
+        match self.sessions.get(number.saturating_sub(1)) {
+            Some(session) => *session,
+            None => AT_REST,
+        }
+    }
+
+    fn put(&mut self, number: usize, session: SlowSession) {
+        if let Some(place) = self.sessions.get_mut(number.saturating_sub(1)) {
+            *place = session;
+        }
+    }
+
+    fn open(&mut self, number: usize, drive: usize) -> u32 {
+        self.close(number);
+        if self.holder(drive) != 0 {
+            return 16;
+        }
+        if self.stack(drive).is_empty() {
+            return 6;
+        }
+        let session = SlowSession {
+            open: Some(drive),
+            online: true,
+        };
+        self.put(number, session);
+        0
+    }
+
+    fn offline(&mut self, number: usize) -> Result<u32, Fail> {
+        let session = self.session(number);
+        let Some(drive) = session.open else {
+            return Ok(9);
+        };
+        if !session.online {
+            return Ok(6);
+        }
+        if let Some(stack) = self.stacks.get_mut(drive) {
+            if !stack.is_empty() {
+                self.bin.push(stack.remove(0))?;
+            }
+        }
+        let session = SlowSession {
+            online: false,
+            ..session
+        };
+        self.put(number, session);
+        Ok(1)
+    }
+
+    fn close(&mut self, number: usize) -> u32 {
+        if self.session(number).open.is_none() {
+            return 9;
+        }
+        self.put(number, AT_REST);
+        0
+    }
+}

@@ -1,0 +1,378 @@
+//! Three sessions that share two drives, against rows that were written by hand and against plain lists.
+
+ghost use Rattle.std.specs.Prelude.{◌≡◌, ◌≢◌, ◌≤◌, ◌<◌, IfOk, length};
+ghost use Rattle.drives.specs.Holding.{HoldsJust};
+ghost use Rattle.drives.specs.Local.{IsSeatOf};
+ghost use Rattle.rmt_server.specs.Carrying.{IsAt};
+ghost use Rattle.drives.specs.contracts.local.LocalHoldsHolds.TheImpl.{ghosts as of_holds};
+ghost use Rattle.drives.specs.contracts.list.ListStacksStacks.TheImpl.{ghosts as of_stacks};
+ghost use Rattle.std.specs.Prelude.{None};
+
+use super::CAPACITY;
+use super::slow::error_text;
+use super::slow_shop::{Event, SlowShop};
+use crate::Session;
+use drives::{DriveTable, Holds, ListStacks, ListedReel, LocalHolds, LocalSeat, Stacks};
+use rmt_wire::{Reply, Request};
+use std::alloc::Global;
+use std::process::Abort;
+use std::test::Fail;
+
+type Drives = DriveTable<LocalHolds, ListStacks>;
+
+type Client = Session<LocalHolds, ListStacks>;
+
+/// What stands for a reply that none of these requests may have.
+const WRONG: u32 = u32::MAX;
+
+/// The number of a reply.
+fn number_of(reply: Reply<'_>) -> u32 {
+    match reply {
+        Reply::Done { number } => number,
+        Reply::Error { number, text } if text == error_text(number) => number,
+        _ => WRONG,
+    }
+}
+
+/// Has a session carry out a request, beside two others.
+fn carry(
+    drives: &mut Drives,
+    session: &mut Client,
+    other: &Client,
+    another: &Client,
+    request: Request<'_>,
+) -> u32
+    requires at { IsAt of_holds of_stacks drives.old session.old.seat session.old.opened }
+    requires other { IsAt of_holds of_stacks drives.old other.now.seat other.now.opened }
+    requires another { IsAt of_holds of_stacks drives.old another.now.seat another.now.opened }
+    requires apart { other.now.seat.number ≢ session.old.seat.number }
+    requires apart_too { another.now.seat.number ≢ session.old.seat.number }
+    ensures at { IsAt of_holds of_stacks drives.new session.new.seat session.new.opened }
+    ensures other { IsAt of_holds of_stacks drives.new other.now.seat other.now.opened }
+    ensures another { IsAt of_holds of_stacks drives.new another.now.seat another.now.opened }
+    ensures number { session.new.seat.number ≡ session.old.seat.number }
+{
+    number_of(session.carry_out(drives, request))
+}
+
+/// Ends a session beside two others.
+fn end(drives: &mut Drives, session: &mut Client, other: &Client, another: &Client)
+    requires at { IsAt of_holds of_stacks drives.old session.old.seat session.old.opened }
+    requires other { IsAt of_holds of_stacks drives.old other.now.seat other.now.opened }
+    requires another { IsAt of_holds of_stacks drives.old another.now.seat another.now.opened }
+    requires apart { other.now.seat.number ≢ session.old.seat.number }
+    requires apart_too { another.now.seat.number ≢ session.old.seat.number }
+    ensures at { IsAt of_holds of_stacks drives.new session.new.seat session.new.opened }
+    ensures other { IsAt of_holds of_stacks drives.new other.now.seat other.now.opened }
+    ensures another { IsAt of_holds of_stacks drives.new another.now.seat another.now.opened }
+    ensures number { session.new.seat.number ≡ session.old.seat.number }
+{
+    session.end(drives);
+}
+
+/// The name of the drive of that number.
+fn device(drive: usize) -> &'static [u8] {
+    match drive {
+        0 => b"/dev/st0",
+        1 => b"/dev/st1",
+        _ => b"/dev/st9",
+    }
+}
+
+/// Has a session do what it is asked for, beside two others.
+fn answer(
+    drives: &mut Drives,
+    session: &mut Client,
+    other: &Client,
+    another: &Client,
+    event: Event,
+) -> u32
+    requires at { IsAt of_holds of_stacks drives.old session.old.seat session.old.opened }
+    requires other { IsAt of_holds of_stacks drives.old other.now.seat other.now.opened }
+    requires another { IsAt of_holds of_stacks drives.old another.now.seat another.now.opened }
+    requires apart { other.now.seat.number ≢ session.old.seat.number }
+    requires apart_too { another.now.seat.number ≢ session.old.seat.number }
+    ensures at { IsAt of_holds of_stacks drives.new session.new.seat session.new.opened }
+    ensures other { IsAt of_holds of_stacks drives.new other.now.seat other.now.opened }
+    ensures another { IsAt of_holds of_stacks drives.new another.now.seat another.now.opened }
+    ensures number { session.new.seat.number ≡ session.old.seat.number }
+{
+    let request = match event {
+        Event::Open(drive) => Request::Open {
+            device: device(drive),
+            mode: 2,
+        },
+        Event::Offline => Request::Op { op: 6, count: 1 },
+        Event::Close => Request::Close,
+        Event::End => {
+            end(drives, session, other, another);
+            return 0;
+        }
+    };
+    carry(drives, session, other, another, request)
+}
+
+/// The drives `/dev/st0` with the reels `a` and `b`, and `/dev/st1` with the reel `c`.
+fn two_drives(alloc: Global) -> Result<ListStacks, Fail>
+    ensures { IfOk result (λ stacks. length stacks.shop.racks ≡ 2) }
+{
+    let mut stacks = ListStacks::new(alloc);
+    let first = stacks.add_drive(device(0))?;
+    stacks.add_reel(first, b"a", CAPACITY)?;
+    stacks.add_reel(first, b"b", CAPACITY)?;
+    let second = stacks.add_drive(device(1))?;
+    stacks.add_reel(second, b"c", CAPACITY)?;
+    Ok(stacks)
+}
+
+/// A session with nothing open, of this seat at these drives.
+fn client(alloc: Global, seat: LocalSeat, drives: &Drives) -> Result<Client, Fail>
+    requires own { IsSeatOf drives.now.holds seat }
+    requires idle { HoldsJust seat None }
+    requires enough { length drives.now.stacks.shop.racks ≤ length drives.now.holds.numbers }
+    ensures at { IfOk result (λ s. IsAt of_holds of_stacks drives.now s.seat s.opened) }
+    ensures seat { IfOk result (λ s. s.seat ≡ seat) }
+{
+    match Session::new(alloc, seat) {
+        Ok(session) => Ok(session),
+        Err(_) => Err(Fail::new("no session")),
+    }
+}
+
+/// The drives, and three sessions with them.
+#[derive(Drop)]
+struct Three {
+    drives: Drives,
+    first: Client,
+    second: Client,
+    third: Client,
+    ghost at_first: { IsAt of_holds of_stacks drives first.seat first.opened },
+    ghost at_second: { IsAt of_holds of_stacks drives second.seat second.opened },
+    ghost at_third: { IsAt of_holds of_stacks drives third.seat third.opened },
+    ghost first_second: { first.seat.number ≢ second.seat.number },
+    ghost first_third: { first.seat.number ≢ third.seat.number },
+    ghost second_third: { second.seat.number ≢ third.seat.number },
+}
+
+impl Three {
+    /// Nothing is open. The seats have the numbers 1 to 3.
+    fn new(alloc: Global) -> Result<Three, Fail> {
+        let mut holds = LocalHolds::new(alloc, 2)?;
+        let (Some(first), Some(second), Some(third)) = (holds.seat(), holds.seat(), holds.seat())
+        else {
+            return Err(Fail::new("no seat"));
+        };
+        let stacks = two_drives(alloc)?;
+        let drives = DriveTable { holds, stacks };
+        let first = client(alloc, first, &drives)?;
+        let second = client(alloc, second, &drives)?;
+        let third = client(alloc, third, &drives)?;
+        Ok(Three {
+            drives,
+            first,
+            second,
+            third,
+        })
+    }
+
+    /// What the session of that number answers: the number of a reply, or that of the error.
+    fn answer(&mut self, number: usize, event: Event) -> u32 {
+        let drives = &mut self.drives;
+        match number {
+            1 => answer(drives, &mut self.first, &self.second, &self.third, event),
+            2 => answer(drives, &mut self.second, &self.first, &self.third, event),
+            _ => answer(drives, &mut self.third, &self.first, &self.second, event),
+        }
+    }
+
+    /// The number of the seat that holds the drive, or 0. None where there is no such drive, or no seat is left to ask.
+    fn holder(&mut self, drive: usize) -> Option<u64> {
+        let drive = self.drives.stacks.drive(device(drive))?;
+        let mut seat = self.drives.holds.seat()?;
+        Some(self.drives.holds.holder(&mut seat, drive))
+    }
+
+    /// The next latch or move fails.
+    fn trouble(&mut self) {
+        self.drives.stacks.trouble(true);
+    }
+
+    /// The drive that the session of that number says that it has open with its reel.
+    fn online(&self, number: usize) -> Option<usize> {
+        let reel = match number {
+            1 => self.first.reel(),
+            2 => self.second.reel(),
+            _ => self.third.reel(),
+        };
+        reel.map(|(drive, _)| drive)
+    }
+}
+
+/// Whether these reels have those names, of one byte each.
+fn has_names(reels: &[ListedReel], names: &[u8]) -> bool {
+    for (at, reel) in reels.iter().enumerate() {
+        if reel.name() != names.get(at..=at).unwrap_or(&[]) {
+            return false;
+        }
+    }
+    reels.len() == names.len()
+}
+
+/// Whether the stack of the drive has those names.
+fn has_stack(stacks: &ListStacks, drive: usize, names: &[u8]) -> bool {
+    match stacks.drive(device(drive)) {
+        Some(drive) => has_names(stacks.stack(drive), names),
+        None => false,
+    }
+}
+
+/// Has both do one thing, and compares what they answer, what is open then, who holds which drive, and the reels.
+fn step(
+    rt: &impl Abort,
+    three: &mut Three,
+    slow: &mut SlowShop,
+    number: usize,
+    event: Event,
+) -> Result<(), Fail> {
+    let wanted = slow.answer(number, event)?;
+    assert_eq!(rt; three.answer(number, event), wanted);
+    assert_eq!(rt; three.online(number), slow.online(number));
+    assert_eq!(rt; three.holder(0), Some(slow.holder(0)));
+    assert_eq!(rt; three.holder(1), Some(slow.holder(1)));
+    let stacks = &three.drives.stacks;
+    assert!(rt; has_stack(stacks, 0, slow.stack(0)));
+    assert!(rt; has_stack(stacks, 1, slow.stack(1)));
+    assert!(rt; has_names(stacks.bin(), slow.bin()));
+    Ok(())
+}
+
+/// What a session can be asked for in the lists.
+const EVENTS: [Event; 5] = [
+    Event::Open(0),
+    Event::Offline,
+    Event::Open(1),
+    Event::Close,
+    Event::End,
+];
+
+/// How many things there are to do: each event by each session.
+const KINDS: usize = 15;
+
+/// Does so many things, of which the number has one digit each.
+fn run(rt: &impl Abort, alloc: Global, length: usize, list: usize) -> Result<(), Fail> {
+    let mut three = Three::new(alloc)?;
+    let mut slow = SlowShop::new(alloc)?;
+    let mut rest = list;
+    for _ in 0..length {
+        let event = EVENTS.get(rest % 5).copied().unwrap_or(Event::End);
+        step(rt, &mut three, &mut slow, 1 + rest / 5 % 3, event)?;
+        rest /= KINDS;
+    }
+    Ok(())
+}
+
+#[test]
+fn every_three_requests_of_three_sessions(rt: HostRuntime) -> Result<(), Fail> {
+    for list in 0..3375 {
+        run(&rt, rt.alloc(), 3, list)?;
+    }
+    Ok(())
+}
+
+#[test]
+fn every_four_requests_of_three_sessions(rt: HostRuntime) -> Result<(), Fail> {
+    for list in 0..50625 {
+        run(&rt, rt.alloc(), 4, list)?;
+    }
+    Ok(())
+}
+
+/// A row: the session, what it is asked for and answers, and who holds each drive then.
+type Row = (usize, Event, u32, u64, u64);
+
+/// Each session has a drive; a held one is refused, and what the asking session had is free then. The end of a session
+/// frees its drive.
+const TWO_SESSIONS: [Row; 6] = [
+    (1, Event::Open(0), 0, 1, 0),
+    (2, Event::Open(1), 0, 1, 2),
+    (2, Event::Open(0), 16, 1, 0),
+    (1, Event::Open(0), 0, 1, 0),
+    (1, Event::End, 0, 0, 0),
+    (2, Event::Open(0), 0, 2, 0),
+];
+
+/// A drive whose reel lies in the bin stays held, also with an empty stack; the next reel is latched by the next open.
+const AWAY: [Row; 13] = [
+    (1, Event::Offline, 9, 0, 0),
+    (1, Event::Open(1), 0, 0, 1),
+    (1, Event::Offline, 1, 0, 1),
+    (1, Event::Offline, 6, 0, 1),
+    (2, Event::Open(1), 16, 0, 1),
+    (1, Event::Close, 0, 0, 0),
+    (2, Event::Open(1), 6, 0, 0),
+    (3, Event::Open(0), 0, 3, 0),
+    (3, Event::Offline, 1, 3, 0),
+    (2, Event::Open(0), 16, 3, 0),
+    (3, Event::End, 0, 0, 0),
+    (2, Event::Open(0), 0, 2, 0),
+    (2, Event::Close, 0, 0, 0),
+];
+
+/// Does what the rows say, with the plain sessions beside.
+fn check_rows(rt: &impl Abort, alloc: Global, rows: &[Row]) -> Result<(Three, SlowShop), Fail> {
+    let mut three = Three::new(alloc)?;
+    let mut slow = SlowShop::new(alloc)?;
+    for (at, (number, event, wanted, first, second)) in rows.iter().enumerate() {
+        assert_eq!(rt; three.answer(*number, *event), *wanted, "row {at}");
+        assert_eq!(rt; three.holder(0), Some(*first), "row {at}");
+        assert_eq!(rt; three.holder(1), Some(*second), "row {at}");
+        assert_eq!(rt; slow.answer(*number, *event)?, *wanted, "row {at}");
+        assert_eq!(rt; slow.holder(0), *first, "row {at}");
+        assert_eq!(rt; slow.holder(1), *second, "row {at}");
+    }
+    Ok((three, slow))
+}
+
+#[test]
+fn the_end_of_a_session_frees_its_drive(rt: HostRuntime) -> Result<(), Fail> {
+    check_rows(&rt, rt.alloc(), &TWO_SESSIONS)?;
+    Ok(())
+}
+
+#[test]
+fn reels_go_to_the_bin_in_order(rt: HostRuntime) -> Result<(), Fail> {
+    let (three, slow) = check_rows(&rt, rt.alloc(), &AWAY)?;
+    let stacks = &three.drives.stacks;
+    assert!(rt; has_stack(stacks, 0, b"b"));
+    assert!(rt; has_stack(stacks, 1, b""));
+    assert!(rt; has_names(stacks.bin(), b"ca"));
+    assert_eq!(rt; slow.bin(), b"ca".as_slice());
+    Ok(())
+}
+
+#[test]
+fn a_move_that_is_told_to_fail_fails_once(rt: HostRuntime) -> Result<(), Fail> {
+    let mut three = Three::new(rt.alloc())?;
+    assert_eq!(rt; three.answer(1, Event::Open(0)), 0);
+    three.trouble();
+    assert_eq!(rt; three.answer(1, Event::Offline), 5);
+    assert_eq!(rt; three.online(1), Some(0));
+    assert!(rt; has_stack(&three.drives.stacks, 0, b"ab"));
+    assert_eq!(rt; three.answer(1, Event::Offline), 1);
+    assert_eq!(rt; three.drives.stacks.failures(), 1);
+    assert!(rt; has_stack(&three.drives.stacks, 0, b"b"));
+    assert!(rt; has_names(three.drives.stacks.bin(), b"a"));
+    Ok(())
+}
+
+#[test]
+fn a_latch_that_is_told_to_fail_fails_once(rt: HostRuntime) -> Result<(), Fail> {
+    let mut three = Three::new(rt.alloc())?;
+    assert_eq!(rt; three.answer(2, Event::Open(1)), 0);
+    three.trouble();
+    assert_eq!(rt; three.answer(2, Event::Open(0)), 5);
+    assert_eq!(rt; (three.holder(0), three.holder(1)), (Some(0), Some(0)));
+    assert_eq!(rt; three.answer(2, Event::Open(0)), 0);
+    assert_eq!(rt; three.drives.stacks.failures(), 1);
+    Ok(())
+}
