@@ -11,7 +11,7 @@ pub enum DriveFault {
     /// The seat of this number holds the drive.
     #[error("Busy")]
     Busy(u64),
-    /// There is no reel on the drive's stack.
+    /// There is no reel on the drive's stack, or the first one is latched already.
     #[error("NoReel")]
     NoReel,
     /// What keeps the reels failed.

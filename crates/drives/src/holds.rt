@@ -24,7 +24,7 @@ pub trait Holds {
     /// The drive is held by the seat of this number, or by none at 0. Holds that tell nothing say it of no number.
     ghost tells: { Self → ℕ → ℕ → Type 0 };
 
-    /// Takes the drive if no seat holds it.
+    /// Takes the drive if no seat holds it. Answers `Held`, or `Busy` with the number of the seat that holds it.
     fn take(&mut self, seat: &mut Self::Seat, drive: usize) -> Taken
         requires seat { belongs self.old seat.old }
         requires drive { drive < drives self.old }

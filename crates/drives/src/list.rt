@@ -70,8 +70,8 @@ impl ListStacks {
         self.put_drive(name)
     }
 
-    /// Adds an empty reel of this name and of this capacity, in bytes, at the end of the drive's stack, and reserves
-    /// room in the bin for it.
+    /// Adds an empty reel of this name and of this capacity, in bytes, at the end of the stack of the drive of that number,
+    /// and reserves room in the bin for it.
     ///
     /// Answers `NameTaken` where a reel on a stack, latched or in the bin has that name, and `OutOfMemory`. Nothing
     /// has changed then.

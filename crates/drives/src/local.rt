@@ -52,7 +52,7 @@ impl Model for LocalHolds {
 }
 
 impl LocalHolds {
-    /// That many drives, from 1 to 64, which no seat holds.
+    /// That many drives, from 1 to 64, which no seat holds. It fails only where memory is refused.
     pub fn new(alloc: Global, drives: usize) -> Result<LocalHolds, AllocError>
         requires some { 1 ≤ drives }
         requires few { drives ≤ 64 }

@@ -45,20 +45,21 @@ pub trait Stacks {
         ensures stays { IfErr result (λ _. (d : ℕ) → HasLatched holds self.old d → HasLatched holds self.new d) }
         ensures elsewhere { (d : ℕ) → d ≢ drive → HasLatched holds self.old d → HasLatched holds self.new d }
         ensures faults { IfErr result (λ fault. IsLatchFault fault (failures self.old) (failures self.new)) }
+        ensures failed { (failures self.new ≡ failures self.old) ⊎ (result ≡ Err Device) }
         ensures able { result ≡ Err Device → can_fail self.old }
         ensures quiet { can_fail self.new → can_fail self.old }
         ensures quiet_reel { IfOk result (λ reel. Self.Reel.can_fail reel → can_fail self.old) }
         ensures counted { failures self.old ≤ failures self.new }
         ensures same_drives { drives self.new ≡ drives self.old };
 
-    /// Lays the latched reel on its stack again. It takes no memory, and never fails.
+    /// Lays the latched reel on its stack again. It takes no memory, makes no call of the device, and never fails.
     fn unlatch(&mut self, drive: usize, reel: Self::Reel)
         requires drive { drive < drives self.old }
         requires latched { HasLatched holds self.old drive }
         ensures step { (t : Tape) → Self.Reel.holds reel t → Steps holds self.old self.new (λ s now. now ≡ after_unlatch s drive (entries_of t) (Self.Reel.capacity reel)) }
         ensures elsewhere { (d : ℕ) → d ≢ drive → HasLatched holds self.old d → HasLatched holds self.new d }
         ensures quiet { can_fail self.new → can_fail self.old ⊎ Self.Reel.can_fail reel }
-        ensures counted { failures self.old ≤ failures self.new }
+        ensures unfailed { failures self.new ≡ failures self.old }
         ensures same_drives { drives self.new ≡ drives self.old };
 
     /// Moves the latched reel to the end of the bin.
@@ -73,6 +74,8 @@ pub trait Stacks {
         ensures back { IfErr result (λ refused. refused.0 ≡ reel) }
         ensures still { IfErr result (λ _. HasLatched holds self.new drive) }
         ensures elsewhere { (d : ℕ) → d ≢ drive → HasLatched holds self.old d → HasLatched holds self.new d }
+        ensures unfailed { IfOk result (λ _. failures self.new ≡ failures self.old) }
+        ensures failed { IfErr result (λ refused. (failures self.new ≡ failures self.old) ⊎ (refused.1 ≡ Device)) }
         ensures able { IfErr result (λ refused. refused.1 ≡ Device → can_fail self.old) }
         ensures quiet { can_fail self.new → can_fail self.old ⊎ Self.Reel.can_fail reel }
         ensures faults { IfErr result (λ refused. IsOfflineFault refused.1 (failures self.old) (failures self.new)) }

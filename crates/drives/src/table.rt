@@ -1,4 +1,4 @@
-ghost use Rattle.std.specs.Prelude.{◌≡◌, ◌≢◌, ℕ, ◌<◌, ◌≤◌, IfOk, IfErr, OnErr, Some, Err};
+ghost use Rattle.std.specs.Prelude.{◌≡◌, ◌≢◌, ◌⊎◌, ℕ, ◌<◌, ◌≤◌, IfOk, IfErr, OnErr, Some, Err};
 ghost use Rattle.drives.specs.declared.fault.DriveFault.TheVariants.{Device};
 ghost use Rattle.tape.specs.Failures.{Steps};
 ghost use Rattle.drives.specs.Stacking.{HasLatched};
@@ -19,6 +19,8 @@ impl<H: Holds, S: Stacks> DriveTable<H, S> {
     /// Takes the drive of that name for the seat, and latches its first reel. It gives the drive's number and the
     /// reel, which stands at its beginning.
     ///
+    /// The seat is one of these holds, and there are no more stacks than drives that can be held.
+    ///
     /// Answers the first that applies of `NoSuchDrive`, `Busy` with the holder's number, `NoReel`, and `Device` or
     /// `OutOfMemory` where the reel could not be had. The seat holds then what it held before, and no reel moved.
     pub fn open(&mut self, seat: &mut H::Seat, name: &[u8]) -> Result<(usize, S::Reel), DriveFault>
@@ -37,6 +39,7 @@ impl<H: Holds, S: Stacks> DriveTable<H, S> {
         ensures latched { IfOk result (λ opened. HasLatched S.holds self.new.stacks opened.0) }
         ensures elsewhere { (d : ℕ) → drive_opened result ≢ Some d → HasLatched S.holds self.old.stacks d → HasLatched S.holds self.new.stacks d }
         ensures faults { IfErr result (λ fault. IsOpenFault fault (S.failures self.old.stacks) (S.failures self.new.stacks)) }
+        ensures failed { (S.failures self.new.stacks ≡ S.failures self.old.stacks) ⊎ (result ≡ Err Device) }
         ensures able { result ≡ Err Device → S.can_fail self.old.stacks }
         ensures quiet { S.can_fail self.new.stacks → S.can_fail self.old.stacks }
         ensures quiet_reel { IfOk result (λ opened. S.Reel.can_fail opened.1 → S.can_fail self.old.stacks) }

@@ -12,8 +12,11 @@ pub enum StepKind {
 /// One step at a drive, and the number that it found there: that of the seat that held the drive, or 0.
 #[derive(Clone, Copy, Debug, Drop)]
 pub struct LastStep {
+    /// What the step was.
     pub kind: StepKind,
+    /// The drive that it was made at.
     pub drive: usize,
+    /// The number that it found: that of the seat that held the drive, or 0. A give finds the seat's own.
     pub found: u64,
 }
 
@@ -21,8 +24,12 @@ pub struct LastStep {
 /// and the last of them.
 #[derive(Drop)]
 pub struct View {
+    /// The number of the seat, from 1.
     pub number: u64,
+    /// Of each of 64 drives, whether the seat holds it.
     pub held: [bool; 64],
+    /// How many steps it made, up to the greatest `u64`.
     pub steps: u64,
+    /// The last of them.
     pub last: Option<LastStep>,
 }

@@ -123,6 +123,8 @@ pub record IsClosed {H S Seat R : Type 0} (h : HoldsPromise H Seat) (s : StacksP
   pub kept : KeepsDrives h s old new seat (drive_of opened) None
   -- a device can fail then only where one can before
   pub quiet : CanFail s r new.stacks None → CanFail s r old.stacks opened
+  -- the stacks' device is not called
+  pub unfailed : s.failures new.stacks ≡ s.failures old.stacks
   pub idle : opened ≡ None → (new ≡ old) × (seat' ≡ seat)
 
 -- one call of the open reel, which alone changes
@@ -177,6 +179,8 @@ pub record IsOpenedFor {H S Seat R : Type 0} (h : HoldsPromise H Seat) (s : Stac
   pub told : (d n : ℕ) → h.tells old.holds d n → h.tells new.holds d (word_after_open result (h.shows seat).number d n)
   pub stacks : Steps s.holds old.stacks new.stacks (OpenStep r.holds r.capacity device (drive_asked result (h.shows seat')) result)
   pub fault : IsFaultOf result (s.failures old.stacks) (s.failures new.stacks)
+  -- a failure that was counted is what the drives answered
+  pub failed : (s.failures new.stacks ≡ s.failures old.stacks) ⊎ (result ≡ Err Device)
   pub able : result ≡ Err Device → s.can_fail old.stacks
   pub kept : KeepsDrives h s old new seat None (drive_of opened)
   pub quiet : CanFail s r new.stacks opened → s.can_fail old.stacks
@@ -230,6 +234,8 @@ pub record IsMoved {H S Seat R : Type 0} (s : StacksPromise S R) (r : ReelPromis
   pub stacks : MovesShop s r old device.drive rested result new
   pub latched : (d : ℕ) → online_drive opened' ≡ Some d → HasLatched s.holds new.stacks d
   pub fault : IsMoveFault result (s.failures old.stacks) (s.failures new.stacks)
+  -- a failure that was counted is what the stacks answered
+  pub failed : (s.failures new.stacks ≡ s.failures old.stacks) ⊎ (result ≡ Err Device)
   pub able : result ≡ Err Device → s.can_fail old.stacks
   pub quiet : s.can_fail new.stacks → s.can_fail old.stacks ⊎ r.can_fail rested
   pub same_stacks : s.drives new.stacks ≡ s.drives old.stacks

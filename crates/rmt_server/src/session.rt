@@ -68,18 +68,20 @@ impl<H: Holds, S: Stacks> Session<H, S> {
     /// Carries out a request and answers it (rmt(8), with the operations of mtio). What a read gives is lent until the
     /// next call.
     ///
-    /// The first line that applies decides. An open closes what is open, then: 22 for a mode that is none, 2 for no
+    /// The first line that applies decides. An open closes what is open, then: 22 where the mode modulo 4 is 3, 2 for no
     /// drive of that name, 16 where another seat holds it, 6 where no reel lies on its stack, 5 where the device
     /// failed, 12 where memory was refused. All other requests: 9 with nothing open. Of those but a close: 6 where
     /// the reel lies in the bin; 9 for a write or a read without that access, 22 for an operation
-    /// above 7, 13 for marks without the access to write; 22 for a count of a write or read that is 0 or, for a write, above
-    /// 65,536; a write that has no room is answered with the number 0, and marks with 28; 12 where memory was refused;
-    /// 5 where the device failed, or spacing met a mark, the end or the beginning first, or the bin has a reel of the
-    /// name of the one that operation 6 is to move there. That reel stays on its stack then, open, at its beginning.
-    /// Once it is in the bin the drive stays open and held. A reply without an error has 0 for an open or a close, the count for a write or an
-    /// operation, or the bytes of a read.
+    /// above 7, 13 for marks without the access to write; 22 for a count of a write or read that is 0 or, for a write,
+    /// above 65,536; a write that has no room is answered with the number 0, and marks with 28; 12 where memory was
+    /// refused; 5 where the device failed, or spacing met a mark, the end or the beginning first, or the bin has a reel
+    /// of the name of the one that operation 6 is to move there.
     ///
-    /// The drives are those of the seat and of what is open.
+    /// Operation 6 rewinds the reel and moves it to the bin; the drive stays open and held. After its 5 and 12 the reel
+    /// stays on its stack, open, at its beginning. A read gives 65,536 bytes at most, whatever its count. A reply
+    /// without an error has 0 for an open or a close, the count for a write or an operation, or the bytes of a read.
+    ///
+    /// The drives are those of the seat and of what is open, and the stacks have no more of them than the holds.
     pub fn carry_out(&mut self, drives: &mut DriveTable<H, S>, request: Request<'_>) -> Reply<'_>
         requires { IsAt H.Holds S.Stacks drives.old self.old.seat self.old.opened }
         ensures* rests { sem 𝓛 (Rests (the_row H.row S.row H.Seat.row S.Reel.row H.Holds S.Stacks S.Reel.Reel) self.entry (λ new. IsCarriedOut H.Holds S.Stacks S.Reel.Reel drives.old self.old.seat self.old.opened (plain_request request.entry) (plain_reply result) drives.new new.seat new.opened)) }
@@ -103,7 +105,7 @@ impl<H: Holds, S: Stacks> Session<H, S> {
 
     /// Ends the session: what is open is closed, and the seat holds no drive.
     ///
-    /// The drives are those of the seat and of what is open.
+    /// The drives are those of the seat and of what is open, and the stacks have no more of them than the holds.
     pub fn end(&mut self, drives: &mut DriveTable<H, S>)
         requires { IsAt H.Holds S.Stacks drives.old self.old.seat self.old.opened }
         ensures closed { IsClosed H.Holds S.Stacks S.Reel.Reel drives.old self.old.seat self.old.opened drives.new self.new.seat }

@@ -11,7 +11,7 @@ use rmt_wire::{Counted, OutputFault, RequestReader, WireFault, write_reply};
 use std::io::{Read, Write};
 use thiserror::Error;
 
-/// The most bytes that are read at once.
+/// The most bytes that are read at once: a piece of the stream, and no limit of a request.
 const PIECE: usize = 65536;
 
 /// How the stream of a session ended.

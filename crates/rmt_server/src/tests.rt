@@ -8,20 +8,19 @@ mod compared;
 mod dice;
 mod failures;
 mod fixture;
+mod full_bin;
 mod pieces;
+mod refused_move;
 mod rows;
 mod script;
 mod served;
 mod session;
-mod shared;
 mod slow;
-mod slow_holds;
 mod slow_shop;
 mod spelled;
 mod three;
 mod troubled;
 mod turns;
-mod two_stacks;
 
 /// A capacity in bytes that no row fills.
 pub(crate) const CAPACITY: u64 = 1048576;

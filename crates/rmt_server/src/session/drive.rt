@@ -20,7 +20,7 @@ fn put_back<S: Stacks>(stacks: &mut S, drive: usize, reel: Option<S::Reel>)
     ensures step { (access : AccessOf) (shop : Shop) (session : PlainSession) → S.holds stacks.old shop → IsSeenWith S.Reel.Reel drive access reel session → S.holds stacks.new (closed_shop shop session) }
     ensures elsewhere { (d : ℕ) → d ≢ drive → HasLatched S.holds stacks.old d → HasLatched S.holds stacks.new d }
     ensures quiet { S.can_fail stacks.new → S.can_fail stacks.old ⊎ ReelCanFail S.Reel.Reel reel }
-    ensures counted { S.failures stacks.old ≤ S.failures stacks.new }
+    ensures unfailed { S.failures stacks.new ≡ S.failures stacks.old }
     ensures same_drives { S.drives stacks.new ≡ S.drives stacks.old }
 {
     if let Some(mut reel) = reel {

@@ -8,6 +8,8 @@ use std::test::Fail;
 pub(crate) enum Event {
     /// To open the drive of that number for both.
     Open(usize),
+    /// To open the first drive for no access.
+    OpenForNone,
     /// To move its reel to the bin.
     Offline,
     Close,
@@ -81,6 +83,10 @@ impl SlowShop {
     pub(crate) fn answer(&mut self, number: usize, event: Event) -> Result<u32, Fail> {
         match event {
             Event::Open(drive) => Ok(self.open(number, drive)),
+            Event::OpenForNone => {
+                self.close(number);
+                Ok(22)
+            }
             Event::Offline => self.offline(number),
             Event::Close => Ok(self.close(number)),
             Event::End => {
@@ -105,6 +111,9 @@ impl SlowShop {
 
     fn open(&mut self, number: usize, drive: usize) -> u32 {
         self.close(number);
+        if drive >= self.stacks.len() {
+            return 2;
+        }
         if self.holder(drive) != 0 {
             return 16;
         }

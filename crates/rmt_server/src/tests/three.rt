@@ -102,6 +102,10 @@ fn answer(
             device: device(drive),
             mode: 2,
         },
+        Event::OpenForNone => Request::Open {
+            device: device(0),
+            mode: 3,
+        },
         Event::Offline => Request::Op { op: 6, count: 1 },
         Event::Close => Request::Close,
         Event::End => {
@@ -301,6 +305,18 @@ const TWO_SESSIONS: [Row; 6] = [
     (2, Event::Open(0), 0, 2, 0),
 ];
 
+/// Each refusal of an open comes after what was open is given back.
+const REFUSED: [Row; 8] = [
+    (1, Event::Close, 9, 0, 0),
+    (1, Event::Open(1), 0, 0, 1),
+    (1, Event::OpenForNone, 22, 0, 0),
+    (2, Event::Open(0), 0, 2, 0),
+    (2, Event::Open(9), 2, 0, 0),
+    (3, Event::Open(0), 0, 3, 0),
+    (3, Event::Offline, 1, 3, 0),
+    (3, Event::OpenForNone, 22, 0, 0),
+];
+
 /// A drive whose reel lies in the bin stays held, also with an empty stack; the next reel is latched by the next open.
 const AWAY: [Row; 13] = [
     (1, Event::Offline, 9, 0, 0),
@@ -336,6 +352,12 @@ fn check_rows(rt: &impl Abort, alloc: Global, rows: &[Row]) -> Result<(Three, Sl
 #[test]
 fn the_end_of_a_session_frees_its_drive(rt: HostRuntime) -> Result<(), Fail> {
     check_rows(&rt, rt.alloc(), &TWO_SESSIONS)?;
+    Ok(())
+}
+
+#[test]
+fn a_refused_open_gives_back_what_was_open(rt: HostRuntime) -> Result<(), Fail> {
+    check_rows(&rt, rt.alloc(), &REFUSED)?;
     Ok(())
 }
 

@@ -25,7 +25,7 @@ const BACK: Request<'static> = Request::Op { op: 4, count: 1 };
 const REWIND: Request<'static> = Request::Op { op: 5, count: 1 };
 
 /// The number of the answer, which is 0 for data, or that of the error.
-fn answer<H: Holds, S: Stacks>(
+pub(crate) fn answer<H: Holds, S: Stacks>(
     session: &mut Session<H, S>,
     drives: &mut DriveTable<H, S>,
     request: Request<'_>,

@@ -33,9 +33,10 @@ returns-clause-closed g c =
         others = c.give.ensures.others;
         same_holds = c.give.ensures.same_drives;
         same_stacks = c.put_back.ensures.same_drives;
-        counted = c.put_back.ensures.counted;
+        counted = omega (arith, c.put_back.ensures.unfailed);
         elsewhere = λ d x y. c.put_back.ensures.elsewhere d (λ e. x (ap Some (sym e)));
       };
       quiet = λ f. elim f [ inl x ↦ c.put_back.ensures.quiet x | inr x ↦ absurd x ];
+      unfailed = c.put_back.ensures.unfailed;
       idle = λ e. absurd cc;
     })

@@ -1,4 +1,4 @@
-use Rattle.std.proofs.Common.{Some, Ok, Err, refl, sym, ap, subst, ◌∙◌}
+use Rattle.std.proofs.Common.{Some, Ok, Err, refl, sym, ap, subst, ◌∙◌, inl, inr}
 use Rattle.drives.specs.Stacking.{HasLatched}
 use Rattle.rmt_server.specs.Carrying.{drive_of}
 use Rattle.rmt_server.specs.Refusals.{refused}
@@ -19,6 +19,7 @@ returns-in-Ok-clause-moves g c =
       stacks = c.in-Ok.ensures.moved;
       latched = λ d e. absurd (none-online c.in-Some.device.drive d c.take.new.self c.take.ensures.after e);
       fault = tt;
+      failed = inl c.in-Ok.ensures.unfailed;
       able = λ e. absurd (err-is e);
       quiet = c.in-Ok.ensures.quiet;
       same_stacks = c.in-Ok.ensures.same_drives;
@@ -37,6 +38,7 @@ returns-in-Err-clause-moves g c =
       stacks = c.in-Err.ensures.kept;
       latched = λ d e. subst (HasLatched g.S.Stacks.holds c.offline.new.self) (some-is e) c.in-Err.ensures.still;
       fault = c.in-Err.ensures.faults;
+      failed = elim c.in-Err.ensures.failed [ inl x ↦ inl x | inr x ↦ inr (ap Err x) ];
       able = λ e. c.in-Err.ensures.able (err-is e);
       quiet = c.in-Err.ensures.quiet;
       same_stacks = c.in-Err.ensures.same_drives;

@@ -1,0 +1,73 @@
+//! A drive with one reel and a bin that takes none, which tell nothing of their reels.
+
+use drives::{DriveFault, Stacks};
+use std::alloc::Global;
+use tape::ListReel;
+
+/// Why the bin takes no reel.
+#[derive(Clone, Copy, Drop)]
+pub(crate) enum Why {
+    NoMemory,
+    NameTaken,
+}
+
+/// The drive `/dev/st0` with the reel on its stack, unless that is latched.
+#[derive(Drop)]
+pub(crate) struct FullBin {
+    reel: Option<ListReel>,
+    why: Why,
+}
+
+impl FullBin {
+    /// The reel is empty, of 100 bytes.
+    pub(crate) fn new(alloc: Global, why: Why) -> FullBin {
+        let reel = Some(ListReel::new(alloc, 100));
+        FullBin { reel, why }
+    }
+}
+
+impl Stacks for FullBin {
+    type Reel = ListReel;
+
+    ghost holds = { λ _ _. ⊥ };
+
+    ghost drives = { λ _. 1 };
+
+    ghost failures = { λ _. 0 };
+
+    ghost can_fail = { λ _. ⊥ };
+
+    fn drive(&self, name: &[u8]) -> Option<usize> {
+        if name == b"/dev/st0".as_slice() {
+            Some(0)
+        } else {
+            None
+        }
+    }
+
+    fn latch(&mut self, drive: usize) -> Result<ListReel, DriveFault> {
+        self.reel.take().ok_or(DriveFault::NoReel)
+    }
+
+    fn unlatch(&mut self, drive: usize, reel: ListReel) {
+        self.reel = Some(reel);
+    }
+
+    fn offline(&mut self, drive: usize, reel: ListReel) -> Result<(), (ListReel, DriveFault)> {
+        let fault = match self.why {
+            Why::NoMemory => DriveFault::OutOfMemory,
+            Why::NameTaken => DriveFault::NameTaken,
+        };
+        Err((reel, fault))
+    }
+
+    fn failures(&self) -> u64 {
+        0
+    }
+
+    ghost single = { λ stacks s t h k. absurd h };
+
+    ghost once = { λ stacks s h. absurd h };
+
+    ghost sized = { λ stacks s h. absurd h };
+}

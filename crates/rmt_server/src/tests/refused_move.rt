@@ -1,0 +1,59 @@
+//! What a session answers where the bin refuses its reel.
+
+ghost use Rattle.std.specs.Prelude.{IfOk};
+ghost use Rattle.rmt_server.specs.Carrying.{IsAt};
+ghost use Rattle.drives.specs.contracts.local.LocalHoldsHolds.TheImpl.{ghosts as of_holds};
+ghost use Rattle.rmt_server.specs.contracts.tests.full_bin.FullBinStacks.TheImpl.{ghosts as of_stacks};
+
+use super::full_bin::{FullBin, Why};
+use super::session::gives;
+use super::troubled::answer;
+use crate::Session;
+use drives::{DriveTable, LocalHolds};
+use rmt_wire::Request;
+use std::alloc::Global;
+use std::process::Abort;
+use std::test::Fail;
+
+type Drives = DriveTable<LocalHolds, FullBin>;
+
+type Client = Session<LocalHolds, FullBin>;
+
+/// The drive with an empty reel, and a session with nothing open.
+fn begin(alloc: Global, why: Why) -> Result<(Drives, Client), Fail>
+    ensures { IfOk result (λ made. IsAt of_holds of_stacks made.0 made.1.seat made.1.opened) }
+{
+    let mut holds = LocalHolds::new(alloc, 1)?;
+    let Some(seat) = holds.seat() else {
+        return Err(Fail::new("no seat"));
+    };
+    let stacks = FullBin::new(alloc, why);
+    let drives = DriveTable { holds, stacks };
+    match Session::new(alloc, seat) {
+        Ok(session) => Ok((drives, session)),
+        Err(_) => Err(Fail::new("no session")),
+    }
+}
+
+/// The bin refuses the reel, which is answered with this number. Then it is open at its beginning.
+fn check_refused(rt: &impl Abort, alloc: Global, why: Why, wanted: u32) -> Result<(), Fail> {
+    let (mut drives, mut session) = begin(alloc, why)?;
+    let open = Request::Open {
+        device: b"/dev/st0",
+        mode: 2,
+    };
+    assert_eq!(rt; answer(&mut session, &mut drives, open), Ok(0));
+    let write = Request::Write { bytes: b"abc" };
+    assert_eq!(rt; answer(&mut session, &mut drives, write), Ok(3));
+    let offline = Request::Op { op: 6, count: 1 };
+    assert_eq!(rt; answer(&mut session, &mut drives, offline), Err(wanted));
+    assert!(rt; gives(&mut session, &mut drives, 5, b"abc"));
+    session.end(&mut drives);
+    Ok(())
+}
+
+#[test]
+fn a_refused_move_leaves_the_reel_open(rt: HostRuntime) -> Result<(), Fail> {
+    check_refused(&rt, rt.alloc(), Why::NoMemory, 12)?;
+    check_refused(&rt, rt.alloc(), Why::NameTaken, 5)
+}
