@@ -33,7 +33,7 @@ const SPACED_ANSWERS: &[u8] =
     b"A0\nA1\nA1\nA1\nE5\nInput/output error\nE5\nInput/output error\nA2\nE5\nInput/output error\nA1\nE5\nInput/output error\nE5\nInput/output error\nA0\n";
 
 /// Conversations, each with its answers and the status.
-const ROWS: [(&[u8], &[u8], u8); 15] = [
+const ROWS: [(&[u8], &[u8], u8); 16] = [
     (b"", b"", 0),
     (b"W3\nabc", b"E9\nBad file descriptor\n", 0),
     (b"O/dev/st0\n2\nW5\nhel", b"A0\n", 2),
@@ -50,6 +50,11 @@ const ROWS: [(&[u8], &[u8], u8); 15] = [
     (b"W99999999999\n", b"", 3),
     (b"W3x", b"", 3),
     (SPACED, SPACED_ANSWERS, 0),
+    (
+        b"O/dev/st0\n2\nI6\n1\nW1\nxI7\n1\nC\nO/dev/st0\n2\n",
+        b"A0\nA1\nE6\nDevice not configured\nE6\nDevice not configured\nA0\nE6\nDevice not configured\n",
+        0,
+    ),
     (
         b"O/dev/st0\n2\nI3\n1\nI8\n1\n",
         b"A0\nE5\nInput/output error\nE22\nInvalid argument\n",
