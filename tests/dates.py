@@ -10,6 +10,7 @@ from __future__ import annotations
 
 import argparse
 import os
+import resource
 import subprocess
 import sys
 import tempfile
@@ -24,6 +25,9 @@ FAILED = 1
 
 # A program that does not end is killed after this time, so that the checks end.
 GUARD_SECONDS = 30
+
+# The program starts in so much memory, and a file of twice as many bytes does not fit into it.
+ROOM = 32 << 20
 
 DAY = 86_400
 EPOCH = date(1970, 1, 1)
@@ -90,14 +94,20 @@ class Rdump:
         self.program = program
         self.folder = folder
 
-    def run(self, *words: str | bytes, stdout: int = subprocess.PIPE) -> Ended:
-        """Runs the program with these words, in the folder."""
+    def run(
+        self,
+        *words: str | bytes,
+        stdout: int = subprocess.PIPE,
+        prepare: Callable[[], None] | None = None,
+    ) -> Ended:
+        """Runs the program with these words, in the folder, where `prepare` was done first."""
         ended = subprocess.run(
             (self.program, *words),
             cwd=self.folder,
             stdin=subprocess.DEVNULL,
             stdout=stdout,
             stderr=subprocess.PIPE,
+            preexec_fn=prepare,
             timeout=GUARD_SECONDS,
             check=False,
             restore_signals=False,
@@ -196,9 +206,12 @@ BAD_WORDS: tuple[tuple[tuple[str | bytes, ...], str], ...] = (
     (("dates", "--file", "FILE", "--level", "1"), "--name"),
     (("dates", "--name", "n", "--level", "1"), "--file"),
     (("dates", "--file", "FILE", "--name", "n", "--level"), "--level"),
-    (("dates", "--file", "FILE", "--name", "n", "--level", "10"), "'10'"),
-    (("dates", "--file", "FILE", "--name", "n", "--level", "256"), "'256'"),
-    (("dates", "--file", "FILE", "--name", "n", "--level", "x"), "'x'"),
+    (("dates", "--file", "FILE", "--name", "n", "--level", "10"), "--level"),
+    (("dates", "--file", "FILE", "--name", "n", "--level", "256"), "--level"),
+    (("dates", "--file", "FILE", "--name", "n", "--level", "05"), "--level"),
+    (("dates", "--file", "FILE", "--name", "n", "--level", "+5"), "--level"),
+    (("dates", "--file", "FILE", "--name", "n", "--level", "x"), "--level"),
+    (("dates", "--file", "FILE", "--name", "n", "--level", ""), "--level"),
     (("dates", "--file", "FILE", "--name", "n", "--level="), "--level"),
     (("dates", "--file", "FILE", "--name", "n", "--level=-1"), "--level"),
     (("dates", "--file", "FILE", "--name=", "--level", "1"), "--name"),
@@ -255,6 +268,20 @@ def checks_of_streams(rdump: Rdump) -> Iterator[Check]:
         yield Check(f"{words[3:]} that nobody reads", b"", FAILED, ("standard output",), got)
 
 
+def checks_of_memory(rdump: Rdump) -> Iterator[Check]:
+    """A file for which there is no memory: that is printed."""
+    path = rdump.folder / "huge"
+    with open(path, "wb") as huge:
+        huge.truncate(2 * ROOM)
+    got = rdump.run("dates", "--file", str(path), prepare=in_little_room)
+    yield Check("a file that memory is refused for", b"out of memory\n", FAILED, (), got)
+
+
+def in_little_room() -> None:
+    """Grants the process `ROOM` bytes of memory in all."""
+    resource.setrlimit(resource.RLIMIT_AS, (ROOM, ROOM))
+
+
 def all_dates() -> list[int]:
     """A second of each day from 1970 to 2104, the first and the last of each year up to 9999, and both ends."""
     days = (LAST_DAY - EPOCH).days + 1
@@ -298,6 +325,7 @@ KINDS: Sequence[Callable[[Rdump], Iterator[Check]]] = (
     checks_of_files,
     checks_of_words,
     checks_of_streams,
+    checks_of_memory,
     checks_of_dates,
 )
 

@@ -1,11 +1,11 @@
 //! The words of `rdump`.
 
-ghost use Rattle.std.specs.Prelude.{◌↔◌, ◌≤◌, IfOk, IsTrue};
+ghost use Rattle.std.specs.Prelude.{◌≡◌, ◌↔◌, ℕ, ◌≤◌, ◌+◌, ◌∷◌, [], IfOk, IfSome, IsSome, IsTrue};
 ghost use Rattle.dumpdates.specs.Entry.{IsName};
-ghost use Rattle.rmt_tools.specs.Rdump.{IsRdumpLine};
+ghost use Rattle.rmt_tools.specs.Rdump.{IsAsked, IsRdumpLine};
 
 use clap::error::ErrorKind;
-use clap::{Arg, ArgAction, ArgMatches, Command, Error, value_parser};
+use clap::{Arg, ArgAction, ArgMatches, Command, Error};
 use dumpdates::Entry;
 use std::alloc::{AllocError, Global};
 use std::convert::AsStr;
@@ -18,7 +18,7 @@ pub enum RdumpLine<'a> {
         /// Where the file is.
         file: &'a str,
         /// The name and the level whose base date is asked for, and None where the text is. The name is one of an
-        /// entry, 1 to 255 bytes of printed ASCII without a space, and the level is 0 to 9.
+        /// entry, 1 to 255 bytes of printable ASCII without a space, and the level is 0 to 9.
         asked: Option<(&'a str, u8)>,
     },
 }
@@ -39,23 +39,57 @@ pub fn rdump_words<'a, S: AsStr>(alloc: Global, words: &'a [S]) -> Result<RdumpL
     let Some(file) = dates.get_str("file") else {
         return Err(rdump.error(ErrorKind::MissingRequiredArgument, "--file is required")?);
     };
-    let asked = match (dates.get_str("name"), dates.get_one::<u8>("level")) {
-        (None, None) => None,
-        (Some(name), Some(level)) if is_askable(name, level) => Some((name, level)),
-        _ => return Err(rdump.error(ErrorKind::ValueValidation, BAD_NAME)?),
-    };
-    Ok(RdumpLine::Dates { file, asked })
+    match asked(dates.get_str("name"), dates.get_str("level")) {
+        Ok(asked) => Ok(RdumpLine::Dates { file, asked }),
+        Err(fault) => Err(rdump.error(ErrorKind::ValueValidation, fault)?),
+    }
 }
 
 /// What is said of a name that no entry has.
 const BAD_NAME: &str =
-    "invalid value for '--name <NAME>': a name is 1 to 255 bytes of printed ASCII without a space";
+    "invalid value for '--name <NAME>': a name is 1 to 255 bytes of printable ASCII without a space";
 
-/// Whether an entry can have this name and level.
-fn is_askable(name: &str, level: u8) -> bool
-    ensures { IsTrue result ↔ IsName name.now × (level ≤ 9) }
+/// What is said of a level that no entry has.
+const BAD_LEVEL: &str = "invalid value for '--level <LEVEL>': a level is one digit, 0 to 9";
+
+/// What is said of a name without a level, and of a level without a name.
+const ONE_ALONE: &str = "--name and --level are given together or not at all";
+
+/// The name and the level that are asked for by these words, and what is wrong with them where no entry has such.
+fn asked<'a>(
+    name: Option<&'a str>,
+    level: Option<&str>,
+) -> Result<Option<(&'a str, u8)>, &'static str>
+    ensures { IfOk result IsAsked }
 {
-    Entry::new(name, level, 0).is_some()
+    let (name, level) = match (name, level) {
+        (None, None) => return Ok(None),
+        (Some(name), Some(level)) => (name, level),
+        _ => return Err(ONE_ALONE),
+    };
+    match level_of(level) {
+        None => Err(BAD_LEVEL),
+        Some(level) if is_name(name) => Ok(Some((name, level))),
+        Some(_) => Err(BAD_NAME),
+    }
+}
+
+/// The level that a word says, which is one digit and nothing else.
+fn level_of(word: &str) -> Option<u8>
+    ensures value { IfSome result (λ n. (n ≤ 9) × (word.now ≡ (48 + n) ∷ [])) }
+    ensures given { (n : ℕ) → n ≤ 9 → word.now ≡ (48 + n) ∷ [] → IsSome result }
+{
+    match word.as_bytes() {
+        [digit @ b'0'..=b'9'] => Some(*digit - b'0'),
+        _ => None,
+    }
+}
+
+/// Whether an entry can have this name.
+fn is_name(name: &str) -> bool
+    ensures { IsTrue result ↔ IsName name.now }
+{
+    Entry::new(name, 0, 0).is_some()
 }
 
 /// The command `rdump` with all of its words.
@@ -77,8 +111,7 @@ fn dates_command<'a>(alloc: Global) -> Result<Command<'a>, AllocError> {
         .help("Ask for the base date of a dump of this file system");
     let level = option(alloc, "level", "LEVEL")
         .requires_arg("name")?
-        .value_parser(value_parser!(u8).range(0..=9))
-        .help("The level of that dump, 0 to 9");
+        .help("The level of that dump, one digit");
     Command::new(alloc, "dates")
         .about("Print a dumpdates file anew, or the base date of a dump in seconds since 1970")
         .arg(file)?

@@ -29,7 +29,7 @@ fn words_are_taken(rt: HostRuntime) {
 }
 
 /// Words that are refused, and the kind of the error.
-const REFUSED: [(&[&str], ErrorKind); 11] = [
+const REFUSED: [(&[&str], ErrorKind); 14] = [
     (
         &["rdump"],
         ErrorKind::DisplayHelpOnMissingArgumentOrSubcommand,
@@ -49,6 +49,24 @@ const REFUSED: [(&[&str], ErrorKind); 11] = [
     (
         &[
             "rdump", "dates", "--file", "f", "--name", "n", "--level", "10",
+        ],
+        ErrorKind::ValueValidation,
+    ),
+    (
+        &[
+            "rdump", "dates", "--file", "f", "--name", "n", "--level", "+5",
+        ],
+        ErrorKind::ValueValidation,
+    ),
+    (
+        &[
+            "rdump", "dates", "--file", "f", "--name", "n", "--level", "05",
+        ],
+        ErrorKind::ValueValidation,
+    ),
+    (
+        &[
+            "rdump", "dates", "--file", "f", "--name", "n", "--level", "",
         ],
         ErrorKind::ValueValidation,
     ),
