@@ -55,6 +55,7 @@ def measure(program: Path, folder: Path) -> bool:
         beside_half = (all_lines - no_lines) / (half_lines - no_lines)
         print(f"{title:<38}{all_lines / cat:>10.2f}{all_lines / wc:>12.2f}{beside_half:>16.2f}", flush=True)
     print(f"The file has {whole.stat().st_size:,} bytes. Beside half of it: without what a file of no lines takes.")
+    print("About 2 for twice the lines says that the time grows with the lines, and no faster: it is linear.")
     return True
 
 
