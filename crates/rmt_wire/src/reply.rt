@@ -11,7 +11,7 @@ pub enum Reply<'a> {
     /// all up to `NUMBER_LIMIT` have a spelling. A client waits for as many as its read asked for; a reply with more
     /// is none to it.
     Data { bytes: &'a [u8] },
-    /// It was refused, with the number and the text of an error. The text has up to `LINE_LIMIT` bytes, and no LF.
-    /// Syntax: `E` number LF text LF.
+    /// It was refused, with the number and the text of an error. The text that is written has up to `LINE_LIMIT` bytes,
+    /// and no LF; of a longer one a reader keeps the first `LINE_LIMIT`. Syntax: `E` number LF text LF.
     Error { number: u32, text: &'a [u8] },
 }
