@@ -1,0 +1,42 @@
+-- Where the blocks of a run come from.
+use Rattle.std.specs.Prelude.{◌≡◌, ℕ, zero, suc, Bool, true, false, List, [], ◌∷◌, length, take, drop, slice_get, Some, Result, Ok, Err}
+use Rattle.rmt_wire.specs.Counted.{raised}
+use Rattle.dump_client.specs.declared.blocks.SourceFailed.{SourceFailed}
+
+-- there is a block of this number, and it has this length
+abbrev pub HasBlock : List (List ℕ) → ℕ → ℕ → Type 0
+HasBlock blocks n len = (block : List ℕ) × (slice_get blocks n ≡ Some block) × (length block ≡ len)
+
+-- a read that was done gave the block of this number
+abbrev pub GivesBlock : Result Unit SourceFailed → List (List ℕ) → ℕ → List ℕ → Type 0
+GivesBlock (Ok x) blocks n given = slice_get blocks n ≡ Some given
+GivesBlock (Err failed) blocks n given = Unit {0}
+
+-- a failed read is counted, and no other
+abbrev pub counted_after : Result Unit SourceFailed → ℕ → ℕ
+counted_after (Ok x) failures = failures
+counted_after (Err failed) failures = raised failures
+
+-- a payload cut into so many blocks of this size, from its front on
+abbrev pub cut_blocks : ℕ → ℕ → List ℕ → List (List ℕ)
+cut_blocks zero size payload = []
+cut_blocks (suc n) size payload = take size payload ∷ cut_blocks n size (drop size payload)
+
+-- a payload in memory: its blocks, whether reads of it fail, and how many have failed
+pub record Listed : Type 0 where
+  pub blocks : List (List ℕ)
+  pub troubled : Bool
+  pub failures : ℕ
+
+abbrev pub listed : List (List ℕ) → Bool → ℕ → Listed
+listed blocks troubled failures = record { blocks = blocks; troubled = troubled; failures = failures }
+
+-- it always tells its blocks
+abbrev pub AreBlocksOf : Listed → List (List ℕ) → Type 0
+AreBlocksOf source blocks = source.blocks ≡ blocks
+
+-- One read of it: without trouble it gives the block and changes nothing; in trouble it gives nothing and is counted.
+abbrev pub ListedRead : Listed → ℕ → List ℕ → Result Unit SourceFailed → Listed → List ℕ → Type 0
+ListedRead old n into (Ok x) new given = (old.troubled ≡ false) × (new ≡ old) × (slice_get old.blocks n ≡ Some given)
+ListedRead old n into (Err failed) new given =
+    (old.troubled ≡ true) × (new ≡ listed old.blocks true (raised old.failures)) × (given ≡ into)

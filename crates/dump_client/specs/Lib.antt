@@ -1,0 +1,5 @@
+pub mod Run
+pub mod Blocks
+pub mod Label
+pub mod Script
+pub mod Position

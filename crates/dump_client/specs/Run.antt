@@ -1,0 +1,56 @@
+-- A run: what is dumped, to which drive, and in how many blocks (dump(8)).
+use Rattle.std.specs.Prelude.{◌⊎◌, ℕ, ◌<◌, ◌≤◌, List, length}
+use Rattle.std.specs.Int.{IsInRange}
+use Rattle.rmt_wire.specs.Number.{HasNoLineFeed}
+use Rattle.rmt_wire.specs.Request.{data_limit}
+use Rattle.dumpdates.specs.Entry.{IsName, last_second}
+use Rattle.dump_client.specs.declared.fault.RunFault.{RunFault}
+use Rattle.dump_client.specs.declared.fault.RunFault.TheVariants.{BadDevice, BadName, BadLevel, BadDate, BadBlockSize, TooManyBlocks}
+
+-- the drive, the file system's name, the level, the date of this dump and that of the dump it builds on, the bytes of a block, and
+-- the number of blocks
+pub record PlainRun : Type 0 where
+  pub device : List ℕ
+  pub name : List ℕ
+  pub level : ℕ
+  pub date : ℕ
+  pub since : ℕ
+  pub block_bytes : ℕ
+  pub blocks : ℕ
+
+abbrev pub plain_run : List ℕ → List ℕ → ℕ → ℕ → ℕ → ℕ → ℕ → PlainRun
+plain_run device name level date since block_bytes blocks =
+    record { device = device; name = name; level = level; date = date; since = since; block_bytes = block_bytes; blocks = blocks }
+
+-- 1 to 255 bytes of one line
+abbrev pub IsDevice : List ℕ → Type 0
+IsDevice device = IsInRange 1 255 (length device) × HasNoLineFeed device
+
+-- a block is written as one record
+abbrev pub IsBlockSize : ℕ → Type 0
+IsBlockSize bytes = IsInRange 1 data_limit bytes
+
+abbrev pub blocks_limit : ℕ
+blocks_limit = 2147483647
+
+-- a run within its limits
+pub record IsRun (r : PlainRun) : Type 0 where
+  pub device : IsDevice r.device
+  pub name : IsName r.name
+  pub level : r.level ≤ 9
+  pub date : r.date ≤ last_second
+  pub since : r.since ≤ last_second
+  pub block_bytes : IsBlockSize r.block_bytes
+  pub blocks : r.blocks ≤ blocks_limit
+
+-- this limit is broken, and none of those before it
+abbrev pub IsFirstBroken : RunFault → PlainRun → Type 0
+IsFirstBroken BadDevice r = IsDevice r.device → ⊥
+IsFirstBroken BadName r = IsDevice r.device × (IsName r.name → ⊥)
+IsFirstBroken BadLevel r = IsDevice r.device × IsName r.name × (9 < r.level)
+IsFirstBroken BadDate r = IsDevice r.device × IsName r.name × (r.level ≤ 9) × ((last_second < r.date) ⊎ (last_second < r.since))
+IsFirstBroken BadBlockSize r =
+    IsDevice r.device × IsName r.name × (r.level ≤ 9) × (r.date ≤ last_second) × (r.since ≤ last_second) × (IsBlockSize r.block_bytes → ⊥)
+IsFirstBroken TooManyBlocks r =
+    IsDevice r.device × IsName r.name × (r.level ≤ 9) × (r.date ≤ last_second) × (r.since ≤ last_second) × IsBlockSize r.block_bytes
+    × (blocks_limit < r.blocks)

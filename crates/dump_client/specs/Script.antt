@@ -1,0 +1,67 @@
+-- What a client sends in one attempt, which writes one volume, and the replies that keep it going.
+use Rattle.std.specs.Prelude.{◌≡◌, ◌⊎◌, ℕ, zero, suc, ◌+◌, ◌<◌, ◌≤◌, if◌then◌else◌, nat_lt, List, [], ◌∷◌, ◌++◌, map, get_or}
+use Rattle.rmt_wire.specs.Request.{PlainRequest}
+use Rattle.rmt_wire.specs.Request.PlainRequest.{Open as OpenDevice, Op, Write, Close as CloseDevice}
+use Rattle.rmt_wire.specs.Reply.{PlainReply}
+use Rattle.rmt_wire.specs.Reply.PlainReply.{Done, Error}
+use Rattle.dump_client.specs.Run.{PlainRun}
+use Rattle.dump_client.specs.Label.{label, label_bytes}
+
+-- a request of an attempt; blocks are numbered from 0 in the run
+pub data Step : Type 0 where
+  Open : Step
+  Rewind : Step
+  Label : Step
+  Block : (number : ℕ) → Step
+  Mark : Step
+  Unload : Step
+  Close : Step
+
+-- volume `volume` from block `first` on: an open for reading and writing, MTREW, the label, blocks, MTWEOF, MTOFFL, a close
+abbrev pub request_of : PlainRun → List (List ℕ) → ℕ → ℕ → Step → PlainRequest
+request_of run payload volume first Open = OpenDevice run.device 2
+request_of run payload volume first Rewind = Op 5 1
+request_of run payload volume first Label = Write (label run volume first)
+request_of run payload volume first (Block number) = Write (get_or payload number [])
+request_of run payload volume first Mark = Op 0 1
+request_of run payload volume first Unload = Op 6 1
+request_of run payload volume first Close = CloseDevice
+
+-- the reply that is wanted
+pub data Wish : Type 0 where
+  AnyNumber : Wish
+  Number : (number : ℕ) → Wish
+  NoRoom : Wish
+  Anything : Wish
+
+-- a write that does not fit is answered by 0 bytes, or ENOSPC
+abbrev pub Grants : Wish → PlainReply → Type 0
+Grants AnyNumber (Done n) = Unit {0}
+Grants (Number number) (Done n) = n ≡ number
+Grants NoRoom (Done n) = n ≡ 0
+Grants NoRoom (Error n text) = n ≡ 28
+Grants Anything reply = Unit {0}
+Grants wish reply = ⊥
+
+-- so many blocks from this one on, each written whole
+abbrev pub block_steps : PlainRun → ℕ → ℕ → List (Step × Wish)
+block_steps run first zero = []
+block_steps run first (suc count) = (Block first, Number run.block_bytes) ∷ block_steps run (suc first) count
+
+-- where blocks are left, one more is tried, for which there is no room
+abbrev pub refused_step : PlainRun → ℕ → List (Step × Wish)
+refused_step run next = if nat_lt next run.blocks then (Block next, NoRoom) ∷ [] else []
+
+-- the steps of a volume of so many blocks
+abbrev pub steps_of : PlainRun → ℕ → ℕ → List (Step × Wish)
+steps_of run first count =
+    (Open, AnyNumber) ∷ (Rewind, Number 1) ∷ (Label, Number label_bytes)
+    ∷ (block_steps run first count ++ (refused_step run (first + count) ++ (Mark, Number 1) ∷ (Unload, Number 1) ∷ (Close, Anything) ∷ []))
+
+-- the same with the requests that are sent
+abbrev pub script : PlainRun → List (List ℕ) → ℕ → ℕ → ℕ → List (PlainRequest × Wish)
+script run payload volume first count = map (λ s. (request_of run payload volume first s.0, s.1)) (steps_of run first count)
+
+-- a volume has a block or more, unless the run has none
+abbrev pub IsCount : PlainRun → ℕ → ℕ → Type 0
+IsCount run first count = (first + count ≤ run.blocks) × ((0 < count) ⊎ (run.blocks ≡ 0))

@@ -1,0 +1,52 @@
+use thiserror::Error;
+
+/// Why something is no run: the first limit, in this order, that it breaks.
+#[derive(Clone, Copy, Debug, PartialEq, Eq, Error)]
+pub enum RunFault {
+    /// The device is not 1 to 255 bytes of one line.
+    #[error("BadDevice")]
+    BadDevice,
+    /// The name is not 1 to 255 bytes of printed ASCII without a space.
+    #[error("BadName")]
+    BadName,
+    /// The level is above 9.
+    #[error("BadLevel")]
+    BadLevel,
+    /// The date, or the date of the dump that it builds on, is behind the last second of the year 9999.
+    #[error("BadDate")]
+    BadDate,
+    /// A block is not 1 to `DATA_LIMIT` bytes.
+    #[error("BadBlockSize")]
+    BadBlockSize,
+    /// The blocks are more than `BLOCKS_LIMIT`.
+    #[error("TooManyBlocks")]
+    TooManyBlocks,
+}
+
+/// Why an attempt to write a volume failed.
+///
+/// The volume was not counted then, and nothing more is sent on the connection.
+#[derive(Clone, Copy, Debug, PartialEq, Eq, Error)]
+pub enum AttemptFault {
+    /// The server answered with the error of this number. A write for which there was no room is not told so.
+    #[error("Refused {0}")]
+    Refused(u32),
+    /// What came was no reply, or not the number that an operation answers, or nobody waited for it.
+    #[error("Botched")]
+    Botched,
+    /// The connection ended before the reply to MTOFFL.
+    #[error("ConnectionEnded")]
+    ConnectionEnded,
+    /// The server wrote another number of bytes than were sent, and not none.
+    #[error("ShortWrite")]
+    ShortWrite,
+    /// There was no room for the label, or for the first block of the volume.
+    #[error("ReelTooSmall")]
+    ReelTooSmall,
+    /// A block could not be read.
+    #[error("SourceFault")]
+    SourceFault,
+    /// A growth in memory was refused.
+    #[error("OutOfMemory")]
+    OutOfMemory,
+}

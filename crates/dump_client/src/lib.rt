@@ -1,0 +1,18 @@
+//! The client's side of a dump to a remote tape (dump(8), rmt(8)): what a run is, and where its blocks come from.
+//!
+//! `Run` says what is dumped, to which drive, and in how many blocks. `Blocks` is where these are read from, and
+//! `ListBlocks` has them in memory.
+#![tactic(auto)]
+
+mod blocks;
+mod count;
+mod fault;
+mod list;
+mod row;
+mod run;
+
+pub use blocks::{Blocks, SourceFailed};
+pub use count::VolumeCount;
+pub use fault::{AttemptFault, RunFault};
+pub use list::ListBlocks;
+pub use run::{BLOCKS_LIMIT, Run};

@@ -1,0 +1,91 @@
+ghost use Rattle.std.specs.Prelude.{◌≡◌, ◌*◌, ◌<◌, IsTrue, Some, length, slice_get, false};
+ghost use Rattle.std.proofs.Common.{sym, ◌∙◌};
+ghost use Rattle.dump_client.specs.Blocks.{HasBlock, AreBlocksOf, ListedRead, cut_blocks, listed};
+
+use crate::{Blocks, SourceFailed};
+use std::marker::Model;
+
+/// A whole payload in memory, as blocks of one size, whose reads can be told to fail.
+///
+/// It always tells its blocks.
+#[derive(Drop)]
+pub struct ListBlocks {
+    payload: Vec<u8>,
+    block_bytes: usize,
+    blocks: u32,
+    troubled: bool,
+    failures: u64,
+}
+
+impl Model for ListBlocks {
+    ghost use Rattle.std.specs.Prelude.{◌≡◌, ◌*◌, length};
+    ghost use Rattle.dump_client.specs.Blocks.{Listed, listed, cut_blocks};
+
+    ghost Value = { Listed };
+
+    ghost view = { λ s. listed (cut_blocks s.blocks s.block_bytes s.payload.items) s.troubled s.failures };
+
+    ghost invariant = { λ s. length s.payload.items ≡ s.blocks * s.block_bytes };
+}
+
+impl ListBlocks {
+    /// This payload as so many blocks of `block_bytes` bytes, as many as it has bytes for and no more. No read fails
+    /// until `trouble` says so.
+    pub fn new(payload: Vec<u8>, block_bytes: usize, blocks: u32) -> ListBlocks
+        requires { length payload.items ≡ blocks * block_bytes }
+        ensures { result ≡ listed (cut_blocks blocks block_bytes payload.items) false 0 }
+    {
+        ListBlocks {
+            payload,
+            block_bytes,
+            blocks,
+            troubled: false,
+            failures: 0,
+        }
+    }
+
+    /// Sets whether reads fail from now on, until it is set again.
+    pub fn trouble(&mut self, fails: bool)
+        ensures { self.new ≡ listed self.old.blocks fails self.old.failures }
+    {
+        self.troubled = fails;
+    }
+
+    // The bytes of the block of this number.
+    #[tactic(auto, using(crate::proofs::Cut::length_cut, crate::proofs::Cut::block_at, crate::proofs::Cut::block_within))]
+    fn part(&self, block: u32) -> &[u8]
+        requires { block < length self.now.blocks }
+        ensures { slice_get self.now.blocks block ≡ Some result.now }
+    {
+        let start = block as usize * self.block_bytes;
+        &self.payload[start..start + self.block_bytes]
+    }
+}
+
+impl Blocks for ListBlocks {
+    ghost holds = { AreBlocksOf };
+
+    ghost failures = { λ s. s.failures };
+
+    ghost can_fail = { λ s. IsTrue s.troubled };
+
+    ghost single = { λ source blocks others told other. sym told ∙ other };
+
+    fn read(&mut self, block: u32, into: &mut [u8]) -> Result<(), SourceFailed>
+        requires { HasBlock self.old.blocks block (length into.old) }
+        ensures { ListedRead self.old block into.old result self.new into.new }
+    {
+        if self.troubled {
+            self.failures = self.failures.saturating_add(1);
+            return Err(SourceFailed);
+        }
+        into.copy_from_slice(self.part(block));
+        Ok(())
+    }
+
+    fn failures(&self) -> u64
+        ensures { result ≡ self.now.failures }
+    {
+        self.failures
+    }
+}

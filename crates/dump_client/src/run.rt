@@ -1,0 +1,145 @@
+ghost use Rattle.std.specs.Prelude.{◌≡◌, ◌↔◌, IsTrue, IfOk, MatchResult};
+ghost use Rattle.dump_client.specs.Run.{IsDevice, IsRun, IsFirstBroken, plain_run};
+
+use crate::RunFault;
+use crate::row::Row;
+use dumpdates::{Entry, LAST_SECOND};
+use rmt_wire::{DATA_LIMIT, LINE_LIMIT, NUMBER_LIMIT};
+use std::marker::Model;
+
+/// The most blocks of a run.
+pub const BLOCKS_LIMIT: u32 = NUMBER_LIMIT;
+
+/// The greatest level of a dump.
+const LAST_LEVEL: u64 = 9;
+
+/// What a dump is (dump(8)): of a file system, at a level, at a date, building on that of a lower level, to a drive,
+/// in blocks of one size. Its texts stand in fixed rows, so that it takes no memory.
+#[derive(Drop)]
+pub struct Run {
+    device: Row,
+    name: Row,
+    level: u8,
+    date: u64,
+    since: u64,
+    block_bytes: usize,
+    blocks: u32,
+}
+
+impl Model for Run {
+    ghost use Rattle.dump_client.specs.Run.{PlainRun, IsRun, plain_run};
+
+    ghost Value = { PlainRun };
+
+    ghost view = { λ r. plain_run r.device r.name r.level r.date r.since r.block_bytes r.blocks };
+
+    ghost invariant = { λ r. IsRun (plain_run r.device r.name r.level r.date r.since r.block_bytes r.blocks) };
+}
+
+/// Whether the bytes are a device: 1 to 255 of them, and none a line feed.
+fn is_device(device: &[u8]) -> bool
+    ensures { IsTrue result ↔ IsDevice device.now }
+{
+    !device.is_empty() && device.len() <= LINE_LIMIT && device.iter().all(|b| *b != b'\n')
+}
+
+impl Run {
+    /// The run of this file system to this device.
+    ///
+    /// The device is 1 to 255 bytes of one line, the name `fs` 1 to 255 bytes of printed ASCII without a space, and the
+    /// level 0 to 9. Dates are in seconds since 1970 began, UTC, up to `dumpdates::LAST_SECOND`; `since` is that of the
+    /// dump that this one builds on, 0 where there is none. A block has 1 to `rmt_wire::DATA_LIMIT` bytes, and there are
+    /// up to `BLOCKS_LIMIT` of them.
+    ///
+    /// Answers the fault of the first of these limits that is broken, in the order of `RunFault`. It takes no memory.
+    pub fn new(
+        device: &[u8],
+        fs: &str,
+        level: u64,
+        date: u64,
+        since: u64,
+        block_bytes: u64,
+        blocks: u64,
+    ) -> Result<Run, RunFault>
+        ensures run { MatchResult result (λ run. run ≡ plain_run device.now fs.now level date since block_bytes blocks)
+            (λ fault. IsFirstBroken fault (plain_run device.now fs.now level date since block_bytes blocks)) }
+        ensures limits { IfOk result IsRun }
+    {
+        if !is_device(device) {
+            return Err(RunFault::BadDevice);
+        }
+        if Entry::new(fs, 0, 0).is_none() {
+            return Err(RunFault::BadName);
+        }
+        if level > LAST_LEVEL {
+            return Err(RunFault::BadLevel);
+        }
+        if date > LAST_SECOND || since > LAST_SECOND {
+            return Err(RunFault::BadDate);
+        }
+        if block_bytes == 0 || block_bytes > DATA_LIMIT as u64 {
+            return Err(RunFault::BadBlockSize);
+        }
+        if blocks > u64::from(BLOCKS_LIMIT) {
+            return Err(RunFault::TooManyBlocks);
+        }
+        Ok(Run {
+            device: Row::new(device),
+            name: Row::new(fs.as_bytes()),
+            level: level as u8,
+            date,
+            since,
+            block_bytes: block_bytes as usize,
+            blocks: blocks as u32,
+        })
+    }
+
+    /// The device: 1 to 255 bytes of one line.
+    pub fn device(&self) -> &[u8]
+        ensures { result.now ≡ self.now.device }
+    {
+        self.device.as_slice()
+    }
+
+    /// The name of the file system: 1 to 255 bytes of printed ASCII without a space.
+    pub fn name(&self) -> &str
+        ensures { result.now ≡ self.now.name }
+    {
+        std::str::from_utf8(self.name.as_slice()).unwrap()
+    }
+
+    /// The level, 0 to 9.
+    pub fn level(&self) -> u8
+        ensures { result ≡ self.now.level }
+    {
+        self.level
+    }
+
+    /// The date of this dump, in seconds since 1970 began, UTC.
+    pub fn date(&self) -> u64
+        ensures { result ≡ self.now.date }
+    {
+        self.date
+    }
+
+    /// The date of the dump that this one builds on, or 0.
+    pub fn since(&self) -> u64
+        ensures { result ≡ self.now.since }
+    {
+        self.since
+    }
+
+    /// The bytes of a block.
+    pub fn block_bytes(&self) -> usize
+        ensures { result ≡ self.now.block_bytes }
+    {
+        self.block_bytes
+    }
+
+    /// The number of blocks.
+    pub fn blocks(&self) -> u32
+        ensures { result ≡ self.now.blocks }
+    {
+        self.blocks
+    }
+}
