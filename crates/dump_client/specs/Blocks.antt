@@ -1,15 +1,15 @@
 -- Where the blocks of a run come from.
-use Rattle.std.specs.Prelude.{◌≡◌, ℕ, zero, suc, Bool, true, false, List, [], ◌∷◌, length, take, drop, slice_get, Some, Result, Ok, Err}
+use Rattle.std.specs.Prelude.{◌≡◌, ℕ, zero, suc, ◌<◌, Bool, true, false, List, [], ◌∷◌, length, get_or, take, drop, Result, Ok, Err}
 use Rattle.rmt_wire.specs.Counted.{raised}
 use Rattle.dump_client.specs.declared.blocks.SourceFailed.{SourceFailed}
 
 -- there is a block of this number, and it has this length
 abbrev pub HasBlock : List (List ℕ) → ℕ → ℕ → Type 0
-HasBlock blocks n len = (block : List ℕ) × (slice_get blocks n ≡ Some block) × (length block ≡ len)
+HasBlock blocks n len = (n < length blocks) × (length (get_or blocks n []) ≡ len)
 
 -- a read that was done gave the block of this number
 abbrev pub GivesBlock : Result Unit SourceFailed → List (List ℕ) → ℕ → List ℕ → Type 0
-GivesBlock (Ok x) blocks n given = slice_get blocks n ≡ Some given
+GivesBlock (Ok x) blocks n given = given ≡ get_or blocks n []
 GivesBlock (Err failed) blocks n given = Unit {0}
 
 -- a failed read is counted, and no other
@@ -37,6 +37,6 @@ AreBlocksOf source blocks = source.blocks ≡ blocks
 
 -- One read of it: without trouble it gives the block and changes nothing; in trouble it gives nothing and is counted.
 abbrev pub ListedRead : Listed → ℕ → List ℕ → Result Unit SourceFailed → Listed → List ℕ → Type 0
-ListedRead old n into (Ok x) new given = (old.troubled ≡ false) × (new ≡ old) × (slice_get old.blocks n ≡ Some given)
+ListedRead old n into (Ok x) new given = (old.troubled ≡ false) × (new ≡ old) × (given ≡ get_or old.blocks n [])
 ListedRead old n into (Err failed) new given =
     (old.troubled ≡ true) × (new ≡ listed old.blocks true (raised old.failures)) × (given ≡ into)

@@ -10,6 +10,10 @@ mod fault;
 mod list;
 mod row;
 mod run;
+#[cfg(test)]
+mod slow;
+#[cfg(test)]
+mod tests;
 
 pub use blocks::{Blocks, SourceFailed};
 pub use count::VolumeCount;

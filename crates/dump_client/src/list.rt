@@ -1,4 +1,4 @@
-ghost use Rattle.std.specs.Prelude.{◌≡◌, ◌*◌, ◌<◌, IsTrue, Some, length, slice_get, false};
+ghost use Rattle.std.specs.Prelude.{◌≡◌, ◌*◌, ◌<◌, IsTrue, [], length, get_or, false};
 ghost use Rattle.std.proofs.Common.{sym, ◌∙◌};
 ghost use Rattle.dump_client.specs.Blocks.{HasBlock, AreBlocksOf, ListedRead, cut_blocks, listed};
 
@@ -55,7 +55,7 @@ impl ListBlocks {
     #[tactic(auto, using(crate::proofs::Cut::length_cut, crate::proofs::Cut::block_at, crate::proofs::Cut::block_within))]
     fn part(&self, block: u32) -> &[u8]
         requires { block < length self.now.blocks }
-        ensures { slice_get self.now.blocks block ≡ Some result.now }
+        ensures { result.now ≡ get_or self.now.blocks block [] }
     {
         let start = block as usize * self.block_bytes;
         &self.payload[start..start + self.block_bytes]
@@ -73,7 +73,8 @@ impl Blocks for ListBlocks {
 
     fn read(&mut self, block: u32, into: &mut [u8]) -> Result<(), SourceFailed>
         requires { HasBlock self.old.blocks block (length into.old) }
-        ensures { ListedRead self.old block into.old result self.new into.new }
+        ensures read { ListedRead self.old block into.old result self.new into.new }
+        ensures same_blocks { self.new.blocks ≡ self.old.blocks }
     {
         if self.troubled {
             self.failures = self.failures.saturating_add(1);

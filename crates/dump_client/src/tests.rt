@@ -1,0 +1,4 @@
+mod blocks;
+mod next;
+mod run;
+mod script;
