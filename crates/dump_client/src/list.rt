@@ -84,9 +84,7 @@ impl Blocks for ListBlocks {
         Ok(())
     }
 
-    fn failures(&self) -> u64
-        ensures { result ≡ self.now.failures }
-    {
+    fn failures(&self) -> u64 {
         self.failures
     }
 }
