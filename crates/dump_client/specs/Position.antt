@@ -100,6 +100,18 @@ outcome run first Close End = Ended
 outcome run first step Noise = Fails Botched
 outcome run first step End = Fails ConnectionEnded
 
+-- what leads to a step: to the close, that the volume is counted
+abbrev pub leads_to : Step → Outcome
+leads_to Close = Counted
+leads_to step = GoesOn step
+
+-- each reply that is wanted leads to the next step, and the last one to the end
+abbrev pub Follows : PlainRun → ℕ → List (Step × Wish) → Type 0
+Follows run first [] = Unit {0}
+Follows run first (s ∷ []) = (reply : PlainReply) → Grants s.1 reply → after_reply run first s.0 reply ≡ Ended
+Follows run first (s ∷ t ∷ steps) =
+    ((reply : PlainReply) → Grants s.1 reply → after_reply run first s.0 reply ≡ leads_to t.0) × Follows run first (t ∷ steps)
+
 -- from this volume and block on, each count begins where the one before ended, and the last ends with the blocks
 abbrev pub CoversFrom : ℕ → ℕ → ℕ → List VolumeCount → Type 0
 CoversFrom blocks volume first [] = first ≡ blocks

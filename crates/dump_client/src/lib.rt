@@ -7,6 +7,7 @@
 mod blocks;
 mod count;
 mod fault;
+mod laws;
 mod list;
 mod row;
 mod run;
@@ -18,5 +19,6 @@ mod tests;
 pub use blocks::{Blocks, SourceFailed};
 pub use count::VolumeCount;
 pub use fault::{AttemptFault, RunFault};
+pub use laws::wanted_replies;
 pub use list::ListBlocks;
 pub use run::{BLOCKS_LIMIT, Run};

@@ -1,4 +1,5 @@
 mod blocks;
+mod laws;
 mod next;
 mod run;
 mod script;
