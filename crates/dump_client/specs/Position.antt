@@ -1,5 +1,5 @@
 -- Where an attempt stands: what was sent, the replies that came, and what comes next.
-use Rattle.std.specs.Prelude.{◌≡◌, ℕ, ◌+◌, ◌<◌, ◌≤◌, ◌==◌, if◌then◌else◌, nat_lt, List, [], ◌∷◌, ◌++◌, length, map, take, Contains}
+use Rattle.std.specs.Prelude.{◌≡◌, ◌⊎◌, ℕ, ◌+◌, ◌<◌, ◌≤◌, ◌==◌, if◌then◌else◌, nat_lt, List, [], ◌∷◌, ◌++◌, length, map, take, Contains}
 use Rattle.rmt_wire.specs.Request.{PlainRequest}
 use Rattle.rmt_wire.specs.Request.PlainRequest.{Op}
 use Rattle.rmt_wire.specs.Reply.{PlainReply}
@@ -7,6 +7,7 @@ use Rattle.rmt_wire.specs.Reply.PlainReply.{Done, Data, Error}
 use Rattle.dump_client.specs.Run.{PlainRun}
 use Rattle.dump_client.specs.Label.{label_bytes}
 use Rattle.dump_client.specs.Script.{Step, Wish, Grants, IsCount, script}
+use Rattle.dump_client.specs.Script.Wish.{AnyNumber, Number, NoRoom, Anything}
 use Rattle.dump_client.specs.Script.Step.{Open, Rewind, Label, Block, Mark, Unload, Close}
 use Rattle.dump_client.specs.declared.fault.AttemptFault.{AttemptFault}
 use Rattle.dump_client.specs.declared.fault.AttemptFault.TheVariants.{Refused, Botched, ConnectionEnded, ShortWrite, ReelTooSmall}
@@ -111,6 +112,18 @@ Follows run first [] = Unit {0}
 Follows run first (s ∷ []) = (reply : PlainReply) → Grants s.1 reply → after_reply run first s.0 reply ≡ Ended
 Follows run first (s ∷ t ∷ steps) =
     ((reply : PlainReply) → Grants s.1 reply → after_reply run first s.0 reply ≡ leads_to t.0) × Follows run first (t ∷ steps)
+
+-- the replies that are wanted at a step; at a block also that there is no room, once one was written
+abbrev pub IsWantedAt : PlainRun → ℕ → Step → PlainReply → Type 0
+IsWantedAt run first Open reply = Grants AnyNumber reply
+IsWantedAt run first Label reply = Grants (Number label_bytes) reply
+IsWantedAt run first (Block number) reply = Grants (Number run.block_bytes) reply ⊎ ((first < number) × Grants NoRoom reply)
+IsWantedAt run first Close reply = Grants Anything reply
+IsWantedAt run first step reply = Grants (Number 1) reply
+
+abbrev pub IsFailure : Outcome → Type 0
+IsFailure (Fails fault) = Unit {0}
+IsFailure outcome = ⊥
 
 -- from this volume and block on, each count begins where the one before ended, and the last ends with the blocks
 abbrev pub CoversFrom : ℕ → ℕ → ℕ → List VolumeCount → Type 0

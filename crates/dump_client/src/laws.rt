@@ -1,12 +1,14 @@
-ghost use Rattle.std.specs.Prelude.{ℕ};
+ghost use Rattle.std.specs.Prelude.{◌⊎◌, ℕ};
+ghost use Rattle.rmt_wire.specs.Reply.{PlainReply};
 ghost use Rattle.dump_client.specs.Run.{PlainRun, IsRun};
-ghost use Rattle.dump_client.specs.Script.{IsCount, steps_of};
-ghost use Rattle.dump_client.specs.Position.{Follows};
+ghost use Rattle.dump_client.specs.Script.{Step, IsCount, steps_of};
+ghost use Rattle.dump_client.specs.Position.{Follows, IsWantedAt, IsFailure, after_reply};
 
 /// What comes next follows the script: each reply that a script wants leads to its next request, the reply to MTOFFL to
-/// the count, and the reply to the close to the attempt's end.
+/// the count, and the reply to the close to the attempt's end. Any other reply fails the attempt.
 ///
 /// It does nothing: its contract is a law of the definitions.
 pub fn wanted_replies()
-    ensures { (run : PlainRun) (first count : ℕ) → IsRun run → IsCount run first count → Follows run first (steps_of run first count) }
+    ensures next { (run : PlainRun) (first count : ℕ) → IsRun run → IsCount run first count → Follows run first (steps_of run first count) }
+    ensures others { (run : PlainRun) (first : ℕ) (step : Step) (reply : PlainReply) → IsWantedAt run first step reply ⊎ IsFailure (after_reply run first step reply) }
 {}

@@ -1,5 +1,9 @@
 use Rattle.dump_client.proofs.Follow.{script_follows}
+use Rattle.dump_client.proofs.Other.{other_replies}
 use Rattle.dump_client.proofs.laws.wanted_replies.Goals as goal
 
-pub returns : goal.returns
-returns c = script_follows
+pub returns-clause-next : goal.returns-clause-next
+returns-clause-next c = script_follows
+
+pub returns-clause-others : goal.returns-clause-others
+returns-clause-others c = other_replies
