@@ -113,6 +113,16 @@ impl ReplyReader {
         self.wanted.is_some()
     }
 
+    /// Forgets every byte that was pushed and not given, and what is waited for, as a new connection asks. It keeps its
+    /// room, and takes no memory.
+    pub fn clear(&mut self)
+        ensures { Unread self.new None [] }
+    {
+        self.buffer.clear();
+        self.start = 0;
+        self.wanted = None;
+    }
+
     /// Takes as many bytes of a piece of the stream as there is room for, and answers how many. The text of an error
     /// that is waited for is kept up to its first 255 bytes.
     pub fn push(&mut self, piece: &[u8]) -> usize

@@ -2,7 +2,7 @@
 
 use super::reply_fed::{check_last_byte, check_replies};
 use crate::slow::reply::Wanted;
-use crate::{Reply, WireFault};
+use crate::{Reply, ReplyReader, WireFault};
 use std::test::Fail;
 
 #[test]
@@ -85,6 +85,24 @@ fn hopeless_texts(rt: HostRuntime) -> Result<(), Fail> {
         let shown = Some((fault, end));
         check_replies(&rt, rt.alloc(), text, &[wanted], &[], text, shown)?;
     }
+    Ok(())
+}
+
+#[test]
+fn a_cleared_reader_waits_anew(rt: HostRuntime) -> Result<(), Fail> {
+    let mut reader = ReplyReader::new(rt.alloc())?;
+    reader.push(b"A0\n");
+    assert!(rt; matches!(reader.next(), Err(WireFault::TooMuchData)));
+    reader.clear();
+    assert!(rt; reader.is_empty());
+    reader.expect(crate::Wanted::Data(4));
+    reader.push(b"A4\nab");
+    assert!(rt; matches!(reader.next(), Ok(None)));
+    reader.clear();
+    assert_eq!(rt; reader.room(), 65548);
+    reader.expect(crate::Wanted::Number);
+    reader.push(b"A1\n");
+    assert!(rt; matches!(reader.next(), Ok(Some(Reply::Done { number: 1 }))));
     Ok(())
 }
 
