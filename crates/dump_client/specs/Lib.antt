@@ -3,3 +3,4 @@ pub mod Blocks
 pub mod Label
 pub mod Script
 pub mod Position
+pub mod Listening

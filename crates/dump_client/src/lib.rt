@@ -9,6 +9,7 @@ mod count;
 mod fault;
 mod laws;
 mod list;
+mod listen;
 mod row;
 mod run;
 #[cfg(test)]

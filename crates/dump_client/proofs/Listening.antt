@@ -1,0 +1,108 @@
+-- What came to a client that waits for a number.
+use Rattle.std.proofs.Common.{◌≡◌, ℕ, ◌+◌, ◌-◌, ◌<◌, ◌≤◌, ◌↔◌, Bool, true, false, not, nat_lt, min, List, [], ◌∷◌, ◌++◌, length, take, drop, Option, Some, None, Result, Ok, Err, refl, sym, ap, subst, ◌∙◌, arith, append_assoc}
+use Rattle.std.proofs.lemmas.Bool.Decides.{nat_tests}
+use Rattle.std.specs.Result.{IsErrAnd}
+use Rattle.std.proofs.lemmas.List.{take-append-drop, length-drop}
+use Rattle.std.proofs.Math.Seq.{take-add}
+use Rattle.rmt_wire.specs.Reply.{PlainReply, SpellsReply, AnswersTo}
+use Rattle.rmt_wire.specs.Reply.PlainReply.{Done, Data, Error}
+use Rattle.rmt_wire.specs.Reply.Wanted.{Number}
+use Rattle.rmt_wire.specs.Lent.{plain_reply}
+use Rattle.rmt_wire.specs.Reader.{reader_limit}
+use Rattle.rmt_wire.specs.ReplyParts.{Gives}
+use Rattle.rmt_wire.specs.ReplyReader.{Held, Unread, taken_of, told, IsNext, StaysFaulty}
+use Rattle.rmt_wire.specs.declared.reply.Reply.{Reply}
+use Rattle.rmt_wire.specs.declared.fault.WireFault.{WireFault}
+use Rattle.dump_client.specs.Listening.{IsWaiting, IsHeard, IsListened, is_more}
+use Rattle.dump_client.specs.declared.listen.Said.{Said}
+use Rattle.dump_client.specs.declared.listen.Listened.TheVariants as listened
+
+-- one call of `next`, by what it answered
+pub next_none : (old new : Held) (result : Result (Option Reply) WireFault) → IsNext old (told result) new → result ≡ Ok None → (bytes : List ℕ) → Unread old (Some Number) bytes → IsWaiting new bytes
+next_none old new result n e bytes u =
+    let m = subst (λ a. IsNext old (told a) new) e n in
+    let w = m.continues (Some Number) bytes u in
+    let held : Unread new (Some Number) bytes = subst (Unread new (Some Number)) w.2.2 w.1 in
+    record { unread = held; begun = (w.2.0, w.2.1, refl); room = subst (λ l. length l < reader_limit) (sym held.keeps) (m.room (Some Number) bytes held) }
+
+pub next_some : (old new : Held) (result : Result (Option Reply) WireFault) (reply : Reply) → IsNext old (told result) new → result ≡ Ok (Some reply) → (bytes : List ℕ) → Unread old (Some Number) bytes
+    → (rest : List ℕ) × Unread new None rest × Gives (Some Number) bytes (Ok (Some (plain_reply reply))) rest
+next_some old new result reply n e bytes u = (subst (λ a. IsNext old (told a) new) e n).continues (Some Number) bytes u
+
+pub next_fault : (old new : Held) (fault : WireFault) (result : Result (Option Said) WireFault) → StaysFaulty old (Err fault) → IsErrAnd result (λ e. e ≡ fault) → (bytes : List ℕ) → Unread old (Some Number) bytes
+    → IsHeard bytes result new
+next_fault old new fault (Ok answer) stays is bytes u = absurd is
+next_fault old new fault (Err e) stays is bytes u = λ more. subst (λ f. Gives (Some Number) (bytes ++ more) (Err f) (bytes ++ more)) (sym is) (stays (Some Number) bytes more u)
+
+-- what is spelled to one who waits for a number answers that
+pub spelled_answers : (text : List ℕ) (reply : PlainReply) → SpellsReply text reply Number → AnswersTo reply Number
+spelled_answers text (Done n) s = tt
+spelled_answers text (Data bytes) s = s
+spelled_answers text (Error n words) s = tt
+
+-- a reader that waits takes some of a piece that is not empty
+pub push_some : (h : Held) (bytes : List ℕ) (count len : ℕ) → IsWaiting h bytes → count ≡ min len (reader_limit - taken_of (Some Number) bytes) → 0 < len → (0 < count) × (count ≤ len)
+push_some h bytes count len w e some =
+    let room : taken_of (Some Number) bytes < reader_limit = subst (λ l. length l < reader_limit) w.unread.keeps w.room in
+    (omega arith, omega arith)
+
+-- the bytes so far and a piece of the rest
+piece_then : (bytes text part : List ℕ) (at count : ℕ) → part ≡ drop at text → (bytes ++ take at text) ++ take count part ≡ bytes ++ take (at + count) text
+piece_then bytes text part at count same =
+    ap (λ l. (bytes ++ take at text) ++ take count l) same ∙ append_assoc bytes (take at text) (take count (drop at text)) ∙ ap (λ l. bytes ++ l) (sym (take-add at count text))
+
+piece_all : (bytes text : List ℕ) (at : ℕ) → (bytes ++ take at text) ++ drop at text ≡ bytes ++ text
+piece_all bytes text at = append_assoc bytes (take at text) (drop at text) ∙ ap (λ l. bytes ++ l) (take-append-drop at text)
+
+-- what is heard of the bytes so far, with a piece of the rest
+pub so_far : (bytes text part : List ℕ) (at count : ℕ) (result : Result (Option Said) WireFault) (new : Held) → part ≡ drop at text → IsHeard ((bytes ++ take at text) ++ take count part) result new
+    → IsHeard (bytes ++ take (at + count) text) result new
+so_far bytes text part at count result new same h = subst (λ b. IsHeard b result new) (piece_then bytes text part at count same) h
+
+-- none yet
+pub none_yet : (bytes : List ℕ) (result : Result (Option Said) WireFault) (new : Held) → IsHeard bytes result new → result ≡ Ok None → IsWaiting new bytes
+none_yet bytes result new h e = subst (λ r. IsHeard bytes r new) e h
+
+-- where bytes are unread, more follow the reply
+some_more : (rest later : List ℕ) → (rest ≡ [] → ⊥) → is_more (rest ++ later) ≡ true
+some_more [] later h = absurd (h refl)
+some_more (b ∷ rest) later h = refl
+
+-- and else where the piece goes on
+goes_on : (text : List ℕ) → is_more text ≡ nat_lt 0 (length text)
+goes_on [] = refl
+goes_on (b ∷ text) = let some : nat_lt 0 (length (b ∷ text)) ≡ true = grind (arith, nat_tests) in sym some
+
+rest_goes_on : (text : List ℕ) (at : ℕ) → nat_lt at (length text) ≡ is_more (drop at text)
+rest_goes_on text at =
+    let rest = length-drop at text in
+    let same : nat_lt at (length text) ≡ nat_lt 0 (length (drop at text)) = grind (arith, nat_tests) in
+    same ∙ sym (goes_on (drop at text))
+
+-- a reply comes, with bytes behind it that are unread
+pub reply_then : (bytes text : List ℕ) (at : ℕ) (result : Result (Option Said) WireFault) (s : Said) (new : Held) (empty : Bool) → IsHeard (bytes ++ take at text) result new → result ≡ Ok (Some s)
+    → ((rest : List ℕ) → Unread new None rest → (empty ≡ true) ↔ (rest ≡ [])) → empty ≡ false → IsListened (bytes ++ text) (listened.Reply s (not empty)) new
+reply_then bytes text at result s new empty h e seen some =
+    let more : not empty ≡ true = ap not some in
+    let w = subst (λ r. IsHeard (bytes ++ take at text) r new) e h in
+    let whole : bytes ++ text ≡ w.2.0 ++ (w.1 ++ drop at text) =
+    sym (piece_all bytes text at) ∙ ap (λ l. l ++ drop at text) w.2.2 ∙ append_assoc w.2.0 w.1 (drop at text) in
+    let unread : w.1 ≡ [] → ⊥ = λ none. let full = (seen w.1 w.4).1 none in cc in
+    (w.0, w.1 ++ drop at text, (w.2.0, w.2.1, whole), w.3, more ∙ sym (some_more w.1 (drop at text) unread), λ none. absurd (cc))
+
+-- a reply comes, and all of the bytes that were pushed are given
+pub reply_last : (bytes text : List ℕ) (at : ℕ) (result : Result (Option Said) WireFault) (s : Said) (new : Held) (empty : Bool) → IsHeard (bytes ++ take at text) result new → result ≡ Ok (Some s)
+    → ((rest : List ℕ) → Unread new None rest → (empty ≡ true) ↔ (rest ≡ [])) → empty ≡ true → IsListened (bytes ++ text) (listened.Reply s (nat_lt at (length text))) new
+reply_last bytes text at result s new empty h e seen full =
+    let w = subst (λ r. IsHeard (bytes ++ take at text) r new) e h in
+    let whole : bytes ++ text ≡ w.2.0 ++ (w.1 ++ drop at text) =
+    sym (piece_all bytes text at) ∙ ap (λ l. l ++ drop at text) w.2.2 ∙ append_assoc w.2.0 w.1 (drop at text) in
+    let given : w.1 ≡ [] = (seen w.1 w.4).0 full in
+    (w.0, w.1 ++ drop at text, (w.2.0, w.2.1, whole), w.3, rest_goes_on text at ∙ ap (λ l. is_more (l ++ drop at text)) (sym given), λ last. subst (Unread new None) given w.4)
+
+-- a fault of the bytes so far is one of all of them
+pub noise : (bytes text : List ℕ) (at : ℕ) (result : Result (Option Said) WireFault) (fault : WireFault) (new : Held) → IsHeard (bytes ++ take at text) result new → result ≡ Err fault
+    → IsListened (bytes ++ text) listened.Noise new
+noise bytes text at result fault new h e =
+    let f = subst (λ r. IsHeard (bytes ++ take at text) r new) e h in
+    (fault, subst (λ b. Gives (Some Number) b (Err fault) b) (piece_all bytes text at) (f (drop at text)))

@@ -1,0 +1,47 @@
+-- What came to a client that waits for a number.
+use Rattle.std.specs.Prelude.{◌≡◌, ℕ, ◌<◌, Bool, true, false, List, [], ◌∷◌, ◌++◌, length, Option, Some, None, Result, Ok, Err}
+use Rattle.rmt_wire.specs.Reply.{PlainReply}
+use Rattle.rmt_wire.specs.Reply.PlainReply.{Done, Data, Error}
+use Rattle.rmt_wire.specs.Reply.Wanted.{Number}
+use Rattle.rmt_wire.specs.Reader.{reader_limit}
+use Rattle.rmt_wire.specs.ReplyParts.{Gives}
+use Rattle.rmt_wire.specs.ReplyReader.{Held, Unread}
+use Rattle.rmt_wire.specs.declared.fault.WireFault.{WireFault}
+use Rattle.dump_client.specs.declared.listen.Said.{Said}
+use Rattle.dump_client.specs.declared.listen.Said.TheVariants as said
+use Rattle.dump_client.specs.declared.listen.Listened.{Listened}
+use Rattle.dump_client.specs.declared.listen.Listened.TheVariants.{Waits, Reply, Noise}
+
+-- these bytes came since a number was waited for, and are a beginning of a reply, for the rest of which there is room
+pub record IsWaiting (h : Held) (bytes : List ℕ) : Type 0 where
+  pub unread : Unread h (Some Number) bytes
+  pub begun : Gives (Some Number) bytes (Ok None) bytes
+  pub room : length h.kept < reader_limit
+
+-- the reply without its text; data are no reply to one who waits for a number
+abbrev pub IsSaid : PlainReply → Said → Type 0
+IsSaid (Done n) (said.Number number) = number ≡ n
+IsSaid (Done n) (said.Error number) = ⊥
+IsSaid (Data bytes) s = ⊥
+IsSaid (Error n text) (said.Number number) = ⊥
+IsSaid (Error n text) (said.Error number) = number ≡ n
+
+abbrev pub is_more : List ℕ → Bool
+is_more [] = false
+is_more (b ∷ bytes) = true
+
+-- what a reader answers of the bytes that it holds, and where it stands then; a fault stays, whatever follows
+abbrev pub IsHeard : List ℕ → Result (Option Said) WireFault → Held → Type 0
+IsHeard bytes (Ok None) new = IsWaiting new bytes
+IsHeard bytes (Ok (Some s)) new =
+    (reply : PlainReply) × (rest : List ℕ) × Gives (Some Number) bytes (Ok (Some reply)) rest × IsSaid reply s × Unread new None rest
+IsHeard bytes (Err fault) new = (more : List ℕ) → Gives (Some Number) (bytes ++ more) (Err fault) (bytes ++ more)
+
+-- What all the bytes are that came since a number was waited for, and where the reader stands then: a beginning of a reply; a
+-- reply first, behind which none is unread where no more bytes follow; or bytes of which no beginning is a reply.
+abbrev pub IsListened : List ℕ → Listened → Held → Type 0
+IsListened bytes Waits new = IsWaiting new bytes
+IsListened bytes (Reply s more) new =
+    (reply : PlainReply) × (rest : List ℕ) × Gives (Some Number) bytes (Ok (Some reply)) rest × IsSaid reply s × (more ≡ is_more rest)
+    × (more ≡ false → Unread new None [])
+IsListened bytes Noise new = (fault : WireFault) × Gives (Some Number) bytes (Err fault) bytes
