@@ -7,6 +7,7 @@
 mod blocks;
 mod count;
 mod fault;
+mod label;
 mod laws;
 mod list;
 mod listen;

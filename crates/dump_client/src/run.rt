@@ -1,4 +1,5 @@
-ghost use Rattle.std.specs.Prelude.{◌≡◌, ◌↔◌, IsTrue, IfOk, MatchResult};
+ghost use Rattle.std.specs.Prelude.{◌≡◌, ◌≤◌, ◌↔◌, IsTrue, IfOk, MatchResult};
+ghost use Rattle.dumpdates.specs.Entry.{IsName, last_second};
 ghost use Rattle.dump_client.specs.Run.{IsDevice, IsRun, IsFirstBroken, plain_run};
 
 use crate::RunFault;
@@ -103,28 +104,32 @@ impl Run {
 
     /// The name of the file system: 1 to 255 bytes of printed ASCII without a space.
     pub fn name(&self) -> &str
-        ensures { result.now ≡ self.now.name }
+        ensures told { result.now ≡ self.now.name }
+        ensures limits { IsName self.now.name }
     {
         std::str::from_utf8(self.name.as_slice()).unwrap()
     }
 
     /// The level, 0 to 9.
     pub fn level(&self) -> u8
-        ensures { result ≡ self.now.level }
+        ensures told { result ≡ self.now.level }
+        ensures limit { self.now.level ≤ 9 }
     {
         self.level
     }
 
     /// The date of this dump, in seconds since 1970 began, UTC.
     pub fn date(&self) -> u64
-        ensures { result ≡ self.now.date }
+        ensures told { result ≡ self.now.date }
+        ensures limit { self.now.date ≤ last_second }
     {
         self.date
     }
 
     /// The date of the dump that this one builds on, or 0.
     pub fn since(&self) -> u64
-        ensures { result ≡ self.now.since }
+        ensures told { result ≡ self.now.since }
+        ensures limit { self.now.since ≤ last_second }
     {
         self.since
     }

@@ -1,4 +1,5 @@
 mod blocks;
+mod label;
 mod laws;
 mod next;
 mod run;
