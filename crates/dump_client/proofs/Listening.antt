@@ -1,5 +1,5 @@
 -- What came to a client that waits for a number.
-use Rattle.std.proofs.Common.{◌≡◌, ℕ, ◌+◌, ◌-◌, ◌<◌, ◌≤◌, ◌↔◌, Bool, true, false, not, nat_lt, min, List, [], ◌∷◌, ◌++◌, length, take, drop, Option, Some, None, Result, Ok, Err, refl, sym, ap, subst, ◌∙◌, arith, append_assoc}
+use Rattle.std.proofs.Common.{◌≡◌, ℕ, ◌+◌, ◌-◌, ◌<◌, ◌≤◌, ◌↔◌, Bool, true, false, not, nat_lt, min, List, [], ◌∷◌, ◌++◌, length, take, drop, Option, Some, None, Result, Ok, Err, refl, sym, ap, subst, ◌∙◌, arith, append_assoc, rules}
 use Rattle.std.proofs.lemmas.Bool.Decides.{nat_tests}
 use Rattle.std.specs.Result.{IsErrAnd}
 use Rattle.std.proofs.lemmas.List.{take-append-drop, length-drop}
@@ -9,7 +9,9 @@ use Rattle.rmt_wire.specs.Reply.PlainReply.{Done, Data, Error}
 use Rattle.rmt_wire.specs.Reply.Wanted.{Number}
 use Rattle.rmt_wire.specs.Lent.{plain_reply}
 use Rattle.rmt_wire.specs.Reader.{reader_limit}
-use Rattle.rmt_wire.specs.ReplyParts.{Gives}
+use Rattle.rmt_wire.specs.Number.{SpellsNumber}
+use Rattle.rmt_wire.specs.ReplyParts.{Gives, HasNoSpelling}
+use Rattle.rmt_wire.specs.ReplyFront.{kept_of}
 use Rattle.rmt_wire.specs.ReplyReader.{Held, Unread, taken_of, told, IsNext, StaysFaulty}
 use Rattle.rmt_wire.specs.declared.reply.Reply.{Reply}
 use Rattle.rmt_wire.specs.declared.fault.WireFault.{WireFault}
@@ -106,3 +108,23 @@ pub noise : (bytes text : List ℕ) (at : ℕ) (result : Result (Option Said) Wi
 noise bytes text at result fault new h e =
     let f = subst (λ r. IsHeard (bytes ++ take at text) r new) e h in
     (fault, subst (λ b. Gives (Some Number) b (Err fault) b) (piece_all bytes text at) (f (drop at text)))
+
+-- where nothing came yet
+kept_none : kept_of [] ≡ []
+unfolding kept_of
+kept_none = refl
+
+zero_digit : SpellsNumber (48 ∷ []) 0
+zero_digit = search rules
+
+no_reply_in_nothing : HasNoSpelling Number []
+no_reply_in_nothing text rest (Done n) e (number, spelled, is) = absurd (cc)
+no_reply_in_nothing text rest (Data bytes) e s = absurd s
+no_reply_in_nothing text rest (Error n words) e s = let is = s.5 in absurd (cc)
+
+pub waiting_anew : (h : Held) → Unread h (Some Number) [] → IsWaiting h []
+waiting_anew h u = record {
+  unread = u;
+  begun = ((65 ∷ 48 ∷ 10 ∷ [], Done 0, (48 ∷ [], zero_digit, refl)), no_reply_in_nothing, refl);
+  room = let none : length h.kept ≡ 0 = ap (length {A = ℕ}) (u.keeps ∙ kept_none) in omega arith;
+}

@@ -52,8 +52,9 @@ fn hear(reader: &mut ReplyReader) -> Result<Option<Said>, WireFault>
 
 /// Pushes a piece of the stream to a reader that waits for a number, up to the first reply.
 ///
-/// What was pushed before is a beginning of a reply, and the reader has room. Where a reply comes, no byte of the piece
-/// behind it need be pushed; where none comes, all of the piece is, and the reader has room again. It takes no memory.
+/// What was pushed before is a beginning of a reply, and the reader has room. After `Waits` the same is so with the whole
+/// piece. After a reply that no byte follows, the reader waits for nothing and holds nothing. After any other answer it may
+/// have taken a part of the piece only. It takes no memory.
 pub(crate) fn listen(reader: &mut ReplyReader, piece: &[u8]) -> Listened
     requires waiting { (bytes : List ℕ) × IsWaiting reader.old bytes }
     ensures listened { (bytes : List ℕ) → IsWaiting reader.old bytes → IsListened (bytes ++ piece.now) result reader.new }

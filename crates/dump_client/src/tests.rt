@@ -1,6 +1,7 @@
 mod blocks;
 mod label;
 mod laws;
+mod listen;
 mod next;
 mod run;
 mod script;
