@@ -11,6 +11,7 @@ use Rattle.dump_client.specs.Label.{label, label_text, line_of}
 pub line_number_is_short : (n : ℕ) → n ≤ 999999999999 → length (decimal n) ≤ 12
 line_number_is_short n small = length-decimal-le 12 n (omega arith) (omega arith) (omega arith)
 
+-- the bytes behind a text that was added
 left_behind : (end next k : ℕ) → next ≡ end + k → 1024 - end - k ≡ 1024 - next
 left_behind end next k at = omega arith
 
@@ -25,10 +26,11 @@ zeros_behind end next k bytes text at long fits all zeros =
     ∙ drop-replicate k (1024 - end) 0
     ∙ ap (λ n. replicate n 0) (left_behind end next k at)
 
+-- a word, a space, a text and the end of the line
 pub length_line : (word text : List ℕ) → length (line_of word text) ≡ length word + length text + 2
 length_line word text = simp length-append (omega arith)
 
--- the longest text
+-- the longest text has 341 bytes
 pub label_text_fits : (run : PlainRun) (volume first : ℕ) → IsRun run → volume < 2 ^ 32 → first < 2 ^ 32 → length (label_text run volume first) ≤ 341
 label_text_fits run volume first within v f =
     let name = within.name in
