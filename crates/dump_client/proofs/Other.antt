@@ -5,10 +5,11 @@ use Rattle.rmt_wire.specs.Reply.{PlainReply}
 use Rattle.rmt_wire.specs.Reply.PlainReply.{Done, Data, Error}
 use Rattle.dump_client.specs.Run.{PlainRun}
 use Rattle.dump_client.specs.Label.{label_bytes}
-use Rattle.dump_client.specs.Script.{Step}
-use Rattle.dump_client.specs.Script.Step.{Open, Rewind, Label, Block, Mark, Unload, Close}
-use Rattle.dump_client.specs.Position.{Outcome, IsWantedAt, IsFailure, after_reply, at_end_of_reel, block_or_mark}
-use Rattle.dump_client.specs.Position.Outcome.{GoesOn, Fails, Counted}
+use Rattle.dump_client.specs.declared.step.Step.{Step}
+use Rattle.dump_client.specs.declared.step.Step.TheVariants.{Open, Rewind, Label, Block, Mark, Unload, Close}
+use Rattle.dump_client.specs.Position.{IsWantedAt, IsFailure, after_reply, at_end_of_reel, block_or_mark}
+use Rattle.dump_client.specs.declared.outcome.Outcome.{Outcome}
+use Rattle.dump_client.specs.declared.outcome.Outcome.TheVariants.{GoesOn, Fails, Counted}
 use Rattle.dump_client.specs.declared.fault.AttemptFault.TheVariants.{Refused, Botched, ShortWrite}
 
 eq_by : (m n : ℕ) (b : Bool) → (m == n) ≡ b → (m ≡ n) ⊎ ((m == n) ≡ false)
@@ -85,10 +86,12 @@ other_replies run first Label (Error n text) = inr (label_error first n (n == 28
 other_replies run first (Block number) (Done n) = block_done_or run first number n
 other_replies run first (Block number) (Data bytes) = inr tt
 other_replies run first (Block number) (Error n text) = block_error_or run first number n text
-other_replies run first Mark (Done n) = number_or n 1 (GoesOn Unload) (Fails Botched) tt
-other_replies run first Mark (Data bytes) = inr tt
-other_replies run first Mark (Error n text) = inr tt
-other_replies run first Unload (Done n) = number_or n 1 Counted (Fails Botched) tt
-other_replies run first Unload (Data bytes) = inr tt
-other_replies run first Unload (Error n text) = inr tt
-other_replies run first Close reply = inl tt
+other_replies run first (Mark next) (Done n) = number_or n 1 (GoesOn (Unload next)) (Fails Botched) tt
+other_replies run first (Mark next) (Data bytes) = inr tt
+other_replies run first (Mark next) (Error n text) = inr tt
+other_replies run first (Unload next) (Done n) = number_or n 1 (Counted next) (Fails Botched) tt
+other_replies run first (Unload next) (Data bytes) = inr tt
+other_replies run first (Unload next) (Error n text) = inr tt
+other_replies run first Close (Done n) = inl tt
+other_replies run first Close (Data bytes) = inl tt
+other_replies run first Close (Error n text) = inl tt

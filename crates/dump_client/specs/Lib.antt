@@ -4,3 +4,6 @@ pub mod Label
 pub mod Script
 pub mod Position
 pub mod Listening
+pub mod Standing
+pub mod Lawful
+pub mod Client

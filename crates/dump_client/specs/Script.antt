@@ -6,16 +6,8 @@ use Rattle.rmt_wire.specs.Reply.{PlainReply}
 use Rattle.rmt_wire.specs.Reply.PlainReply.{Done, Error}
 use Rattle.dump_client.specs.Run.{PlainRun}
 use Rattle.dump_client.specs.Label.{label, label_bytes}
-
--- a request of an attempt; blocks are numbered from 0 in the run
-pub data Step : Type 0 where
-  Open : Step
-  Rewind : Step
-  Label : Step
-  Block : (number : ℕ) → Step
-  Mark : Step
-  Unload : Step
-  Close : Step
+use Rattle.dump_client.specs.declared.step.Step.{Step}
+use Rattle.dump_client.specs.declared.step.Step.TheVariants.{Open, Rewind, Label, Block, Mark, Unload, Close}
 
 -- volume `volume` from block `first` on: an open for reading and writing, MTREW, the label, blocks, MTWEOF, MTOFFL, a close
 abbrev pub request_of : PlainRun → List (List ℕ) → ℕ → ℕ → Step → PlainRequest
@@ -23,8 +15,8 @@ request_of run payload volume first Open = OpenDevice run.device 2
 request_of run payload volume first Rewind = Op 5 1
 request_of run payload volume first Label = Write (label run volume first)
 request_of run payload volume first (Block number) = Write (get_or payload number [])
-request_of run payload volume first Mark = Op 0 1
-request_of run payload volume first Unload = Op 6 1
+request_of run payload volume first (Mark next) = Op 0 1
+request_of run payload volume first (Unload next) = Op 6 1
 request_of run payload volume first Close = CloseDevice
 
 -- the reply that is wanted
@@ -52,11 +44,15 @@ block_steps run first (suc count) = (Block first, Number run.block_bytes) ∷ bl
 abbrev pub refused_step : PlainRun → ℕ → List (Step × Wish)
 refused_step run next = if nat_lt next run.blocks then (Block next, NoRoom) ∷ [] else []
 
+-- what closes a volume that ends before block `next`
+abbrev pub last_steps : ℕ → List (Step × Wish)
+last_steps next = (Mark next, Number 1) ∷ (Unload next, Number 1) ∷ (Close, Anything) ∷ []
+
 -- the steps of a volume of so many blocks
 abbrev pub steps_of : PlainRun → ℕ → ℕ → List (Step × Wish)
 steps_of run first count =
     (Open, AnyNumber) ∷ (Rewind, Number 1) ∷ (Label, Number label_bytes)
-    ∷ (block_steps run first count ++ (refused_step run (first + count) ++ (Mark, Number 1) ∷ (Unload, Number 1) ∷ (Close, Anything) ∷ []))
+    ∷ (block_steps run first count ++ (refused_step run (first + count) ++ last_steps (first + count)))
 
 -- the same with the requests that are sent
 abbrev pub script : PlainRun → List (List ℕ) → ℕ → ℕ → ℕ → List (PlainRequest × Wish)

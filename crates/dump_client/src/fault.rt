@@ -50,3 +50,14 @@ pub enum AttemptFault {
     #[error("OutOfMemory")]
     OutOfMemory,
 }
+
+/// Why a client did not do what it was asked. Nothing has changed.
+#[derive(Clone, Copy, Debug, PartialEq, Eq, Error)]
+pub enum StartFault {
+    /// This is not asked of a client in its state.
+    #[error("WrongState")]
+    WrongState,
+    /// A growth in memory was refused.
+    #[error("OutOfMemory")]
+    OutOfMemory,
+}

@@ -1,7 +1,8 @@
 ghost use Rattle.std.specs.Prelude.{◌⊎◌, ℕ};
 ghost use Rattle.rmt_wire.specs.Reply.{PlainReply};
 ghost use Rattle.dump_client.specs.Run.{PlainRun, IsRun};
-ghost use Rattle.dump_client.specs.Script.{Step, IsCount, steps_of};
+ghost use Rattle.dump_client.specs.Script.{IsCount, steps_of};
+ghost use Rattle.dump_client.specs.declared.step.Step.{Step};
 ghost use Rattle.dump_client.specs.Position.{Follows, IsWantedAt, IsFailure, after_reply};
 
 /// What comes next follows the script: each reply that a script wants leads to its next request, the reply to MTOFFL to

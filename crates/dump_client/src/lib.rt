@@ -5,22 +5,30 @@
 #![tactic(auto)]
 
 mod blocks;
+mod client;
 mod count;
 mod fault;
 mod label;
 mod laws;
+mod ledger;
 mod list;
 mod listen;
+mod outcome;
+mod request;
 mod row;
 mod run;
 #[cfg(test)]
 mod slow;
+mod stage;
+mod step;
 #[cfg(test)]
 mod tests;
 
 pub use blocks::{Blocks, SourceFailed};
+pub use client::Client;
 pub use count::VolumeCount;
-pub use fault::{AttemptFault, RunFault};
+pub use fault::{AttemptFault, RunFault, StartFault};
 pub use laws::wanted_replies;
 pub use list::ListBlocks;
 pub use run::{BLOCKS_LIMIT, Run};
+pub use stage::{Answer, Progress, State};

@@ -69,6 +69,8 @@ impl Blocks for ListBlocks {
 
     ghost can_fail = { λ s. IsTrue s.troubled };
 
+    ghost reads = { ListedRead };
+
     ghost single = { λ source blocks others told other. sym told ∙ other };
 
     fn read(&mut self, block: u32, into: &mut [u8]) -> Result<(), SourceFailed>

@@ -97,7 +97,8 @@ impl Run {
 
     /// The device: 1 to 255 bytes of one line.
     pub fn device(&self) -> &[u8]
-        ensures { result.now ≡ self.now.device }
+        ensures told { result.now ≡ self.now.device }
+        ensures limits { IsDevice self.now.device }
     {
         self.device.as_slice()
     }

@@ -1,0 +1,55 @@
+-- A request that was appended, or was not for want of memory, is that of its step.
+use Rattle.std.proofs.Common.{◌≡◌, ℕ, true, false, List, length, refl, sym, subst, Result, Ok, Err}
+use Rattle.rmt_wire.specs.Request.{PlainRequest}
+use Rattle.rmt_wire.specs.Request.PlainRequest.{Write}
+use Rattle.dump_client.specs.Standing.{Standing, checkpoint_of}
+use Rattle.dump_client.specs.Client.{IsRequestOf, IsScarce, IsFaultAt, IsPushed, AppendedBy, ReadBy, IsGiven, is_source_fault, has_failed}
+use Rattle.dump_client.specs.declared.blocks.SourceFailed.{SourceFailed}
+use Rattle.dump_client.specs.declared.step.Step.{Step}
+use Rattle.dump_client.specs.declared.step.Step.TheVariants.{Open, Rewind, Label, Block, Mark, Unload, Close}
+use Rattle.dump_client.specs.declared.fault.AttemptFault.{AttemptFault}
+use Rattle.dump_client.specs.declared.fault.AttemptFault.TheVariants.{SourceFault, OutOfMemory}
+
+scarce_at : (step : Step) (capacity len : ℕ) → IsScarce capacity len → IsFaultAt step OutOfMemory capacity len
+scarce_at Open capacity len h = h
+scarce_at Rewind capacity len h = h
+scarce_at Label capacity len h = h
+scarce_at (Block number) capacity len h = h
+scarce_at (Mark next) capacity len h = h
+scarce_at (Unload next) capacity len h = h
+scarce_at Close capacity len h = h
+
+pub appended : (told : List (List ℕ) → Type 0) (at : Standing) (step : Step) (request : PlainRequest) (capacity : ℕ) (before : List ℕ) (result : Result Unit AttemptFault) (now : List ℕ)
+    → IsRequestOf told at.run (checkpoint_of at.counts) step request → IsPushed request capacity before result now → AppendedBy told at step capacity before result now
+appended told at step request capacity before (Ok x) now is h = (request, is, h.0, h.1)
+appended told at step request capacity before (Err fault) now is h =
+    (subst (λ f. IsFaultAt step f capacity (length before)) (sym h.0) (scarce_at step capacity (length before) h.1), h.2)
+
+pub appended_at : (told : List (List ℕ) → Type 0) (at : Standing) (step this : Step) (request : PlainRequest) (capacity : ℕ) (before : List ℕ) (result : Result Unit AttemptFault) (now : List ℕ)
+    → step ≡ this → IsRequestOf told at.run (checkpoint_of at.counts) this request → IsPushed request capacity before result now → AppendedBy told at step capacity before result now
+appended_at told at step this request capacity before result now same is h =
+    subst (λ s. AppendedBy told at s capacity before result now) (sym same) (appended told at this request capacity before result now is h)
+
+-- a block that was read
+pub block_read : (B : Type 0) (reads : B → ℕ → List ℕ → Result Unit SourceFailed → B → List ℕ → Type 0) (step : Step) (number : ℕ) (old new : B) (into given : List ℕ) (read : Result Unit SourceFailed)
+    (capacity : ℕ) (before : List ℕ) (result : Result Unit AttemptFault) (now : List ℕ)
+    → step ≡ Block number → reads old number into read new given → read ≡ Ok tt → IsPushed (Write given) capacity before result now → ReadBy {B = B} {T = Unit {0}} step reads old before result new now
+block_read B reads step number old new into given read capacity before result now same h done pushed =
+    subst (λ s. ReadBy {B = B} {T = Unit {0}} s reads old before result new now) (sym same)
+    (into, given, read, h, subst (λ r. is_source_fault result ≡ has_failed r) (sym done) (no_fault result pushed), was_given result pushed)
+  where
+    no_fault : (r : Result Unit AttemptFault) → IsPushed (Write given) capacity before r now → is_source_fault r ≡ false
+    no_fault (Ok x) p = refl
+    no_fault (Err fault) p = subst (λ f. is_source_fault {T = Unit {0}} (Err f) ≡ false) (sym p.0) refl
+
+    was_given : (r : Result Unit AttemptFault) → IsPushed (Write given) capacity before r now → IsGiven before r now given
+    was_given (Ok x) p = p.1
+    was_given (Err fault) p = tt
+
+-- a block that could not be read
+pub block_failed : (B : Type 0) (reads : B → ℕ → List ℕ → Result Unit SourceFailed → B → List ℕ → Type 0) (step : Step) (number : ℕ) (old new : B) (into given : List ℕ) (read : Result Unit SourceFailed)
+    (failed : SourceFailed) (before now : List ℕ) → step ≡ Block number → reads old number into read new given → read ≡ Err failed
+    → ReadBy {B = B} {T = Unit {0}} step reads old before (Err SourceFault) new now
+block_failed B reads step number old new into given read failed before now same h failing =
+    subst (λ s. ReadBy {B = B} {T = Unit {0}} s reads old before (Err SourceFault) new now) (sym same)
+    (into, given, read, h, subst (λ r. true ≡ has_failed r) (sym failing) refl, tt)

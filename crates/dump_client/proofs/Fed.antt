@@ -1,0 +1,64 @@
+-- What is unanswered once an outcome was followed.
+use Rattle.std.proofs.Common.{◌≡◌, inl, inr, ℕ, Bool, true, false, List, [], refl, sym, ap, subst, None}
+use Rattle.rmt_wire.specs.ReplyReader as reader
+use Rattle.rmt_wire.specs.ReplyReader.{Unread}
+use Rattle.dump_client.specs.Run.{PlainRun}
+use Rattle.dump_client.specs.Position.{after_noise, after_end}
+use Rattle.dump_client.specs.Standing.{Standing, IsOver, Becomes}
+use Rattle.dump_client.specs.Client.{HasFedAt, unanswered}
+use Rattle.dump_client.specs.declared.count.VolumeCount.{VolumeCount}
+use Rattle.dump_client.specs.declared.outcome.Outcome.{Outcome}
+use Rattle.dump_client.specs.declared.outcome.Outcome.TheVariants.{GoesOn, Fails, Counted, Ended}
+use Rattle.dump_client.specs.declared.stage.Progress.{Progress}
+use Rattle.dump_client.specs.declared.step.Step.{Step}
+use Rattle.dump_client.specs.declared.step.Step.TheVariants.{Open, Rewind, Label, Block, Mark, Unload, Close}
+
+-- between attempts and in a step that is to be sent, nothing is
+abbrev pub IsUnanswered : Standing → reader.Held → List ℕ → Type 0
+IsUnanswered s reader bytes = HasFedAt s.stage reader (unanswered s.stage bytes)
+
+over_fed : (run : PlainRun) (counts : List VolumeCount) (new : Standing) (r : reader.Held) (bytes : List ℕ) → IsOver run counts new → IsUnanswered new r bytes
+over_fed run counts new r bytes (inl h) = subst (λ n. IsUnanswered n r bytes) (sym h.1) refl
+over_fed run counts new r bytes (inr h) = subst (λ n. IsUnanswered n r bytes) (sym h.1) refl
+
+over_run : (run : PlainRun) (counts : List VolumeCount) (new : Standing) → IsOver run counts new → new.run ≡ run
+over_run run counts new (inl h) = ap (λ n. n.run) h.1
+over_run run counts new (inr h) = ap (λ n. n.run) h.1
+
+pub becomes_run : (old : Standing) (outcome : Outcome) (more : Bool) (progress : Progress) (new : Standing) → Becomes old outcome more progress new → new.run ≡ old.run
+becomes_run old (GoesOn step) false progress new h = ap (λ n. n.run) h.1
+becomes_run old (GoesOn step) true progress new h = ap (λ n. n.run) h.1
+becomes_run old (Fails fault) more progress new h = ap (λ n. n.run) h.1
+becomes_run old (Counted next) false progress new h = ap (λ n. n.run) h.1
+becomes_run old (Counted next) true progress new h = over_run old.run (Rattle.dump_client.specs.Standing.counted_to old.counts next) new h.1
+becomes_run old Ended more progress new h = over_run old.run old.counts new h.1
+
+pub becomes_fed : (old : Standing) (outcome : Outcome) (more : Bool) (progress : Progress) (new : Standing) (r : reader.Held) (bytes : List ℕ) → Becomes old outcome more progress new
+    → (more ≡ false → Unread r None []) → HasFedAt new.stage r (unanswered new.stage bytes)
+becomes_fed old (GoesOn step) false progress new r bytes h k = subst (λ n. IsUnanswered n r bytes) (sym h.1) (k refl, refl)
+becomes_fed old (GoesOn step) true progress new r bytes h k = subst (λ n. IsUnanswered n r bytes) (sym h.1) refl
+becomes_fed old (Fails fault) more progress new r bytes h k = subst (λ n. IsUnanswered n r bytes) (sym h.1) refl
+becomes_fed old (Counted next) false progress new r bytes h k = subst (λ n. IsUnanswered n r bytes) (sym h.1) (k refl, refl)
+becomes_fed old (Counted next) true progress new r bytes h k = over_fed old.run (Rattle.dump_client.specs.Standing.counted_to old.counts next) new r bytes h.1
+becomes_fed old Ended more progress new r bytes h k = over_fed old.run old.counts new r bytes h.1
+
+-- bytes that are no reply, and the end of the connection, leave nothing to send
+pub noise_fed : (old : Standing) (step : Step) (progress : Progress) (new : Standing) (r : reader.Held) (bytes : List ℕ) → Becomes old (after_noise step) false progress new
+    → HasFedAt new.stage r (unanswered new.stage bytes)
+noise_fed old Close progress new r bytes h = over_fed old.run old.counts new r bytes h.1
+noise_fed old Open progress new r bytes h = subst (λ n. IsUnanswered n r bytes) (sym h.1) refl
+noise_fed old Rewind progress new r bytes h = subst (λ n. IsUnanswered n r bytes) (sym h.1) refl
+noise_fed old Label progress new r bytes h = subst (λ n. IsUnanswered n r bytes) (sym h.1) refl
+noise_fed old (Block number) progress new r bytes h = subst (λ n. IsUnanswered n r bytes) (sym h.1) refl
+noise_fed old (Mark next) progress new r bytes h = subst (λ n. IsUnanswered n r bytes) (sym h.1) refl
+noise_fed old (Unload next) progress new r bytes h = subst (λ n. IsUnanswered n r bytes) (sym h.1) refl
+
+pub end_fed : (old : Standing) (step : Step) (progress : Progress) (new : Standing) (r : reader.Held) (bytes : List ℕ) → Becomes old (after_end step) false progress new
+    → HasFedAt new.stage r (unanswered new.stage bytes)
+end_fed old Close progress new r bytes h = over_fed old.run old.counts new r bytes h.1
+end_fed old Open progress new r bytes h = subst (λ n. IsUnanswered n r bytes) (sym h.1) refl
+end_fed old Rewind progress new r bytes h = subst (λ n. IsUnanswered n r bytes) (sym h.1) refl
+end_fed old Label progress new r bytes h = subst (λ n. IsUnanswered n r bytes) (sym h.1) refl
+end_fed old (Block number) progress new r bytes h = subst (λ n. IsUnanswered n r bytes) (sym h.1) refl
+end_fed old (Mark next) progress new r bytes h = subst (λ n. IsUnanswered n r bytes) (sym h.1) refl
+end_fed old (Unload next) progress new r bytes h = subst (λ n. IsUnanswered n r bytes) (sym h.1) refl

@@ -1,0 +1,123 @@
+-- What a client holds, and what a call that asks for the next request does.
+use Rattle.std.specs.Prelude.{◌≡◌, ◌≢◌, ℕ, ◌+◌, ◌<◌, Bool, true, false, List, [], ◌++◌, length, get_or, Option, Some, None, Result, Ok, Err}
+use Rattle.rmt_wire.specs.Counted.{raised}
+use Rattle.rmt_wire.specs.Request.{PlainRequest, IsTextOf, request_text}
+use Rattle.rmt_wire.specs.Request.PlainRequest.{Write}
+use Rattle.rmt_wire.specs.Reader.{reader_limit}
+use Rattle.rmt_wire.specs.ReplyReader as reader
+use Rattle.rmt_wire.specs.ReplyReader.{Unread}
+use Rattle.dumpdates.specs.Stored.{plain_entry}
+use Rattle.dumpdates.specs.declared.entry.Entry.{Entry}
+use Rattle.dump_client.specs.Run.{PlainRun}
+use Rattle.dump_client.specs.Script.{request_of}
+use Rattle.dump_client.specs.Listening.{IsWaiting}
+use Rattle.dump_client.specs.Standing.{Standing, standing, checkpoint_of, IsOver}
+use Rattle.dump_client.specs.declared.step.Step.{Step}
+use Rattle.dump_client.specs.declared.step.Step.TheVariants.{Block, Close}
+use Rattle.dump_client.specs.declared.stage.Stage.{Stage}
+use Rattle.dump_client.specs.declared.stage.Stage.TheVariants.{ToSend, Waiting, Asking, Finished}
+use Rattle.dump_client.specs.declared.blocks.SourceFailed.{SourceFailed}
+use Rattle.dump_client.specs.declared.fault.AttemptFault.{AttemptFault}
+use Rattle.dump_client.specs.declared.fault.AttemptFault.TheVariants.{SourceFault, OutOfMemory}
+
+-- where it stands, its source and its reader of replies, and for how many more counts it has room
+pub record Held (B : Type 0) : Type 0 where
+  pub at : Standing
+  pub source : B
+  pub reader : reader.Held
+  pub room : ℕ
+
+-- the bytes that were fed since the request that waits for its reply was sent; none in the other stages
+abbrev pub HasFedAt : Stage → reader.Held → List ℕ → Type 0
+HasFedAt (ToSend step) reader bytes = Unread reader None [] × (bytes ≡ [])
+HasFedAt (Waiting step) reader bytes = IsWaiting reader bytes
+HasFedAt stage reader bytes = bytes ≡ []
+
+abbrev pub HasFed : {B : Type 0} → Held B → List ℕ → Type 0
+HasFed c bytes = HasFedAt c.at.stage c.reader bytes
+
+-- what stays unanswered of the bytes once the client stands there
+abbrev pub unanswered : Stage → List ℕ → List ℕ
+unanswered (Waiting step) bytes = bytes
+unanswered stage bytes = []
+
+-- the payload has the run's number of blocks, each of its size
+abbrev pub IsPayload : PlainRun → List (List ℕ) → Type 0
+IsPayload run blocks = (length blocks ≡ run.blocks) × ((n : ℕ) → n < run.blocks → length (get_or blocks n []) ≡ run.block_bytes)
+
+-- the request of a step: a block is that of the payload, where the source tells it
+abbrev pub IsRequestOf : (List (List ℕ) → Type 0) → PlainRun → ℕ × ℕ → Step → PlainRequest → Type 0
+IsRequestOf told run at (Block number) request =
+    (block : List ℕ) × (request ≡ Write block) × (length block ≡ run.block_bytes)
+    × ((payload : List (List ℕ)) → told payload → block ≡ get_or payload number [])
+IsRequestOf told run at step request = request ≡ request_of run [] at.0 at.1 step
+
+-- there is spare room for fewer bytes than the longest request has
+abbrev pub IsScarce : ℕ → ℕ → Type 0
+IsScarce capacity len = capacity < len + reader_limit
+
+-- why no request could be appended: a block that could not be read, or want of memory
+abbrev pub IsFaultAt : Step → AttemptFault → ℕ → ℕ → Type 0
+IsFaultAt (Block number) SourceFault capacity len = Unit {0}
+IsFaultAt step OutOfMemory capacity len = IsScarce capacity len
+IsFaultAt step fault capacity len = ⊥
+
+-- a request is appended, or nothing, where memory is scarce
+abbrev pub IsPushed : PlainRequest → ℕ → List ℕ → Result Unit AttemptFault → List ℕ → Type 0
+IsPushed request capacity before (Ok x) now = IsTextOf (request_text request) request × (now ≡ before ++ request_text request)
+IsPushed request capacity before (Err fault) now = (fault ≡ OutOfMemory) × IsScarce capacity (length before) × (now ≡ before)
+
+-- a step's request is appended, or nothing for one of these causes
+abbrev pub AppendedBy : (List (List ℕ) → Type 0) → Standing → Step → ℕ → List ℕ → Result Unit AttemptFault → List ℕ → Type 0
+AppendedBy told at step capacity before (Ok x) now =
+    (request : PlainRequest) × IsRequestOf told at.run (checkpoint_of at.counts) step request × IsTextOf (request_text request) request
+    × (now ≡ before ++ request_text request)
+AppendedBy told at step capacity before (Err fault) now = IsFaultAt step fault capacity (length before) × (now ≡ before)
+
+-- The next request is asked for, with what `out` held before and holds now. At the close want of memory is no fault: the attempt is
+-- over.
+abbrev pub AskedAt : Stage → (List (List ℕ) → Type 0) → Standing → ℕ → List ℕ → Result Bool AttemptFault → List ℕ → Standing → Type 0
+AskedAt (ToSend step) told old capacity before (Ok true) now new =
+    (request : PlainRequest) × IsRequestOf told old.run (checkpoint_of old.counts) step request × IsTextOf (request_text request) request
+    × (now ≡ before ++ request_text request) × (new ≡ standing old.run old.counts (Waiting step))
+AskedAt (ToSend step) told old capacity before (Ok false) now new =
+    (step ≡ Close) × IsScarce capacity (length before) × (now ≡ before) × IsOver old.run old.counts new
+AskedAt (ToSend step) told old capacity before (Err fault) now new =
+    (step ≢ Close) × IsFaultAt step fault capacity (length before) × (now ≡ before) × (new ≡ standing old.run old.counts Asking)
+AskedAt stage told old capacity before result now new = (result ≡ Ok false) × (now ≡ before) × (new ≡ old)
+
+-- a read of the source failed
+abbrev pub is_source_fault : {T : Type 0} → Result T AttemptFault → Bool
+is_source_fault (Err SourceFault) = true
+is_source_fault result = false
+
+-- the source was read where a block was asked for, and then by this read; that is the fault, where it failed
+abbrev pub has_failed : Result Unit SourceFailed → Bool
+has_failed (Ok x) = false
+has_failed (Err failed) = true
+
+-- what was appended is the write of the bytes that the read gave
+abbrev pub IsGiven : {T : Type 0} → List ℕ → Result T AttemptFault → List ℕ → List ℕ → Type 0
+IsGiven before (Ok x) now given = now ≡ before ++ request_text (Write given)
+IsGiven before (Err fault) now given = Unit {0}
+
+abbrev pub ReadBy : {B T : Type 0} → Step → (B → ℕ → List ℕ → Result Unit SourceFailed → B → List ℕ → Type 0) → B → List ℕ → Result T AttemptFault → B → List ℕ → Type 0
+ReadBy {B} {T} (Block number) reads old before result new now =
+    (into : List ℕ) × (given : List ℕ) × (read : Result Unit SourceFailed) × reads old number into read new given × (is_source_fault result ≡ has_failed read)
+    × IsGiven before result now given
+ReadBy {B} {T} step reads old before result new now = new ≡ old
+
+abbrev pub ReadAt : {B : Type 0} → Stage → (B → ℕ → List ℕ → Result Unit SourceFailed → B → List ℕ → Type 0) → B → List ℕ → Result Bool AttemptFault → B → List ℕ → Type 0
+ReadAt {B} (ToSend step) reads old before result new now = ReadBy step reads old before result new now
+ReadAt {B} stage reads old before result new now = new ≡ old
+
+-- a failed read of the source is counted, and no other
+abbrev pub failures_after : {T : Type 0} → Result T AttemptFault → ℕ → ℕ
+failures_after (Err SourceFault) failures = raised failures
+failures_after result failures = failures
+
+-- the entry of a finished run
+abbrev pub TellsEntry : Stage → PlainRun → Option Entry → Type 0
+TellsEntry Finished run (Some entry) = plain_entry entry ≡ record { name = run.name; level = run.level; date = run.date }
+TellsEntry Finished run None = ⊥
+TellsEntry stage run told = told ≡ None

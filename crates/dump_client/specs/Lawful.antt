@@ -1,0 +1,121 @@
+-- What holds of each client, and the position that it stands at.
+use Rattle.std.specs.Prelude.{◌≡◌, ◌⊎◌, ℕ, zero, suc, ◌+◌, ◌-◌, ◌<◌, ◌≤◌, if◌then◌else◌, nat_lt, List, [], ◌∷◌, ◌++◌, length, map, take, Contains}
+use Rattle.rmt_wire.specs.Request.{PlainRequest}
+use Rattle.rmt_wire.specs.Request.PlainRequest.{Op}
+use Rattle.dump_client.specs.Run.{PlainRun, IsRun}
+use Rattle.dump_client.specs.Script.{IsCount, request_of}
+use Rattle.dump_client.specs.Position.{Covers, Position, Counts}
+use Rattle.dump_client.specs.Standing.{Standing, checkpoint_of}
+use Rattle.dump_client.specs.declared.step.Step.{Step}
+use Rattle.dump_client.specs.declared.step.Step.TheVariants.{Open, Rewind, Label, Block, Mark, Unload, Close}
+use Rattle.dump_client.specs.declared.outcome.Outcome.{Outcome}
+use Rattle.dump_client.specs.declared.outcome.Outcome.TheVariants.{GoesOn, Fails, Counted, Ended}
+use Rattle.dump_client.specs.declared.stage.Stage.{Stage}
+use Rattle.dump_client.specs.declared.stage.Stage.TheVariants.{ToSend, Waiting, Finished}
+use Rattle.dump_client.specs.declared.count.VolumeCount.{VolumeCount}
+
+-- volumes of the run, from this one on: each begins where the one before ended, and only where blocks are left
+abbrev pub AreVolumes : PlainRun → ℕ → ℕ → List VolumeCount → Type 0
+AreVolumes run volume first [] = Unit {0}
+AreVolumes run volume first (c ∷ counts) =
+    (c.volume ≡ volume) × (c.first ≡ first) × IsCount run first c.count × ((counts ≡ []) ⊎ (first + c.count < run.blocks))
+    × AreVolumes run (volume + 1) (first + c.count) counts
+
+-- the counts do not cover the run
+abbrev pub IsLeft : PlainRun → List VolumeCount → Type 0
+IsLeft run counts = (counts ≡ []) ⊎ ((checkpoint_of counts).1 < run.blocks)
+
+-- the step is one of the volume that begins at this block; the close comes after a count
+abbrev pub StepFits : PlainRun → List VolumeCount → Step → Type 0
+StepFits run counts (Block number) = IsLeft run counts × ((checkpoint_of counts).1 ≤ number) × (number < run.blocks)
+StepFits run counts (Mark next) = IsLeft run counts × ((checkpoint_of counts).1 ≤ next) × IsCount run (checkpoint_of counts).1 (next - (checkpoint_of counts).1)
+StepFits run counts (Unload next) = IsLeft run counts × ((checkpoint_of counts).1 ≤ next) × IsCount run (checkpoint_of counts).1 (next - (checkpoint_of counts).1)
+StepFits run counts Close = 0 < length counts
+StepFits run counts step = IsLeft run counts
+
+abbrev pub StageFits : PlainRun → List VolumeCount → Stage → Type 0
+StageFits run counts (ToSend step) = StepFits run counts step
+StageFits run counts (Waiting step) = StepFits run counts step
+StageFits run counts Finished = Covers run counts
+StageFits run counts stage = IsLeft run counts
+
+pub record IsLawful (s : Standing) : Type 0 where
+  pub run : IsRun s.run
+  pub counts : AreVolumes s.run 1 0 s.counts
+  pub stage : StageFits s.run s.counts s.stage
+
+-- in an attempt there is room for its count, until it is counted
+abbrev pub RoomFits : Stage → ℕ → Type 0
+RoomFits (ToSend Close) room = Unit {0}
+RoomFits (ToSend step) room = 0 < room
+RoomFits (Waiting Close) room = Unit {0}
+RoomFits (Waiting step) room = 0 < room
+RoomFits stage room = Unit {0}
+
+-- an outcome can be followed
+abbrev pub OutcomeFits : PlainRun → List VolumeCount → ℕ → Outcome → Type 0
+OutcomeFits run counts room (GoesOn step) = IsLeft run counts × StepFits run counts step × (0 < room)
+OutcomeFits run counts room (Fails fault) = IsLeft run counts
+OutcomeFits run counts room (Counted next) = StepFits run counts (Unload next) × (0 < room)
+OutcomeFits run counts room Ended = 0 < length counts
+
+-- the blocks from this one on
+abbrev pub blocks_from : ℕ → ℕ → List Step
+blocks_from first zero = []
+blocks_from first (suc count) = Block first ∷ blocks_from (suc first) count
+
+-- what is sent before a mark: the open, the rewind, the label, the blocks up to `next`, and the one that was refused, if any is left
+abbrev pub steps_to : PlainRun → ℕ → ℕ → List Step
+steps_to run first next =
+    Open ∷ Rewind ∷ Label ∷ (blocks_from first (next - first) ++ (if nat_lt next run.blocks then Block next ∷ [] else []))
+
+-- what is sent before a step of the volume that begins at `first`; a close follows the mark of a volume that ends before `next`
+abbrev pub steps_before : PlainRun → ℕ → ℕ → Step → List Step
+steps_before run first next Open = []
+steps_before run first next Rewind = Open ∷ []
+steps_before run first next Label = Open ∷ Rewind ∷ []
+steps_before run first next (Block number) = Open ∷ Rewind ∷ Label ∷ blocks_from first (number - first)
+steps_before run first next (Mark end) = steps_to run first end
+steps_before run first next (Unload end) = steps_to run first end ++ Mark end ∷ []
+steps_before run first next Close = steps_to run first next ++ Mark next ∷ Unload next ∷ []
+
+-- the counts as they were when the attempt began: at the close its own is the last
+abbrev pub counts_before : Step → List VolumeCount → List VolumeCount
+counts_before Close counts = take (length counts - 1) counts
+counts_before step counts = counts
+
+-- the checkpoint of the attempt
+abbrev pub attempt_at : Step → List VolumeCount → ℕ × ℕ
+attempt_at step counts = checkpoint_of (counts_before step counts)
+
+-- the requests that were sent before a step, by what the client holds now
+abbrev pub sent_before : PlainRun → List (List ℕ) → List VolumeCount → Step → List PlainRequest
+sent_before run payload counts step =
+    map (request_of run payload (attempt_at step counts).0 (attempt_at step counts).1)
+    (steps_before run (attempt_at step counts).1 (checkpoint_of counts).1 step)
+
+-- the request of a step
+abbrev pub request_at : PlainRun → List (List ℕ) → List VolumeCount → Step → PlainRequest
+request_at run payload counts step = request_of run payload (attempt_at step counts).0 (attempt_at step counts).1 step
+
+-- the volume is counted at the close, as the last of the counts, and nowhere before
+abbrev pub CountsAt : PlainRun → List (List ℕ) → List VolumeCount → Step → ℕ → List PlainRequest → ℕ → Type 0
+CountsAt run payload counts Close count sent got =
+    Counts run payload (attempt_at Close counts).0 (attempt_at Close counts).1 count sent got
+    × (counts ≡ counts_before Close counts ++ record { volume = (attempt_at Close counts).0; first = (attempt_at Close counts).1; count = count } ∷ [])
+CountsAt run payload counts step count sent got = Contains (take got sent) (Op 6 1) → ⊥
+
+-- it stands at a position of the attempt's volume
+abbrev pub StandsAtStep : PlainRun → List (List ℕ) → List VolumeCount → Step → List PlainRequest → ℕ → Type 0
+StandsAtStep run payload counts step sent got =
+    (count : ℕ) × Position run payload (attempt_at step counts).0 (attempt_at step counts).1 count sent got
+    × CountsAt run payload counts step count sent got
+
+-- What was sent, and how many wanted replies came, is a function of what the client holds: all before its step was sent and
+-- answered, and the step's own request too where its reply is waited for.
+abbrev pub StandsAt : PlainRun → List (List ℕ) → List VolumeCount → Stage → Type 0
+StandsAt run payload counts (ToSend step) =
+    StandsAtStep run payload counts step (sent_before run payload counts step) (length (sent_before run payload counts step))
+StandsAt run payload counts (Waiting step) =
+    StandsAtStep run payload counts step (sent_before run payload counts step ++ request_at run payload counts step ∷ []) (length (sent_before run payload counts step))
+StandsAt run payload counts stage = Unit {0}

@@ -1,0 +1,130 @@
+-- Where a client stands, as values, and how bytes and the end of a connection move it.
+use Rattle.std.specs.Prelude.{◌≡◌, ◌≢◌, ◌⊎◌, ℕ, ◌+◌, ◌-◌, Bool, true, false, List, [], ◌∷◌, ◌++◌, Option, Some, None, Result, Ok, Err}
+use Rattle.rmt_wire.specs.Reply.{PlainReply}
+use Rattle.rmt_wire.specs.Reply.Wanted.{Number}
+use Rattle.rmt_wire.specs.ReplyParts.{Gives}
+use Rattle.rmt_wire.specs.declared.fault.WireFault.{WireFault}
+use Rattle.dump_client.specs.Run.{PlainRun}
+use Rattle.dump_client.specs.Position.{Covers, Heard, outcome}
+use Rattle.dump_client.specs.Position.Heard.{Reply, Noise, End}
+use Rattle.dump_client.specs.Listening.{is_more}
+use Rattle.dump_client.specs.declared.step.Step.{Step}
+use Rattle.dump_client.specs.declared.step.Step.TheVariants.{Open, Close}
+use Rattle.dump_client.specs.declared.outcome.Outcome.{Outcome}
+use Rattle.dump_client.specs.declared.outcome.Outcome.TheVariants.{GoesOn, Fails, Counted, Ended}
+use Rattle.dump_client.specs.declared.stage.Stage.{Stage}
+use Rattle.dump_client.specs.declared.stage.Stage.TheVariants.{Ready, ToSend, Waiting, Asking, Finished, Abandoned}
+use Rattle.dump_client.specs.declared.stage.State.{State}
+use Rattle.dump_client.specs.declared.stage.State.TheVariants as told
+use Rattle.dump_client.specs.declared.stage.Progress.{Progress}
+use Rattle.dump_client.specs.declared.stage.Progress.TheVariants as moved
+use Rattle.dump_client.specs.declared.count.VolumeCount.{VolumeCount}
+use Rattle.dump_client.specs.declared.fault.AttemptFault.TheVariants.{Botched}
+use Rattle.dump_client.specs.declared.fault.StartFault.{StartFault}
+use Rattle.dump_client.specs.declared.fault.StartFault.TheVariants.{WrongState, OutOfMemory}
+use Rattle.dump_client.specs.declared.stage.Answer.{Answer}
+use Rattle.dump_client.specs.declared.stage.Answer.TheVariants.{Retry, Abandon}
+
+-- the run, the volumes that are counted, and the stage: all that a client's requests and counts depend on
+pub record Standing : Type 0 where
+  pub run : PlainRun
+  pub counts : List VolumeCount
+  pub stage : Stage
+
+abbrev pub standing : PlainRun → List VolumeCount → Stage → Standing
+standing run counts stage = record { run = run; counts = counts; stage = stage }
+
+-- the same, and for how many more counts there is room
+pub record Kept : Type 0 where
+  pub at : Standing
+  pub room : ℕ
+
+-- it is in an attempt, at this step
+abbrev pub IsAtStep : Stage → Step → Type 0
+IsAtStep (ToSend other) step = step ≡ other
+IsAtStep (Waiting other) step = step ≡ other
+IsAtStep stage step = ⊥
+
+-- the stage as it is told
+abbrev pub state_of : Stage → State
+state_of Ready = told.Ready
+state_of (ToSend step) = told.ToSend
+state_of (Waiting step) = told.Waiting
+state_of Asking = told.Asking
+state_of Finished = told.Finished
+state_of Abandoned = told.Abandoned
+
+-- the volume and the first block that are next, after these counts
+abbrev pub checkpoint_after : ℕ → ℕ → List VolumeCount → ℕ × ℕ
+checkpoint_after volume first [] = (volume, first)
+checkpoint_after volume first (c ∷ counts) = checkpoint_after (c.volume + 1) (c.first + c.count) counts
+
+abbrev pub checkpoint_of : List VolumeCount → ℕ × ℕ
+checkpoint_of counts = checkpoint_after 1 0 counts
+
+-- the count of the volume that is written at this checkpoint, up to block `next`
+abbrev pub count_to : ℕ × ℕ → ℕ → VolumeCount
+count_to at next = record { volume = at.0; first = at.1; count = next - at.1 }
+
+-- the counts with that volume's
+abbrev pub counted_to : List VolumeCount → ℕ → List VolumeCount
+counted_to counts next = counts ++ count_to (checkpoint_of counts) next ∷ []
+
+-- the attempt is over: the run is finished where its counts cover it, and else another attempt can start
+abbrev pub IsOver : PlainRun → List VolumeCount → Standing → Type 0
+IsOver run counts new =
+    (Covers run counts × (new ≡ standing run counts Finished))
+    ⊎ ((Covers run counts → ⊥) × (new ≡ standing run counts Ready))
+
+-- What an outcome makes of a client in an attempt, and what it tells. `more` says that bytes follow the reply: nobody waits for
+-- them, so that the attempt fails before the count, and ends behind it.
+abbrev pub Becomes : Standing → Outcome → Bool → Progress → Standing → Type 0
+Becomes old (GoesOn step) false progress new = (progress ≡ moved.Send) × (new ≡ standing old.run old.counts (ToSend step))
+Becomes old (GoesOn step) true progress new = (progress ≡ moved.Failed Botched) × (new ≡ standing old.run old.counts Asking)
+Becomes old (Fails fault) more progress new = (progress ≡ moved.Failed fault) × (new ≡ standing old.run old.counts Asking)
+Becomes old (Counted next) false progress new = (progress ≡ moved.Send) × (new ≡ standing old.run (counted_to old.counts next) (ToSend Close))
+Becomes old (Counted next) true progress new = (progress ≡ moved.Ended) × IsOver old.run (counted_to old.counts next) new
+Becomes old Ended more progress new = (progress ≡ moved.Ended) × IsOver old.run old.counts new
+
+-- it is at this step, and hears this
+abbrev pub HearsAt : Standing → Step → Heard → Bool → Progress → Standing → Type 0
+HearsAt old step heard more progress new = Becomes old (outcome old.run (checkpoint_of old.counts).1 step heard) more progress new
+
+-- it waits for the reply to this step, and the bytes since are these: less than a reply, a reply and what follows, or none
+abbrev pub Makes : Standing → Step → List ℕ → Result (Option PlainReply) WireFault → List ℕ → Progress → Standing → Type 0
+Makes old step bytes (Ok None) rest progress new = (progress ≡ moved.Waiting) × (new ≡ old)
+Makes old step bytes (Ok (Some reply)) rest progress new = HearsAt old step (Reply reply) (is_more rest) progress new
+Makes old step bytes (Err fault) rest progress new = HearsAt old step Noise false progress new
+
+-- A piece is fed, after these bytes since the request was sent: whatever the pieces, what comes of them is that of all the bytes.
+-- Between attempts nothing comes of it.
+abbrev pub FedAt : Stage → Standing → List ℕ → List ℕ → Progress → Standing → Type 0
+FedAt (ToSend step) old bytes piece progress new =
+    ((piece ≡ []) × (progress ≡ moved.Send) × (new ≡ old))
+    ⊎ ((piece ≢ []) × HearsAt old step Noise false progress new)
+FedAt (Waiting step) old bytes piece progress new =
+    (seen : Result (Option PlainReply) WireFault) × (rest : List ℕ) × Gives (Some Number) (bytes ++ piece) seen rest
+    × Makes old step (bytes ++ piece) seen rest progress new
+FedAt stage old bytes piece progress new = (progress ≡ moved.Idle) × (new ≡ old)
+
+-- the connection ends
+abbrev pub CutAt : Stage → Standing → Progress → Standing → Type 0
+CutAt (ToSend step) old progress new = HearsAt old step End false progress new
+CutAt (Waiting step) old progress new = HearsAt old step End false progress new
+CutAt stage old progress new = (progress ≡ moved.Idle) × (new ≡ old)
+
+-- an attempt starts, from the checkpoint on; this is refused elsewhere, and where the room for its count is
+abbrev pub StartedAt : Stage → Standing → ℕ → Result Unit StartFault → Standing → Type 0
+StartedAt Ready old room (Ok x) new = new ≡ standing old.run old.counts (ToSend Open)
+StartedAt Ready old room (Err OutOfMemory) new = (room ≡ 0) × (new ≡ old)
+StartedAt Ready old room (Err WrongState) new = ⊥
+StartedAt stage old room result new = (result ≡ Err WrongState) × (new ≡ old)
+
+-- the operator answers
+abbrev pub stage_after : Answer → Stage
+stage_after Retry = Ready
+stage_after Abandon = Abandoned
+
+abbrev pub AnsweredAt : Stage → Standing → Answer → Result Unit StartFault → Standing → Type 0
+AnsweredAt Asking old answer result new = (result ≡ Ok tt) × (new ≡ standing old.run old.counts (stage_after answer))
+AnsweredAt stage old answer result new = (result ≡ Err WrongState) × (new ≡ old)

@@ -1,0 +1,211 @@
+//! The client: one attempt after the other, and what they count.
+ghost use Rattle.std.specs.Prelude.{◌≡◌, ◌↔◌, ℕ, ◌++◌, ◌+◌, ◌<◌, true, List, [], length, IfOk, OnOk};
+ghost use Rattle.std.specs.Vec.{vec_capacity};
+ghost use Rattle.dump_client.specs.Blocks.{listed};
+ghost use Rattle.dump_client.specs.Standing.{standing, state_of, checkpoint_of, StartedAt, AnsweredAt, FedAt, CutAt};
+ghost use Rattle.dump_client.specs.Lawful.{IsLawful};
+ghost use Rattle.dump_client.specs.Client.{HasFed, unanswered, IsPayload, AskedAt, ReadAt, TellsEntry, failures_after, is_source_fault};
+ghost use Rattle.dump_client.specs.declared.stage.Stage.TheVariants as stages;
+
+use crate::ledger::Ledger;
+use crate::listen::{Listened, listen};
+use crate::request::push_step;
+use crate::stage::Stage;
+use crate::step::Step;
+use crate::{
+    Answer, AttemptFault, Blocks, ListBlocks, Progress, Run, StartFault, State, VolumeCount,
+};
+use dumpdates::Entry;
+use rmt_wire::{ReplyReader, Wanted};
+use std::alloc::{AllocError, Global};
+use std::marker::Model;
+
+/// Dumps a run to a remote tape: it makes the requests of one attempt after the other, each of which writes one volume
+/// on a connection of its own, hears the replies, and counts the volumes that are written whole (rmt(8), dump(8)).
+///
+/// A volume is counted when the reply to MTOFFL has come, and by nothing else. An attempt that fails leaves the counts
+/// and the checkpoint as they were. Contracts see where the client stands, its source, and what it keeps of the replies.
+#[derive(Drop)]
+pub struct Client<B: Blocks> {
+    ledger: Ledger,
+    source: B,
+    block: Vec<u8>,
+    reader: ReplyReader,
+}
+
+impl<B: Blocks> Model for Client<B> {
+    ghost use Rattle.std.specs.Prelude.{◌≡◌, ℕ, List, length};
+    ghost use Rattle.dump_client.specs.Client.{Held, HasFedAt, IsPayload};
+
+    ghost Value = { Held B };
+
+    ghost view = { λ c. record { at = c.ledger.at; source = c.source; reader = c.reader; room = c.ledger.room } };
+
+    ghost invariant = { λ c. (length c.block.items ≡ c.ledger.at.run.block_bytes) × ((payload : List (List ℕ)) → B.Blocks.holds c.source payload → IsPayload c.ledger.at.run payload) × ((bytes : List ℕ) × HasFedAt c.ledger.at.stage c.reader bytes) };
+}
+
+impl<B: Blocks + Drop> Client<B> {
+    /// A client of this run, with nothing counted, that can start. A source that tells its blocks has the run's number
+    /// of them, each of its size.
+    ///
+    /// It reserves `rmt_wire::READER_LIMIT` bytes for replies and a block, and fails only where these are refused.
+    pub fn new(alloc: Global, run: Run, source: B) -> Result<Client<B>, AllocError>
+        requires { (payload : List (List ℕ)) → B.holds source payload → IsPayload run payload }
+        ensures made { IfOk result (λ c. (c.at ≡ standing run [] stages.Ready) × (c.source ≡ source)) }
+    {
+        let block = Vec::from_elem(alloc, 0u8, run.block_bytes())?;
+        Ok(Client {
+            ledger: Ledger::new(alloc, run),
+            source,
+            block,
+            reader: ReplyReader::new(alloc)?,
+        })
+    }
+}
+
+impl<B: Blocks> Client<B> {
+    /// What the client waits for.
+    pub fn state(&self) -> State
+        ensures state { result ≡ state_of self.now.at.stage }
+        ensures lawful { IsLawful self.now.at }
+        ensures fed { (bytes : List ℕ) × HasFed self.now bytes }
+    {
+        let stage = self.ledger.stage();
+        stage.state()
+    }
+
+    /// The volumes that are counted, in order.
+    pub fn counted(&self) -> &[VolumeCount]
+        ensures { result.now ≡ self.now.at.counts }
+    {
+        self.ledger.counted()
+    }
+
+    /// The volume that an attempt writes next, and its first block.
+    pub fn checkpoint(&self) -> (u32, u32)
+        ensures { result ≡ checkpoint_of self.now.at.counts }
+    {
+        self.ledger.checkpoint()
+    }
+
+    /// Once the run is finished, its entry in dumpdates.
+    pub fn finished(&self) -> Option<Entry<'_>>
+        ensures { TellsEntry self.now.at.stage self.now.at.run result }
+    {
+        match self.ledger.stage() {
+            Stage::Finished => {
+                let run = self.ledger.run();
+                Entry::new(run.name(), run.level(), run.date())
+            }
+            _ => None,
+        }
+    }
+
+    /// Starts an attempt, on a connection that is new, and reserves the room for the count of its volume.
+    ///
+    /// Answers `WrongState` unless the client is `Ready`, and `OutOfMemory` where that room is refused. Nothing has changed
+    /// then.
+    pub fn start(&mut self) -> Result<(), StartFault>
+        ensures started { StartedAt self.old.at.stage self.old.at self.old.room result self.new.at }
+        ensures fed { (bytes : List ℕ) → HasFed self.old bytes → HasFed self.new bytes }
+        ensures same_source { self.new.source ≡ self.old.source }
+        ensures room { OnOk result (0 < self.new.room) }
+    {
+        self.ledger.start()?;
+        self.reader.clear();
+        Ok(())
+    }
+
+    /// Appends the next request, and waits for its reply. True where one was appended; false, with nothing done, in
+    /// another state than `ToSend`.
+    ///
+    /// A fault fails the attempt, with nothing appended: `SourceFault` where the block could not be read, and
+    /// `OutOfMemory` where `out` has spare room for fewer than `READER_LIMIT` bytes and the memory for more is refused.
+    /// At the close, which comes after the count, that is no fault: it answers false, and the attempt is over.
+    pub fn next_request(&mut self, out: &mut Vec<u8>) -> Result<bool, AttemptFault>
+        ensures asked { AskedAt self.old.at.stage (B.holds self.old.source) self.old.at (vec_capacity out.old) out.old.items result out.new.items self.new.at }
+        ensures read { ReadAt self.old.at.stage B.reads self.old.source out.old.items result self.new.source out.new.items }
+        ensures same_blocks { (payload : List (List ℕ)) → B.holds self.old.source payload ↔ B.holds self.new.source payload }
+        ensures counted { B.failures self.new.source ≡ failures_after result (B.failures self.old.source) }
+        ensures able { is_source_fault result ≡ true → B.can_fail self.old.source }
+        ensures quiet { B.can_fail self.new.source → B.can_fail self.old.source }
+        ensures fed { (bytes : List ℕ) → HasFed self.old bytes → HasFed self.new bytes }
+        ensures slots { self.new.room + length self.new.at.counts ≡ self.old.room + length self.old.at.counts }
+    {
+        let Stage::ToSend(step) = self.ledger.stage() else {
+            return Ok(false);
+        };
+        match push_step(&self.ledger, step, &mut self.source, &mut self.block, out) {
+            Ok(()) => {
+                self.reader.expect(Wanted::Number);
+                self.ledger.wait(step);
+                Ok(true)
+            }
+            Err(_) if step == Step::Close => {
+                self.ledger.finish();
+                Ok(false)
+            }
+            Err(fault) => {
+                self.ledger.fail(fault);
+                Err(fault)
+            }
+        }
+    }
+
+    /// Takes a piece of what the server answers.
+    ///
+    /// Before the count, bytes that are no reply, or that come while none is waited for, fail the attempt; after it they
+    /// end it, as each reply does. An empty piece changes nothing, and so does each piece where no attempt is under way.
+    pub fn feed(&mut self, piece: &[u8]) -> Progress
+        ensures moved { (bytes : List ℕ) → HasFed self.old bytes → FedAt self.old.at.stage self.old.at bytes piece.now result self.new.at }
+        ensures fed { (bytes : List ℕ) → HasFed self.old bytes → HasFed self.new (unanswered self.new.at.stage (bytes ++ piece.now)) }
+        ensures same_source { self.new.source ≡ self.old.source }
+        ensures slots { self.new.room + length self.new.at.counts ≡ self.old.room + length self.old.at.counts }
+    {
+        match self.ledger.stage() {
+            Stage::ToSend(_) if piece.is_empty() => Progress::Send,
+            Stage::ToSend(step) => self.ledger.noise(step),
+            Stage::Waiting(step) => match listen(&mut self.reader, piece) {
+                Listened::Waits => Progress::Waiting,
+                Listened::Reply { said, more } => self.ledger.reply(step, said, more),
+                Listened::Noise => self.ledger.noise(step),
+            },
+            _ => Progress::Idle,
+        }
+    }
+
+    /// Learns that the connection has ended. Before the count this fails the attempt; after it the attempt is over.
+    pub fn ended(&mut self) -> Progress
+        ensures moved { CutAt self.old.at.stage self.old.at result self.new.at }
+        ensures fed { HasFed self.new [] }
+        ensures same_source { self.new.source ≡ self.old.source }
+        ensures slots { self.new.room + length self.new.at.counts ≡ self.old.room + length self.old.at.counts }
+    {
+        match self.ledger.stage() {
+            Stage::ToSend(step) | Stage::Waiting(step) => self.ledger.end(step),
+            _ => Progress::Idle,
+        }
+    }
+
+    /// Takes the operator's answer after an attempt failed. Answers `WrongState` unless the client is `Asking`; nothing
+    /// has changed then.
+    pub fn answer(&mut self, answer: Answer) -> Result<(), StartFault>
+        ensures answered { AnsweredAt self.old.at.stage self.old.at answer result self.new.at }
+        ensures fed { (bytes : List ℕ) → HasFed self.old bytes → HasFed self.new bytes }
+        ensures same_source { self.new.source ≡ self.old.source }
+        ensures slots { self.new.room + length self.new.at.counts ≡ self.old.room + length self.old.at.counts }
+    {
+        self.ledger.answer(answer)
+    }
+}
+
+impl Client<ListBlocks> {
+    /// Sets whether reads of the payload fail from now on, until it is set again.
+    pub fn source_trouble(&mut self, fails: bool)
+        ensures source { self.new.source ≡ listed self.old.source.blocks fails self.old.source.failures }
+        ensures same { (self.new.at ≡ self.old.at) × (self.new.room ≡ self.old.room) × (self.new.reader ≡ self.old.reader) }
+        ensures fed { (bytes : List ℕ) → HasFed self.old bytes → HasFed self.new bytes }
+    {
+        self.source.trouble(fails);
+    }
+}

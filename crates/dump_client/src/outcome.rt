@@ -1,0 +1,135 @@
+//! What comes next in an attempt.
+ghost use Rattle.std.specs.Prelude.{◌≡◌, ◌<◌};
+ghost use Rattle.rmt_wire.specs.Reply.{PlainReply};
+ghost use Rattle.dump_client.specs.Listening.{IsSaid};
+ghost use Rattle.dump_client.specs.Position as spec;
+ghost use Rattle.dump_client.specs.Run.{IsRun};
+
+use crate::label::LABEL_BYTES;
+use crate::listen::Said;
+use crate::step::Step;
+use crate::{AttemptFault, Run};
+
+/// The error of a write for which there is no room (ENOSPC).
+const NO_ROOM: u32 = 28;
+
+/// What comes next in an attempt: a request, its failure, the count of its volume, which ends before this block, or its
+/// end.
+#[derive(Clone, Copy, Debug, PartialEq, Eq)]
+pub(crate) enum Outcome {
+    GoesOn(Step),
+    Fails(AttemptFault),
+    Counted(u32),
+    Ended,
+}
+
+/// The block of this number, or the mark where none is left.
+fn block_or_mark(run: &Run, number: u32) -> Step
+    ensures { result ≡ spec.block_or_mark run.now number }
+{
+    if number < run.blocks() {
+        Step::Block(number)
+    } else {
+        Step::Mark(number)
+    }
+}
+
+/// What follows a step that was done: the one place that knows the order of the requests.
+fn after_step(run: &Run, first: u32, step: Step) -> Outcome
+    requires run { IsRun run.now }
+    requires block { spec.IsBelow run.now step }
+    ensures { result ≡ spec.after_step run.now first step }
+{
+    match step {
+        Step::Open => Outcome::GoesOn(Step::Rewind),
+        Step::Rewind => Outcome::GoesOn(Step::Label),
+        Step::Label => Outcome::GoesOn(block_or_mark(run, first)),
+        Step::Block(number) => Outcome::GoesOn(block_or_mark(run, number + 1)),
+        Step::Mark(next) => Outcome::GoesOn(Step::Unload(next)),
+        Step::Unload(next) => Outcome::Counted(next),
+        Step::Close => Outcome::Ended,
+    }
+}
+
+/// What follows where the reel has no room for a record: its end, once a block was written.
+fn at_end_of_reel(first: u32, step: Step) -> Outcome
+    ensures { result ≡ spec.at_end_of_reel first step }
+{
+    match step {
+        Step::Block(number) if first < number => Outcome::GoesOn(Step::Mark(number)),
+        _ => Outcome::Fails(AttemptFault::ReelTooSmall),
+    }
+}
+
+/// What follows the number `n`, in reply to a write of `size` bytes.
+fn after_write(run: &Run, first: u32, step: Step, size: usize, n: u32) -> Outcome
+    requires run { IsRun run.now }
+    requires block { spec.IsBelow run.now step }
+    ensures { result ≡ spec.after_write run.now first step size n }
+{
+    if n as usize == size {
+        after_step(run, first, step)
+    } else if n == 0 {
+        at_end_of_reel(first, step)
+    } else {
+        Outcome::Fails(AttemptFault::ShortWrite)
+    }
+}
+
+/// What follows a number.
+fn after_number(run: &Run, first: u32, step: Step, n: u32) -> Outcome
+    requires run { IsRun run.now }
+    requires block { spec.IsBelow run.now step }
+    ensures { result ≡ spec.after_number run.now first step n }
+{
+    match step {
+        Step::Open | Step::Close => after_step(run, first, step),
+        Step::Label => after_write(run, first, step, LABEL_BYTES, n),
+        Step::Block(_) => after_write(run, first, step, run.block_bytes(), n),
+        Step::Rewind | Step::Mark(_) | Step::Unload(_) if n == 1 => after_step(run, first, step),
+        Step::Rewind | Step::Mark(_) | Step::Unload(_) => Outcome::Fails(AttemptFault::Botched),
+    }
+}
+
+/// What follows an error.
+fn after_error(first: u32, step: Step, n: u32) -> Outcome
+    ensures { result ≡ spec.after_error first step n }
+{
+    match step {
+        Step::Close => Outcome::Ended,
+        Step::Label | Step::Block(_) if n == NO_ROOM => at_end_of_reel(first, step),
+        _ => Outcome::Fails(AttemptFault::Refused(n)),
+    }
+}
+
+/// What follows a reply.
+pub(crate) fn after_reply(run: &Run, first: u32, step: Step, said: Said) -> Outcome
+    requires run { IsRun run.now }
+    requires block { spec.IsBelow run.now step }
+    ensures { (reply : PlainReply) → IsSaid reply said → result ≡ spec.after_reply run.now first step reply }
+{
+    match said {
+        Said::Number(n) => after_number(run, first, step, n),
+        Said::Error(n) => after_error(first, step, n),
+    }
+}
+
+/// What follows bytes that are no reply, or that nobody waits for.
+pub(crate) fn after_noise(step: Step) -> Outcome
+    ensures { result ≡ spec.after_noise step }
+{
+    match step {
+        Step::Close => Outcome::Ended,
+        _ => Outcome::Fails(AttemptFault::Botched),
+    }
+}
+
+/// What follows the end of the connection.
+pub(crate) fn after_end(step: Step) -> Outcome
+    ensures { result ≡ spec.after_end step }
+{
+    match step {
+        Step::Close => Outcome::Ended,
+        _ => Outcome::Fails(AttemptFault::ConnectionEnded),
+    }
+}

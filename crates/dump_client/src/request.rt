@@ -1,0 +1,100 @@
+//! The requests of an attempt.
+ghost use Rattle.std.specs.Prelude.{◌≡◌, ◌↔◌, ℕ, ◌≤◌, true, List, length};
+ghost use Rattle.std.specs.Vec.{vec_capacity};
+ghost use Rattle.rmt_wire.specs.Lent.{plain_request};
+ghost use Rattle.rmt_wire.specs.Request as requests;
+ghost use Rattle.rmt_wire.specs.Request.PlainRequest.{Open, Write, Op};
+ghost use Rattle.dump_client.specs.Client.{IsPayload, IsPushed, AppendedBy, ReadBy, failures_after, is_source_fault};
+ghost use Rattle.dump_client.specs.Label as labels;
+ghost use Rattle.dump_client.specs.Lawful.{IsLawful, StepFits};
+ghost use Rattle.dump_client.specs.Standing.{checkpoint_of};
+
+use crate::label::label;
+use crate::ledger::Ledger;
+use crate::step::Step;
+use crate::{AttemptFault, Blocks, Run};
+use rmt_wire::{Request, push_request};
+
+/// An open for reading and writing.
+const READ_WRITE: u32 = 2;
+
+/// The operations of mtio that an attempt asks for.
+const MTWEOF: u32 = 0;
+
+const MTREW: u32 = 5;
+
+const MTOFFL: u32 = 6;
+
+/// Appends the request of a step: a block is read from the source. Nothing is appended where that fails.
+pub(crate) fn push_step<B: Blocks>(
+    ledger: &Ledger,
+    step: Step,
+    source: &mut B,
+    block: &mut [u8],
+    out: &mut Vec<u8>,
+) -> Result<(), AttemptFault>
+    requires lawful { IsLawful ledger.now.at }
+    requires fits { StepFits ledger.now.at.run ledger.now.at.counts step }
+    requires size { length block.old ≡ ledger.now.at.run.block_bytes }
+    requires payload { (payload : List (List ℕ)) → B.holds source.old payload → IsPayload ledger.now.at.run payload }
+    ensures appended { AppendedBy (B.holds source.old) ledger.now.at step (vec_capacity out.old) out.old.items result out.new.items }
+    ensures read { ReadBy step B.reads source.old out.old.items result source.new out.new.items }
+    ensures same_blocks { (payload : List (List ℕ)) → B.holds source.old payload ↔ B.holds source.new payload }
+    ensures counted { B.failures source.new ≡ failures_after result (B.failures source.old) }
+    ensures able { is_source_fault result ≡ true → B.can_fail source.old }
+    ensures quiet { B.can_fail source.new → B.can_fail source.old }
+    ensures same_size { length block.new ≡ length block.old }
+{
+    match step {
+        Step::Open => push_open(ledger.run(), out),
+        Step::Rewind => push_op(MTREW, out),
+        Step::Label => push_label(ledger, out),
+        Step::Block(number) => match source.read(number, block) {
+            Ok(()) => push(&Request::Write { bytes: block }, out),
+            Err(_) => Err(AttemptFault::SourceFault),
+        },
+        Step::Mark(_) => push_op(MTWEOF, out),
+        Step::Unload(_) => push_op(MTOFFL, out),
+        Step::Close => push(&Request::Close, out),
+    }
+}
+
+/// Appends the open of the run's device, for reading and writing.
+fn push_open(run: &Run, out: &mut Vec<u8>) -> Result<(), AttemptFault>
+    ensures { IsPushed (Open run.now.device 2) (vec_capacity out.old) out.old.items result out.new.items }
+{
+    let request = Request::Open {
+        device: run.device(),
+        mode: READ_WRITE,
+    };
+    push(&request, out)
+}
+
+/// Appends the write of the next volume's label.
+fn push_label(ledger: &Ledger, out: &mut Vec<u8>) -> Result<(), AttemptFault>
+    ensures { IsPushed (Write (labels.label ledger.now.at.run (checkpoint_of ledger.now.at.counts).0 (checkpoint_of ledger.now.at.counts).1)) (vec_capacity out.old) out.old.items result out.new.items }
+{
+    let (volume, first) = ledger.checkpoint();
+    let label = label(ledger.run(), volume, first);
+    push(&Request::Write { bytes: &label }, out)
+}
+
+/// Appends an operation of count 1.
+fn push_op(op: u32, out: &mut Vec<u8>) -> Result<(), AttemptFault>
+    requires { op ≤ 7 }
+    ensures { IsPushed (Op op 1) (vec_capacity out.old) out.old.items result out.new.items }
+{
+    push(&Request::Op { op, count: 1 }, out)
+}
+
+/// Appends a request, or nothing.
+#[tactic(auto, using(crate::proofs::Texts::text_within))]
+fn push(request: &Request<'_>, out: &mut Vec<u8>) -> Result<(), AttemptFault>
+    requires { requests.HasSpelling (plain_request request.now) }
+    ensures { IsPushed (plain_request request.now) (vec_capacity out.old) out.old.items result out.new.items }
+{
+    match push_request(out, request) {
+        Ok(()) => Ok(()),
+        Err(_) => Err(AttemptFault::OutOfMemory),
+    }
+}
