@@ -29,3 +29,6 @@ has_block n size payload i all h =
     let within = block_within n size payload i all h in
     let left : size ≤ length (drop (i * size) payload) = omega (arith, length-drop (i * size) payload) in
     (inside, ap length (block_at n size payload i h) ∙ length-take-le size (drop (i * size) payload) left)
+
+pub size_cut : (n size : ℕ) (payload : List ℕ) → length payload ≡ n * size → (i : ℕ) → i < n → length (get_or (cut_blocks n size payload) i []) ≡ size
+size_cut n size payload all i h = let block = has_block n size payload i all h in block.1

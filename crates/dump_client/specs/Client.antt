@@ -45,12 +45,15 @@ unanswered stage bytes = []
 abbrev pub IsPayload : PlainRun → List (List ℕ) → Type 0
 IsPayload run blocks = (length blocks ≡ run.blocks) × ((n : ℕ) → n < run.blocks → length (get_or blocks n []) ≡ run.block_bytes)
 
--- the request of a step: a block is that of the payload, where the source tells it
+-- a block is of the run's size, and all other requests are told by the run
+abbrev pub IsShapedAs : PlainRun → ℕ × ℕ → Step → PlainRequest → Type 0
+IsShapedAs run at (Block number) request = (block : List ℕ) × (request ≡ Write block) × (length block ≡ run.block_bytes)
+IsShapedAs run at step request = request ≡ request_of run [] at.0 at.1 step
+
+-- the request of a step, with the payload's block where the source tells it
 abbrev pub IsRequestOf : (List (List ℕ) → Type 0) → PlainRun → ℕ × ℕ → Step → PlainRequest → Type 0
-IsRequestOf told run at (Block number) request =
-    (block : List ℕ) × (request ≡ Write block) × (length block ≡ run.block_bytes)
-    × ((payload : List (List ℕ)) → told payload → block ≡ get_or payload number [])
-IsRequestOf told run at step request = request ≡ request_of run [] at.0 at.1 step
+IsRequestOf told run at step request =
+    ((payload : List (List ℕ)) → told payload → request ≡ request_of run payload at.0 at.1 step) × IsShapedAs run at step request
 
 -- there is spare room for fewer bytes than the longest request has
 abbrev pub IsScarce : ℕ → ℕ → Type 0

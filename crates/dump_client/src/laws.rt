@@ -1,11 +1,20 @@
-ghost use Rattle.std.specs.Prelude.{◌⊎◌, ℕ, List};
+ghost use Rattle.std.specs.Prelude.{◌≡◌, ◌≢◌, ◌⊎◌, ℕ, List, ◌++◌};
 ghost use Rattle.rmt_wire.specs.Reply.{PlainReply};
 ghost use Rattle.dump_client.specs.Run.{PlainRun, IsRun};
-ghost use Rattle.dump_client.specs.Script.{IsCount, steps_of};
+ghost use Rattle.dump_client.specs.Script.{IsCount, request_of, steps_of};
+ghost use Rattle.dump_client.specs.Position.{Follows, Heard, IsWantedAt, IsFailure, after_reply, outcome};
+ghost use Rattle.dump_client.specs.Position.Heard.{Noise, End};
+ghost use Rattle.dump_client.specs.Standing.{Standing, FedAt, CutAt, checkpoint_of};
+ghost use Rattle.dump_client.specs.Client.{unanswered};
 ghost use Rattle.dump_client.specs.declared.step.Step.{Step};
-ghost use Rattle.dump_client.specs.Position.{Follows, IsWantedAt, IsFailure, after_reply};
-ghost use Rattle.dump_client.specs.Standing.{Standing};
-ghost use Rattle.dump_client.specs.Lawful.{IsLawful, StandsAt};
+ghost use Rattle.dump_client.specs.Lawful.{IsLawful, StandsAt, request_at};
+ghost use Rattle.dump_client.specs.declared.count.VolumeCount.{VolumeCount};
+ghost use Rattle.dump_client.specs.declared.step.Step.TheVariants.{Close};
+ghost use Rattle.dump_client.specs.declared.outcome.Outcome.TheVariants.{Fails, Ended};
+ghost use Rattle.dump_client.specs.declared.stage.Progress.{Progress};
+ghost use Rattle.dump_client.specs.declared.stage.Progress.TheVariants.{Failed};
+ghost use Rattle.dump_client.specs.declared.fault.AttemptFault.{AttemptFault};
+ghost use Rattle.dump_client.specs.declared.fault.AttemptFault.TheVariants.{Botched, ConnectionEnded};
 
 /// What comes next follows the script: each reply that a script wants leads to its next request, the reply to MTOFFL to
 /// the count, and the reply to the close to the attempt's end. Any other reply fails the attempt.
@@ -18,9 +27,34 @@ pub fn wanted_replies()
 
 /// A client in an attempt stands at a position of its volume. What it holds says what was sent, which begins the script of a
 /// volume of so many blocks, and how many replies came, one to each request before its step. MTOFFL is among the answered
-/// requests at the close alone, where the last of the counts is that volume's.
+/// requests at the close alone, where the last of the counts is that volume's. The request of a step at the checkpoint is
+/// that of the position.
 ///
 /// It does nothing: its contract is a law of the definitions.
 pub fn lawful_positions()
     ensures stands { (s : Standing) (payload : List (List ℕ)) → IsLawful s → StandsAt s.run payload s.counts s.stage }
+    ensures asked { (run : PlainRun) (payload : List (List ℕ)) (counts : List VolumeCount) (step : Step) →
+        request_of run payload (checkpoint_of counts).0 (checkpoint_of counts).1 step ≡ request_at run payload counts step }
+{}
+
+/// From the close on nothing fails: whatever is heard there ends the attempt. Before it bytes that are no reply fail it,
+/// and so does the end of the connection.
+///
+/// It does nothing: its contract is a law of the definitions.
+pub fn after_the_count()
+    ensures close { (run : PlainRun) (first : ℕ) (heard : Heard) → outcome run first Close heard ≡ Ended }
+    ensures noise { (run : PlainRun) (first : ℕ) (step : Step) → step ≢ Close → outcome run first step Noise ≡ Fails Botched }
+    ensures cut { (run : PlainRun) (first : ℕ) (step : Step) → step ≢ Close → outcome run first step End ≡ Fails ConnectionEnded }
+{}
+
+/// Bytes may come in any pieces: one piece and then another leave a client where the two as one would. An attempt that
+/// fails, by bytes or by the end of the connection, leaves the counts as they were.
+///
+/// It does nothing: its contract is a law of the definitions.
+pub fn fed_in_pieces()
+    ensures pieces { (old middle new : Standing) (bytes p q : List ℕ) (first second : Progress) → FedAt old.stage old bytes p first middle →
+        FedAt middle.stage middle (unanswered middle.stage (bytes ++ p)) q second new →
+        (whole : Progress) × FedAt old.stage old bytes (p ++ q) whole new }
+    ensures failed { (old new : Standing) (bytes p : List ℕ) (fault : AttemptFault) → FedAt old.stage old bytes p (Failed fault) new → new.counts ≡ old.counts }
+    ensures cut { (old new : Standing) (fault : AttemptFault) → CutAt old.stage old (Failed fault) new → new.counts ≡ old.counts }
 {}

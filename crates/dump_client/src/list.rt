@@ -1,4 +1,4 @@
-ghost use Rattle.std.specs.Prelude.{◌≡◌, ◌*◌, ◌<◌, IsTrue, [], length, get_or, false};
+ghost use Rattle.std.specs.Prelude.{◌≡◌, ℕ, ◌*◌, ◌<◌, IsTrue, [], length, get_or, false};
 ghost use Rattle.std.proofs.Common.{sym, ◌∙◌};
 ghost use Rattle.dump_client.specs.Blocks.{HasBlock, AreBlocksOf, ListedRead, cut_blocks, listed};
 
@@ -31,9 +31,12 @@ impl Model for ListBlocks {
 impl ListBlocks {
     /// This payload as so many blocks of `block_bytes` bytes, as many as it has bytes for and no more. No read fails
     /// until `trouble` says so.
+    #[tactic(auto, using(crate::proofs::Cut::length_cut, crate::proofs::Cut::size_cut))]
     pub fn new(payload: Vec<u8>, block_bytes: usize, blocks: u32) -> ListBlocks
         requires { length payload.items ≡ blocks * block_bytes }
-        ensures { result ≡ listed (cut_blocks blocks block_bytes payload.items) false 0 }
+        ensures listed { result ≡ listed (cut_blocks blocks block_bytes payload.items) false 0 }
+        ensures blocks { length result.blocks ≡ blocks }
+        ensures sizes { (n : ℕ) → n < blocks → length (get_or result.blocks n []) ≡ block_bytes }
     {
         ListBlocks {
             payload,

@@ -16,7 +16,7 @@ const LAST_LEVEL: u64 = 9;
 
 /// What a dump is (dump(8)): of a file system, at a level, at a date, building on that of a lower level, to a drive,
 /// in blocks of one size. Its texts stand in fixed rows, so that it takes no memory.
-#[derive(Drop)]
+#[derive(Clone, Drop)]
 pub struct Run {
     device: Row,
     name: Row,

@@ -11,26 +11,26 @@ use Rattle.dump_client.proofs.request.push_step.Goals as goal
 pub returns-in-Open-clause-appended : goal.returns-in-Open-clause-appended
 returns-in-Open-clause-appended g c =
     appended_at (g.B.Blocks.holds c.args.source.now) c.args.ledger.now.at c.args.step steps.Open (Open c.run.result.now.device 2) (vec_capacity c.args.out.now) c.args.out.now.items
-    c.push_open.result c.push_open.new.out.items c.in-Open.is (ap (λ r. Open r.device 2) c.run.ensures) c.push_open.ensures
+    c.push_open.result c.push_open.new.out.items c.in-Open.is (λ payload t. ap (λ r. Open r.device 2) c.run.ensures, ap (λ r. Open r.device 2) c.run.ensures) c.push_open.ensures
 
 -- src/request.rt:27:1
 pub returns-in-Rewind-clause-appended : goal.returns-in-Rewind-clause-appended
 returns-in-Rewind-clause-appended g c =
     appended_at (g.B.Blocks.holds c.args.source.now) c.args.ledger.now.at c.args.step steps.Rewind (Op 5 1) (vec_capacity c.args.out.now) c.args.out.now.items
-    c.push_op.result c.push_op.new.out.items c.in-Rewind.is refl c.push_op.ensures
+    c.push_op.result c.push_op.new.out.items c.in-Rewind.is (λ payload t. refl, refl) c.push_op.ensures
 
 -- src/request.rt:27:1
 pub returns-in-Label-clause-appended : goal.returns-in-Label-clause-appended
 returns-in-Label-clause-appended g c =
     let at = checkpoint_of c.args.ledger.now.at.counts in
     appended_at (g.B.Blocks.holds c.args.source.now) c.args.ledger.now.at c.args.step steps.Label (Write (labels.label c.args.ledger.now.at.run at.0 at.1)) (vec_capacity c.args.out.now)
-    c.args.out.now.items c.push_label.result c.push_label.new.out.items c.in-Label.is refl c.push_label.ensures
+    c.args.out.now.items c.push_label.result c.push_label.new.out.items c.in-Label.is (λ payload t. refl, refl) c.push_label.ensures
 
 -- src/request.rt:27:1
 pub returns-in-Ok-clause-appended : goal.returns-in-Ok-clause-appended
 returns-in-Ok-clause-appended g c =
     appended_at (g.B.Blocks.holds c.args.source.now) c.args.ledger.now.at c.args.step (steps.Block c.in-Block.number) (Write c.read.new.into) (vec_capacity c.args.out.now) c.args.out.now.items
-    c.push.result c.push.new.out.items c.in-Block.is (c.read.new.into, refl, c.read.auto.into ∙ c.requires.size, c.in-Ok.ensures.given) c.push.ensures
+    c.push.result c.push.new.out.items c.in-Block.is (λ payload t. ap Write (c.in-Ok.ensures.given payload t), (c.read.new.into, refl, c.read.auto.into ∙ c.requires.size)) c.push.ensures
 
 -- src/request.rt:27:1
 pub returns-in-Ok-clause-read : goal.returns-in-Ok-clause-read
@@ -49,10 +49,10 @@ returns-in-Err-clause-read g c =
 pub returns-in-Mark-clause-appended : goal.returns-in-Mark-clause-appended
 returns-in-Mark-clause-appended g c =
     appended_at (g.B.Blocks.holds c.args.source.now) c.args.ledger.now.at c.args.step (steps.Mark c.in-Mark.field-0) (Op 0 1) (vec_capacity c.args.out.now) c.args.out.now.items
-    c.push_op-in-Mark.result c.push_op-in-Mark.new.out.items c.in-Mark.is refl c.push_op-in-Mark.ensures
+    c.push_op-in-Mark.result c.push_op-in-Mark.new.out.items c.in-Mark.is (λ payload t. refl, refl) c.push_op-in-Mark.ensures
 
 -- src/request.rt:27:1
 pub returns-in-Unload-clause-appended : goal.returns-in-Unload-clause-appended
 returns-in-Unload-clause-appended g c =
     appended_at (g.B.Blocks.holds c.args.source.now) c.args.ledger.now.at c.args.step (steps.Unload c.in-Unload.field-0) (Op 6 1) (vec_capacity c.args.out.now) c.args.out.now.items
-    c.push_op-in-Unload.result c.push_op-in-Unload.new.out.items c.in-Unload.is refl c.push_op-in-Unload.ensures
+    c.push_op-in-Unload.result c.push_op-in-Unload.new.out.items c.in-Unload.is (λ payload t. refl, refl) c.push_op-in-Unload.ensures
