@@ -1,7 +1,9 @@
-//! The client's side of a dump to a remote tape (dump(8), rmt(8)): what a run is, and where its blocks come from.
+//! The client's side of a dump to a remote tape (dump(8), rmt(8)): the requests that write a run's volumes, what the
+//! replies lead to, and when a volume is counted.
 //!
 //! `Run` says what is dumped, to which drive, and in how many blocks. `Blocks` is where these are read from, and
-//! `ListBlocks` has them in memory.
+//! `ListBlocks` has them in memory. `Client` makes the requests of one attempt after the other and hears the replies: it
+//! counts a volume at the reply to MTOFFL, and by nothing else. It carries no bytes itself.
 #![tactic(auto)]
 
 mod blocks;

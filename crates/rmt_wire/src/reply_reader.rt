@@ -145,9 +145,9 @@ impl ReplyReader {
     /// waited for any more. None means that the bytes pushed so far are a beginning of it; then there is room for more.
     /// None is also the answer where nothing is waited for and no byte was pushed.
     ///
-    /// A fault is known at the first byte that rules every reply out, and is answered for good: `NotAReply`,
-    /// `BadNumber`, or `TooMuchData` for a number of data bytes that is more than was wanted. Where nothing is waited
-    /// for, any byte is `TooMuchData`.
+    /// A fault is known at the first byte that rules every reply out, and is answered for good, until `clear`:
+    /// `NotAReply`, `BadNumber`, or `TooMuchData` for a number of data bytes that is more than was wanted. Where nothing
+    /// is waited for, any byte is `TooMuchData`.
     pub fn next(&mut self) -> Result<Option<Reply<'_>>, WireFault>
         ensures* rests { sem 𝓛 (Rests the_row self.entry (λ new. IsNext self.old (told result) new)) }
         ensures for_good { StaysFaulty self.old (told result) }
