@@ -6,4 +6,5 @@ pub mod Position
 pub mod Listening
 pub mod Standing
 pub mod Lawful
+pub mod Replies
 pub mod Client

@@ -1,4 +1,4 @@
-ghost use Rattle.std.specs.Prelude.{◌≡◌, ◌≢◌, ◌⊎◌, ℕ, List, ◌++◌};
+ghost use Rattle.std.specs.Prelude.{◌≡◌, ◌≢◌, ◌⊎◌, ℕ, ◌-◌, ◌<◌, ◌≤◌, List, ◌++◌};
 ghost use Rattle.rmt_wire.specs.Reply.{PlainReply};
 ghost use Rattle.dump_client.specs.Run.{PlainRun, IsRun};
 ghost use Rattle.dump_client.specs.Script.{IsCount, request_of, steps_of};
@@ -8,9 +8,10 @@ ghost use Rattle.dump_client.specs.Standing.{Standing, FedAt, CutAt, checkpoint_
 ghost use Rattle.dump_client.specs.Client.{unanswered};
 ghost use Rattle.dump_client.specs.declared.step.Step.{Step};
 ghost use Rattle.dump_client.specs.Lawful.{IsLawful, StandsAt, request_at};
+ghost use Rattle.dump_client.specs.Replies.{Granted, led_by};
 ghost use Rattle.dump_client.specs.declared.count.VolumeCount.{VolumeCount};
-ghost use Rattle.dump_client.specs.declared.step.Step.TheVariants.{Close};
-ghost use Rattle.dump_client.specs.declared.outcome.Outcome.TheVariants.{Fails, Ended};
+ghost use Rattle.dump_client.specs.declared.step.Step.TheVariants.{Open, Close};
+ghost use Rattle.dump_client.specs.declared.outcome.Outcome.TheVariants.{GoesOn, Fails, Counted, Ended};
 ghost use Rattle.dump_client.specs.declared.stage.Progress.{Progress};
 ghost use Rattle.dump_client.specs.declared.stage.Progress.TheVariants.{Failed};
 ghost use Rattle.dump_client.specs.declared.fault.AttemptFault.{AttemptFault};
@@ -23,6 +24,20 @@ ghost use Rattle.dump_client.specs.declared.fault.AttemptFault.TheVariants.{Botc
 pub fn wanted_replies()
     ensures next { (run : PlainRun) (first count : ℕ) → IsRun run → IsCount run first count → Follows run first (steps_of run first count) }
     ensures others { (run : PlainRun) (first : ℕ) (step : Step) (reply : PlainReply) → IsWantedAt run first step reply ⊎ IsFailure (after_reply run first step reply) }
+{}
+
+/// The replies that led from the open to a step are those that the script of a volume of so many blocks wants before it, one
+/// to each of its steps, and the step is the script's next. From the mark on so many blocks are those from the first up to the
+/// one that the volume ends before, and it is these that are counted at the reply to MTOFFL.
+///
+/// It does nothing: its contract is a law of the definitions.
+pub fn granted_replies()
+    ensures on_the_way { (run : PlainRun) (first : ℕ) (step : Step) (replies : List PlainReply) →
+        first ≤ run.blocks → (first < run.blocks) ⊎ (run.blocks ≡ 0) → led_by run first Open replies ≡ GoesOn step →
+        (count : ℕ) × Granted run first first count step replies }
+    ensures counted { (run : PlainRun) (first next : ℕ) (replies : List PlainReply) →
+        first ≤ run.blocks → (first < run.blocks) ⊎ (run.blocks ≡ 0) → led_by run first Open replies ≡ Counted next →
+        Granted run first next (next - first) Close replies }
 {}
 
 /// A client in an attempt stands at a position of its volume. What it holds says what was sent, which begins the script of a
