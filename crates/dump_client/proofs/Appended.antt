@@ -31,12 +31,12 @@ appended_at told at step this request capacity before result now same is h =
     subst (λ s. AppendedBy told at s capacity before result now) (sym same) (appended told at this request capacity before result now is h)
 
 -- a block that was read
-pub block_read : (B : Type 0) (reads : B → ℕ → List ℕ → Result Unit SourceFailed → B → List ℕ → Type 0) (step : Step) (number : ℕ) (old new : B) (into given : List ℕ) (read : Result Unit SourceFailed)
+pub block_read : (B : Type 0) (size : ℕ) (reads : B → ℕ → List ℕ → Result Unit SourceFailed → B → List ℕ → Type 0) (step : Step) (number : ℕ) (old new : B) (into given : List ℕ) (read : Result Unit SourceFailed)
     (capacity : ℕ) (before : List ℕ) (result : Result Unit AttemptFault) (now : List ℕ)
-    → step ≡ Block number → reads old number into read new given → read ≡ Ok tt → IsPushed (Write given) capacity before result now → ReadBy {B = B} {T = Unit {0}} step reads old before result new now
-block_read B reads step number old new into given read capacity before result now same h done pushed =
-    subst (λ s. ReadBy {B = B} {T = Unit {0}} s reads old before result new now) (sym same)
-    (into, given, read, h, subst (λ r. is_source_fault result ≡ has_failed r) (sym done) (no_fault result pushed), was_given result pushed)
+    → step ≡ Block number → length into ≡ size → reads old number into read new given → read ≡ Ok tt → IsPushed (Write given) capacity before result now → ReadBy {B = B} {T = Unit {0}} step size reads old before result new now
+block_read B size reads step number old new into given read capacity before result now same long h done pushed =
+    subst (λ s. ReadBy {B = B} {T = Unit {0}} s size reads old before result new now) (sym same)
+    (into, given, read, long, h, subst (λ r. is_source_fault result ≡ has_failed r) (sym done) (no_fault result pushed), was_given result pushed)
   where
     no_fault : (r : Result Unit AttemptFault) → IsPushed (Write given) capacity before r now → is_source_fault r ≡ false
     no_fault (Ok x) p = refl
@@ -47,9 +47,9 @@ block_read B reads step number old new into given read capacity before result no
     was_given (Err fault) p = tt
 
 -- a block that could not be read
-pub block_failed : (B : Type 0) (reads : B → ℕ → List ℕ → Result Unit SourceFailed → B → List ℕ → Type 0) (step : Step) (number : ℕ) (old new : B) (into given : List ℕ) (read : Result Unit SourceFailed)
-    (failed : SourceFailed) (before now : List ℕ) → step ≡ Block number → reads old number into read new given → read ≡ Err failed
-    → ReadBy {B = B} {T = Unit {0}} step reads old before (Err SourceFault) new now
-block_failed B reads step number old new into given read failed before now same h failing =
-    subst (λ s. ReadBy {B = B} {T = Unit {0}} s reads old before (Err SourceFault) new now) (sym same)
-    (into, given, read, h, subst (λ r. true ≡ has_failed r) (sym failing) refl, tt)
+pub block_failed : (B : Type 0) (size : ℕ) (reads : B → ℕ → List ℕ → Result Unit SourceFailed → B → List ℕ → Type 0) (step : Step) (number : ℕ) (old new : B) (into given : List ℕ) (read : Result Unit SourceFailed)
+    (failed : SourceFailed) (before now : List ℕ) → step ≡ Block number → length into ≡ size → reads old number into read new given → read ≡ Err failed
+    → ReadBy {B = B} {T = Unit {0}} step size reads old before (Err SourceFault) new now
+block_failed B size reads step number old new into given read failed before now same long h failing =
+    subst (λ s. ReadBy {B = B} {T = Unit {0}} s size reads old before (Err SourceFault) new now) (sym same)
+    (into, given, read, long, h, subst (λ r. true ≡ has_failed r) (sym failing) refl, tt)

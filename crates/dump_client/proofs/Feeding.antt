@@ -62,15 +62,15 @@ fed_anew stage new_stage step r new_reader bytes at then_at expects h =
     (λ k. subst (λ b. IsWaiting new_reader b) (sym k.1) (waiting_anew new_reader (expects k.0))) h)
 
 -- what is read is told of an answer with a truth value as of one without
-pub read_done : (B : Type 0) (reads : B → ℕ → List ℕ → Result Unit SourceFailed → B → List ℕ → Type 0) (step : Step) (old new : B) (before now : List ℕ)
-    → ReadBy {B = B} {T = Unit {0}} step reads old before (Ok tt) new now → ReadBy {B = B} {T = Bool} step reads old before (Ok true) new now
-read_done B reads Open old new before now h = h
-read_done B reads Rewind old new before now h = h
-read_done B reads Label old new before now h = h
-read_done B reads (Block number) old new before now h = h
-read_done B reads (Mark next) old new before now h = h
-read_done B reads (Unload next) old new before now h = h
-read_done B reads Close old new before now h = h
+pub read_done : (B : Type 0) (size : ℕ) (reads : B → ℕ → List ℕ → Result Unit SourceFailed → B → List ℕ → Type 0) (step : Step) (old new : B) (before now : List ℕ)
+    → ReadBy {B = B} {T = Unit {0}} step size reads old before (Ok tt) new now → ReadBy {B = B} {T = Bool} step size reads old before (Ok true) new now
+read_done B size reads Open old new before now h = h
+read_done B size reads Rewind old new before now h = h
+read_done B size reads Label old new before now h = h
+read_done B size reads (Block number) old new before now h = h
+read_done B size reads (Mark next) old new before now h = h
+read_done B size reads (Unload next) old new before now h = h
+read_done B size reads Close old new before now h = h
 
 same_fault : (fault : AttemptFault) → is_source_fault {T = Bool} (Err fault) ≡ is_source_fault {T = Unit {0}} (Err fault)
 same_fault (Refused n) = refl
@@ -81,15 +81,15 @@ same_fault ReelTooSmall = refl
 same_fault SourceFault = refl
 same_fault OutOfMemory = refl
 
-pub read_failed : (B : Type 0) (reads : B → ℕ → List ℕ → Result Unit SourceFailed → B → List ℕ → Type 0) (step : Step) (old new : B) (before now : List ℕ) (fault : AttemptFault)
-    → ReadBy {B = B} {T = Unit {0}} step reads old before (Err fault) new now → ReadBy {B = B} {T = Bool} step reads old before (Err fault) new now
-read_failed B reads Open old new before now fault h = h
-read_failed B reads Rewind old new before now fault h = h
-read_failed B reads Label old new before now fault h = h
-read_failed B reads (Block number) old new before now fault h = (h.0, h.1, h.2, h.3, same_fault fault ∙ h.4, tt)
-read_failed B reads (Mark next) old new before now fault h = h
-read_failed B reads (Unload next) old new before now fault h = h
-read_failed B reads Close old new before now fault h = h
+pub read_failed : (B : Type 0) (size : ℕ) (reads : B → ℕ → List ℕ → Result Unit SourceFailed → B → List ℕ → Type 0) (step : Step) (old new : B) (before now : List ℕ) (fault : AttemptFault)
+    → ReadBy {B = B} {T = Unit {0}} step size reads old before (Err fault) new now → ReadBy {B = B} {T = Bool} step size reads old before (Err fault) new now
+read_failed B size reads Open old new before now fault h = h
+read_failed B size reads Rewind old new before now fault h = h
+read_failed B size reads Label old new before now fault h = h
+read_failed B size reads (Block number) old new before now fault h = (h.0, h.1, h.2, h.3, h.4, same_fault fault ∙ h.5, tt)
+read_failed B size reads (Mark next) old new before now fault h = h
+read_failed B size reads (Unload next) old new before now fault h = h
+read_failed B size reads Close old new before now fault h = h
 
 -- a row of bytes that was written over has its length still
 pub length_over : (len : ℕ) (new old : List ℕ) (n : ℕ) → len ≡ n → length new ≡ n → length (take len (new ++ drop (length new) old)) ≡ n

@@ -94,7 +94,6 @@ abbrev pub is_source_fault : {T : Type 0} → Result T AttemptFault → Bool
 is_source_fault (Err SourceFault) = true
 is_source_fault result = false
 
--- the source was read where a block was asked for, and then by this read; that is the fault, where it failed
 abbrev pub has_failed : Result Unit SourceFailed → Bool
 has_failed (Ok x) = false
 has_failed (Err failed) = true
@@ -104,15 +103,17 @@ abbrev pub IsGiven : {T : Type 0} → List ℕ → Result T AttemptFault → Lis
 IsGiven before (Ok x) now given = now ≡ before ++ request_text (Write given)
 IsGiven before (Err fault) now given = Unit {0}
 
-abbrev pub ReadBy : {B T : Type 0} → Step → (B → ℕ → List ℕ → Result Unit SourceFailed → B → List ℕ → Type 0) → B → List ℕ → Result T AttemptFault → B → List ℕ → Type 0
-ReadBy {B} {T} (Block number) reads old before result new now =
-    (into : List ℕ) × (given : List ℕ) × (read : Result Unit SourceFailed) × reads old number into read new given × (is_source_fault result ≡ has_failed read)
-    × IsGiven before result now given
-ReadBy {B} {T} step reads old before result new now = new ≡ old
+-- Where a block was asked for the source was read once, into room for a block, and what it gave was appended, or its failure is the
+-- fault. Nothing else was done with the source.
+abbrev pub ReadBy : {B T : Type 0} → Step → ℕ → (B → ℕ → List ℕ → Result Unit SourceFailed → B → List ℕ → Type 0) → B → List ℕ → Result T AttemptFault → B → List ℕ → Type 0
+ReadBy {B} {T} (Block number) size reads old before result new now =
+    (into : List ℕ) × (given : List ℕ) × (read : Result Unit SourceFailed) × (length into ≡ size) × reads old number into read new given
+    × (is_source_fault result ≡ has_failed read) × IsGiven before result now given
+ReadBy {B} {T} step size reads old before result new now = new ≡ old
 
-abbrev pub ReadAt : {B : Type 0} → Stage → (B → ℕ → List ℕ → Result Unit SourceFailed → B → List ℕ → Type 0) → B → List ℕ → Result Bool AttemptFault → B → List ℕ → Type 0
-ReadAt {B} (ToSend step) reads old before result new now = ReadBy step reads old before result new now
-ReadAt {B} stage reads old before result new now = new ≡ old
+abbrev pub ReadAt : {B : Type 0} → Stage → ℕ → (B → ℕ → List ℕ → Result Unit SourceFailed → B → List ℕ → Type 0) → B → List ℕ → Result Bool AttemptFault → B → List ℕ → Type 0
+ReadAt {B} (ToSend step) size reads old before result new now = ReadBy step size reads old before result new now
+ReadAt {B} stage size reads old before result new now = new ≡ old
 
 -- a failed read of the source is counted, and no other
 abbrev pub failures_after : {T : Type 0} → Result T AttemptFault → ℕ → ℕ

@@ -25,7 +25,7 @@ use Rattle.dump_client.specs.declared.fault.StartFault.TheVariants.{WrongState, 
 use Rattle.dump_client.specs.declared.stage.Answer.{Answer}
 use Rattle.dump_client.specs.declared.stage.Answer.TheVariants.{Retry, Abandon}
 
--- the run, the volumes that are counted, and the stage: all that a client's requests and counts depend on
+-- the run, the volumes that are counted, and the stage
 pub record Standing : Type 0 where
   pub run : PlainRun
   pub counts : List VolumeCount

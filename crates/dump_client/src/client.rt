@@ -1,5 +1,5 @@
 //! The client: one attempt after the other, and what they count.
-ghost use Rattle.std.specs.Prelude.{◌≡◌, ◌↔◌, ℕ, ◌++◌, ◌+◌, ◌<◌, true, List, [], length, IfOk, OnOk};
+ghost use Rattle.std.specs.Prelude.{◌≡◌, ◌↔◌, ℕ, ◌++◌, ◌+◌, ◌<◌, true, List, [], length, IfOk, OnErr, OnOk};
 ghost use Rattle.std.specs.Vec.{vec_capacity};
 ghost use Rattle.dump_client.specs.Blocks.{listed};
 ghost use Rattle.dump_client.specs.Standing.{standing, state_of, checkpoint_of, StartedAt, AnsweredAt, FedAt, CutAt};
@@ -23,8 +23,9 @@ use std::marker::Model;
 /// Dumps a run to a remote tape: it makes the requests of one attempt after the other, each of which writes one volume
 /// on a connection of its own, hears the replies, and counts the volumes that are written whole (rmt(8), dump(8)).
 ///
-/// A volume is counted when the reply to MTOFFL has come, and by nothing else. An attempt that fails leaves the counts
-/// and the checkpoint as they were. Contracts see where the client stands, its source, and what it keeps of the replies.
+/// A volume is counted when MTOFFL was answered as done, and by nothing else. An attempt that fails leaves the counts
+/// and the checkpoint as they were. Contracts see where the client stands, its source, what it keeps of the replies, and
+/// for how many more counts it has room.
 #[derive(Drop)]
 pub struct Client<B: Blocks> {
     ledger: Ledger,
@@ -51,7 +52,8 @@ impl<B: Blocks + Drop> Client<B> {
     /// It reserves `rmt_wire::READER_LIMIT` bytes for replies and a block, and fails only where these are refused.
     pub fn new(alloc: Global, run: Run, source: B) -> Result<Client<B>, AllocError>
         requires { (payload : List (List ℕ)) → B.holds source payload → IsPayload run payload }
-        ensures made { IfOk result (λ c. (c.at ≡ standing run [] stages.Ready) × (c.source ≡ source)) }
+        ensures made { IfOk result (λ c. c.at ≡ standing run [] stages.Ready) }
+        ensures given { IfOk result (λ c. c.source ≡ source) }
     {
         let block = Vec::from_elem(alloc, 0u8, run.block_bytes())?;
         Ok(Client {
@@ -110,6 +112,7 @@ impl<B: Blocks> Client<B> {
         ensures fed { (bytes : List ℕ) → HasFed self.old bytes → HasFed self.new bytes }
         ensures same_source { self.new.source ≡ self.old.source }
         ensures room { OnOk result (0 < self.new.room) }
+        ensures same_room { OnErr result (self.new.room ≡ self.old.room) }
     {
         self.ledger.start()?;
         self.reader.clear();
@@ -124,7 +127,7 @@ impl<B: Blocks> Client<B> {
     /// At the close, which comes after the count, that is no fault: it answers false, and the attempt is over.
     pub fn next_request(&mut self, out: &mut Vec<u8>) -> Result<bool, AttemptFault>
         ensures asked { AskedAt self.old.at.stage (B.holds self.old.source) self.old.at (vec_capacity out.old) out.old.items result out.new.items self.new.at }
-        ensures read { ReadAt self.old.at.stage B.reads self.old.source out.old.items result self.new.source out.new.items }
+        ensures read { ReadAt self.old.at.stage self.old.at.run.block_bytes B.reads self.old.source out.old.items result self.new.source out.new.items }
         ensures same_blocks { (payload : List (List ℕ)) → B.holds self.old.source payload ↔ B.holds self.new.source payload }
         ensures counted { B.failures self.new.source ≡ failures_after result (B.failures self.old.source) }
         ensures able { is_source_fault result ≡ true → B.can_fail self.old.source }
@@ -203,7 +206,8 @@ impl Client<ListBlocks> {
     /// Sets whether reads of the payload fail from now on, until it is set again.
     pub fn source_trouble(&mut self, fails: bool)
         ensures source { self.new.source ≡ listed self.old.source.blocks fails self.old.source.failures }
-        ensures same { (self.new.at ≡ self.old.at) × (self.new.room ≡ self.old.room) × (self.new.reader ≡ self.old.reader) }
+        ensures same { self.new.at ≡ self.old.at }
+        ensures same_room { self.new.room ≡ self.old.room }
         ensures fed { (bytes : List ℕ) → HasFed self.old bytes → HasFed self.new bytes }
     {
         self.source.trouble(fails);

@@ -1,5 +1,5 @@
 //! The run, what is counted of it, and the stage: what a client's requests and counts depend on.
-ghost use Rattle.std.specs.Prelude.{◌≡◌, ℕ, ◌+◌, ◌<◌, false, List, [], length, OnOk, None};
+ghost use Rattle.std.specs.Prelude.{◌≡◌, ℕ, ◌+◌, ◌<◌, false, List, [], length, OnErr, OnOk, None};
 ghost use Rattle.rmt_wire.specs.Reply.{PlainReply};
 ghost use Rattle.rmt_wire.specs.ReplyReader as readers;
 ghost use Rattle.rmt_wire.specs.ReplyReader.{Unread};
@@ -86,6 +86,7 @@ impl Ledger {
     pub(crate) fn start(&mut self) -> Result<(), StartFault>
         ensures started { StartedAt self.old.at.stage self.old.at self.old.room result self.new.at }
         ensures room { OnOk result (0 < self.new.room) }
+        ensures same_room { OnErr result (self.new.room ≡ self.old.room) }
     {
         if self.stage != Stage::Ready {
             return Err(StartFault::WrongState);

@@ -3,7 +3,7 @@
 //!
 //! `Run` says what is dumped, to which drive, and in how many blocks. `Blocks` is where these are read from, and
 //! `ListBlocks` has them in memory. `Client` makes the requests of one attempt after the other and hears the replies: it
-//! counts a volume at the reply to MTOFFL, and by nothing else. It carries no bytes itself.
+//! counts a volume when MTOFFL was answered as done, and by nothing else. It carries no bytes itself.
 #![tactic(auto)]
 
 mod blocks;

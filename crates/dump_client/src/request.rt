@@ -38,7 +38,7 @@ pub(crate) fn push_step<B: Blocks>(
     requires size { length block.old ≡ ledger.now.at.run.block_bytes }
     requires payload { (payload : List (List ℕ)) → B.holds source.old payload → IsPayload ledger.now.at.run payload }
     ensures appended { AppendedBy (B.holds source.old) ledger.now.at step (vec_capacity out.old) out.old.items result out.new.items }
-    ensures read { ReadBy step B.reads source.old out.old.items result source.new out.new.items }
+    ensures read { ReadBy step ledger.now.at.run.block_bytes B.reads source.old out.old.items result source.new out.new.items }
     ensures same_blocks { (payload : List (List ℕ)) → B.holds source.old payload ↔ B.holds source.new payload }
     ensures counted { B.failures source.new ≡ failures_after result (B.failures source.old) }
     ensures able { is_source_fault result ≡ true → B.can_fail source.old }

@@ -4,7 +4,7 @@ use rmt_wire::LINE_LIMIT;
 use std::marker::Model;
 
 // A text of at most so many bytes as a line has, which takes no memory.
-#[derive(Clone, Drop)]
+#[derive(Drop)]
 pub(crate) struct Row {
     bytes: [u8; LINE_LIMIT],
     end: usize,

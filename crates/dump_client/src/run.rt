@@ -1,11 +1,12 @@
-ghost use Rattle.std.specs.Prelude.{◌≡◌, ◌≤◌, ◌↔◌, IsTrue, IfOk, MatchResult};
+ghost use Rattle.std.specs.Prelude.{◌≡◌, ◌≤◌, ◌↔◌, IsTrue, IfOk, MatchResult, Ok};
 ghost use Rattle.dumpdates.specs.Entry.{IsName, last_second};
-ghost use Rattle.dump_client.specs.Run.{IsDevice, IsRun, IsFirstBroken, plain_run};
+ghost use Rattle.dump_client.specs.Run.{IsDevice, IsBlockSize, IsRun, IsFirstBroken, plain_run};
 
 use crate::RunFault;
 use crate::row::Row;
 use dumpdates::{Entry, LAST_SECOND};
 use rmt_wire::{DATA_LIMIT, LINE_LIMIT, NUMBER_LIMIT};
+use std::alloc::AllocError;
 use std::marker::Model;
 
 /// The most blocks of a run.
@@ -16,7 +17,7 @@ const LAST_LEVEL: u64 = 9;
 
 /// What a dump is (dump(8)): of a file system, at a level, at a date, building on that of a lower level, to a drive,
 /// in blocks of one size. Its texts stand in fixed rows, so that it takes no memory.
-#[derive(Clone, Drop)]
+#[derive(Drop)]
 pub struct Run {
     device: Row,
     name: Row,
@@ -35,6 +36,23 @@ impl Model for Run {
     ghost view = { λ r. plain_run r.device r.name r.level r.date r.since r.block_bytes r.blocks };
 
     ghost invariant = { λ r. IsRun (plain_run r.device r.name r.level r.date r.since r.block_bytes r.blocks) };
+}
+
+impl Clone for Run {
+    /// The same run. It takes no memory, and never fails.
+    fn clone(&self) -> Result<Run, AllocError>
+        ensures { result ≡ Ok self.now }
+    {
+        Ok(Run {
+            device: Row::new(self.device.as_slice()),
+            name: Row::new(self.name.as_slice()),
+            level: self.level,
+            date: self.date,
+            since: self.since,
+            block_bytes: self.block_bytes,
+            blocks: self.blocks,
+        })
+    }
 }
 
 /// Whether the bytes are a device: 1 to 255 of them, and none a line feed.
@@ -137,14 +155,16 @@ impl Run {
 
     /// The bytes of a block.
     pub fn block_bytes(&self) -> usize
-        ensures { result ≡ self.now.block_bytes }
+        ensures told { result ≡ self.now.block_bytes }
+        ensures limits { IsBlockSize self.now.block_bytes }
     {
         self.block_bytes
     }
 
     /// The number of blocks.
     pub fn blocks(&self) -> u32
-        ensures { result ≡ self.now.blocks }
+        ensures told { result ≡ self.now.blocks }
+        ensures limit { self.now.blocks ≤ BLOCKS_LIMIT }
     {
         self.blocks
     }

@@ -93,7 +93,7 @@ impl ReplyReader {
     /// bytes.
     ///
     /// No fault is cleared: where bytes were pushed while nothing was waited for, nothing is waited for after the call
-    /// either, and `next` answers `TooMuchData` for good.
+    /// either, and `next` answers `TooMuchData` until `clear`.
     pub fn expect(&mut self, wanted: Wanted)
         requires given { self.old.wanted ≡ None }
         requires within { IsWithin (plain_wanted wanted) }

@@ -35,15 +35,15 @@ returns-in-Ok-clause-appended g c =
 -- src/request.rt:27:1
 pub returns-in-Ok-clause-read : goal.returns-in-Ok-clause-read
 returns-in-Ok-clause-read g c =
-    block_read g.row.B.Denot g.B.Blocks.reads c.args.step c.in-Block.number c.args.source.now c.read.new.self c.args.block.now c.read.new.into c.read.result
-    (vec_capacity c.args.out.now) c.args.out.now.items c.push.result c.push.new.out.items c.in-Block.is c.read.ensures.read c.in-Ok.is c.push.ensures
+    block_read g.row.B.Denot c.args.ledger.now.at.run.block_bytes g.B.Blocks.reads c.args.step c.in-Block.number c.args.source.now c.read.new.self c.args.block.now c.read.new.into c.read.result
+    (vec_capacity c.args.out.now) c.args.out.now.items c.push.result c.push.new.out.items c.in-Block.is c.requires.size c.read.ensures.read c.in-Ok.is c.push.ensures
 
 -- src/request.rt:27:1
 pub returns-in-Err-clause-read : goal.returns-in-Err-clause-read
 returns-in-Err-clause-read g c =
-    block_failed g.row.B.Denot g.B.Blocks.reads c.args.step c.in-Block.number c.args.source.now c.read.new.self c.args.block.now c.read.new.into c.read.result c.in-Err.field-0
+    block_failed g.row.B.Denot c.args.ledger.now.at.run.block_bytes g.B.Blocks.reads c.args.step c.in-Block.number c.args.source.now c.read.new.self c.args.block.now c.read.new.into c.read.result c.in-Err.field-0
     c.args.out.now.items c.args.out.now.items c.in-Block.is
-    c.read.ensures.read c.in-Err.is
+    c.requires.size c.read.ensures.read c.in-Err.is
 
 -- src/request.rt:27:1
 pub returns-in-Mark-clause-appended : goal.returns-in-Mark-clause-appended

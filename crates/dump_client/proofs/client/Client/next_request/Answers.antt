@@ -15,9 +15,9 @@ invariant_of-self g c =
 -- src/client.rt:123:5
 pub returns-in-Ok-clause-read : goal.returns-in-Ok-clause-read
 returns-in-Ok-clause-read g c =
-    subst (λ h. ReadAt h.at.stage g.B.Blocks.reads h.source c.args.out.now.items (Ok true) c.push_step.new.source c.push_step.new.out.items) c.self.view_is
-    (subst (λ s. ReadAt s g.B.Blocks.reads c.self.inside.source c.args.out.now.items (Ok true) c.push_step.new.source c.push_step.new.out.items) c.in-ToSend.ensures.value
-    (read_done g.row.B.Denot g.B.Blocks.reads c.in-ToSend.step c.self.inside.source c.push_step.new.source c.args.out.now.items c.push_step.new.out.items c.in-Ok.ensures.read))
+    subst (λ h. ReadAt h.at.stage h.at.run.block_bytes g.B.Blocks.reads h.source c.args.out.now.items (Ok true) c.push_step.new.source c.push_step.new.out.items) c.self.view_is
+    (subst (λ s. ReadAt s c.self.inside.ledger.at.run.block_bytes g.B.Blocks.reads c.self.inside.source c.args.out.now.items (Ok true) c.push_step.new.source c.push_step.new.out.items) c.in-ToSend.ensures.value
+    (read_done g.row.B.Denot c.self.inside.ledger.at.run.block_bytes g.B.Blocks.reads c.in-ToSend.step c.self.inside.source c.push_step.new.source c.args.out.now.items c.push_step.new.out.items c.in-Ok.ensures.read))
 
 -- src/client.rt:123:5
 pub returns-in-Ok-clause-fed : goal.returns-in-Ok-clause-fed
@@ -28,6 +28,6 @@ returns-in-Ok-clause-fed g c =
 -- src/client.rt:123:5
 pub returns-in-Err-2-clause-read : goal.returns-in-Err-2-clause-read
 returns-in-Err-2-clause-read g c =
-    subst (λ h. ReadAt h.at.stage g.B.Blocks.reads h.source c.args.out.now.items (Err c.in-Err.field-0) c.push_step.new.source c.push_step.new.out.items) c.self.view_is
-    (subst (λ s. ReadAt s g.B.Blocks.reads c.self.inside.source c.args.out.now.items (Err c.in-Err.field-0) c.push_step.new.source c.push_step.new.out.items) c.in-ToSend.ensures.value
-    (read_failed g.row.B.Denot g.B.Blocks.reads c.in-ToSend.step c.self.inside.source c.push_step.new.source c.args.out.now.items c.push_step.new.out.items c.in-Err.field-0 c.in-Err.ensures.read))
+    subst (λ h. ReadAt h.at.stage h.at.run.block_bytes g.B.Blocks.reads h.source c.args.out.now.items (Err c.in-Err.field-0) c.push_step.new.source c.push_step.new.out.items) c.self.view_is
+    (subst (λ s. ReadAt s c.self.inside.ledger.at.run.block_bytes g.B.Blocks.reads c.self.inside.source c.args.out.now.items (Err c.in-Err.field-0) c.push_step.new.source c.push_step.new.out.items) c.in-ToSend.ensures.value
+    (read_failed g.row.B.Denot c.self.inside.ledger.at.run.block_bytes g.B.Blocks.reads c.in-ToSend.step c.self.inside.source c.push_step.new.source c.args.out.now.items c.push_step.new.out.items c.in-Err.field-0 c.in-Err.ensures.read))
