@@ -1,7 +1,10 @@
 mod blocks;
+mod client;
+mod client_faults;
 mod label;
 mod laws;
 mod listen;
 mod next;
 mod run;
 mod script;
+mod talk;
