@@ -202,11 +202,12 @@ fn fault_of(request: &[u8], answer: Answer) -> AttemptFault {
     }
 }
 
-/// What comes next after these answers: each script of a volume from `first` on is looked at.
+/// What comes next after these answers: each script of this volume, from `first` on, is looked at.
 pub(crate) fn comes_next(
     alloc: Global,
     run: SlowRun,
     blocks: &[&[u8]],
+    volume: u64,
     first: usize,
     answers: &[Answer],
 ) -> Result<Next, AllocError> {
@@ -217,7 +218,7 @@ pub(crate) fn comes_next(
     let mut request = Vec::new(alloc);
     let least = if blocks.is_empty() { 0 } else { 1 };
     for count in least..blocks.len().saturating_sub(first).saturating_add(1) {
-        let script = script(alloc, run, blocks, 1, first, count)?;
+        let script = script(alloc, run, blocks, volume, first, count)?;
         if wants(&script, answers) {
             return next_in(alloc, &script, answers.len(), count);
         }

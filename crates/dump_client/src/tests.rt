@@ -1,6 +1,9 @@
 mod blocks;
 mod client;
+mod client_cut;
+mod client_ends;
 mod client_faults;
+mod client_steps;
 mod label;
 mod laws;
 mod listen;

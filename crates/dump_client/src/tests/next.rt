@@ -26,7 +26,7 @@ fn check_sends(
     answers: &[Answer],
     begin: &[u8],
 ) -> Result<(), Fail> {
-    let next = comes_next(alloc, RUN, &BLOCKS, first, answers)?;
+    let next = comes_next(alloc, RUN, &BLOCKS, 1, first, answers)?;
     assert!(rt;
         matches!(&next, Next::Send(text) if text.starts_with(begin)),
         "{answers:?}"
@@ -41,7 +41,7 @@ fn check_fails(
     answers: &[Answer],
     fault: AttemptFault,
 ) -> Result<(), Fail> {
-    let next = comes_next(alloc, RUN, &BLOCKS, 0, answers)?;
+    let next = comes_next(alloc, RUN, &BLOCKS, 1, 0, answers)?;
     assert!(rt;
         matches!(next, Next::Failed(f) if f == fault),
         "{answers:?}"
@@ -72,7 +72,7 @@ fn the_end_of_a_reel(rt: HostRuntime) -> Result<(), Fail> {
         let marked = [A(0), A(1), A(1024), A(1024), A(1024), full, A(1)];
         check_sends(&rt, alloc, 0, &marked, b"I6\n1\n")?;
         let moved = [A(0), A(1), A(1024), A(1024), A(1024), full, A(1), A(1)];
-        let next = comes_next(alloc, RUN, &BLOCKS, 0, &moved)?;
+        let next = comes_next(alloc, RUN, &BLOCKS, 1, 0, &moved)?;
         assert!(rt; matches!(next, Next::Counted(2)));
     }
     Ok(())
@@ -98,7 +98,7 @@ fn answers_that_fail(rt: HostRuntime) -> Result<(), Fail> {
 fn nothing_fails_after_the_count(rt: HostRuntime) -> Result<(), Fail> {
     for answer in [A(0), E(5), A(77)] {
         let all = [A(0), A(1), A(1024), A(1), A(1), answer];
-        let next = comes_next(rt.alloc(), RUN, &[], 0, &all)?;
+        let next = comes_next(rt.alloc(), RUN, &[], 1, 0, &all)?;
         assert!(rt; matches!(next, Next::Ended), "{answer:?}");
     }
     Ok(())

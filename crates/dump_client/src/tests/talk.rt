@@ -31,6 +31,7 @@ pub(crate) struct Talk {
 }
 
 /// A client of the run with so many blocks.
+#[tactic(auto, using(crate::proofs::Cut::size_cut, crate::proofs::Cut::length_cut))]
 fn client_of(alloc: Global, blocks: u32) -> Result<Client<ListBlocks>, Fail> {
     let mut payload = Vec::new(alloc);
     for number in 0..blocks {
