@@ -3,6 +3,7 @@ mod client;
 mod client_cut;
 mod client_ends;
 mod client_faults;
+mod client_source;
 mod client_steps;
 mod label;
 mod laws;

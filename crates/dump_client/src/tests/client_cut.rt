@@ -1,5 +1,7 @@
 //! An attempt whose replies come in pieces, and one that is cut off behind each byte of them.
 
+ghost use Rattle.std.specs.Prelude.{◌<◌};
+
 use super::talk::{BLOCKS, RUN, Talk};
 use crate::slow::{Scripted, script};
 use crate::{AttemptFault, Progress, State};
@@ -79,14 +81,19 @@ impl Attempt {
     }
 
     /// It asks, and hears a reply in pieces of so many bytes.
-    fn goes_on_in_pieces(&mut self, rt: &impl Abort, reply: &[u8], most: usize) {
+    fn goes_on_in_pieces(&mut self, rt: &impl Abort, reply: &[u8], most: usize)
+        requires { 0 < most }
+    {
         self.asks(rt);
-        let mut rest = reply;
-        while rest.len() > most {
-            self.hears_part(rt, rest.get(..most).unwrap_or(&[]));
-            rest = rest.get(most..).unwrap_or(&[]);
+        let mut left = reply.len();
+        for piece in reply.chunks(most) {
+            if piece.len() < left {
+                self.hears_part(rt, piece);
+            } else {
+                self.hears_rest(rt, piece);
+            }
+            left = left.saturating_sub(piece.len());
         }
-        self.hears_rest(rt, rest);
     }
 
     /// It asks, and hears a reply that is cut in two behind so many bytes.
@@ -130,15 +137,25 @@ impl Attempt {
     }
 }
 
+/// All replies come in pieces of so many bytes.
+fn check_pieces(rt: &impl Abort, alloc: Global, most: usize) -> Result<(), Fail>
+    requires { 0 < most }
+{
+    let mut attempt = Attempt::new(rt, alloc)?;
+    for reply in REPLIES {
+        attempt.goes_on_in_pieces(rt, reply, most);
+    }
+    assert_eq!(rt; attempt.whole, REPLIES.len());
+    Ok(())
+}
+
 #[test]
 fn replies_in_pieces(rt: HostRuntime) -> Result<(), Fail> {
-    for most in [usize::MAX, 1, 2, 3, 5] {
-        let mut attempt = Attempt::new(&rt, rt.alloc())?;
-        for reply in REPLIES {
-            attempt.goes_on_in_pieces(&rt, reply, most);
-        }
-    }
-    Ok(())
+    let alloc = rt.alloc();
+    check_pieces(&rt, alloc, 100)?;
+    check_pieces(&rt, alloc, 1)?;
+    check_pieces(&rt, alloc, 2)?;
+    check_pieces(&rt, alloc, 3)
 }
 
 /// One reply comes in two pieces, and all others whole.
@@ -148,7 +165,7 @@ fn check_two_pieces(rt: &impl Abort, alloc: Global, at: usize, cut: usize) -> Re
         if number == at {
             attempt.goes_on_in_two(rt, reply, cut);
         } else {
-            attempt.goes_on_in_pieces(rt, reply, usize::MAX);
+            attempt.goes_on_in_pieces(rt, reply, 100);
         }
     }
     Ok(())

@@ -89,13 +89,13 @@ impl Attempt {
 
     /// The client is in this state, and has counted the volume.
     fn is_counted(self, rt: &impl Abort, talk: &Talk, state: State) {
-        let volume = (self.number, self.first, self.count);
-        let both = [(1, 0, self.first), volume];
+        let alone = [(self.number, self.first, self.count)];
+        let both = [(1, 0, self.first), (self.number, self.first, self.count)];
+        let counts: &[Counted] = if self.first == 0 { &alone } else { &both };
         let next = (
             self.number.saturating_add(1),
             self.first.saturating_add(self.count),
         );
-        let counts: &[Counted] = if self.first == 0 { &[volume] } else { &both };
         talk.stands(rt, state, counts, next);
     }
 
