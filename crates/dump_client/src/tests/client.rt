@@ -1,7 +1,7 @@
 //! Whole attempts and runs of a client, with what it tells at each moment.
 
 use super::talk::{BLOCKS, RUN, Talk, wanted_reply};
-use crate::slow::script;
+use crate::slow::{SlowRun, script};
 use crate::{Answer, AttemptFault, Progress, StartFault, State};
 use std::alloc::Global;
 use std::process::Abort;
@@ -167,5 +167,50 @@ fn a_label_that_is_refused(rt: HostRuntime) -> Result<(), Fail> {
         talk.stands(&rt, State::Asking, &[], (1, 0));
         talk.retries(&rt);
     }
+    Ok(())
+}
+
+/// A run of which nothing is as in the others.
+const OTHER: SlowRun = SlowRun {
+    device: "/dev/nst1",
+    name: "/home",
+    level: 9,
+    date: 253402300799,
+    since: 951782400,
+    block_bytes: 3,
+};
+
+/// Blocks that are not of the label's size: each write is answered with the bytes that it has.
+#[test]
+fn small_blocks(rt: HostRuntime) -> Result<(), Fail> {
+    let script = script(rt.alloc(), OTHER, &[&[0; 3], &[1; 3]], 1, 0, 2)?;
+    let mut talk = Talk::of(rt.alloc(), OTHER, 2)?;
+    talk.start(&rt);
+    for (step, reply) in [(2usize, b"A3\n".as_slice()), (3, b"A1024\n")] {
+        talk.goes_through(&rt, &script, 0..step);
+        talk.asks_step(&rt, &script, step);
+        talk.fails(&rt, reply, AttemptFault::ShortWrite);
+        talk.retries(&rt);
+    }
+    talk.goes_through(&rt, &script, 0..script.len());
+    talk.stands(&rt, State::Finished, &[(1, 0, 2)], (2, 2));
+    let told = talk.client.finished();
+    let name = told.map(|entry| (entry.name, entry.level, entry.date));
+    assert!(rt; name == Some(("/home", 9, 253402300799)));
+    Ok(())
+}
+
+#[test]
+fn the_greatest_blocks(rt: HostRuntime) -> Result<(), Fail> {
+    let run = SlowRun {
+        block_bytes: 65536,
+        ..OTHER
+    };
+    let blocks: [&[u8]; 2] = [&[0; 65536], &[1; 65536]];
+    let script = script(rt.alloc(), run, &blocks, 1, 0, 2)?;
+    let mut talk = Talk::of(rt.alloc(), run, 2)?;
+    talk.start(&rt);
+    talk.goes_through(&rt, &script, 0..script.len());
+    talk.stands(&rt, State::Finished, &[(1, 0, 2)], (2, 2));
     Ok(())
 }

@@ -30,30 +30,37 @@ pub(crate) struct Talk {
     asked: Vec<u8>,
 }
 
-/// A client of the run with so many blocks.
-#[tactic(auto, using(crate::proofs::Cut::size_cut, crate::proofs::Cut::length_cut))]
-fn client_of(alloc: Global, blocks: u32) -> Result<Client<ListBlocks>, Fail> {
+/// So many blocks of this size: each byte of a block is its number.
+fn payload(alloc: Global, blocks: u32, size: usize) -> Result<Vec<u8>, Fail> {
     let mut payload = Vec::new(alloc);
     for number in 0..blocks {
-        for _ in 0..1024 {
+        for _ in 0..size {
             payload.push((number % 256) as u8)?;
         }
     }
-    if payload.len() != blocks as usize * 1024 {
+    Ok(payload)
+}
+
+/// A client of this run with so many blocks.
+#[tactic(auto, using(crate::proofs::Cut::size_cut, crate::proofs::Cut::length_cut))]
+fn client_of(alloc: Global, run: SlowRun, blocks: u32) -> Result<Client<ListBlocks>, Fail> {
+    let size = run.block_bytes as usize;
+    let payload = payload(alloc, blocks, size)?;
+    if (blocks as usize).checked_mul(size) != Some(payload.len()) {
         return Err(Fail::new("the payload has another size"));
     }
     let Ok(run) = Run::new(
-        b"/dev/st0",
-        "/usr",
-        0,
-        951782400,
-        0,
-        1024,
+        run.device.as_bytes(),
+        run.name,
+        run.level,
+        run.date,
+        run.since,
+        run.block_bytes,
         u64::from(blocks),
     ) else {
         return Err(Fail::new("no run"));
     };
-    let source = ListBlocks::new(payload, 1024, blocks);
+    let source = ListBlocks::new(payload, size, blocks);
     Ok(Client::new(alloc, run, source)?)
 }
 
@@ -61,6 +68,8 @@ fn client_of(alloc: Global, blocks: u32) -> Result<Client<ListBlocks>, Fail> {
 pub(crate) fn wanted_reply(wish: Wish) -> &'static [u8] {
     match wish {
         Wish::Number(1) => b"A1\n",
+        Wish::Number(3) => b"A3\n",
+        Wish::Number(65536) => b"A65536\n",
         Wish::Number(_) => b"A1024\n",
         Wish::AnyNumber | Wish::NoRoom | Wish::Anything => b"A0\n",
     }
@@ -69,8 +78,13 @@ pub(crate) fn wanted_reply(wish: Wish) -> &'static [u8] {
 impl Talk {
     /// A client that has not started, of the run with so many blocks.
     pub(crate) fn new(alloc: Global, blocks: u32) -> Result<Talk, Fail> {
+        Talk::of(alloc, RUN, blocks)
+    }
+
+    /// A client that has not started, of this run with so many blocks.
+    pub(crate) fn of(alloc: Global, run: SlowRun, blocks: u32) -> Result<Talk, Fail> {
         Ok(Talk {
-            client: client_of(alloc, blocks)?,
+            client: client_of(alloc, run, blocks)?,
             asked: Vec::new(alloc),
         })
     }
