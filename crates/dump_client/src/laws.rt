@@ -1,13 +1,13 @@
-ghost use Rattle.std.specs.Prelude.{◌≡◌, ◌≢◌, ◌⊎◌, ℕ, ◌-◌, ◌<◌, ◌≤◌, List, ◌++◌};
+ghost use Rattle.std.specs.Prelude.{◌≡◌, ◌≢◌, ◌⊎◌, ℕ, ◌-◌, ◌<◌, ◌≤◌, List, [], ◌∷◌, ◌++◌};
 ghost use Rattle.rmt_wire.specs.Reply.{PlainReply};
 ghost use Rattle.dump_client.specs.Run.{PlainRun, IsRun};
 ghost use Rattle.dump_client.specs.Script.{IsCount, request_of, steps_of};
 ghost use Rattle.dump_client.specs.Position.{Follows, Heard, IsWantedAt, IsFailure, after_reply, outcome};
 ghost use Rattle.dump_client.specs.Position.Heard.{Noise, End};
-ghost use Rattle.dump_client.specs.Standing.{Standing, FedAt, CutAt, checkpoint_of};
+ghost use Rattle.dump_client.specs.Standing.{Standing, FedAt, CutAt, checkpoint_of, counted_to};
 ghost use Rattle.dump_client.specs.Client.{unanswered};
 ghost use Rattle.dump_client.specs.declared.step.Step.{Step};
-ghost use Rattle.dump_client.specs.Lawful.{IsLawful, StandsAt, request_at};
+ghost use Rattle.dump_client.specs.Lawful.{IsLawful, StepFits, StandsAt, sent_before, request_at};
 ghost use Rattle.dump_client.specs.Replies.{Granted, led_by};
 ghost use Rattle.dump_client.specs.declared.count.VolumeCount.{VolumeCount};
 ghost use Rattle.dump_client.specs.declared.step.Step.TheVariants.{Open, Close};
@@ -50,6 +50,20 @@ pub fn lawful_positions()
     ensures stands { (s : Standing) (payload : List (List ℕ)) → IsLawful s → StandsAt s.run payload s.counts s.stage }
     ensures asked { (run : PlainRun) (payload : List (List ℕ)) (counts : List VolumeCount) (step : Step) →
         request_of run payload (checkpoint_of counts).0 (checkpoint_of counts).1 step ≡ request_at run payload counts step }
+{}
+
+/// What was sent is what was appended: nothing at the start of an attempt, and at each step that a reply leads to one request
+/// more, that of the step before; also where the reply counts the volume.
+///
+/// It does nothing: its contract is a law of the definitions.
+pub fn sent_in_order()
+    ensures none { (run : PlainRun) (payload : List (List ℕ)) (counts : List VolumeCount) → sent_before run payload counts Open ≡ [] }
+    ensures next { (run : PlainRun) (payload : List (List ℕ)) (counts : List VolumeCount) (step next : Step) (reply : PlainReply) →
+        StepFits run counts step → after_reply run (checkpoint_of counts).1 step reply ≡ GoesOn next →
+        sent_before run payload counts next ≡ sent_before run payload counts step ++ request_at run payload counts step ∷ [] }
+    ensures counted { (run : PlainRun) (payload : List (List ℕ)) (counts : List VolumeCount) (step : Step) (end : ℕ) (reply : PlainReply) →
+        StepFits run counts step → after_reply run (checkpoint_of counts).1 step reply ≡ Counted end →
+        sent_before run payload (counted_to counts end) Close ≡ sent_before run payload counts step ++ request_at run payload counts step ∷ [] }
 {}
 
 /// From the close on nothing fails: whatever is heard there ends the attempt. Before it bytes that are no reply fail it,
