@@ -31,7 +31,8 @@ pub use client::Client;
 pub use count::VolumeCount;
 pub use fault::{AttemptFault, RunFault, StartFault};
 pub use laws::{
-    after_the_count, fed_in_pieces, granted_replies, lawful_positions, sent_in_order, wanted_replies,
+    after_the_count, fed_in_pieces, granted_replies, lawful_positions, sent_in_order,
+    wanted_replies,
 };
 pub use list::ListBlocks;
 pub use run::{BLOCKS_LIMIT, Run};

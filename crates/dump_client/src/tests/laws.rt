@@ -1,7 +1,8 @@
 //! The laws are functions, too: they can be called.
 
 use crate::{
-    after_the_count, fed_in_pieces, granted_replies, lawful_positions, sent_in_order, wanted_replies,
+    after_the_count, fed_in_pieces, granted_replies, lawful_positions, sent_in_order,
+    wanted_replies,
 };
 
 #[test]
