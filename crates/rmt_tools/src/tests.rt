@@ -1,6 +1,8 @@
 //! Whole streams, files and words against what was written by hand.
 
 mod dates;
+mod dump;
 mod failing;
+mod link;
 mod rows;
 mod words;

@@ -1,0 +1,224 @@
+//! A client and the sessions of its connections, with drives in memory between them.
+
+ghost use Rattle.std.specs.Prelude.{◌≡◌, ◌≢◌, ◌≤◌, ◌*◌, IfOk, IsTrue, length};
+ghost use Rattle.rmt_wire.specs.Lent.{plain_request};
+ghost use Rattle.drives.specs.Holding.{HoldsJust};
+ghost use Rattle.drives.specs.Local.{IsSeatOf};
+ghost use Rattle.rmt_server.specs.Carrying.{IsAt, IsSayable};
+ghost use Rattle.drives.specs.contracts.local.LocalHoldsHolds.TheImpl.{ghosts as of_holds};
+ghost use Rattle.drives.specs.contracts.list.ListStacksStacks.TheImpl.{ghosts as of_stacks};
+ghost use Rattle.std.specs.Prelude.{None};
+
+use drives::{DriveTable, ListStacks, LocalHolds, LocalSeat};
+use dump_client::{Client, ListBlocks, Progress, Run, State};
+use rmt_server::{Session, one_holder};
+use rmt_wire::{NUMBER_LIMIT, Request, RequestReader, push_reply};
+use std::alloc::Global;
+use std::mem;
+use std::test::Fail;
+
+/// The bytes of a block.
+const BLOCK_BYTES: usize = 1024;
+
+pub(super) type Dumper = Client<ListBlocks>;
+
+type Drives = DriveTable<LocalHolds, ListStacks>;
+
+type Server = Session<LocalHolds, ListStacks>;
+
+/// So many blocks, of which each byte of block i is i.
+fn payload(alloc: Global, blocks: u32) -> Result<Vec<u8>, Fail>
+    requires { blocks ≤ 3 }
+    ensures { IfOk result (λ bytes. length bytes.items ≡ blocks * 1024) }
+{
+    let mut bytes = Vec::new(alloc);
+    for block in 0..blocks {
+        bytes.extend_from_slice(&[block as u8; BLOCK_BYTES])?;
+    }
+    Ok(bytes)
+}
+
+/// A client that dumps so many blocks of `/usr` to `/dev/st0`.
+pub(super) fn dumper(alloc: Global, blocks: u32) -> Result<Dumper, Fail>
+    requires { blocks ≤ 3 }
+{
+    let blocks_asked = u64::from(blocks);
+    let run = Run::new(b"/dev/st0", "/usr", 0, 951782400, 0, 1024, blocks_asked)?;
+    let source = ListBlocks::new(payload(alloc, blocks)?, BLOCK_BYTES, blocks);
+    Ok(Client::new(alloc, run, source)?)
+}
+
+/// The drive `/dev/st0` with these reels, which are empty and have this capacity in bytes.
+fn stacks(alloc: Global, capacity: u64, reels: &[&[u8]]) -> Result<ListStacks, Fail>
+    ensures { IfOk result (λ stacks. length stacks.shop.racks ≡ 1) }
+{
+    let mut stacks = ListStacks::new(alloc);
+    let drive = stacks.add_drive(b"/dev/st0")?;
+    for reel in reels {
+        stacks.add_reel(drive, reel, capacity)?;
+    }
+    Ok(stacks)
+}
+
+/// A session with nothing open, of this seat at these drives.
+fn server(alloc: Global, seat: LocalSeat, drives: &Drives) -> Result<Server, Fail>
+    requires own { IsSeatOf drives.now.holds seat }
+    requires idle { HoldsJust seat None }
+    requires enough { length drives.now.stacks.shop.racks ≤ length drives.now.holds.numbers }
+    ensures at { IfOk result (λ s. IsAt of_holds of_stacks drives.now s.seat s.opened) }
+    ensures seat { IfOk result (λ s. s.seat ≡ seat) }
+{
+    match Session::new(alloc, seat) {
+        Ok(session) => Ok(session),
+        Err(_) => Err(Fail::new("no session")),
+    }
+}
+
+/// Whether a reply can say the count of the request's operation.
+fn is_sayable(request: &Request<'_>) -> bool
+    ensures { IsTrue result → IsSayable (plain_request request.now) }
+{
+    match request {
+        Request::Op { count, .. } => *count <= NUMBER_LIMIT,
+        _ => true,
+    }
+}
+
+/// Has a session carry out a request, beside another session, and appends the reply to `out`.
+fn carry(
+    drives: &mut Drives,
+    session: &mut Server,
+    other: &Server,
+    request: Request<'_>,
+    out: &mut Vec<u8>,
+) -> Result<(), Fail>
+    requires at { IsAt of_holds of_stacks drives.old session.old.seat session.old.opened }
+    requires other { IsAt of_holds of_stacks drives.old other.now.seat other.now.opened }
+    requires apart { other.now.seat.number ≢ session.old.seat.number }
+    ensures at { IsAt of_holds of_stacks drives.new session.new.seat session.new.opened }
+    ensures other { IsAt of_holds of_stacks drives.new other.now.seat other.now.opened }
+    ensures number { session.new.seat.number ≡ session.old.seat.number }
+{
+    one_holder::<ListStacks>();
+    if !is_sayable(&request) {
+        return Err(Fail::new("no reply says that count"));
+    }
+    let reply = session.carry_out(drives, request);
+    push_reply(out, &reply)?;
+    Ok(())
+}
+
+/// Ends a session beside another.
+fn end(drives: &mut Drives, session: &mut Server, other: &Server)
+    requires at { IsAt of_holds of_stacks drives.old session.old.seat session.old.opened }
+    requires other { IsAt of_holds of_stacks drives.old other.now.seat other.now.opened }
+    requires apart { other.now.seat.number ≢ session.old.seat.number }
+    ensures at { IsAt of_holds of_stacks drives.new session.new.seat session.new.opened }
+    ensures other { IsAt of_holds of_stacks drives.new other.now.seat other.now.opened }
+    ensures number { session.new.seat.number ≡ session.old.seat.number }
+{
+    one_holder::<ListStacks>();
+    session.end(drives);
+}
+
+/// The drives, with the server's side of the client's connection. The session of the connection before that may still
+/// be there: its end need not have been seen yet.
+#[derive(Drop)]
+pub(super) struct Link {
+    alloc: Global,
+    pub(super) drives: Drives,
+    wire: RequestReader,
+    session: Server,
+    stale: Server,
+    ghost at: { IsAt of_holds of_stacks drives session.seat session.opened },
+    ghost at_stale: { IsAt of_holds of_stacks drives stale.seat stale.opened },
+    ghost apart: { stale.seat.number ≢ session.seat.number },
+}
+
+impl Link {
+    /// The drive `/dev/st0` with these empty reels, and two sessions with nothing open.
+    pub(super) fn new(alloc: Global, capacity: u64, reels: &[&[u8]]) -> Result<Link, Fail> {
+        let mut holds = LocalHolds::new(alloc, 1)?;
+        let (Some(first), Some(second)) = (holds.seat(), holds.seat()) else {
+            return Err(Fail::new("no seat"));
+        };
+        let stacks = stacks(alloc, capacity, reels)?;
+        let drives = DriveTable { holds, stacks };
+        let stale = server(alloc, first, &drives)?;
+        let session = server(alloc, second, &drives)?;
+        let wire = RequestReader::new(alloc)?;
+        Ok(Link {
+            alloc,
+            drives,
+            wire,
+            session,
+            stale,
+        })
+    }
+
+    /// The client starts an attempt on a new connection, which has a reader and a session of its own. The session of
+    /// the connection before is as it was; that of the one before it has ended.
+    pub(super) fn connect(&mut self, dumper: &mut Dumper) -> Result<(), Fail> {
+        dumper.start()?;
+        self.end_stale();
+        self.wire = RequestReader::new(self.alloc)?;
+        let Some(seat) = self.drives.holds.seat() else {
+            return Err(Fail::new("no seat"));
+        };
+        let session = server(self.alloc, seat, &self.drives)?;
+        self.stale = mem::replace(&mut self.session, session);
+        Ok(())
+    }
+
+    /// Carries out the one request that these bytes are, and answers the bytes of the reply.
+    pub(super) fn serve(&mut self, bytes: &[u8]) -> Result<Vec<u8>, Fail> {
+        let mut reply = Vec::new(self.alloc);
+        if self.wire.push(bytes) < bytes.len() {
+            return Err(Fail::new("no room"));
+        }
+        let Ok(Some(request)) = self.wire.next() else {
+            return Err(Fail::new("no request"));
+        };
+        carry(
+            &mut self.drives,
+            &mut self.session,
+            &self.stale,
+            request,
+            &mut reply,
+        )?;
+        Ok(reply)
+    }
+
+    /// Has the client's next request carried out, and answers the reply, of which the client has heard nothing.
+    pub(super) fn send(&mut self, dumper: &mut Dumper) -> Result<Vec<u8>, Fail> {
+        let mut bytes = Vec::new(self.alloc);
+        if !dumper.next_request(&mut bytes)? {
+            return Err(Fail::new("nothing to send"));
+        }
+        self.serve(&bytes)
+    }
+
+    /// Has so many requests of the client carried out, each after the reply to the one before, and answers what came
+    /// of the last reply. It stops where the client has nothing to send.
+    pub(super) fn pump(&mut self, dumper: &mut Dumper, most: usize) -> Result<Progress, Fail> {
+        let mut progress = Progress::Idle;
+        for _ in 0..most {
+            if dumper.state() != State::ToSend {
+                break;
+            }
+            let reply = self.send(dumper)?;
+            progress = dumper.feed(&reply);
+        }
+        Ok(progress)
+    }
+
+    /// The session of the client's connection ends.
+    pub(super) fn end(&mut self) {
+        end(&mut self.drives, &mut self.session, &self.stale);
+    }
+
+    /// The session of the connection before ends.
+    pub(super) fn end_stale(&mut self) {
+        end(&mut self.drives, &mut self.stale, &self.session);
+    }
+}
