@@ -166,8 +166,8 @@ impl Ledger {
         self.come_to(after_end(step), false)
     }
 
-    #[tactic(auto, using(crate::proofs::Fed::becomes_fed, crate::proofs::Fed::becomes_run))]
     /// Stands where an outcome leads. `more` says that bytes follow the reply that it came of.
+    #[tactic(auto, using(crate::proofs::Fed::becomes_fed, crate::proofs::Fed::becomes_run))]
     fn come_to(&mut self, outcome: Outcome, more: bool) -> Progress
         requires { OutcomeFits self.old.at.run self.old.at.counts self.old.room outcome }
         ensures becomes { Becomes self.old.at outcome more result self.new.at }
@@ -204,8 +204,8 @@ impl Ledger {
         Progress::Failed(fault)
     }
 
-    #[tactic(auto, using(crate::proofs::Checkpoint::volumes_to, crate::proofs::Checkpoint::counted_some))]
     /// Counts the volume, which ends before this block. Where bytes follow, the attempt is over.
+    #[tactic(auto, using(crate::proofs::Checkpoint::volumes_to, crate::proofs::Checkpoint::counted_some))]
     fn count(&mut self, next: u32, more: bool) -> Progress
         requires { OutcomeFits self.old.at.run self.old.at.counts self.old.room (outcomes.Counted next) }
         ensures becomes { Becomes self.old.at (outcomes.Counted next) more result self.new.at }
