@@ -2,7 +2,7 @@
 use Rattle.std.proofs.Common.{◌≡◌, ◌≢◌, ℕ, Option, Some, None, Result, Ok, Err, IfErr, IsSome, sym, ap, ◌∙◌, subst, drop, [], get_or-set_other}
 use Rattle.tape.specs.Trouble.{TroubledTape}
 use Rattle.drives.specs.Shop.{ShopOf, Shop, Rack, rack, rack_at, EachReelOnce, latched_at, latched_on, with_first, at_first, to_bin}
-use Rattle.drives.specs.ListShop.{ListShop, with_shop, at_rest, shop_of, IsShop, IsLatched, IsMoved}
+use Rattle.drives.specs.ListShop.{ListShop, with_shop, at_rest, shop_of, IsShop, IsReelLatched, IsReelMoved}
 use Rattle.drives.specs.Stacking.{HasLatched}
 use Rattle.drives.specs.declared.fault.DriveFault.{DriveFault}
 use Rattle.drives.specs.declared.fault.DriveFault.TheVariants.{NoSuchDrive, Busy, NoReel, Device, OutOfMemory, NameTaken}
@@ -17,7 +17,7 @@ to_bin-elsewhere s d e reel n =
     ap (λ (r : Rack _). latched_on r.stack) (get_or-set_other s.racks d e (rack (rack_at s d).name (drop 1 (rack_at s d).stack)) (rack [] []) n)
 
 -- where nothing changed, the same reels are latched
-same_latched : (old new : ListShop) → new.shop ≡ old.shop → (e : ℕ) → HasLatched IsShop old e → HasLatched IsShop new e
+pub same_latched : (old new : ListShop) → new.shop ≡ old.shop → (e : ℕ) → HasLatched IsShop old e → HasLatched IsShop new e
 same_latched old new s e h t tells = h t (same_told new old (sym s) t tells)
 
 first_elsewhere : (old new : ListShop) (d : ℕ) (reel : Option TroubledTape) → EachReelOnce old.shop → new ≡ with_shop old (at_first old.shop d reel)
@@ -26,7 +26,7 @@ first_elsewhere old new d reel once is e n h t tells =
     subst (λ (x : Shop). IsSome (latched_at x e)) (sym (tells.0 ∙ ap shop_of is ∙ at_first-rest old d reel))
     (subst (λ o. IsSome o) (sym (at_first-elsewhere (shop_of old) d e _ n)) (h (shop_of old) (told old once)))
 
-pub latch_stays : (old new : ListShop) (d : ℕ) (result : Result TroubledTape DriveFault) → IsLatched old d result new
+pub latch_stays : (old new : ListShop) (d : ℕ) (result : Result TroubledTape DriveFault) → IsReelLatched old d result new
     → IfErr result (λ _. (e : ℕ) → HasLatched IsShop old e → HasLatched IsShop new e)
 latch_stays old new d (Ok reel) h = tt
 latch_stays old new d (Err NoReel) h = same_latched old new (ap (λ (x : ListShop). x.shop) h.1)
@@ -36,7 +36,7 @@ latch_stays old new d (Err NoSuchDrive) h = absurd h
 latch_stays old new d (Err OutOfMemory) h = absurd h
 latch_stays old new d (Err NameTaken) h = absurd h
 
-pub latch_elsewhere : (old new : ListShop) (d : ℕ) (result : Result TroubledTape DriveFault) → EachReelOnce old.shop → IsLatched old d result new
+pub latch_elsewhere : (old new : ListShop) (d : ℕ) (result : Result TroubledTape DriveFault) → EachReelOnce old.shop → IsReelLatched old d result new
     → (e : ℕ) → e ≢ d → HasLatched IsShop old e → HasLatched IsShop new e
 latch_elsewhere old new d (Ok reel) once h e n l = first_elsewhere old new d None once h.2 e n l
 latch_elsewhere old new d (Err fault) once h e n l = latch_stays old new d (Err fault) h e l
@@ -45,9 +45,8 @@ pub lay_elsewhere : (old new : ListShop) (d : ℕ) (reel : TroubledTape) → Eac
     → (e : ℕ) → e ≢ d → HasLatched IsShop old e → HasLatched IsShop new e
 lay_elsewhere old new d reel once is e n l = first_elsewhere old new d (Some reel) once is e n l
 
-pub move_elsewhere : {U : Type 0} (old new : ListShop) (d : ℕ) (reel : TroubledTape) (result : Result U (TroubledTape × DriveFault)) → EachReelOnce old.shop → IsMoved old d reel result new
+pub move_elsewhere : (old new : ListShop) (d : ℕ) (reel : TroubledTape) (x : Unit {0}) → EachReelOnce old.shop → IsReelMoved old d reel (Ok x) new
     → (e : ℕ) → e ≢ d → HasLatched IsShop old e → HasLatched IsShop new e
-move_elsewhere old new d reel (Ok x) once h e n l t tells =
+move_elsewhere old new d reel x once h e n l t tells =
     subst (λ (x : Shop). IsSome (latched_at x e)) (sym (tells.0 ∙ ap shop_of h.1 ∙ to_bin-rest old d reel))
     (subst (λ o. IsSome o) (sym (to_bin-elsewhere (shop_of old) d e (at_rest reel) n)) (l (shop_of old) (told old once)))
-move_elsewhere old new d reel (Err refused) once h e n l t tells = same_latched old new (ap (λ (x : ListShop). x.shop) h.2) e l t tells

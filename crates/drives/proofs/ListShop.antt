@@ -12,8 +12,8 @@ use Rattle.tape.specs.Tape.{Tape, tape, entries_of}
 use Rattle.tape.specs.Trouble.{TroubledTape, IsTapeOf}
 use Rattle.tape.specs.declared.trouble.Trouble.{Trouble}
 use Rattle.tape.specs.declared.trouble.Trouble.TheVariants.{None as NoTrouble, Kept as KeptTrouble, Lost, Written}
-use Rattle.drives.specs.Shop.{Kept, kept, Slot, slot, Rack, rack, ShopOf, Shop, shop, rack_at, with_rack, slots_in, names_of, names_in, times, EachReelOnce, IsDriveNamed, waiting_reel, first_reel, latched_at, with_first, at_first, to_bin, after_unlatch, after_offline}
-use Rattle.drives.specs.ListShop.{ListShop, with_shop, with_reel, blank_reel, at_rest, rest_slot, rest_rack, shop_of, IsShop, is_set, is_set_in, troubled_in, CanFail, IsDriveAdded, IsReelAdded, IsLatched, IsMoved, IsStocked}
+use Rattle.drives.specs.Shop.{KeptReel, kept_reel, Slot, slot, Rack, rack, ShopOf, Shop, shop, rack_at, with_rack, slots_in, names_of, names_in, times, EachReelOnce, IsDriveNamed, waiting_reel, first_reel, latched_at, with_first, at_first, to_bin, after_unlatch, after_offline}
+use Rattle.drives.specs.ListShop.{ListShop, with_shop, with_reel, blank_reel, at_rest, rest_slot, rest_rack, shop_of, IsShop, is_set, is_set_in, troubled_in, StacksCanFail, IsDriveAdded, IsReelAdded, IsReelLatched, IsReelMoved, IsStocked}
 use Rattle.drives.specs.Stacking.{LatchStep, StaysOnline, HasLatched}
 use Rattle.drives.specs.declared.fault.DriveFault.{DriveFault}
 use Rattle.drives.specs.declared.fault.DriveFault.TheVariants.{NoSuchDrive, Busy, NoReel, Device, OutOfMemory, NameTaken}
@@ -43,10 +43,10 @@ take-rest [] = refl
 take-rest (first ∷ rest) = refl
 
 waiting-rest : (s : ListShop) (d : ℕ) → waiting_reel (shop_of s) d ≡ option_map at_rest (waiting_reel s.shop d)
-waiting-rest s d = ap (λ (r : Rack Kept). first_reel r.stack) (rack_at-rest s d) ∙ first-rest (rack_at s.shop d).stack
+waiting-rest s d = ap (λ (r : Rack KeptReel). first_reel r.stack) (rack_at-rest s d) ∙ first-rest (rack_at s.shop d).stack
 
 length-stack-rest : (s : ListShop) (d : ℕ) → length (rack_at (shop_of s) d).stack ≡ length (rack_at s.shop d).stack
-length-stack-rest s d = ap (λ (r : Rack Kept). length r.stack) (rack_at-rest s d) ∙ length-map (rack_at s.shop d).stack rest_slot
+length-stack-rest s d = ap (λ (r : Rack KeptReel). length r.stack) (rack_at-rest s d) ∙ length-map (rack_at s.shop d).stack rest_slot
 
 -- the names of the reels at rest are theirs
 slots-rest : (racks : List (Rack TroubledTape)) → flat_map (λ r. r.stack) (map rest_rack racks) ≡ map rest_slot (flat_map (λ r. r.stack) racks)
@@ -72,7 +72,7 @@ at_first-rest s d reel =
     let bin = map rest_slot s.shop.bin in
     ap (λ rs. shop rs bin) (map-set rest_rack s.shop.racks d (rack r.name (with_first reel r.stack)))
     ∙ ap (λ st. shop (set racks d (rack r.name st)) bin) (with_first-rest reel r.stack)
-    ∙ ap (λ (x : Rack Kept). shop (set racks d (rack x.name (with_first (option_map at_rest reel) x.stack))) bin) (sym (rack_at-rest s d))
+    ∙ ap (λ (x : Rack KeptReel). shop (set racks d (rack x.name (with_first (option_map at_rest reel) x.stack))) bin) (sym (rack_at-rest s d))
 
 pub to_bin-rest : (s : ListShop) (d : ℕ) (reel : TroubledTape) → shop_of (with_shop s (to_bin s.shop d reel)) ≡ to_bin (shop_of s) d (at_rest reel)
 to_bin-rest s d reel =
@@ -83,7 +83,7 @@ to_bin-rest s d reel =
     ∙ ap (λ st. shop (set racks d (rack r.name st)) (map rest_slot (s.shop.bin ++ with_first (Some reel) (take 1 r.stack)))) (drop-rest r.stack)
     ∙ ap (λ xs. shop (set racks d (rack r.name (drop 1 (map rest_slot r.stack)))) xs) (map-append rest_slot s.shop.bin (with_first (Some reel) (take 1 r.stack)))
     ∙ ap (λ xs. shop (set racks d (rack r.name (drop 1 (map rest_slot r.stack)))) (bin ++ xs)) (with_first-rest (Some reel) (take 1 r.stack) ∙ ap (λ st. with_first (Some (at_rest reel)) st) (take-rest r.stack))
-    ∙ ap (λ (x : Rack Kept). shop (set racks d (rack x.name (drop 1 x.stack))) (bin ++ with_first (Some (at_rest reel)) (take 1 x.stack))) (sym (rack_at-rest s d))
+    ∙ ap (λ (x : Rack KeptReel). shop (set racks d (rack x.name (drop 1 x.stack))) (bin ++ with_first (Some (at_rest reel)) (take 1 x.stack))) (sym (rack_at-rest s d))
 
 -- where all stays, what is told stays
 pub same_told : (old new : ListShop) → new.shop ≡ old.shop → (t : Shop) → IsShop old t → IsShop new t
@@ -101,11 +101,8 @@ set_means KeptTrouble e = λ n. absurd cc
 set_means Lost e = λ n. absurd cc
 set_means (Written count) e = λ n. absurd cc
 
-device_other : Device ≡ NameTaken → ⊥
-device_other e = absurd cc
-
 -- where a reel was laid down among those that can fail, one of them could before, or it can
-laid_or : (old : ListShop) (reel : TroubledTape) (b : Bool) → is_set reel.trouble ≡ b → 0 < troubled_in old.shop + bit (is_set reel.trouble) → CanFail old ⊎ (reel.trouble ≢ NoTrouble)
+laid_or : (old : ListShop) (reel : TroubledTape) (b : Bool) → is_set reel.trouble ≡ b → 0 < troubled_in old.shop + bit (is_set reel.trouble) → StacksCanFail old ⊎ (reel.trouble ≢ NoTrouble)
 laid_or old reel true e m = inr (set_means reel.trouble e)
 laid_or old reel false e m =
     let none : bit (is_set reel.trouble) ≡ 0 = ap bit e in
@@ -128,7 +125,7 @@ some_waits s t d e (Some r) w h = λ none.
     absurd cc
 
 -- a latch is one of the shop that is told
-pub latch_steps : (old new : ListShop) (d : ℕ) (result : Result TroubledTape DriveFault) → d < length old.shop.racks → IsLatched old d result new
+pub latch_steps : (old new : ListShop) (d : ℕ) (result : Result TroubledTape DriveFault) → d < length old.shop.racks → IsReelLatched old d result new
     → Steps IsShop old new (LatchStep IsTapeOf (λ r. r.capacity) d result)
 latch_steps old new d (Ok reel) l h t tells =
     let r : TroubledTape = h.1.0 in
@@ -146,7 +143,7 @@ latch_steps old new d (Err OutOfMemory) l h t tells = absurd h
 latch_steps old new d (Err NameTaken) l h t tells = absurd h
 
 -- the reel that was latched is away
-pub latch_away : (old new : ListShop) (d : ℕ) (result : Result TroubledTape DriveFault) → d < length old.shop.racks → IsLatched old d result new
+pub latch_away : (old new : ListShop) (d : ℕ) (result : Result TroubledTape DriveFault) → d < length old.shop.racks → IsReelLatched old d result new
     → IfOk result (λ _. HasLatched IsShop new d)
 latch_away old new d (Ok reel) l h = λ t tells.
     let some : 0 < length (rack_at old.shop d).stack = length-waiting (rack_at old.shop d).stack h.1.0 h.1.1 in
@@ -156,14 +153,14 @@ latch_away old new d (Ok reel) l h = λ t tells.
 latch_away old new d (Err fault) l h = tt
 
 -- no reel that can fail comes to the stacks in a latch
-pub latch_quiet : (old new : ListShop) (d : ℕ) (result : Result TroubledTape DriveFault) → d < length old.shop.racks → IsLatched old d result new → CanFail new → CanFail old
+pub latch_quiet : (old new : ListShop) (d : ℕ) (result : Result TroubledTape DriveFault) → d < length old.shop.racks → IsReelLatched old d result new → StacksCanFail new → StacksCanFail old
 latch_quiet old new d (Ok reel) l h (inl e) = inl (sym (ap (λ (x : ListShop). x.trouble) h.2) ∙ e)
 latch_quiet old new d (Ok reel) l h (inr m) =
     let w = latched_first old d h.1.0 h.1.1 in
     let sum = sum_by-at_first (λ x. bit (is_set_in x.reel)) old.shop d None w.0 w.1 l w.2 in
     let is : troubled_in new.shop ≡ troubled_in (at_first old.shop d None) = ap (λ (x : ListShop). troubled_in x.shop) h.2 in
     inr (omega (arith, sum, is, m))
-latch_quiet old new d (Err NoReel) l h f = subst CanFail h.1 f
+latch_quiet old new d (Err NoReel) l h f = subst StacksCanFail h.1 f
 latch_quiet old new d (Err Device) l h f = inl h.0
 latch_quiet old new d (Err (Busy n)) l h f = absurd h
 latch_quiet old new d (Err NoSuchDrive) l h f = absurd h
@@ -171,8 +168,8 @@ latch_quiet old new d (Err OutOfMemory) l h f = absurd h
 latch_quiet old new d (Err NameTaken) l h f = absurd h
 
 -- a reel that is latched with a trouble lay there with it
-pub latch_quiet_reel : (old new : ListShop) (d : ℕ) (result : Result TroubledTape DriveFault) → d < length old.shop.racks → IsLatched old d result new
-    → IfOk result (λ reel. reel.trouble ≢ NoTrouble → CanFail old)
+pub latch_quiet_reel : (old new : ListShop) (d : ℕ) (result : Result TroubledTape DriveFault) → d < length old.shop.racks → IsReelLatched old d result new
+    → IfOk result (λ reel. reel.trouble ≢ NoTrouble → StacksCanFail old)
 latch_quiet_reel old new d (Ok reel) l h = λ troubled.
     let w = latched_first old d h.1.0 h.1.1 in
     let sum = sum_by-at_first (λ x. bit (is_set_in x.reel)) old.shop d None w.0 w.1 l w.2 in
@@ -187,10 +184,10 @@ pub lay_steps : (old new : ListShop) (d : ℕ) (reel : TroubledTape) → d < len
 lay_steps old new d reel l h tape on t tells =
     let is : at_first t d (Some (at_rest reel)) ≡ shop_of new = ap (λ (x : Shop). at_first x d (Some (at_rest reel))) tells.0 ∙ sym (at_first-rest old d (Some reel)) ∙ ap shop_of (sym h) in
     let below : d < length t.racks = subst (λ (x : Shop). d < length x.racks) (sym tells.0) (length-rest old d l) in
-    (at_first t d (Some (at_rest reel)), (is, once-at_first t d (Some (at_rest reel)) below tells.1), ap (λ x. at_first t d (Some (kept (entries_of x) reel.capacity))) on)
+    (at_first t d (Some (at_rest reel)), (is, once-at_first t d (Some (at_rest reel)) below tells.1), ap (λ x. at_first t d (Some (kept_reel (entries_of x) reel.capacity))) on)
 
 pub lay_quiet : (old new : ListShop) (d : ℕ) (reel : TroubledTape) → d < length old.shop.racks → 0 < length (rack_at old.shop d).stack → new ≡ with_shop old (at_first old.shop d (Some reel))
-    → CanFail new → CanFail old ⊎ (reel.trouble ≢ NoTrouble)
+    → StacksCanFail new → StacksCanFail old ⊎ (reel.trouble ≢ NoTrouble)
 lay_quiet old new d reel l some h (inl e) = inl (inl (sym (ap (λ (x : ListShop). x.trouble) h) ∙ e))
 lay_quiet old new d reel l some h (inr m) =
     let w = first_of (rack_at old.shop d).stack some in
@@ -199,35 +196,22 @@ lay_quiet old new d reel l some h (inr m) =
     laid_or old reel (is_set reel.trouble) refl (omega (arith, sum, is, m))
 
 -- a move is one of the shop that is told
-pub move_steps : {U : Type 0} (old new : ListShop) (d : ℕ) (reel : TroubledTape) (result : Result U (TroubledTape × DriveFault)) → d < length old.shop.racks → HasLatched IsShop old d → IsMoved old d reel result new
-    → IfOk result (λ _. (t : Tape) → IsTapeOf reel t → Steps IsShop old new (λ s now. now ≡ after_offline s d (entries_of t) reel.capacity))
-move_steps old new d reel (Ok x) l latched h = λ tape on t tells.
+pub move_steps : (old new : ListShop) (d : ℕ) (reel : TroubledTape) (x : Unit {0}) → d < length old.shop.racks → HasLatched IsShop old d → IsReelMoved old d reel (Ok x) new
+    → (t : Tape) → IsTapeOf reel t → Steps IsShop old new (λ s now. now ≡ after_offline s d (entries_of t) reel.capacity)
+move_steps old new d reel x l latched h tape on t tells =
     let is : to_bin t d (at_rest reel) ≡ shop_of new = ap (λ (x : Shop). to_bin x d (at_rest reel)) tells.0 ∙ sym (to_bin-rest old d reel) ∙ ap shop_of (sym h.1) in
     let below : d < length t.racks = subst (λ (x : Shop). d < length x.racks) (sym tells.0) (length-rest old d l) in
     let some : 0 < length (rack_at t d).stack = length-latched (rack_at t d).stack (latched t tells) in
-    (to_bin t d (at_rest reel), (is, once-to_bin t d (at_rest reel) below some tells.1), ap (λ x. to_bin t d (kept (entries_of x) reel.capacity)) on)
-move_steps old new d reel (Err refused) l latched h = tt
+    (to_bin t d (at_rest reel), (is, once-to_bin t d (at_rest reel) below some tells.1), ap (λ x. to_bin t d (kept_reel (entries_of x) reel.capacity)) on)
 
-pub move_stays : {U : Type 0} (old new : ListShop) (d : ℕ) (reel : TroubledTape) (result : Result U (TroubledTape × DriveFault)) → IsMoved old d reel result new
-    → IfErr result (λ refused. Steps IsShop old new (StaysOnline d refused.1))
-move_stays old new d reel (Ok x) h = tt
-move_stays old new d reel (Err refused) h = λ t tells.
-    (t, same_told old new (ap (λ (x : ListShop). x.shop) h.2) t tells, (refl, λ taken. absurd (device_other (sym (ap (λ x. x.1) h.1) ∙ taken))))
-
-pub move_still : {U : Type 0} (old new : ListShop) (d : ℕ) (reel : TroubledTape) (result : Result U (TroubledTape × DriveFault)) → HasLatched IsShop old d → IsMoved old d reel result new
-    → IfErr result (λ _. HasLatched IsShop new d)
-move_still old new d reel (Ok x) latched h = tt
-move_still old new d reel (Err refused) latched h = λ t tells. latched t (same_told new old (sym (ap (λ (x : ListShop). x.shop) h.2)) t tells)
-
-pub move_quiet : {U : Type 0} (old new : ListShop) (d : ℕ) (reel : TroubledTape) (result : Result U (TroubledTape × DriveFault)) → d < length old.shop.racks → 0 < length (rack_at old.shop d).stack
-    → IsMoved old d reel result new → CanFail new → CanFail old ⊎ (reel.trouble ≢ NoTrouble)
-move_quiet old new d reel (Ok x) l some h (inl e) = inl (inl (sym (ap (λ (x : ListShop). x.trouble) h.1) ∙ e))
-move_quiet old new d reel (Ok x) l some h (inr m) =
+pub move_quiet : (old new : ListShop) (d : ℕ) (reel : TroubledTape) (x : Unit {0}) → d < length old.shop.racks → 0 < length (rack_at old.shop d).stack
+    → IsReelMoved old d reel (Ok x) new → StacksCanFail new → StacksCanFail old ⊎ (reel.trouble ≢ NoTrouble)
+move_quiet old new d reel x l some h (inl e) = inl (inl (sym (ap (λ (x : ListShop). x.trouble) h.1) ∙ e))
+move_quiet old new d reel x l some h (inr m) =
     let w = first_of (rack_at old.shop d).stack some in
     let sum = sum_by-to_bin (λ x. bit (is_set_in x.reel)) old.shop d reel w.0 w.1 l w.2 in
     let is : troubled_in new.shop ≡ troubled_in (to_bin old.shop d reel) = ap (λ (x : ListShop). troubled_in x.shop) h.1 in
     laid_or old reel (is_set reel.trouble) refl (omega (arith, sum, is, m))
-move_quiet old new d reel (Err refused) l some h f = inl (inl h.0)
 
 -- where a reel is latched the stack is not empty
 pub some_latched : (s : ListShop) (d : ℕ) → EachReelOnce s.shop → HasLatched IsShop s d → 0 < length (rack_at s.shop d).stack
@@ -258,7 +242,7 @@ stocked-same s t reels room more e m h = record {
 
 -- a drive has the name that is told
 name-rest : (s : ListShop) (t : Shop) (k : ℕ) → t ≡ shop_of s → (rack_at t k).name ≡ (rack_at s.shop k).name
-name-rest s t k e = ap (λ (x : Shop). (rack_at x k).name) e ∙ ap (λ (r : Rack Kept). r.name) (rack_at-rest s k)
+name-rest s t k e = ap (λ (x : Shop). (rack_at x k).name) e ∙ ap (λ (r : Rack KeptReel). r.name) (rack_at-rest s k)
 
 racks-rest : (s : ListShop) (t : Shop) → t ≡ shop_of s → length t.racks ≡ length s.shop.racks
 racks-rest s t e = ap (λ (x : Shop). length x.racks) e ∙ length-map s.shop.racks rest_rack
@@ -378,13 +362,13 @@ drive_told old new name (Err NoReel) once h = absurd h
 drive_told old new name (Err Device) once h = absurd h
 
 -- and none of their devices can fail that could not before
-pub drive_quiet : (old new : ListShop) (name : List ℕ) (result : Result ℕ DriveFault) → IsDriveAdded old name result new → CanFail new → CanFail old
+pub drive_quiet : (old new : ListShop) (name : List ℕ) (result : Result ℕ DriveFault) → IsDriveAdded old name result new → StacksCanFail new → StacksCanFail old
 drive_quiet old new name (Ok d) h (inl e) = inl (sym (ap (λ (x : ListShop). x.trouble) h.2) ∙ e)
 drive_quiet old new name (Ok d) h (inr m) =
     let is : troubled_in new.shop ≡ troubled_in old.shop = ap (λ (x : ListShop). troubled_in x.shop) h.2 ∙ ap (λ slots. sum_by (λ x. bit (is_set_in x.reel)) slots) (slots-drive old.shop.racks old.shop.bin name) in
     inr (omega (arith, is, m))
-drive_quiet old new name (Err NameTaken) h f = subst CanFail h.1 f
-drive_quiet old new name (Err OutOfMemory) h f = subst CanFail h.1 f
+drive_quiet old new name (Err NameTaken) h f = subst StacksCanFail h.1 f
+drive_quiet old new name (Err OutOfMemory) h f = subst StacksCanFail h.1 f
 drive_quiet old new name (Err (Busy n)) h f = absurd h
 drive_quiet old new name (Err NoSuchDrive) h f = absurd h
 drive_quiet old new name (Err NoReel) h f = absurd h
@@ -402,14 +386,14 @@ reel_told old new d name capacity (Err NoSuchDrive) l once h = absurd h
 reel_told old new d name capacity (Err NoReel) l once h = absurd h
 reel_told old new d name capacity (Err Device) l once h = absurd h
 
-pub reel_quiet : {U : Type 0} (old new : ListShop) (d : ℕ) (name : List ℕ) (capacity : ℕ) (result : Result U DriveFault) → d < length old.shop.racks → IsReelAdded old d name capacity result new → CanFail new → CanFail old
+pub reel_quiet : {U : Type 0} (old new : ListShop) (d : ℕ) (name : List ℕ) (capacity : ℕ) (result : Result U DriveFault) → d < length old.shop.racks → IsReelAdded old d name capacity result new → StacksCanFail new → StacksCanFail old
 reel_quiet old new d name capacity (Ok x) l h (inl e) = inl (sym (ap (λ (x : ListShop). x.trouble) h.1) ∙ e)
 reel_quiet old new d name capacity (Ok x) l h (inr m) =
     let sum = sum_by-added (λ x. bit (is_set_in x.reel)) old.shop d (slot name (Some (blank_reel capacity))) l in
     let is : troubled_in new.shop ≡ troubled_in (with_reel old.shop d name capacity) = ap (λ (x : ListShop). troubled_in x.shop) h.1 in
     inr (omega (arith, sum, is, m))
-reel_quiet old new d name capacity (Err NameTaken) l h f = subst CanFail h.1 f
-reel_quiet old new d name capacity (Err OutOfMemory) l h f = subst CanFail h.1 f
+reel_quiet old new d name capacity (Err NameTaken) l h f = subst StacksCanFail h.1 f
+reel_quiet old new d name capacity (Err OutOfMemory) l h f = subst StacksCanFail h.1 f
 reel_quiet old new d name capacity (Err (Busy n)) l h f = absurd h
 reel_quiet old new d name capacity (Err NoSuchDrive) l h f = absurd h
 reel_quiet old new d name capacity (Err NoReel) l h f = absurd h

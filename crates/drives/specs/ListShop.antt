@@ -7,7 +7,9 @@ use Rattle.tape.specs.Tape.{tape, entries_of}
 use Rattle.tape.specs.Trouble.{TroubledTape}
 use Rattle.tape.specs.declared.trouble.Trouble.{Trouble}
 use Rattle.tape.specs.declared.trouble.Trouble.TheVariants.{None as NoTrouble}
-use Rattle.drives.specs.Shop.{Kept, kept, Slot, slot, Rack, rack, ShopOf, Shop, shop, rack_at, with_rack, slots_in, names_in, times, EachReelOnce, IsDriveNamed, waiting_reel, at_first, to_bin}
+use Rattle.drives.specs.Shop.{KeptReel, kept_reel, Slot, slot, Rack, rack, ShopOf, Shop, shop, rack_at, with_rack, slots_in, names_in, times, EachReelOnce, IsDriveNamed, waiting_reel, at_first, to_bin}
+use Rattle.drives.specs.Calls.{StacksCall}
+use Rattle.drives.specs.Calls.StacksCall.{Latch, LayBack, Move}
 use Rattle.drives.specs.declared.fault.DriveFault.{DriveFault}
 use Rattle.drives.specs.declared.fault.DriveFault.TheVariants.{NoReel, Device, OutOfMemory, NameTaken}
 
@@ -33,13 +35,13 @@ abbrev pub rewound : TroubledTape → TroubledTape
 rewound r = record r { tape = tape [] (entries_of r.tape) }
 
 -- the reel at rest
-abbrev pub at_rest : TroubledTape → Kept
-at_rest r = kept (entries_of r.tape) r.capacity
+abbrev pub at_rest : TroubledTape → KeptReel
+at_rest r = kept_reel (entries_of r.tape) r.capacity
 
-abbrev pub rest_slot : Slot TroubledTape → Slot Kept
+abbrev pub rest_slot : Slot TroubledTape → Slot KeptReel
 rest_slot x = slot x.name (option_map at_rest x.reel)
 
-abbrev pub rest_rack : Rack TroubledTape → Rack Kept
+abbrev pub rest_rack : Rack TroubledTape → Rack KeptReel
 rest_rack r = rack r.name (map rest_slot r.stack)
 
 -- what is told of them: their reels at rest
@@ -65,8 +67,8 @@ abbrev pub troubled_in : ShopOf TroubledTape → ℕ
 troubled_in s = count_by (λ x. is_set_in x.reel) (slots_in s)
 
 -- a device can fail: that of the stacks, or that of a reel that lies on them or in the bin
-abbrev pub CanFail : ListShop → Type 0
-CanFail s = (s.trouble ≡ true) ⊎ (0 < troubled_in s.shop)
+abbrev pub StacksCanFail : ListShop → Type 0
+StacksCanFail s = (s.trouble ≡ true) ⊎ (0 < troubled_in s.shop)
 
 -- a device call of the stacks failed: it is counted, and the trouble is over
 abbrev pub after_failure : ListShop → ListShop
@@ -97,17 +99,29 @@ IsReelAdded old d name capacity (Err _) new = ⊥
 
 -- The reel that waits at drive d was latched, rewound, with its trouble and its count of failures. It is not only where
 -- none waits, or where one waits and the trouble is set, which is then counted and over.
-abbrev pub IsLatched : ListShop → ℕ → Result TroubledTape DriveFault → ListShop → Type 0
-IsLatched old d (Ok reel) new = (old.trouble ≡ false) × ((r : TroubledTape) × (waiting_reel old.shop d ≡ Some r) × (reel ≡ rewound r)) × (new ≡ with_shop old (at_first old.shop d None))
-IsLatched old d (Err NoReel) new = (waiting_reel old.shop d ≡ None) × (new ≡ old)
-IsLatched old d (Err Device) new = (old.trouble ≡ true) × IsSome (waiting_reel old.shop d) × (new ≡ after_failure old)
-IsLatched old d (Err _) new = ⊥
+abbrev pub IsReelLatched : ListShop → ℕ → Result TroubledTape DriveFault → ListShop → Type 0
+IsReelLatched old d (Ok reel) new =
+    (old.trouble ≡ false) × ((r : TroubledTape) × (waiting_reel old.shop d ≡ Some r) × (reel ≡ rewound r))
+    × (new ≡ with_shop old (at_first old.shop d None))
+IsReelLatched old d (Err NoReel) new = (waiting_reel old.shop d ≡ None) × (new ≡ old)
+IsReelLatched old d (Err Device) new = (old.trouble ≡ true) × IsSome (waiting_reel old.shop d) × (new ≡ after_failure old)
+IsReelLatched old d (Err _) new = ⊥
 
--- The reel was moved to the end of the bin. It is not only where the trouble is set, which is then counted and over;
--- the reel comes back as it was.
-abbrev pub IsMoved : {U : Type 0} → ListShop → ℕ → TroubledTape → Result U (TroubledTape × DriveFault) → ListShop → Type 0
-IsMoved old d reel (Ok x) new = (old.trouble ≡ false) × (new ≡ with_shop old (to_bin old.shop d reel))
-IsMoved old d reel (Err refused) new = (old.trouble ≡ true) × (refused ≡ (reel, Device)) × (new ≡ after_failure old)
+-- The reel was moved to the end of the bin. It is not only where the trouble is set, which is then counted and over.
+abbrev pub IsReelMoved : ListShop → ℕ → TroubledTape → Result Unit DriveFault → ListShop → Type 0
+IsReelMoved old d reel (Ok done) new = (old.trouble ≡ false) × (new ≡ with_shop old (to_bin old.shop d reel))
+IsReelMoved old d reel (Err Device) new = (old.trouble ≡ true) × (new ≡ after_failure old)
+IsReelMoved old d reel (Err _) new = ⊥
+
+-- the latched reel lies first on the stack again, as it is
+abbrev pub IsReelLaidBack : ListShop → ℕ → TroubledTape → ListShop → Type 0
+IsReelLaidBack old d reel new = new ≡ with_shop old (at_first old.shop d (Some reel))
+
+-- exactly what a call of stacks in memory leaves
+abbrev pub IsListCall : ListShop → ListShop → StacksCall TroubledTape → Type 0
+IsListCall old new (Latch d result) = IsReelLatched old d result new
+IsListCall old new (LayBack d reel) = IsReelLaidBack old d reel new
+IsListCall old new (Move d reel result) = IsReelMoved old d reel result new
 
 -- each reel stands once, so many reels are there, and the bin has room for all of them
 pub record IsStocked (s : ShopOf TroubledTape) (reels room : ℕ) : Type 0 where

@@ -1,13 +1,32 @@
 -- What an open of a drive promises.
-use Rattle.std.specs.Prelude.{◌≡◌, ℕ, ◌<◌, List, Option, Some, None, Result, Ok, Err, true, false}
-use Rattle.tape.specs.Failures.{HasRisen}
+use Rattle.std.specs.Prelude.{◌≡◌, ◌≢◌, ℕ, ◌<◌, List, Option, Some, None, Result, Ok, Err, true, false}
 use Rattle.tape.specs.Tape.{Tape}
+use Rattle.tape.specs.Failures.{Steps}
+use Rattle.tape.specs.declared.reel.Reel.{Ghosts as ReelPromise}
 use Rattle.drives.specs.declared.fault.DriveFault.{DriveFault}
-use Rattle.drives.specs.declared.fault.DriveFault.TheVariants.{NoSuchDrive, Busy, Device, NameTaken}
+use Rattle.drives.specs.declared.fault.DriveFault.TheVariants.{NoSuchDrive, Busy, NameTaken}
+use Rattle.drives.specs.declared.holds.Holds.{Ghosts as HoldsPromise}
+use Rattle.drives.specs.declared.stacks.Stacks.{Ghosts as StacksPromise}
+use Rattle.drives.specs.declared.table.DriveTable.{DriveTable}
 use Rattle.drives.specs.declared.view.View.{View}
 use Rattle.drives.specs.Holding.{has, taken, given, last_drive, word_after_take}
 use Rattle.drives.specs.Shop.{Shop, IsDriveNamed}
-use Rattle.drives.specs.Stacking.{LatchStep}
+use Rattle.drives.specs.Calls.{StacksKind, stacks_kind}
+use Rattle.drives.specs.Calls.StacksCall.{Latch}
+use Rattle.drives.specs.Stacking.{LatchStep, IsStacksCall}
+
+-- what holds, stacks and reels of these kinds promise
+pub record Kinds (H Seat S R : Type 0) : Type 1 where
+  pub holds : HoldsPromise H Seat
+  pub stacks : StacksKind S R
+  pub reels : ReelPromise R
+
+abbrev pub kinds : {H Seat S R : Type 0} → HoldsPromise H Seat → StacksPromise S R → ReelPromise R → Kinds H Seat S R
+kinds holds stacks reels = record {
+  holds = holds;
+  stacks = stacks_kind stacks.holds stacks.drives stacks.failures stacks.can_fail stacks.makes;
+  reels = reels;
+}
 
 -- What the seat did: nothing where there is no such drive, one take of the drive where it is opened or busy, and
 -- a take and a give where no reel could be latched.
@@ -23,11 +42,6 @@ abbrev pub drive_asked : {R : Type 0} → Result (ℕ × R) DriveFault → View 
 drive_asked (Err NoSuchDrive) new = None
 drive_asked result new = last_drive new
 
--- the drive that was opened
-abbrev pub drive_opened : {R : Type 0} → Result (ℕ × R) DriveFault → Option ℕ
-drive_opened (Ok opened) = Some opened.0
-drive_opened (Err fault) = None
-
 -- what the take found
 abbrev pub found_in_open : {R : Type 0} → Result (ℕ × R) DriveFault → ℕ
 found_in_open (Err (Busy n)) = n
@@ -40,13 +54,37 @@ word_after_open (Err fault) number d n = n
 
 -- the first line that applies: no drive of that name, busy, and then what the latch answers
 abbrev pub OpenStep : {R : Type 0} → (R → Tape → Type 0) → (R → ℕ) → List ℕ → Option ℕ → Result (ℕ × R) DriveFault → Shop → Shop → Type 0
-OpenStep holds capacity name asked (Ok opened) s now = (asked ≡ Some opened.0) × IsDriveNamed name s (Some opened.0) × LatchStep holds capacity opened.0 (Ok opened.1) s now
+OpenStep holds capacity name asked (Ok opened) s now =
+    (asked ≡ Some opened.0) × IsDriveNamed name s (Some opened.0) × LatchStep holds capacity opened.0 (Ok opened.1) s now
 OpenStep holds capacity name asked (Err NoSuchDrive) s now = IsDriveNamed name s None × (now ≡ s)
 OpenStep holds capacity name asked (Err (Busy n)) s now = (d : ℕ) × (asked ≡ Some d) × IsDriveNamed name s (Some d) × (now ≡ s)
-OpenStep holds capacity name asked (Err fault) s now = (d : ℕ) × (asked ≡ Some d) × IsDriveNamed name s (Some d) × LatchStep holds capacity d (Err fault) s now
+OpenStep holds capacity name asked (Err fault) s now =
+    (d : ℕ) × (asked ≡ Some d) × IsDriveNamed name s (Some d) × LatchStep holds capacity d (Err fault) s now
 
--- the device is at fault only where it failed
-abbrev pub IsOpenFault : DriveFault → ℕ → ℕ → Type 0
-IsOpenFault Device before now = HasRisen before now
-IsOpenFault NameTaken before now = ⊥
-IsOpenFault fault before now = Unit {0}
+-- the call of the stacks: none where there is no such drive or it is busy, else one latch of the drive that was asked for
+abbrev pub LatchesFor : {H Seat S R : Type 0} → Kinds H Seat S R → S → Option ℕ → Result (ℕ × R) DriveFault → S → Type 0
+LatchesFor k old asked (Ok opened) new = IsStacksCall k.stacks k.reels old (Latch opened.0 (Ok opened.1)) new
+LatchesFor k old asked (Err NoSuchDrive) new = new ≡ old
+LatchesFor k old asked (Err (Busy n)) new = new ≡ old
+LatchesFor k old asked (Err fault) new = (d : ℕ) × (asked ≡ Some d) × IsStacksCall k.stacks k.reels old (Latch d (Err fault)) new
+
+-- What an open of the drive of that name does: `result` is its answer.
+pub record IsOpening {H Seat S R : Type 0} (k : Kinds H Seat S R) (old : DriveTable H S Seat R) (seat : Seat) (name : List ℕ)
+    (result : Result (ℕ × R) DriveFault) (new : DriveTable H S Seat R) (seat' : Seat) : Type 0 where
+  -- the steps of the seat at the drives
+  pub view : SeatStep result (k.holds.shows seat) (k.holds.shows seat')
+  pub own : k.holds.belongs new.holds seat'
+  -- what the take found is what the holds tell
+  pub asked : (d : ℕ) → drive_asked result (k.holds.shows seat') ≡ Some d → d < k.holds.drives old.holds
+  pub found : (d n : ℕ) → drive_asked result (k.holds.shows seat') ≡ Some d → k.holds.tells old.holds d n → found_in_open result ≡ n
+  pub told : (d n : ℕ) → k.holds.tells old.holds d n
+      → k.holds.tells new.holds d (word_after_open result (k.holds.shows seat).number d n)
+  -- other seats hold what they held
+  pub others : (s : Seat) → (k.holds.shows s).number ≢ (k.holds.shows seat).number
+      → k.holds.belongs old.holds s → k.holds.belongs new.holds s
+  pub same_holds : k.holds.drives new.holds ≡ k.holds.drives old.holds
+  pub same_seats : k.holds.seated new.holds ≡ k.holds.seated old.holds
+  -- what is done to the stacks
+  pub step : Steps k.stacks.holds old.stacks new.stacks
+      (OpenStep k.reels.holds k.reels.capacity name (drive_asked result (k.holds.shows seat')) result)
+  pub call : LatchesFor k old.stacks (drive_asked result (k.holds.shows seat')) result new.stacks

@@ -5,12 +5,12 @@ use Rattle.std.specs.Str.{bytes_eq}
 use Rattle.tape.specs.Tape.{PlainEntry}
 
 -- a reel at rest: what stands on it, and how many bytes it takes
-pub record Kept : Type 0 where
+pub record KeptReel : Type 0 where
   pub entries : List PlainEntry
   pub capacity : ℕ
 
-abbrev pub kept : List PlainEntry → ℕ → Kept
-kept entries capacity = record { entries = entries; capacity = capacity }
+abbrev pub kept_reel : List PlainEntry → ℕ → KeptReel
+kept_reel entries capacity = record { entries = entries; capacity = capacity }
 
 -- one reel of a stack or of the bin: its name, and what it is, but while it is latched
 pub record Slot (X : Type 0) : Type 0 where
@@ -37,7 +37,7 @@ abbrev pub shop : {X : Type 0} → List (Rack X) → List (Slot X) → ShopOf X
 shop racks bin = record { racks = racks; bin = bin }
 
 abbrev pub Shop : Type 0
-Shop = ShopOf Kept
+Shop = ShopOf KeptReel
 
 -- the drive d
 abbrev pub rack_at : {X : Type 0} → ShopOf X → ℕ → Rack X
@@ -112,11 +112,11 @@ after_latch s d = at_first s d None
 
 -- the latched reel lies first on the stack again
 abbrev pub after_unlatch : Shop → ℕ → List PlainEntry → ℕ → Shop
-after_unlatch s d entries capacity = at_first s d (Some (kept entries capacity))
+after_unlatch s d entries capacity = at_first s d (Some (kept_reel entries capacity))
 
 -- the latched reel lies last in the bin
 abbrev pub after_offline : Shop → ℕ → List PlainEntry → ℕ → Shop
-after_offline s d entries capacity = to_bin s d (kept entries capacity)
+after_offline s d entries capacity = to_bin s d (kept_reel entries capacity)
 
 -- the bin has a reel of that name
 abbrev pub IsNameInBin : {X : Type 0} → ShopOf X → Option (List ℕ) → Type 0

@@ -1,4 +1,4 @@
-ghost use Rattle.std.specs.Prelude.{◌≡◌, ◌≢◌, ℕ, ◌<◌, ◌↔◌, IsTrue};
+ghost use Rattle.std.specs.Prelude.{◌≡◌, ◌≢◌, ℕ, ◌<◌, ◌≤◌, ◌↔◌, IsTrue};
 ghost use Rattle.drives.specs.declared.view.View.{View};
 ghost use Rattle.drives.specs.Holding.{has, taken, given, looked, found_by, Answers, word_after_take, word_after_give};
 
@@ -18,6 +18,9 @@ pub trait Holds {
     /// How many drives there are. They are numbered from 0.
     ghost drives: { Self → ℕ };
 
+    /// The last number that was given to a seat: seats are numbered from 1.
+    ghost seated: { Self → ℕ };
+
     /// What the seat knows.
     ghost shows: { Self.Seat → View };
 
@@ -34,7 +37,8 @@ pub trait Holds {
         ensures told { (d n : ℕ) → tells self.old d n → tells self.new d (word_after_take (shows seat.old).number drive d n) }
         ensures own { belongs self.new seat.new }
         ensures others { (s : Self.Seat) → (shows s).number ≢ (shows seat.old).number → belongs self.old s → belongs self.new s }
-        ensures same_drives { drives self.new ≡ drives self.old };
+        ensures same_drives { drives self.new ≡ drives self.old }
+        ensures same_seats { seated self.new ≡ seated self.old };
 
     /// Gives back a drive that the seat holds.
     fn give(&mut self, seat: &mut Self::Seat, drive: usize)
@@ -45,7 +49,8 @@ pub trait Holds {
         ensures told { (d n : ℕ) → tells self.old d n → tells self.new d (word_after_give drive d n) }
         ensures own { belongs self.new seat.new }
         ensures others { (s : Self.Seat) → (shows s).number ≢ (shows seat.old).number → belongs self.old s → belongs self.new s }
-        ensures same_drives { drives self.new ≡ drives self.old };
+        ensures same_drives { drives self.new ≡ drives self.old }
+        ensures same_seats { seated self.new ≡ seated self.old };
 
     /// The number of the seat that holds the drive, or 0.
     fn holder(&self, seat: &mut Self::Seat, drive: usize) -> u64
@@ -55,4 +60,10 @@ pub trait Holds {
         ensures mine { result ≡ (shows seat.old).number ↔ IsTrue (has (shows seat.old) drive) }
         ensures found { (n : ℕ) → tells self.now drive n → result ≡ n }
         ensures own { belongs self.now seat.new };
+
+    /// A seat's number was given: it is from 1 to the last one.
+    ghost numbered: { (all : Self) (s : Self.Seat) → belongs all s → (1 ≤ (shows s).number) × ((shows s).number ≤ seated all) };
+
+    /// Where they tell who holds a drive, it is the seat exactly where the seat holds that drive.
+    ghost agrees: { (all : Self) (s : Self.Seat) (d n : ℕ) → belongs all s → tells all d n → n ≡ (shows s).number ↔ IsTrue (has (shows s) d) };
 }

@@ -1,12 +1,10 @@
-ghost use Rattle.std.specs.Prelude.{◌≡◌, ◌≢◌, ◌⊎◌, ◌<◌, ℕ, IfOk, IfErr, IfSome, Err, None, MatchBool, length};
-ghost use Rattle.tape.specs.Failures.{Steps};
+ghost use Rattle.std.specs.Prelude.{◌≡◌, ◌<◌, IfErr, IfSome, None, MatchBool, length};
 ghost use Rattle.tape.specs.Trouble.{IsTapeOf};
-ghost use Rattle.tape.specs.Tape.{Tape, entries_of};
-ghost use Rattle.tape.specs.declared.trouble.Trouble.TheVariants.{None as NoTrouble};
 ghost use Rattle.drives.specs.declared.fault.DriveFault.TheVariants.{Device};
-ghost use Rattle.drives.specs.ListShop.{IsShop, CanFail, empty_shop, shop_of, after_failure, with_shop, IsDriveAdded, IsReelAdded, IsLatched, IsMoved};
-ghost use Rattle.drives.specs.Shop.{Shop, IsDriveNamed, rack_at, times, names_in, EachReelOnce, at_first, after_unlatch, after_offline};
-ghost use Rattle.drives.specs.Stacking.{LatchStep, StaysOnline, HasLatched, IsLatchFault, IsOfflineFault};
+ghost use Rattle.drives.specs.ListShop.{IsShop, StacksCanFail, empty_shop, shop_of, after_failure, IsDriveAdded, IsReelAdded, IsReelLatched, IsReelLaidBack, IsReelMoved, IsListCall};
+ghost use Rattle.drives.specs.Shop.{Shop, IsDriveNamed, rack_at, times, names_in, EachReelOnce};
+ghost use Rattle.drives.specs.Calls.{moved_result};
+ghost use Rattle.drives.specs.Stacking.{HasLatched};
 
 use crate::rack::{ListRack, any_named, any_stacked};
 use crate::{DriveFault, ListedReel, Stacks};
@@ -44,7 +42,7 @@ impl ListStacks {
     pub fn new(alloc: Global) -> ListStacks
         ensures empty { result ≡ empty_shop }
         ensures told { IsShop result (shop_of result) }
-        ensures quiet { CanFail result → ⊥ }
+        ensures quiet { StacksCanFail result → ⊥ }
     {
         ListStacks {
             alloc,
@@ -62,7 +60,7 @@ impl ListStacks {
     pub fn add_drive(&mut self, name: &[u8]) -> Result<usize, DriveFault>
         ensures added { IsDriveAdded self.old name.now result self.new }
         ensures told { IsShop self.new (shop_of self.new) }
-        ensures quiet { CanFail self.new → CanFail self.old }
+        ensures quiet { StacksCanFail self.new → StacksCanFail self.old }
     {
         if self.number_of(name).is_some() {
             return Err(DriveFault::NameTaken);
@@ -79,7 +77,7 @@ impl ListStacks {
         requires { drive < length self.old.shop.racks }
         ensures added { IsReelAdded self.old drive name.now capacity result self.new }
         ensures told { IsShop self.new (shop_of self.new) }
-        ensures quiet { CanFail self.new → CanFail self.old }
+        ensures quiet { StacksCanFail self.new → StacksCanFail self.old }
     {
         if self.has_reel(name) {
             return Err(DriveFault::NameTaken);
@@ -157,7 +155,7 @@ impl ListStacks {
     /// Latches the first reel of the drive's stack, as `Stacks::latch` does.
     fn take_first(&mut self, drive: usize) -> Result<TroubledReel, DriveFault>
         requires { drive < length self.old.shop.racks }
-        ensures latched { IsLatched self.old drive result self.new }
+        ensures latched { IsReelLatched self.old drive result self.new }
         ensures once { EachReelOnce self.old.shop }
     {
         if self.trouble {
@@ -180,7 +178,7 @@ impl ListStacks {
         requires latched { HasLatched IsShop self.old drive }
         ensures some { 0 < length (rack_at self.old.shop drive).stack }
         ensures once { EachReelOnce self.old.shop }
-        ensures laid { self.new ≡ with_shop self.old (at_first self.old.shop drive (Some reel)) }
+        ensures laid { IsReelLaidBack self.old drive reel self.new }
     {
         let rack = &mut self.racks[drive];
         rack.unlatch(reel);
@@ -196,7 +194,8 @@ impl ListStacks {
         requires latched { HasLatched IsShop self.old drive }
         ensures some { 0 < length (rack_at self.old.shop drive).stack }
         ensures once { EachReelOnce self.old.shop }
-        ensures moved { IsMoved self.old drive reel result self.new }
+        ensures moved { IsReelMoved self.old drive reel (moved_result result) self.new }
+        ensures back { IfErr result (λ refused. refused.0 ≡ reel) }
     {
         if self.trouble {
             return Err((reel, self.fail()));
@@ -232,7 +231,9 @@ impl Stacks for ListStacks {
 
     ghost failures = { λ s. s.failures };
 
-    ghost can_fail = { CanFail };
+    ghost can_fail = { StacksCanFail };
+
+    ghost makes = { IsListCall };
 
     fn drive(&self, name: &[u8]) -> Option<usize>
         ensures below { IfSome result (λ d. d < length self.now.shop.racks) }
@@ -245,29 +246,12 @@ impl Stacks for ListStacks {
     /// Answers `NoReel`, and `Device` where a reel lies there and the trouble is set. It takes no memory.
     ///
     /// The reel keeps its own trouble, if one is set, and its count of failures.
-    fn latch(&mut self, drive: usize) -> Result<TroubledReel, DriveFault>
-        requires { drive < length self.old.shop.racks }
-        ensures step { Steps IsShop self.old self.new (LatchStep IsTapeOf (λ r. r.capacity) drive result) }
-        ensures latched { IfOk result (λ _. HasLatched IsShop self.new drive) }
-        ensures stays { IfErr result (λ _. (d : ℕ) → HasLatched IsShop self.old d → HasLatched IsShop self.new d) }
-        ensures elsewhere { (d : ℕ) → d ≢ drive → HasLatched IsShop self.old d → HasLatched IsShop self.new d }
-        ensures faults { IfErr result (λ fault. IsLatchFault fault self.old.failures self.new.failures) }
-        ensures taken { IsLatched self.old drive result self.new }
-        ensures quiet { CanFail self.new → CanFail self.old }
-        ensures quiet_reel { IfOk result (λ reel. reel.trouble ≢ NoTrouble → CanFail self.old) }
-    {
+    fn latch(&mut self, drive: usize) -> Result<TroubledReel, DriveFault> {
         self.take_first(drive)
     }
 
     /// Lays the reel on its stack with its trouble, if one is set, and its count of failures.
-    fn unlatch(&mut self, drive: usize, reel: TroubledReel)
-        requires drive { drive < length self.old.shop.racks }
-        requires latched { HasLatched IsShop self.old drive }
-        ensures step { (t : Tape) → IsTapeOf reel t → Steps IsShop self.old self.new (λ s now. now ≡ after_unlatch s drive (entries_of t) reel.capacity) }
-        ensures elsewhere { (d : ℕ) → d ≢ drive → HasLatched IsShop self.old d → HasLatched IsShop self.new d }
-        ensures quiet { CanFail self.new → CanFail self.old ⊎ (reel.trouble ≢ NoTrouble) }
-        ensures laid { self.new ≡ with_shop self.old (at_first self.old.shop drive (Some reel)) }
-    {
+    fn unlatch(&mut self, drive: usize, reel: TroubledReel) {
         self.lay_first(drive, reel);
     }
 
@@ -278,17 +262,7 @@ impl Stacks for ListStacks {
         &mut self,
         drive: usize,
         reel: TroubledReel,
-    ) -> Result<(), (TroubledReel, DriveFault)>
-        requires drive { drive < length self.old.shop.racks }
-        requires latched { HasLatched IsShop self.old drive }
-        ensures moved { IfOk result (λ _. (t : Tape) → IsTapeOf reel t → Steps IsShop self.old self.new (λ s now. now ≡ after_offline s drive (entries_of t) reel.capacity)) }
-        ensures kept { IfErr result (λ refused. Steps IsShop self.old self.new (StaysOnline drive refused.1)) }
-        ensures still { IfErr result (λ _. HasLatched IsShop self.new drive) }
-        ensures elsewhere { (d : ℕ) → d ≢ drive → HasLatched IsShop self.old d → HasLatched IsShop self.new d }
-        ensures quiet { CanFail self.new → CanFail self.old ⊎ (reel.trouble ≢ NoTrouble) }
-        ensures faults { IfErr result (λ refused. IsOfflineFault refused.1 self.old.failures self.new.failures) }
-        ensures laid { IsMoved self.old drive reel result self.new }
-    {
+    ) -> Result<(), (TroubledReel, DriveFault)> {
         self.move_first(drive, reel)
     }
 

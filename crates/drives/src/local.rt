@@ -1,7 +1,7 @@
-ghost use Rattle.std.specs.Prelude.{◌≡◌, ◌≢◌, ◌<◌, ◌≤◌, ◌+◌, None, IfOk, IfSome, MatchOption, replicate};
+ghost use Rattle.std.specs.Prelude.{◌≡◌, ◌≢◌, ◌<◌, ◌≤◌, ◌+◌, None, IfOk, IfSome, MatchOption, replicate, length};
 ghost use Rattle.drives.specs.declared.view.View.{View};
 ghost use Rattle.drives.specs.Holding.{newcomer, moved, last_step, HoldsJust};
-ghost use Rattle.drives.specs.Local.{holders, IsSeatOf};
+ghost use Rattle.drives.specs.Local.{holders, IsSeatOf, IsHeldBy};
 
 #[cfg(test)]
 mod tests;
@@ -82,17 +82,29 @@ impl LocalHolds {
         };
         Some(LocalSeat { view })
     }
+
+    /// The number of the seat that holds the drive, or 0. It is no step of a seat.
+    pub fn number_at(&self, drive: usize) -> u64
+        requires { drive < length self.now.numbers }
+        ensures { IsHeldBy self.now drive result }
+    {
+        self.numbers[drive]
+    }
 }
 
 impl Holds for LocalHolds {
     ghost use Rattle.std.specs.Prelude.{length};
     ghost use Rattle.drives.specs.Local.{IsSeatOf, IsHeldBy};
+    ghost use Rattle.std.proofs.Common.{arith};
+    ghost use Rattle.std.proofs.lemmas.Bool.Decides.{nat_tests};
 
     type Seat = LocalSeat;
 
     ghost belongs = { IsSeatOf };
 
     ghost drives = { λ h. length h.numbers };
+
+    ghost seated = { λ h. h.last };
 
     ghost shows = { λ s. s };
 
@@ -121,4 +133,8 @@ impl Holds for LocalHolds {
         seat.count(StepKind::Look, drive, found);
         found
     }
+
+    ghost numbered = { λ all s h. (h.numbered, h.made) };
+
+    ghost agrees = { λ all s d n h k. let a = h.agrees d k.0 in let e = k.1 in (λ is. Prim.grind (arith, nat_tests), λ holds. Prim.grind (arith, nat_tests)) };
 }

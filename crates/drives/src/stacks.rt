@@ -1,9 +1,8 @@
-ghost use Rattle.std.specs.Prelude.{◌≡◌, ◌≢◌, ◌⊎◌, ℕ, ◌<◌, ◌≤◌, Err, IfSome, IfOk, IfErr, length};
-ghost use Rattle.tape.specs.Failures.{Steps};
-ghost use Rattle.tape.specs.Tape.{Tape, entries_of};
-ghost use Rattle.drives.specs.declared.fault.DriveFault.TheVariants.{Device};
-ghost use Rattle.drives.specs.Shop.{Shop, IsDriveNamed, EachReelOnce, after_unlatch, after_offline};
-ghost use Rattle.drives.specs.Stacking.{IsLatchFault, IsOfflineFault, LatchStep, StaysOnline, HasLatched};
+ghost use Rattle.std.specs.Prelude.{◌≡◌, ℕ, ◌<◌, IfSome, IfErr, length};
+ghost use Rattle.drives.specs.Shop.{Shop, IsDriveNamed, EachReelOnce};
+ghost use Rattle.drives.specs.Calls.{StacksCall, stacks_kind, moved_result};
+ghost use Rattle.drives.specs.Calls.StacksCall.{Latch, LayBack, Move};
+ghost use Rattle.drives.specs.Stacking.{HasLatched, IsStacksCall};
 
 use crate::DriveFault;
 use tape::Reel;
@@ -26,8 +25,11 @@ pub trait Stacks {
     ghost failures: { Self → ℕ };
 
     /// A device can fail in the next call: that of the stacks, or that of a reel that lies on them or in the bin.
-    /// No call brings that about, but to lay a reel there whose device can fail.
+    /// No call brings that about, but to bring a reel whose device can fail.
     ghost can_fail: { Self → Type 0 };
+
+    /// What a call of this kind of stacks promises beside what it promises of all stacks.
+    ghost makes: { Self → Self → StacksCall Self.Reel → Type 0 };
 
     /// The first drive of that name. It takes no memory.
     fn drive(&self, name: &[u8]) -> Option<usize>
@@ -40,27 +42,13 @@ pub trait Stacks {
     /// has changed then.
     fn latch(&mut self, drive: usize) -> Result<Self::Reel, DriveFault>
         requires { drive < drives self.old }
-        ensures step { Steps holds self.old self.new (LatchStep Self.Reel.holds Self.Reel.capacity drive result) }
-        ensures latched { IfOk result (λ _. HasLatched holds self.new drive) }
-        ensures stays { IfErr result (λ _. (d : ℕ) → HasLatched holds self.old d → HasLatched holds self.new d) }
-        ensures elsewhere { (d : ℕ) → d ≢ drive → HasLatched holds self.old d → HasLatched holds self.new d }
-        ensures faults { IfErr result (λ fault. IsLatchFault fault (failures self.old) (failures self.new)) }
-        ensures failed { (failures self.new ≡ failures self.old) ⊎ (result ≡ Err Device) }
-        ensures able { result ≡ Err Device → can_fail self.old }
-        ensures quiet { can_fail self.new → can_fail self.old }
-        ensures quiet_reel { IfOk result (λ reel. Self.Reel.can_fail reel → can_fail self.old) }
-        ensures counted { failures self.old ≤ failures self.new }
-        ensures same_drives { drives self.new ≡ drives self.old };
+        ensures { IsStacksCall (stacks_kind holds drives failures can_fail makes) Self.Reel.Reel self.old (Latch drive result) self.new };
 
     /// Lays the latched reel on its stack again. It takes no memory, makes no call of the device, and never fails.
     fn unlatch(&mut self, drive: usize, reel: Self::Reel)
         requires drive { drive < drives self.old }
         requires latched { HasLatched holds self.old drive }
-        ensures step { (t : Tape) → Self.Reel.holds reel t → Steps holds self.old self.new (λ s now. now ≡ after_unlatch s drive (entries_of t) (Self.Reel.capacity reel)) }
-        ensures elsewhere { (d : ℕ) → d ≢ drive → HasLatched holds self.old d → HasLatched holds self.new d }
-        ensures quiet { can_fail self.new → can_fail self.old ⊎ Self.Reel.can_fail reel }
-        ensures unfailed { failures self.new ≡ failures self.old }
-        ensures same_drives { drives self.new ≡ drives self.old };
+        ensures { IsStacksCall (stacks_kind holds drives failures can_fail makes) Self.Reel.Reel self.old (LayBack drive reel) self.new };
 
     /// Moves the latched reel to the end of the bin.
     ///
@@ -69,18 +57,8 @@ pub trait Stacks {
     fn offline(&mut self, drive: usize, reel: Self::Reel) -> Result<(), (Self::Reel, DriveFault)>
         requires drive { drive < drives self.old }
         requires latched { HasLatched holds self.old drive }
-        ensures moved { IfOk result (λ _. (t : Tape) → Self.Reel.holds reel t → Steps holds self.old self.new (λ s now. now ≡ after_offline s drive (entries_of t) (Self.Reel.capacity reel))) }
-        ensures kept { IfErr result (λ refused. Steps holds self.old self.new (StaysOnline drive refused.1)) }
-        ensures back { IfErr result (λ refused. refused.0 ≡ reel) }
-        ensures still { IfErr result (λ _. HasLatched holds self.new drive) }
-        ensures elsewhere { (d : ℕ) → d ≢ drive → HasLatched holds self.old d → HasLatched holds self.new d }
-        ensures unfailed { IfOk result (λ _. failures self.new ≡ failures self.old) }
-        ensures failed { IfErr result (λ refused. (failures self.new ≡ failures self.old) ⊎ (refused.1 ≡ Device)) }
-        ensures able { IfErr result (λ refused. refused.1 ≡ Device → can_fail self.old) }
-        ensures quiet { can_fail self.new → can_fail self.old ⊎ Self.Reel.can_fail reel }
-        ensures faults { IfErr result (λ refused. IsOfflineFault refused.1 (failures self.old) (failures self.new)) }
-        ensures counted { failures self.old ≤ failures self.new }
-        ensures same_drives { drives self.new ≡ drives self.old };
+        ensures call { IsStacksCall (stacks_kind holds drives failures can_fail makes) Self.Reel.Reel self.old (Move drive reel (moved_result result)) self.new }
+        ensures back { IfErr result (λ refused. refused.0 ≡ reel) };
 
     /// How often the device has failed. It stays at the greatest `u64`.
     fn failures(&self) -> u64

@@ -1,8 +1,33 @@
+use Rattle.std.proofs.Common.{ℕ, ◌<◌, sym, subst, ◌∙◌, ap, ◌≡◌, Some, arith}
 use Rattle.drives.proofs.Held.{given_back}
+use Rattle.drives.proofs.Refused.{latch_refused, word_given_back}
+use Rattle.drives.specs.Holding.{given, taken}
+use Rattle.drives.specs.Opening.{kinds}
 use Rattle.drives.proofs.table.DriveTable.open.Goals as goal
+
+some_same : {a b : ℕ} → Some a ≡ Some b → a ≡ b
+some_same e = cc
 
 pub returns-in-Err-clause-held : goal.returns-in-Err-clause-held
 returns-in-Err-clause-held g c = given_back (g.H.Holds.shows c.args.seat.now) (g.H.Holds.shows c.take.new.seat) _ _ c.give.ensures.step c.in_default-take.ensures.step c.in_default-take.ensures.answer.1
 
-pub returns-in-Err-clause-elsewhere : goal.returns-in-Err-clause-elsewhere
-returns-in-Err-clause-elsewhere g c = λ d n. c.in-Err.ensures.stays d
+pub returns-in-Err-clause-opens : goal.returns-in-Err-clause-opens
+returns-in-Err-clause-opens g c =
+    let d = c.in-Some.drive in
+    let old = g.H.Holds.shows c.args.seat.now in
+    let view = c.give.ensures.step ∙ ap (λ v. given v d) c.in_default-take.ensures.step in
+    let refused = latch_refused (kinds g.H.Holds g.S.Stacks g.S.Reel.Reel) old (g.H.Holds.shows c.give.new.seat) c.args.name.now c.args.self.now.stacks c.latch.new.self d c.in-Err.fault view c.in-Some.ensures.named c.in-Err.ensures in
+    record {
+      view = refused.seat;
+      own = c.give.ensures.own;
+      asked = λ e is. subst (λ n. n < g.H.Holds.drives c.args.self.now.holds) (some_same (sym refused.asked ∙ is)) (omega (arith, c.in-Some.ensures.below, c.requires.drives));
+      found = λ e n is tells. refused.found ∙ c.in_default-take.ensures.found n (subst (λ m. g.H.Holds.tells c.args.self.now.holds m n) (sym (some_same (sym refused.asked ∙ is))) tells);
+      told = λ e n tells. subst (λ m. g.H.Holds.tells c.give.new.self e m)
+          (word_given_back old.number d e n (λ same. c.in_default-take.ensures.found n (subst (λ m. g.H.Holds.tells c.args.self.now.holds m n) same tells)))
+          (c.give.ensures.told e _ (c.in_default-take.ensures.told e n tells));
+      others = λ s n was. c.give.ensures.others s (λ e. n (e ∙ ap (λ v. v.number) c.in_default-take.ensures.step)) (c.in_default-take.ensures.others s n was);
+      same_holds = c.give.ensures.same_drives ∙ c.in_default-take.ensures.same_drives;
+      same_seats = c.give.ensures.same_seats ∙ c.in_default-take.ensures.same_seats;
+      step = refused.step;
+      call = refused.call;
+    }
