@@ -1,10 +1,12 @@
-pub mod Seats
-pub mod Steps
-pub mod Opens
-pub mod Moving
-pub mod Carried
-pub mod Alone
-pub mod Sharing
+mod Alone
+mod Answering
+mod Closed
+mod Moved
+mod Opens
+mod Seats
+pub mod ServeSteps
+mod Sharing
+mod Sound
 pub mod Spelling
-pub mod Takes
-pub mod Serving
+mod Steps
+mod Takes

@@ -1,5 +1,5 @@
 -- An open that is carried out is a serve step where the stacks tell.
-use Rattle.std.proofs.Common.{◌≡◌, ℕ, ◌<◌, ◌≤◌, Bool, true, false, IsTrue, List, [], Option, Some, Result, Ok, Err, refl, ap, arith}
+use Rattle.std.proofs.Common.{◌≡◌, ◌≢◌, ◌⊎◌, ℕ, ◌<◌, ◌≤◌, Bool, true, false, IsTrue, List, [], Option, Some, None, Result, Ok, Err, refl, ap, subst, inl, inr, arith}
 use Rattle.tape.specs.Tape.{Tape, tape}
 use Rattle.tape.specs.Failures.{HasRisen}
 use Rattle.tape.specs.declared.reel.Reel.{Ghosts as ReelPromise}
@@ -7,26 +7,20 @@ use Rattle.rmt_server.specs.declared.access.Access.{Access}
 use Rattle.drives.specs.declared.view.View.{View}
 use Rattle.drives.specs.declared.fault.DriveFault.{DriveFault}
 use Rattle.drives.specs.declared.fault.DriveFault.TheVariants.{NoSuchDrive, Busy, NoReel, Device, OutOfMemory, NameTaken}
-use Rattle.drives.specs.Holding.{last_drive}
+use Rattle.drives.specs.declared.view.StepKind.TheVariants.{Take}
+use Rattle.drives.specs.Holding.{last_drive, last_step}
 use Rattle.drives.specs.Shop.{Shop}
-use Rattle.drives.specs.Opening.{OpenStep, SeatStep, drive_asked, found_in_open}
+use Rattle.drives.specs.Calls.StacksCall.{Latch}
+use Rattle.drives.specs.Stacking.{HasLatched, ReelCanFail, IsStacksCall}
+use Rattle.drives.specs.Opening.{Kinds, OpenStep, SeatStep, LatchesFor, drive_asked, found_in_open}
 use Rattle.rmt_server.specs.Session.{PlainReel, plain_reel, IsOpenExcused, open_reply, session_after}
-use Rattle.rmt_server.specs.Carrying.{IsSeenAs, opened_by, IsFaultOf}
+use Rattle.rmt_server.specs.State.{IsSeenAs, reel_of, online_drive}
+use Rattle.rmt_server.specs.Opening.{opened_by}
 
 -- the stacks' device is at fault
 pub is_device : {R : Type 0} → Result (ℕ × R) DriveFault → Bool
 is_device (Err Device) = true
 is_device result = false
-
-pub is_device-means : {R : Type 0} (result : Result (ℕ × R) DriveFault) (before now : ℕ) → IsFaultOf result before now → IsTrue (is_device result) → HasRisen before now
-unfolding is_device
-is_device-means (Ok taken) before now h t = absurd cc
-is_device-means (Err NoSuchDrive) before now h t = absurd cc
-is_device-means (Err (Busy n)) before now h t = absurd cc
-is_device-means (Err NoReel) before now h t = absurd cc
-is_device-means (Err Device) before now h t = h
-is_device-means (Err OutOfMemory) before now h t = absurd cc
-is_device-means (Err NameTaken) before now h t = absurd cc
 
 pub is_device-is : {R : Type 0} (result : Result (ℕ × R) DriveFault) → IsTrue (is_device result) → result ≡ Err Device
 unfolding is_device
@@ -43,15 +37,15 @@ pub HasRisen-earlier : (a b c : ℕ) → a ≤ b → HasRisen b c → HasRisen a
 HasRisen-earlier a b c l h = omega arith
 
 -- what the drives answered has its cause
-pub is-excused : {R : Type 0} (result : Result (ℕ × R) DriveFault) (v w : View) (before now : ℕ) → SeatStep result v w → IsFaultOf result before now → IsOpenExcused (is_device result) result
+pub is-excused : {R : Type 0} (result : Result (ℕ × R) DriveFault) (v w : View) → SeatStep result v w → IsOpenExcused (is_device result) result
 unfolding is_device
-is-excused (Ok taken) v w before now s f = tt
-is-excused (Err NoSuchDrive) v w before now s f = tt
-is-excused (Err (Busy n)) v w before now s f = s.0
-is-excused (Err NoReel) v w before now s f = tt
-is-excused (Err Device) v w before now s f = refl
-is-excused (Err OutOfMemory) v w before now s f = tt
-is-excused (Err NameTaken) v w before now s f = f
+is-excused (Ok taken) v w s = tt
+is-excused (Err NoSuchDrive) v w s = tt
+is-excused (Err (Busy n)) v w s = s.0
+is-excused (Err NoReel) v w s = tt
+is-excused (Err Device) v w s = refl
+is-excused (Err OutOfMemory) v w s = tt
+is-excused (Err NameTaken) v w s = s
 
 -- the drive that was asked for is that of the seat's last step
 pub asked-last : {R : Type 0} (result : Result (ℕ × R) DriveFault) (v : View) (d : ℕ) → drive_asked result v ≡ Some d → last_drive v ≡ Some d
@@ -63,12 +57,12 @@ asked-last (Err Device) v d e = e
 asked-last (Err OutOfMemory) v d e = e
 asked-last (Err NameTaken) v d e = e
 
--- a take that found another seat was of a drive
+-- a take that found another seat was of a drive, and is the seat's last step
 pub busy-asked : {R : Type 0} (result : Result (ℕ × R) DriveFault) (v w : View) → SeatStep result v w → 0 < found_in_open result
-    → (d : ℕ) × (drive_asked result w ≡ Some d)
+    → (d : ℕ) × (drive_asked result w ≡ Some d) × (w.last ≡ Some (last_step Take d (found_in_open result)))
 busy-asked (Ok taken) v w s x = absurd (omega arith)
 busy-asked (Err NoSuchDrive) v w s x = absurd (omega arith)
-busy-asked (Err (Busy n)) v w s x = (s.1.0, ap last_drive s.1.1)
+busy-asked (Err (Busy n)) v w s x = (s.1.0, ap last_drive s.1.1, ap (λ (v : View). v.last) s.1.1)
 busy-asked (Err NoReel) v w s x = absurd (omega arith)
 busy-asked (Err Device) v w s x = absurd (omega arith)
 busy-asked (Err OutOfMemory) v w s x = absurd (omega arith)
@@ -101,3 +95,72 @@ open-seen r device access asked (Err NoReel) shop shop' x h = record { plain = E
 open-seen r device access asked (Err Device) shop shop' x h = record { plain = Err Device; step = h; found = refl; excused = x; reply = refl; seen = refl }
 open-seen r device access asked (Err OutOfMemory) shop shop' x h = record { plain = Err OutOfMemory; step = h; found = refl; excused = x; reply = refl; seen = refl }
 open-seen r device access asked (Err NameTaken) shop shop' x h = record { plain = Err NameTaken; step = h; found = refl; excused = x; reply = refl; seen = refl }
+
+-- what an open keeps of the stacks, by the latch that it asked for
+err-is : {X : Type 0} (r : Result X DriveFault) (a b : DriveFault) → r ≡ Err a → r ≡ Err b → a ≡ b
+err-is r a b e f = cc
+
+pub record IsLatching {H S Seat R : Type 0} (k : Kinds H Seat S R) (old : S) (result : Result (ℕ × R) DriveFault) (new : S) : Type 0 where
+  pub device : result ≡ Err Device → HasRisen (k.stacks.failures old) (k.stacks.failures new)
+  pub able : result ≡ Err Device → k.stacks.can_fail old
+  pub quiet : k.stacks.can_fail new → k.stacks.can_fail old
+  pub quiet_reel : (access : Access) → ReelCanFail k.reels (reel_of (opened_by access result)) → k.stacks.can_fail old
+  pub counted : k.stacks.failures old ≤ k.stacks.failures new
+  pub same_drives : k.stacks.drives new ≡ k.stacks.drives old
+  pub latched : (access : Access) (d : ℕ) → online_drive (opened_by access result) ≡ Some d → HasLatched k.stacks.holds new d
+  pub elsewhere : (d : ℕ) → HasLatched k.stacks.holds old d → HasLatched k.stacks.holds new d
+
+-- where no latch was asked for
+no-latch : {H S Seat R : Type 0} (k : Kinds H Seat S R) (old : S) (fault : DriveFault) (new : S) → fault ≢ Device → new ≡ old → IsLatching k old (Err fault) new
+no-latch k old fault new n e = record {
+  device = λ x. absurd (n (err-is _ fault Device refl x));
+  able = λ x. absurd (n (err-is _ fault Device refl x));
+  quiet = λ f. subst k.stacks.can_fail e f;
+  quiet_reel = λ access f. absurd f;
+  counted = rw e (omega arith);
+  same_drives = ap k.stacks.drives e;
+  latched = λ access d x. absurd cc;
+  elsewhere = λ d l. rw e l;
+}
+
+-- where one was refused
+bad-latch : {H S Seat R : Type 0} (k : Kinds H Seat S R) (old : S) (d : ℕ) (fault : DriveFault) (new : S) → IsStacksCall k.stacks k.reels old (Latch d (Err fault)) new → IsLatching k old (Err fault) new
+bad-latch k old d fault new call = record {
+  device = λ x. call.device (ap Some (err-is _ fault Device refl x));
+  able = λ x. call.able (ap Some (err-is _ fault Device refl x));
+  quiet = λ f. elim (call.quiet f) [ inl x ↦ x | inr x ↦ absurd x ];
+  quiet_reel = λ access f. absurd f;
+  counted = call.counted;
+  same_drives = call.same_drives;
+  latched = λ access d x. absurd cc;
+  elsewhere = λ d l. call.elsewhere d (λ x. absurd cc) l;
+}
+
+pub latching : {H S Seat R : Type 0} (k : Kinds H Seat S R) (old : S) (asked : Option ℕ) (result : Result (ℕ × R) DriveFault) (new : S) → LatchesFor k old asked result new → IsLatching k old result new
+latching k old asked (Ok opened) new call = record {
+  device = λ x. absurd cc;
+  able = λ x. absurd cc;
+  quiet = λ f. elim (call.quiet f) [ inl x ↦ x | inr x ↦ absurd x ];
+  quiet_reel = λ access f. call.quiet_reel f;
+  counted = call.counted;
+  same_drives = call.same_drives;
+  latched = λ access d x. call.latched d x;
+  elsewhere = λ d l. call.elsewhere d (λ x. absurd cc) l;
+}
+latching k old asked (Err NoSuchDrive) new e = no-latch k old NoSuchDrive new (λ x. absurd cc) e
+latching k old asked (Err (Busy n)) new e = no-latch k old (Busy n) new (λ x. absurd cc) e
+latching k old asked (Err NoReel) new (d, a, call) = bad-latch k old d NoReel new call
+latching k old asked (Err Device) new (d, a, call) = bad-latch k old d Device new call
+latching k old asked (Err OutOfMemory) new (d, a, call) = bad-latch k old d OutOfMemory new call
+latching k old asked (Err NameTaken) new (d, a, call) = bad-latch k old d NameTaken new call
+
+-- an open leaves the seat its number
+pub open-number : {R : Type 0} (result : Result (ℕ × R) DriveFault) (rested after : View) → SeatStep result rested after → after.number ≡ rested.number
+open-number (Ok opened) rested after s = ap (λ (v : View). v.number) s.3
+open-number (Err NoSuchDrive) rested after s = ap (λ (v : View). v.number) s
+open-number (Err (Busy n)) rested after s = ap (λ (v : View). v.number) s.1.1
+open-number (Err NoReel) rested after s = ap (λ (v : View). v.number) s.1
+open-number (Err Device) rested after s = ap (λ (v : View). v.number) s.1
+open-number (Err OutOfMemory) rested after s = ap (λ (v : View). v.number) s.1
+open-number (Err NameTaken) rested after s = absurd s
+

@@ -6,10 +6,10 @@ use Rattle.rmt_wire.specs.Number.{HasNoLineFeed}
 use Rattle.rmt_wire.specs.Reply.{HasSpelling}
 use Rattle.rmt_server.specs.declared.refusal.Refusal.{Refusal}
 use Rattle.rmt_server.specs.declared.refusal.Refusal.TheVariants.{NoSuchFile, InputOutput, NotConfigured, BadDescriptor, NoMemory, Permission, Busy, Invalid, NoSpace}
-use Rattle.rmt_server.specs.declared.session.carry.Given.{Given}
-use Rattle.rmt_server.specs.declared.session.carry.Given.TheVariants.{Number, Bytes}
+use Rattle.rmt_server.specs.declared.session.dispatch.Given.{Given}
+use Rattle.rmt_server.specs.declared.session.dispatch.Given.TheVariants.{Number, Bytes}
 use Rattle.rmt_server.specs.Refusals.{refused, text_of}
-use Rattle.rmt_server.specs.Carrying.{outcome_reply, IsGiven}
+use Rattle.rmt_server.specs.Replies.{outcome_reply, IsOutcomeSayable}
 
 is_line : List ℕ → Bool
 is_line [] = true
@@ -39,7 +39,7 @@ refused-spelled Busy = (omega arith, omega arith, is_line-means (text_of Busy) r
 refused-spelled Invalid = (omega arith, omega arith, is_line-means (text_of Invalid) refl)
 refused-spelled NoSpace = (omega arith, omega arith, is_line-means (text_of NoSpace) refl)
 
-pub outcome-spelled : (outcome : Result Given Refusal) (buffer : List ℕ) → length buffer ≡ data_limit → IsGiven outcome buffer → HasSpelling (outcome_reply outcome buffer)
-outcome-spelled (Ok (Number n)) buffer l h = h
-outcome-spelled (Ok (Bytes n)) buffer l h = omega (arith, length-take n buffer)
-outcome-spelled (Err r) buffer l h = refused-spelled r
+pub outcome_spelled : (outcome : Result Given Refusal) (buffer : List ℕ) → length buffer ≡ data_limit → IsOutcomeSayable outcome → HasSpelling (outcome_reply outcome buffer)
+outcome_spelled (Ok (Number n)) buffer l h = h
+outcome_spelled (Ok (Bytes n)) buffer l h = omega (arith, length-take n buffer)
+outcome_spelled (Err r) buffer l h = refused-spelled r

@@ -7,12 +7,15 @@ use Rattle.tape.specs.Tape.TapeAnswer.{Done as Did, Gave, Fault}
 use Rattle.tape.specs.declared.reel.Reel.{Ghosts as ReelPromise}
 use Rattle.tape.specs.declared.fault.TapeFault.TheVariants as fault
 use Rattle.rmt_server.specs.declared.refusal.Refusal.{Refusal}
-use Rattle.rmt_server.specs.declared.session.opened.Opened.{Opened}
+use Rattle.rmt_server.specs.declared.session.desk.Opened.{Opened}
 use Rattle.rmt_server.specs.Refusals.{refused}
 use Rattle.drives.specs.Shop.{Shop}
 use Rattle.rmt_server.specs.Session.{PlainSession, plain_reel, scene, status_of, refusal, IsExcused, ReelStep}
 use Rattle.rmt_server.specs.Session.PlainSession.{Online}
-use Rattle.rmt_server.specs.Carrying.{IsSeenWith, IsSeenAs, CallsIn, CallsReel, ReelServes, ReelFailedIn, ReelCanFail, reel_of, status_at, status_in}
+use Rattle.drives.specs.Stacking.{ReelCanFail}
+use Rattle.rmt_server.specs.State.{IsSeenWith, IsSeenAs, reel_of, status_at, status_in}
+use Rattle.rmt_server.specs.Serving.{CallsIn, CallsReel, ReelServes}
+use Rattle.rmt_server.specs.Carrying.{ReelFailed}
 
 -- the reel's device is at fault
 pub is_device : TapeAnswer → Bool
@@ -45,7 +48,7 @@ pub record ReelServed {R : Type 0} (r : ReelPromise R) (reel : Option R) (new : 
   pub after : PlainSession
   pub seen : IsSeenAs r new after
   pub troubled : Bool
-  pub trouble : IsTrue troubled → ReelFailedIn r reel new
+  pub trouble : IsTrue troubled → ReelFailed r reel (reel_of new)
   pub able : IsTrue troubled → ReelCanFail r reel
   pub step : MatchOption refused_by (ReelStep troubled r.GROWS (scene shop session) request reply (scene shop after))
       (λ x. (reply ≡ refused x) × (scene shop after ≡ scene shop session))

@@ -10,7 +10,9 @@ use Rattle.drives.specs.Holding.{taken}
 use Rattle.drives.specs.Opening.{SeatStep}
 use Rattle.rmt_server.specs.Refusals.{refused, text_of}
 use Rattle.rmt_server.specs.Session.{open_reply}
-use Rattle.rmt_server.specs.Carrying.{drive_of, opened_by, view_after_close, HasTaken, TakesFor}
+use Rattle.rmt_server.specs.State.{drive_of}
+use Rattle.rmt_server.specs.Opening.{opened_by, view_after_close}
+use Rattle.rmt_server.specs.Carrying.{HasTaken, TakesFor}
 
 -- one take, after a give where a drive was open
 taken-after : (before : View) (given_back : Option ℕ) (d n : ℕ) (rested after : View) → rested ≡ view_after_close before given_back → after ≡ taken rested d n → HasTaken before given_back d n after
@@ -40,16 +42,6 @@ open-takes before given_back access (Err drive.NoReel) rested after e s = record
 open-takes before given_back access (Err drive.Device) rested after e s = record { accepted = λ r. absurd cc; busy = λ r. absurd (not-busy 5 _ (λ x. absurd (omega arith)) r) }
 open-takes before given_back access (Err drive.OutOfMemory) rested after e s = record { accepted = λ r. absurd cc; busy = λ r. absurd (not-busy 12 _ (λ x. absurd (omega arith)) r) }
 open-takes before given_back access (Err drive.NameTaken) rested after e s = record { accepted = λ r. absurd cc; busy = λ r. absurd (not-busy 5 _ (λ x. absurd (omega arith)) r) }
-
--- an open leaves the seat its number
-pub open-number : {R : Type 0} (result : Result (ℕ × R) DriveFault) (rested after : View) → SeatStep result rested after → after.number ≡ rested.number
-open-number (Ok opened) rested after s = ap (λ (v : View). v.number) s.3
-open-number (Err drive.NoSuchDrive) rested after s = ap (λ (v : View). v.number) s
-open-number (Err (drive.Busy n)) rested after s = ap (λ (v : View). v.number) s.1.1
-open-number (Err drive.NoReel) rested after s = ap (λ (v : View). v.number) s.1
-open-number (Err drive.Device) rested after s = ap (λ (v : View). v.number) s.1
-open-number (Err drive.OutOfMemory) rested after s = ap (λ (v : View). v.number) s.1
-open-number (Err drive.NameTaken) rested after s = absurd s
 
 -- an open for no access takes nothing
 pub invalid-takes : (before after : View) (given_back opened : Option ℕ) → TakesFor before given_back (refused Invalid) after opened

@@ -1,7 +1,11 @@
 pub mod Access
 pub mod Refusals
-pub mod Desk
 pub mod Session
-pub mod Carrying
-pub mod Troubling
+pub mod State
+pub mod Replies
+pub mod Opening
+pub mod Moving
 pub mod Serving
+pub mod Carrying
+pub mod Stream
+pub mod Troubling

@@ -1,128 +1,33 @@
--- What a server does with a stream of requests.
-use Rattle.std.specs.Prelude.{◌≡◌, ◌≢◌, ℕ, ◌<◌, Bool, List, [], ◌∷◌, ◌++◌, map, take, Option, Some, None, Result, Ok, Err}
-use Rattle.std.specs.List.{flat_map}
-use Rattle.std.specs.Io.KnownBytes.{Appends, Consumes, IsAtEnd}
+-- What the open reel serves: writes, reads, and the operations of mtio but MTOFFL.
+use Rattle.std.specs.Prelude.{◌≡◌, Option, Some, None, MatchOption}
 use Rattle.rmt_wire.specs.Request.{PlainRequest}
-use Rattle.rmt_wire.specs.Reply.{PlainReply, HasSpelling, reply_text}
-use Rattle.rmt_wire.specs.Parts.{IsOpen, HasNoSpelling, Spelled, HasFault}
-use Rattle.rmt_wire.specs.Counted.{Counting, HasRisen}
-use Rattle.rmt_wire.specs.Reader.{Held, Unread, reader_limit, taken_of}
-use Rattle.rmt_wire.specs.declared.fault.WireFault.{WireFault}
-use Rattle.rmt_wire.specs.declared.writer.OutputFault.{OutputFault}
+use Rattle.rmt_wire.specs.Reply.{PlainReply}
+use Rattle.tape.specs.Tape.{TapeAnswer}
 use Rattle.tape.specs.declared.reel.Reel.{Ghosts as ReelPromise}
-use Rattle.drives.specs.declared.holds.Holds.{Ghosts as HoldsPromise}
-use Rattle.drives.specs.declared.stacks.Stacks.{Ghosts as StacksPromise}
-use Rattle.drives.specs.declared.table.DriveTable.{DriveTable}
-use Rattle.rmt_server.specs.declared.session.opened.Opened.{Opened}
-use Rattle.rmt_server.specs.declared.stream.Served.{Served}
-use Rattle.rmt_server.specs.declared.stream.Served.TheVariants.{End, Truncated, Broken}
-use Rattle.rmt_server.specs.declared.stream.ServeFault.{ServeFault}
-use Rattle.rmt_server.specs.declared.stream.ServeFault.TheVariants.{Input, Output}
-use Rattle.rmt_server.specs.Session.{Scene, closed, ServeRun}
-use Rattle.rmt_server.specs.Carrying.{drive_of, Tells, IsClosed, IsCarriedOut, MayFail, MayShare}
+use Rattle.drives.specs.Opening.{Kinds}
+use Rattle.rmt_server.specs.declared.session.desk.Opened.{Opened}
+use Rattle.rmt_server.specs.Refusals.{refused}
+use Rattle.rmt_server.specs.Session.{refusal, reel_reply, tape_request}
+use Rattle.rmt_server.specs.State.{State, status_at, IsReelCall}
 
--- requests with their replies
-abbrev pub Exchange : Type 0
-Exchange = PlainRequest × PlainReply
+-- one call of the open reel, which alone changes
+abbrev pub CallsIn : {R : Type 0} → ReelPromise R → Opened R → Option R → Option (Opened R) → PlainRequest → PlainReply → Type 0
+CallsIn r device None new request reply = ⊥
+CallsIn {R} r device (Some reel) new request reply =
+    (answer : TapeAnswer) × (moved : R) × (new ≡ Some (record device { reel = Some moved })) × (reply ≡ reel_reply request answer)
+    × IsReelCall r reel (tape_request request) answer moved
 
-abbrev pub requests_of : List Exchange → List PlainRequest
-requests_of done = map (λ e. e.0) done
+abbrev pub CallsReel : {R : Type 0} → ReelPromise R → Option (Opened R) → Option (Opened R) → PlainRequest → PlainReply → Type 0
+CallsReel r None new request reply = ⊥
+CallsReel r (Some device) new request reply = CallsIn r device device.reel new request reply
 
--- what is written: the spellings of the replies, joined
-abbrev pub replies_text : List Exchange → List ℕ
-replies_text done = flat_map (λ e. reply_text e.1) done
+-- a request that the open reel serves: the first check that refuses it decides, else one call of the reel
+abbrev pub ReelServes : {R : Type 0} → ReelPromise R → Option (Opened R) → Option (Opened R) → PlainRequest → PlainReply → Type 0
+ReelServes r old new request reply =
+    MatchOption (refusal (status_at old) request) (CallsReel r old new request reply)
+    (λ refusal. (reply ≡ refused refusal) × (new ≡ old))
 
--- requests carried out one after another, whatever is told, with replies that have a spelling: drives, seat and what
--- is open before and after
-pub data CarryRun {H S Seat R : Type 0} (h : HoldsPromise H Seat) (s : StacksPromise S R) (r : ReelPromise R)
-    (drives : DriveTable H S Seat R) (seat : Seat) (opened : Option (Opened R)) : List Exchange → DriveTable H S Seat R → Seat → Option (Opened R) → Type 0 where
-  none : CarryRun h s r drives seat opened [] drives seat opened
-  one_more : {done : List Exchange} {between after : DriveTable H S Seat R} {seat1 seat2 : Seat} {opened1 opened2 : Option (Opened R)}
-      (request : PlainRequest) (reply : PlainReply)
-      → CarryRun h s r drives seat opened done between seat1 opened1
-      → IsCarriedOut h s r between seat1 opened1 request reply after seat2 opened2
-      → HasSpelling reply
-      → CarryRun h s r drives seat opened (done ++ (request, reply) ∷ []) after seat2 opened2
-
--- The bytes are the spellings of these requests and then the rest, and the replies to them, in order, were written.
-pub record IsAnswered (known known' : Option (List ℕ)) (bytes : List ℕ) (done : List Exchange) (rest : List ℕ) : Type 0 where
-  pub spelled : Spelled bytes (requests_of done) rest
-  pub written : Appends known known' (replies_text done)
-
--- The same, but of the last reply only a beginning was written.
-pub record IsCutOff (known known' : Option (List ℕ)) (bytes : List ℕ) (done : List Exchange) (rest : List ℕ) : Type 0 where
-  pub spelled : Spelled bytes (requests_of done) rest
-  pub before : List Exchange
-  pub last : Exchange
-  pub split : done ≡ before ++ last ∷ []
-  pub count : ℕ
-  pub written : Appends known known' (replies_text before ++ take count (reply_text last.1))
-
--- Requests were carried out, from drives, seat and what is open to those after, with an outcome.
-pub record Advances {H S Seat R : Type 0} (h : HoldsPromise H Seat) (s : StacksPromise S R) (r : ReelPromise R)
-    (old : DriveTable H S Seat R) (seat : Seat) (opened : Option (Opened R)) (new : DriveTable H S Seat R) (seat' : Seat) (opened' : Option (Opened R))
-    (Outcome : List Exchange → List ℕ → Type 0) : Type 0 where
-  pub done : List Exchange
-  pub rest : List ℕ
-  pub run : CarryRun h s r old seat opened done new seat' opened'
-  pub outcome : Outcome done rest
-
--- The reader is left at a beginning of a request, for the rest of which there is room
-pub record IsSettled (wire : Held) (rest : List ℕ) : Type 0 where
-  pub unread : Unread wire rest
-  pub begins : IsOpen rest
-  pub none : HasNoSpelling rest
-  pub room : taken_of rest < reader_limit
-
--- whatever follows, the rest is no request, and this is why
-abbrev pub IsFaulty : List ℕ → WireFault → Type 0
-IsFaulty rest fault = (more : List ℕ) → HasFault (rest ++ more) fault × HasNoSpelling (rest ++ more)
-
--- what became of the bytes that a reader held
-abbrev pub AnswersAs : {W : Type 0} → (W → Option (List ℕ)) → Result (Option WireFault) OutputFault → Counting W → Counting W → Held → List ℕ → List Exchange → List ℕ → Type 0
-AnswersAs contents (Ok None) output output' wire bytes done rest =
-    IsAnswered (contents output.inner) (contents output'.inner) bytes done rest × IsSettled wire rest
-AnswersAs contents (Ok (Some fault)) output output' wire bytes done rest =
-    IsAnswered (contents output.inner) (contents output'.inner) bytes done rest × IsFaulty rest fault
-AnswersAs contents (Err failed) output output' wire bytes done rest =
-    IsCutOff (contents output.inner) (contents output'.inner) bytes done rest × HasRisen output.failures output'.failures
-
--- How serving ends, by what follows the last whole request of the bytes read: nothing, or a beginning of a request,
--- both with no byte of the input left; or bytes that are no request. `Input` and `Output` come only where that
--- stream failed.
-abbrev pub EndsAs : {R W : Type 0} → (R → Option (List ℕ)) → (W → Option (List ℕ)) → Result Served ServeFault
-    → Counting R → Counting R → Counting W → Counting W → List ℕ → List Exchange → List ℕ → Type 0
-EndsAs remaining contents (Ok End) input input' output output' read done rest =
-    IsAnswered (contents output.inner) (contents output'.inner) read done rest × (rest ≡ []) × IsAtEnd (remaining input'.inner)
-EndsAs remaining contents (Ok Truncated) input input' output output' read done rest =
-    IsAnswered (contents output.inner) (contents output'.inner) read done rest × (rest ≢ []) × IsOpen rest × HasNoSpelling rest × IsAtEnd (remaining input'.inner)
-EndsAs remaining contents (Ok (Broken fault)) input input' output output' read done rest =
-    IsAnswered (contents output.inner) (contents output'.inner) read done rest × HasFault rest fault × HasNoSpelling rest
-EndsAs remaining contents (Err Input) input input' output output' read done rest =
-    IsAnswered (contents output.inner) (contents output'.inner) read done rest × IsOpen rest × HasNoSpelling rest × HasRisen input.failures input'.failures
-EndsAs remaining contents (Err Output) input input' output output' read done rest =
-    IsCutOff (contents output.inner) (contents output'.inner) read done rest × HasRisen output.failures output'.failures
-
--- no read and no write failed
-abbrev pub NoneFailed : {R W : Type 0} → Counting R → Counting R → Counting W → Counting W → Type 0
-NoneFailed input input' output output' = (input'.failures ≡ input.failures) × (output'.failures ≡ output.failures)
-
--- What was served: the bytes read, the requests carried out with their replies, and what follows them of the bytes.
--- Then what was open was closed. Where stacks and reel tell, the requests and replies are a run of serve steps.
-pub record IsServedAs {H S Seat R In Out : Type 0} (h : HoldsPromise H Seat) (s : StacksPromise S R) (r : ReelPromise R)
-    (remaining : In → Option (List ℕ)) (contents : Out → Option (List ℕ)) (result : Result Served ServeFault)
-    (input input' : Counting In) (output output' : Counting Out)
-    (old : DriveTable H S Seat R) (seat : Seat) (opened : Option (Opened R)) (new : DriveTable H S Seat R) (seat' : Seat) : Type 0 where
-  pub read : List ℕ
-  pub done : List Exchange
-  pub rest : List ℕ
-  pub consumed : Consumes (remaining input.inner) (remaining input'.inner) read
-  pub ends : EndsAs remaining contents result input input' output output' read done rest
-  pub last : DriveTable H S Seat R
-  pub last_seat : Seat
-  pub last_opened : Option (Opened R)
-  pub run : CarryRun h s r old seat opened done last last_seat last_opened
-  pub ended : IsClosed h s r last last_seat last_opened new seat'
-  pub steps : (fails shared : Bool) → MayFail s r old.stacks opened fails → MayShare h old.holds (drive_of opened) shared
-      → (start : Scene) → Tells s r old.stacks opened start
-      → (finish : Scene) × ServeRun fails shared r.GROWS start done finish × s.holds new.stacks (closed finish).shop
+-- the same, where drives and seat are as before
+abbrev pub Serves : {H S Seat R : Type 0} → Kinds H Seat S R → State H S Seat R → PlainRequest → PlainReply → State H S Seat R → Type 0
+Serves k old request reply new =
+    (new.drives ≡ old.drives) × (new.seat ≡ old.seat) × ReelServes k.reels old.opened new.opened request reply

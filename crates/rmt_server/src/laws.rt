@@ -1,10 +1,11 @@
-ghost use Rattle.std.specs.Prelude.{◌≡◌, ◌≢◌, ℕ, Option, Some};
+ghost use Rattle.std.specs.Prelude.{◌≡◌, ◌≢◌, ℕ, Some};
 ghost use Rattle.drives.specs.contracts.local.LocalHoldsHolds.TheImpl.{ghosts as of_holds};
 ghost use Rattle.drives.specs.declared.table.DriveTable.{DriveTable as Drives};
 ghost use Rattle.drives.specs.declared.view.View.{View};
 ghost use Rattle.drives.specs.Local.{Holders};
-ghost use Rattle.rmt_server.specs.declared.session.opened.Opened.{Opened};
-ghost use Rattle.rmt_server.specs.Carrying.{IsAt, KeepsDrives, drive_of};
+ghost use Rattle.drives.specs.Opening.{kinds};
+ghost use Rattle.rmt_server.specs.declared.session.desk.Desk.{Desk};
+ghost use Rattle.rmt_server.specs.State.{state, IsAt, KeepsDrives, drive_of};
 
 use drives::Stacks;
 
@@ -13,11 +14,16 @@ use drives::Stacks;
 ///
 /// It does nothing: its contract is a law of the definitions.
 pub fn one_holder<S: Stacks>()
-    ensures one { (drives : Drives Holders S View S.Reel) (v w : View) (opened other : Option (Opened S.Reel)) (d : ℕ) →
-        IsAt of_holds S.Stacks drives v opened → IsAt of_holds S.Stacks drives w other → v.number ≢ w.number →
-        drive_of opened ≡ Some d → drive_of other ≡ Some d → ⊥ }
-    ensures others { (old new : Drives Holders S View S.Reel) (v after w : View) (opened reopened other : Option (Opened S.Reel)) →
-        IsAt of_holds S.Stacks old v opened → IsAt of_holds S.Stacks old w other → w.number ≢ v.number →
-        IsAt of_holds S.Stacks new after reopened → after.number ≡ v.number →
-        KeepsDrives of_holds S.Stacks old new v (drive_of opened) (drive_of reopened) → IsAt of_holds S.Stacks new w other }
+    ensures one {
+        (drives : Drives Holders S View S.Reel) (one other : Desk View S.Reel) (d : ℕ) →
+        IsAt (kinds of_holds S.Stacks S.Reel.Reel) (state drives one) → IsAt (kinds of_holds S.Stacks S.Reel.Reel) (state drives other) →
+        one.seat.number ≢ other.seat.number → drive_of one.opened ≡ Some d → drive_of other.opened ≡ Some d → ⊥
+    }
+    ensures others {
+        (old new : Drives Holders S View S.Reel) (one after other : Desk View S.Reel) →
+        IsAt (kinds of_holds S.Stacks S.Reel.Reel) (state old one) → IsAt (kinds of_holds S.Stacks S.Reel.Reel) (state old other) →
+        other.seat.number ≢ one.seat.number → IsAt (kinds of_holds S.Stacks S.Reel.Reel) (state new after) →
+        KeepsDrives (kinds of_holds S.Stacks S.Reel.Reel) (state old one) (state new after) →
+        IsAt (kinds of_holds S.Stacks S.Reel.Reel) (state new other)
+    }
 {}

@@ -3,15 +3,16 @@ ghost use Rattle.std.specs.Prelude.{◌≡◌, ◌≤◌, length, Ok, Err, IfOk}
 ghost use Rattle.rmt_wire.specs.Lent.{plain_request, plain_reply};
 ghost use Rattle.rmt_wire.specs.Reply.{HasSpelling};
 
-mod calls;
-mod carry;
-mod drive;
-mod opened;
+mod desk;
+mod dispatch;
+mod moving;
+mod opening;
+mod serving;
 mod trouble;
 
-use crate::session::carry::{Given, carry};
+pub(crate) use desk::{Desk, Opened};
+use dispatch::{Given, dispatch};
 use drives::{DriveTable, Holds, Stacks};
-pub(crate) use opened::Opened;
 use rmt_wire::{DATA_LIMIT, Reply, Request};
 use std::alloc::{AllocError, Global};
 use std::marker::Model;
@@ -22,19 +23,18 @@ use std::marker::Model;
 /// Contracts see the seat and what is open.
 #[derive(Drop)]
 pub struct Session<H: Holds, S: Stacks> {
-    seat: H::Seat,
-    opened: Option<Opened<S::Reel>>,
+    desk: Desk<H::Seat, S::Reel>,
     buffer: Vec<u8>,
 }
 
 impl<H: Holds, S: Stacks> Model for Session<H, S> {
     ghost use Rattle.std.specs.Prelude.{◌≡◌, length};
     ghost use Rattle.rmt_wire.specs.Request.{data_limit};
-    ghost use Rattle.rmt_server.specs.Desk.{Desk};
+    ghost use Rattle.rmt_server.specs.declared.session.desk.Desk.{Desk};
 
     ghost Value = { Desk H.Seat S.Reel };
 
-    ghost view = { λ s. record { seat = s.seat; opened = s.opened } };
+    ghost view = { λ s. s.desk };
 
     ghost invariant = { λ s. length s.buffer.items ≡ data_limit };
 }
@@ -44,8 +44,13 @@ impl<H: Holds, S: Stacks> Session<H, S> {
     ghost use Rattle.std.specs.Borrow.{sem};
     ghost use Rattle.std.specs.Io.BufRead.{Rests};
     ghost use Rattle.rmt_server.specs.contracts.session.Session.{the_row};
-    ghost use Rattle.rmt_server.specs.Carrying.{IsAt, IsClosed, IsCarriedOut, IsSayable, IsOnline, online_drive};
     ghost use Rattle.drives.specs.Holding.{HoldsJust};
+    ghost use Rattle.drives.specs.declared.table.DriveTable.{DriveTable as Drives};
+    ghost use Rattle.drives.specs.Opening.{kinds};
+    ghost use Rattle.rmt_server.specs.State.{state, IsAt, IsOnline, online_drive};
+    ghost use Rattle.rmt_server.specs.Replies.{IsSayable};
+    ghost use Rattle.rmt_server.specs.Opening.{IsClosed};
+    ghost use Rattle.rmt_server.specs.Carrying.{IsCarriedOut};
 
     /// A session with nothing open. The seat holds no drive.
     ///
@@ -53,12 +58,14 @@ impl<H: Holds, S: Stacks> Session<H, S> {
     pub fn new(alloc: Global, seat: H::Seat) -> Result<Session<H, S>, (H::Seat, AllocError)>
         requires { HoldsJust (H.shows seat) None }
         ensures made { MatchResult result (λ s. s ≡ record { seat = seat; opened = None }) (λ refused. refused.0 ≡ seat) }
-        ensures at { IfOk result (λ s. (holds : H) (stacks : S) → H.belongs holds seat → S.drives stacks ≤ H.drives holds → IsAt H.Holds S.Stacks (record { holds = holds; stacks = stacks }) s.seat s.opened) }
+        ensures at {
+            IfOk result (λ s. (drives : Drives H S H.Seat S.Reel) → H.belongs drives.holds seat → S.drives drives.stacks ≤ H.drives drives.holds →
+            IsAt (kinds H.Holds S.Stacks S.Reel.Reel) (state drives s))
+        }
     {
         match Vec::from_elem(alloc, 0u8, DATA_LIMIT) {
             Ok(buffer) => Ok(Session {
-                seat,
-                opened: None,
+                desk: Desk { seat, opened: None },
                 buffer,
             }),
             Err(error) => Err((seat, error)),
@@ -82,15 +89,19 @@ impl<H: Holds, S: Stacks> Session<H, S> {
     /// without an error has 0 for an open or a close, the count for a write or an operation, or the bytes of a read.
     ///
     /// The drives are those of the seat and of what is open, and the stacks have no more of them than the holds.
+    #[tactic(auto, using(crate::proofs::ServeSteps::carried, crate::proofs::Spelling::outcome_spelled))]
     pub fn carry_out(&mut self, drives: &mut DriveTable<H, S>, request: Request<'_>) -> Reply<'_>
-        requires { IsAt H.Holds S.Stacks drives.old self.old.seat self.old.opened }
-        ensures* rests { sem 𝓛 (Rests (the_row H.row S.row H.Seat.row S.Reel.row H.Holds S.Stacks S.Reel.Reel) self.entry (λ new. IsCarriedOut H.Holds S.Stacks S.Reel.Reel drives.old self.old.seat self.old.opened (plain_request request.entry) (plain_reply result) drives.new new.seat new.opened)) }
+        requires { IsAt (kinds H.Holds S.Stacks S.Reel.Reel) (state drives.old self.old) }
+        ensures* rests {
+            sem 𝓛 (Rests (the_row H.row S.row H.Seat.row S.Reel.row H.Holds S.Stacks S.Reel.Reel) self.entry (λ new.
+            IsCarriedOut (kinds H.Holds S.Stacks S.Reel.Reel) (state drives.old self.old) (plain_request request.entry)
+            (plain_reply result) (state drives.new new)))
+        }
         ensures spelling { IsSayable (plain_request request.entry) → HasSpelling (plain_reply result) }
     {
-        let outcome = carry(
+        let outcome = dispatch(
             drives,
-            &mut self.seat,
-            &mut self.opened,
+            &mut self.desk,
             self.buffer.as_mut_slice(),
             request,
         );
@@ -107,18 +118,17 @@ impl<H: Holds, S: Stacks> Session<H, S> {
     ///
     /// The drives are those of the seat and of what is open, and the stacks have no more of them than the holds.
     pub fn end(&mut self, drives: &mut DriveTable<H, S>)
-        requires { IsAt H.Holds S.Stacks drives.old self.old.seat self.old.opened }
-        ensures closed { IsClosed H.Holds S.Stacks S.Reel.Reel drives.old self.old.seat self.old.opened drives.new self.new.seat }
-        ensures nothing { self.new.opened ≡ None }
+        requires { IsAt (kinds H.Holds S.Stacks S.Reel.Reel) (state drives.old self.old) }
+        ensures { IsClosed (kinds H.Holds S.Stacks S.Reel.Reel) (state drives.old self.old) (state drives.new self.new) }
     {
-        drive::close(drives, &mut self.seat, &mut self.opened);
+        opening::close(drives, &mut self.desk);
     }
 
     /// The drive and the reel of the open device, while the reel is online.
     pub fn reel(&self) -> Option<(usize, &S::Reel)>
         ensures { MatchOption result (online_drive self.now.opened ≡ None) (λ told. IsOnline self.now.opened told.0 told.1.now) }
     {
-        let device = self.opened.as_ref()?;
+        let device = self.desk.opened.as_ref()?;
         let reel = device.reel.as_ref()?;
         Some((device.drive, reel))
     }

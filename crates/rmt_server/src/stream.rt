@@ -2,8 +2,9 @@
 ghost use Rattle.std.specs.Prelude.{◌≡◌, ◌<◌, ◌≤◌, ℕ, List, [], ◌++◌, Option, None, Ok, Err, OnOk};
 ghost use Rattle.std.specs.Io.KnownBytes.{Consumes};
 ghost use Rattle.rmt_wire.specs.Reader.{Unread};
-ghost use Rattle.rmt_server.specs.Carrying.{IsAt};
-ghost use Rattle.rmt_server.specs.Serving.{IsServedAs, Advances, AnswersAs, IsSettled, EndsAs, NoneFailed};
+ghost use Rattle.drives.specs.Opening.{kinds};
+ghost use Rattle.rmt_server.specs.State.{state, IsAt};
+ghost use Rattle.rmt_server.specs.Stream.{IsServedAs, Advances, AnswersAs, IsSettled, EndsAs, NoneFailed};
 
 use crate::session::Session;
 use drives::{DriveTable, Holds, Stacks};
@@ -54,10 +55,10 @@ fn answer_all<W: Write, H: Holds, S: Stacks>(
     session: &mut Session<H, S>,
     drives: &mut DriveTable<H, S>,
 ) -> Result<Option<WireFault>, OutputFault>
-    requires at { IsAt H.Holds S.Stacks drives.old session.old.seat session.old.opened }
+    requires at { IsAt (kinds H.Holds S.Stacks S.Reel.Reel) (state drives.old session.old) }
     requires held { (bytes : List ℕ) × Unread wire.old bytes }
-    ensures at { IsAt H.Holds S.Stacks drives.new session.new.seat session.new.opened }
-    ensures answers { (bytes : List ℕ) → Unread wire.old bytes → Advances H.Holds S.Stacks S.Reel.Reel drives.old session.old.seat session.old.opened drives.new session.new.seat session.new.opened (AnswersAs W.contents result output.old output.new wire.new bytes) }
+    ensures at { IsAt (kinds H.Holds S.Stacks S.Reel.Reel) (state drives.new session.new) }
+    ensures answers { (bytes : List ℕ) → Unread wire.old bytes → Advances (kinds H.Holds S.Stacks S.Reel.Reel) (state drives.old session.old) (state drives.new session.new) (AnswersAs W.contents result output.old output.new wire.new bytes) }
     ensures counted { output.old.failures ≤ output.new.failures }
     ensures steady { OnOk result (output.new.failures ≡ output.old.failures) }
 {
@@ -81,10 +82,10 @@ fn take_in<W: Write, H: Holds, S: Stacks>(
     session: &mut Session<H, S>,
     drives: &mut DriveTable<H, S>,
 ) -> Result<Option<WireFault>, OutputFault>
-    requires at { IsAt H.Holds S.Stacks drives.old session.old.seat session.old.opened }
+    requires at { IsAt (kinds H.Holds S.Stacks S.Reel.Reel) (state drives.old session.old) }
     requires settled { (bytes : List ℕ) × IsSettled wire.old bytes }
-    ensures at { IsAt H.Holds S.Stacks drives.new session.new.seat session.new.opened }
-    ensures answers { (bytes : List ℕ) → IsSettled wire.old bytes → Advances H.Holds S.Stacks S.Reel.Reel drives.old session.old.seat session.old.opened drives.new session.new.seat session.new.opened (AnswersAs W.contents result output.old output.new wire.new (bytes ++ piece.now)) }
+    ensures at { IsAt (kinds H.Holds S.Stacks S.Reel.Reel) (state drives.new session.new) }
+    ensures answers { (bytes : List ℕ) → IsSettled wire.old bytes → Advances (kinds H.Holds S.Stacks S.Reel.Reel) (state drives.old session.old) (state drives.new session.new) (AnswersAs W.contents result output.old output.new wire.new (bytes ++ piece.now)) }
     ensures counted { output.old.failures ≤ output.new.failures }
     ensures steady { OnOk result (output.new.failures ≡ output.old.failures) }
 {
@@ -106,16 +107,13 @@ fn converse<R: Read, W: Write, H: Holds, S: Stacks>(
     session: &mut Session<H, S>,
     drives: &mut DriveTable<H, S>,
 ) -> Result<Served, ServeFault>
-    requires at { IsAt H.Holds S.Stacks drives.old session.old.seat session.old.opened }
+    requires at { IsAt (kinds H.Holds S.Stacks S.Reel.Reel) (state drives.old session.old) }
     requires empty { Unread wire.old [] }
-    ensures at { IsAt H.Holds S.Stacks drives.new session.new.seat session.new.opened }
-    ensures converses { (read : List ℕ) × Consumes (R.remaining input.old.inner) (R.remaining input.new.inner) read × Advances H.Holds S.Stacks S.Reel.Reel drives.old session.old.seat session.old.opened drives.new session.new.seat session.new.opened (EndsAs R.remaining W.contents result input.old input.new output.old output.new read) }
+    ensures at { IsAt (kinds H.Holds S.Stacks S.Reel.Reel) (state drives.new session.new) }
+    ensures converses { (read : List ℕ) × Consumes (R.remaining input.old.inner) (R.remaining input.new.inner) read × Advances (kinds H.Holds S.Stacks S.Reel.Reel) (state drives.old session.old) (state drives.new session.new) (EndsAs R.remaining W.contents result input.old input.new output.old output.new read) }
     ensures steady { OnOk result (NoneFailed input.old input.new output.old output.new) }
 {
     let mut piece = [0; PIECE];
-    if let Some(fault) = answer_all(output, wire, session, drives)? {
-        return Ok(Served::Broken(fault));
-    }
     loop {
         match input.read(&mut piece) {
             Err(_) => return Err(ServeFault::Input),
@@ -144,10 +142,10 @@ pub fn serve<R: Read, W: Write, H: Holds, S: Stacks>(
     drives: &mut DriveTable<H, S>,
 ) -> Result<Served, ServeFault>
     // the drives are those of the session's seat and of what is open
-    requires at { IsAt H.Holds S.Stacks drives.old session.old.seat session.old.opened }
+    requires at { IsAt (kinds H.Holds S.Stacks S.Reel.Reel) (state drives.old session.old) }
     // the reader has given all that was pushed
     requires empty { Unread wire.old [] }
-    ensures served { IsServedAs H.Holds S.Stacks S.Reel.Reel R.remaining W.contents result input.old input.new output.old output.new drives.old session.old.seat session.old.opened drives.new session.new.seat }
+    ensures served { IsServedAs (kinds H.Holds S.Stacks S.Reel.Reel) R.remaining W.contents result input.old input.new output.old output.new (state drives.old session.old) (state drives.new session.new) }
     // a stream that failed ends as failed
     ensures steady { OnOk result (NoneFailed input.old input.new output.old output.new) }
     ensures nothing { session.new.opened ≡ None }

@@ -1,8 +1,12 @@
 //! Trouble for the reel that is online, while drives and reels are in memory.
 ghost use Rattle.std.specs.Prelude.{◌≡◌};
-ghost use Rattle.rmt_server.specs.Carrying.{IsAt};
+ghost use Rattle.tape.specs.contracts.troubled.TroubledReelReel.TheImpl.{ghosts as of_reel};
 ghost use Rattle.drives.specs.contracts.list.ListStacksStacks.TheImpl.{ghosts as of_stacks};
 ghost use Rattle.drives.specs.ListShop.{ListShop};
+ghost use Rattle.drives.specs.declared.table.DriveTable.{DriveTable as Drives};
+ghost use Rattle.drives.specs.Opening.{kinds};
+ghost use Rattle.tape.specs.Trouble.{TroubledTape};
+ghost use Rattle.rmt_server.specs.State.{state, IsAt};
 ghost use Rattle.rmt_server.specs.Troubling.{troubled, with_trouble};
 
 use crate::session::Session;
@@ -24,10 +28,13 @@ impl<H: Holds> Session<H, ListStacks> {
     /// lay the reel down with it.
     pub fn trouble(&mut self, trouble: Trouble)
         ensures seat { self.new.seat ≡ self.old.seat }
-        ensures at { (holds : H) (stacks : ListShop) → IsAt H.Holds of_stacks (record { holds = holds; stacks = stacks }) self.old.seat self.old.opened → IsAt H.Holds of_stacks (record { holds = holds; stacks = stacks }) self.new.seat self.new.opened }
+        ensures at {
+            (drives : Drives H ListShop H.Seat TroubledTape) →
+            IsAt (kinds H.Holds of_stacks of_reel) (state drives self.old) → IsAt (kinds H.Holds of_stacks of_reel) (state drives self.new)
+        }
         ensures set { self.new.opened ≡ with_trouble trouble self.old.opened }
     {
-        if let Some(device) = &mut self.opened {
+        if let Some(device) = &mut self.desk.opened {
             set_in(&mut device.reel, trouble);
         }
     }

@@ -1,5 +1,5 @@
 use Rattle.std.proofs.Common.{Ok, refl, arith, ap, ◌∙◌}
-use Rattle.rmt_server.proofs.Serving.{advances_none, advances_as, advances_one, answered_none, answered_one, cut_one, cut_as, risen_since, sayable, next_none, next_some}
+use Rattle.rmt_server.proofs.Answering.{advances_none, advances_as, advances_one, answered_none, answered_one, cut_one, cut_as, risen_since, sayable, next_none, next_some}
 use Rattle.rmt_server.proofs.stream.answer_all.Goals as goal
 
 pub loop-fault-init : goal.loop-fault-init

@@ -1,16 +1,17 @@
 use Rattle.std.proofs.Common.{◌≡◌, ℕ, List, length}
 use Rattle.rmt_wire.specs.Reader.{Unread}
-use Rattle.rmt_server.specs.Carrying.{IsAt}
-use Rattle.rmt_server.specs.Serving.{Advances, IsAnswered}
+use Rattle.drives.specs.Opening.{kinds}
+use Rattle.rmt_server.specs.State.{state, IsAt}
+use Rattle.rmt_server.specs.Stream.{Advances, IsAnswered}
 use Rattle.rmt_server.proofs.stream.answer_all.Given as goal
 
 abbrev pub invariant-loop-fault : goal.invariant-loop-fault
 invariant-loop-fault g l =
-    IsAt g.H.Holds g.S.Stacks l.drives l.session.seat l.session.opened
+    IsAt (kinds g.H.Holds g.S.Stacks g.S.Reel.Reel) (state l.drives l.session)
     × (l.output.failures ≡ l.initial.output.failures)
     × ((unread : List ℕ) × Unread l.wire unread)
     × ((bytes : List ℕ) → Unread l.initial.wire bytes
-    → Advances g.H.Holds g.S.Stacks g.S.Reel.Reel l.initial.drives l.initial.session.seat l.initial.session.opened l.drives l.session.seat l.session.opened
+    → Advances (kinds g.H.Holds g.S.Stacks g.S.Reel.Reel) (state l.initial.drives l.initial.session) (state l.drives l.session)
     (λ done rest. IsAnswered (g.W.Write.contents l.initial.output.inner) (g.W.Write.contents l.output.inner) bytes done rest × Unread l.wire rest))
 
 abbrev pub decreases-loop-fault : goal.decreases-loop-fault

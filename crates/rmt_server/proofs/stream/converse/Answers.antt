@@ -1,21 +1,16 @@
-use Rattle.std.proofs.Common.{◌++◌, [], take, arith, ◌∙◌}
+use Rattle.std.proofs.Common.{◌++◌, [], take, refl, arith, ◌∙◌}
 use Rattle.std.proofs.KnownBytes.{Consumes-nil, Consumes-trans}
-use Rattle.rmt_server.proofs.Serving.{advances_as, output_ends, broken_ends, read_cut, read_faulty, read_answered}
+use Rattle.rmt_server.proofs.Answering.{advances_none, answered_none, settled_empty, read_cut, read_faulty, read_answered}
 use Rattle.rmt_server.proofs.stream.converse.Goals as goal
 
-pub returns-in_err-fault-clause-converses : goal.returns-in_err-fault-clause-converses
-returns-in_err-fault-clause-converses g c = (
-  [],
-  Consumes-nil (g.R.Read.remaining c.args.input.now.inner),
-  advances_as (c.in_err-fault.ensures.answers [] c.requires.empty)
-      (λ done rest p. output_ends g.R.Read.remaining g.W.Write.contents c.from_residual.result c.args.input.now c.args.input.now c.args.output.now c.answer_all.new.output [] done rest c.from_residual.ensures.1 p.0 p.1),
+pub loop-wire-init : goal.loop-wire-init
+loop-wire-init g c = (
+  c.requires.at,
+  refl,
+  refl,
+  ([], Consumes-nil (g.R.Read.remaining c.args.input.now.inner),
+    advances_none [] (answered_none (g.W.Write.contents c.args.output.now.inner) [], settled_empty c.args.wire.now c.requires.empty)),
 )
-
-pub returns-in-Some-clause-converses : goal.returns-in-Some-clause-converses
-returns-in-Some-clause-converses g c =
-    let w = c.in_ok-fault.ensures.answers [] c.requires.empty in
-    let v = rw c.in-Some.is at w in
-    ([], Consumes-nil (g.R.Read.remaining c.args.input.now.inner), advances_as v (λ done rest p. let e = broken_ends rest c.in-Some.fault p.1 in (p.0, e.0, e.1)))
 
 pub returns-in_err-fault-in-Ok-clause-converses : goal.returns-in_err-fault-in-Ok-clause-converses
 returns-in_err-fault-in-Ok-clause-converses g c =
@@ -23,18 +18,18 @@ returns-in_err-fault-in-Ok-clause-converses g c =
     let part = take c.in-Ok.count c.read.new.buf in (
       so_far.0 ++ part,
       Consumes-trans _ _ _ so_far.0 part so_far.1 c.in-Ok.ensures.bytes.0,
-      read_cut g.R.Read.remaining g.W.Write.contents c.from_residual-in_err-fault-in-Ok.result c.args.input.now c.read.new.self c.args.output.now c.loop-wire.output c.take_in.new.output c.loop-wire.wire so_far.0 part
-          c.from_residual-in_err-fault-in-Ok.ensures.1 (omega (arith, c.loop-wire.invariant.2)) so_far.2 (λ rest settled. c.in_err-fault-in-Ok.ensures.answers rest settled),
+      read_cut g.R.Read.remaining g.W.Write.contents c.from_residual.result c.args.input.now c.read.new.self c.args.output.now c.loop-wire.output c.take_in.new.output c.loop-wire.wire so_far.0 part
+          c.from_residual.ensures.1 (omega (arith, c.loop-wire.invariant.2)) so_far.2 (λ rest settled. c.in_err-fault-in-Ok.ensures.answers rest settled),
     )
 
-pub returns-in-Some-2-clause-converses : goal.returns-in-Some-2-clause-converses
-returns-in-Some-2-clause-converses g c =
+pub returns-in-Some-clause-converses : goal.returns-in-Some-clause-converses
+returns-in-Some-clause-converses g c =
     let so_far = c.loop-wire.invariant.3 in
     let part = take c.in-Ok.count c.read.new.buf in (
       so_far.0 ++ part,
       Consumes-trans _ _ _ so_far.0 part so_far.1 c.in-Ok.ensures.bytes.0,
-      read_faulty g.R.Read.remaining g.W.Write.contents c.in-Some-2.fault c.args.input.now c.read.new.self c.args.output.now c.loop-wire.output c.take_in.new.output c.loop-wire.wire so_far.0 part
-          so_far.2 (λ rest settled. let w = c.in_ok-fault-in-Ok.ensures.answers rest settled in rw c.in-Some-2.is at w),
+      read_faulty g.R.Read.remaining g.W.Write.contents c.in-Some.fault c.args.input.now c.read.new.self c.args.output.now c.loop-wire.output c.take_in.new.output c.loop-wire.wire so_far.0 part
+          so_far.2 (λ rest settled. let w = c.in_ok-fault-in-Ok.ensures.answers rest settled in rw c.in-Some.is at w),
     )
 
 pub loop-wire-preserved : goal.loop-wire-preserved
@@ -50,6 +45,6 @@ loop-wire-preserved g c =
         so_far.0 ++ part,
         Consumes-trans _ _ _ so_far.0 part so_far.1 c.in-Ok.ensures.bytes.0,
         read_answered g.W.Write.contents c.args.output.now c.loop-wire.output c.take_in.new.output c.loop-wire.wire c.take_in.new.wire so_far.0 part
-            so_far.2 (λ rest settled. let w = c.in_ok-fault-in-Ok.ensures.answers rest settled in rw c.in_default-2.is at w),
+            so_far.2 (λ rest settled. let w = c.in_ok-fault-in-Ok.ensures.answers rest settled in rw c.in_default.is at w),
       ),
     )

@@ -1,7 +1,7 @@
 use Rattle.std.proofs.Common.{◌-◌, [], refl, ◌∙◌, arith, sym, subst, append-nil, drop, take, length}
 use Rattle.std.proofs.lemmas.List.{take_rest, take_all, length-drop, length-take}
-use Rattle.rmt_server.specs.Serving.{IsAnswered}
-use Rattle.rmt_server.proofs.Serving.{advances_none, answered_none, piece_cut, piece_faulty, piece_answered}
+use Rattle.rmt_server.specs.Stream.{IsAnswered}
+use Rattle.rmt_server.proofs.Answering.{advances_none, answered_none, piece_cut, piece_faulty, piece_answered}
 use Rattle.rmt_server.proofs.stream.take_in.Goals as goal
 
 pub loop-at-init : goal.loop-at-init

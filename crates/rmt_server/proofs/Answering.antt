@@ -13,18 +13,17 @@ use Rattle.std.specs.Result.{IsErr, IsErrAnd}
 use Rattle.rmt_wire.specs.Counted.{Counting, HasRisen}
 use Rattle.rmt_wire.specs.declared.writer.OutputFault.{OutputFault}
 use Rattle.rmt_wire.specs.Lent.{plain_request}
-use Rattle.rmt_wire.specs.Reader.{Held, Unread, IsNext, reader_limit, told}
+use Rattle.rmt_wire.specs.Reader.{Held, Unread, IsNext, dropped_line, reader_limit, told}
 use Rattle.rmt_wire.specs.declared.request.Request.{Request}
 use Rattle.rmt_wire.specs.declared.fault.WireFault.{WireFault}
-use Rattle.tape.specs.declared.reel.Reel.{Ghosts as ReelPromise}
-use Rattle.drives.specs.declared.holds.Holds.{Ghosts as HoldsPromise}
-use Rattle.drives.specs.declared.stacks.Stacks.{Ghosts as StacksPromise}
-use Rattle.drives.specs.declared.table.DriveTable.{DriveTable}
-use Rattle.rmt_server.specs.declared.session.opened.Opened.{Opened}
-use Rattle.rmt_server.specs.Carrying.{drive_of, IsSayable, IsCarriedOut, IsClosed, Tells, MayFail, MayShare}
+use Rattle.drives.specs.Opening.{Kinds}
+use Rattle.rmt_server.specs.State.{State, Tells}
+use Rattle.rmt_server.specs.Replies.{IsSayable}
+use Rattle.rmt_server.specs.Opening.{IsClosed}
+use Rattle.rmt_server.specs.Carrying.{IsCarriedOut, MayFail, MayShare}
 use Rattle.rmt_server.proofs.Alone.{may-share, may-find}
 use Rattle.rmt_server.specs.Session.{Scene, ServeRun, none as no_steps, one_more as one_step}
-use Rattle.rmt_server.specs.Serving.{Exchange, requests_of, replies_text, IsAnswered, IsCutOff, Advances, AnswersAs, CarryRun, IsSettled, IsFaulty, EndsAs, IsServedAs, none, one_more}
+use Rattle.rmt_server.specs.Stream.{Exchange, requests_of, replies_text, IsAnswered, IsCutOff, Advances, AnswersAs, CarryRun, IsSettled, IsFaulty, EndsAs, IsServedAs, none, one_more}
 use Rattle.rmt_server.specs.declared.stream.Served.{Served}
 use Rattle.rmt_server.specs.declared.stream.Served.TheVariants.{Broken}
 use Rattle.rmt_server.specs.declared.stream.ServeFault.{ServeFault}
@@ -116,34 +115,34 @@ sayable text (WriteDropped count) s = tt
 sayable text (Read count) s = tt
 sayable text (Op op count) s = s.3.small
 
-module _ {H S Seat R : Type 0} {h : HoldsPromise H Seat} {s : StacksPromise S R} {r : ReelPromise R} {old : DriveTable H S Seat R} {seat : Seat} {opened : Option (Opened R)} where
+module _ {H S Seat R : Type 0} {k : Kinds H Seat S R} {old : State H S Seat R} where
   -- from nothing done
-  pub advances_none : {P : List Exchange → List ℕ → Type 0} (bytes : List ℕ) → P [] bytes → Advances h s r old seat opened old seat opened P
+  pub advances_none : {P : List Exchange → List ℕ → Type 0} (bytes : List ℕ) → P [] bytes → Advances k old old P
   advances_none bytes p = record { done = []; rest = bytes; run = none; outcome = p }
 
   -- the same with another outcome
-  pub advances_as : {new : DriveTable H S Seat R} {seat' : Seat} {opened' : Option (Opened R)} {P Q : List Exchange → List ℕ → Type 0}
-      → Advances h s r old seat opened new seat' opened' P → ((done : List Exchange) (rest : List ℕ) → P done rest → Q done rest) → Advances h s r old seat opened new seat' opened' Q
+  pub advances_as : {new : State H S Seat R} {P Q : List Exchange → List ℕ → Type 0}
+      → Advances k old new P → ((done : List Exchange) (rest : List ℕ) → P done rest → Q done rest) → Advances k old new Q
   advances_as a f = record { done = a.done; rest = a.rest; run = a.run; outcome = f a.done a.rest a.outcome }
 
   -- one request more
-  pub advances_one : {between new : DriveTable H S Seat R} {seat1 seat2 : Seat} {opened1 opened2 : Option (Opened R)} {P Q : List Exchange → List ℕ → Type 0} (request : PlainRequest) (reply : PlainReply)
-      → Advances h s r old seat opened between seat1 opened1 P → IsCarriedOut h s r between seat1 opened1 request reply new seat2 opened2 → HasSpelling reply
-      → ((done : List Exchange) (rest : List ℕ) → P done rest → (later : List ℕ) × Q (done ++ (request, reply) ∷ []) later) → Advances h s r old seat opened new seat2 opened2 Q
+  pub advances_one : {between new : State H S Seat R} {P Q : List Exchange → List ℕ → Type 0} (request : PlainRequest) (reply : PlainReply)
+      → Advances k old between P → IsCarriedOut k between request reply new → HasSpelling reply
+      → ((done : List Exchange) (rest : List ℕ) → P done rest → (later : List ℕ) × Q (done ++ (request, reply) ∷ []) later) → Advances k old new Q
   advances_one request reply a step spelling f =
       let w = f a.done a.rest a.outcome in
       record { done = a.done ++ (request, reply) ∷ []; rest = w.0; run = one_more request reply a.run step spelling; outcome = w.1 }
 
 -- one run after another
-run_then : {H S Seat R : Type 0} {h : HoldsPromise H Seat} {s : StacksPromise S R} {r : ReelPromise R} {old between : DriveTable H S Seat R} {seat seat1 : Seat} {opened opened1 : Option (Opened R)} {done : List Exchange} {new : DriveTable H S Seat R} {seat2 : Seat} {opened2 : Option (Opened R)} {more : List Exchange}
-    → CarryRun h s r old seat opened done between seat1 opened1 → CarryRun h s r between seat1 opened1 more new seat2 opened2 → CarryRun h s r old seat opened (done ++ more) new seat2 opened2
+run_then : {H S Seat R : Type 0} {k : Kinds H Seat S R} {old between new : State H S Seat R} {done more : List Exchange}
+    → CarryRun k old done between → CarryRun k between more new → CarryRun k old (done ++ more) new
 run_then {done = done} a none = rw append-nil a
 run_then {done = done} a (one_more {done = more} request reply b step spelling) = rw (← append_assoc done more ((request, reply) ∷ [])) (one_more request reply (run_then a b) step spelling)
 
-pub advances_then : {H S Seat R : Type 0} {h : HoldsPromise H Seat} {s : StacksPromise S R} {r : ReelPromise R} {old between new : DriveTable H S Seat R} {seat seat1 seat2 : Seat} {opened opened1 opened2 : Option (Opened R)} {P Q : List Exchange → List ℕ → Type 0}
-    → Advances h s r old seat opened between seat1 opened1 P
-    → ((done : List Exchange) (rest : List ℕ) → P done rest → Advances h s r between seat1 opened1 new seat2 opened2 (λ more later. Q (done ++ more) later))
-    → Advances h s r old seat opened new seat2 opened2 Q
+pub advances_then : {H S Seat R : Type 0} {k : Kinds H Seat S R} {old between new : State H S Seat R} {P Q : List Exchange → List ℕ → Type 0}
+    → Advances k old between P
+    → ((done : List Exchange) (rest : List ℕ) → P done rest → Advances k between new (λ more later. Q (done ++ more) later))
+    → Advances k old new Q
 advances_then a f =
     let b = f a.done a.rest a.outcome in
     record { done = a.done ++ b.done; rest = b.rest; run = run_then a.run b.run; outcome = b.outcome }
@@ -180,13 +179,13 @@ cut_as contents (Ok x) output output' wire bytes done rest e c r = absurd (cc)
 cut_as contents (Err failed) output output' wire bytes done rest e c r = (c, r)
 
 -- What a reader that was settled does with one piece more, by what answering gave.
-module _ {H S Seat R : Type 0} {h : HoldsPromise H Seat} {s : StacksPromise S R} {r : ReelPromise R} {old between new : DriveTable H S Seat R} {seat seat1 seat2 : Seat} {opened opened1 opened2 : Option (Opened R)} where
+module _ {H S Seat R : Type 0} {k : Kinds H Seat S R} {old between new : State H S Seat R} where
   pub piece_cut : {W : Type 0} (contents : W → Option (List ℕ)) (result : Result (Option WireFault) OutputFault) (first out out' : Counting W) (wire wire' : Held) (bytes text part : List ℕ) (at count : ℕ)
       → part ≡ drop at text → IsErr result → first.failures ≤ out.failures
-      → Advances h s r old seat opened between seat1 opened1 (λ done rest. IsAnswered (contents first.inner) (contents out.inner) (bytes ++ take at text) done rest × IsSettled wire rest)
-      → ((rest : List ℕ) → IsSettled wire rest → Advances h s r between seat1 opened1 new seat2 opened2
+      → Advances k old between (λ done rest. IsAnswered (contents first.inner) (contents out.inner) (bytes ++ take at text) done rest × IsSettled wire rest)
+      → ((rest : List ℕ) → IsSettled wire rest → Advances k between new
       (λ more later. IsCutOff (contents out.inner) (contents out'.inner) (rest ++ take count part) more later × HasRisen out.failures out'.failures))
-      → Advances h s r old seat opened new seat2 opened2 (AnswersAs contents result first out' wire' (bytes ++ text))
+      → Advances k old new (AnswersAs contents result first out' wire' (bytes ++ text))
   piece_cut contents result first out out' wire wire' bytes text part at count same failed since a f =
       advances_then a (λ done rest p.
       let b = f rest p.1 in
@@ -200,10 +199,10 @@ module _ {H S Seat R : Type 0} {h : HoldsPromise H Seat} {s : StacksPromise S R}
       })
 
   pub piece_faulty : {W : Type 0} (contents : W → Option (List ℕ)) (fault : WireFault) (first out out' : Counting W) (wire wire' : Held) (bytes text part : List ℕ) (at count : ℕ)
-      → part ≡ drop at text → Advances h s r old seat opened between seat1 opened1 (λ done rest. IsAnswered (contents first.inner) (contents out.inner) (bytes ++ take at text) done rest × IsSettled wire rest)
-      → ((rest : List ℕ) → IsSettled wire rest → Advances h s r between seat1 opened1 new seat2 opened2
+      → part ≡ drop at text → Advances k old between (λ done rest. IsAnswered (contents first.inner) (contents out.inner) (bytes ++ take at text) done rest × IsSettled wire rest)
+      → ((rest : List ℕ) → IsSettled wire rest → Advances k between new
       (λ more later. IsAnswered (contents out.inner) (contents out'.inner) (rest ++ take count part) more later × IsFaulty later fault))
-      → Advances h s r old seat opened new seat2 opened2 (AnswersAs contents (Ok (Some fault)) first out' wire' (bytes ++ text))
+      → Advances k old new (AnswersAs contents (Ok (Some fault)) first out' wire' (bytes ++ text))
   piece_faulty contents fault first out out' wire wire' bytes text part at count same a f =
       advances_then a (λ done rest p.
       let b = f rest p.1 in
@@ -218,10 +217,10 @@ module _ {H S Seat R : Type 0} {h : HoldsPromise H Seat} {s : StacksPromise S R}
       })
 
   pub piece_answered : {W : Type 0} (contents : W → Option (List ℕ)) (first out out' : Counting W) (wire wire' : Held) (bytes text part : List ℕ) (at count : ℕ)
-      → part ≡ drop at text → Advances h s r old seat opened between seat1 opened1 (λ done rest. IsAnswered (contents first.inner) (contents out.inner) (bytes ++ take at text) done rest × IsSettled wire rest)
-      → ((rest : List ℕ) → IsSettled wire rest → Advances h s r between seat1 opened1 new seat2 opened2
+      → part ≡ drop at text → Advances k old between (λ done rest. IsAnswered (contents first.inner) (contents out.inner) (bytes ++ take at text) done rest × IsSettled wire rest)
+      → ((rest : List ℕ) → IsSettled wire rest → Advances k between new
       (λ more later. IsAnswered (contents out.inner) (contents out'.inner) (rest ++ take count part) more later × IsSettled wire' later))
-      → Advances h s r old seat opened new seat2 opened2 (λ done rest. IsAnswered (contents first.inner) (contents out'.inner) (bytes ++ take (at + count) text) done rest × IsSettled wire' rest)
+      → Advances k old new (λ done rest. IsAnswered (contents first.inner) (contents out'.inner) (bytes ++ take (at + count) text) done rest × IsSettled wire' rest)
   piece_answered contents first out out' wire wire' bytes text part at count same a f =
       advances_then a (λ done rest p.
       let b = f rest p.1 in
@@ -272,13 +271,13 @@ pub broken_ends : (rest : List ℕ) (fault : WireFault) → IsFaulty rest fault 
 broken_ends rest fault f = subst (λ t. HasFault t fault × HasNoSpelling t) (append-nil rest) (f [])
 
 -- What became of the bytes read so far and one piece more.
-module _ {H S Seat R : Type 0} {h : HoldsPromise H Seat} {s : StacksPromise S R} {r : ReelPromise R} {old between new : DriveTable H S Seat R} {seat seat1 seat2 : Seat} {opened opened1 opened2 : Option (Opened R)} where
+module _ {H S Seat R : Type 0} {k : Kinds H Seat S R} {old between new : State H S Seat R} where
   pub read_cut : {In W : Type 0} (remaining : In → Option (List ℕ)) (contents : W → Option (List ℕ)) (result : Result Served ServeFault) (input input' : Counting In) (first out out' : Counting W) (wire : Held) (read part : List ℕ)
       → IsErrAnd result (λ e. e ≡ Output) → first.failures ≤ out.failures
-      → Advances h s r old seat opened between seat1 opened1 (λ done rest. IsAnswered (contents first.inner) (contents out.inner) read done rest × IsSettled wire rest)
-      → ((rest : List ℕ) → IsSettled wire rest → Advances h s r between seat1 opened1 new seat2 opened2
+      → Advances k old between (λ done rest. IsAnswered (contents first.inner) (contents out.inner) read done rest × IsSettled wire rest)
+      → ((rest : List ℕ) → IsSettled wire rest → Advances k between new
       (λ more later. IsCutOff (contents out.inner) (contents out'.inner) (rest ++ part) more later × HasRisen out.failures out'.failures))
-      → Advances h s r old seat opened new seat2 opened2 (EndsAs remaining contents result input input' first out' (read ++ part))
+      → Advances k old new (EndsAs remaining contents result input input' first out' (read ++ part))
   read_cut remaining contents result input input' first out out' wire read part failed since a f =
       advances_then a (λ done rest p.
       let b = f rest p.1 in
@@ -291,10 +290,10 @@ module _ {H S Seat R : Type 0} {h : HoldsPromise H Seat} {s : StacksPromise S R}
       })
 
   pub read_faulty : {In W : Type 0} (remaining : In → Option (List ℕ)) (contents : W → Option (List ℕ)) (fault : WireFault) (input input' : Counting In) (first out out' : Counting W) (wire : Held) (read part : List ℕ)
-      → Advances h s r old seat opened between seat1 opened1 (λ done rest. IsAnswered (contents first.inner) (contents out.inner) read done rest × IsSettled wire rest)
-      → ((rest : List ℕ) → IsSettled wire rest → Advances h s r between seat1 opened1 new seat2 opened2
+      → Advances k old between (λ done rest. IsAnswered (contents first.inner) (contents out.inner) read done rest × IsSettled wire rest)
+      → ((rest : List ℕ) → IsSettled wire rest → Advances k between new
       (λ more later. IsAnswered (contents out.inner) (contents out'.inner) (rest ++ part) more later × IsFaulty later fault))
-      → Advances h s r old seat opened new seat2 opened2 (EndsAs remaining contents (Ok (Broken fault)) input input' first out' (read ++ part))
+      → Advances k old new (EndsAs remaining contents (Ok (Broken fault)) input input' first out' (read ++ part))
   read_faulty remaining contents fault input input' first out out' wire read part a f =
       advances_then a (λ done rest p.
       let b = f rest p.1 in
@@ -302,45 +301,62 @@ module _ {H S Seat R : Type 0} {h : HoldsPromise H Seat} {s : StacksPromise S R}
       record { done = b.done; rest = b.rest; run = b.run; outcome = (answered_then _ _ _ read rest part b.rest done b.done p.0 b.outcome.0, e.0, e.1) })
 
   pub read_answered : {W : Type 0} (contents : W → Option (List ℕ)) (first out out' : Counting W) (wire wire' : Held) (read part : List ℕ)
-      → Advances h s r old seat opened between seat1 opened1 (λ done rest. IsAnswered (contents first.inner) (contents out.inner) read done rest × IsSettled wire rest)
-      → ((rest : List ℕ) → IsSettled wire rest → Advances h s r between seat1 opened1 new seat2 opened2
+      → Advances k old between (λ done rest. IsAnswered (contents first.inner) (contents out.inner) read done rest × IsSettled wire rest)
+      → ((rest : List ℕ) → IsSettled wire rest → Advances k between new
       (λ more later. IsAnswered (contents out.inner) (contents out'.inner) (rest ++ part) more later × IsSettled wire' later))
-      → Advances h s r old seat opened new seat2 opened2 (λ done rest. IsAnswered (contents first.inner) (contents out'.inner) (read ++ part) done rest × IsSettled wire' rest)
+      → Advances k old new (λ done rest. IsAnswered (contents first.inner) (contents out'.inner) (read ++ part) done rest × IsSettled wire' rest)
   read_answered contents first out out' wire wire' read part a f =
       advances_then a (λ done rest p.
       let b = f rest p.1 in
       record { done = b.done; rest = b.rest; run = b.run; outcome = (answered_then _ _ _ read rest part b.rest done b.done p.0 b.outcome.0, b.outcome.1) })
 
 -- Where stacks and reel tell, a run of requests carried out is a run of serve steps
-pub run_steps : {H S Seat R : Type 0} {h : HoldsPromise H Seat} {s : StacksPromise S R} {r : ReelPromise R} {old : DriveTable H S Seat R} {seat : Seat} {opened : Option (Opened R)}
-    {done : List Exchange} {last : DriveTable H S Seat R} {last_seat : Seat} {last_opened : Option (Opened R)}
-    → CarryRun h s r old seat opened done last last_seat last_opened → (fails shared : Bool) → MayFail s r old.stacks opened fails → MayShare h old.holds (drive_of opened) shared
-    → (start : Scene) → Tells s r old.stacks opened start
-    → (finish : Scene) × ServeRun fails shared r.GROWS start done finish × Tells s r last.stacks last_opened finish × MayShare h last.holds (drive_of last_opened) shared × MayFail s r last.stacks last_opened fails
+pub run_steps : {H S Seat R : Type 0} {k : Kinds H Seat S R} {old last : State H S Seat R} {done : List Exchange}
+    → CarryRun k old done last → (fails shared : Bool) → MayFail k old fails → MayShare k old shared → (start : Scene) → Tells k old start
+    → (finish : Scene) × ServeRun fails shared k.reels.GROWS start done finish × Tells k last finish × MayShare k last shared × MayFail k last fails
 run_steps none fails shared may share start tells = (start, no_steps, tells, share, may)
-run_steps (one_more {between = between} {after = after} {opened1 = opened1} {opened2 = opened2} request reply run carried spelling) fails shared may share start tells =
+run_steps (one_more {between = between} request reply run carried spelling) fails shared may share start tells =
     let so_far = run_steps run fails shared may share start tells in
     let step = carried.step so_far.0 so_far.2 in
     let excused : IsTrue step.troubled → IsTrue fails = λ t. so_far.4 (step.able t) in
     (step.after, one_step request reply step.troubled step.asked step.found so_far.1 excused (may-find so_far.3 step) step.step, step.tells, may-share so_far.3 carried, λ f. so_far.4 (carried.quiet f))
 
-pub served_as : {H S Seat R In Out : Type 0} {h : HoldsPromise H Seat} {s : StacksPromise S R} {r : ReelPromise R} (remaining : In → Option (List ℕ)) (contents : Out → Option (List ℕ))
-    (result : Result Served ServeFault) (input input' : Counting In) (output output' : Counting Out)
-    {old : DriveTable H S Seat R} {seat : Seat} {opened : Option (Opened R)} {last : DriveTable H S Seat R} {last_seat : Seat} {last_opened : Option (Opened R)} {new : DriveTable H S Seat R} {seat' : Seat}
+pub served_as : {H S Seat R In Out : Type 0} {k : Kinds H Seat S R} (remaining : In → Option (List ℕ)) (contents : Out → Option (List ℕ))
+    (result : Result Served ServeFault) (input input' : Counting In) (output output' : Counting Out) {old last new : State H S Seat R}
     (read : List ℕ) → Consumes (remaining input.inner) (remaining input'.inner) read
-    → Advances h s r old seat opened last last_seat last_opened (EndsAs remaining contents result input input' output output' read)
-    → IsClosed h s r last last_seat last_opened new seat'
-    → IsServedAs h s r remaining contents result input input' output output' old seat opened new seat'
-served_as remaining contents result input input' output output' {last = last} {last_seat = last_seat} {last_opened = last_opened} read consumed a ended = record {
+    → Advances k old last (EndsAs remaining contents result input input' output output' read) → IsClosed k last new
+    → IsServedAs k remaining contents result input input' output output' old new
+served_as remaining contents result input input' output output' {last = last} read consumed a ended = record {
   read = read;
   done = a.done;
   rest = a.rest;
   consumed = consumed;
   ends = a.outcome;
   last = last;
-  last_seat = last_seat;
-  last_opened = last_opened;
   run = a.run;
   ended = ended;
   steps = λ fails shared may share start tells. (let w = run_steps a.run fails shared may share start tells in (w.0, w.1, ended.step w.0 w.2));
+}
+
+no-letter : (b : ℕ) (bytes : List ℕ) → [] ≡ b ∷ bytes → ⊥
+no-letter b bytes e = absurd cc
+
+-- each request begins with its letter
+no-text : (text rest : List ℕ) (request : PlainRequest) → [] ≡ text ++ rest → SpellsRequest text request → ⊥
+no-text (b ∷ text) rest request e s = absurd cc
+no-text [] rest (Open device mode) e s = absurd (no-letter _ _ s.3)
+no-text [] rest Close e s = absurd (no-letter _ _ s.2)
+no-text [] rest (Write bytes) e s = absurd (no-letter _ _ s.3)
+no-text [] rest (WriteDropped count) e s = absurd (no-letter _ _ s.5)
+no-text [] rest (Read count) e s = absurd (no-letter _ _ s.2)
+no-text [] rest (Op op count) e s = absurd (no-letter _ _ s.4)
+
+-- a reader that holds nothing is at the beginning of a request
+pub settled_empty : (wire : Held) → Unread wire [] → IsSettled wire []
+unfolding dropped_line
+settled_empty wire u = record {
+  unread = u;
+  begins = (67 ∷ 10 ∷ [], Close, ([], (omega arith, tt), refl));
+  none = no-text;
+  room = omega arith;
 }

@@ -7,3 +7,10 @@ pub(crate) struct Opened<R> {
     pub(crate) access: Access,
     pub(crate) reel: Option<R>,
 }
+
+/// A seat and what it has open.
+#[derive(Drop)]
+pub(crate) struct Desk<Seat, R> {
+    pub(crate) seat: Seat,
+    pub(crate) opened: Option<Opened<R>>,
+}

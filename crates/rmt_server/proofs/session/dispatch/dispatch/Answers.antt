@@ -1,5 +1,5 @@
 use Rattle.std.proofs.lemmas.Result.{err_from_is_err_and}
-use Rattle.rmt_server.proofs.session.carry.dispatch.Goals as goal
+use Rattle.rmt_server.proofs.session.dispatch.dispatch.Goals as goal
 
 pub returns-in_err-number-in-Open-clause-carried :
     goal.returns-in_err-number-in-Open-clause-carried

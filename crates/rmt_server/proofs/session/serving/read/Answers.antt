@@ -1,6 +1,6 @@
 use Rattle.std.proofs.Common.{rules, ◌≤◌, length}
 use Rattle.std.proofs.lemmas.List.{take-append-le}
-use Rattle.rmt_server.proofs.session.calls.read.Goals as goal
+use Rattle.rmt_server.proofs.session.serving.read.Goals as goal
 
 pub returns-in-Ok-clause-call : goal.returns-in-Ok-clause-call
 returns-in-Ok-clause-call g c =

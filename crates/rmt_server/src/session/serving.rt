@@ -3,7 +3,9 @@ ghost use Rattle.std.specs.Prelude.{◌≡◌, ℕ, ◌<◌, ◌≤◌, ◌&&◌
 ghost use Rattle.rmt_wire.specs.Request.{data_limit};
 ghost use Rattle.rmt_wire.specs.Request.PlainRequest.{Write, WriteDropped, Read, Op};
 ghost use Rattle.rmt_server.specs.Session.{refusal, Ready, read_refusal, write_refusal, op_refusal};
-ghost use Rattle.rmt_server.specs.Carrying.{refusal_in, ReelServes, number_reply, data_reply, status_at};
+ghost use Rattle.rmt_server.specs.State.{status_at};
+ghost use Rattle.rmt_server.specs.Replies.{refusal_in, number_reply, data_reply};
+ghost use Rattle.rmt_server.specs.Serving.{ReelServes};
 
 use crate::access::Access;
 use crate::refusal::Refusal;

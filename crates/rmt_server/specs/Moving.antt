@@ -1,0 +1,46 @@
+-- What a session does to move the open reel to the bin.
+use Rattle.std.specs.Prelude.{◌≡◌, ℕ, Bool, true, false, Option, Some, None, MatchOption, Result, Ok, Err}
+use Rattle.rmt_wire.specs.Request.PlainRequest.{Op}
+use Rattle.rmt_wire.specs.Reply.{PlainReply}
+use Rattle.tape.specs.Tape.TapeRequest.{Rewind}
+use Rattle.tape.specs.Tape.TapeAnswer.{Done as Did}
+use Rattle.drives.specs.declared.fault.DriveFault.{DriveFault}
+use Rattle.drives.specs.Calls.StacksCall.{Move}
+use Rattle.drives.specs.Stacking.{IsStacksCall}
+use Rattle.drives.specs.Opening.{Kinds}
+use Rattle.rmt_server.specs.declared.session.desk.Opened.{Opened}
+use Rattle.rmt_server.specs.Refusals.{refused}
+use Rattle.rmt_server.specs.Session.{refusal, move_reply}
+use Rattle.rmt_server.specs.State.{State, status_at, IsReelCall}
+
+-- the reel is gone once it was moved, and else handed back
+abbrev pub reel_left : {R : Type 0} → Result Unit DriveFault → R → Option R
+reel_left (Ok done) reel = None
+reel_left (Err why) reel = Some reel
+
+-- The open reel was rewound, and moved to the bin or handed back; the drive stays held.
+pub record IsTakenOff {H S Seat R : Type 0} (k : Kinds H Seat S R) (old : State H S Seat R) (device : Opened R) (reel : R)
+    (result : Result Unit DriveFault) (new : State H S Seat R) : Type 0 where
+  pub rested : R
+  pub rewound : IsReelCall k.reels reel Rewind Did rested
+  pub call : IsStacksCall k.stacks k.reels old.drives.stacks (Move device.drive rested result) new.drives.stacks
+  pub opens : new.opened ≡ Some (record device { reel = reel_left result rested })
+  pub same_holds : new.drives.holds ≡ old.drives.holds
+  pub same_seat : new.seat ≡ old.seat
+
+abbrev pub MovesIn : {H S Seat R : Type 0} → Kinds H Seat S R → State H S Seat R → Opened R → Option R → ℕ → PlainReply
+    → State H S Seat R → Type 0
+MovesIn k old device None count reply new = ⊥
+MovesIn k old device (Some reel) count reply new =
+    (result : Result Unit DriveFault) × (reply ≡ move_reply count result) × IsTakenOff k old device reel result new
+
+abbrev pub MovesReel : {H S Seat R : Type 0} → Kinds H Seat S R → State H S Seat R → Option (Opened R) → ℕ → PlainReply
+    → State H S Seat R → Type 0
+MovesReel k old None count reply new = ⊥
+MovesReel k old (Some device) count reply new = MovesIn k old device device.reel count reply new
+
+-- MTOFFL: the first check that refuses it decides, else the open reel is moved to the bin.
+abbrev pub MovesOff : {H S Seat R : Type 0} → Kinds H Seat S R → State H S Seat R → ℕ → ℕ → PlainReply → State H S Seat R → Type 0
+MovesOff k old op count reply new =
+    MatchOption (refusal (status_at old.opened) (Op op count)) (MovesReel k old old.opened count reply new)
+    (λ refusal. (reply ≡ refused refusal) × (new ≡ old))

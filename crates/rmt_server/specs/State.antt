@@ -1,0 +1,101 @@
+-- A session at its drives: what it holds and has open, what is told of it, and what each of its calls keeps.
+use Rattle.std.specs.Prelude.{◌≡◌, ◌≢◌, ◌⊎◌, ℕ, ◌<◌, ◌≤◌, Option, Some, None}
+use Rattle.tape.specs.Tape.{Tape, TapeRequest, TapeAnswer}
+use Rattle.tape.specs.Call.{IsCall}
+use Rattle.tape.specs.declared.reel.Reel.{Ghosts as ReelPromise}
+use Rattle.drives.specs.declared.table.DriveTable.{DriveTable}
+use Rattle.drives.specs.Holding.{HoldsJust}
+use Rattle.drives.specs.Stacking.{HasLatched, ReelCanFail}
+use Rattle.drives.specs.Opening.{Kinds}
+use Rattle.rmt_server.specs.declared.access.Access.{Access}
+use Rattle.rmt_server.specs.declared.session.desk.Opened.{Opened}
+use Rattle.rmt_server.specs.declared.session.desk.Desk.{Desk}
+use Rattle.rmt_server.specs.Session.{PlainSession, plain_reel, Scene, Status, NothingOpen, ReelAway, Ready}
+use Rattle.rmt_server.specs.Session.PlainSession.{Idle, Offline, Online}
+
+-- drives, a seat at them, and what it has open
+pub record State (H S Seat R : Type 0) : Type 0 where
+  pub drives : DriveTable H S Seat R
+  pub seat : Seat
+  pub opened : Option (Opened R)
+
+abbrev pub seated_at : {H S Seat R : Type 0} → DriveTable H S Seat R → Seat → Option (Opened R) → State H S Seat R
+seated_at drives seat opened = record { drives = drives; seat = seat; opened = opened }
+
+abbrev pub state : {H S Seat R : Type 0} → DriveTable H S Seat R → Desk Seat R → State H S Seat R
+state drives desk = seated_at drives desk.seat desk.opened
+
+-- the drive that is open
+abbrev pub drive_of : {R : Type 0} → Option (Opened R) → Option ℕ
+drive_of None = None
+drive_of (Some device) = Some device.drive
+
+abbrev pub online_in : {R : Type 0} → ℕ → Option R → Option ℕ
+online_in drive None = None
+online_in drive (Some reel) = Some drive
+
+-- the drive that is open with its reel
+abbrev pub online_drive : {R : Type 0} → Option (Opened R) → Option ℕ
+online_drive None = None
+online_drive (Some device) = online_in device.drive device.reel
+
+abbrev pub reel_of : {R : Type 0} → Option (Opened R) → Option R
+reel_of None = None
+reel_of (Some device) = device.reel
+
+abbrev pub status_in : {R : Type 0} → Access → Option R → Status
+status_in access None = ReelAway
+status_in access (Some reel) = Ready access
+
+abbrev pub status_at : {R : Type 0} → Option (Opened R) → Status
+status_at None = NothingOpen
+status_at (Some device) = status_in device.access device.reel
+
+-- this drive is open, with this reel
+abbrev pub IsOnline : {R : Type 0} → Option (Opened R) → ℕ → R → Type 0
+IsOnline opened drive reel = (access : Access) × (opened ≡ Some (record { drive = drive; access = access; reel = Some reel }))
+
+-- These drives are those of the seat and of what is open: the seat belongs to them and holds the open drive alone,
+-- and where they tell, the open reel is latched there.
+pub record IsAt {H S Seat R : Type 0} (k : Kinds H Seat S R) (x : State H S Seat R) : Type 0 where
+  pub own : k.holds.belongs x.drives.holds x.seat
+  pub enough : k.stacks.drives x.drives.stacks ≤ k.holds.drives x.drives.holds
+  pub held : HoldsJust (k.holds.shows x.seat) (drive_of x.opened)
+  pub below : (d : ℕ) → drive_of x.opened ≡ Some d → d < k.stacks.drives x.drives.stacks
+  pub latched : (d : ℕ) → online_drive x.opened ≡ Some d → HasLatched k.stacks.holds x.drives.stacks d
+
+-- what a device that is open is seen as, where its reel tells
+abbrev pub IsSeenWith : {R : Type 0} → ReelPromise R → ℕ → Access → Option R → PlainSession → Type 0
+IsSeenWith r drive access None session = session ≡ Offline drive access
+IsSeenWith r drive access (Some reel) session =
+    (t : Tape) × r.holds reel t × (session ≡ Online drive access (plain_reel t (r.capacity reel)))
+
+abbrev pub IsSeenAs : {R : Type 0} → ReelPromise R → Option (Opened R) → PlainSession → Type 0
+IsSeenAs r None session = session ≡ Idle
+IsSeenAs r (Some device) session = IsSeenWith r device.drive device.access device.reel session
+
+-- what the stacks and the open reel tell
+pub record Tells {H S Seat R : Type 0} (k : Kinds H Seat S R) (x : State H S Seat R) (v : Scene) : Type 0 where
+  pub shop : k.stacks.holds x.drives.stacks v.shop
+  pub session : IsSeenAs k.reels x.opened v.session
+
+-- a device can fail: that of the stacks, or that of the open reel
+abbrev pub SessionCanFail : {H S Seat R : Type 0} → Kinds H Seat S R → State H S Seat R → Type 0
+SessionCanFail k x = k.stacks.can_fail x.drives.stacks ⊎ ReelCanFail k.reels (reel_of x.opened)
+
+-- one call of a reel
+abbrev pub IsReelCall : {R : Type 0} → ReelPromise R → R → TapeRequest → TapeAnswer → R → Type 0
+IsReelCall r old request answer new = IsCall r.holds r.capacity r.failures r.can_fail r.makes r.GROWS old new request answer
+
+-- The counts of drives and of seats stay, that of failures does not fall, the seat keeps its number, other seats hold
+-- what they held, and reels stay latched in other drives than those that were open before and after.
+pub record KeepsDrives {H S Seat R : Type 0} (k : Kinds H Seat S R) (old new : State H S Seat R) : Type 0 where
+  pub number : (k.holds.shows new.seat).number ≡ (k.holds.shows old.seat).number
+  pub others : (other : Seat) → (k.holds.shows other).number ≢ (k.holds.shows old.seat).number
+      → k.holds.belongs old.drives.holds other → k.holds.belongs new.drives.holds other
+  pub same_holds : k.holds.drives new.drives.holds ≡ k.holds.drives old.drives.holds
+  pub same_seats : k.holds.seated new.drives.holds ≡ k.holds.seated old.drives.holds
+  pub same_stacks : k.stacks.drives new.drives.stacks ≡ k.stacks.drives old.drives.stacks
+  pub counted : k.stacks.failures old.drives.stacks ≤ k.stacks.failures new.drives.stacks
+  pub elsewhere : (d : ℕ) → drive_of old.opened ≢ Some d → drive_of new.opened ≢ Some d
+      → HasLatched k.stacks.holds old.drives.stacks d → HasLatched k.stacks.holds new.drives.stacks d

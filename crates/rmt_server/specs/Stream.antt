@@ -1,0 +1,116 @@
+-- What a server does with a stream of requests.
+use Rattle.std.specs.Prelude.{◌≡◌, ◌≢◌, ℕ, ◌<◌, Bool, List, [], ◌∷◌, ◌++◌, map, take, Option, Some, None, Result, Ok, Err}
+use Rattle.std.specs.List.{flat_map}
+use Rattle.std.specs.Io.KnownBytes.{Appends, Consumes, IsAtEnd}
+use Rattle.rmt_wire.specs.Request.{PlainRequest}
+use Rattle.rmt_wire.specs.Reply.{PlainReply, HasSpelling, reply_text}
+use Rattle.rmt_wire.specs.Parts.{IsOpen, HasNoSpelling, Spelled, HasFault}
+use Rattle.rmt_wire.specs.Counted.{Counting, HasRisen}
+use Rattle.rmt_wire.specs.Reader.{Held, Unread, reader_limit, taken_of}
+use Rattle.rmt_wire.specs.declared.fault.WireFault.{WireFault}
+use Rattle.rmt_wire.specs.declared.writer.OutputFault.{OutputFault}
+use Rattle.drives.specs.Opening.{Kinds}
+use Rattle.rmt_server.specs.declared.stream.Served.{Served}
+use Rattle.rmt_server.specs.declared.stream.Served.TheVariants.{End, Truncated, Broken}
+use Rattle.rmt_server.specs.declared.stream.ServeFault.{ServeFault}
+use Rattle.rmt_server.specs.declared.stream.ServeFault.TheVariants.{Input, Output}
+use Rattle.rmt_server.specs.Session.{Scene, closed, ServeRun}
+use Rattle.rmt_server.specs.State.{State, Tells}
+use Rattle.rmt_server.specs.Opening.{IsClosed}
+use Rattle.rmt_server.specs.Carrying.{IsCarriedOut, MayFail, MayShare}
+
+-- requests with their replies
+abbrev pub Exchange : Type 0
+Exchange = PlainRequest × PlainReply
+
+abbrev pub requests_of : List Exchange → List PlainRequest
+requests_of done = map (λ e. e.0) done
+
+-- what is written: the spellings of the replies, joined
+abbrev pub replies_text : List Exchange → List ℕ
+replies_text done = flat_map (λ e. reply_text e.1) done
+
+-- requests carried out one after another, whatever is told, with replies that have a spelling
+pub data CarryRun {H S Seat R : Type 0} (k : Kinds H Seat S R) (start : State H S Seat R) : List Exchange → State H S Seat R → Type 0 where
+  none : CarryRun k start [] start
+  one_more : {done : List Exchange} {between after : State H S Seat R} (request : PlainRequest) (reply : PlainReply)
+      → CarryRun k start done between → IsCarriedOut k between request reply after → HasSpelling reply
+      → CarryRun k start (done ++ (request, reply) ∷ []) after
+
+-- The bytes are the spellings of these requests and then the rest, and the replies to them, in order, were written.
+pub record IsAnswered (known known' : Option (List ℕ)) (bytes : List ℕ) (done : List Exchange) (rest : List ℕ) : Type 0 where
+  pub spelled : Spelled bytes (requests_of done) rest
+  pub written : Appends known known' (replies_text done)
+
+-- The same, but of the last reply only a beginning was written.
+pub record IsCutOff (known known' : Option (List ℕ)) (bytes : List ℕ) (done : List Exchange) (rest : List ℕ) : Type 0 where
+  pub spelled : Spelled bytes (requests_of done) rest
+  pub before : List Exchange
+  pub last : Exchange
+  pub split : done ≡ before ++ last ∷ []
+  pub count : ℕ
+  pub written : Appends known known' (replies_text before ++ take count (reply_text last.1))
+
+-- Requests were carried out, with an outcome.
+pub record Advances {H S Seat R : Type 0} (k : Kinds H Seat S R) (old new : State H S Seat R)
+    (Outcome : List Exchange → List ℕ → Type 0) : Type 0 where
+  pub done : List Exchange
+  pub rest : List ℕ
+  pub run : CarryRun k old done new
+  pub outcome : Outcome done rest
+
+-- The reader is left at a beginning of a request, for the rest of which there is room
+pub record IsSettled (wire : Held) (rest : List ℕ) : Type 0 where
+  pub unread : Unread wire rest
+  pub begins : IsOpen rest
+  pub none : HasNoSpelling rest
+  pub room : taken_of rest < reader_limit
+
+-- whatever follows, the rest is no request, and this is why
+abbrev pub IsFaulty : List ℕ → WireFault → Type 0
+IsFaulty rest fault = (more : List ℕ) → HasFault (rest ++ more) fault × HasNoSpelling (rest ++ more)
+
+-- what became of the bytes that a reader held
+abbrev pub AnswersAs : {W : Type 0} → (W → Option (List ℕ)) → Result (Option WireFault) OutputFault → Counting W → Counting W → Held
+    → List ℕ → List Exchange → List ℕ → Type 0
+AnswersAs contents (Ok None) output output' wire bytes done rest =
+    IsAnswered (contents output.inner) (contents output'.inner) bytes done rest × IsSettled wire rest
+AnswersAs contents (Ok (Some fault)) output output' wire bytes done rest =
+    IsAnswered (contents output.inner) (contents output'.inner) bytes done rest × IsFaulty rest fault
+AnswersAs contents (Err failed) output output' wire bytes done rest =
+    IsCutOff (contents output.inner) (contents output'.inner) bytes done rest × HasRisen output.failures output'.failures
+
+-- How serving ends, by what follows the last whole request of the bytes read: nothing, or a beginning of a request,
+-- both with no byte of the input left; or bytes that are no request. `Input` and `Output` come only where that
+-- stream failed.
+abbrev pub EndsAs : {R W : Type 0} → (R → Option (List ℕ)) → (W → Option (List ℕ)) → Result Served ServeFault
+    → Counting R → Counting R → Counting W → Counting W → List ℕ → List Exchange → List ℕ → Type 0
+EndsAs remaining contents (Ok End) input input' output output' read done rest =
+    IsAnswered (contents output.inner) (contents output'.inner) read done rest × (rest ≡ []) × IsAtEnd (remaining input'.inner)
+EndsAs remaining contents (Ok Truncated) input input' output output' read done rest =
+    IsAnswered (contents output.inner) (contents output'.inner) read done rest × (rest ≢ []) × IsOpen rest × HasNoSpelling rest × IsAtEnd (remaining input'.inner)
+EndsAs remaining contents (Ok (Broken fault)) input input' output output' read done rest =
+    IsAnswered (contents output.inner) (contents output'.inner) read done rest × HasFault rest fault × HasNoSpelling rest
+EndsAs remaining contents (Err Input) input input' output output' read done rest =
+    IsAnswered (contents output.inner) (contents output'.inner) read done rest × IsOpen rest × HasNoSpelling rest × HasRisen input.failures input'.failures
+EndsAs remaining contents (Err Output) input input' output output' read done rest =
+    IsCutOff (contents output.inner) (contents output'.inner) read done rest × HasRisen output.failures output'.failures
+
+-- no read and no write failed
+abbrev pub NoneFailed : {R W : Type 0} → Counting R → Counting R → Counting W → Counting W → Type 0
+NoneFailed input input' output output' = (input'.failures ≡ input.failures) × (output'.failures ≡ output.failures)
+
+-- What was served: the bytes read, the requests carried out with their replies, and what follows them of the bytes.
+-- Then what was open was closed. Where stacks and reel tell, the requests and replies are a run of serve steps.
+pub record IsServedAs {H S Seat R In Out : Type 0} (k : Kinds H Seat S R) (remaining : In → Option (List ℕ)) (contents : Out → Option (List ℕ))
+    (result : Result Served ServeFault) (input input' : Counting In) (output output' : Counting Out) (old new : State H S Seat R) : Type 0 where
+  pub read : List ℕ
+  pub done : List Exchange
+  pub rest : List ℕ
+  pub consumed : Consumes (remaining input.inner) (remaining input'.inner) read
+  pub ends : EndsAs remaining contents result input input' output output' read done rest
+  pub last : State H S Seat R
+  pub run : CarryRun k old done last
+  pub ended : IsClosed k last new
+  pub steps : (fails shared : Bool) → MayFail k old fails → MayShare k old shared → (start : Scene) → Tells k old start
+      → (finish : Scene) × ServeRun fails shared k.reels.GROWS start done finish × k.stacks.holds new.drives.stacks (closed finish).shop

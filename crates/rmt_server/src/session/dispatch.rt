@@ -1,0 +1,74 @@
+//! What each request does, over the parts of a session.
+ghost use Rattle.std.specs.Prelude.{◌≡◌, length, IfOk};
+ghost use Rattle.rmt_wire.specs.Request.{data_limit};
+ghost use Rattle.rmt_wire.specs.Lent.{plain_request};
+ghost use Rattle.drives.specs.Opening.{kinds};
+ghost use Rattle.rmt_server.specs.Session.{is_offline};
+ghost use Rattle.rmt_server.specs.State.{state, IsAt};
+ghost use Rattle.rmt_server.specs.Replies.{number_reply, outcome_reply, IsWithin, IsSayable, IsOutcomeSayable};
+ghost use Rattle.rmt_server.specs.Carrying.{Operates, CarriesOut};
+
+use crate::refusal::Refusal;
+use crate::session::{Desk, moving, opening, serving};
+use drives::{DriveTable, Holds, Stacks};
+use rmt_wire::Request;
+use tape::MTOFFL;
+
+/// What a request gave.
+#[derive(Clone, Copy, Debug, PartialEq, Eq)]
+pub(crate) enum Given {
+    /// It was done, and this is the number to answer.
+    Number(u32),
+    /// So many bytes were read into the buffer.
+    Bytes(usize),
+}
+
+/// Does an operation of mtio. It answers the count.
+fn operate<H: Holds, S: Stacks>(
+    drives: &mut DriveTable<H, S>,
+    desk: &mut Desk<H::Seat, S::Reel>,
+    op: u32,
+    count: u32,
+) -> Result<u32, Refusal>
+    requires { IsAt (kinds H.Holds S.Stacks S.Reel.Reel) (state drives.old desk.old) }
+    ensures operates {
+        Operates (kinds H.Holds S.Stacks S.Reel.Reel) (is_offline op) (state drives.old desk.old) op count (number_reply result)
+        (state drives.new desk.new)
+    }
+    ensures number { IfOk result (λ n. n ≡ count) }
+{
+    if op == MTOFFL {
+        moving::take_offline(drives, &mut desk.opened, count)
+    } else {
+        serving::operate(&mut desk.opened, op, count)
+    }
+}
+
+/// Carries out a request. What a read gives lies in the buffer.
+pub(crate) fn dispatch<H: Holds, S: Stacks>(
+    drives: &mut DriveTable<H, S>,
+    desk: &mut Desk<H::Seat, S::Reel>,
+    buffer: &mut [u8],
+    request: Request<'_>,
+) -> Result<Given, Refusal>
+    requires at { IsAt (kinds H.Holds S.Stacks S.Reel.Reel) (state drives.old desk.old) }
+    requires room { length buffer.old ≡ data_limit }
+    ensures carried {
+        CarriesOut (kinds H.Holds S.Stacks S.Reel.Reel) (state drives.old desk.old) (plain_request request.entry)
+        (outcome_reply result buffer.new) (state drives.new desk.new)
+    }
+    ensures small { IsSayable (plain_request request.entry) → IsOutcomeSayable result }
+    ensures within { IsWithin result buffer.new }
+{
+    let number = match request {
+        Request::Open { device, mode } => opening::open(drives, desk, device, mode)?,
+        Request::Close => opening::close_opened(drives, desk)?,
+        Request::Write { bytes } => serving::write(&mut desk.opened, bytes)?,
+        Request::WriteDropped { .. } => return Err(serving::refuse_dropped(&desk.opened)),
+        Request::Read { count } => {
+            return Ok(Given::Bytes(serving::read(&mut desk.opened, buffer, count)?));
+        }
+        Request::Op { op, count } => operate(drives, desk, op, count)?,
+    };
+    Ok(Given::Number(number))
+}

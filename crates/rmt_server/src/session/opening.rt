@@ -1,0 +1,112 @@
+//! Opening and closing a drive.
+ghost use Rattle.std.specs.Prelude.{◌≡◌, ℕ, ◌<◌, Some, None, IfOk};
+ghost use Rattle.drives.specs.Calls.{stacks_kind};
+ghost use Rattle.drives.specs.Stacking.{HasLatched};
+ghost use Rattle.drives.specs.Opening.{kinds};
+ghost use Rattle.rmt_server.specs.Access.{access_of};
+ghost use Rattle.rmt_server.specs.State.{state, IsAt, online_in};
+ghost use Rattle.rmt_server.specs.Replies.{number_reply};
+ghost use Rattle.rmt_server.specs.Opening.{LaysBack, IsClosed, Closes, OpensFor, OpensAnew};
+
+use crate::access::Access;
+use crate::refusal::Refusal;
+use crate::session::{Desk, Opened};
+use drives::{DriveTable, Holds, Stacks};
+use tape::Reel;
+
+/// Rewinds a reel, unless it lies in the bin, and lays it on its stack.
+fn put_back<S: Stacks>(stacks: &mut S, drive: usize, reel: Option<S::Reel>)
+    requires drive { drive < S.drives stacks.old }
+    requires latched { (d : ℕ) → online_in drive reel ≡ Some d → HasLatched S.holds stacks.old d }
+    ensures {
+        LaysBack (stacks_kind S.holds S.drives S.failures S.can_fail S.makes) S.Reel.Reel stacks.old drive reel stacks.new
+    }
+{
+    if let Some(mut reel) = reel {
+        reel.rewind();
+        stacks.unlatch(drive, reel);
+    }
+}
+
+/// Closes what is open, if anything: its reel lies on the stack again, and the drive is given back.
+pub(crate) fn close<H: Holds, S: Stacks>(
+    drives: &mut DriveTable<H, S>,
+    desk: &mut Desk<H::Seat, S::Reel>,
+)
+    requires { IsAt (kinds H.Holds S.Stacks S.Reel.Reel) (state drives.old desk.old) }
+    ensures { IsClosed (kinds H.Holds S.Stacks S.Reel.Reel) (state drives.old desk.old) (state drives.new desk.new) }
+{
+    let Some(device) = desk.opened.take() else {
+        return;
+    };
+    let Opened { drive, reel, .. } = device;
+    put_back(&mut drives.stacks, drive, reel);
+    drives.holds.give(&mut desk.seat, drive);
+}
+
+/// Closes what is open. It answers 0.
+pub(crate) fn close_opened<H: Holds, S: Stacks>(
+    drives: &mut DriveTable<H, S>,
+    desk: &mut Desk<H::Seat, S::Reel>,
+) -> Result<u32, Refusal>
+    requires { IsAt (kinds H.Holds S.Stacks S.Reel.Reel) (state drives.old desk.old) }
+    ensures closes {
+        Closes (kinds H.Holds S.Stacks S.Reel.Reel) (state drives.old desk.old) (number_reply result) (state drives.new desk.new)
+    }
+    ensures number { IfOk result (λ n. n ≡ 0) }
+{
+    if desk.opened.is_none() {
+        return Err(Refusal::BadDescriptor);
+    }
+    close(drives, desk);
+    Ok(0)
+}
+
+/// Takes the drive of that name and latches its first reel, while nothing is open. It answers 0.
+fn open_named<H: Holds, S: Stacks>(
+    drives: &mut DriveTable<H, S>,
+    desk: &mut Desk<H::Seat, S::Reel>,
+    device: &[u8],
+    mode: u32,
+) -> Result<u32, Refusal>
+    requires at { IsAt (kinds H.Holds S.Stacks S.Reel.Reel) (state drives.old desk.old) }
+    requires nothing { desk.old.opened ≡ None }
+    ensures opens {
+        OpensFor (kinds H.Holds S.Stacks S.Reel.Reel) (state drives.old desk.old) device.now (access_of mode) (number_reply result)
+        (state drives.new desk.new)
+    }
+    ensures number { IfOk result (λ n. n ≡ 0) }
+{
+    let Some(access) = Access::of(mode) else {
+        return Err(Refusal::Invalid);
+    };
+    match drives.open(&mut desk.seat, device) {
+        Ok((drive, reel)) => {
+            desk.opened = Some(Opened {
+                drive,
+                access,
+                reel: Some(reel),
+            });
+            Ok(0)
+        }
+        Err(fault) => Err(Refusal::of_drive(fault)),
+    }
+}
+
+/// Closes what is open, then takes the drive of that name and latches its first reel. It answers 0.
+pub(crate) fn open<H: Holds, S: Stacks>(
+    drives: &mut DriveTable<H, S>,
+    desk: &mut Desk<H::Seat, S::Reel>,
+    device: &[u8],
+    mode: u32,
+) -> Result<u32, Refusal>
+    requires { IsAt (kinds H.Holds S.Stacks S.Reel.Reel) (state drives.old desk.old) }
+    ensures opens {
+        OpensAnew (kinds H.Holds S.Stacks S.Reel.Reel) (state drives.old desk.old) device.now mode (number_reply result)
+        (state drives.new desk.new)
+    }
+    ensures number { IfOk result (λ n. n ≡ 0) }
+{
+    close(drives, desk);
+    open_named(drives, desk, device, mode)
+}
