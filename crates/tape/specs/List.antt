@@ -52,7 +52,8 @@ pub record IsStanding (entries : List PlainEntry) (place offset capacity : ℕ) 
 -- a trouble. Or memory was wanting, and nothing changed.
 abbrev pub IsPut : Result Unit TapeFault → ℕ → Trouble → List PlainEntry → List PlainEntry → List PlainEntry → Type 0
 IsPut (Ok x) place trouble written old new = (trouble ≡ NoTrouble) × (new ≡ take place old ++ left_by trouble (drop place old) written)
-IsPut (Err Device) place trouble written old new = (trouble ≢ NoTrouble) × (new ≡ take place old ++ left_by trouble (drop place old) written)
+IsPut (Err Device) place trouble written old new =
+    (trouble ≢ NoTrouble) × (new ≡ take place old ++ left_by trouble (drop place old) written)
 IsPut (Err OutOfMemory) place trouble written old new = new ≡ old
 IsPut (Err fault) place trouble written old new = ⊥
 

@@ -55,7 +55,8 @@ pub trait Reel {
     /// Answers `Device` where the medium failed. The place did not move then.
     fn read(&mut self, into: &mut [u8]) -> Result<usize, TapeFault>
         ensures bound { IfOk result (λ n. n ≤ length into.new) }
-        ensures call { IsCall holds capacity failures can_fail makes GROWS self.old self.new (Read (length into.old)) (given_answer result into.new) };
+        ensures call { IsCall holds capacity failures can_fail makes GROWS self.old self.new
+            (Read (length into.old)) (given_answer result into.new) };
 
     /// Carries out an operation of rmt(8)'s `I` request, by its number in mtio.
     ///

@@ -57,7 +57,7 @@ impl TroubledReel {
     }
 
     /// How the next device call fails. It is `Trouble::None` once a call has failed.
-    pub fn trouble(&self) -> Trouble
+    pub fn next_trouble(&self) -> Trouble
         ensures { result ≡ self.now.trouble }
     {
         self.trouble
