@@ -6,9 +6,6 @@ ghost use Rattle.tape.specs.Call.{IsCall};
 
 use crate::TapeFault;
 
-/// The greatest length of a record, in bytes.
-pub const RECORD_LIMIT: usize = 65536;
-
 /// A reel of tape, seen as the entries before its place and those after it.
 ///
 /// A reel tells its tape or tells nothing, as std's readers do with their bytes: what a clause says of entries

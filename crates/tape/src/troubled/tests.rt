@@ -189,6 +189,23 @@ fn a_trouble_waits_for_a_device_call(rt: HostRuntime) -> Result<(), Fail> {
 }
 
 #[test]
+fn tells_entries_while_a_trouble_is_set(rt: HostRuntime) -> Result<(), Fail> {
+    let mut reel = TroubledReel::new(ListReel::new(rt.alloc(), 100));
+    make(&rt, &mut reel, Call::Op(MTWEOF, 1), Ok(b""));
+    make(&rt, &mut reel, Call::Write(b"ab"), Ok(b""));
+    reel.set(Trouble::Lost);
+    let mut into = *b"....";
+    assert_eq!(&rt; reel.entry(0, &mut into), Some(0));
+    assert_eq!(&rt; reel.entry(2, &mut into), None);
+    assert_eq!(&rt; into, *b"....");
+    assert_eq!(&rt; reel.entry(1, &mut into), Some(2));
+    assert_eq!(&rt; into, *b"ab..");
+    assert_eq!(&rt; reel.next_trouble(), Trouble::Lost);
+    assert_eq!(&rt; reel.failures(), 0);
+    Ok(())
+}
+
+#[test]
 fn counts_failures_up_to_the_greatest(rt: HostRuntime) -> Result<(), Fail> {
     let mut reel = TroubledReel {
         reel: ListReel::new(rt.alloc(), 100),
