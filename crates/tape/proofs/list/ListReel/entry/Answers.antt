@@ -1,9 +1,9 @@
-use Rattle.std.proofs.Common.{◌≡◌, refl, sym, ap, subst, ◌∙◌, Some}
-use Rattle.std.specs.List.{All, slice_get}
+use Rattle.std.proofs.Common.{◌≡◌, refl, sym, ap, ◌∙◌, Some}
+use Rattle.std.specs.List.{slice_get}
 use Rattle.std.proofs.lemmas.List.{take-append-drop}
 use Rattle.std.proofs.lemmas.Option.{slice_get-map, slice_get_read}
 use Rattle.std.specs.Option.{option_map}
-use Rattle.tape.specs.Tape.{Tape, IsTapeEntry, entries_of}
+use Rattle.tape.specs.Tape.{entries_of}
 use Rattle.tape.specs.List.{ListTape, plain_of, plain_entries, told_length}
 use Rattle.tape.proofs.Entries.{mark_told}
 use Rattle.tape.proofs.list.ListReel.entry.Goals as goal
