@@ -47,6 +47,7 @@ before_at entries to offset size capacity e standing is sized =
         within = omega arith;
         offset_is = omega (arith, standing.offset_is, more, same);
         fits = standing.fits;
+        records = standing.records;
       };
       way = ap reverse behind ∙ reverse-append (take to entries) (e ∷ []);
     }

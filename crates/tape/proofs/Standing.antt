@@ -24,6 +24,7 @@ standing_next entries place offset capacity size e standing within is sized =
       within = omega arith;
       offset_is = omega (arith, standing.offset_is, more, same);
       fits = standing.fits;
+      records = standing.records;
     }
 
 -- a read at an entry

@@ -26,7 +26,8 @@ CanAnswer Nothing answer = answer ≡ Done
 CanAnswer Unknown answer = answer ≡ Fault BadOperation
 
 pub record IsCall {S : Type 0} (holds : S → Tape → Type 0) (capacity : S → ℕ) (failures : S → ℕ) (can_fail : S → Type 0)
-    (makes : S → S → TapeRequest → TapeAnswer → Type 0) (grows : Bool) (old new : S) (request : TapeRequest) (answer : TapeAnswer) : Type 0 where
+    (makes : S → S → TapeRequest → TapeAnswer → Type 0) (grows : Bool)
+    (old new : S) (request : TapeRequest) (answer : TapeAnswer) : Type 0 where
   -- where the reel tells, the call is a step of its tape
   pub step : Steps holds old new (λ t u. TapeStep (capacity old) t request answer u)
   -- and whether it tells or not, the answer is one that the call can have

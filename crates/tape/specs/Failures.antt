@@ -1,9 +1,13 @@
 -- Counts of failures, and what a thing holds that may tell nothing.
 use Rattle.std.specs.Prelude.{ℕ, ◌+◌, ◌-◌, ◌^◌, ◌≤◌, min, max}
 
--- the count after one failure more, which stays at the greatest u64
+-- one step more, up to the greatest u64
+abbrev pub counted : ℕ → ℕ
+counted n = min (n + 1) (2 ^ 64 - 1)
+
+-- the count after one failure more. It does not fall, whatever it was.
 abbrev pub raised : ℕ → ℕ
-raised n = max n (min (n + 1) (2 ^ 64 - 1))
+raised n = max n (counted n)
 
 -- the count has risen, or stands at its greatest value
 abbrev pub HasRisen : ℕ → ℕ → Type 0

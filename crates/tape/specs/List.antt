@@ -1,6 +1,8 @@
 -- A list of entries as a tape.
-use Rattle.std.specs.Prelude.{◌≡◌, ◌≢◌, ℕ, ◌-◌, ◌^◌, ◌≤◌, List, [], ◌++◌, length, take, drop, map, true, Result, Ok, Err}
-use Rattle.tape.specs.Tape.{PlainEntry, Tape, TapeRequest, TapeAnswer, tape, offset_of}
+use Rattle.std.specs.Prelude.{◌≡◌, ◌≢◌, ℕ, ◌-◌, ◌^◌, ◌≤◌, List, [], ◌++◌, length, take, drop, map, true, Option, Some, None, Result, Ok, Err}
+use Rattle.std.specs.List.{All, slice_get}
+use Rattle.std.specs.Option.{option_map}
+use Rattle.tape.specs.Tape.{PlainEntry, Tape, TapeRequest, TapeAnswer, IsTapeEntry, entries_of, tape, offset_of}
 use Rattle.tape.specs.Tape.PlainEntry.{Record, Mark}
 use Rattle.tape.specs.Call.{IsCall}
 use Rattle.tape.specs.declared.entry.Entry.{Entry}
@@ -42,17 +44,37 @@ abbrev pub bytes_of : PlainEntry → List ℕ
 bytes_of (Record bytes) = bytes
 bytes_of Mark = []
 
--- the place is one of the entries', the offset is that of the place, and the entries fit the capacity
+-- the entry of this number, counted from 0, where there is one
+abbrev pub entry_at : ℕ → Tape → Option PlainEntry
+entry_at i t = slice_get (entries_of t) i
+
+-- what is told of it: the length of a record, and 0 for a mark
+abbrev pub told_length : Option PlainEntry → Option ℕ
+told_length entry = option_map (λ e. length (bytes_of e)) entry
+
+-- and its bytes: those of a record
+abbrev pub told_bytes : Option PlainEntry → List ℕ
+told_bytes None = []
+told_bytes (Some e) = bytes_of e
+
+-- as many of the bytes as fit stand at the front, and what stood beyond them still stands
+abbrev pub with_front : List ℕ → List ℕ → List ℕ
+with_front bytes into = take (length into) bytes ++ drop (length bytes) into
+
+-- the place is one of the entries', the offset is that of the place, the entries fit the capacity, and each record has
+-- a lawful length
 pub record IsStanding (entries : List PlainEntry) (place offset capacity : ℕ) : Type 0 where
   pub within : place ≤ length entries
   pub offset_is : offset ≡ offset_of (take place entries)
   pub fits : offset_of entries ≤ capacity
+  pub records : All IsTapeEntry entries
 
 -- From the place on stands what this trouble leaves of what was written, and it is the device's fault where there was
 -- a trouble. Or memory was wanting, and nothing changed.
 abbrev pub IsPut : Result Unit TapeFault → ℕ → Trouble → List PlainEntry → List PlainEntry → List PlainEntry → Type 0
 IsPut (Ok x) place trouble written old new = (trouble ≡ NoTrouble) × (new ≡ take place old ++ left_by trouble (drop place old) written)
-IsPut (Err Device) place trouble written old new = (trouble ≢ NoTrouble) × (new ≡ take place old ++ left_by trouble (drop place old) written)
+IsPut (Err Device) place trouble written old new =
+    (trouble ≢ NoTrouble) × (new ≡ take place old ++ left_by trouble (drop place old) written)
 IsPut (Err OutOfMemory) place trouble written old new = new ≡ old
 IsPut (Err fault) place trouble written old new = ⊥
 

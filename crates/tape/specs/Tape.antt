@@ -38,6 +38,11 @@ record_limit = 65536
 abbrev pub IsRecord : List ℕ → Type 0
 IsRecord bytes = (0 < length bytes) × (length bytes ≤ record_limit)
 
+-- what a reel in memory holds at a place: a record of such a length, or a mark
+abbrev pub IsTapeEntry : PlainEntry → Type 0
+IsTapeEntry (Record bytes) = IsRecord bytes
+IsTapeEntry Mark = Unit {0}
+
 pub data TapeRequest : Type 0 where
   Write : (bytes : List ℕ) → TapeRequest
   Read : (count : ℕ) → TapeRequest

@@ -76,9 +76,10 @@ pub record TroubledStep (old new : TroubledTape) (request : TapeRequest) (answer
 
 -- what it promises as a reel: its device can fail where a trouble is set
 abbrev pub IsTroubledCall : TroubledTape → TroubledTape → TapeRequest → TapeAnswer → Type 0
-IsTroubledCall old new request answer = IsCall IsTapeOf (λ r. r.capacity) (λ r. r.failures) (λ r. r.trouble ≢ None) TroubledStep true old new request answer
+IsTroubledCall old new request answer =
+    IsCall IsTapeOf (λ r. r.capacity) (λ r. r.failures) (λ r. r.trouble ≢ None) TroubledStep true old new request answer
 
 -- How many of so many entries that are written stand afterwards: no number where what stood before stands.
-abbrev pub IsLeft : Trouble → ℕ → Option ℕ → Type 0
-IsLeft trouble count left = (stood written : List PlainEntry) → length written ≡ count
+abbrev pub IsTroubleLeft : Trouble → ℕ → Option ℕ → Type 0
+IsTroubleLeft trouble count left = (stood written : List PlainEntry) → length written ≡ count
     → MatchOption left (left_by trouble stood written ≡ stood) (λ n. left_by trouble stood written ≡ take n written)

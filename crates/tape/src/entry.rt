@@ -1,6 +1,6 @@
 ghost use Rattle.std.specs.Prelude.{◌≡◌, ◌^◌, ◌<◌, ◌≤◌, length, take};
 ghost use Rattle.tape.specs.Tape.{size_of};
-ghost use Rattle.tape.specs.List.{plain_of, bytes_of};
+ghost use Rattle.tape.specs.List.{plain_of, bytes_of, with_front};
 
 /// What a record takes of a reel beside its bytes, in bytes.
 pub(crate) const RECORD_FRAME: u64 = 8;
@@ -31,10 +31,21 @@ impl Entry {
         }
     }
 
+    /// How many bytes a record has; 0 for a mark.
+    pub(crate) fn len(&self) -> usize
+        ensures { result ≡ length (bytes_of (plain_of self.now)) }
+    {
+        match self {
+            Entry::Record(bytes) => bytes.len(),
+            Entry::Mark => 0,
+        }
+    }
+
     /// Copies the first bytes of a record, and of a mark none. Answers how many.
     pub(crate) fn read_into(&self, into: &mut [u8]) -> usize
         ensures bound { result ≤ length into.new }
         ensures copied { take result into.new ≡ take (length into.old) (bytes_of (plain_of self.now)) }
+        ensures after { into.new ≡ with_front (bytes_of (plain_of self.now)) into.old }
     {
         match self {
             Entry::Record(bytes) => copy_front(bytes, into),
@@ -47,6 +58,7 @@ impl Entry {
 fn copy_front(bytes: &[u8], into: &mut [u8]) -> usize
     ensures bound { result ≤ length into.new }
     ensures copied { take result into.new ≡ take (length into.old) bytes.now }
+    ensures after { into.new ≡ with_front bytes.now into.old }
 {
     let count = bytes.len().min(into.len());
     into[..count].copy_from_slice(&bytes[..count]);

@@ -1,3 +1,6 @@
+#[cfg(test)]
+mod tests;
+
 use std::alloc::AllocError;
 use thiserror::Error;
 

@@ -8,6 +8,7 @@ mod entry;
 mod fault;
 mod list;
 mod op;
+mod record;
 mod reel;
 #[cfg(test)]
 mod slow;
@@ -18,6 +19,7 @@ pub use entry::Entry;
 pub use fault::TapeFault;
 pub use list::ListReel;
 pub use op::{MTBSF, MTBSR, MTFSF, MTFSR, MTNOP, MTOFFL, MTREW, MTWEOF};
-pub use reel::{RECORD_LIMIT, Reel};
+pub use record::{RECORD_LIMIT, is_record};
+pub use reel::Reel;
 pub use trouble::Trouble;
 pub use troubled::TroubledReel;

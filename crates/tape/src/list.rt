@@ -1,8 +1,10 @@
-ghost use Rattle.std.specs.Prelude.{◌≡◌, ◌≢◌, ◌≤◌, IfOk, [], length, true};
-ghost use Rattle.tape.specs.Tape.{IsRecord, ForwardFilesStep, BackFilesStep, ForwardRecordsStep, BackRecordsStep, TapeStep, op_request, done_answer, given_answer, tape};
+ghost use Rattle.std.specs.Prelude.{◌≡◌, ◌≢◌, ◌≤◌, ◌↔◌, IfOk, [], length, true};
+ghost use Rattle.std.specs.List.{All};
+ghost use Rattle.tape.specs.Tape.{IsRecord, IsTapeEntry, entries_of, ForwardFilesStep, BackFilesStep, ForwardRecordsStep, BackRecordsStep, TapeStep, op_request, done_answer, given_answer, tape};
 ghost use Rattle.tape.specs.Tape.TapeRequest.{Write, Read, WriteMarks, Rewind};
 ghost use Rattle.tape.specs.Tape.TapeAnswer.{Done};
-ghost use Rattle.tape.specs.List.{IsListCall, IsTape};
+ghost use Rattle.tape.specs.Tape.PlainEntry.{Mark};
+ghost use Rattle.tape.specs.List.{IsListCall, IsTape, entry_at, told_length, told_bytes, with_front};
 ghost use Rattle.tape.specs.Trouble.{DeviceStep};
 ghost use Rattle.tape.specs.declared.fault.TapeFault.TheVariants.{Device};
 
@@ -53,6 +55,21 @@ impl ListReel {
             offset: 0,
             capacity,
         }
+    }
+
+    /// The length of the record that is entry number `i`, counted from 0 at the beginning; 0 for a mark, which alone
+    /// has none. No number where there are no more than `i` entries.
+    ///
+    /// Copies the first bytes of the record, as many as `into` takes, to the front of `into`, and changes no more of it.
+    pub fn entry(&self, i: usize, into: &mut [u8]) -> Option<usize>
+        ensures told { result ≡ told_length (entry_at i self.now.tape) }
+        ensures copied { into.new ≡ with_front (told_bytes (entry_at i self.now.tape)) into.old }
+        ensures mark { (result ≡ Some 0) ↔ (entry_at i self.now.tape ≡ Some Mark) }
+        ensures records { All IsTapeEntry (entries_of self.now.tape) }
+    {
+        let entry = self.entries.get(i)?;
+        entry.read_into(into);
+        Some(entry.len())
     }
 
     /// Writes a record at the place, by a device that fails as `trouble` says.

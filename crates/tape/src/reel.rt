@@ -6,9 +6,6 @@ ghost use Rattle.tape.specs.Call.{IsCall};
 
 use crate::TapeFault;
 
-/// The greatest length of a record, in bytes.
-pub const RECORD_LIMIT: usize = 65536;
-
 /// A reel of tape, seen as the entries before its place and those after it.
 ///
 /// A reel tells its tape or tells nothing, as std's readers do with their bytes: what a clause says of entries
@@ -55,7 +52,8 @@ pub trait Reel {
     /// Answers `Device` where the medium failed. The place did not move then.
     fn read(&mut self, into: &mut [u8]) -> Result<usize, TapeFault>
         ensures bound { IfOk result (λ n. n ≤ length into.new) }
-        ensures call { IsCall holds capacity failures can_fail makes GROWS self.old self.new (Read (length into.old)) (given_answer result into.new) };
+        ensures call { IsCall holds capacity failures can_fail makes GROWS self.old self.new
+            (Read (length into.old)) (given_answer result into.new) };
 
     /// Carries out an operation of rmt(8)'s `I` request, by its number in mtio.
     ///

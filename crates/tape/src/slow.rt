@@ -3,7 +3,7 @@
 ghost use Rattle.std.specs.Prelude.{◌≤◌};
 
 use crate::{
-    Entry, MTBSF, MTBSR, MTFSF, MTFSR, MTNOP, MTREW, MTWEOF, RECORD_LIMIT, Reel, TapeFault, Trouble,
+    Entry, MTBSF, MTBSR, MTFSF, MTFSR, MTNOP, MTREW, MTWEOF, Reel, TapeFault, Trouble, is_record,
 };
 use std::alloc::Global;
 
@@ -25,7 +25,7 @@ pub(crate) fn make_call<'a, R: Reel>(
 ) -> Result<&'a [u8], TapeFault> {
     match request {
         Call::Write(bytes) => {
-            if bytes.is_empty() || bytes.len() > RECORD_LIMIT {
+            if !is_record(bytes) {
                 return Err(TapeFault::EndOrMark);
             }
             reel.write(bytes)?;

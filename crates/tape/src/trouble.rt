@@ -1,5 +1,5 @@
 ghost use Rattle.std.specs.Prelude.{◌≡◌, ◌≢◌, ◌≤◌, IfSome, MatchResult};
-ghost use Rattle.tape.specs.Trouble.{IsLeft};
+ghost use Rattle.tape.specs.Trouble.{IsTroubleLeft};
 ghost use Rattle.tape.specs.declared.trouble.Trouble.TheVariants.{None};
 ghost use Rattle.tape.specs.declared.fault.TapeFault.TheVariants.{Device};
 
@@ -26,7 +26,7 @@ impl Trouble {
     /// How many of so many entries that are written stand afterwards; no number where what stood before stands.
     pub(crate) fn left(self, count: usize) -> Option<usize>
         ensures within { IfSome result (λ n. n ≤ count) }
-        ensures left { IsLeft self count result }
+        ensures left { IsTroubleLeft self count result }
     {
         match self {
             Trouble::None => Some(count),

@@ -1,6 +1,9 @@
-ghost use Rattle.std.specs.Prelude.{◌≡◌, ◌≢◌, ◌≤◌, IfOk, MatchBool, length, true};
+ghost use Rattle.std.specs.Prelude.{◌≡◌, ◌≢◌, ◌≤◌, ◌↔◌, IfOk, MatchBool, length, true};
+ghost use Rattle.std.specs.List.{All};
 ghost use Rattle.tape.specs.Failures.{raised};
-ghost use Rattle.tape.specs.Tape.{IsRecord, op_request, done_answer, given_answer};
+ghost use Rattle.tape.specs.Tape.PlainEntry.{Mark};
+ghost use Rattle.tape.specs.List.{entry_at, told_length, told_bytes, with_front};
+ghost use Rattle.tape.specs.Tape.{IsRecord, IsTapeEntry, entries_of, op_request, done_answer, given_answer};
 ghost use Rattle.tape.specs.Tape.TapeRequest.{Write, Read, WriteMarks, Rewind};
 ghost use Rattle.tape.specs.Tape.TapeAnswer.{Done};
 ghost use Rattle.tape.specs.Trouble.{IsTapeOf, IsTroubledCall, TroubledStep};
@@ -57,10 +60,24 @@ impl TroubledReel {
     }
 
     /// How the next device call fails. It is `Trouble::None` once a call has failed.
-    pub fn trouble(&self) -> Trouble
+    pub fn next_trouble(&self) -> Trouble
         ensures { result ≡ self.now.trouble }
     {
         self.trouble
+    }
+
+    /// The length of the record that is entry number `i`, counted from 0 at the beginning; 0 for a mark, which alone
+    /// has none. No number where there are no more than `i` entries.
+    ///
+    /// Copies the first bytes of the record, as many as `into` takes, to the front of `into`, and changes no more of it.
+    /// It is no device call, and never fails.
+    pub fn entry(&self, i: usize, into: &mut [u8]) -> Option<usize>
+        ensures told { result ≡ told_length (entry_at i self.now.tape) }
+        ensures copied { into.new ≡ with_front (told_bytes (entry_at i self.now.tape)) into.old }
+        ensures mark { (result ≡ Some 0) ↔ (entry_at i self.now.tape ≡ Some Mark) }
+        ensures records { All IsTapeEntry (entries_of self.now.tape) }
+    {
+        self.reel.entry(i, into)
     }
 
     /// Whether the next device call fails.

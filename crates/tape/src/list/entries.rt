@@ -29,7 +29,8 @@ pub(super) fn put_record(
     trouble: Trouble,
 ) -> Result<(), TapeFault>
     requires { place ≤ length entries.old.items }
-    ensures { IsPut result place trouble (PlainRecord bytes.items ∷ []) (plain_entries entries.old.items) (plain_entries entries.new.items) }
+    ensures { IsPut result place trouble (PlainRecord bytes.items ∷ [])
+        (plain_entries entries.old.items) (plain_entries entries.new.items) }
 {
     reserve(entries, place, 1)?;
     if let Some(left) = trouble.left(1) {
@@ -52,7 +53,8 @@ pub(super) fn put_marks(
     trouble: Trouble,
 ) -> Result<(), TapeFault>
     requires { place ≤ length entries.old.items }
-    ensures { IsPut result place trouble (replicate count PlainMark) (plain_entries entries.old.items) (plain_entries entries.new.items) }
+    ensures { IsPut result place trouble (replicate count PlainMark)
+        (plain_entries entries.old.items) (plain_entries entries.new.items) }
 {
     reserve(entries, place, count)?;
     if let Some(left) = trouble.left(count) {

@@ -31,7 +31,8 @@ impl Spaced {
 /// Walks forward behind so many marks, or to the end.
 pub(super) fn forward_files(entries: &[Entry], place: usize, offset: u64, count: u32) -> Spaced
     requires { IsStanding (plain_entries entries.now) place offset (2 ^ 64 - 1) }
-    ensures { IsSpaced (plain_entries entries.now) count (marks_met (drop place (plain_entries entries.now))) (place + passed_for_marks count (drop place (plain_entries entries.now))) result.place result.offset result.left }
+    ensures { let way = drop place (plain_entries entries.now) in
+        IsSpaced (plain_entries entries.now) count (marks_met way) (place + passed_for_marks count way) result.place result.offset result.left }
 {
     let mut at = place;
     let mut offset = offset;
@@ -54,7 +55,8 @@ pub(super) fn forward_files(entries: &[Entry], place: usize, offset: u64, count:
 /// Walks back before so many marks, or to the beginning.
 pub(super) fn back_files(entries: &[Entry], place: usize, offset: u64, count: u32) -> Spaced
     requires { IsStanding (plain_entries entries.now) place offset (2 ^ 64 - 1) }
-    ensures { IsSpaced (plain_entries entries.now) count (marks_met (reverse (take place (plain_entries entries.now)))) (place - passed_for_marks count (reverse (take place (plain_entries entries.now)))) result.place result.offset result.left }
+    ensures { let way = reverse (take place (plain_entries entries.now)) in
+        IsSpaced (plain_entries entries.now) count (marks_met way) (place - passed_for_marks count way) result.place result.offset result.left }
 {
     let mut at = place;
     let mut offset = offset;
@@ -77,7 +79,8 @@ pub(super) fn back_files(entries: &[Entry], place: usize, offset: u64, count: u3
 /// Walks forward over so many records, behind the mark that it meets first, or to the end.
 pub(super) fn forward_records(entries: &[Entry], place: usize, offset: u64, count: u32) -> Spaced
     requires { IsStanding (plain_entries entries.now) place offset (2 ^ 64 - 1) }
-    ensures { IsSpaced (plain_entries entries.now) count (records_met (drop place (plain_entries entries.now))) (place + passed_for_records count (drop place (plain_entries entries.now))) result.place result.offset result.left }
+    ensures { let way = drop place (plain_entries entries.now) in
+        IsSpaced (plain_entries entries.now) count (records_met way) (place + passed_for_records count way) result.place result.offset result.left }
 {
     let mut at = place;
     let mut offset = offset;
@@ -105,7 +108,8 @@ pub(super) fn forward_records(entries: &[Entry], place: usize, offset: u64, coun
 /// Walks back over so many records, before the mark that it meets first, or to the beginning.
 pub(super) fn back_records(entries: &[Entry], place: usize, offset: u64, count: u32) -> Spaced
     requires { IsStanding (plain_entries entries.now) place offset (2 ^ 64 - 1) }
-    ensures { IsSpaced (plain_entries entries.now) count (records_met (reverse (take place (plain_entries entries.now)))) (place - passed_for_records count (reverse (take place (plain_entries entries.now)))) result.place result.offset result.left }
+    ensures { let way = reverse (take place (plain_entries entries.now)) in
+        IsSpaced (plain_entries entries.now) count (records_met way) (place - passed_for_records count way) result.place result.offset result.left }
 {
     let mut at = place;
     let mut offset = offset;

@@ -157,6 +157,28 @@ fn refuses_other_operations(rt: HostRuntime) -> Result<(), Fail> {
     Ok(())
 }
 
+#[test]
+fn tells_each_entry_by_its_number(rt: HostRuntime) -> Result<(), Fail> {
+    let mut reel = ListReel::new(rt.alloc(), 100);
+    let mut into = *b"......";
+    assert_eq!(&rt; reel.entry(0, &mut into), None);
+    assert_eq!(&rt; write_in_memory(&mut reel, b"abc"), Ok(()));
+    assert_eq!(&rt; reel.op(MTWEOF, 1), Ok(()));
+    assert_eq!(&rt; write_in_memory(&mut reel, b"defgh"), Ok(()));
+    reel.rewind();
+    assert_eq!(&rt; reel.entry(1, &mut into), Some(0));
+    assert_eq!(&rt; reel.entry(3, &mut into), None);
+    assert_eq!(&rt; reel.entry(usize::MAX, &mut into), None);
+    assert_eq!(&rt; into, *b"......");
+    assert_eq!(&rt; reel.entry(0, &mut into), Some(3));
+    assert_eq!(&rt; into, *b"abc...");
+    assert_eq!(&rt; reel.entry(2, &mut into[..2]), Some(5));
+    assert_eq!(&rt; into, *b"dec...");
+    assert_eq!(&rt; reel.entry(2, &mut []), Some(5));
+    assert_eq!(&rt; reel.read(&mut into), Ok(3));
+    Ok(())
+}
+
 /// Makes the call on both reels. They have to answer alike, and to stand at one place.
 fn make_both(rt: &impl Abort, reel: &mut ListReel, slow: &mut SlowReel, call: Call) {
     let mut into = [0u8; 8];

@@ -75,7 +75,7 @@ fn leaves(
     make(rt, &mut reel, Call::Op(MTFSR, place), Ok(b""));
     reel.set(trouble);
     make(rt, &mut reel, request, Err(TapeFault::Device));
-    assert_eq!(rt; reel.trouble(), Trouble::None);
+    assert_eq!(rt; reel.next_trouble(), Trouble::None);
     assert_eq!(rt; reel.failures(), 1);
     let (entries, at, _) = reel.reel.parts();
     assert_eq!(rt; at, place as usize, "place after {request:?}, {trouble:?}");
@@ -177,14 +177,31 @@ fn a_trouble_waits_for_a_device_call(rt: HostRuntime) -> Result<(), Fail> {
     make(&rt, &mut reel, Call::Op(6, 1), Err(TapeFault::BadOperation));
     make(&rt, &mut reel, Call::Op(8, 1), Err(TapeFault::BadOperation));
     make(&rt, &mut reel, Call::Rewind, Ok(b""));
-    assert_eq!(&rt; reel.trouble(), Trouble::Lost);
+    assert_eq!(&rt; reel.next_trouble(), Trouble::Lost);
     assert_eq!(&rt; reel.failures(), 0);
     reel.set(Trouble::Kept);
     make(&rt, &mut reel, Call::Read(8), Err(TapeFault::Device));
-    assert_eq!(&rt; reel.trouble(), Trouble::None);
+    assert_eq!(&rt; reel.next_trouble(), Trouble::None);
     assert_eq!(&rt; reel.failures(), 1);
     make(&rt, &mut reel, Call::Read(8), Ok(b"a"));
     assert_eq!(&rt; reel.failures(), 1);
+    Ok(())
+}
+
+#[test]
+fn tells_entries_while_a_trouble_is_set(rt: HostRuntime) -> Result<(), Fail> {
+    let mut reel = TroubledReel::new(ListReel::new(rt.alloc(), 100));
+    make(&rt, &mut reel, Call::Op(MTWEOF, 1), Ok(b""));
+    make(&rt, &mut reel, Call::Write(b"ab"), Ok(b""));
+    reel.set(Trouble::Lost);
+    let mut into = *b"....";
+    assert_eq!(&rt; reel.entry(0, &mut into), Some(0));
+    assert_eq!(&rt; reel.entry(2, &mut into), None);
+    assert_eq!(&rt; into, *b"....");
+    assert_eq!(&rt; reel.entry(1, &mut into), Some(2));
+    assert_eq!(&rt; into, *b"ab..");
+    assert_eq!(&rt; reel.next_trouble(), Trouble::Lost);
+    assert_eq!(&rt; reel.failures(), 0);
     Ok(())
 }
 
