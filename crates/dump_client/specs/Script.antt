@@ -20,7 +20,7 @@ request_of run payload volume first (Mark next) = Op 0 1
 request_of run payload volume first (Unload next) = Op 6 1
 request_of run payload volume first Close = CloseDevice
 
--- the kind of reply that a step's request has: a number, at each of them
+-- the kind of reply that a step wants: a number, at each of them
 abbrev pub wanted_of : Step → Wanted
 wanted_of step = NumberReply
 
