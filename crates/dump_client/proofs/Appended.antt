@@ -3,7 +3,7 @@ use Rattle.std.proofs.Common.{◌≡◌, ℕ, true, false, List, length, refl, s
 use Rattle.rmt_wire.specs.Request.{PlainRequest}
 use Rattle.rmt_wire.specs.Request.PlainRequest.{Write}
 use Rattle.dump_client.specs.Standing.{Standing, checkpoint_of}
-use Rattle.dump_client.specs.Client.{IsRequestOf, IsScarce, IsFaultAt, IsPushed, AppendedBy, ReadBy, IsGiven, is_source_fault, has_failed}
+use Rattle.dump_client.specs.Client.{IsRequestOf, IsScarce, IsFaultAt, IsPushed, AppendedBy, ReadBy, IsRequestGiven, is_source_fault, has_failed}
 use Rattle.dump_client.specs.declared.blocks.SourceFailed.{SourceFailed}
 use Rattle.dump_client.specs.declared.step.Step.{Step}
 use Rattle.dump_client.specs.declared.step.Step.TheVariants.{Open, Rewind, Label, Block, Mark, Unload, Close}
@@ -42,7 +42,7 @@ block_read B size reads step number old new into given read capacity before resu
     no_fault (Ok x) p = refl
     no_fault (Err fault) p = subst (λ f. is_source_fault {T = Unit {0}} (Err f) ≡ false) (sym p.0) refl
 
-    was_given : (r : Result Unit AttemptFault) → IsPushed (Write given) capacity before r now → IsGiven before r now given
+    was_given : (r : Result Unit AttemptFault) → IsPushed (Write given) capacity before r now → IsRequestGiven before r now given
     was_given (Ok x) p = p.1
     was_given (Err fault) p = tt
 

@@ -3,13 +3,13 @@ use Rattle.std.proofs.Common.{◌≡◌, ℕ, List, refl}
 use Rattle.dump_client.specs.Run.{PlainRun}
 use Rattle.dump_client.specs.Script.{request_of}
 use Rattle.dump_client.specs.Standing.{checkpoint_of}
-use Rattle.dump_client.specs.Lawful.{request_at}
+use Rattle.dump_client.specs.Lawful.{attempt_request}
 use Rattle.dump_client.specs.declared.count.VolumeCount.{VolumeCount}
 use Rattle.dump_client.specs.declared.step.Step.{Step}
 use Rattle.dump_client.specs.declared.step.Step.TheVariants.{Open, Rewind, Label, Block, Mark, Unload, Close}
 
 pub asked : (run : PlainRun) (payload : List (List ℕ)) (counts : List VolumeCount) (step : Step)
-    → request_of run payload (checkpoint_of counts).0 (checkpoint_of counts).1 step ≡ request_at run payload counts step
+    → request_of run payload (checkpoint_of counts).0 (checkpoint_of counts).1 step ≡ attempt_request run payload counts step
 asked run payload counts Open = refl
 asked run payload counts Rewind = refl
 asked run payload counts Label = refl

@@ -23,7 +23,7 @@ use Rattle.dump_client.specs.declared.step.Step.TheVariants.{Open, Rewind, Label
 use Rattle.dump_client.proofs.Listening.{waiting_anew}
 
 -- a beginning of a reply
-pub fed_waits : (old : Standing) (step : Step) (r new_reader : reader.Held) (bytes piece : List ℕ) → Waiting step ≡ old.stage → (IsWaiting r bytes → IsListened (bytes ++ piece) listened.Waits new_reader)
+pub fed_waits : (old : Standing) (step : Step) (r new_reader : reader.Held) (bytes piece : List ℕ) → Waiting step ≡ old.stage → (IsWaiting Number r bytes → IsListened Number (bytes ++ piece) listened.Waits new_reader)
     → HasFedAt old.stage r bytes → FedAt old.stage old bytes piece moved.Waiting old
 fed_waits old step r new_reader bytes piece at seen h =
     subst (λ s. HasFedAt s r bytes → FedAt s old bytes piece moved.Waiting old) at
@@ -31,7 +31,7 @@ fed_waits old step r new_reader bytes piece at seen h =
 
 -- a reply
 pub fed_reply : (old : Standing) (step : Step) (r new_reader : reader.Held) (bytes piece : List ℕ) (said : Said) (more : Bool) (progress : Progress) (new : Standing) → Waiting step ≡ old.stage
-    → (IsWaiting r bytes → IsListened (bytes ++ piece) (listened.Reply said more) new_reader)
+    → (IsWaiting Number r bytes → IsListened Number (bytes ++ piece) (listened.Reply said more) new_reader)
     → ((reply : PlainReply) → IsSaid reply said → HearsAt old step (Reply reply) more progress new)
     → HasFedAt old.stage r bytes → FedAt old.stage old bytes piece progress new
 fed_reply old step r new_reader bytes piece said more progress new at seen heard h =
@@ -40,17 +40,17 @@ fed_reply old step r new_reader bytes piece said more progress new at seen heard
 
 -- no reply
 pub fed_noise : (old : Standing) (step : Step) (r new_reader : reader.Held) (bytes piece : List ℕ) (progress : Progress) (new : Standing) → Waiting step ≡ old.stage
-    → (IsWaiting r bytes → IsListened (bytes ++ piece) listened.Noise new_reader) → HearsAt old step Noise false progress new
+    → (IsWaiting Number r bytes → IsListened Number (bytes ++ piece) listened.Noise new_reader) → HearsAt old step Noise false progress new
     → HasFedAt old.stage r bytes → FedAt old.stage old bytes piece progress new
 fed_noise old step r new_reader bytes piece progress new at seen heard h =
     subst (λ s. HasFedAt s r bytes → FedAt s old bytes piece progress new) at
     (λ w. let l = seen w in (Err l.0, bytes ++ piece, l.1, heard)) h
 
 -- the bytes that were fed where a reply is waited for
-pub waiting_at : (stage : Stage) (step : Step) (r : reader.Held) (bytes : List ℕ) → Waiting step ≡ stage → HasFedAt stage r bytes → IsWaiting r bytes
-waiting_at stage step r bytes at h = subst (λ s. HasFedAt s r bytes → IsWaiting r bytes) at (λ w. w) h
+pub waiting_at : (stage : Stage) (step : Step) (r : reader.Held) (bytes : List ℕ) → Waiting step ≡ stage → HasFedAt stage r bytes → IsWaiting Number r bytes
+waiting_at stage step r bytes at h = subst (λ s. HasFedAt s r bytes → IsWaiting Number r bytes) at (λ w. w) h
 
-pub fed_at_waiting : (stage : Stage) (step : Step) (r : reader.Held) (bytes : List ℕ) → Waiting step ≡ stage → IsWaiting r bytes → HasFedAt stage r bytes
+pub fed_at_waiting : (stage : Stage) (step : Step) (r : reader.Held) (bytes : List ℕ) → Waiting step ≡ stage → IsWaiting Number r bytes → HasFedAt stage r bytes
 fed_at_waiting stage step r bytes at w = subst (λ s. HasFedAt s r bytes) at w
 
 -- a reply is waited for anew, where none was
@@ -58,8 +58,8 @@ pub fed_anew : (stage new_stage : Stage) (step : Step) (r new_reader : reader.He
     → (Unread r None [] → Unread new_reader (Some Number) []) → HasFedAt stage r bytes → HasFedAt new_stage new_reader bytes
 fed_anew stage new_stage step r new_reader bytes at then_at expects h =
     subst (λ s. HasFedAt s new_reader bytes) (sym then_at)
-    (subst (λ s. HasFedAt s r bytes → IsWaiting new_reader bytes) at
-    (λ k. subst (λ b. IsWaiting new_reader b) (sym k.1) (waiting_anew new_reader (expects k.0))) h)
+    (subst (λ s. HasFedAt s r bytes → IsWaiting Number new_reader bytes) at
+    (λ k. subst (λ b. IsWaiting Number new_reader b) (sym k.1) (waiting_anew new_reader (expects k.0))) h)
 
 -- what is read is told of an answer with a truth value as of one without
 pub read_done : (B : Type 0) (size : ℕ) (reads : B → ℕ → List ℕ → Result Unit SourceFailed → B → List ℕ → Type 0) (step : Step) (old new : B) (before now : List ℕ)

@@ -8,7 +8,7 @@ use Rattle.dump_client.specs.Label.{label_bytes}
 use Rattle.dump_client.specs.Script.{IsCount}
 use Rattle.dump_client.specs.Position.{after_step, after_reply, after_noise, after_end, at_end_of_reel, after_write}
 use Rattle.dump_client.specs.Standing.{Standing, IsAtStep, checkpoint_of}
-use Rattle.dump_client.specs.Lawful.{IsLawful, AreVolumes, IsLeft, StepFits, StageFits, RoomFits, OutcomeFits}
+use Rattle.dump_client.specs.Lawful.{IsLawful, AreVolumes, IsRunLeft, StepFits, StageFits, RoomFits, OutcomeFits}
 use Rattle.dump_client.specs.declared.step.Step.{Step}
 use Rattle.dump_client.specs.declared.step.Step.TheVariants.{Open, Rewind, Label, Block, Mark, Unload, Close}
 use Rattle.dump_client.specs.declared.outcome.Outcome.{Outcome}
@@ -30,17 +30,17 @@ either_fits run counts room true x y hx hy = hx
 either_fits run counts room false x y hx hy = hy
 
 -- the next block, or the mark
-next_fits : (run : PlainRun) (counts : List VolumeCount) (room number : ℕ) (b : Bool) → nat_lt number run.blocks ≡ b → IsLeft run counts → (checkpoint_of counts).1 ≤ number
-    → number ≤ run.blocks → ((checkpoint_of counts).1 < number) ⊎ (IsLeft run counts × (number ≡ (checkpoint_of counts).1)) → 0 < room
+next_fits : (run : PlainRun) (counts : List VolumeCount) (room number : ℕ) (b : Bool) → nat_lt number run.blocks ≡ b → IsRunLeft run counts → (checkpoint_of counts).1 ≤ number
+    → number ≤ run.blocks → ((checkpoint_of counts).1 < number) ⊎ (IsRunLeft run counts × (number ≡ (checkpoint_of counts).1)) → 0 < room
     → OutcomeFits run counts room (GoesOn (if b then Block number else Mark number))
 next_fits run counts room number true h left at within some r = (left, (left, at, grind (arith, nat_tests)), r)
 next_fits run counts room number false h left at within some r = (left, (left, at, whole some), r)
   where
-    no_blocks : (IsLeft run counts) → number ≡ (checkpoint_of counts).1 → run.blocks ≡ 0
+    no_blocks : (IsRunLeft run counts) → number ≡ (checkpoint_of counts).1 → run.blocks ≡ 0
     no_blocks (inl none) same = let zero : (checkpoint_of counts).1 ≡ 0 = subst (λ l. (checkpoint_of l).1 ≡ 0) (sym none) refl in grind (arith, nat_tests)
     no_blocks (inr less) same = absurd (grind (arith, nat_tests))
 
-    whole : ((checkpoint_of counts).1 < number) ⊎ (IsLeft run counts × (number ≡ (checkpoint_of counts).1)) → IsCount run (checkpoint_of counts).1 (number - (checkpoint_of counts).1)
+    whole : ((checkpoint_of counts).1 < number) ⊎ (IsRunLeft run counts × (number ≡ (checkpoint_of counts).1)) → IsCount run (checkpoint_of counts).1 (number - (checkpoint_of counts).1)
     whole (inl less) = (omega (arith, at, within), inl (omega (arith, less)))
     whole (inr (l, same)) = (omega (arith, at, within), inr (no_blocks l same))
 
@@ -71,7 +71,7 @@ end_fits_by run counts room number false h fits r = fits.0
 
 -- a write that was answered by a number
 write_fits : (run : PlainRun) (counts : List VolumeCount) (room : ℕ) (step : Step) (size n : ℕ) → OutcomeFits run counts room (after_step run (checkpoint_of counts).1 step)
-    → OutcomeFits run counts room (at_end_of_reel (checkpoint_of counts).1 step) → IsLeft run counts
+    → OutcomeFits run counts room (at_end_of_reel (checkpoint_of counts).1 step) → IsRunLeft run counts
     → OutcomeFits run counts room (after_write run (checkpoint_of counts).1 step size n)
 write_fits run counts room step size n done end left =
     either_fits run counts room (n == size) (after_step run (checkpoint_of counts).1 step)

@@ -16,7 +16,8 @@ use Rattle.dump_client.specs.declared.step.Step.TheVariants.{Open, Rewind, Label
 use Rattle.dump_client.specs.declared.outcome.Outcome.{Outcome}
 use Rattle.dump_client.specs.declared.outcome.Outcome.TheVariants.{GoesOn, Fails, Counted, Ended}
 use Rattle.dump_client.specs.declared.fault.AttemptFault.TheVariants.{Refused, Botched, ShortWrite, ReelTooSmall}
-use Rattle.dump_client.proofs.Steps.{count_left}
+use Rattle.dump_client.proofs.Branches.{same_or, less_or}
+use Rattle.dump_client.proofs.Steps.{plain_blocks, count_left}
 
 -- one reply to each of these steps, which it wants
 abbrev Answer : List (Step × Wish) → List PlainReply → Type 0
@@ -74,21 +75,6 @@ Led run first (GoesOn step) came = IsWithin run first step × Answer (before run
 Led run first (Counted next) came = IsWithin run first (Unload next) × Answer (before run first next Close) came
 Led run first from came = Unit {0}
 
--- a number that is the wanted one, and one that is not
-number_led : (P : Outcome → Type 0) (m n : ℕ) (same other : Outcome) → (m ≡ n → P same) → P other → P (if m == n then same else other)
-number_led P m n same other h k = by (m == n) refl
-  where
-    by : (b : Bool) → (m == n) ≡ b → P (if b then same else other)
-    by true eq = h (grind (arith, nat_tests))
-    by false eq = k
-
-less_led : (P : Outcome → Type 0) (m n : ℕ) (less other : Outcome) → (m < n → P less) → P other → P (if nat_lt m n then less else other)
-less_led P m n less other h k = by (nat_lt m n) refl
-  where
-    by : (b : Bool) → nat_lt m n ≡ b → P (if b then less else other)
-    by true lt = h (grind (arith, nat_tests))
-    by false lt = k
-
 -- the last of the blocks
 block_push : (run : PlainRun) (first count last : ℕ) → last ≡ first + count
     → block_steps run first (suc count) ≡ block_steps run first count ++ (Block last, Number run.block_bytes) ∷ []
@@ -123,7 +109,7 @@ module _ (run : PlainRun) (first : ℕ) (some : (first < run.blocks) ⊎ (run.bl
       → Led run first (at_end_of_reel first (Block number)) (came ++ reply ∷ [])
   refused_led number reply came lt a g =
       let left : nat_lt number run.blocks ≡ true = grind (arith, nat_tests) in
-      less_led (λ o. Led run first o (came ++ reply ∷ [])) first number (GoesOn (Mark number)) (Fails ReelTooSmall)
+      less_or (λ o. Led run first o (came ++ reply ∷ [])) first number (GoesOn (Mark number)) (Fails ReelTooSmall)
       (λ more. (
         (omega arith, (omega arith, inl (omega arith))),
         subst (λ b. Answer (before_block run first number ++ (if b then (Block number, NoRoom) ∷ [] else [])) (came ++ reply ∷ [])) (sym left)
@@ -134,28 +120,28 @@ module _ (run : PlainRun) (first : ℕ) (some : (first < run.blocks) ⊎ (run.bl
   -- a reply to a step
   op_led : (n : ℕ) (came : List PlainReply) (to : Outcome) → (n ≡ 1 → Led run first to (came ++ Done n ∷ []))
       → Led run first (if n == 1 then to else Fails Botched) (came ++ Done n ∷ [])
-  op_led n came to h = number_led (λ o. Led run first o (came ++ Done n ∷ [])) n 1 to (Fails Botched) h tt
+  op_led n came to h = same_or (λ o. Led run first o (came ++ Done n ∷ [])) n 1 to (Fails Botched) h tt
 
   label_led : (n : ℕ) (came : List PlainReply) → first ≤ run.blocks → Answer (before run first first Label) came
       → Led run first (after_reply run first Label (Done n)) (came ++ Done n ∷ [])
   label_led n came within a =
       let led : Outcome → Type 0 = λ o. Led run first o (came ++ Done n ∷ []) in
       let none : first - first ≡ 0 = omega arith in
-      number_led led n label_bytes (GoesOn (block_or_mark run first)) (if n == 0 then Fails ReelTooSmall else Fails ShortWrite)
+      same_or led n label_bytes (GoesOn (block_or_mark run first)) (if n == 0 then Fails ReelTooSmall else Fails ShortWrite)
       (λ same. next_led first (came ++ Done n ∷ []) (omega arith) within
       (subst (λ k. Answer ((Open, AnyNumber) ∷ (Rewind, Number 1) ∷ (Label, Number label_bytes) ∷ block_steps run first k) (came ++ Done n ∷ [])) (sym none)
       (answer_push (before run first first Label) came Label (Number label_bytes) (Done n) a same)))
-      (number_led led n 0 (Fails ReelTooSmall) (Fails ShortWrite) (λ same. tt) tt)
+      (same_or led n 0 (Fails ReelTooSmall) (Fails ShortWrite) (λ same. tt) tt)
 
   block_led : (number n : ℕ) (came : List PlainReply) → first ≤ number → number < run.blocks → Answer (before_block run first number) came
       → Led run first (after_reply run first (Block number) (Done n)) (came ++ Done n ∷ [])
   block_led number n came h lt a =
       let led : Outcome → Type 0 = λ o. Led run first o (came ++ Done n ∷ []) in
-      number_led led n run.block_bytes (GoesOn (block_or_mark run (number + 1))) (if n == 0 then at_end_of_reel first (Block number) else Fails ShortWrite)
+      same_or led n run.block_bytes (GoesOn (block_or_mark run (number + 1))) (if n == 0 then at_end_of_reel first (Block number) else Fails ShortWrite)
       (λ same. next_led (number + 1) (came ++ Done n ∷ []) (omega arith) (omega arith)
       (subst (λ l. Answer l (came ++ Done n ∷ [])) (blocks_whole run first number h)
       (answer_push (before_block run first number) came (Block number) (Number run.block_bytes) (Done n) a same)))
-      (number_led led n 0 (at_end_of_reel first (Block number)) (Fails ShortWrite) (refused_led number (Done n) came lt a) tt)
+      (same_or led n 0 (at_end_of_reel first (Block number)) (Fails ShortWrite) (refused_led number (Done n) came lt a) tt)
 
   step_led : first ≤ run.blocks → (step : Step) (reply : PlainReply) (came : List PlainReply) → Led run first (GoesOn step) came
       → Led run first (after_reply run first step reply) (came ++ reply ∷ [])
@@ -169,12 +155,12 @@ module _ (run : PlainRun) (first : ℕ) (some : (first < run.blocks) ⊎ (run.bl
   step_led within Label (Done n) came h = label_led n came within h.1
   step_led within Label (Data bytes) came h = tt
   step_led within Label (Error n text) came h =
-      number_led (λ o. Led run first o (came ++ Error n text ∷ [])) n 28 (Fails ReelTooSmall) (Fails (Refused n)) (λ same. tt) tt
+      same_or (λ o. Led run first o (came ++ Error n text ∷ [])) n 28 (Fails ReelTooSmall) (Fails (Refused n)) (λ same. tt) tt
   step_led within (Block number) (Done n) came h = let w = h.0 in block_led number n came w.0 w.1 h.1
   step_led within (Block number) (Data bytes) came h = tt
   step_led within (Block number) (Error n text) came h =
       let w = h.0 in
-      number_led (λ o. Led run first o (came ++ Error n text ∷ [])) n 28 (at_end_of_reel first (Block number)) (Fails (Refused n))
+      same_or (λ o. Led run first o (came ++ Error n text ∷ [])) n 28 (at_end_of_reel first (Block number)) (Fails (Refused n))
       (refused_led number (Error n text) came w.1 h.1)
       tt
   step_led within (Mark end) (Done n) came h =
@@ -209,10 +195,6 @@ module _ (run : PlainRun) (first : ℕ) (some : (first < run.blocks) ⊎ (run.bl
   all_led within (reply ∷ replies) came Ended h = tt
 
 -- the steps that are answered are those before
-plain_block_steps : (run : PlainRun) (first count : ℕ) → map (λ s. s.0) (block_steps run first count) ≡ blocks_from first count
-plain_block_steps run first zero = refl
-plain_block_steps run first (suc count) = ap (λ l. Block first ∷ l) (plain_block_steps run (suc first) count)
-
 plain_refused : (next : ℕ) (left : Bool) → map (λ (s : Step × Wish). s.0) (if left then (Block next, NoRoom) ∷ [] else []) ≡ (if left then Block next ∷ [] else [])
 plain_refused next true = refl
 plain_refused next false = refl
@@ -221,7 +203,7 @@ plain_mark : (run : PlainRun) (first end : ℕ) → map (λ s. s.0) (before_mark
 plain_mark run first end =
     ap (λ l. Open ∷ Rewind ∷ Label ∷ l)
     (map-append (λ s. s.0) (block_steps run first (end - first)) (refused_step run end)
-    ∙ ap (λ l. l ++ map (λ s. s.0) (refused_step run end)) (plain_block_steps run first (end - first))
+    ∙ ap (λ l. l ++ map (λ s. s.0) (refused_step run end)) (plain_blocks run first (end - first))
     ∙ ap (λ l. blocks_from first (end - first) ++ l) (plain_refused end (nat_lt end run.blocks)))
 
 plain_behind : (run : PlainRun) (first end : ℕ) (rest : List (Step × Wish)) → map (λ s. s.0) (before_mark run first end ++ rest) ≡ steps_to run first end ++ map (λ s. s.0) rest
@@ -231,7 +213,7 @@ plain_before : (run : PlainRun) (first next : ℕ) (step : Step) → map (λ s. 
 plain_before run first next Open = refl
 plain_before run first next Rewind = refl
 plain_before run first next Label = refl
-plain_before run first next (Block number) = ap (λ l. Open ∷ Rewind ∷ Label ∷ l) (plain_block_steps run first (number - first))
+plain_before run first next (Block number) = ap (λ l. Open ∷ Rewind ∷ Label ∷ l) (plain_blocks run first (number - first))
 plain_before run first next (Mark end) = plain_mark run first end
 plain_before run first next (Unload end) = plain_behind run first end ((Mark end, Number 1) ∷ [])
 plain_before run first next Close = plain_behind run first next ((Mark next, Number 1) ∷ (Unload next, Number 1) ∷ [])

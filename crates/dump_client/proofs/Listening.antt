@@ -20,7 +20,7 @@ use Rattle.dump_client.specs.declared.listen.Said.{Said}
 use Rattle.dump_client.specs.declared.listen.Listened.TheVariants as listened
 
 -- one call of `next`, by what it answered
-pub next_none : (old new : Held) (result : Result (Option Reply) WireFault) → IsNext old (told result) new → result ≡ Ok None → (bytes : List ℕ) → Unread old (Some Number) bytes → IsWaiting new bytes
+pub next_none : (old new : Held) (result : Result (Option Reply) WireFault) → IsNext old (told result) new → result ≡ Ok None → (bytes : List ℕ) → Unread old (Some Number) bytes → IsWaiting Number new bytes
 next_none old new result n e bytes u =
     let m = subst (λ a. IsNext old (told a) new) e n in
     let w = m.continues (Some Number) bytes u in
@@ -32,7 +32,7 @@ pub next_some : (old new : Held) (result : Result (Option Reply) WireFault) (rep
 next_some old new result reply n e bytes u = (subst (λ a. IsNext old (told a) new) e n).continues (Some Number) bytes u
 
 pub next_fault : (old new : Held) (fault : WireFault) (result : Result (Option Said) WireFault) → StaysFaulty old (Err fault) → IsErrAnd result (λ e. e ≡ fault) → (bytes : List ℕ) → Unread old (Some Number) bytes
-    → IsHeard bytes result new
+    → IsHeard Number bytes result new
 next_fault old new fault (Ok answer) stays is bytes u = absurd is
 next_fault old new fault (Err e) stays is bytes u = λ more. subst (λ f. Gives (Some Number) (bytes ++ more) (Err f) (bytes ++ more)) (sym is) (stays (Some Number) bytes more u)
 
@@ -43,7 +43,7 @@ spelled_answers text (Data bytes) s = s
 spelled_answers text (Error n words) s = tt
 
 -- a reader that waits takes some of a piece that is not empty
-pub push_some : (h : Held) (bytes : List ℕ) (count len : ℕ) → IsWaiting h bytes → count ≡ min len (reader_limit - taken_of (Some Number) bytes) → 0 < len → (0 < count) × (count ≤ len)
+pub push_some : (h : Held) (bytes : List ℕ) (count len : ℕ) → IsWaiting Number h bytes → count ≡ min len (reader_limit - taken_of (Some Number) bytes) → 0 < len → (0 < count) × (count ≤ len)
 push_some h bytes count len w e some =
     let room : taken_of (Some Number) bytes < reader_limit = subst (λ l. length l < reader_limit) w.unread.keeps w.room in
     (omega arith, omega arith)
@@ -57,13 +57,13 @@ piece_all : (bytes text : List ℕ) (at : ℕ) → (bytes ++ take at text) ++ dr
 piece_all bytes text at = append_assoc bytes (take at text) (drop at text) ∙ ap (λ l. bytes ++ l) (take-append-drop at text)
 
 -- what is heard of the bytes so far, with a piece of the rest
-pub so_far : (bytes text part : List ℕ) (at count : ℕ) (result : Result (Option Said) WireFault) (new : Held) → part ≡ drop at text → IsHeard ((bytes ++ take at text) ++ take count part) result new
-    → IsHeard (bytes ++ take (at + count) text) result new
-so_far bytes text part at count result new same h = subst (λ b. IsHeard b result new) (piece_then bytes text part at count same) h
+pub so_far : (bytes text part : List ℕ) (at count : ℕ) (result : Result (Option Said) WireFault) (new : Held) → part ≡ drop at text → IsHeard Number ((bytes ++ take at text) ++ take count part) result new
+    → IsHeard Number (bytes ++ take (at + count) text) result new
+so_far bytes text part at count result new same h = subst (λ b. IsHeard Number b result new) (piece_then bytes text part at count same) h
 
 -- none yet
-pub none_yet : (bytes : List ℕ) (result : Result (Option Said) WireFault) (new : Held) → IsHeard bytes result new → result ≡ Ok None → IsWaiting new bytes
-none_yet bytes result new h e = subst (λ r. IsHeard bytes r new) e h
+pub none_yet : (bytes : List ℕ) (result : Result (Option Said) WireFault) (new : Held) → IsHeard Number bytes result new → result ≡ Ok None → IsWaiting Number new bytes
+none_yet bytes result new h e = subst (λ r. IsHeard Number bytes r new) e h
 
 -- where bytes are unread, more follow the reply
 some_more : (rest later : List ℕ) → (rest ≡ [] → ⊥) → is_more (rest ++ later) ≡ true
@@ -82,31 +82,31 @@ rest_goes_on text at =
     same ∙ sym (goes_on (drop at text))
 
 -- a reply comes, with bytes behind it that are unread
-pub reply_then : (bytes text : List ℕ) (at : ℕ) (result : Result (Option Said) WireFault) (s : Said) (new : Held) (empty : Bool) → IsHeard (bytes ++ take at text) result new → result ≡ Ok (Some s)
-    → ((rest : List ℕ) → Unread new None rest → (empty ≡ true) ↔ (rest ≡ [])) → empty ≡ false → IsListened (bytes ++ text) (listened.Reply s (not empty)) new
+pub reply_then : (bytes text : List ℕ) (at : ℕ) (result : Result (Option Said) WireFault) (s : Said) (new : Held) (empty : Bool) → IsHeard Number (bytes ++ take at text) result new → result ≡ Ok (Some s)
+    → ((rest : List ℕ) → Unread new None rest → (empty ≡ true) ↔ (rest ≡ [])) → empty ≡ false → IsListened Number (bytes ++ text) (listened.Reply s (not empty)) new
 reply_then bytes text at result s new empty h e seen some =
     let more : not empty ≡ true = ap not some in
-    let w = subst (λ r. IsHeard (bytes ++ take at text) r new) e h in
+    let w = subst (λ r. IsHeard Number (bytes ++ take at text) r new) e h in
     let whole : bytes ++ text ≡ w.2.0 ++ (w.1 ++ drop at text) =
     sym (piece_all bytes text at) ∙ ap (λ l. l ++ drop at text) w.2.2 ∙ append_assoc w.2.0 w.1 (drop at text) in
     let unread : w.1 ≡ [] → ⊥ = λ none. let full = (seen w.1 w.4).1 none in cc in
     (w.0, w.1 ++ drop at text, (w.2.0, w.2.1, whole), w.3, more ∙ sym (some_more w.1 (drop at text) unread), λ none. absurd (cc))
 
 -- a reply comes, and all of the bytes that were pushed are given
-pub reply_last : (bytes text : List ℕ) (at : ℕ) (result : Result (Option Said) WireFault) (s : Said) (new : Held) (empty : Bool) → IsHeard (bytes ++ take at text) result new → result ≡ Ok (Some s)
-    → ((rest : List ℕ) → Unread new None rest → (empty ≡ true) ↔ (rest ≡ [])) → empty ≡ true → IsListened (bytes ++ text) (listened.Reply s (nat_lt at (length text))) new
+pub reply_last : (bytes text : List ℕ) (at : ℕ) (result : Result (Option Said) WireFault) (s : Said) (new : Held) (empty : Bool) → IsHeard Number (bytes ++ take at text) result new → result ≡ Ok (Some s)
+    → ((rest : List ℕ) → Unread new None rest → (empty ≡ true) ↔ (rest ≡ [])) → empty ≡ true → IsListened Number (bytes ++ text) (listened.Reply s (nat_lt at (length text))) new
 reply_last bytes text at result s new empty h e seen full =
-    let w = subst (λ r. IsHeard (bytes ++ take at text) r new) e h in
+    let w = subst (λ r. IsHeard Number (bytes ++ take at text) r new) e h in
     let whole : bytes ++ text ≡ w.2.0 ++ (w.1 ++ drop at text) =
     sym (piece_all bytes text at) ∙ ap (λ l. l ++ drop at text) w.2.2 ∙ append_assoc w.2.0 w.1 (drop at text) in
     let given : w.1 ≡ [] = (seen w.1 w.4).0 full in
     (w.0, w.1 ++ drop at text, (w.2.0, w.2.1, whole), w.3, rest_goes_on text at ∙ ap (λ l. is_more (l ++ drop at text)) (sym given), λ last. subst (Unread new None) given w.4)
 
 -- a fault of the bytes so far is one of all of them
-pub noise : (bytes text : List ℕ) (at : ℕ) (result : Result (Option Said) WireFault) (fault : WireFault) (new : Held) → IsHeard (bytes ++ take at text) result new → result ≡ Err fault
-    → IsListened (bytes ++ text) listened.Noise new
+pub noise : (bytes text : List ℕ) (at : ℕ) (result : Result (Option Said) WireFault) (fault : WireFault) (new : Held) → IsHeard Number (bytes ++ take at text) result new → result ≡ Err fault
+    → IsListened Number (bytes ++ text) listened.Noise new
 noise bytes text at result fault new h e =
-    let f = subst (λ r. IsHeard (bytes ++ take at text) r new) e h in
+    let f = subst (λ r. IsHeard Number (bytes ++ take at text) r new) e h in
     (fault, subst (λ b. Gives (Some Number) b (Err fault) b) (piece_all bytes text at) (f (drop at text)))
 
 -- where nothing came yet
@@ -122,7 +122,7 @@ no_reply_in_nothing text rest (Done n) e (number, spelled, is) = absurd (cc)
 no_reply_in_nothing text rest (Data bytes) e s = absurd s
 no_reply_in_nothing text rest (Error n words) e s = let is = s.5 in absurd (cc)
 
-pub waiting_anew : (h : Held) → Unread h (Some Number) [] → IsWaiting h []
+pub waiting_anew : (h : Held) → Unread h (Some Number) [] → IsWaiting Number h []
 waiting_anew h u = record {
   unread = u;
   begun = ((65 ∷ 48 ∷ 10 ∷ [], Done 0, (48 ∷ [], zero_digit, refl)), no_reply_in_nothing, refl);

@@ -1,5 +1,5 @@
 -- What was sent is what was appended, one request for each reply that leads on.
-use Rattle.std.proofs.Common.{◌≡◌, ℕ, zero, suc, ◌+◌, ◌-◌, ◌<◌, ◌≤◌, ◌==◌, Bool, true, false, if◌then◌else◌, nat_lt, List, [], ◌∷◌, ◌++◌, length, map, take, refl, sym, ◌∙◌, ap, subst, arith, append_assoc, length-append}
+use Rattle.std.proofs.Common.{◌≡◌, ℕ, suc, ◌+◌, ◌-◌, ◌<◌, ◌≤◌, ◌==◌, Bool, true, false, if◌then◌else◌, nat_lt, List, [], ◌∷◌, ◌++◌, length, map, take, refl, sym, ◌∙◌, ap, subst, arith, append_assoc, length-append}
 use Rattle.std.proofs.lemmas.Bool.Decides.{nat_tests}
 use Rattle.std.proofs.lemmas.List.{append-nil, map-append}
 use Rattle.std.proofs.Math.Seq.{take-append_seam}
@@ -11,34 +11,16 @@ use Rattle.dump_client.specs.Label.{label_bytes}
 use Rattle.dump_client.specs.Script.{request_of}
 use Rattle.dump_client.specs.Position.{after_reply, at_end_of_reel, block_or_mark}
 use Rattle.dump_client.specs.Standing.{checkpoint_of, count_to, counted_to}
-use Rattle.dump_client.specs.Lawful.{StepFits, blocks_from, steps_to, steps_before, counts_before, sent_before, request_at}
+use Rattle.dump_client.specs.Lawful.{StepFits, blocks_from, steps_to, steps_before, counts_before, sent_before, attempt_request}
 use Rattle.dump_client.specs.declared.step.Step.{Step}
 use Rattle.dump_client.specs.declared.step.Step.TheVariants.{Open, Rewind, Label, Block, Mark, Unload, Close}
 use Rattle.dump_client.specs.declared.outcome.Outcome.{Outcome}
 use Rattle.dump_client.specs.declared.outcome.Outcome.TheVariants.{GoesOn, Fails, Counted}
 use Rattle.dump_client.specs.declared.fault.AttemptFault.TheVariants.{Refused, Botched, ShortWrite, ReelTooSmall}
 use Rattle.dump_client.specs.declared.count.VolumeCount.{VolumeCount}
+use Rattle.dump_client.proofs.Branches.{same_or, less_or}
 use Rattle.dump_client.proofs.Checkpoint.{checkpoint_behind}
-
--- a test of numbers, and what holds of both its sides
-same_or : (P : Outcome → Type 0) (m n : ℕ) (same other : Outcome) → (m ≡ n → P same) → P other → P (if m == n then same else other)
-same_or P m n same other h k = by (m == n) refl
-  where
-    by : (b : Bool) → (m == n) ≡ b → P (if b then same else other)
-    by true eq = h (grind (arith, nat_tests))
-    by false eq = k
-
-less_or : (P : Outcome → Type 0) (m n : ℕ) (less other : Outcome) → (m < n → P less) → P other → P (if nat_lt m n then less else other)
-less_or P m n less other h k = by (nat_lt m n) refl
-  where
-    by : (b : Bool) → nat_lt m n ≡ b → P (if b then less else other)
-    by true lt = h (grind (arith, nat_tests))
-    by false lt = k
-
--- the last of the blocks
-blocks_push : (first count last : ℕ) → last ≡ first + count → blocks_from first (suc count) ≡ blocks_from first count ++ Block last ∷ []
-blocks_push first zero last at = ap (λ n. Block n ∷ []) (omega arith)
-blocks_push first (suc count) last at = ap (λ l. Block first ∷ l) (blocks_push (suc first) count last (omega arith))
+use Rattle.dump_client.proofs.Steps.{blocks_push}
 
 -- the open, the rewind, the label and the blocks up to this one
 abbrev up_to_block : ℕ → ℕ → List Step
@@ -120,7 +102,7 @@ module _ (run : PlainRun) (payload : List (List ℕ)) (counts : List VolumeCount
   closed at next = map (request_of run payload at.0 at.1) (steps_before run at.1 next Close)
 
   counted_sent : (end : ℕ) → (checkpoint_of counts).1 ≤ end
-      → Sent run payload counts (sent_before run payload counts (Unload end) ++ request_at run payload counts (Unload end) ∷ []) (Counted end)
+      → Sent run payload counts (sent_before run payload counts (Unload end) ++ attempt_request run payload counts (Unload end) ∷ []) (Counted end)
   counted_sent end h =
       ap (λ l. closed (checkpoint_of l) (checkpoint_of (counted_to counts end)).1) (without_last counts (count_to (checkpoint_of counts) end))
       ∙ ap (closed (checkpoint_of counts)) (counted_end counts end h)
@@ -129,7 +111,7 @@ module _ (run : PlainRun) (payload : List (List ℕ)) (counts : List VolumeCount
 
   -- what a reply to a step leads to
   abbrev Appends : Step → Outcome → Type 0
-  Appends step outcome = Sent run payload counts (sent_before run payload counts step ++ request_at run payload counts step ∷ []) outcome
+  Appends step outcome = Sent run payload counts (sent_before run payload counts step ++ attempt_request run payload counts step ∷ []) outcome
 
   reply_sent : (step : Step) (reply : PlainReply) → StepFits run counts step → Appends step (after_reply run (checkpoint_of counts).1 step reply)
   reply_sent Open (Done n) fits = refl
@@ -168,10 +150,10 @@ none_sent run payload counts = refl
 
 pub sent_next : (run : PlainRun) (payload : List (List ℕ)) (counts : List VolumeCount) (step next : Step) (reply : PlainReply) → StepFits run counts step
     → after_reply run (checkpoint_of counts).1 step reply ≡ GoesOn next
-    → sent_before run payload counts next ≡ sent_before run payload counts step ++ request_at run payload counts step ∷ []
+    → sent_before run payload counts next ≡ sent_before run payload counts step ++ attempt_request run payload counts step ∷ []
 sent_next run payload counts step next reply fits leads = subst (Appends run payload counts step) leads (reply_sent run payload counts step reply fits)
 
 pub sent_counted : (run : PlainRun) (payload : List (List ℕ)) (counts : List VolumeCount) (step : Step) (end : ℕ) (reply : PlainReply) → StepFits run counts step
     → after_reply run (checkpoint_of counts).1 step reply ≡ Counted end
-    → sent_before run payload (counted_to counts end) Close ≡ sent_before run payload counts step ++ request_at run payload counts step ∷ []
+    → sent_before run payload (counted_to counts end) Close ≡ sent_before run payload counts step ++ attempt_request run payload counts step ∷ []
 sent_counted run payload counts step end reply fits leads = subst (Appends run payload counts step) leads (reply_sent run payload counts step reply fits)

@@ -8,7 +8,7 @@ use Rattle.dump_client.specs.Run.{PlainRun}
 use Rattle.dump_client.specs.Script.{Wish, IsCount, request_of, steps_of, script}
 use Rattle.dump_client.specs.Position.{Position, Counts}
 use Rattle.dump_client.specs.Standing.{Standing, checkpoint_after, checkpoint_of}
-use Rattle.dump_client.specs.Lawful.{AreVolumes, IsLeft, StepFits, StageFits, IsLawful, steps_before, counts_before, attempt_at, sent_before, request_at, StandsAtStep, StandsAt}
+use Rattle.dump_client.specs.Lawful.{AreVolumes, IsRunLeft, StepFits, StageFits, IsLawful, steps_before, counts_before, attempt_at, sent_before, attempt_request, StandsAtStep, StandsAt}
 use Rattle.dump_client.specs.declared.step.Step.{Step}
 use Rattle.dump_client.specs.declared.step.Step.TheVariants.{Open, Rewind, Label, Block, Mark, Unload, Close}
 use Rattle.dump_client.specs.declared.stage.Stage.{Stage}
@@ -58,10 +58,10 @@ waiting run payload volume first count before step rest n h =
     }
 
 -- the step that fits is reached
-left_at : (run : PlainRun) (counts : List VolumeCount) → AreVolumes run 1 0 counts → IsLeft run counts → IsCount run (checkpoint_of counts).1 (run.blocks - (checkpoint_of counts).1)
+left_at : (run : PlainRun) (counts : List VolumeCount) → AreVolumes run 1 0 counts → IsRunLeft run counts → IsCount run (checkpoint_of counts).1 (run.blocks - (checkpoint_of counts).1)
 left_at run counts v left = count_left run (checkpoint_of counts).1 (first_within run 1 0 counts (omega arith) v) (none_or left)
   where
-    none_or : IsLeft run counts → ((checkpoint_of counts).1 ≡ 0) ⊎ ((checkpoint_of counts).1 < run.blocks)
+    none_or : IsRunLeft run counts → ((checkpoint_of counts).1 ≡ 0) ⊎ ((checkpoint_of counts).1 < run.blocks)
     none_or (inl none) = inl (ap (λ l. (checkpoint_of l).1) none)
     none_or (inr more) = inr more
 
@@ -192,7 +192,7 @@ step_to_send run payload counts Close v fits =
     (last.0, counted.position, (counted, last.3))
 
 step_waiting : (run : PlainRun) (payload : List (List ℕ)) (counts : List VolumeCount) (step : Step) → AreVolumes run 1 0 counts → StepFits run counts step
-    → StandsAtStep run payload counts step (sent_before run payload counts step ++ request_at run payload counts step ∷ []) (length (sent_before run payload counts step))
+    → StandsAtStep run payload counts step (sent_before run payload counts step ++ attempt_request run payload counts step ∷ []) (length (sent_before run payload counts step))
 step_waiting run payload counts Open v fits = plain_waiting run payload counts Open v fits tt
 step_waiting run payload counts Rewind v fits = plain_waiting run payload counts Rewind v fits tt
 step_waiting run payload counts Label v fits = plain_waiting run payload counts Label v fits tt

@@ -16,7 +16,7 @@ plain_steps run first count = map (λ s. s.0) (steps_of run first count)
 abbrev pub plain_last : PlainRun → ℕ → List Step
 plain_last run next = (if nat_lt next run.blocks then Block next ∷ [] else []) ++ Mark next ∷ Unload next ∷ Close ∷ []
 
-plain_blocks : (run : PlainRun) (first count : ℕ) → map (λ s. s.0) (block_steps run first count) ≡ blocks_from first count
+pub plain_blocks : (run : PlainRun) (first count : ℕ) → map (λ s. s.0) (block_steps run first count) ≡ blocks_from first count
 plain_blocks run first zero = refl
 plain_blocks run first (suc count) = ap (λ l. Block first ∷ l) (plain_blocks run (suc first) count)
 
@@ -45,7 +45,7 @@ steps_at_mark run first count next at =
     ∙ sym (append_assoc (Open ∷ Rewind ∷ Label ∷ blocks_from first (next - first)) (if nat_lt next run.blocks then Block next ∷ [] else []) (Mark next ∷ Unload next ∷ Close ∷ []))
 
 -- the last of the blocks
-blocks_push : (first count last : ℕ) → last ≡ first + count → blocks_from first (suc count) ≡ blocks_from first count ++ Block last ∷ []
+pub blocks_push : (first count last : ℕ) → last ≡ first + count → blocks_from first (suc count) ≡ blocks_from first count ++ Block last ∷ []
 blocks_push first zero last at = ap (λ n. Block n ∷ []) (omega arith)
 blocks_push first (suc count) last at = ap (λ l. Block first ∷ l) (blocks_push (suc first) count last (omega arith))
 

@@ -9,7 +9,7 @@ use Rattle.rmt_wire.specs.ReplyReader.{Unread}
 use Rattle.dumpdates.specs.Stored.{plain_entry}
 use Rattle.dumpdates.specs.declared.entry.Entry.{Entry}
 use Rattle.dump_client.specs.Run.{PlainRun}
-use Rattle.dump_client.specs.Script.{request_of}
+use Rattle.dump_client.specs.Script.{request_of, wanted_of}
 use Rattle.dump_client.specs.Listening.{IsWaiting}
 use Rattle.dump_client.specs.Standing.{Standing, standing, checkpoint_of, IsOver}
 use Rattle.dump_client.specs.declared.step.Step.{Step}
@@ -21,7 +21,7 @@ use Rattle.dump_client.specs.declared.fault.AttemptFault.{AttemptFault}
 use Rattle.dump_client.specs.declared.fault.AttemptFault.TheVariants.{SourceFault, OutOfMemory}
 
 -- where it stands, its source and its reader of replies, and for how many more counts it has room
-pub record Held (B : Type 0) : Type 0 where
+pub record ClientHeld (B : Type 0) : Type 0 where
   pub at : Standing
   pub source : B
   pub reader : reader.Held
@@ -30,10 +30,10 @@ pub record Held (B : Type 0) : Type 0 where
 -- the bytes that were fed since the request that waits for its reply was sent; none in the other stages
 abbrev pub HasFedAt : Stage → reader.Held → List ℕ → Type 0
 HasFedAt (ToSend step) reader bytes = Unread reader None [] × (bytes ≡ [])
-HasFedAt (Waiting step) reader bytes = IsWaiting reader bytes
+HasFedAt (Waiting step) reader bytes = IsWaiting (wanted_of step) reader bytes
 HasFedAt stage reader bytes = bytes ≡ []
 
-abbrev pub HasFed : {B : Type 0} → Held B → List ℕ → Type 0
+abbrev pub HasFed : {B : Type 0} → ClientHeld B → List ℕ → Type 0
 HasFed c bytes = HasFedAt c.at.stage c.reader bytes
 
 -- what stays unanswered of the bytes once the client stands there
@@ -99,19 +99,21 @@ has_failed (Ok x) = false
 has_failed (Err failed) = true
 
 -- what was appended is the write of the bytes that the read gave
-abbrev pub IsGiven : {T : Type 0} → List ℕ → Result T AttemptFault → List ℕ → List ℕ → Type 0
-IsGiven before (Ok x) now given = now ≡ before ++ request_text (Write given)
-IsGiven before (Err fault) now given = Unit {0}
+abbrev pub IsRequestGiven : {T : Type 0} → List ℕ → Result T AttemptFault → List ℕ → List ℕ → Type 0
+IsRequestGiven before (Ok x) now given = now ≡ before ++ request_text (Write given)
+IsRequestGiven before (Err fault) now given = Unit {0}
 
 -- Where a block was asked for the source was read once, into room for a block, and what it gave was appended, or its failure is the
 -- fault. Nothing else was done with the source.
-abbrev pub ReadBy : {B T : Type 0} → Step → ℕ → (B → ℕ → List ℕ → Result Unit SourceFailed → B → List ℕ → Type 0) → B → List ℕ → Result T AttemptFault → B → List ℕ → Type 0
+abbrev pub ReadBy : {B T : Type 0} → Step → ℕ → (B → ℕ → List ℕ → Result Unit SourceFailed → B → List ℕ → Type 0)
+    → B → List ℕ → Result T AttemptFault → B → List ℕ → Type 0
 ReadBy {B} {T} (Block number) size reads old before result new now =
     (into : List ℕ) × (given : List ℕ) × (read : Result Unit SourceFailed) × (length into ≡ size) × reads old number into read new given
-    × (is_source_fault result ≡ has_failed read) × IsGiven before result now given
+    × (is_source_fault result ≡ has_failed read) × IsRequestGiven before result now given
 ReadBy {B} {T} step size reads old before result new now = new ≡ old
 
-abbrev pub ReadAt : {B : Type 0} → Stage → ℕ → (B → ℕ → List ℕ → Result Unit SourceFailed → B → List ℕ → Type 0) → B → List ℕ → Result Bool AttemptFault → B → List ℕ → Type 0
+abbrev pub ReadAt : {B : Type 0} → Stage → ℕ → (B → ℕ → List ℕ → Result Unit SourceFailed → B → List ℕ → Type 0)
+    → B → List ℕ → Result Bool AttemptFault → B → List ℕ → Type 0
 ReadAt {B} (ToSend step) size reads old before result new now = ReadBy step size reads old before result new now
 ReadAt {B} stage size reads old before result new now = new ≡ old
 

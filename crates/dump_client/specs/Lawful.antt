@@ -22,22 +22,24 @@ AreVolumes run volume first (c ∷ counts) =
     × AreVolumes run (volume + 1) (first + c.count) counts
 
 -- the counts do not cover the run
-abbrev pub IsLeft : PlainRun → List VolumeCount → Type 0
-IsLeft run counts = (counts ≡ []) ⊎ ((checkpoint_of counts).1 < run.blocks)
+abbrev pub IsRunLeft : PlainRun → List VolumeCount → Type 0
+IsRunLeft run counts = (counts ≡ []) ⊎ ((checkpoint_of counts).1 < run.blocks)
 
 -- the step is one of the volume that begins at this block; the close comes after a count
 abbrev pub StepFits : PlainRun → List VolumeCount → Step → Type 0
-StepFits run counts (Block number) = IsLeft run counts × ((checkpoint_of counts).1 ≤ number) × (number < run.blocks)
-StepFits run counts (Mark next) = IsLeft run counts × ((checkpoint_of counts).1 ≤ next) × IsCount run (checkpoint_of counts).1 (next - (checkpoint_of counts).1)
-StepFits run counts (Unload next) = IsLeft run counts × ((checkpoint_of counts).1 ≤ next) × IsCount run (checkpoint_of counts).1 (next - (checkpoint_of counts).1)
+StepFits run counts (Block number) = IsRunLeft run counts × ((checkpoint_of counts).1 ≤ number) × (number < run.blocks)
+StepFits run counts (Mark next) =
+    IsRunLeft run counts × ((checkpoint_of counts).1 ≤ next) × IsCount run (checkpoint_of counts).1 (next - (checkpoint_of counts).1)
+StepFits run counts (Unload next) =
+    IsRunLeft run counts × ((checkpoint_of counts).1 ≤ next) × IsCount run (checkpoint_of counts).1 (next - (checkpoint_of counts).1)
 StepFits run counts Close = 0 < length counts
-StepFits run counts step = IsLeft run counts
+StepFits run counts step = IsRunLeft run counts
 
 abbrev pub StageFits : PlainRun → List VolumeCount → Stage → Type 0
 StageFits run counts (ToSend step) = StepFits run counts step
 StageFits run counts (Waiting step) = StepFits run counts step
 StageFits run counts Finished = Covers run counts
-StageFits run counts stage = IsLeft run counts
+StageFits run counts stage = IsRunLeft run counts
 
 pub record IsLawful (s : Standing) : Type 0 where
   pub run : IsRun s.run
@@ -54,8 +56,8 @@ RoomFits stage room = Unit {0}
 
 -- an outcome can be followed
 abbrev pub OutcomeFits : PlainRun → List VolumeCount → ℕ → Outcome → Type 0
-OutcomeFits run counts room (GoesOn step) = IsLeft run counts × StepFits run counts step × (0 < room)
-OutcomeFits run counts room (Fails fault) = IsLeft run counts
+OutcomeFits run counts room (GoesOn step) = IsRunLeft run counts × StepFits run counts step × (0 < room)
+OutcomeFits run counts room (Fails fault) = IsRunLeft run counts
 OutcomeFits run counts room (Counted next) = StepFits run counts (Unload next) × (0 < room)
 OutcomeFits run counts room Ended = 0 < length counts
 
@@ -95,14 +97,15 @@ sent_before run payload counts step =
     (steps_before run (attempt_at step counts).1 (checkpoint_of counts).1 step)
 
 -- the request of a step
-abbrev pub request_at : PlainRun → List (List ℕ) → List VolumeCount → Step → PlainRequest
-request_at run payload counts step = request_of run payload (attempt_at step counts).0 (attempt_at step counts).1 step
+abbrev pub attempt_request : PlainRun → List (List ℕ) → List VolumeCount → Step → PlainRequest
+attempt_request run payload counts step = request_of run payload (attempt_at step counts).0 (attempt_at step counts).1 step
 
 -- the volume is counted at the close, as the last of the counts, and nowhere before
 abbrev pub CountsAt : PlainRun → List (List ℕ) → List VolumeCount → Step → ℕ → List PlainRequest → ℕ → Type 0
 CountsAt run payload counts Close count sent got =
     Counts run payload (attempt_at Close counts).0 (attempt_at Close counts).1 count sent got
-    × (counts ≡ counts_before Close counts ++ record { volume = (attempt_at Close counts).0; first = (attempt_at Close counts).1; count = count } ∷ [])
+    × (counts ≡ counts_before Close counts
+    ++ record { volume = (attempt_at Close counts).0; first = (attempt_at Close counts).1; count = count } ∷ [])
 CountsAt run payload counts step count sent got = Contains (take got sent) (Op 6 1) → ⊥
 
 -- it stands at a position of the attempt's volume
@@ -117,5 +120,6 @@ abbrev pub StandsAt : PlainRun → List (List ℕ) → List VolumeCount → Stag
 StandsAt run payload counts (ToSend step) =
     StandsAtStep run payload counts step (sent_before run payload counts step) (length (sent_before run payload counts step))
 StandsAt run payload counts (Waiting step) =
-    StandsAtStep run payload counts step (sent_before run payload counts step ++ request_at run payload counts step ∷ []) (length (sent_before run payload counts step))
+    StandsAtStep run payload counts step (sent_before run payload counts step ++ attempt_request run payload counts step ∷ [])
+    (length (sent_before run payload counts step))
 StandsAt run payload counts stage = Unit {0}

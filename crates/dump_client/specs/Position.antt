@@ -140,7 +140,8 @@ IsFailure outcome = ⊥
 -- from this volume and block on, each count begins where the one before ended, and the last ends with the blocks
 abbrev pub CoversFrom : ℕ → ℕ → ℕ → List VolumeCount → Type 0
 CoversFrom blocks volume first [] = first ≡ blocks
-CoversFrom blocks volume first (c ∷ counts) = (c.volume ≡ volume) × (c.first ≡ first) × CoversFrom blocks (volume + 1) (first + c.count) counts
+CoversFrom blocks volume first (c ∷ counts) =
+    (c.volume ≡ volume) × (c.first ≡ first) × CoversFrom blocks (volume + 1) (first + c.count) counts
 
 -- there is a count, and the counted volumes are the whole run, in order
 abbrev pub Covers : PlainRun → List VolumeCount → Type 0

@@ -2,7 +2,8 @@
 use Rattle.std.specs.Prelude.{◌≡◌, ◌⊎◌, ℕ, zero, suc, ◌+◌, ◌<◌, ◌≤◌, if◌then◌else◌, nat_lt, List, [], ◌∷◌, ◌++◌, map, get_or}
 use Rattle.rmt_wire.specs.Request.{PlainRequest}
 use Rattle.rmt_wire.specs.Request.PlainRequest.{Open as OpenDevice, Op, Write, Close as CloseDevice}
-use Rattle.rmt_wire.specs.Reply.{PlainReply}
+use Rattle.rmt_wire.specs.Reply.{PlainReply, Wanted}
+use Rattle.rmt_wire.specs.Reply.Wanted.{Number as NumberReply}
 use Rattle.rmt_wire.specs.Reply.PlainReply.{Done, Error}
 use Rattle.dump_client.specs.Run.{PlainRun}
 use Rattle.dump_client.specs.Label.{label, label_bytes}
@@ -18,6 +19,10 @@ request_of run payload volume first (Block number) = Write (get_or payload numbe
 request_of run payload volume first (Mark next) = Op 0 1
 request_of run payload volume first (Unload next) = Op 6 1
 request_of run payload volume first Close = CloseDevice
+
+-- the kind of reply that a step wants: a number, at each of them
+abbrev pub wanted_of : Step → Wanted
+wanted_of step = NumberReply
 
 -- the reply that is wanted
 pub data Wish : Type 0 where

@@ -1,10 +1,10 @@
 -- Where a client stands, as values, and how bytes and the end of a connection move it.
 use Rattle.std.specs.Prelude.{◌≡◌, ◌≢◌, ◌⊎◌, ℕ, ◌+◌, ◌-◌, Bool, true, false, List, [], ◌∷◌, ◌++◌, Option, Some, None, Result, Ok, Err}
 use Rattle.rmt_wire.specs.Reply.{PlainReply}
-use Rattle.rmt_wire.specs.Reply.Wanted.{Number}
 use Rattle.rmt_wire.specs.ReplyParts.{Gives}
 use Rattle.rmt_wire.specs.declared.fault.WireFault.{WireFault}
 use Rattle.dump_client.specs.Run.{PlainRun}
+use Rattle.dump_client.specs.Script.{wanted_of}
 use Rattle.dump_client.specs.Position.{Covers, Heard, outcome}
 use Rattle.dump_client.specs.Position.Heard.{Reply, Noise, End}
 use Rattle.dump_client.specs.Listening.{is_more}
@@ -35,7 +35,7 @@ abbrev pub standing : PlainRun → List VolumeCount → Stage → Standing
 standing run counts stage = record { run = run; counts = counts; stage = stage }
 
 -- the same, and for how many more counts there is room
-pub record Kept : Type 0 where
+pub record RunKept : Type 0 where
   pub at : Standing
   pub room : ℕ
 
@@ -82,7 +82,8 @@ abbrev pub Becomes : Standing → Outcome → Bool → Progress → Standing →
 Becomes old (GoesOn step) false progress new = (progress ≡ moved.Send) × (new ≡ standing old.run old.counts (ToSend step))
 Becomes old (GoesOn step) true progress new = (progress ≡ moved.Failed Botched) × (new ≡ standing old.run old.counts Asking)
 Becomes old (Fails fault) more progress new = (progress ≡ moved.Failed fault) × (new ≡ standing old.run old.counts Asking)
-Becomes old (Counted next) false progress new = (progress ≡ moved.Send) × (new ≡ standing old.run (counted_to old.counts next) (ToSend Close))
+Becomes old (Counted next) false progress new =
+    (progress ≡ moved.Send) × (new ≡ standing old.run (counted_to old.counts next) (ToSend Close))
 Becomes old (Counted next) true progress new = (progress ≡ moved.Ended) × IsOver old.run (counted_to old.counts next) new
 Becomes old Ended more progress new = (progress ≡ moved.Ended) × IsOver old.run old.counts new
 
@@ -103,7 +104,7 @@ FedAt (ToSend step) old bytes piece progress new =
     ((piece ≡ []) × (progress ≡ moved.Send) × (new ≡ old))
     ⊎ ((piece ≢ []) × HearsAt old step Noise false progress new)
 FedAt (Waiting step) old bytes piece progress new =
-    (seen : Result (Option PlainReply) WireFault) × (rest : List ℕ) × Gives (Some Number) (bytes ++ piece) seen rest
+    (seen : Result (Option PlainReply) WireFault) × (rest : List ℕ) × Gives (Some (wanted_of step)) (bytes ++ piece) seen rest
     × Makes old step (bytes ++ piece) seen rest progress new
 FedAt stage old bytes piece progress new = (progress ≡ moved.Idle) × (new ≡ old)
 

@@ -36,13 +36,15 @@ pub struct Client<B: Blocks> {
 
 impl<B: Blocks> Model for Client<B> {
     ghost use Rattle.std.specs.Prelude.{◌≡◌, ℕ, List, length};
-    ghost use Rattle.dump_client.specs.Client.{Held, HasFedAt, IsPayload};
+    ghost use Rattle.dump_client.specs.Client.{ClientHeld, HasFedAt, IsPayload};
 
-    ghost Value = { Held B };
+    ghost Value = { ClientHeld B };
 
     ghost view = { λ c. record { at = c.ledger.at; source = c.source; reader = c.reader; room = c.ledger.room } };
 
-    ghost invariant = { λ c. (length c.block.items ≡ c.ledger.at.run.block_bytes) × ((payload : List (List ℕ)) → B.Blocks.holds c.source payload → IsPayload c.ledger.at.run payload) × ((bytes : List ℕ) × HasFedAt c.ledger.at.stage c.reader bytes) };
+    ghost invariant = { λ c. (length c.block.items ≡ c.ledger.at.run.block_bytes)
+        × ((payload : List (List ℕ)) → B.Blocks.holds c.source payload → IsPayload c.ledger.at.run payload)
+        × ((bytes : List ℕ) × HasFedAt c.ledger.at.stage c.reader bytes) };
 }
 
 impl<B: Blocks + Drop> Client<B> {
@@ -126,8 +128,10 @@ impl<B: Blocks> Client<B> {
     /// `OutOfMemory` where `out` has spare room for fewer than `READER_LIMIT` bytes and the memory for more is refused.
     /// At the close, which comes after the count, that is no fault: it answers false, and the attempt is over.
     pub fn next_request(&mut self, out: &mut Vec<u8>) -> Result<bool, AttemptFault>
-        ensures asked { AskedAt self.old.at.stage (B.holds self.old.source) self.old.at (vec_capacity out.old) out.old.items result out.new.items self.new.at }
-        ensures read { ReadAt self.old.at.stage self.old.at.run.block_bytes B.reads self.old.source out.old.items result self.new.source out.new.items }
+        ensures asked { AskedAt self.old.at.stage (B.holds self.old.source) self.old.at (vec_capacity out.old) out.old.items
+            result out.new.items self.new.at }
+        ensures read { ReadAt self.old.at.stage self.old.at.run.block_bytes B.reads self.old.source out.old.items
+            result self.new.source out.new.items }
         ensures same_blocks { (payload : List (List ℕ)) → B.holds self.old.source payload ↔ B.holds self.new.source payload }
         ensures counted { B.failures self.new.source ≡ failures_after result (B.failures self.old.source) }
         ensures able { is_source_fault result ≡ true → B.can_fail self.old.source }

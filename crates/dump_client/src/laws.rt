@@ -7,7 +7,7 @@ ghost use Rattle.dump_client.specs.Position.Heard.{Noise, End};
 ghost use Rattle.dump_client.specs.Standing.{Standing, FedAt, CutAt, checkpoint_of, counted_to};
 ghost use Rattle.dump_client.specs.Client.{unanswered};
 ghost use Rattle.dump_client.specs.declared.step.Step.{Step};
-ghost use Rattle.dump_client.specs.Lawful.{IsLawful, StepFits, StandsAt, sent_before, request_at};
+ghost use Rattle.dump_client.specs.Lawful.{IsLawful, StepFits, StandsAt, sent_before, attempt_request};
 ghost use Rattle.dump_client.specs.Replies.{Granted, led_by};
 ghost use Rattle.dump_client.specs.declared.count.VolumeCount.{VolumeCount};
 ghost use Rattle.dump_client.specs.declared.step.Step.TheVariants.{Open, Close};
@@ -22,8 +22,10 @@ ghost use Rattle.dump_client.specs.declared.fault.AttemptFault.TheVariants.{Botc
 ///
 /// It does nothing: its contract is a law of the definitions.
 pub fn wanted_replies()
-    ensures next { (run : PlainRun) (first count : ℕ) → IsRun run → IsCount run first count → Follows run first (steps_of run first count) }
-    ensures others { (run : PlainRun) (first : ℕ) (step : Step) (reply : PlainReply) → IsWantedAt run first step reply ⊎ IsFailure (after_reply run first step reply) }
+    ensures next { (run : PlainRun) (first count : ℕ) → IsRun run → IsCount run first count →
+        Follows run first (steps_of run first count) }
+    ensures others { (run : PlainRun) (first : ℕ) (step : Step) (reply : PlainReply) →
+        IsWantedAt run first step reply ⊎ IsFailure (after_reply run first step reply) }
 {}
 
 /// The replies that led from the open to a step are those that the script of a volume of so many blocks wants before it, one
@@ -49,7 +51,7 @@ pub fn granted_replies()
 pub fn lawful_positions()
     ensures stands { (s : Standing) (payload : List (List ℕ)) → IsLawful s → StandsAt s.run payload s.counts s.stage }
     ensures asked { (run : PlainRun) (payload : List (List ℕ)) (counts : List VolumeCount) (step : Step) →
-        request_of run payload (checkpoint_of counts).0 (checkpoint_of counts).1 step ≡ request_at run payload counts step }
+        request_of run payload (checkpoint_of counts).0 (checkpoint_of counts).1 step ≡ attempt_request run payload counts step }
 {}
 
 /// What was sent is what was appended: nothing at the start of an attempt, and at each step that a reply leads to one request
@@ -60,10 +62,11 @@ pub fn sent_in_order()
     ensures none { (run : PlainRun) (payload : List (List ℕ)) (counts : List VolumeCount) → sent_before run payload counts Open ≡ [] }
     ensures next { (run : PlainRun) (payload : List (List ℕ)) (counts : List VolumeCount) (step next : Step) (reply : PlainReply) →
         StepFits run counts step → after_reply run (checkpoint_of counts).1 step reply ≡ GoesOn next →
-        sent_before run payload counts next ≡ sent_before run payload counts step ++ request_at run payload counts step ∷ [] }
+        sent_before run payload counts next ≡ sent_before run payload counts step ++ attempt_request run payload counts step ∷ [] }
     ensures counted { (run : PlainRun) (payload : List (List ℕ)) (counts : List VolumeCount) (step : Step) (end : ℕ) (reply : PlainReply) →
         StepFits run counts step → after_reply run (checkpoint_of counts).1 step reply ≡ Counted end →
-        sent_before run payload (counted_to counts end) Close ≡ sent_before run payload counts step ++ request_at run payload counts step ∷ [] }
+        sent_before run payload (counted_to counts end) Close
+        ≡ sent_before run payload counts step ++ attempt_request run payload counts step ∷ [] }
 {}
 
 /// From the close on nothing fails: whatever is heard there ends the attempt. Before it bytes that are no reply fail it,
@@ -84,6 +87,7 @@ pub fn fed_in_pieces()
     ensures pieces { (old middle new : Standing) (bytes p q : List ℕ) (first second : Progress) → FedAt old.stage old bytes p first middle →
         FedAt middle.stage middle (unanswered middle.stage (bytes ++ p)) q second new →
         (whole : Progress) × FedAt old.stage old bytes (p ++ q) whole new }
-    ensures failed { (old new : Standing) (bytes p : List ℕ) (fault : AttemptFault) → FedAt old.stage old bytes p (Failed fault) new → new.counts ≡ old.counts }
+    ensures failed { (old new : Standing) (bytes p : List ℕ) (fault : AttemptFault) →
+        FedAt old.stage old bytes p (Failed fault) new → new.counts ≡ old.counts }
     ensures cut { (old new : Standing) (fault : AttemptFault) → CutAt old.stage old (Failed fault) new → new.counts ≡ old.counts }
 {}

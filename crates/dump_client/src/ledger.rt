@@ -8,7 +8,7 @@ ghost use Rattle.dump_client.specs.Listening.{IsSaid};
 ghost use Rattle.dump_client.specs.Position.Heard.{Reply, Noise, End};
 ghost use Rattle.dump_client.specs.Run.{IsRun};
 ghost use Rattle.dump_client.specs.Standing.{standing, checkpoint_of, StartedAt, AnsweredAt, HearsAt, Becomes, IsOver, IsAtStep};
-ghost use Rattle.dump_client.specs.Lawful.{IsLawful, AreVolumes, IsLeft, StageFits, OutcomeFits, RoomFits};
+ghost use Rattle.dump_client.specs.Lawful.{IsLawful, AreVolumes, IsRunLeft, StageFits, OutcomeFits, RoomFits};
 ghost use Rattle.dump_client.specs.declared.stage.Stage.TheVariants as stages;
 ghost use Rattle.dump_client.specs.declared.stage.Progress.TheVariants as moved;
 ghost use Rattle.dump_client.specs.declared.outcome.Outcome.TheVariants as outcomes;
@@ -33,14 +33,15 @@ pub(crate) struct Ledger {
 impl Model for Ledger {
     ghost use Rattle.std.specs.Prelude.{◌-◌};
     ghost use Rattle.std.specs.Vec.{vec_capacity, vec_len};
-    ghost use Rattle.dump_client.specs.Standing.{Kept, standing};
+    ghost use Rattle.dump_client.specs.Standing.{RunKept, standing};
     ghost use Rattle.dump_client.specs.Lawful.{IsLawful, RoomFits};
 
-    ghost Value = { Kept };
+    ghost Value = { RunKept };
 
     ghost view = { λ l. record { at = standing l.run l.counted.items l.stage; room = vec_capacity l.counted - vec_len l.counted } };
 
-    ghost invariant = { λ l. IsLawful (standing l.run l.counted.items l.stage) × RoomFits l.stage (vec_capacity l.counted - vec_len l.counted) };
+    ghost invariant = { λ l. IsLawful (standing l.run l.counted.items l.stage)
+        × RoomFits l.stage (vec_capacity l.counted - vec_len l.counted) };
 }
 
 impl Ledger {
@@ -130,7 +131,8 @@ impl Ledger {
         requires room { RoomFits self.old.at.stage self.old.room }
         ensures heard { (reply : PlainReply) → IsSaid reply said → HearsAt self.old.at step (Reply reply) more result self.new.at }
         ensures slots { self.new.room + length self.new.at.counts ≡ self.old.room + length self.old.at.counts }
-        ensures fed { (reader : readers.Held) (bytes : List ℕ) → (more ≡ false → Unread reader None []) → HasFedAt self.new.at.stage reader (unanswered self.new.at.stage bytes) }
+        ensures fed { (reader : readers.Held) (bytes : List ℕ) → (more ≡ false → Unread reader None []) →
+            HasFedAt self.new.at.stage reader (unanswered self.new.at.stage bytes) }
         ensures same_run { self.new.at.run ≡ self.old.at.run }
     {
         let (_, first) = self.checkpoint();
@@ -172,7 +174,8 @@ impl Ledger {
         requires { OutcomeFits self.old.at.run self.old.at.counts self.old.room outcome }
         ensures becomes { Becomes self.old.at outcome more result self.new.at }
         ensures slots { self.new.room + length self.new.at.counts ≡ self.old.room + length self.old.at.counts }
-        ensures fed { (reader : readers.Held) (bytes : List ℕ) → (more ≡ false → Unread reader None []) → HasFedAt self.new.at.stage reader (unanswered self.new.at.stage bytes) }
+        ensures fed { (reader : readers.Held) (bytes : List ℕ) → (more ≡ false → Unread reader None []) →
+            HasFedAt self.new.at.stage reader (unanswered self.new.at.stage bytes) }
         ensures same_run { self.new.at.run ≡ self.old.at.run }
     {
         match outcome {
@@ -196,7 +199,7 @@ impl Ledger {
 
     /// The attempt fails.
     pub(crate) fn fail(&mut self, fault: AttemptFault) -> Progress
-        requires { IsLeft self.old.at.run self.old.at.counts }
+        requires { IsRunLeft self.old.at.run self.old.at.counts }
         ensures failed { (result ≡ moved.Failed fault) × (self.new.at ≡ standing self.old.at.run self.old.at.counts stages.Asking) }
         ensures slots { self.new.room + length self.new.at.counts ≡ self.old.room + length self.old.at.counts }
     {

@@ -42,7 +42,8 @@ fn without_text(reply: Reply<'_>) -> Said
 /// What the reader answers of the bytes that it holds while a number is waited for.
 fn hear(reader: &mut ReplyReader) -> Result<Option<Said>, WireFault>
     requires held { (bytes : List ℕ) × Unread reader.old (Some kinds.Wanted.Number) bytes }
-    ensures heard { (bytes : List ℕ) → Unread reader.old (Some kinds.Wanted.Number) bytes → IsHeard bytes result reader.new }
+    ensures heard { (bytes : List ℕ) → Unread reader.old (Some kinds.Wanted.Number) bytes →
+        IsHeard kinds.Wanted.Number bytes result reader.new }
 {
     match reader.next()? {
         None => Ok(None),
@@ -56,8 +57,9 @@ fn hear(reader: &mut ReplyReader) -> Result<Option<Said>, WireFault>
 /// piece. After a reply that no byte follows, the reader waits for nothing and holds nothing. After any other answer it may
 /// have taken a part of the piece only. It takes no memory.
 pub(crate) fn listen(reader: &mut ReplyReader, piece: &[u8]) -> Listened
-    requires waiting { (bytes : List ℕ) × IsWaiting reader.old bytes }
-    ensures listened { (bytes : List ℕ) → IsWaiting reader.old bytes → IsListened (bytes ++ piece.now) result reader.new }
+    requires waiting { (bytes : List ℕ) × IsWaiting kinds.Wanted.Number reader.old bytes }
+    ensures listened { (bytes : List ℕ) → IsWaiting kinds.Wanted.Number reader.old bytes →
+        IsListened kinds.Wanted.Number (bytes ++ piece.now) result reader.new }
 {
     let mut at = 0;
     while at < piece.len() {

@@ -72,7 +72,9 @@ fn push_open(run: &Run, out: &mut Vec<u8>) -> Result<(), AttemptFault>
 
 /// Appends the write of the next volume's label.
 fn push_label(ledger: &Ledger, out: &mut Vec<u8>) -> Result<(), AttemptFault>
-    ensures { IsPushed (Write (labels.label ledger.now.at.run (checkpoint_of ledger.now.at.counts).0 (checkpoint_of ledger.now.at.counts).1)) (vec_capacity out.old) out.old.items result out.new.items }
+    ensures { IsPushed
+        (Write (labels.label ledger.now.at.run (checkpoint_of ledger.now.at.counts).0 (checkpoint_of ledger.now.at.counts).1))
+        (vec_capacity out.old) out.old.items result out.new.items }
 {
     let (volume, first) = ledger.checkpoint();
     let label = label(ledger.run(), volume, first);

@@ -4,7 +4,7 @@ ghost use Rattle.dump_client.specs.Run.{IsDevice, IsBlockSize, IsRun, IsFirstBro
 
 use crate::RunFault;
 use crate::row::Row;
-use dumpdates::{Entry, LAST_SECOND};
+use dumpdates::{LAST_SECOND, is_name};
 use rmt_wire::{DATA_LIMIT, LINE_LIMIT, NUMBER_LIMIT};
 use std::alloc::AllocError;
 use std::marker::Model;
@@ -29,13 +29,15 @@ pub struct Run {
 }
 
 impl Model for Run {
+    ghost use Rattle.std.specs.Prelude.{IsUtf8};
     ghost use Rattle.dump_client.specs.Run.{PlainRun, IsRun, plain_run};
 
     ghost Value = { PlainRun };
 
     ghost view = { λ r. plain_run r.device r.name r.level r.date r.since r.block_bytes r.blocks };
 
-    ghost invariant = { λ r. IsRun (plain_run r.device r.name r.level r.date r.since r.block_bytes r.blocks) };
+    ghost invariant = { λ r. IsRun (plain_run r.device r.name r.level r.date r.since r.block_bytes r.blocks)
+        × IsUtf8 r.name };
 }
 
 impl Clone for Run {
@@ -87,7 +89,7 @@ impl Run {
         if !is_device(device) {
             return Err(RunFault::BadDevice);
         }
-        if Entry::new(fs, 0, 0).is_none() {
+        if !is_name(fs.as_bytes()) {
             return Err(RunFault::BadName);
         }
         if level > LAST_LEVEL {

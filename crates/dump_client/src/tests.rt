@@ -5,6 +5,7 @@ mod client_ends;
 mod client_faults;
 mod client_source;
 mod client_steps;
+mod faults;
 mod label;
 mod laws;
 mod listen;

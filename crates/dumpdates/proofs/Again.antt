@@ -7,7 +7,7 @@ use Rattle.std.proofs.lemmas.Fmt.{decimal_is_IsNumeral, length-decimal-le}
 use Rattle.jiff_core.specs.Calendar.{days_from_civil, weekday_number}
 use Rattle.jiff_core.proofs.CalendarLemmas.{days_in_month_bounds, weekday_number_bound}
 use Rattle.jiff_core.proofs.SignedLemmas.{signed_arith}
-use Rattle.dumpdates.specs.Entry.{PlainEntry, IsEntry, last_second}
+use Rattle.dumpdates.specs.Entry.{DatesEntry, IsEntry, last_second}
 use Rattle.dumpdates.specs.Line.{IsGap, AreParted, PlainWords, word_list, PlainFields, SpellsDigits, IsWeekday, SpellsTime, SpellsWords, SpellsLine}
 use Rattle.dumpdates.specs.Moment.{PlainMoment, IsMoment, day_numbered, moment_of, seconds_at}
 use Rattle.dumpdates.specs.Names.{weekday_name, month_name}
@@ -119,7 +119,7 @@ unfolding weekday_name
 weekday_spelled day = (weekday_number (pos day), weekday_number_bound (pos day), refl)
 
 -- the words of what is written of an entry
-abbrev words_written : PlainEntry → PlainWords
+abbrev words_written : DatesEntry → PlainWords
 words_written e = record {
   name = e.name;
   level = digit e.level ∷ [];
@@ -130,10 +130,10 @@ words_written e = record {
   year = decimal (moment_of e.date).year;
 }
 
-abbrev fields_written : PlainEntry → PlainFields
+abbrev fields_written : DatesEntry → PlainFields
 fields_written e = record { name = e.name; level = e.level; moment = moment_of e.date }
 
-words_spelled : (e : PlainEntry) → IsEntry e → SpellsWords (words_written e) (fields_written e)
+words_spelled : (e : DatesEntry) → IsEntry e → SpellsWords (words_written e) (fields_written e)
 words_spelled e i =
     let m = moment_is e.date i.date in
     let civil = m.day in
@@ -151,7 +151,7 @@ words_spelled e i =
     }
 
 -- a line without its end
-abbrev pub line_front : PlainEntry → List ℕ
+abbrev pub line_front : DatesEntry → List ℕ
 line_front e = padded e.name ++ (space ∷ digit e.level ∷ space ∷ ctime_text e.date)
 
 one_space : IsGap (space ∷ [])
@@ -161,7 +161,7 @@ padding_gap : (n : ℕ) → IsGap (replicate n space ++ space ∷ [])
 padding_gap zero = one_space
 padding_gap (suc n) = let g = padding_gap n in (omega arith, (refl, g.1))
 
-date_parted : (e : PlainEntry) → AreParted (ctime_text e.date)
+date_parted : (e : DatesEntry) → AreParted (ctime_text e.date)
     (weekday_name (e.date / 86400) ∷ month_name (moment_of e.date).month ∷ day_word (ltb (moment_of e.date).day 10) (moment_of e.date).day ∷ time_text (moment_of e.date) ∷ decimal (moment_of e.date).year ∷ [])
 unfolding ctime_text
 date_parted e =
@@ -181,7 +181,7 @@ date_parted e =
       ),
     )
 
-line_parted : (e : PlainEntry) → AreParted (line_front e) (word_list (words_written e))
+line_parted : (e : DatesEntry) → AreParted (line_front e) (word_list (words_written e))
 line_parted e =
     let pad = replicate (32 - length e.name) space in
     let rest : List ℕ = digit e.level ∷ space ∷ ctime_text e.date in (
@@ -192,9 +192,9 @@ line_parted e =
       (space ∷ [], ctime_text e.date, one_space, refl, date_parted e),
     )
 
-pub front_spelled : (e : PlainEntry) → IsEntry e → SpellsLine (line_front e) e
+pub front_spelled : (e : DatesEntry) → IsEntry e → SpellsLine (line_front e) e
 front_spelled e i =
-    let again : ℕ → PlainEntry = λ date. record { name = e.name; level = e.level; date = date } in (
+    let again : ℕ → DatesEntry = λ date. record { name = e.name; level = e.level; date = date } in (
       fields_written e,
       (
         words_written e,

@@ -7,10 +7,10 @@ use Rattle.std.specs.Str.Parse.{AllDigits, digits_value}
 use Rattle.std.proofs.lemmas.Bool.{cases_lt, false≢true}
 use Rattle.jiff_core.specs.Calendar.{days_in_month}
 use Rattle.jiff_core.proofs.SignedLemmas.{signed_arith}
-use Rattle.dumpdates.specs.Entry.{PlainEntry, IsName, AreEntries}
+use Rattle.dumpdates.specs.Entry.{DatesEntry, IsName, AreEntries}
 use Rattle.dumpdates.specs.Front.{words_of}
 use Rattle.dumpdates.specs.Line.{is_space, AreSpaces, PlainWords, PlainFields, SpellsDigits, IsWeekday, SpellsMonth, SpellsTime, SpellsWords, HasShape, IsBadLine, IsBadDate}
-use Rattle.dumpdates.specs.Lines.{lines_of, SpellLines, SpellsDates, IsEntryLine, HasFault}
+use Rattle.dumpdates.specs.Lines.{lines_of, SpellLines, SpellsDates, IsEntryLine, HasDatesFault}
 use Rattle.dumpdates.specs.Moment.{PlainMoment, IsMoment, seconds_at}
 use Rattle.dumpdates.specs.Names.{weekday_names, month_names}
 use Rattle.dumpdates.specs.Text.{colon}
@@ -214,13 +214,13 @@ record HasFirstBad (lines : List (List ℕ)) : Type 0 where
   before : List (List ℕ)
   line : List ℕ
   after : List (List ℕ)
-  entries : List PlainEntry
+  entries : List DatesEntry
   split : lines ≡ before ++ line ∷ after
   good : SpellLines before entries
   bad : IsBadLine line ⊎ IsBadDate line
 
 abbrev SpellOrBad : List (List ℕ) → Type 0
-SpellOrBad lines = ((entries : List PlainEntry) × SpellLines lines entries) ⊎ HasFirstBad lines
+SpellOrBad lines = ((entries : List DatesEntry) × SpellLines lines entries) ⊎ HasFirstBad lines
 
 one_more : (line : List ℕ) (lines : List (List ℕ)) → LineKind line → SpellOrBad lines → SpellOrBad (line ∷ lines)
 one_more line lines (inr bad) later = inr (record { before = []; line = line; after = lines; entries = []; split = refl; good = refl; bad = bad })
@@ -252,27 +252,27 @@ spell_or_bad [] = inl ([], refl)
 spell_or_bad (line ∷ lines) = one_more line lines (line_kind line) (spell_or_bad lines)
 
 fault_of : (bytes : List ℕ) (b : HasFirstBad (lines_of bytes)) → IsBadLine b.line ⊎ IsBadDate b.line
-    → (n : ℕ) × (HasFault bytes (BadLine n) ⊎ HasFault bytes (BadDate n))
+    → (n : ℕ) × (HasDatesFault bytes (BadLine n) ⊎ HasDatesFault bytes (BadDate n))
 fault_of bytes b (inl kind) =
     (length b.before + 1, inl (record { before = b.before; line = b.line; after = b.after; entries = b.entries; split = b.split; number = refl; good = b.good; kind = kind }))
 fault_of bytes b (inr kind) =
     (length b.before + 1, inr (record { before = b.before; line = b.line; after = b.after; entries = b.entries; split = b.split; number = refl; good = b.good; kind = kind }))
 
 text_of : (bytes : List ℕ) → SpellOrBad (lines_of bytes)
-    → ((entries : List PlainEntry) × SpellsDates bytes entries) ⊎ ((n : ℕ) × (HasFault bytes (BadLine n) ⊎ HasFault bytes (BadDate n)))
+    → ((entries : List DatesEntry) × SpellsDates bytes entries) ⊎ ((n : ℕ) × (HasDatesFault bytes (BadLine n) ⊎ HasDatesFault bytes (BadDate n)))
 text_of bytes (inl good) = inl good
 text_of bytes (inr b) = inr (fault_of bytes b b.bad)
 
 -- each text spells entries, or has a first bad line
-pub some_reading : (bytes : List ℕ) → ((entries : List PlainEntry) × SpellsDates bytes entries) ⊎ ((n : ℕ) × (HasFault bytes (BadLine n) ⊎ HasFault bytes (BadDate n)))
+pub some_reading : (bytes : List ℕ) → ((entries : List DatesEntry) × SpellsDates bytes entries) ⊎ ((n : ℕ) × (HasDatesFault bytes (BadLine n) ⊎ HasDatesFault bytes (BadDate n)))
 some_reading bytes = text_of bytes (spell_or_bad (lines_of bytes))
 
-lines_are_entries : (lines : List (List ℕ)) (entries : List PlainEntry) → SpellLines lines entries → AreEntries entries
+lines_are_entries : (lines : List (List ℕ)) (entries : List DatesEntry) → SpellLines lines entries → AreEntries entries
 lines_are_entries [] entries s = rw s tt
 lines_are_entries (line ∷ lines) entries (inl s) = lines_are_entries lines entries s.1
 lines_are_entries (line ∷ lines) entries (inr s) =
     rw s.3 (spelled_is_entry line s.0 s.2, lines_are_entries lines s.1 s.4)
 
 -- what a text spells are entries
-pub spelled_entries : (bytes : List ℕ) (entries : List PlainEntry) → SpellsDates bytes entries → AreEntries entries
+pub spelled_entries : (bytes : List ℕ) (entries : List DatesEntry) → SpellsDates bytes entries → AreEntries entries
 spelled_entries bytes entries s = lines_are_entries (lines_of bytes) entries s

@@ -4,7 +4,7 @@ use Rattle.std.specs.List.{prefix_len}
 use Rattle.std.proofs.lemmas.Bool.{and_parts, eqb-true, ltb-true, ltb-false}
 use Rattle.std.proofs.lemmas.List.{take_all, drop_all, append-nil, take_more_set, drop-set-lt}
 use Rattle.std.proofs.lemmas.Slice.Eq.{bytes_eq-Decides}
-use Rattle.dumpdates.specs.Entry.{PlainEntry, AreEntries, last_second}
+use Rattle.dumpdates.specs.Entry.{DatesEntry, AreEntries, last_second}
 use Rattle.dumpdates.specs.Dates.{greatest, is_below, base_of, is_same, others, entered}
 use Rattle.dumpdates.specs.Stored.{plain_stored, plain_all, is_other}
 use Rattle.dumpdates.specs.declared.stored.Stored.{Stored}
@@ -15,21 +15,21 @@ take_past (x ∷ front) later kept =
     let same : suc (length front) + kept ≡ suc (length front + kept) = omega arith in
     rw same (ap (λ more. x ∷ more) (take_past front later kept))
 
-kept_or_not : (b : Bool) (x : Stored) (xs : List Stored) (es : List PlainEntry) → plain_all xs ≡ es
+kept_or_not : (b : Bool) (x : Stored) (xs : List Stored) (es : List DatesEntry) → plain_all xs ≡ es
     → plain_all (cond (not b) (x ∷ xs) xs) ≡ cond (not b) (plain_stored x ∷ es) es
 kept_or_not true x xs es e = e
 kept_or_not false x xs es e = ap (λ more. plain_stored x ∷ more) e
 
-others_stored : (e : PlainEntry) (xs : List Stored) → plain_all (filter (is_other e) xs) ≡ others e (plain_all xs)
+others_stored : (e : DatesEntry) (xs : List Stored) → plain_all (filter (is_other e) xs) ≡ others e (plain_all xs)
 others_stored e [] = refl
 others_stored e (x ∷ xs) =
     kept_or_not (is_same e (plain_stored x)) x (filter (is_other e) xs) (others e (plain_all xs)) (others_stored e xs)
 
 -- the new entry in place of the first of its name and level, and no further ones
-abbrev placed : PlainEntry → List Stored → ℕ → Stored → List Stored
+abbrev placed : DatesEntry → List Stored → ℕ → Stored → List Stored
 placed e xs n y = take n xs ++ y ∷ filter (is_other e) (drop (suc n) xs)
 
-first_or_later : (b : Bool) (e : PlainEntry) (x : Stored) (xs : List Stored) (y : Stored) (n : ℕ) → plain_stored y ≡ e
+first_or_later : (b : Bool) (e : DatesEntry) (x : Stored) (xs : List Stored) (y : Stored) (n : ℕ) → plain_stored y ≡ e
     → cond (not b) (1 + n) 0 < suc (length xs)
     → (n < length xs → plain_all (placed e xs n y) ≡ entered (plain_all xs) e)
     → plain_all (placed e (x ∷ xs) (cond (not b) (1 + n) 0) y) ≡ cond b (e ∷ others e (plain_all xs)) (plain_stored x ∷ entered (plain_all xs) e)
@@ -38,14 +38,14 @@ first_or_later false e x xs y n same within later =
     let next : 1 + n ≡ suc n = omega arith in
     rw next (ap (λ more. plain_stored x ∷ more) (later (omega arith)))
 
-entered_first : (e : PlainEntry) (xs : List Stored) (y : Stored) → plain_stored y ≡ e → prefix_len (is_other e) xs < length xs
+entered_first : (e : DatesEntry) (xs : List Stored) (y : Stored) → plain_stored y ≡ e → prefix_len (is_other e) xs < length xs
     → plain_all (placed e xs (prefix_len (is_other e) xs) y) ≡ entered (plain_all xs) e
 entered_first e [] y same within = absurd (omega arith)
 entered_first e (x ∷ xs) y same within =
     first_or_later (is_same e (plain_stored x)) e x xs y (prefix_len (is_other e) xs) same within (entered_first e xs y same)
 
 -- the place of the first entry of the same name and level
-abbrev pub place : PlainEntry → List Stored → Option ℕ
+abbrev pub place : DatesEntry → List Stored → Option ℕ
 place e xs = position (λ s. is_same e (plain_stored s)) xs
 
 some_is : (b : Bool) (k n : ℕ) → cond b (Some k) None ≡ Some n → (b ≡ true) × (k ≡ n)
@@ -57,14 +57,14 @@ none_is true k e = cc
 none_is false k e = refl
 
 -- an entry of the same name and level with the new date is the new entry
-pub same_dated : (e : PlainEntry) (x : Stored) → is_same e (plain_stored x) ≡ true → record { name = x.name.items; level = x.level; date = e.date } ≡ e
+pub same_dated : (e : DatesEntry) (x : Stored) → is_same e (plain_stored x) ≡ true → record { name = x.name.items; level = x.level; date = e.date } ≡ e
 same_dated e x same =
     let both = and_parts _ _ same in
     let name = (bytes_eq-Decides x.name.items e.name).0 both.0 in
     let level = eqb-true x.level e.level both.1 in
     rw (name, level) refl
 
-pub replaced : (e : PlainEntry) (xs : List Stored) (n : ℕ) (y : Stored) → place e xs ≡ Some n → plain_stored y ≡ e
+pub replaced : (e : DatesEntry) (xs : List Stored) (n : ℕ) (y : Stored) → place e xs ≡ Some n → plain_stored y ≡ e
     → plain_all (take (n + 1) (set xs n y) ++ filter (is_other e) (drop (n + 1) (set xs n y))) ≡ entered (plain_all xs) e
 replaced e xs n y found same =
     let is = some_is _ _ n found in
@@ -73,7 +73,7 @@ replaced e xs n y found same =
     rw (take_more_set xs n y here, drop-set-lt (n + 1) xs n y (omega arith), append_assoc (take n xs) (y ∷ []) (filter (is_other e) (drop (n + 1) xs)), add-one)
     (rw is.1 at (entered_first e xs y same within))
 
-none_step : (b : Bool) (e : PlainEntry) (x : PlainEntry) (es : List PlainEntry) (long n : ℕ) → suc long ≤ cond (not b) (1 + n) 0
+none_step : (b : Bool) (e : DatesEntry) (x : DatesEntry) (es : List DatesEntry) (long n : ℕ) → suc long ≤ cond (not b) (1 + n) 0
     → (long ≤ n → (others e es ≡ es) × (entered es e ≡ es ++ e ∷ []))
     → (cond (not b) (x ∷ others e es) (others e es) ≡ x ∷ es) × (cond b (e ∷ others e es) (x ∷ entered es e) ≡ x ∷ (es ++ e ∷ []))
 none_step true e x es long n past later = absurd (omega arith)
@@ -81,14 +81,14 @@ none_step false e x es long n past later =
     let same = later (omega arith) in
     (ap (λ more. x ∷ more) same.0, ap (λ more. x ∷ more) same.1)
 
-none_same : (e : PlainEntry) (xs : List Stored) → length xs ≤ prefix_len (is_other e) xs
+none_same : (e : DatesEntry) (xs : List Stored) → length xs ≤ prefix_len (is_other e) xs
     → (others e (plain_all xs) ≡ plain_all xs) × (entered (plain_all xs) e ≡ plain_all xs ++ e ∷ [])
 none_same e [] past = (refl, refl)
 none_same e (x ∷ xs) past =
     none_step (is_same e (plain_stored x)) e (plain_stored x) (plain_all xs) (length xs) (prefix_len (is_other e) xs) past (none_same e xs)
 
 -- where there is no entry of the same name and level, none is taken out and the new one goes last
-pub absent : (e : PlainEntry) (xs : List Stored) → place e xs ≡ None
+pub absent : (e : DatesEntry) (xs : List Stored) → place e xs ≡ None
     → (others e (plain_all xs) ≡ plain_all xs) × (entered (plain_all xs) e ≡ plain_all xs ++ e ∷ [])
 absent e xs none = none_same e xs (ltb-false _ _ (none_is _ _ none))
 
@@ -114,13 +114,13 @@ pub stored_entries : (xs : List Stored) → AreEntries (plain_all xs)
 stored_entries [] = tt
 stored_entries (x ∷ xs) = (record { name = x.name_in; level = x.level_in; date = x.date_in }, stored_entries xs)
 
-below_or_not : (b : Bool) (e : PlainEntry) (later : List PlainEntry) → e.date ≤ last_second → greatest (map (λ d. d.date) later) ≤ last_second
+below_or_not : (b : Bool) (e : DatesEntry) (later : List DatesEntry) → e.date ≤ last_second → greatest (map (λ d. d.date) later) ≤ last_second
     → greatest (map (λ d. d.date) (cond b (e ∷ later) later)) ≤ last_second
 below_or_not true e later here rest = omega arith
 below_or_not false e later here rest = rest
 
 -- no base date of entries is later than the last second
-pub base_bound : (entries : List PlainEntry) (name : List ℕ) (level : ℕ) → AreEntries entries → base_of entries name level ≤ last_second
+pub base_bound : (entries : List DatesEntry) (name : List ℕ) (level : ℕ) → AreEntries entries → base_of entries name level ≤ last_second
 base_bound [] name level h = omega arith
 base_bound (e ∷ entries) name level h =
     below_or_not (is_below name level e) e (filter (is_below name level) entries) h.0.date (base_bound entries name level h.1)

@@ -10,7 +10,7 @@ use Rattle.std.proofs.lemmas.List.Splits.{slice_split_at}
 use Rattle.std.proofs.lemmas.Str.Parse.{digit_from_value}
 use Rattle.jiff_core.specs.Calendar.{weekday_number}
 use Rattle.jiff_core.proofs.CalendarLemmas.{weekday_number_bound}
-use Rattle.dumpdates.specs.Entry.{PlainEntry, IsEntry, AreEntries}
+use Rattle.dumpdates.specs.Entry.{DatesEntry, IsEntry, AreEntries}
 use Rattle.dumpdates.specs.Lines.{lines_of, SpellLines, SpellsDates}
 use Rattle.dumpdates.specs.Moment.{PlainMoment, moment_of}
 use Rattle.dumpdates.specs.Names.{weekday_names, month_names, weekday_name, month_name}
@@ -71,7 +71,7 @@ visible_time m =
     visible_joined (two_digits m.hour) (colon ∷ (two_digits m.minute ++ (colon ∷ two_digits m.second))) (visible_two m.hour)
     (omega arith, visible_joined (two_digits m.minute) (colon ∷ two_digits m.second) (visible_two m.minute) (omega arith, visible_two m.second))
 
-visible_date : (e : PlainEntry) → IsEntry e → AllVisible (ctime_text e.date)
+visible_date : (e : DatesEntry) → IsEntry e → AllVisible (ctime_text e.date)
 unfolding ctime_text
 visible_date e i =
     let m = moment_of e.date in
@@ -86,7 +86,7 @@ visible_date e i =
     visible_joined (weekday_name (e.date / 86400)) (space ∷ (month_name m.month ++ day)) (visible_weekday (e.date / 86400))
     (omega arith, visible_joined (month_name m.month) day (visible_month m.month is.day.1) visible_days)
 
-visible_front : (e : PlainEntry) → IsEntry e → AllVisible (line_front e)
+visible_front : (e : DatesEntry) → IsEntry e → AllVisible (line_front e)
 visible_front e i =
     visible_joined (padded e.name) (space ∷ digit e.level ∷ space ∷ ctime_text e.date)
     (visible_joined e.name (replicate (32 - length e.name) space) (visible_name e.name i.name.1) (visible_spaces (32 - length e.name)))
@@ -97,7 +97,7 @@ no_line_feed [] h = tt
 no_line_feed (b ∷ text) h = (ne_eqb b line_feed (λ e. let low = h.0 in absurd (omega arith)), no_line_feed text h.1)
 
 -- the line of an entry is the first line
-first_line_written : (e : PlainEntry) (later : List ℕ) → IsEntry e → lines_of (line_text e ++ later) ≡ line_front e ∷ lines_of later
+first_line_written : (e : DatesEntry) (later : List ℕ) → IsEntry e → lines_of (line_text e ++ later) ≡ line_front e ∷ lines_of later
 unfolding line_text
 first_line_written e later i =
     let p = λ (b : ℕ). eqb b line_feed in
@@ -107,7 +107,7 @@ first_line_written e later i =
     ap lines_of same ∙ slice_split_at p front line_feed later (All-from_recursion (λ b. p b ≡ false) front (no_line_feed front (visible_front e i))) refl
 
 -- what is written of entries spells them
-pub written_spells : (entries : List PlainEntry) → AreEntries entries → SpellsDates (written entries) entries
+pub written_spells : (entries : List DatesEntry) → AreEntries entries → SpellsDates (written entries) entries
 written_spells [] h = inl (tt, refl)
 written_spells (e ∷ entries) h =
     subst (λ l. SpellLines l (e ∷ entries)) (sym (first_line_written e (written entries) h.0))

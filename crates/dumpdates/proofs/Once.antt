@@ -1,10 +1,10 @@
 -- A text spells one list of entries at most, or has one first bad line.
 use Rattle.std.proofs.Common.{◌≡◌, ◌⊎◌, ℕ, suc, zero, ◌-◌, ◌<◌, Bool, List, [], ◌∷◌, ◌++◌, length, get_or, position, Some, bytes_eq, refl, sym, ap, ◌∙◌, subst, arith, inl, inr}
 use Rattle.std.proofs.lemmas.Bool.{both_ways, not-true}
-use Rattle.dumpdates.specs.Entry.{PlainEntry}
+use Rattle.dumpdates.specs.Entry.{DatesEntry}
 use Rattle.dumpdates.specs.Front.{first_word, after_word}
 use Rattle.dumpdates.specs.Line.{is_space, AreSpaces, PlainWords, PlainFields, SpellsDigits, SpellsMonth, SpellsWords, HasShape, SpellsLine, IsBadLine, IsBadDate}
-use Rattle.dumpdates.specs.Lines.{lines_of, SpellLines, SpellsDates, IsReached, HasFault}
+use Rattle.dumpdates.specs.Lines.{lines_of, SpellLines, SpellsDates, IsReached, HasDatesFault}
 use Rattle.dumpdates.specs.Moment.{IsMoment, seconds_at}
 use Rattle.dumpdates.specs.Names.{month_names, month_name}
 use Rattle.dumpdates.specs.declared.fault.DatesFault.{DatesFault}
@@ -89,13 +89,13 @@ one_shape line f g h k =
     let t = shape_words line g k in
     one_meaning s.0 f g s.2 (subst (λ w. SpellsWords w g) (some_same t.0 s.0 (sym t.1 ∙ s.1)) t.2)
 
-one_entry : (line : List ℕ) (d e : PlainEntry) → SpellsLine line d → SpellsLine line e → d ≡ e
+one_entry : (line : List ℕ) (d e : DatesEntry) → SpellsLine line d → SpellsLine line e → d ≡ e
 one_entry line d e s t =
-    let named : PlainFields → PlainEntry = λ f. record { name = f.name; level = f.level; date = seconds_at f.moment } in
+    let named : PlainFields → DatesEntry = λ f. record { name = f.name; level = f.level; date = seconds_at f.moment } in
     s.3 ∙ ap named (one_shape line s.0 t.0 s.1 t.1) ∙ sym t.3
 
 -- lines spell one list of entries at most
-one_list : (lines : List (List ℕ)) (es fs : List PlainEntry) → SpellLines lines es → SpellLines lines fs → es ≡ fs
+one_list : (lines : List (List ℕ)) (es fs : List DatesEntry) → SpellLines lines es → SpellLines lines fs → es ≡ fs
 one_list [] es fs s t = s ∙ sym t
 one_list (line ∷ lines) es fs (inl s) (inl t) = one_list lines es fs s.1 t.1
 one_list (line ∷ lines) es fs (inl s) (inr t) = absurd (blank_no_shape line t.2.0 s.0 t.2.1)
@@ -105,12 +105,12 @@ one_list (line ∷ lines) es fs (inr s) (inr t) =
     let rest = one_list lines s.1 t.1 s.4 t.4 in
     s.3 ∙ ap (λ e. e ∷ s.1) first ∙ ap (λ r. t.0 ∷ r) rest ∙ sym t.3
 
-pub one_text : (bytes : List ℕ) (es fs : List PlainEntry) → SpellsDates bytes es → SpellsDates bytes fs → es ≡ fs
+pub one_text : (bytes : List ℕ) (es fs : List DatesEntry) → SpellsDates bytes es → SpellsDates bytes fs → es ≡ fs
 one_text bytes es fs s t = one_list (lines_of bytes) es fs s t
 
 -- neither blank nor an entry
 IsBad : List ℕ → Type 0
-IsBad line = (AreSpaces line → ⊥) × ((e : PlainEntry) → SpellsLine line e → ⊥)
+IsBad line = (AreSpaces line → ⊥) × ((e : DatesEntry) → SpellsLine line e → ⊥)
 
 bad_line : (line : List ℕ) → IsBadLine line → IsBad line
 unfolding IsBad
@@ -121,16 +121,16 @@ unfolding IsBad
 bad_date line b =
     (λ blank. blank_no_shape line b.0 blank b.1, λ e s. b.2 (subst (λ f. IsMoment f.moment) (one_shape line s.0 b.0 s.1 b.1) s.2))
 
-good_line : (line : List ℕ) (lines : List (List ℕ)) (es : List PlainEntry) → SpellLines (line ∷ lines) es → IsBad line → ⊥
+good_line : (line : List ℕ) (lines : List (List ℕ)) (es : List DatesEntry) → SpellLines (line ∷ lines) es → IsBad line → ⊥
 unfolding IsBad
 good_line line lines es (inl s) bad = bad.0 s.0
 good_line line lines es (inr s) bad = bad.1 s.0 s.2
 
-later_good : (line : List ℕ) (lines : List (List ℕ)) (es : List PlainEntry) → SpellLines (line ∷ lines) es → (later : List PlainEntry) × SpellLines lines later
+later_good : (line : List ℕ) (lines : List (List ℕ)) (es : List DatesEntry) → SpellLines (line ∷ lines) es → (later : List DatesEntry) × SpellLines lines later
 later_good line lines es (inl s) = (es, s.1)
 later_good line lines es (inr s) = (s.1, s.4)
 
-no_bad_line : (before : List (List ℕ)) (line : List ℕ) (after : List (List ℕ)) (es : List PlainEntry) → SpellLines (before ++ line ∷ after) es → IsBad line → ⊥
+no_bad_line : (before : List (List ℕ)) (line : List ℕ) (after : List (List ℕ)) (es : List DatesEntry) → SpellLines (before ++ line ∷ after) es → IsBad line → ⊥
 no_bad_line [] line after es s bad = good_line line after es s bad
 no_bad_line (first ∷ before) line after es s bad =
     let later = later_good first (before ++ line ∷ after) es s in
@@ -140,7 +140,7 @@ heads : (a b : List ℕ) (more rest : List (List ℕ)) → a ∷ more ≡ b ∷ 
 heads a b more rest e = (cc, cc)
 
 -- the first bad line is one
-first_bad : (before other : List (List ℕ)) (line bad : List ℕ) (after behind : List (List ℕ)) (es fs : List PlainEntry)
+first_bad : (before other : List (List ℕ)) (line bad : List ℕ) (after behind : List (List ℕ)) (es fs : List DatesEntry)
     → before ++ line ∷ after ≡ other ++ bad ∷ behind → SpellLines before es → SpellLines other fs → IsBad line → IsBad bad → (length before ≡ length other) × (line ≡ bad)
 first_bad [] [] line bad after behind es fs e s t b c = (refl, (heads line bad after behind e).0)
 first_bad [] (first ∷ other) line bad after behind es fs e s t b c =
@@ -153,7 +153,7 @@ first_bad (first ∷ before) (next ∷ other) line bad after behind es fs e s t 
     (ap suc rest.0, rest.1)
 
 -- a text that spells entries has no bad line
-pub spelled_no_fault : (bytes : List ℕ) (es : List PlainEntry) (fault : DatesFault) → SpellsDates bytes es → HasFault bytes fault → fault ≡ OutOfMemory
+pub spelled_no_fault : (bytes : List ℕ) (es : List DatesEntry) (fault : DatesFault) → SpellsDates bytes es → HasDatesFault bytes fault → fault ≡ OutOfMemory
 spelled_no_fault bytes es (BadLine n) s h = absurd (no_bad_line h.before h.line h.after es (subst (λ l. SpellLines l es) h.split s) (bad_line h.line h.kind))
 spelled_no_fault bytes es (BadDate n) s h = absurd (no_bad_line h.before h.line h.after es (subst (λ l. SpellLines l es) h.split s) (bad_date h.line h.kind))
 spelled_no_fault bytes es OutOfMemory s h = refl
@@ -167,7 +167,7 @@ same_place P Q bytes m n h k b c =
     (omega arith, same.1)
 
 -- and it has one first bad line at most
-pub one_fault : (bytes : List ℕ) (fault other : DatesFault) → HasFault bytes fault → HasFault bytes other → (fault ≡ other) ⊎ ((fault ≡ OutOfMemory) ⊎ (other ≡ OutOfMemory))
+pub one_fault : (bytes : List ℕ) (fault other : DatesFault) → HasDatesFault bytes fault → HasDatesFault bytes other → (fault ≡ other) ⊎ ((fault ≡ OutOfMemory) ⊎ (other ≡ OutOfMemory))
 one_fault bytes OutOfMemory other h k = inr (inl refl)
 one_fault bytes (BadLine m) OutOfMemory h k = inr (inr refl)
 one_fault bytes (BadDate m) OutOfMemory h k = inr (inr refl)

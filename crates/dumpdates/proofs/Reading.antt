@@ -5,15 +5,15 @@ use Rattle.std.proofs.lemmas.Bool.{cases_lt}
 use Rattle.std.proofs.lemmas.List.{take_all}
 use Rattle.std.proofs.lemmas.List.Splits.{slice_split_first, slice_split_none}
 use Rattle.std.proofs.lemmas.List.Sums.{fails_before_first, prefix_len-le-length}
-use Rattle.dumpdates.specs.Entry.{PlainEntry}
+use Rattle.dumpdates.specs.Entry.{DatesEntry}
 use Rattle.dumpdates.specs.Found.{IsAdded, IsRefused}
-use Rattle.dumpdates.specs.Lines.{lines_of, SpellLines, SpellsDates, HasFault}
+use Rattle.dumpdates.specs.Lines.{lines_of, SpellLines, SpellsDates, HasDatesFault}
 use Rattle.dumpdates.specs.Text.{line_feed}
 use Rattle.dumpdates.specs.declared.fault.DatesFault.{DatesFault}
 use Rattle.dumpdates.specs.declared.fault.DatesFault.TheVariants.{BadLine, BadDate, OutOfMemory}
 
 -- the lines before the rest are these entries, and the first of the rest has this number
-pub record HasRead (bytes rest : List ℕ) (number : ℕ) (entries : List PlainEntry) : Type 0 where
+pub record HasRead (bytes rest : List ℕ) (number : ℕ) (entries : List DatesEntry) : Type 0 where
   pub before : List (List ℕ)
   pub split : lines_of bytes ≡ before ++ lines_of rest
   pub count : number ≡ length before + 1
@@ -44,7 +44,7 @@ some_line text len is =
     ]
 
 -- one line more
-pub good_more : (before : List (List ℕ)) (line : List ℕ) (old new : List PlainEntry) → SpellLines before old → IsAdded line old new → SpellLines (before ++ line ∷ []) new
+pub good_more : (before : List (List ℕ)) (line : List ℕ) (old new : List DatesEntry) → SpellLines before old → IsAdded line old new → SpellLines (before ++ line ∷ []) new
 good_more [] line old new good (inl blank) = inl (blank.0, blank.1 ∙ good)
 good_more [] line old new good (inr entry) = inr (entry.0, [], entry.1, entry.2 ∙ ap (λ o. o ++ entry.0 ∷ []) good, refl)
 good_more (first ∷ before) line old new (inl blank) added = inl (blank.0, good_more before line old new blank.1 added)
@@ -53,7 +53,7 @@ good_more (first ∷ before) line old new (inr entry) (inl blank) =
 good_more (first ∷ before) line old new (inr entry) (inr last) =
     inr (entry.0, entry.1 ++ last.0 ∷ [], entry.2, last.2 ∙ ap (λ o. o ++ last.0 ∷ []) entry.3, good_more before line entry.1 (entry.1 ++ last.0 ∷ []) entry.4 (inr (last.0, last.1, refl)))
 
-pub line_read : (bytes rest : List ℕ) (number len : ℕ) (old new : List PlainEntry) → HasRead bytes rest number old
+pub line_read : (bytes rest : List ℕ) (number len : ℕ) (old new : List DatesEntry) → HasRead bytes rest number old
     → len ≡ position_or_len (λ b. eqb b line_feed) rest → len < length rest → IsAdded (take len rest) old new → HasRead bytes (drop (len + 1) rest) (number + 1) new
 line_read bytes rest number len old new h is within added =
     record {
@@ -63,14 +63,14 @@ line_read bytes rest number len old new h is within added =
       good = good_more h.before (take len rest) old new h.good added;
     }
 
-pub all_read : (bytes rest : List ℕ) (number len : ℕ) (old new : List PlainEntry) → HasRead bytes rest number old
+pub all_read : (bytes rest : List ℕ) (number len : ℕ) (old new : List DatesEntry) → HasRead bytes rest number old
     → len ≡ position_or_len (λ b. eqb b line_feed) rest → len ≡ length rest → IsAdded (take len rest) old new → SpellsDates bytes new
 all_read bytes rest number len old new h is all added =
     let lines : lines_of bytes ≡ h.before ++ take len rest ∷ [] = h.split ∙ ap (λ l. h.before ++ l) (only_line rest len is all) in
     subst (λ l. SpellLines l new) (sym lines) (good_more h.before (take len rest) old new h.good added)
 
-pub line_refused : (bytes rest : List ℕ) (number len : ℕ) (old : List PlainEntry) (fault : DatesFault) → HasRead bytes rest number old
-    → len ≡ position_or_len (λ b. eqb b line_feed) rest → IsRefused (take len rest) number fault → HasFault bytes fault
+pub line_refused : (bytes rest : List ℕ) (number len : ℕ) (old : List DatesEntry) (fault : DatesFault) → HasRead bytes rest number old
+    → len ≡ position_or_len (λ b. eqb b line_feed) rest → IsRefused (take len rest) number fault → HasDatesFault bytes fault
 line_refused bytes rest number len old (BadLine k) h is r =
     let some = some_line rest len is in
     record { before = h.before; line = take len rest; after = some.0; entries = old; split = h.split ∙ ap (λ l. h.before ++ l) some.1; number = r.0 ∙ h.count; good = h.good; kind = r.1 }

@@ -9,7 +9,7 @@ use Rattle.std.proofs.lemmas.List.Elements.{All-from_recursion}
 use Rattle.std.proofs.lemmas.Str.{IsUtf8-from_ascii}
 use Rattle.std.proofs.lemmas.Str.Ascii.{IsAscii-from_all}
 use Rattle.std.proofs.lemmas.Str.Parse.{digit_from_value}
-use Rattle.dumpdates.specs.Entry.{PlainEntry, IsName, IsEntry}
+use Rattle.dumpdates.specs.Entry.{DatesEntry, IsName, IsEntry}
 use Rattle.dumpdates.specs.Front.{words_of}
 use Rattle.dumpdates.specs.Line.{is_space, AreSpaces, PlainWords, word_list, PlainFields, SpellsDigits, IsWeekday, SpellsMonth, SpellsTime, SpellsWords, HasShape, SpellsLine}
 use Rattle.dumpdates.specs.Names.{weekday_names, month_names, month_name}
@@ -157,7 +157,7 @@ pub not_blank : (line : List ℕ) → list_all is_space line ≡ false → AreSp
 not_blank line f s = both_ways _ f (test_from_all is_space line s)
 
 -- an entry that a line spells is one
-pub spelled_is_entry : (line : List ℕ) (e : PlainEntry) → SpellsLine line e → IsEntry e
+pub spelled_is_entry : (line : List ℕ) (e : DatesEntry) → SpellsLine line e → IsEntry e
 spelled_is_entry line e s =
     let f = s.0 in
     let w = s.1.0 in

@@ -4,7 +4,7 @@ use Rattle.std.specs.Int.{IsInRange}
 use Rattle.std.specs.List.{AllByRecursion}
 
 -- a file system's name, the level of its dump, and the date of that dump in seconds since 1970 began, UTC
-pub record PlainEntry : Type 0 where
+pub record DatesEntry : Type 0 where
   pub name : List ℕ
   pub level : ℕ
   pub date : ℕ
@@ -17,11 +17,11 @@ IsName name = IsInRange 1 255 (length name) × AllByRecursion (IsInRange 33 126)
 abbrev pub last_second : ℕ
 last_second = 253402300799
 
-pub record IsEntry (e : PlainEntry) : Type 0 where
+pub record IsEntry (e : DatesEntry) : Type 0 where
   pub name : IsName e.name
   pub level : e.level ≤ 9
   pub date : e.date ≤ last_second
 
 -- a list of entries
-abbrev pub AreEntries : List PlainEntry → Type 0
+abbrev pub AreEntries : List DatesEntry → Type 0
 AreEntries entries = AllByRecursion IsEntry entries

@@ -1,6 +1,6 @@
 -- What was found in a line, as plain values.
 use Rattle.std.specs.Prelude.{◌≡◌, ◌⊎◌, ◌++◌, [], ◌∷◌, List, ℕ, Option, Some, None, Result, Ok, Err}
-use Rattle.dumpdates.specs.Entry.{PlainEntry}
+use Rattle.dumpdates.specs.Entry.{DatesEntry}
 use Rattle.dumpdates.specs.Clock.{plain_moment}
 use Rattle.dumpdates.specs.Line.{PlainWords, PlainFields, AreSpaces, SpellsLine, IsBadLine, IsBadDate}
 use Rattle.dumpdates.specs.Lines.{IsEntryLine}
@@ -26,7 +26,7 @@ plain_words w = record {
 abbrev pub plain_fields : Fields → PlainFields
 plain_fields f = record { name = f.name.now; level = f.level; moment = plain_moment f.moment }
 
-abbrev pub plain_found : Found → PlainEntry
+abbrev pub plain_found : Found → DatesEntry
 plain_found e = record { name = e.name.now; level = e.level; date = e.date }
 
 -- what a line was found to be
@@ -37,8 +37,8 @@ IsFound line (Err BadShape) = IsBadLine line
 IsFound line (Err NoDate) = IsBadDate line
 
 -- a line that was read: nothing for a blank one, or its entry at the end
-abbrev pub IsAdded : List ℕ → List PlainEntry → List PlainEntry → Type 0
-IsAdded line before now = (AreSpaces line × (now ≡ before)) ⊎ ((e : PlainEntry) × SpellsLine line e × (now ≡ before ++ e ∷ []))
+abbrev pub IsAdded : List ℕ → List DatesEntry → List DatesEntry → Type 0
+IsAdded line before now = (AreSpaces line × (now ≡ before)) ⊎ ((e : DatesEntry) × SpellsLine line e × (now ≡ before ++ e ∷ []))
 
 -- why the line numbered n was not read
 abbrev pub IsRefused : List ℕ → ℕ → DatesFault → Type 0

@@ -3,7 +3,7 @@ use Rattle.std.specs.Prelude.{◌≡◌, ℕ, ◌<◌, Bool, true, ◌==◌, ◌
 use Rattle.std.specs.Int.{IsInRange}
 use Rattle.std.specs.List.{AllByRecursion}
 use Rattle.std.specs.Str.Parse.{AllDigits, digits_value}
-use Rattle.dumpdates.specs.Entry.{PlainEntry, IsName}
+use Rattle.dumpdates.specs.Entry.{DatesEntry, IsName}
 use Rattle.dumpdates.specs.Moment.{PlainMoment, IsMoment, seconds_at}
 use Rattle.dumpdates.specs.Names.{weekday_names, month_name}
 use Rattle.dumpdates.specs.Text.{space, colon}
@@ -98,7 +98,7 @@ abbrev pub HasShape : List ℕ → PlainFields → Type 0
 HasShape line f = (w : PlainWords) × IsLineOf line (word_list w) × SpellsWords w f
 
 -- the line is this entry: it has the shape, and its date is one
-abbrev pub SpellsLine : List ℕ → PlainEntry → Type 0
+abbrev pub SpellsLine : List ℕ → DatesEntry → Type 0
 SpellsLine line e =
     (f : PlainFields) × HasShape line f × IsMoment f.moment × (e ≡ record { name = f.name; level = f.level; date = seconds_at f.moment })
 

@@ -1,7 +1,7 @@
 -- How dumpdates is read: line by line.
 use Rattle.std.specs.Prelude.{◌≡◌, ◌⊎◌, ℕ, ◌+◌, ◌==◌, List, [], ◌∷◌, ◌++◌, length}
 use Rattle.std.specs.List.{slice_split}
-use Rattle.dumpdates.specs.Entry.{PlainEntry}
+use Rattle.dumpdates.specs.Entry.{DatesEntry}
 use Rattle.dumpdates.specs.Line.{AreSpaces, SpellsLine, IsBadLine, IsBadDate}
 use Rattle.dumpdates.specs.Text.{line_feed}
 use Rattle.dumpdates.specs.declared.fault.DatesFault.{DatesFault}
@@ -12,14 +12,14 @@ abbrev pub lines_of : List ℕ → List (List ℕ)
 lines_of bytes = slice_split (λ b. b == line_feed) bytes
 
 -- each line is blank, and skipped, or the next entry
-abbrev pub SpellLines : List (List ℕ) → List PlainEntry → Type 0
+abbrev pub SpellLines : List (List ℕ) → List DatesEntry → Type 0
 SpellLines [] entries = entries ≡ []
 SpellLines (line ∷ lines) entries =
     (AreSpaces line × SpellLines lines entries)
-    ⊎ ((e : PlainEntry) × (later : List PlainEntry) × SpellsLine line e × (entries ≡ e ∷ later) × SpellLines lines later)
+    ⊎ ((e : DatesEntry) × (later : List DatesEntry) × SpellsLine line e × (entries ≡ e ∷ later) × SpellLines lines later)
 
 -- the text spells these entries
-abbrev pub SpellsDates : List ℕ → List PlainEntry → Type 0
+abbrev pub SpellsDates : List ℕ → List DatesEntry → Type 0
 SpellsDates bytes entries = SpellLines (lines_of bytes) entries
 
 -- the line numbered n, counted from 1, is one of these, and all lines before it are blank or entries
@@ -27,7 +27,7 @@ pub record IsReached (Kind : List ℕ → Type 0) (bytes : List ℕ) (n : ℕ) :
   pub before : List (List ℕ)
   pub line : List ℕ
   pub after : List (List ℕ)
-  pub entries : List PlainEntry
+  pub entries : List DatesEntry
   pub split : lines_of bytes ≡ before ++ line ∷ after
   pub number : n ≡ length before + 1
   pub good : SpellLines before entries
@@ -35,10 +35,10 @@ pub record IsReached (Kind : List ℕ → Type 0) (bytes : List ℕ) (n : ℕ) :
 
 -- the line is an entry
 abbrev pub IsEntryLine : List ℕ → Type 0
-IsEntryLine line = (e : PlainEntry) × SpellsLine line e
+IsEntryLine line = (e : DatesEntry) × SpellsLine line e
 
 -- The text has this fault: the first bad line, by its number and its kind. Memory is wanted where an entry is reached.
-abbrev pub HasFault : List ℕ → DatesFault → Type 0
-HasFault bytes (BadLine n) = IsReached IsBadLine bytes n
-HasFault bytes (BadDate n) = IsReached IsBadDate bytes n
-HasFault bytes OutOfMemory = (n : ℕ) × IsReached IsEntryLine bytes n
+abbrev pub HasDatesFault : List ℕ → DatesFault → Type 0
+HasDatesFault bytes (BadLine n) = IsReached IsBadLine bytes n
+HasDatesFault bytes (BadDate n) = IsReached IsBadDate bytes n
+HasDatesFault bytes OutOfMemory = (n : ℕ) × IsReached IsEntryLine bytes n

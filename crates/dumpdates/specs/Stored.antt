@@ -1,19 +1,19 @@
 -- Entries in memory, as the plain entries that they are.
 use Rattle.std.specs.Prelude.{Bool, not, List, map}
-use Rattle.dumpdates.specs.Entry.{PlainEntry}
+use Rattle.dumpdates.specs.Entry.{DatesEntry}
 use Rattle.dumpdates.specs.Dates.{is_same}
 use Rattle.dumpdates.specs.declared.entry.Entry.{Entry}
 use Rattle.dumpdates.specs.declared.stored.Stored.{Stored}
 
-abbrev pub plain_entry : Entry → PlainEntry
+abbrev pub plain_entry : Entry → DatesEntry
 plain_entry e = record { name = e.name.now; level = e.level; date = e.date }
 
-abbrev pub plain_stored : Stored → PlainEntry
+abbrev pub plain_stored : Stored → DatesEntry
 plain_stored e = record { name = e.name.items; level = e.level; date = e.date }
 
-abbrev pub plain_all : List Stored → List PlainEntry
+abbrev pub plain_all : List Stored → List DatesEntry
 plain_all entries = map plain_stored entries
 
 -- an entry of another name or level
-abbrev pub is_other : PlainEntry → Stored → Bool
+abbrev pub is_other : DatesEntry → Stored → Bool
 is_other e s = not (is_same e (plain_stored s))

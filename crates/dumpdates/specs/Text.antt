@@ -1,6 +1,6 @@
 -- How dumpdates is written: a line for each entry, with its date as ctime(3) has it.
 use Rattle.std.specs.Prelude.{ℕ, ◌+◌, ◌-◌, ◌/◌, ◌%◌, if◌then◌else◌, nat_lt, List, [], ◌∷◌, ◌++◌, length, replicate, flat_map, decimal}
-use Rattle.dumpdates.specs.Entry.{PlainEntry}
+use Rattle.dumpdates.specs.Entry.{DatesEntry}
 use Rattle.dumpdates.specs.Moment.{PlainMoment, moment_of}
 use Rattle.dumpdates.specs.Names.{weekday_name, month_name}
 
@@ -41,9 +41,9 @@ abbrev pub padded : List ℕ → List ℕ
 padded name = name ++ replicate (32 - length name) space
 
 -- the name, a space, the level, a space, the date, and the end of the line
-unfoldable pub line_text : PlainEntry → List ℕ
+unfoldable pub line_text : DatesEntry → List ℕ
 line_text e = padded e.name ++ (space ∷ digit e.level ∷ space ∷ (ctime_text e.date ++ line_feed ∷ []))
 
 -- the one text that is written of these entries
-abbrev pub written : List PlainEntry → List ℕ
+abbrev pub written : List DatesEntry → List ℕ
 written entries = flat_map line_text entries

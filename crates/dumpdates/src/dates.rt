@@ -1,7 +1,7 @@
 ghost use Rattle.std.specs.Prelude.{◌≡◌, ◌≤◌, [], List, length, slice_get, option_map, IsOk, IfOk, OnOk, OnErr, IfErr, MatchResult};
 ghost use Rattle.dumpdates.specs.Dates as spec;
-ghost use Rattle.dumpdates.specs.Entry.{PlainEntry, AreEntries, last_second};
-ghost use Rattle.dumpdates.specs.Lines.{SpellsDates, HasFault};
+ghost use Rattle.dumpdates.specs.Entry.{DatesEntry, AreEntries, last_second};
+ghost use Rattle.dumpdates.specs.Lines.{SpellsDates, HasDatesFault};
 ghost use Rattle.dumpdates.specs.Stored.{plain_entry};
 ghost use Rattle.dumpdates.specs.Text.{written};
 ghost use Rattle.dumpdates.specs.declared.fault.DatesFault.TheVariants.{OutOfMemory};
@@ -25,10 +25,10 @@ pub struct Dates {
 
 impl Model for Dates {
     ghost use Rattle.std.specs.Prelude.{List};
-    ghost use Rattle.dumpdates.specs.Entry.{PlainEntry};
+    ghost use Rattle.dumpdates.specs.Entry.{DatesEntry};
     ghost use Rattle.dumpdates.specs.Stored.{plain_all};
 
-    ghost Value = { List PlainEntry };
+    ghost Value = { List DatesEntry };
 
     ghost view = { λ d. plain_all d.entries.items };
 }
@@ -55,8 +55,9 @@ impl Dates {
     /// refused for an entry while no line up to it is bad.
     pub fn read(alloc: Global, bytes: &[u8]) -> Result<Dates, DatesFault>
         ensures spelled { IfOk result (λ dates. SpellsDates bytes.now dates) }
-        ensures only { (entries : List PlainEntry) → SpellsDates bytes.now entries → MatchResult result (λ dates. dates ≡ entries) (λ fault. fault ≡ OutOfMemory) }
-        ensures fault { IfErr result (λ fault. HasFault bytes.now fault) }
+        ensures only { (entries : List DatesEntry) → SpellsDates bytes.now entries →
+            MatchResult result (λ dates. dates ≡ entries) (λ fault. fault ≡ OutOfMemory) }
+        ensures fault { IfErr result (λ fault. HasDatesFault bytes.now fault) }
     {
         let mut entries = Vec::new(alloc);
         let mut rest = bytes;

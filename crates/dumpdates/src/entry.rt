@@ -1,4 +1,4 @@
-ghost use Rattle.std.specs.Prelude.{◌≡◌, ◌↔◌, ◌≤◌, IsTrue};
+ghost use Rattle.std.specs.Prelude.{◌≡◌, ◌↔◌, ◌≤◌, IsTrue, IsUtf8};
 ghost use Rattle.std.proofs.Props.{props};
 ghost use Rattle.dumpdates.specs.Entry.{IsName, last_second};
 
@@ -30,8 +30,8 @@ impl<'a> Entry<'a> {
     ghost use Rattle.dumpdates.specs.Entry.{IsEntry};
     ghost use Rattle.dumpdates.specs.Stored.{plain_entry};
 
-    /// The entry with this name, level and date. None where the name is not 1 to 255 bytes of printed ASCII without a
-    /// space, the level is above 9, or the date above `LAST_SECOND`.
+    /// The entry with this name, level and date. None where the name is none that `is_name` takes, the level is above 9,
+    /// or the date above `LAST_SECOND`.
     pub fn new(name: &'a str, level: u8, date: u64) -> Option<Entry<'a>>
         ensures given { IsSome result ↔ IsEntry (record { name = name.now; level = level; date = date }) }
         ensures value { IfSome result (λ e. plain_entry e ≡ record { name = name.now; level = level; date = date }) }
@@ -43,9 +43,11 @@ impl<'a> Entry<'a> {
     }
 }
 
-/// Whether the bytes are a name.
-pub(crate) fn is_name(name: &[u8]) -> bool
-    ensures { IsTrue result ↔ IsName name.now }
+/// Whether the bytes are a name of a file system: 1 to 255 bytes of printed ASCII without a space. Such bytes are text.
+#[tactic(auto, using(crate::proofs::Shapes::name_is_text))]
+pub fn is_name(name: &[u8]) -> bool
+    ensures name { IsTrue result ↔ IsName name.now }
+    ensures text { IsName name.now → IsUtf8 name.now }
 {
     !name.is_empty() && name.len() <= NAME_LIMIT && name.iter().all(|b| b.is_ascii_graphic())
 }

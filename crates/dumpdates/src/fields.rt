@@ -19,7 +19,8 @@ pub(crate) struct Fields<'a> {
 
 /// What the words say. None where one of them has not its shape.
 pub(crate) fn fields_of(words: Words<'_>) -> Option<Fields<'_>>
-    ensures { MatchOption result ((f : PlainFields) → ¬ SpellsWords (plain_words words.entry) f) (λ f. SpellsWords (plain_words words.entry) (plain_fields f)) }
+    ensures { MatchOption result ((f : PlainFields) → ¬ SpellsWords (plain_words words.entry) f)
+        (λ f. SpellsWords (plain_words words.entry) (plain_fields f)) }
 {
     if !is_name(words.name) || !is_weekday(words.weekday) {
         return None;

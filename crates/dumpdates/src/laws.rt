@@ -1,7 +1,7 @@
 ghost use Rattle.std.specs.Prelude.{◌≡◌, ◌⊎◌, ℕ, ◌≤◌, List, [], ◌∷◌, filter};
 ghost use Rattle.dumpdates.specs.Dates.{is_same, others, entered};
-ghost use Rattle.dumpdates.specs.Entry.{PlainEntry, IsEntry, AreEntries, last_second};
-ghost use Rattle.dumpdates.specs.Lines.{SpellsDates, HasFault};
+ghost use Rattle.dumpdates.specs.Entry.{DatesEntry, IsEntry, AreEntries, last_second};
+ghost use Rattle.dumpdates.specs.Lines.{SpellsDates, HasDatesFault};
 ghost use Rattle.dumpdates.specs.Moment.{IsMoment, moment_of, seconds_at};
 ghost use Rattle.dumpdates.specs.Text.{written};
 ghost use Rattle.dumpdates.specs.declared.fault.DatesFault.{DatesFault};
@@ -12,15 +12,15 @@ ghost use Rattle.dumpdates.specs.declared.fault.DatesFault.TheVariants.{BadLine,
 ///
 /// It does nothing: its contract is a law of the definitions.
 pub fn one_reading()
-    ensures some { (bytes : List ℕ) → ((entries : List PlainEntry) × SpellsDates bytes entries)
-        ⊎ ((n : ℕ) × (HasFault bytes (BadLine n) ⊎ HasFault bytes (BadDate n))) }
-    ensures within { (bytes : List ℕ) (entries : List PlainEntry) → SpellsDates bytes entries → AreEntries entries }
-    ensures entries { (bytes : List ℕ) (entries others : List PlainEntry) →
+    ensures some { (bytes : List ℕ) → ((entries : List DatesEntry) × SpellsDates bytes entries)
+        ⊎ ((n : ℕ) × (HasDatesFault bytes (BadLine n) ⊎ HasDatesFault bytes (BadDate n))) }
+    ensures within { (bytes : List ℕ) (entries : List DatesEntry) → SpellsDates bytes entries → AreEntries entries }
+    ensures entries { (bytes : List ℕ) (entries others : List DatesEntry) →
         SpellsDates bytes entries → SpellsDates bytes others → entries ≡ others }
-    ensures no_fault { (bytes : List ℕ) (entries : List PlainEntry) (fault : DatesFault) →
-        SpellsDates bytes entries → HasFault bytes fault → fault ≡ OutOfMemory }
+    ensures no_fault { (bytes : List ℕ) (entries : List DatesEntry) (fault : DatesFault) →
+        SpellsDates bytes entries → HasDatesFault bytes fault → fault ≡ OutOfMemory }
     ensures fault { (bytes : List ℕ) (fault other : DatesFault) →
-        HasFault bytes fault → HasFault bytes other → (fault ≡ other) ⊎ ((fault ≡ OutOfMemory) ⊎ (other ≡ OutOfMemory)) }
+        HasDatesFault bytes fault → HasDatesFault bytes other → (fault ≡ other) ⊎ ((fault ≡ OutOfMemory) ⊎ (other ≡ OutOfMemory)) }
 {}
 
 /// What is written of entries spells just these entries: reading it gives the same list. The date that is written is the
@@ -28,7 +28,7 @@ pub fn one_reading()
 ///
 /// It does nothing: its contract is a law of the definitions.
 pub fn written_and_read()
-    ensures spelled { (entries : List PlainEntry) → AreEntries entries → SpellsDates (written entries) entries }
+    ensures spelled { (entries : List DatesEntry) → AreEntries entries → SpellsDates (written entries) entries }
     ensures moment { (date : ℕ) → date ≤ last_second → IsMoment (moment_of date) × (seconds_at (moment_of date) ≡ date) }
 {}
 
@@ -37,9 +37,9 @@ pub fn written_and_read()
 ///
 /// It does nothing: its contract is a law of the definitions.
 pub fn one_entry()
-    ensures one { (entries : List PlainEntry) (e : PlainEntry) → filter (is_same e) (entered entries e) ≡ e ∷ [] }
-    ensures stay { (entries : List PlainEntry) (e : PlainEntry) → others e (entered entries e) ≡ others e entries }
-    ensures again { (entries : List PlainEntry) (e : PlainEntry) → entered (entered entries e) e ≡ entered entries e }
-    ensures within { (entries : List PlainEntry) (e : PlainEntry) →
+    ensures one { (entries : List DatesEntry) (e : DatesEntry) → filter (is_same e) (entered entries e) ≡ e ∷ [] }
+    ensures stay { (entries : List DatesEntry) (e : DatesEntry) → others e (entered entries e) ≡ others e entries }
+    ensures again { (entries : List DatesEntry) (e : DatesEntry) → entered (entered entries e) e ≡ entered entries e }
+    ensures within { (entries : List DatesEntry) (e : DatesEntry) →
         AreEntries entries → IsEntry e → AreEntries (entered entries e) }
 {}

@@ -23,6 +23,6 @@ mod words;
 mod writer;
 
 pub use dates::Dates;
-pub use entry::{Entry, LAST_SECOND};
+pub use entry::{Entry, LAST_SECOND, is_name};
 pub use fault::DatesFault;
 pub use laws::{one_entry, one_reading, written_and_read};

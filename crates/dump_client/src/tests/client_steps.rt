@@ -1,4 +1,4 @@
-//! A client at each step of its attempts, against the plain program.
+//! A client at each step of its attempts, against the slow program.
 
 use super::talk::{BLOCKS, Counted, RUN, Talk, wanted_reply};
 use crate::slow::Answer::{A, E};
@@ -108,7 +108,7 @@ impl Attempt {
         }
     }
 
-    /// The client told this progress, and stands as the plain program says.
+    /// The client told this progress, and stands as the slow program says.
     fn check_next(self, rt: &impl Abort, talk: &mut Talk, progress: Progress, next: &Next) {
         match next {
             Next::Send(text) => {

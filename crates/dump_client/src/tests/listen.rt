@@ -1,5 +1,6 @@
 //! What is heard of bytes, in one piece and in many.
 ghost use Rattle.std.specs.Prelude.{ℕ, ◌<◌, [], IfOk};
+ghost use Rattle.rmt_wire.specs.Reply as kinds;
 ghost use Rattle.dump_client.specs.Listening.{IsWaiting};
 
 use crate::listen::{Listened, Said};
@@ -10,7 +11,7 @@ use std::test::Fail;
 
 /// A reader that waits for a number, to which nothing was pushed.
 fn waiting(alloc: Global) -> Result<ReplyReader, AllocError>
-    ensures { IfOk result (λ r. IsWaiting r []) }
+    ensures { IfOk result (λ r. IsWaiting kinds.Wanted.Number r []) }
 {
     let mut reader = ReplyReader::new(alloc)?;
     reader.expect(Wanted::Number);

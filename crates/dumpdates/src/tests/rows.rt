@@ -1,7 +1,9 @@
 //! Texts, entries and dates that were worked out by hand.
 
 use crate::slow::{dates_of, read, slow_list, text};
-use crate::{Dates, DatesFault, Entry, LAST_SECOND, one_entry, one_reading, written_and_read};
+use crate::{
+    Dates, DatesFault, Entry, LAST_SECOND, is_name, one_entry, one_reading, written_and_read,
+};
 use std::alloc::Global;
 use std::process::Abort;
 use std::test::Fail;
@@ -211,10 +213,21 @@ fn entries_within_their_limits(rt: HostRuntime) -> Result<(), Fail> {
 }
 
 #[test]
+fn names_that_are_some(rt: HostRuntime) {
+    for name in ["/usr", "!", "~", "!~", "a"] {
+        assert!(rt; is_name(name.as_bytes()), "{name}");
+        assert!(rt; Entry::new(name, 0, 0).is_some(), "{name}");
+    }
+}
+
+#[test]
 fn names_that_are_none(rt: HostRuntime) {
     for name in ["", " ", "a b", "a\t", "a\n", "\u{7f}", "\u{e9}"] {
-        assert!(rt; Entry::new(name, 0, 0).is_none());
+        assert!(rt; !is_name(name.as_bytes()), "{name}");
+        assert!(rt; Entry::new(name, 0, 0).is_none(), "{name}");
     }
+    assert!(rt; !is_name(&[255]));
+    assert!(rt; !is_name(&[b'a', 0]));
 }
 
 #[test]
@@ -224,7 +237,9 @@ fn names_of_255_and_256_bytes(rt: HostRuntime) -> Result<(), Fail> {
         long.push('n')?;
     }
     let longest = long.get(..255).ok_or("255 bytes")?;
+    assert!(rt; is_name(longest.as_bytes()));
     assert!(rt; Entry::new(longest, 9, LAST_SECOND).is_some());
+    assert!(rt; !is_name(long.as_bytes()));
     assert!(rt; Entry::new(&long, 0, 0).is_none());
     Ok(())
 }

@@ -1,6 +1,6 @@
 use Rattle.std.proofs.Common.{◌≡◌, ℕ, ◌∙◌, ap, refl, sym}
 use Rattle.std.proofs.lemmas.Bool.{false≢true}
-use Rattle.dumpdates.specs.Entry.{PlainEntry}
+use Rattle.dumpdates.specs.Entry.{DatesEntry}
 use Rattle.dumpdates.specs.Moment.{seconds_at}
 use Rattle.dumpdates.specs.Found.{plain_words, plain_fields}
 use Rattle.dumpdates.specs.Line.{is_space}
@@ -30,6 +30,6 @@ pub returns : goal.returns
 returns c =
     let line = c.args.line.now in
     let f = plain_fields c.in-Some-fields_of.fields in
-    let e : ℕ → PlainEntry = λ date. record { name = f.name; level = f.level; date = date } in
+    let e : ℕ → DatesEntry = λ date. record { name = f.name; level = f.level; date = date } in
     let same : e c.in-Some-seconds_of.date ≡ e (seconds_at f.moment) = ap e c.in-Some-seconds_of.ensures.value in
     (f, words_shape line (plain_words c.in-Some.words) f (sym c.in-Some.ensures) c.in-Some-fields_of.ensures, c.in-Some-seconds_of.ensures.given.0 refl, same)
