@@ -7,10 +7,13 @@ use Rattle.tape.specs.declared.reel.Reel.{Ghosts as ReelPromise}
 use Rattle.drives.specs.Local.{Holders}
 use Rattle.drives.specs.contracts.local.LocalHoldsHolds.TheImpl as LocalHoldsPromise
 use Rattle.drives.specs.declared.stacks.Stacks.{Ghosts as StacksPromise}
-use Rattle.rmt_server.specs.declared.session.opened.Opened.{Opened}
-use Rattle.rmt_server.specs.Carrying.{MayFail, IsAlone, ReelCanFail, reel_of}
+use Rattle.drives.specs.declared.view.View.{View}
+use Rattle.drives.specs.Opening.{Kinds, kinds}
+use Rattle.drives.specs.Stacking.{ReelCanFail}
+use Rattle.rmt_server.specs.State.{State, reel_of}
+use Rattle.rmt_server.specs.Carrying.{MayFail, IsAlone}
 use Rattle.rmt_server.specs.Session.{none}
-use Rattle.rmt_server.specs.Serving.{Exchange, EndsAs, NoneFailed}
+use Rattle.rmt_server.specs.Stream.{Exchange, EndsAs, NoneFailed}
 use Rattle.rmt_tools.specs.Stdio.{blank_scene, EndsWith, IsServedAlone}
 use Rattle.rmt_server.specs.declared.stream.Served.{Served}
 use Rattle.rmt_server.specs.declared.stream.ServeFault.{ServeFault}
@@ -25,10 +28,10 @@ ends_with remaining contents (Err Input) input input' output output' read done r
 ends_with remaining contents (Err Output) input input' output output' read done rest e f = inr (inl e)
 
 -- where nothing is open and no device of the stacks can fail, none can
-pub none_fails : {S R : Type 0} (s : StacksPromise S R) (r : ReelPromise R) (stacks : S) (opened : Option (Opened R))
-    → (s.can_fail stacks → ⊥) → opened ≡ None → MayFail s r stacks opened false
-none_fails s r stacks opened quiet e (inl f) = absurd (quiet f)
-none_fails s r stacks opened quiet e (inr f) = absurd (subst (λ o. ReelCanFail r (reel_of o)) e f)
+pub none_fails : {H S Seat R : Type 0} (k : Kinds H Seat S R) (x : State H S Seat R)
+    → (k.stacks.can_fail x.drives.stacks → ⊥) → x.opened ≡ None → MayFail k x false
+none_fails k x quiet e (inl f) = absurd (quiet f)
+none_fails k x quiet e (inr f) = absurd (subst (λ o. ReelCanFail k.reels (reel_of o)) e f)
 
 -- what is so of a result is so of its value
 pub kept_ok : {T E : Type 0} (P : T → Type 0) (result : Result T E) (value : T) → IfOk result P → Some value ≡ result_ok result → P value
@@ -36,10 +39,11 @@ kept_ok P (Ok x) value p e = let same : value ≡ x = cc in subst P (sym same) p
 kept_ok P (Err x) value p e = absurd cc
 
 -- no seat holds the drive
-pub none_holds : (all : Holders) (drive : Option ℕ) → all.numbers ≡ 0 ∷ [] → IsAlone LocalHoldsPromise.ghosts all drive
-none_holds all drive e d l =
-    let first : d ≡ 0 = (let few : length all.numbers ≡ 1 = ap length e in omega (arith, few)) in
-    (0, (l, ap (λ n. slice_index all.numbers n) first ∙ ap (λ l. slice_index l 0) e), λ x. absurd (omega arith))
+pub none_holds : {S R : Type 0} (s : StacksPromise S R) (r : ReelPromise R) (x : State Holders S View R) → x.drives.holds.numbers ≡ 0 ∷ []
+    → IsAlone (kinds LocalHoldsPromise.ghosts s r) x
+none_holds s r x e d l =
+    let first : d ≡ 0 = (let few : length x.drives.holds.numbers ≡ 1 = ap length e in omega (arith, few)) in
+    (0, (l, ap (λ n. slice_index x.drives.holds.numbers n) first ∙ ap (λ l. slice_index l 0) e), λ y. absurd (omega arith))
 
 -- nothing was read or written
 pub served_none : {R W : Type 0} {remaining : R → Option (List ℕ)} {contents : W → Option (List ℕ)} {capacity : ℕ} {input : Counting R} {output : Counting W} {ending : Option Served}

@@ -3,8 +3,8 @@ use Rattle.std.specs.Prelude.{◌≡◌, ◌⊎◌, ℕ, List, [], ◌∷◌, �
 use Rattle.std.specs.Borrow.{Bor}
 use Rattle.std.specs.Io.KnownBytes.{Appends}
 use Rattle.dumpdates.specs.Dates.{base_of}
-use Rattle.dumpdates.specs.Entry.{PlainEntry}
-use Rattle.dumpdates.specs.Lines.{SpellsDates, HasFault}
+use Rattle.dumpdates.specs.Entry.{DatesEntry}
+use Rattle.dumpdates.specs.Lines.{SpellsDates, HasDatesFault}
 use Rattle.dumpdates.specs.Text.{written, line_feed}
 use Rattle.dumpdates.specs.declared.fault.DatesFault.{DatesFault}
 use Rattle.dumpdates.specs.declared.fault.DatesFault.TheVariants.{BadLine, BadDate, OutOfMemory}
@@ -16,7 +16,7 @@ abbrev pub plain_asked : Option (Bor (List ℕ) × ℕ) → Option (List ℕ × 
 plain_asked asked = option_map (λ a. (a.0.now, a.1)) asked
 
 -- the text anew, or the base date of a name at a level as a line of digits
-abbrev pub answer_text : Option (List ℕ × ℕ) → List PlainEntry → List ℕ
+abbrev pub answer_text : Option (List ℕ × ℕ) → List DatesEntry → List ℕ
 answer_text None entries = written entries
 answer_text (Some (name, level)) entries = decimal (base_of entries name level) ++ line_feed ∷ []
 
@@ -30,8 +30,8 @@ fault_text OutOfMemory = codes "out of memory\n"
 -- of memory, which can come only where an entry is reached.
 abbrev pub IsAnswer : List ℕ → Option (List ℕ × ℕ) → List ℕ → ℕ → Type 0
 IsAnswer file asked text status =
-    ((entries : List PlainEntry) × SpellsDates file entries × (text ≡ answer_text asked entries) × (status ≡ 0))
-    ⊎ ((fault : DatesFault) × HasFault file fault × (text ≡ fault_text fault) × (status ≡ 1))
+    ((entries : List DatesEntry) × SpellsDates file entries × (text ≡ answer_text asked entries) × (status ≡ 0))
+    ⊎ ((fault : DatesFault) × HasDatesFault file fault × (text ≡ fault_text fault) × (status ≡ 1))
 
 -- The text was printed, and the status is as wanted. Or a write failed, a beginning of it was printed, and the status is 1.
 abbrev pub IsPrinted : {W : Type 0} → (W → Option (List ℕ)) → List ℕ → ℕ → Counting W → Counting W → ℕ → Type 0

@@ -1,6 +1,6 @@
 //! Serving one stream with one drive in memory, as `rmtd --stdio` does.
 ghost use Rattle.std.specs.Prelude.{◌≡◌, IfSome, length};
-ghost use Rattle.drives.specs.ListShop.{IsShop, CanFail};
+ghost use Rattle.drives.specs.ListShop.{IsShop, StacksCanFail};
 ghost use Rattle.rmt_tools.specs.Stdio.{blank_scene, IsServedAlone, IsStdio};
 
 use drives::{DriveTable, ListStacks, LocalHolds};
@@ -21,7 +21,7 @@ const REEL: &[u8] = b"reel";
 /// The drive with its one reel, which is empty. None where memory was refused.
 fn one_reel(alloc: Global, capacity: u64) -> Option<ListStacks>
     ensures shop { IfSome result (λ stacks. IsShop stacks (blank_scene capacity).shop) }
-    ensures quiet { IfSome result (λ stacks. CanFail stacks → ⊥) }
+    ensures quiet { IfSome result (λ stacks. StacksCanFail stacks → ⊥) }
     ensures drives { IfSome result (λ stacks. length stacks.shop.racks ≡ 1) }
 {
     let mut stacks = ListStacks::new(alloc);
