@@ -181,14 +181,17 @@ pub some_next : (old : Wanted) (kept : List ℕ) (found : Result (Option (Reply 
 some_next old kept (Ok None) within e = record {
   continues = λ wanted bytes u. continues_at old kept (Ok None) wanted bytes e u;
   room = λ wanted bytes u. room_of old kept wanted bytes within (sym e) u;
+  unchanged = refl;
 }
 some_next old kept (Ok (Some f)) within e = record {
   continues = λ wanted bytes u. continues_at old kept (Ok (Some f)) wanted bytes e u;
   room = tt;
+  unchanged = tt;
 }
 some_next old kept (Err fault) within e = record {
   continues = λ wanted bytes u. continues_at old kept (Err fault) wanted bytes e u;
   room = tt;
+  unchanged = refl;
 }
 
 -- a fault is seen whatever follows

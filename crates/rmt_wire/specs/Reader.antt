@@ -82,11 +82,18 @@ Shrinks old (Ok (Some request)) new = length new.kept < length old.kept
 Shrinks old (Ok None) new = Unit {0}
 Shrinks old (Err fault) new = Unit {0}
 
+-- where no request was given, the reader is exactly as it was
+abbrev pub StaysUnlessGiven : Held → Result (Option PlainRequest) WireFault → Held → Type 0
+StaysUnlessGiven old (Ok (Some request)) new = Unit {0}
+StaysUnlessGiven old (Ok None) new = new ≡ old
+StaysUnlessGiven old (Err fault) new = new ≡ old
+
 -- one call of `next`
 pub record IsNext (old : Held) (answer : Result (Option PlainRequest) WireFault) (new : Held) : Type 0 where
   pub continues : Continues old answer new
   pub room : LeavesRoom answer new
   pub shrinks : Shrinks old answer new
+  pub unchanged : StaysUnlessGiven old answer new
 
 -- a fault is answered for good, whatever is pushed later
 abbrev pub StaysFaulty : Held → Result (Option PlainRequest) WireFault → Type 0

@@ -61,10 +61,17 @@ LeavesRoom (Ok None) new = (wanted : Option Wanted) (bytes : List ℕ) → Unrea
 LeavesRoom (Ok (Some reply)) new = Unit {0}
 LeavesRoom (Err fault) new = Unit {0}
 
+-- where no reply was given, the reader is exactly as it was
+abbrev pub StaysUnlessGiven : Held → Result (Option PlainReply) WireFault → Held → Type 0
+StaysUnlessGiven old (Ok (Some reply)) new = Unit {0}
+StaysUnlessGiven old (Ok None) new = new ≡ old
+StaysUnlessGiven old (Err fault) new = new ≡ old
+
 -- one call of `next`
 pub record IsNext (old : Held) (answer : Result (Option PlainReply) WireFault) (new : Held) : Type 0 where
   pub continues : Continues old answer new
   pub room : LeavesRoom answer new
+  pub unchanged : StaysUnlessGiven old answer new
 
 -- a fault is answered for good, whatever is pushed later
 abbrev pub StaysFaulty : Held → Result (Option PlainReply) WireFault → Type 0

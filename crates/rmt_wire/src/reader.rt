@@ -171,7 +171,8 @@ impl RequestReader {
     /// Gives the next request of the stream, and lends its data. None means that the bytes pushed so far are a
     /// beginning of one; then there is room for more.
     ///
-    /// A fault is known at the first byte that rules every request out, and is answered for good.
+    /// A fault is known at the first byte that rules every request out, and is answered for good. Where no request is
+    /// given the reader stays exactly as it was.
     pub fn next(&mut self) -> Result<Option<Request<'_>>, WireFault>
         ensures* rests { sem 𝓛 (Rests the_row self.entry (λ new. IsNext self.old (told result) new)) }
         ensures for_good { StaysFaulty self.old (told result) }

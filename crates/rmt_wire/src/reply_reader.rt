@@ -147,7 +147,7 @@ impl ReplyReader {
     ///
     /// A fault is known at the first byte that rules every reply out, and is answered for good, until `clear`:
     /// `NotAReply`, `BadNumber`, or `TooMuchData` for a number of data bytes that is more than was wanted. Where nothing
-    /// is waited for, any byte is `TooMuchData`.
+    /// is waited for, any byte is `TooMuchData`. Where no reply is given the reader stays exactly as it was.
     pub fn next(&mut self) -> Result<Option<Reply<'_>>, WireFault>
         ensures* rests { sem 𝓛 (Rests the_row self.entry (λ new. IsNext self.old (told result) new)) }
         ensures for_good { StaysFaulty self.old (told result) }
