@@ -56,12 +56,15 @@ fn front(unread: &[u8], dropped: u32) -> Result<Option<(Request<'_>, usize)>, Wi
     Ok(Some((Request::WriteDropped { count }, len + left)))
 }
 
-/// Takes `count` bytes out of a buffer, from `at` on, and keeps the room.
+/// Takes `count` bytes out of a buffer, from `at` on, and keeps the room. Where there are none to take, no byte moves.
 pub(crate) fn remove(buffer: &mut BytesMut, at: usize, count: usize)
     requires { at + count ≤ length buffer.old.items }
     ensures items { buffer.new.items ≡ take at buffer.old.items ++ drop (at + count) buffer.old.items }
     ensures room { length buffer.new.items + buffer.new.spare ≡ length buffer.old.items + buffer.old.spare }
 {
+    if count == 0 {
+        return;
+    }
     let len = buffer.len();
     buffer.as_mut_slice().copy_within(at + count.., at);
     buffer.truncate(len - count);
