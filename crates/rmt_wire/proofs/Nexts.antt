@@ -4,10 +4,12 @@ use Rattle.std.proofs.lemmas.Bool.Decides.{nat_tests}
 use Rattle.std.proofs.lemmas.List.{take_rest, nil_from_length, length-append, length-drop, length-take-le, drop-append-le, drop-take, drop-drop}
 use Rattle.rmt_wire.specs.Request.{PlainRequest, SpellsRequest}
 use Rattle.rmt_wire.specs.Request.PlainRequest.{Open, Close, Write, WriteDropped, Read, Op}
-use Rattle.rmt_wire.specs.Parts.{Gives}
-use Rattle.rmt_wire.specs.Front.{Seen, front_of}
+use Rattle.rmt_wire.specs.RequestParts.{Gives}
+use Rattle.rmt_wire.specs.Seen.{Seen}
+use Rattle.rmt_wire.specs.RequestFront.{front_of}
 use Rattle.rmt_wire.specs.Lent.{plain_request, lent_front}
-use Rattle.rmt_wire.specs.Reader.{reader_limit, dropped_line, held, IsDropped, Unread, gone_at, taken_of, IsNext, StaysFaulty, told_front, held_after}
+use Rattle.rmt_wire.specs.Limits.{reader_limit}
+use Rattle.rmt_wire.specs.RequestReader.{dropped_line, held, IsDropped, Unread, gone_at, taken_of, IsNext, StaysFaulty, told_front, held_after}
 use Rattle.rmt_wire.specs.declared.request.Request.{Request}
 use Rattle.rmt_wire.specs.declared.fault.WireFault.{WireFault}
 use Rattle.rmt_wire.proofs.Fronts.{FrontView}

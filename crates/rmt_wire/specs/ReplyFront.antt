@@ -2,7 +2,7 @@
 -- texts.
 use Rattle.std.specs.Prelude.{ℕ, suc, ◌+◌, ◌-◌, ◌*◌, ◌==◌, ◌&&◌, ◌||◌, false, if◌then◌else◌, nat_lt, min, List, [], ◌∷◌, ◌++◌, length, take, drop, Some, None, Ok, Err}
 use Rattle.rmt_wire.specs.Number.{line_feed}
-use Rattle.rmt_wire.specs.Front.{Seen, after, is_digit, number_front}
+use Rattle.rmt_wire.specs.Seen.{Seen, after, is_digit, number_front}
 use Rattle.rmt_wire.specs.Reply.{PlainReply, Wanted}
 use Rattle.rmt_wire.specs.Reply.PlainReply.{Done, Data, Error}
 use Rattle.rmt_wire.specs.Reply.Wanted.{Number, DataUpTo}

@@ -2,10 +2,10 @@ ghost use Rattle.std.specs.Prelude.{◌≡◌, ◌⊎◌, ◌↔◌, ℕ, List, 
 ghost use Rattle.rmt_wire.specs.Number.{HasNoLineFeed, line_feed};
 ghost use Rattle.rmt_wire.specs.Request.{PlainRequest};
 ghost use Rattle.rmt_wire.specs.Reply.{PlainReply, Wanted, SpellsReply};
-ghost use Rattle.rmt_wire.specs.Parts.{IsOpen, HasFault, Parts, Gives, IsDroppedLine};
-ghost use Rattle.rmt_wire.specs.Reader.{dropped_line};
+ghost use Rattle.rmt_wire.specs.RequestParts.{IsOpen, HasFault, Parts, Gives, IsDroppedLine};
+ghost use Rattle.rmt_wire.specs.RequestReader.{dropped_line};
 ghost use Rattle.rmt_wire.specs.ReplyFront.{kept_of};
-ghost use Rattle.rmt_wire.specs.ReplyParts as replies;
+ghost use Rattle.rmt_wire.specs.ReplyParts.{ReplyGives};
 ghost use Rattle.rmt_wire.specs.ReplyReader.{IsErrorText};
 ghost use Rattle.rmt_wire.specs.declared.fault.WireFault.{WireFault};
 
@@ -44,9 +44,9 @@ pub fn one_reply()
 /// It does nothing: its contract is a law of the definitions.
 pub fn one_reply_reading()
     ensures answers { (wanted : Option Wanted) (bytes rest other : List ℕ) (answer another : Result (Option PlainReply) WireFault) →
-        replies.Gives wanted bytes answer rest → replies.Gives wanted bytes another other → (answer ≡ another) × (rest ≡ other) }
+        ReplyGives wanted bytes answer rest → ReplyGives wanted bytes another other → (answer ≡ another) × (rest ≡ other) }
     ensures some_answer { (wanted : Option Wanted) (bytes : List ℕ) →
-        (answer : Result (Option PlainReply) WireFault) × (rest : List ℕ) × replies.Gives wanted bytes answer rest }
+        (answer : Result (Option PlainReply) WireFault) × (rest : List ℕ) × ReplyGives wanted bytes answer rest }
 {}
 
 /// What is kept of a reply that is waited for: of the text of an error the first 255 bytes, and what stands from its
