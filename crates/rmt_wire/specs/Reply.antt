@@ -31,6 +31,12 @@ ReplyHasSpelling (Done n) = n ≤ 2147483647
 ReplyHasSpelling (Data bytes) = length bytes ≤ 2147483647
 ReplyHasSpelling (Error n text) = (n ≤ 2147483647) × (length text ≤ 255) × HasNoLineFeed text
 
+-- how many bytes of data a reply brings
+abbrev pub data_length : PlainReply → ℕ
+data_length (Done n) = 0
+data_length (Data bytes) = length bytes
+data_length (Error n text) = 0
+
 -- what a writer writes: numbers without leading zeros
 abbrev pub reply_text : PlainReply → List ℕ
 reply_text (Done n) = 65 ∷ (decimal n ++ line_feed ∷ [])

@@ -56,7 +56,8 @@ ReplyContinues old answer new =
 
 -- after none was given, there is room for one byte or more
 abbrev pub ReplyLeavesRoom : Result (Option PlainReply) WireFault → ReplyHeld → Type 0
-ReplyLeavesRoom (Ok None) new = (wanted : Option Wanted) (bytes : List ℕ) → ReplyUnread new wanted bytes → reply_taken_of wanted bytes < reader_limit
+ReplyLeavesRoom (Ok None) new =
+    (wanted : Option Wanted) (bytes : List ℕ) → ReplyUnread new wanted bytes → reply_taken_of wanted bytes < reader_limit
 ReplyLeavesRoom (Ok (Some reply)) new = Unit {0}
 ReplyLeavesRoom (Err fault) new = Unit {0}
 
@@ -75,7 +76,8 @@ pub record ReplyIsNext (old : ReplyHeld) (answer : Result (Option PlainReply) Wi
 -- a fault is answered for good, whatever is pushed later
 abbrev pub ReplyStaysFaulty : ReplyHeld → Result (Option PlainReply) WireFault → Type 0
 ReplyStaysFaulty old (Err fault) =
-    (wanted : Option Wanted) (bytes more : List ℕ) → ReplyUnread old wanted bytes → ReplyGives wanted (bytes ++ more) (Err fault) (bytes ++ more)
+    (wanted : Option Wanted) (bytes more : List ℕ) → ReplyUnread old wanted bytes
+    → ReplyGives wanted (bytes ++ more) (Err fault) (bytes ++ more)
 ReplyStaysFaulty old (Ok answer) = Unit {0}
 
 -- the same of what was found at the front, and of its length

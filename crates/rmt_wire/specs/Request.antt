@@ -25,7 +25,8 @@ SpellsRequest bytes (Open device mode) =
     (line : List ℕ) × IsLine device × SpellsMode line mode × (bytes ≡ 79 ∷ (device ++ line_feed ∷ (line ++ line_feed ∷ [])))
 SpellsRequest bytes Close = (line : List ℕ) × IsLine line × (bytes ≡ 67 ∷ (line ++ line_feed ∷ []))
 SpellsRequest bytes (Write written) =
-    (number : List ℕ) × SpellsNumber number (length written) × (length written ≤ data_limit) × (bytes ≡ 87 ∷ (number ++ line_feed ∷ written))
+    (number : List ℕ) × SpellsNumber number (length written) × (length written ≤ data_limit)
+    × (bytes ≡ 87 ∷ (number ++ line_feed ∷ written))
 SpellsRequest bytes (WriteDropped count) =
     (number : List ℕ) × (dropped : List ℕ) × SpellsNumber number count × (data_limit < count) × (length dropped ≡ count)
     × (bytes ≡ 87 ∷ (number ++ line_feed ∷ dropped))

@@ -26,7 +26,8 @@ abbrev pub number_from : Bool → ℕ → ℕ → List ℕ → Seen (ℕ × ℕ)
 number_from is_mode value count [] = Ok None
 number_from is_mode value count (b ∷ bytes) =
     if is_digit b
-    then (if count == 10 || nat_lt 2147483647 (value * 10 + (b - 48)) then Err BadNumber else number_from is_mode (value * 10 + (b - 48)) (count + 1) bytes)
+    then (if count == 10 || nat_lt 2147483647 (value * 10 + (b - 48)) then Err BadNumber
+    else number_from is_mode (value * 10 + (b - 48)) (count + 1) bytes)
     else (if nat_lt 0 count && ends_number is_mode b then Ok (Some (value, count)) else Err BadNumber)
 
 abbrev pub number_front : Bool → List ℕ → Seen (ℕ × ℕ)

@@ -25,7 +25,9 @@ mod tests;
 
 pub use counted::Counted;
 pub use fault::WireFault;
-pub use laws::{dropped_writes, long_texts, one_reading, one_reply, one_reply_reading};
+pub use laws::{
+    dropped_writes, long_texts, one_reading, one_reply, one_reply_reading, short_replies,
+};
 pub use limits::{DATA_LIMIT, LINE_LIMIT, NUMBER_LIMIT, READER_LIMIT};
 pub use reply::{OutputFault, Reply, ReplyReader, Wanted, push_reply, write_reply};
 pub use request::{Request, RequestReader, push_request};

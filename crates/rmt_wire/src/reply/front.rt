@@ -102,7 +102,8 @@ pub fn reply_front(bytes: &[u8], wanted: Wanted) -> Result<Option<(Reply<'_>, us
 
 /// The bytes of an error's text that are not kept, behind the `E`: where they begin, and how many they are.
 fn surplus_behind(bytes: &[u8]) -> (usize, usize)
-    ensures value { spec.kept_behind (number_front false bytes.now) bytes.now ≡ take result.0 bytes.now ++ drop (result.0 + result.1) bytes.now }
+    ensures value { spec.kept_behind (number_front false bytes.now) bytes.now
+        ≡ take result.0 bytes.now ++ drop (result.0 + result.1) bytes.now }
     ensures within { result.0 + result.1 ≤ length bytes.now }
 {
     let Ok(Some((_, digits))) = number_front(bytes, false) else {

@@ -18,7 +18,8 @@ use std::marker::Model;
 /// less than one. Where none is waited for, each byte is too much.
 fn front(unread: &[u8], wanted: Option<Wanted>) -> Result<Option<(Reply<'_>, usize)>, WireFault>
     requires { IsWithinIfSome (plain_wanted_if_some wanted) }
-    ensures next { ReplyIsNext (spec.reply_held (plain_wanted_if_some wanted) unread.now) (spec.reply_told_front result) (spec.reply_held_after result (spec.reply_held (plain_wanted_if_some wanted) unread.now)) }
+    ensures next { let held = spec.reply_held (plain_wanted_if_some wanted) unread.now in
+        ReplyIsNext held (spec.reply_told_front result) (spec.reply_held_after result held) }
     ensures for_good { ReplyStaysFaulty (spec.reply_held (plain_wanted_if_some wanted) unread.now) (spec.reply_told_front result) }
     ensures within { IfOk result (λ o. IfSome o (λ r. r.1 ≤ length unread.now)) }
 {
@@ -51,7 +52,9 @@ impl Model for ReplyReader {
 
     ghost view = { λ r. reply_held (plain_wanted_if_some r.wanted) (drop r.start r.buffer.items) };
 
-    ghost invariant = { λ r. (r.start ≤ length r.buffer.items) × (length r.buffer.items ≤ reader_limit) × (reader_limit ≤ length r.buffer.items + r.buffer.spare) × IsWithinIfSome (plain_wanted_if_some r.wanted) };
+    ghost invariant = { λ r. (r.start ≤ length r.buffer.items) × (length r.buffer.items ≤ reader_limit)
+        × (reader_limit ≤ length r.buffer.items + r.buffer.spare)
+        × IsWithinIfSome (plain_wanted_if_some r.wanted) };
 }
 
 impl ReplyReader {
@@ -73,7 +76,8 @@ impl ReplyReader {
 
     /// Whether every byte that was pushed was given.
     pub fn is_empty(&self) -> bool
-        ensures value { (wanted : Option kinds.Wanted) (bytes : List ℕ) → ReplyUnread self.now wanted bytes → (IsTrue result ↔ (bytes ≡ [])) }
+        ensures value { (wanted : Option kinds.Wanted) (bytes : List ℕ) →
+            ReplyUnread self.now wanted bytes → (IsTrue result ↔ (bytes ≡ [])) }
         ensures seen { IsTrue result → ReplyUnread self.now self.now.wanted [] }
     {
         self.buffer.len() == self.start
@@ -82,7 +86,8 @@ impl ReplyReader {
     /// How many bytes `push` takes now. Of the text of an error that is waited for, what stands past its first 255
     /// bytes takes no room.
     pub fn room(&self) -> usize
-        ensures { (wanted : Option kinds.Wanted) (bytes : List ℕ) → ReplyUnread self.now wanted bytes → result + reply_taken_of wanted bytes ≡ READER_LIMIT }
+        ensures { (wanted : Option kinds.Wanted) (bytes : List ℕ) →
+            ReplyUnread self.now wanted bytes → result + reply_taken_of wanted bytes ≡ READER_LIMIT }
     {
         READER_LIMIT - (self.buffer.len() - self.start)
     }
@@ -126,8 +131,10 @@ impl ReplyReader {
     /// Takes as many bytes of a piece of the stream as there is room for, and answers how many. The text of an error
     /// that is waited for is kept up to its first 255 bytes.
     pub fn push(&mut self, piece: &[u8]) -> usize
-        ensures count { (wanted : Option kinds.Wanted) (bytes : List ℕ) → ReplyUnread self.old wanted bytes → result ≡ min (length piece.now) (READER_LIMIT - reply_taken_of wanted bytes) }
-        ensures unread { (wanted : Option kinds.Wanted) (bytes : List ℕ) → ReplyUnread self.old wanted bytes → ReplyUnread self.new wanted (bytes ++ take result piece.now) }
+        ensures count { (wanted : Option kinds.Wanted) (bytes : List ℕ) →
+            ReplyUnread self.old wanted bytes → result ≡ min (length piece.now) (READER_LIMIT - reply_taken_of wanted bytes) }
+        ensures unread { (wanted : Option kinds.Wanted) (bytes : List ℕ) →
+            ReplyUnread self.old wanted bytes → ReplyUnread self.new wanted (bytes ++ take result piece.now) }
     {
         let start = self.start;
         let room = READER_LIMIT - (self.buffer.len() - start);

@@ -29,7 +29,8 @@ pub struct OutputFault;
 pub fn write_reply<W: Write>(out: &mut Counted<W>, reply: &Reply<'_>) -> Result<(), OutputFault>
     requires { ReplyHasSpelling (plain_reply reply.now) }
     ensures written { OnOk result (Appends (W.contents out.old.inner) (W.contents out.new.inner) (reply_text (plain_reply reply.now))) }
-    ensures beginning { OnErr result (AppendsBeginning (W.contents out.old.inner) (W.contents out.new.inner) (reply_text (plain_reply reply.now))) }
+    ensures beginning { OnErr result
+        (AppendsBeginning (W.contents out.old.inner) (W.contents out.new.inner) (reply_text (plain_reply reply.now))) }
     ensures fault { OnErr result (HasRisen out.old.failures out.new.failures) }
     ensures counted { out.old.failures ≤ out.new.failures }
     ensures steady { OnOk result (out.new.failures ≡ out.old.failures) }

@@ -77,7 +77,9 @@ impl Model for RequestReader {
 
     ghost view = { λ r. held (drop r.start r.buffer.items) r.dropped };
 
-    ghost invariant = { λ r. (r.start ≤ length r.buffer.items) × (length r.buffer.items ≤ reader_limit) × (reader_limit ≤ length r.buffer.items + r.buffer.spare) × IsDropped (dropped_line (drop r.start r.buffer.items)) r.dropped };
+    ghost invariant = { λ r. (r.start ≤ length r.buffer.items) × (length r.buffer.items ≤ reader_limit)
+        × (reader_limit ≤ length r.buffer.items + r.buffer.spare)
+        × IsDropped (dropped_line (drop r.start r.buffer.items)) r.dropped };
 }
 
 impl RequestReader {

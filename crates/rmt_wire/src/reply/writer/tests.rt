@@ -2,8 +2,9 @@ ghost use Rattle.rmt_wire.specs.Lent.{plain_reply};
 ghost use Rattle.rmt_wire.specs.Reply.{ReplyHasSpelling};
 
 use super::*;
-use crate::fake::{After, Fake};
+use crate::fake::{After, FailsOnce, Fake};
 use std::alloc::Global;
+use std::io::ErrorKind;
 use std::process::Abort;
 use std::test::Fail;
 
@@ -82,6 +83,35 @@ fn a_failure_at_each_call(rt: HostRuntime) -> Result<(), Fail> {
             );
             assert_eq!(rt; out.failures(), 1, "at {calls}");
             assert_eq!(rt; out.into_inner().taken.as_slice(), &want[..calls]);
+        }
+    }
+    Ok(())
+}
+
+#[test]
+fn nothing_is_written_after_a_failed_write(rt: HostRuntime) -> Result<(), Fail> {
+    let reply = Reply::Data { bytes: b"abc" };
+    let want = b"A3\nabc".as_slice();
+    for (piece, ends) in [
+        (1, [0, 1, 2, 3, 4, 5].as_slice()),
+        (1000, [0, 3].as_slice()),
+    ] {
+        for (before, end) in ends.iter().enumerate() {
+            let fake = FailsOnce::new(rt.alloc(), piece, before, ErrorKind::Interrupted);
+            let mut out = Counted::new(fake);
+            assert_eq!(rt;
+                write_reply(&mut out, &reply),
+                Err(OutputFault),
+                "at {before}"
+            );
+            assert_eq!(rt; out.failures(), 1, "at {before}");
+            let fake = out.into_inner();
+            assert_eq!(rt;
+                fake.calls,
+                before.saturating_add(1),
+                "the failed write was its last"
+            );
+            assert_eq!(rt; Some(fake.taken.as_slice()), want.get(..*end));
         }
     }
     Ok(())
