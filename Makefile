@@ -3,6 +3,7 @@
 
 RMTD := crates/rmtd
 RDUMP := crates/rdump
+FEED := crates/feed
 PROGRAM := $(RMTD)/out/rmtd
 CLIENT := $(RDUMP)/out/rdump
 ANSWERED := $(RMTD)/out/answered
@@ -34,9 +35,11 @@ test: kit ## the gate: each proof from nothing, then the built programs from out
 	python3 tests/rows.py $(PROGRAM)
 	python3 tests/dates.py $(CLIENT)
 
-bench: build ## long streams through the server, beside cat and GNU rmt; a long dumpdates file, beside cat and wc
+bench: build ## long streams through the server, beside cat and GNU rmt; a long dumpdates file, beside cat and wc; both readers fed in pieces
 	python3 bench/stdio.py $(PROGRAM)
 	python3 bench/dates.py $(CLIENT)
+	cd $(FEED) && rt run -- replies 1 1000
+	python3 bench/feed.py $(FEED)/out/feed
 
 help: ## list these words
 	@sed -n 's/^\([a-z]*\):.*## /  make \1\t/p' $(MAKEFILE_LIST) | expand -t 14

@@ -6,7 +6,7 @@ use Rattle.std.specs.Io.KnownBytes.{Appends}
 use Rattle.rmt_wire.specs.Number.{line_feed}
 use Rattle.rmt_wire.specs.Reply.{reply_text}
 use Rattle.rmt_wire.specs.Reply.PlainReply.{Data}
-use Rattle.rmt_wire.specs.Writer.{AppendsBeginning}
+use Rattle.rmt_wire.specs.ReplyWriter.{AppendsBeginning}
 
 -- a beginning of the first part is one of the whole
 take_of_first : (n : ℕ) (first rest : List ℕ) → (m : ℕ) × (take m (first ++ rest) ≡ take n first)

@@ -3,11 +3,12 @@ use Rattle.std.proofs.Common.{◌≡◌, ℕ, ◌+◌, ◌-◌, ◌<◌, ◌≤�
 use Rattle.std.proofs.lemmas.Bool.Decides.{nat_tests}
 use Rattle.std.proofs.lemmas.List.{length-append, length-take-le, length-drop, take-append-drop, take-append-le, drop-append-le, take_at, drop_at, drop-drop}
 use Rattle.rmt_wire.specs.Number.{SpellsNumber, line_feed}
-use Rattle.rmt_wire.specs.Request.{data_limit}
+use Rattle.rmt_wire.specs.Limits.{data_limit, reader_limit}
 use Rattle.rmt_wire.specs.Request.PlainRequest.{WriteDropped}
-use Rattle.rmt_wire.specs.Front.{Seen, number_front, front_of}
-use Rattle.rmt_wire.specs.Reader.{reader_limit, dropped_if_long, dropped_line, Held, held, IsDropped, UnreadAt, Unread, gone_at, taken_at, taken_of}
-use Rattle.rmt_wire.specs.Parts.{Gives, IsDroppedLine}
+use Rattle.rmt_wire.specs.Seen.{Seen, number_front}
+use Rattle.rmt_wire.specs.RequestFront.{front_of}
+use Rattle.rmt_wire.specs.RequestReader.{dropped_if_long, dropped_line, RequestHeld, held, IsDropped, UnreadAt, Unread, gone_at, taken_at, taken_of}
+use Rattle.rmt_wire.specs.RequestParts.{Gives, IsDroppedLine}
 use Rattle.rmt_wire.proofs.Numbers.{NumberView, number_view}
 use Rattle.rmt_wire.proofs.Spellings.{number_is_seen, length_line, write_seen, written_less}
 use Rattle.rmt_wire.proofs.Fronts.{digits_spell}
@@ -96,24 +97,24 @@ pub record Behind (kept : List ℕ) (dropped : ℕ) (bytes : List ℕ) (line : �
   pub within : dropped ≤ line.1
   pub is : bytes ≡ take line.0 kept ++ (gone ++ drop line.0 kept)
 
-unread_some : (o : Option (ℕ × ℕ)) (h : Held) (bytes : List ℕ) (line : ℕ × ℕ) → o ≡ Some line → UnreadAt o h bytes → Behind h.kept h.dropped bytes line
+unread_some : (o : Option (ℕ × ℕ)) (h : RequestHeld) (bytes : List ℕ) (line : ℕ × ℕ) → o ≡ Some line → UnreadAt o h bytes → Behind h.kept h.dropped bytes line
 unread_some None h bytes line e u = absurd (cc)
 unread_some (Some p) h bytes line e u =
     let same : p ≡ line = some_same p line e in
     subst (Behind h.kept h.dropped bytes) same (record { gone = u.0; gone_size = u.1; within = u.2; is = u.3 })
 
-unread_none : (o : Option (ℕ × ℕ)) (h : Held) (bytes : List ℕ) → o ≡ None → UnreadAt o h bytes → (h.dropped ≡ 0) × (bytes ≡ h.kept)
+unread_none : (o : Option (ℕ × ℕ)) (h : RequestHeld) (bytes : List ℕ) → o ≡ None → UnreadAt o h bytes → (h.dropped ≡ 0) × (bytes ≡ h.kept)
 unread_none None h bytes e u = u
 unread_none (Some p) h bytes e u = absurd (cc)
 
-some_unread : (o : Option (ℕ × ℕ)) (h : Held) (bytes : List ℕ) (line : ℕ × ℕ) → o ≡ Some line → Behind h.kept h.dropped bytes line → UnreadAt o h bytes
+some_unread : (o : Option (ℕ × ℕ)) (h : RequestHeld) (bytes : List ℕ) (line : ℕ × ℕ) → o ≡ Some line → Behind h.kept h.dropped bytes line → UnreadAt o h bytes
 some_unread None h bytes line e b = absurd (cc)
 some_unread (Some p) h bytes line e b =
     let same : line ≡ p = sym (some_same p line e) in
     let c = subst (Behind h.kept h.dropped bytes) same b in
     (c.gone, c.gone_size, c.within, c.is)
 
-none_unread : (o : Option (ℕ × ℕ)) (h : Held) (bytes : List ℕ) → o ≡ None → h.dropped ≡ 0 → bytes ≡ h.kept → UnreadAt o h bytes
+none_unread : (o : Option (ℕ × ℕ)) (h : RequestHeld) (bytes : List ℕ) → o ≡ None → h.dropped ≡ 0 → bytes ≡ h.kept → UnreadAt o h bytes
 none_unread None h bytes e d b = (d, b)
 none_unread (Some p) h bytes e d b = absurd (cc)
 
@@ -241,7 +242,7 @@ no_cons : (x : ℕ) (xs : List ℕ) → x ∷ xs ≡ [] → ⊥
 no_cons x xs e = cc
 
 -- nothing is kept exactly where nothing is unread
-pub empty_unread : (h : Held) (bytes : List ℕ) → Unread h bytes → (h.kept ≡ [] → bytes ≡ []) × (bytes ≡ [] → h.kept ≡ [])
+pub empty_unread : (h : RequestHeld) (bytes : List ℕ) → Unread h bytes → (h.kept ≡ [] → bytes ≡ []) × (bytes ≡ [] → h.kept ≡ [])
 empty_unread h bytes u =
     at_option (dropped_line h.kept) ((h.kept ≡ [] → bytes ≡ []) × (bytes ≡ [] → h.kept ≡ []))
     (λ e. let n = unread_none (dropped_line h.kept) h bytes e u in (λ k. n.1 ∙ k, λ b. sym n.1 ∙ b))

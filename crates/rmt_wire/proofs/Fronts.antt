@@ -5,14 +5,16 @@ use Rattle.std.proofs.lemmas.Bool.Decides.{nat_tests}
 use Rattle.std.proofs.lemmas.List.{length-append, length-replicate, take-append-drop, length-take-le}
 use Rattle.std.specs.Str.Parse.{digits_value}
 use Rattle.rmt_wire.specs.Number.{SpellsNumber, line_feed, space}
-use Rattle.rmt_wire.specs.Request.{PlainRequest, SpellsRequest, data_limit}
+use Rattle.rmt_wire.specs.Request.{PlainRequest, SpellsRequest}
+use Rattle.rmt_wire.specs.Limits.{data_limit, reader_limit}
 use Rattle.rmt_wire.specs.Request.PlainRequest.{Write, WriteDropped, Read, Op}
-use Rattle.rmt_wire.specs.Parts.{IsOpen, IsCause}
-use Rattle.rmt_wire.specs.Front.{Seen, after, ends_number, number_front, write_head, read_head, count_head, op_head, letter_head, head_of, written_at, request_at, front_of}
-use Rattle.rmt_wire.specs.Reader.{reader_limit, dropped_line, taken_at, taken_of}
+use Rattle.rmt_wire.specs.RequestParts.{IsOpen, IsCause}
+use Rattle.rmt_wire.specs.Seen.{Seen, after, ends_number, number_front}
+use Rattle.rmt_wire.specs.RequestFront.{write_head, read_head, count_head, op_head, letter_head, head_of, written_at, request_at, front_of}
+use Rattle.rmt_wire.specs.RequestReader.{dropped_line, taken_at, taken_of}
 use Rattle.rmt_wire.specs.declared.fault.WireFault.{WireFault}
 use Rattle.rmt_wire.specs.declared.fault.WireFault.TheVariants.{BadNumber}
-use Rattle.rmt_wire.specs.declared.head.Head.TheVariants as head
+use Rattle.rmt_wire.specs.declared.request.head.Head.TheVariants as head
 use Rattle.rmt_wire.proofs.Numbers.{AreDigits, NumberView, number_view, by_test}
 use Rattle.rmt_wire.proofs.Spellings.{drop_past, length_line, drop_line, number_is_seen}
 

@@ -2,9 +2,11 @@
 use Rattle.std.proofs.Common.{◌≡◌, ℕ, ◌<◌, List, [], ◌∷◌, ◌++◌, length, drop, Option, Some, None, Result, Ok, Err, refl, sym, ap, subst, ◌∙◌, append_assoc, append-nil}
 use Rattle.std.proofs.lemmas.List.{drop_at}
 use Rattle.rmt_wire.specs.Request.{PlainRequest, SpellsRequest}
-use Rattle.rmt_wire.specs.Parts.{IsOpen, HasNoSpelling, HasFault, Gives}
-use Rattle.rmt_wire.specs.Front.{Seen, front_of}
-use Rattle.rmt_wire.specs.Reader.{reader_limit, taken_of}
+use Rattle.rmt_wire.specs.RequestParts.{IsOpen, HasNoSpelling, HasFault, Gives}
+use Rattle.rmt_wire.specs.Seen.{Seen}
+use Rattle.rmt_wire.specs.RequestFront.{front_of}
+use Rattle.rmt_wire.specs.Limits.{reader_limit}
+use Rattle.rmt_wire.specs.RequestReader.{taken_of}
 use Rattle.rmt_wire.specs.declared.fault.WireFault.{WireFault}
 use Rattle.rmt_wire.proofs.Spellings.{request_seen}
 use Rattle.rmt_wire.proofs.Fronts.{FrontView}

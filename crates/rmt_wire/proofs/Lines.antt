@@ -2,7 +2,8 @@
 use Rattle.std.proofs.Common.{◌≡◌, ◌≢◌, ℕ, suc, ◌+◌, ◌≤◌, false, eqb, List, [], ◌∷◌, ◌++◌, length, Some, None, Ok, Err, refl, sym, ap, arith, add-zero}
 use Rattle.std.proofs.lemmas.Bool.Decides.{nat_tests}
 use Rattle.rmt_wire.specs.Number.{HasNoLineFeed, line_feed}
-use Rattle.rmt_wire.specs.Front.{Seen, line_from}
+use Rattle.rmt_wire.specs.Seen.{Seen}
+use Rattle.rmt_wire.specs.RequestFront.{line_from}
 use Rattle.rmt_wire.specs.declared.fault.WireFault.TheVariants.{LineTooLong}
 use Rattle.rmt_wire.proofs.Numbers.{by_test}
 

@@ -4,10 +4,12 @@ use Rattle.std.proofs.lemmas.Bool.Decides.{nat_tests}
 use Rattle.std.proofs.lemmas.List.{take_rest, nil_from_length, length-append, length-drop, length-take-le, drop-append-le, drop-take, drop-drop}
 use Rattle.rmt_wire.specs.Request.{PlainRequest, SpellsRequest}
 use Rattle.rmt_wire.specs.Request.PlainRequest.{Open, Close, Write, WriteDropped, Read, Op}
-use Rattle.rmt_wire.specs.Parts.{Gives}
-use Rattle.rmt_wire.specs.Front.{Seen, front_of}
+use Rattle.rmt_wire.specs.RequestParts.{Gives}
+use Rattle.rmt_wire.specs.Seen.{Seen}
+use Rattle.rmt_wire.specs.RequestFront.{front_of}
 use Rattle.rmt_wire.specs.Lent.{plain_request, lent_front}
-use Rattle.rmt_wire.specs.Reader.{reader_limit, dropped_line, held, IsDropped, Unread, gone_at, taken_of, IsNext, StaysFaulty, told_front, held_after}
+use Rattle.rmt_wire.specs.Limits.{reader_limit}
+use Rattle.rmt_wire.specs.RequestReader.{dropped_line, held, IsDropped, Unread, gone_at, taken_of, IsNext, StaysFaulty, told_front, held_after}
 use Rattle.rmt_wire.specs.declared.request.Request.{Request}
 use Rattle.rmt_wire.specs.declared.fault.WireFault.{WireFault}
 use Rattle.rmt_wire.proofs.Fronts.{FrontView}
@@ -55,6 +57,7 @@ plain_next kept dropped (Ok None) none e = record {
       let same = plain_unread kept dropped bytes none u in
       room bytes (ap front_of same ∙ sym e);
   shrinks = tt;
+  unchanged = refl;
 }
 plain_next kept dropped (Ok (Some f)) none e =
     let g = gives_of kept (Ok (Some (plain_request f.0, f.1))) (sym e) in
@@ -64,6 +67,7 @@ plain_next kept dropped (Ok (Some f)) none e =
           (drop f.1 kept, unread_whole (drop f.1 kept), subst (λ b. Gives b (Ok (Some (plain_request f.0))) (drop f.1 kept)) (sym same) g);
       room = tt;
       shrinks = given_shrinks kept (drop f.1 kept) (plain_request f.0) g;
+      unchanged = tt;
     }
 plain_next kept dropped (Err fault) none e = record {
   continues = λ bytes u.
@@ -71,6 +75,7 @@ plain_next kept dropped (Err fault) none e = record {
       (bytes, u, gives_of bytes (Err fault) (ap front_of same ∙ sym e));
   room = tt;
   shrinks = tt;
+  unchanged = refl;
 }
 
 pub plain_faulty : (kept : List ℕ) (dropped : ℕ) (found : Result (Option (Request × ℕ)) WireFault) → dropped_line kept ≡ None → lent_front found ≡ front_of kept
@@ -88,6 +93,7 @@ whole_next kept dropped line e enough some within = record {
   continues = λ bytes u. (drop (line.0 + (line.1 - dropped)) kept, unread_whole (drop (line.0 + (line.1 - dropped)) kept), whole_given kept dropped line bytes e enough u);
   room = tt;
   shrinks = omega (arith, length-drop (line.0 + (line.1 - dropped)) kept);
+  unchanged = tt;
 }
 
 pub less_next : (kept : List ℕ) (dropped : ℕ) (line : ℕ × ℕ) → dropped_line kept ≡ Some line → dropped + (length kept - line.0) < line.1
@@ -96,6 +102,7 @@ less_next kept dropped line e less = record {
   continues = λ bytes u. (bytes, u, (less_given kept dropped line bytes e less u).0);
   room = λ bytes u. (less_given kept dropped line bytes e less u).1;
   shrinks = tt;
+  unchanged = refl;
 }
 
 -- the length of a dropped write's line

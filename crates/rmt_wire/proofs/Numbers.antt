@@ -5,7 +5,7 @@ use Rattle.std.proofs.lemmas.Str.Parse.{digit_from_value}
 use Rattle.std.specs.Prelude.{◌&&◌, ◌||◌}
 use Rattle.std.specs.Char.{digit_value}
 use Rattle.std.specs.Str.Parse.{AllDigits, digits_value_after}
-use Rattle.rmt_wire.specs.Front.{Seen, is_digit, ends_number, number_from}
+use Rattle.rmt_wire.specs.Seen.{Seen, is_digit, ends_number, number_from}
 use Rattle.rmt_wire.specs.declared.fault.WireFault.TheVariants.{BadNumber}
 
 -- a choice has what each side has where the test goes its way

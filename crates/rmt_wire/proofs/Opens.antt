@@ -7,12 +7,14 @@ use Rattle.std.specs.Str.Parse.{digits_value}
 use Rattle.rmt_wire.specs.Number.{SpellsNumber, IsLine, line_feed}
 use Rattle.rmt_wire.specs.Request.{PlainRequest, SpellsMode, SpellsRequest}
 use Rattle.rmt_wire.specs.Request.PlainRequest.{Open, Close}
-use Rattle.rmt_wire.specs.Parts.{IsOpen}
-use Rattle.rmt_wire.specs.Front.{Seen, after, ends_number, number_front, line_front, mode_head, open_head, close_head, write_head, read_head, op_head, letter_head, head_of, request_at, front_of}
-use Rattle.rmt_wire.specs.Reader.{reader_limit, taken_of, dropped_line}
+use Rattle.rmt_wire.specs.RequestParts.{IsOpen}
+use Rattle.rmt_wire.specs.Seen.{Seen, after, ends_number, number_front}
+use Rattle.rmt_wire.specs.RequestFront.{line_front, mode_head, open_head, close_head, write_head, read_head, op_head, letter_head, head_of, request_at, front_of}
+use Rattle.rmt_wire.specs.Limits.{reader_limit}
+use Rattle.rmt_wire.specs.RequestReader.{taken_of, dropped_line}
 use Rattle.rmt_wire.specs.declared.fault.WireFault.{WireFault}
 use Rattle.rmt_wire.specs.declared.fault.WireFault.TheVariants.{UnknownCommand, BadNumber, LineTooLong}
-use Rattle.rmt_wire.specs.declared.head.Head.TheVariants as head
+use Rattle.rmt_wire.specs.declared.request.head.Head.TheVariants as head
 use Rattle.rmt_wire.proofs.Numbers.{AreDigits, NumberView, number_view, number_seen}
 use Rattle.rmt_wire.proofs.Lines.{AreOfLine, LineView, line_view}
 use Rattle.rmt_wire.proofs.Align.{align_less, align_same, no_feed_at, digits_no_feed}

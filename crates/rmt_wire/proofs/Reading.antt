@@ -4,8 +4,9 @@ use Rattle.std.proofs.lemmas.Bool.{cases_lt}
 use Rattle.std.proofs.lemmas.List.{length-append, drop_at}
 use Rattle.rmt_wire.specs.Number.{HasNoLineFeed, line_feed}
 use Rattle.rmt_wire.specs.Request.{PlainRequest, SpellsRequest}
-use Rattle.rmt_wire.specs.Parts.{IsOpen, Spelled, Parts, EndsInNumber, EndsInFullLine, IsCause, HasFault, Gives}
-use Rattle.rmt_wire.specs.Front.{Seen, front_of}
+use Rattle.rmt_wire.specs.RequestParts.{IsOpen, Spelled, Parts, EndsInNumber, EndsInFullLine, IsCause, HasFault, Gives}
+use Rattle.rmt_wire.specs.Seen.{Seen}
+use Rattle.rmt_wire.specs.RequestFront.{front_of}
 use Rattle.rmt_wire.specs.declared.fault.WireFault.{WireFault}
 use Rattle.rmt_wire.specs.declared.fault.WireFault.TheVariants.{UnknownCommand, BadNumber, LineTooLong, NotAReply, TooMuchData}
 use Rattle.rmt_wire.proofs.Align.{head_same, tail_same, align_less, align_same, no_feed_at}

@@ -8,10 +8,10 @@ use Rattle.rmt_wire.specs.Number.{SpellsNumber, HasNoLineFeed, line_feed}
 use Rattle.rmt_wire.specs.Reply.{PlainReply, Wanted, SpellsReply}
 use Rattle.rmt_wire.specs.Reply.PlainReply.{Done, Data, Error}
 use Rattle.rmt_wire.specs.Reply.Wanted.{Number, DataUpTo}
-use Rattle.rmt_wire.specs.ReplyParts.{IsOpen, IsTooMuch, IsCause}
-use Rattle.rmt_wire.specs.Reader.{reader_limit}
+use Rattle.rmt_wire.specs.ReplyParts.{ReplyIsOpen, IsTooMuch, ReplyIsCause}
+use Rattle.rmt_wire.specs.Limits.{reader_limit}
 use Rattle.rmt_wire.specs.ReplyReader.{IsWithin}
-use Rattle.rmt_wire.specs.Front.{Seen, after, number_front}
+use Rattle.rmt_wire.specs.Seen.{Seen, after, number_front}
 use Rattle.rmt_wire.specs.ReplyFront.{count_front, text_len, kept_text, error_at, data_at, done_front, error_front, reply_front, kept_behind, kept_of}
 use Rattle.rmt_wire.specs.declared.fault.WireFault.{WireFault}
 use Rattle.rmt_wire.specs.declared.fault.WireFault.TheVariants.{UnknownCommand, BadNumber, LineTooLong, NotAReply, TooMuchData}
@@ -117,14 +117,14 @@ kept_error number text n s =
 -- What the bytes begin with: a beginning of a reply, for which there is room; a reply; or bytes that a byte rules out,
 -- whatever follows it
 abbrev pub ReplyView : Wanted → List ℕ → Seen (PlainReply × ℕ) → Type 0
-ReplyView wanted bytes (Ok None) = IsOpen wanted bytes × (IsWithin wanted → length (kept_of bytes) < reader_limit)
+ReplyView wanted bytes (Ok None) = ReplyIsOpen wanted bytes × (IsWithin wanted → length (kept_of bytes) < reader_limit)
 ReplyView wanted bytes (Ok (Some p)) = (text rest : List ℕ) × (bytes ≡ text ++ rest) × SpellsReply text p.0 wanted × (p.1 ≡ length text)
 ReplyView wanted bytes (Err fault) =
-    (seen later : List ℕ) × (byte : ℕ) × (bytes ≡ seen ++ byte ∷ later) × IsOpen wanted seen × IsCause wanted seen byte fault
+    (seen later : List ℕ) × (byte : ℕ) × (bytes ≡ seen ++ byte ∷ later) × ReplyIsOpen wanted seen × ReplyIsCause wanted seen byte fault
     × ((more : List ℕ) → reply_front wanted (seen ++ byte ∷ more) ≡ Err fault)
 
 -- beginnings of replies
-open_error : (wanted : Wanted) (digits : List ℕ) → AreDigits 0 0 digits → IsOpen wanted (69 ∷ digits)
+open_error : (wanted : Wanted) (digits : List ℕ) → AreDigits 0 0 digits → ReplyIsOpen wanted (69 ∷ digits)
 open_error wanted digits d =
     let f = number_done digits d in (
       f.0 ++ line_feed ∷ line_feed ∷ [],
@@ -132,11 +132,11 @@ open_error wanted digits d =
       (digits ++ f.0, [], f.2, tt, refl, ap (λ t. 69 ∷ t) (sym (append_assoc digits f.0 (line_feed ∷ line_feed ∷ [])))),
     )
 
-open_text : (wanted : Wanted) (number line : List ℕ) (n : ℕ) → SpellsNumber number n → HasNoLineFeed line → IsOpen wanted (69 ∷ (number ++ line_feed ∷ line))
+open_text : (wanted : Wanted) (number line : List ℕ) (n : ℕ) → SpellsNumber number n → HasNoLineFeed line → ReplyIsOpen wanted (69 ∷ (number ++ line_feed ∷ line))
 open_text wanted number line n s h =
     (line_feed ∷ [], Error n (take 255 line), (number, line, s, h, refl, ap (λ t. 69 ∷ t) (append_assoc number (line_feed ∷ line) (line_feed ∷ []))))
 
-open_number : (digits : List ℕ) → AreDigits 0 0 digits → IsOpen Number (65 ∷ digits)
+open_number : (digits : List ℕ) → AreDigits 0 0 digits → ReplyIsOpen Number (65 ∷ digits)
 open_number digits d =
     let f = number_done digits d in
     (f.0 ++ line_feed ∷ [], Done f.1, (digits ++ f.0, f.2, ap (λ t. 65 ∷ t) (sym (append_assoc digits f.0 (line_feed ∷ [])))))
@@ -149,7 +149,7 @@ count_done most (b ∷ digits) d within = ([], digits_value 10 (b ∷ digits), (
 some_data : (most : ℕ) (number given : List ℕ) (n : ℕ) → SpellsNumber number n → n ≤ most → length given ≡ n → SpellsReply (65 ∷ (number ++ line_feed ∷ given)) (Data given) (DataUpTo most)
 some_data most number given n s within long = (number, subst (SpellsNumber number) (sym long) s, subst (λ k. k ≤ most) (sym long) within, refl)
 
-open_count : (most : ℕ) (digits : List ℕ) → AreDigits 0 0 digits → digits_value 10 digits ≤ most → IsOpen (DataUpTo most) (65 ∷ digits)
+open_count : (most : ℕ) (digits : List ℕ) → AreDigits 0 0 digits → digits_value 10 digits ≤ most → ReplyIsOpen (DataUpTo most) (65 ∷ digits)
 open_count most digits d within =
     let f = count_done most digits d within in
     let given : List ℕ = replicate f.1 0 in (
@@ -287,7 +287,7 @@ last_digit [] byte each = each.0
 last_digit (d ∷ digits) byte each = last_digit digits byte each.1
 
 -- the cause of such a fault
-count_cause : (most : ℕ) (digits : List ℕ) (byte : ℕ) (fault : WireFault) → AreDigits 0 0 digits → IsCountFault most 0 digits byte fault → IsCause (DataUpTo most) (65 ∷ digits) byte fault
+count_cause : (most : ℕ) (digits : List ℕ) (byte : ℕ) (fault : WireFault) → AreDigits 0 0 digits → IsCountFault most 0 digits byte fault → ReplyIsCause (DataUpTo most) (65 ∷ digits) byte fault
 count_cause most digits byte UnknownCommand d h = h
 count_cause most digits byte BadNumber d h = (
   (digits, d.each, few_digits digits d, inl refl),
@@ -340,7 +340,7 @@ error_view_of wanted bytes = error_view wanted bytes (number_front false bytes) 
 zero_text : SpellsNumber (48 ∷ []) 0
 zero_text = record { digits = (omega arith, (omega arith, tt)); few = omega arith; value = refl; small = omega arith }
 
-open_none : (wanted : Wanted) → IsOpen wanted []
+open_none : (wanted : Wanted) → ReplyIsOpen wanted []
 open_none wanted = (69 ∷ 48 ∷ line_feed ∷ line_feed ∷ [], Error 0 [], (48 ∷ [], [], zero_text, tt, refl, refl))
 
 letter_faulty : (wanted : Wanted) (letter : ℕ) (bytes : List ℕ) → eqb letter 65 ≡ false → eqb letter 69 ≡ false → reply_front wanted (letter ∷ bytes) ≡ Err NotAReply

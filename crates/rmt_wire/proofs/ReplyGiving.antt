@@ -4,8 +4,8 @@ use Rattle.std.proofs.lemmas.Bool.{cases_lt}
 use Rattle.std.proofs.lemmas.List.{drop_at}
 use Rattle.rmt_wire.specs.Reply.{PlainReply, Wanted, SpellsReply}
 use Rattle.rmt_wire.specs.Reply.Wanted.{Number, DataUpTo}
-use Rattle.rmt_wire.specs.ReplyParts.{IsOpen, HasNoSpelling, HasFault, EndsInNumber, IsTooMuch, IsCause, Gives}
-use Rattle.rmt_wire.specs.Front.{Seen}
+use Rattle.rmt_wire.specs.ReplyParts.{ReplyIsOpen, ReplyHasNoSpelling, ReplyHasFault, ReplyEndsInNumber, IsTooMuch, ReplyIsCause, ReplyGives}
+use Rattle.rmt_wire.specs.Seen.{Seen}
 use Rattle.rmt_wire.specs.ReplyFront.{reply_front}
 use Rattle.rmt_wire.specs.declared.fault.WireFault.{WireFault}
 use Rattle.rmt_wire.specs.declared.fault.WireFault.TheVariants.{UnknownCommand, BadNumber, LineTooLong, NotAReply, TooMuchData}
@@ -29,21 +29,21 @@ spelled_seen : (wanted : Wanted) (bytes text rest : List ℕ) (reply : PlainRepl
     → reply_front wanted bytes ≡ Ok (Some (reply, length text))
 spelled_seen wanted bytes text rest reply e s = ap (reply_front wanted) e ∙ reply_seen wanted text rest reply s
 
-no_spelling_in_none : (wanted : Wanted) (bytes : List ℕ) → reply_front wanted bytes ≡ Ok None → HasNoSpelling wanted bytes
+no_spelling_in_none : (wanted : Wanted) (bytes : List ℕ) → reply_front wanted bytes ≡ Ok None → ReplyHasNoSpelling wanted bytes
 no_spelling_in_none wanted bytes n text rest reply e s = let h = spelled_seen wanted bytes text rest reply e s in cc
 
-no_spelling_in_fault : (wanted : Wanted) (bytes : List ℕ) (fault : WireFault) → reply_front wanted bytes ≡ Err fault → HasNoSpelling wanted bytes
+no_spelling_in_fault : (wanted : Wanted) (bytes : List ℕ) (fault : WireFault) → reply_front wanted bytes ≡ Err fault → ReplyHasNoSpelling wanted bytes
 no_spelling_in_fault wanted bytes fault n text rest reply e s = let h = spelled_seen wanted bytes text rest reply e s in cc
 
 -- bytes that are a fault whatever follows are no beginning of a spelling
-not_open : (wanted : Wanted) (bytes : List ℕ) (fault : WireFault) → ((more : List ℕ) → reply_front wanted (bytes ++ more) ≡ Err fault) → ¬ IsOpen wanted bytes
+not_open : (wanted : Wanted) (bytes : List ℕ) (fault : WireFault) → ((more : List ℕ) → reply_front wanted (bytes ++ more) ≡ Err fault) → ¬ ReplyIsOpen wanted bytes
 not_open wanted bytes fault always o =
     let h = spelled_seen wanted (bytes ++ o.0) (bytes ++ o.0) [] o.1 (sym (append-nil (bytes ++ o.0))) o.2 in
     let k = always o.0 in
     cc
 
 gives_at : (wanted : Wanted) (bytes : List ℕ) (seen : Seen (PlainReply × ℕ)) → reply_front wanted bytes ≡ seen → ReplyView wanted bytes seen
-    → Gives (Some wanted) bytes (answer_to seen) (rest_behind seen bytes)
+    → ReplyGives (Some wanted) bytes (answer_to seen) (rest_behind seen bytes)
 gives_at wanted bytes (Ok None) e v = (v.0, no_spelling_in_none wanted bytes e, refl)
 gives_at wanted bytes (Ok (Some p)) e v =
     (v.0, v.3, v.2 ∙ ap (λ t. v.0 ++ t) (sym (ap (λ n. drop n bytes) v.4 ∙ ap (drop (length v.0)) v.2 ∙ drop_at v.0 v.1 (length v.0) refl)))
@@ -63,11 +63,11 @@ gives_at wanted bytes (Err fault) e v = (
 
 -- what is seen of the bytes is what a reader is to give of them
 pub gives_of : (wanted : Wanted) (bytes : List ℕ) (seen : Seen (PlainReply × ℕ)) → reply_front wanted bytes ≡ seen
-    → Gives (Some wanted) bytes (answer_to seen) (rest_behind seen bytes)
+    → ReplyGives (Some wanted) bytes (answer_to seen) (rest_behind seen bytes)
 gives_of wanted bytes seen e = gives_at wanted bytes seen e (subst (ReplyView wanted bytes) e (reply_view wanted bytes))
 
 -- an open beginning is not a fault
-never_open : (wanted : Wanted) (bytes : List ℕ) (fault : WireFault) → HasFault wanted bytes fault → (more : List ℕ) → ¬ IsOpen wanted (bytes ++ more)
+never_open : (wanted : Wanted) (bytes : List ℕ) (fault : WireFault) → ReplyHasFault wanted bytes fault → (more : List ℕ) → ¬ ReplyIsOpen wanted (bytes ++ more)
 never_open wanted bytes fault f more o =
     f.hopeless (
       (f.later ++ more) ++ o.0,
@@ -79,8 +79,8 @@ never_open wanted bytes fault f more o =
           o.2,
     )
 
-open_or_fault : (wanted : Wanted) (bytes : List ℕ) (fault : WireFault) → IsOpen wanted bytes → HasFault wanted bytes fault → ⊥
-open_or_fault wanted bytes fault o f = never_open wanted bytes fault f [] (subst (IsOpen wanted) (sym (append-nil bytes)) o)
+open_or_fault : (wanted : Wanted) (bytes : List ℕ) (fault : WireFault) → ReplyIsOpen wanted bytes → ReplyHasFault wanted bytes fault → ⊥
+open_or_fault wanted bytes fault o f = never_open wanted bytes fault f [] (subst (ReplyIsOpen wanted) (sym (append-nil bytes)) o)
 
 found_same : (p q : PlainReply × ℕ) → ◌≡◌ {A = Seen (PlainReply × ℕ)} (Ok (Some p)) (Ok (Some q)) → p ≡ q
 found_same p q e = cc
@@ -105,14 +105,14 @@ first_same wanted bytes text rest text' rest' r r' e s e' s' =
 no_letter : (letter : ℕ) (xs seen : List ℕ) → seen ≡ [] → seen ≡ letter ∷ xs → ⊥
 no_letter letter xs seen e f = let h : letter ∷ xs ≡ [] = sym f ∙ e in cc
 
-number_some : (seen : List ℕ) → seen ≡ [] → EndsInNumber seen → ⊥
+number_some : (seen : List ℕ) → seen ≡ [] → ReplyEndsInNumber seen → ⊥
 number_some seen e n = ⊎_elim (no_letter 65 n.0 seen e) (no_letter 69 n.0 seen e) n.3
 
 much_some : (wanted : Wanted) (seen : List ℕ) (byte : ℕ) → seen ≡ [] → IsTooMuch wanted seen byte → ⊥
 much_some Number seen byte e m = m
 much_some (DataUpTo most) seen byte e m = no_letter 65 m.0 seen e m.1
 
-cause_same : (wanted : Wanted) (seen : List ℕ) (byte : ℕ) (f g : WireFault) → IsCause wanted seen byte f → IsCause wanted seen byte g → f ≡ g
+cause_same : (wanted : Wanted) (seen : List ℕ) (byte : ℕ) (f g : WireFault) → ReplyIsCause wanted seen byte f → ReplyIsCause wanted seen byte g → f ≡ g
 cause_same wanted seen byte UnknownCommand g p q = absurd p
 cause_same wanted seen byte LineTooLong g p q = absurd p
 cause_same wanted seen byte BadNumber UnknownCommand p q = absurd q
@@ -132,7 +132,7 @@ cause_same wanted seen byte TooMuchData NotAReply p q = absurd (much_some wanted
 cause_same wanted seen byte TooMuchData TooMuchData p q = refl
 
 -- of two hopeless beginnings the shorter is not within what is still open
-not_before : (wanted : Wanted) (bytes : List ℕ) (f g : WireFault) (a : HasFault wanted bytes f) (b : HasFault wanted bytes g) → length a.seen < length b.seen → ⊥
+not_before : (wanted : Wanted) (bytes : List ℕ) (f g : WireFault) (a : ReplyHasFault wanted bytes f) (b : ReplyHasFault wanted bytes g) → length a.seen < length b.seen → ⊥
 not_before wanted bytes f g a b less =
     let w = align_less a.seen b.seen a.later (b.byte ∷ b.later) a.byte (sym a.split ∙ b.split) less in
     let o = b.open_before in
@@ -149,7 +149,7 @@ byte_same : (p q x y : List ℕ) (a b : ℕ) → p ++ a ∷ x ≡ q ++ b ∷ y �
 byte_same p q x y a b e long =
     head_same a b x y (sym (drop_at p (a ∷ x) (length p) refl) ∙ ap (drop (length p)) e ∙ drop_at q (b ∷ y) (length p) (sym long))
 
-fault_same : (wanted : Wanted) (bytes : List ℕ) (f g : WireFault) → HasFault wanted bytes f → HasFault wanted bytes g → f ≡ g
+fault_same : (wanted : Wanted) (bytes : List ℕ) (f g : WireFault) → ReplyHasFault wanted bytes f → ReplyHasFault wanted bytes g → f ≡ g
 fault_same wanted bytes f g a b =
     ⊎_elim
     (λ (less : length a.seen < length b.seen). absurd (not_before wanted bytes f g a b less))
@@ -160,7 +160,7 @@ fault_same wanted bytes f g a b =
     let whole = sym a.split ∙ b.split in
     let same : a.seen ≡ b.seen = align_same a.seen b.seen (a.byte ∷ a.later) (b.byte ∷ b.later) whole (omega arith) in
     let byte : a.byte ≡ b.byte = byte_same a.seen b.seen a.later b.later a.byte b.byte whole (omega arith) in
-    cause_same wanted b.seen b.byte f g (subst (λ n. IsCause wanted b.seen n f) byte (subst (λ t. IsCause wanted t a.byte f) same a.cause)) b.cause)
+    cause_same wanted b.seen b.byte f g (subst (λ n. ReplyIsCause wanted b.seen n f) byte (subst (λ t. ReplyIsCause wanted t a.byte f) same a.cause)) b.cause)
     (cases_lt (length b.seen) (length a.seen)))
     (cases_lt (length a.seen) (length b.seen))
 
@@ -171,8 +171,8 @@ fault_answer : (f g : WireFault) → f ≡ g → ◌≡◌ {A = Seen PlainReply}
 fault_answer f g e = ap Err e
 
 -- at each place a reader can give one thing only
-pub one_answer : (wanted : Option Wanted) (bytes rest other : List ℕ) (answer another : Result (Option PlainReply) WireFault) → Gives wanted bytes answer rest
-    → Gives wanted bytes another other → (answer ≡ another) × (rest ≡ other)
+pub one_answer : (wanted : Option Wanted) (bytes rest other : List ℕ) (answer another : Result (Option PlainReply) WireFault) → ReplyGives wanted bytes answer rest
+    → ReplyGives wanted bytes another other → (answer ≡ another) × (rest ≡ other)
 one_answer None bytes rest other (Ok (Some r)) another p q = absurd p
 one_answer None bytes rest other (Ok None) (Ok (Some r)) p q = absurd q
 one_answer None bytes rest other (Ok None) (Ok None) p q = (refl, p.1 ∙ sym q.1)
@@ -193,11 +193,11 @@ one_answer (Some wanted) bytes rest other (Err f) (Ok None) p q = absurd (open_o
 one_answer (Some wanted) bytes rest other (Err f) (Err g) p q = (fault_answer f g (fault_same wanted bytes f g p.0 q.0), p.2 ∙ sym q.2)
 
 -- and one thing there is
-some_of_none : (bytes : List ℕ) → (answer : Result (Option PlainReply) WireFault) × (rest : List ℕ) × Gives None bytes answer rest
+some_of_none : (bytes : List ℕ) → (answer : Result (Option PlainReply) WireFault) × (rest : List ℕ) × ReplyGives None bytes answer rest
 some_of_none [] = (Ok None, [], (refl, refl))
 some_of_none (b ∷ bytes) = (Err TooMuchData, b ∷ bytes, ((λ e. let h : b ∷ bytes ≡ [] = e in cc), refl, refl))
 
-pub some_answer_of : (wanted : Option Wanted) (bytes : List ℕ) → (answer : Result (Option PlainReply) WireFault) × (rest : List ℕ) × Gives wanted bytes answer rest
+pub some_answer_of : (wanted : Option Wanted) (bytes : List ℕ) → (answer : Result (Option PlainReply) WireFault) × (rest : List ℕ) × ReplyGives wanted bytes answer rest
 some_answer_of None bytes = some_of_none bytes
 some_answer_of (Some wanted) bytes =
     let seen = reply_front wanted bytes in

@@ -7,14 +7,14 @@ use Rattle.std.specs.Option.{is_some}
 use Rattle.rmt_wire.specs.Number.{SpellsNumber, HasNoLineFeed, line_feed}
 use Rattle.rmt_wire.specs.Reply.{PlainReply, Wanted}
 use Rattle.rmt_wire.specs.Reply.PlainReply.{Error}
-use Rattle.rmt_wire.specs.ReplyParts.{Gives, wanted_after}
-use Rattle.rmt_wire.specs.Front.{Seen, number_front}
+use Rattle.rmt_wire.specs.ReplyParts.{ReplyGives, wanted_after}
+use Rattle.rmt_wire.specs.Seen.{Seen, number_front}
 use Rattle.rmt_wire.specs.ReplyFront.{reply_front, text_len, kept_text, kept_behind, kept_of}
-use Rattle.rmt_wire.specs.Reader.{reader_limit}
-use Rattle.rmt_wire.specs.ReplyReader.{held, IsWithin, kept_while, Unread, taken_of, IsNext, StaysFaulty, told_front, held_after, IsErrorText}
+use Rattle.rmt_wire.specs.Limits.{reader_limit}
+use Rattle.rmt_wire.specs.ReplyReader.{reply_held, IsWithin, kept_while, ReplyUnread, reply_taken_of, ReplyIsNext, ReplyStaysFaulty, reply_told_front, reply_held_after, IsErrorText}
 use Rattle.rmt_wire.specs.Lent.{plain_reply, lent_reply, plain_wanted, plain_wanted_if_some}
 use Rattle.rmt_wire.specs.declared.reply.Reply.{Reply}
-use Rattle.rmt_wire.specs.declared.wanted.Wanted as declared
+use Rattle.rmt_wire.specs.declared.reply.wanted.Wanted as declared
 use Rattle.rmt_wire.specs.declared.fault.WireFault.{WireFault}
 use Rattle.rmt_wire.specs.declared.fault.WireFault.TheVariants.{TooMuchData}
 use Rattle.rmt_wire.proofs.Numbers.{NumberView, number_view}
@@ -134,7 +134,7 @@ same_seen wanted bytes seen e =
 -- what is given of the bytes, where this is found in those that are kept
 abbrev Given : Wanted → List ℕ → List ℕ → Result (Option (Reply × ℕ)) WireFault → Type 0
 Given wanted kept bytes found =
-    (rest : List ℕ) × Unread (held_after found (held (Some wanted) kept)) (wanted_after (Some wanted) (told_front found)) rest × Gives (Some wanted) bytes (told_front found) rest
+    (rest : List ℕ) × ReplyUnread (reply_held_after found (reply_held (Some wanted) kept)) (wanted_after (Some wanted) (reply_told_front found)) rest × ReplyGives (Some wanted) bytes (reply_told_front found) rest
 
 given : (wanted : Wanted) (kept bytes : List ℕ) (found : Result (Option (Reply × ℕ)) WireFault) → kept ≡ kept_of bytes → lent_reply found ≡ reply_front wanted kept
     → Given wanted kept bytes found
@@ -153,13 +153,13 @@ some_same a b e = cc
 
 -- whatever is waited for and was pushed, as the reader tells it
 continues_at : (old : Wanted) (kept : List ℕ) (found : Result (Option (Reply × ℕ)) WireFault) (wanted : Option Wanted) (bytes : List ℕ) → lent_reply found ≡ reply_front old kept
-    → Unread (held (Some old) kept) wanted bytes
-    → (rest : List ℕ) × Unread (held_after found (held (Some old) kept)) (wanted_after wanted (told_front found)) rest × Gives wanted bytes (told_front found) rest
+    → ReplyUnread (reply_held (Some old) kept) wanted bytes
+    → (rest : List ℕ) × ReplyUnread (reply_held_after found (reply_held (Some old) kept)) (wanted_after wanted (reply_told_front found)) rest × ReplyGives wanted bytes (reply_told_front found) rest
 continues_at old kept found None bytes e u = let h = u.waits in absurd (cc)
 continues_at old kept found (Some wanted) bytes e u =
     let same : old ≡ wanted = some_same old wanted u.waits in
     let g = given old kept bytes found u.keeps e in
-    subst (λ w. (rest : List ℕ) × Unread (held_after found (held (Some old) kept)) (wanted_after (Some w) (told_front found)) rest × Gives (Some w) bytes (told_front found) rest) same g
+    subst (λ w. (rest : List ℕ) × ReplyUnread (reply_held_after found (reply_held (Some old) kept)) (wanted_after (Some w) (reply_told_front found)) rest × ReplyGives (Some w) bytes (reply_told_front found) rest) same g
 
 -- where a beginning is all that there is, there is room for more
 room_at : (wanted : Wanted) (bytes : List ℕ) (seen : Seen (PlainReply × ℕ)) → seen ≡ Ok None → IsWithin wanted → ReplyView wanted bytes seen → length (kept_of bytes) < reader_limit
@@ -167,8 +167,8 @@ room_at wanted bytes (Ok None) e within v = v.1 within
 room_at wanted bytes (Ok (Some p)) e within v = absurd (cc)
 room_at wanted bytes (Err fault) e within v = absurd (cc)
 
-room_of : (old : Wanted) (kept : List ℕ) (wanted : Option Wanted) (bytes : List ℕ) → IsWithin old → reply_front old kept ≡ Ok None → Unread (held (Some old) kept) wanted bytes
-    → taken_of wanted bytes < reader_limit
+room_of : (old : Wanted) (kept : List ℕ) (wanted : Option Wanted) (bytes : List ℕ) → IsWithin old → reply_front old kept ≡ Ok None → ReplyUnread (reply_held (Some old) kept) wanted bytes
+    → reply_taken_of wanted bytes < reader_limit
 room_of old kept None bytes within e u = let h = u.waits in absurd (cc)
 room_of old kept (Some wanted) bytes within e u =
     let same : old ≡ wanted = some_same old wanted u.waits in
@@ -177,18 +177,21 @@ room_of old kept (Some wanted) bytes within e u =
     room_at old bytes (reply_front old bytes) none within (reply_view old bytes)
 
 pub some_next : (old : Wanted) (kept : List ℕ) (found : Result (Option (Reply × ℕ)) WireFault) → IsWithin old → lent_reply found ≡ reply_front old kept
-    → IsNext (held (Some old) kept) (told_front found) (held_after found (held (Some old) kept))
+    → ReplyIsNext (reply_held (Some old) kept) (reply_told_front found) (reply_held_after found (reply_held (Some old) kept))
 some_next old kept (Ok None) within e = record {
   continues = λ wanted bytes u. continues_at old kept (Ok None) wanted bytes e u;
   room = λ wanted bytes u. room_of old kept wanted bytes within (sym e) u;
+  unchanged = refl;
 }
 some_next old kept (Ok (Some f)) within e = record {
   continues = λ wanted bytes u. continues_at old kept (Ok (Some f)) wanted bytes e u;
   room = tt;
+  unchanged = tt;
 }
 some_next old kept (Err fault) within e = record {
   continues = λ wanted bytes u. continues_at old kept (Err fault) wanted bytes e u;
   room = tt;
+  unchanged = refl;
 }
 
 -- a fault is seen whatever follows
@@ -198,17 +201,17 @@ always_at wanted bytes (Ok None) fault more e v = absurd (cc)
 always_at wanted bytes (Ok (Some p)) fault more e v = absurd (cc)
 always_at wanted bytes (Err other) fault more e v = ap (reply_front wanted) (fault_stays v.0 v.1 more v.2 bytes v.3) ∙ v.6 (v.1 ++ more) ∙ e
 
-faulty_at : (old : Wanted) (kept : List ℕ) (fault : WireFault) (wanted : Option Wanted) (bytes more : List ℕ) → reply_front old kept ≡ Err fault → Unread (held (Some old) kept) wanted bytes
-    → Gives wanted (bytes ++ more) (Err fault) (bytes ++ more)
+faulty_at : (old : Wanted) (kept : List ℕ) (fault : WireFault) (wanted : Option Wanted) (bytes more : List ℕ) → reply_front old kept ≡ Err fault → ReplyUnread (reply_held (Some old) kept) wanted bytes
+    → ReplyGives wanted (bytes ++ more) (Err fault) (bytes ++ more)
 faulty_at old kept fault None bytes more e u = let h = u.waits in absurd (cc)
 faulty_at old kept fault (Some wanted) bytes more e u =
     let same : old ≡ wanted = some_same old wanted u.waits in
     let here : reply_front old bytes ≡ Err fault = same_seen old bytes (Err fault) (sym (ap (reply_front old) u.keeps) ∙ e) in
     let later = always_at old bytes (reply_front old bytes) fault more here (reply_view old bytes) in
-    subst (λ w. Gives (Some w) (bytes ++ more) (Err fault) (bytes ++ more)) same (gives_of old (bytes ++ more) (Err fault) later)
+    subst (λ w. ReplyGives (Some w) (bytes ++ more) (Err fault) (bytes ++ more)) same (gives_of old (bytes ++ more) (Err fault) later)
 
 pub some_faulty : (old : Wanted) (kept : List ℕ) (found : Result (Option (Reply × ℕ)) WireFault) → lent_reply found ≡ reply_front old kept
-    → StaysFaulty (held (Some old) kept) (told_front found)
+    → ReplyStaysFaulty (reply_held (Some old) kept) (reply_told_front found)
 some_faulty old kept (Ok None) e = tt
 some_faulty old kept (Ok (Some f)) e = tt
 some_faulty old kept (Err fault) e = λ wanted bytes more u. faulty_at old kept fault wanted bytes more (sym e) u
@@ -218,15 +221,15 @@ some_more : (bytes more : List ℕ) → bytes ≢ [] → bytes ++ more ≢ []
 some_more [] more h = absurd (h refl)
 some_more (b ∷ bytes) more h = λ e. let f : b ∷ (bytes ++ more) ≡ [] = e in cc
 
-none_at : (kept : List ℕ) (wanted : Option Wanted) (bytes : List ℕ) → Unread (held None kept) wanted bytes → (wanted ≡ None) × (kept ≡ bytes)
+none_at : (kept : List ℕ) (wanted : Option Wanted) (bytes : List ℕ) → ReplyUnread (reply_held None kept) wanted bytes → (wanted ≡ None) × (kept ≡ bytes)
 none_at kept None bytes u = (refl, u.keeps)
 none_at kept (Some wanted) bytes u = let h = u.waits in absurd (cc)
 
-pub none_faulty : (kept : List ℕ) → kept ≢ [] → StaysFaulty (held None kept) (Err TooMuchData)
+pub none_faulty : (kept : List ℕ) → kept ≢ [] → ReplyStaysFaulty (reply_held None kept) (Err TooMuchData)
 none_faulty kept some = λ wanted bytes more u.
     let n = none_at kept wanted bytes u in
     let here : bytes ≢ [] = λ e. some (n.1 ∙ e) in
-    subst (λ w. Gives w (bytes ++ more) (Err TooMuchData) (bytes ++ more)) (sym n.0) (some_more bytes more here, refl, refl)
+    subst (λ w. ReplyGives w (bytes ++ more) (Err TooMuchData) (bytes ++ more)) (sym n.0) (some_more bytes more here, refl, refl)
 
 -- a test says whether bytes are kept
 pub some_kept : (kept : List ℕ) (test : Bool) → test ≡ eqb (length kept) 0 → test ≡ false → kept ≢ []
@@ -255,7 +258,7 @@ kept_nothing (Some wanted) = kept_of_none
 
 -- the bytes kept are none exactly where their start is the end
 pub empty_at : (items : List ℕ) (start : ℕ) (was : Option Wanted) (wanted : Option Wanted) (bytes : List ℕ) (len : ℕ) → len ≡ length items → start ≤ length items
-    → Unread (held was (drop start items)) wanted bytes → (eqb len start ≡ true → bytes ≡ []) × (bytes ≡ [] → eqb len start ≡ true)
+    → ReplyUnread (reply_held was (drop start items)) wanted bytes → (eqb len start ≡ true → bytes ≡ []) × (bytes ≡ [] → eqb len start ≡ true)
 empty_at items start was wanted bytes len e within u = (
   λ t.
       let same : len ≡ start = grind (arith, nat_tests) in
@@ -268,13 +271,13 @@ empty_at items start was wanted bytes len e within u = (
 )
 
 -- where the start is the end, nothing is held
-pub all_given : (items : List ℕ) (start : ℕ) (was : Option Wanted) (len : ℕ) → len ≡ length items → start ≤ length items → eqb len start ≡ true → Unread (held was (drop start items)) was []
+pub all_given : (items : List ℕ) (start : ℕ) (was : Option Wanted) (len : ℕ) → len ≡ length items → start ≤ length items → eqb len start ≡ true → ReplyUnread (reply_held was (drop start items)) was []
 all_given items start was len e within t =
     let same : len ≡ start = grind (arith, nat_tests) in
     record { waits = refl; keeps = nil_from_length (drop start items) (omega (arith, length-drop start items)) ∙ sym (kept_nothing was) }
 
 -- a reader that holds nothing waits for what it is told to
-pub expected : (wanted : Wanted) (kept : List ℕ) → Unread (held None kept) None [] → Unread (held (Some wanted) kept) (Some wanted) []
+pub expected : (wanted : Wanted) (kept : List ℕ) → ReplyUnread (reply_held None kept) None [] → ReplyUnread (reply_held (Some wanted) kept) (Some wanted) []
 expected wanted kept u = record { waits = refl; keeps = u.keeps ∙ sym kept_of_none }
 
 some_wanted : (o : Option declared.Wanted) (wanted : Option Wanted) → is_some o ≡ true → plain_wanted_if_some o ≡ wanted → (w : Wanted) × (wanted ≡ Some w)
@@ -286,7 +289,7 @@ pub push_kept : (o : Option declared.Wanted) (kept mid new all piece bytes : Lis
     → drop start mid ≡ kept ++ piece → start ≤ length mid → all ≡ mid
     → kept_of (take (length all - start) (drop start all)) ≡ take at (take (length all - start) (drop start all)) ++ drop (at + gone) (take (length all - start) (drop start all))
     → at + gone ≤ length (take (length all - start) (drop start all)) → new ≡ take (start + at) mid ++ drop (start + at + gone) mid
-    → Unread (held (plain_wanted_if_some o) kept) wanted bytes → Unread (held (plain_wanted_if_some o) (drop start new)) wanted (bytes ++ piece)
+    → ReplyUnread (reply_held (plain_wanted_if_some o) kept) wanted bytes → ReplyUnread (reply_held (plain_wanted_if_some o) (drop start new)) wanted (bytes ++ piece)
 push_kept o kept mid new all piece bytes wanted start at gone some behind within same cut short is u =
     let w = some_wanted o wanted some u.waits in
     let view : take (length all - start) (drop start all) ≡ drop start mid = take_rest all start ∙ ap (drop start) same in

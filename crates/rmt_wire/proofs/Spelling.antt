@@ -3,10 +3,11 @@ use Rattle.std.proofs.Common.{◌≡◌, ℕ, ◌^◌, ◌<◌, ◌≤◌, List,
 use Rattle.std.proofs.lemmas.Fmt.{decimal_is_IsNumeral, length-decimal-le}
 use Rattle.std.proofs.lemmas.List.{take_all, nil_from_length}
 use Rattle.rmt_wire.specs.Number.{SpellsNumber, IsLine, line_feed}
-use Rattle.rmt_wire.specs.Reply.{PlainReply, Wanted, HasSpelling, AnswersTo, SpellsReply, reply_text}
+use Rattle.rmt_wire.specs.Limits.{data_limit, reader_limit}
+use Rattle.rmt_wire.specs.ReplyReader.{IsWithin}
+use Rattle.rmt_wire.specs.Reply.{PlainReply, Wanted, ReplyHasSpelling, AnswersTo, SpellsReply, data_length, reply_text}
 use Rattle.rmt_wire.specs.Reply.PlainReply.{Done, Data, Error}
-use Rattle.rmt_wire.specs.Request as requests
-use Rattle.rmt_wire.specs.Request.{PlainRequest, SpellsRequest, request_text, IsTextOf}
+use Rattle.rmt_wire.specs.Request.{PlainRequest, HasSpelling, SpellsRequest, request_text, unsent, IsTextOf}
 use Rattle.rmt_wire.specs.Request.PlainRequest.{Open, Close, Write, WriteDropped, Read, Op}
 use Rattle.rmt_wire.proofs.Align.{digits_no_feed}
 use Rattle.rmt_wire.specs.Reply.Wanted.{Number, DataUpTo}
@@ -30,7 +31,7 @@ decimal_spells n small =
     }
 
 -- what a writer writes of a reply spells it, for each wanted kind that it is one to
-pub reply_text_spells : (reply : PlainReply) → HasSpelling reply → (wanted : Wanted) → AnswersTo reply wanted
+pub reply_text_spells : (reply : PlainReply) → ReplyHasSpelling reply → (wanted : Wanted) → AnswersTo reply wanted
     → SpellsReply (reply_text reply) reply wanted
 reply_text_spells (Done n) spelled Number answers = (decimal n, decimal_spells n spelled, refl)
 reply_text_spells (Done n) spelled (DataUpTo most) answers = answers
@@ -48,13 +49,13 @@ decimal_is_line n small =
     (omega arith, digits_no_feed (decimal n) s.digits.1)
 
 -- what spells the request with nothing behind it
-whole_text : (request : PlainRequest) → requests.unsent request ≡ 0 → SpellsRequest (request_text request) request → IsTextOf (request_text request) request
+whole_text : (request : PlainRequest) → unsent request ≡ 0 → SpellsRequest (request_text request) request → IsTextOf (request_text request) request
 whole_text request none s = λ more long.
     let nothing : more ≡ [] = nil_from_length more (long ∙ none) in
     subst (λ t. SpellsRequest t request) (sym (ap (λ l. request_text request ++ l) nothing ∙ append-nil (request_text request))) s
 
 -- what a writer writes of a request spells it, once the data follow that were dropped
-pub request_text_spells : (request : PlainRequest) → requests.HasSpelling request → IsTextOf (request_text request) request
+pub request_text_spells : (request : PlainRequest) → HasSpelling request → IsTextOf (request_text request) request
 request_text_spells (Open device mode) h =
     whole_text (Open device mode) refl (decimal mode, h.0, (decimal_is_line mode h.1, inl (decimal_spells mode h.1)), refl)
 request_text_spells Close h = whole_text Close refl ([], (omega arith, tt), refl)
@@ -71,3 +72,20 @@ request_text_spells (WriteDropped count) h = λ more long. (
 request_text_spells (Read count) h = whole_text (Read count) refl (decimal count, decimal_spells count h, refl)
 request_text_spells (Op op count) h =
     whole_text (Op op count) refl (decimal op, decimal count, decimal_spells op h.0, decimal_spells count h.1, refl)
+
+-- what a writer writes of a reply fits into a reader, where its data are a record's
+pub short_reply : (reply : PlainReply) → ReplyHasSpelling reply → data_length reply ≤ data_limit → length (reply_text reply) ≤ reader_limit
+short_reply (Done n) h few = omega (arith, length-append (decimal n) (line_feed ∷ []), decimal_is_short n h)
+short_reply (Data bytes) h few =
+    omega (arith, length-append (decimal (length bytes)) (line_feed ∷ bytes), decimal_is_short (length bytes) h)
+short_reply (Error n text) h few =
+    let number = decimal_is_short n h.0 in
+    let short = h.1 in
+    omega (arith, length-append (decimal n) (line_feed ∷ (text ++ line_feed ∷ [])), length-append text (line_feed ∷ []))
+
+-- and they are where it answers one who may wait for it
+pub short_answer : (reply : PlainReply) (wanted : Wanted) → AnswersTo reply wanted → IsWithin wanted → data_length reply ≤ data_limit
+short_answer (Done n) wanted answers within = omega arith
+short_answer (Data bytes) Number answers within = absurd answers
+short_answer (Data bytes) (DataUpTo most) answers within = omega arith
+short_answer (Error n text) wanted answers within = omega arith

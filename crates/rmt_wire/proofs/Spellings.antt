@@ -4,10 +4,12 @@ use Rattle.std.proofs.lemmas.Bool.Decides.{nat_tests}
 use Rattle.std.proofs.lemmas.List.{length-append, take_at}
 use Rattle.std.specs.Str.Parse.{digits_value_after}
 use Rattle.rmt_wire.specs.Number.{SpellsNumber, IsLine, line_feed, space}
-use Rattle.rmt_wire.specs.Request.{PlainRequest, SpellsMode, SpellsRequest, data_limit}
+use Rattle.rmt_wire.specs.Request.{PlainRequest, SpellsMode, SpellsRequest}
+use Rattle.rmt_wire.specs.Limits.{data_limit}
 use Rattle.rmt_wire.specs.Request.PlainRequest.{Open, Close, Write, WriteDropped, Read, Op}
-use Rattle.rmt_wire.specs.Front.{after, ends_number, number_front, line_front, mode_head, open_head, close_head, write_head, read_head, count_head, op_head, letter_head, head_of, written_at, request_at, front_of}
-use Rattle.rmt_wire.specs.declared.head.Head.TheVariants as head
+use Rattle.rmt_wire.specs.Seen.{after, ends_number, number_front}
+use Rattle.rmt_wire.specs.RequestFront.{line_front, mode_head, open_head, close_head, write_head, read_head, count_head, op_head, letter_head, head_of, written_at, request_at, front_of}
+use Rattle.rmt_wire.specs.declared.request.head.Head.TheVariants as head
 use Rattle.rmt_wire.proofs.Numbers.{AreDigits, number_seen}
 use Rattle.rmt_wire.proofs.Lines.{line_seen}
 

@@ -1,8 +1,8 @@
 -- Every stream falls into requests and a rest.
 use Rattle.std.proofs.Common.{ℕ, zero, suc, ◌<◌, ◌⊎◌, List, [], ◌∷◌, length, Option, Some, None, Result, Ok, Err, refl, arith, inl, inr}
 use Rattle.rmt_wire.specs.Request.{PlainRequest}
-use Rattle.rmt_wire.specs.Parts.{IsOpen, HasFault, Parts, Gives}
-use Rattle.rmt_wire.specs.Front.{front_of}
+use Rattle.rmt_wire.specs.RequestParts.{IsOpen, HasFault, Parts, Gives}
+use Rattle.rmt_wire.specs.RequestFront.{front_of}
 use Rattle.rmt_wire.specs.declared.fault.WireFault.{WireFault}
 use Rattle.rmt_wire.proofs.Giving.{gives, answer_to, rest_behind}
 use Rattle.rmt_wire.proofs.Nexts.{given_shrinks}

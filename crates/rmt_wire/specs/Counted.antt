@@ -18,9 +18,13 @@ counting_code {T} code =
     (λ p. record { inner = p.0; failures = p.1.0; left = p.1.1 })
     (λ _. refl)
 
--- the count after one failure more, which stays at the greatest u64
+-- the next count, which stays at the greatest u64
+abbrev pub counted : ℕ → ℕ
+counted n = min (n + 1) (2 ^ 64 - 1)
+
+-- the count after one failure more, which is no less
 abbrev pub raised : ℕ → ℕ
-raised n = max n (min (n + 1) (2 ^ 64 - 1))
+raised n = max n (counted n)
 
 -- the count has risen, or stands at its greatest value
 abbrev pub HasRisen : ℕ → ℕ → Type 0

@@ -10,8 +10,8 @@ use Rattle.rmt_wire.specs.declared.request.Request.{Request}
 use Rattle.rmt_wire.specs.declared.request.Request.TheVariants as lent
 use Rattle.rmt_wire.specs.declared.reply.Reply.{Reply}
 use Rattle.rmt_wire.specs.declared.reply.Reply.TheVariants as reply
-use Rattle.rmt_wire.specs.declared.wanted.Wanted.{Wanted}
-use Rattle.rmt_wire.specs.declared.wanted.Wanted.TheVariants as wanted
+use Rattle.rmt_wire.specs.declared.reply.wanted.Wanted.{Wanted}
+use Rattle.rmt_wire.specs.declared.reply.wanted.Wanted.TheVariants as wanted
 
 abbrev pub plain_request : Request → PlainRequest
 plain_request (lent.Open device mode) = Open device.now mode

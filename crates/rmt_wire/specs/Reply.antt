@@ -26,10 +26,16 @@ SpellsReply bytes (Error n text) wanted =
     × (bytes ≡ 69 ∷ (number ++ line_feed ∷ (line ++ line_feed ∷ [])))
 
 -- a reply that a writer can spell: its number is one, and its text one line of at most 255 bytes
-abbrev pub HasSpelling : PlainReply → Type 0
-HasSpelling (Done n) = n ≤ 2147483647
-HasSpelling (Data bytes) = length bytes ≤ 2147483647
-HasSpelling (Error n text) = (n ≤ 2147483647) × (length text ≤ 255) × HasNoLineFeed text
+abbrev pub ReplyHasSpelling : PlainReply → Type 0
+ReplyHasSpelling (Done n) = n ≤ 2147483647
+ReplyHasSpelling (Data bytes) = length bytes ≤ 2147483647
+ReplyHasSpelling (Error n text) = (n ≤ 2147483647) × (length text ≤ 255) × HasNoLineFeed text
+
+-- how many bytes of data a reply brings
+abbrev pub data_length : PlainReply → ℕ
+data_length (Done n) = 0
+data_length (Data bytes) = length bytes
+data_length (Error n text) = 0
 
 -- what a writer writes: numbers without leading zeros
 abbrev pub reply_text : PlainReply → List ℕ

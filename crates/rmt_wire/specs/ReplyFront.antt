@@ -2,7 +2,7 @@
 -- texts.
 use Rattle.std.specs.Prelude.{ℕ, suc, ◌+◌, ◌-◌, ◌*◌, ◌==◌, ◌&&◌, ◌||◌, false, if◌then◌else◌, nat_lt, min, List, [], ◌∷◌, ◌++◌, length, take, drop, Some, None, Ok, Err}
 use Rattle.rmt_wire.specs.Number.{line_feed}
-use Rattle.rmt_wire.specs.Front.{Seen, after, is_digit, number_front}
+use Rattle.rmt_wire.specs.Seen.{Seen, after, is_digit, number_front}
 use Rattle.rmt_wire.specs.Reply.{PlainReply, Wanted}
 use Rattle.rmt_wire.specs.Reply.PlainReply.{Done, Data, Error}
 use Rattle.rmt_wire.specs.Reply.Wanted.{Number, DataUpTo}
@@ -34,7 +34,9 @@ kept_text text = take (min 255 (text_len text)) text ++ drop (text_len text) tex
 -- an error whose first line has this length, once its text has an end
 abbrev pub error_at : ℕ → ℕ → List ℕ → Seen (PlainReply × ℕ)
 error_at number len text =
-    if nat_lt (text_len text) (length text) then Ok (Some (Error number (take (min 255 (text_len text)) text), len + text_len text + 1)) else Ok None
+    if nat_lt (text_len text) (length text)
+    then Ok (Some (Error number (take (min 255 (text_len text)) text), len + text_len text + 1))
+    else Ok None
 
 -- data whose line has this length, once all of them are there
 abbrev pub data_at : ℕ → ℕ → List ℕ → Seen (PlainReply × ℕ)

@@ -7,16 +7,16 @@ use Rattle.rmt_wire.specs.declared.fault.WireFault.{WireFault}
 use Rattle.rmt_wire.specs.declared.fault.WireFault.TheVariants.{UnknownCommand, BadNumber, LineTooLong, NotAReply, TooMuchData}
 
 -- some bytes can follow that make a reply to one who waits for this
-abbrev pub IsOpen : Wanted → List ℕ → Type 0
-IsOpen wanted bytes = (more : List ℕ) × (reply : PlainReply) × SpellsReply (bytes ++ more) reply wanted
+abbrev pub ReplyIsOpen : Wanted → List ℕ → Type 0
+ReplyIsOpen wanted bytes = (more : List ℕ) × (reply : PlainReply) × SpellsReply (bytes ++ more) reply wanted
 
 -- no beginning of the bytes is a reply to one who waits for this
-abbrev pub HasNoSpelling : Wanted → List ℕ → Type 0
-HasNoSpelling wanted bytes = (text rest : List ℕ) (reply : PlainReply) → bytes ≡ text ++ rest → SpellsReply text reply wanted → ⊥
+abbrev pub ReplyHasNoSpelling : Wanted → List ℕ → Type 0
+ReplyHasNoSpelling wanted bytes = (text rest : List ℕ) (reply : PlainReply) → bytes ≡ text ++ rest → SpellsReply text reply wanted → ⊥
 
 -- ten digits at most follow the letter, with no byte yet that ends them
-abbrev pub EndsInNumber : List ℕ → Type 0
-EndsInNumber seen =
+abbrev pub ReplyEndsInNumber : List ℕ → Type 0
+ReplyEndsInNumber seen =
     (digits : List ℕ) × AllDigits 10 digits × (length digits ≤ 10) × ((seen ≡ 65 ∷ digits) ⊎ (seen ≡ 69 ∷ digits))
 
 -- the byte is a digit after `A` that makes the number of bytes more than were wanted
@@ -27,33 +27,33 @@ IsTooMuch (DataUpTo most) seen byte =
 
 -- why a byte that makes the bytes hopeless does so, after what was seen before it; data that are too many come before a bad
 -- number
-abbrev pub IsCause : Wanted → List ℕ → ℕ → WireFault → Type 0
-IsCause wanted seen byte UnknownCommand = ⊥
-IsCause wanted seen byte BadNumber = EndsInNumber seen × ¬ IsTooMuch wanted seen byte
-IsCause wanted seen byte LineTooLong = ⊥
-IsCause wanted seen byte NotAReply = seen ≡ []
-IsCause wanted seen byte TooMuchData = IsTooMuch wanted seen byte
+abbrev pub ReplyIsCause : Wanted → List ℕ → ℕ → WireFault → Type 0
+ReplyIsCause wanted seen byte UnknownCommand = ⊥
+ReplyIsCause wanted seen byte BadNumber = ReplyEndsInNumber seen × ¬ IsTooMuch wanted seen byte
+ReplyIsCause wanted seen byte LineTooLong = ⊥
+ReplyIsCause wanted seen byte NotAReply = seen ≡ []
+ReplyIsCause wanted seen byte TooMuchData = IsTooMuch wanted seen byte
 
 -- the first byte that leaves no reply possible is this fault
-pub record HasFault (wanted : Wanted) (bytes : List ℕ) (fault : WireFault) : Type 0 where
+pub record ReplyHasFault (wanted : Wanted) (bytes : List ℕ) (fault : WireFault) : Type 0 where
   pub seen : List ℕ
   pub byte : ℕ
   pub later : List ℕ
   pub split : bytes ≡ seen ++ byte ∷ later
-  pub open_before : IsOpen wanted seen
-  pub hopeless : ¬ IsOpen wanted (seen ++ byte ∷ [])
-  pub cause : IsCause wanted seen byte fault
+  pub open_before : ReplyIsOpen wanted seen
+  pub hopeless : ¬ ReplyIsOpen wanted (seen ++ byte ∷ [])
+  pub cause : ReplyIsCause wanted seen byte fault
 
 -- What a reader gives of the bytes since the reply to this was waited for, and what it leaves of them: the reply; none, where
 -- they are a beginning of one; or the fault of the first byte that rules each reply out. Where none is waited for, each byte is
 -- too much.
-abbrev pub Gives : Option Wanted → List ℕ → Result (Option PlainReply) WireFault → List ℕ → Type 0
-Gives (Some wanted) bytes (Ok (Some reply)) rest = (text : List ℕ) × SpellsReply text reply wanted × (bytes ≡ text ++ rest)
-Gives (Some wanted) bytes (Ok None) rest = IsOpen wanted bytes × HasNoSpelling wanted bytes × (rest ≡ bytes)
-Gives (Some wanted) bytes (Err fault) rest = HasFault wanted bytes fault × HasNoSpelling wanted bytes × (rest ≡ bytes)
-Gives None bytes (Ok (Some reply)) rest = ⊥
-Gives None bytes (Ok None) rest = (bytes ≡ []) × (rest ≡ bytes)
-Gives None bytes (Err fault) rest = (bytes ≢ []) × (fault ≡ TooMuchData) × (rest ≡ bytes)
+abbrev pub ReplyGives : Option Wanted → List ℕ → Result (Option PlainReply) WireFault → List ℕ → Type 0
+ReplyGives (Some wanted) bytes (Ok (Some reply)) rest = (text : List ℕ) × SpellsReply text reply wanted × (bytes ≡ text ++ rest)
+ReplyGives (Some wanted) bytes (Ok None) rest = ReplyIsOpen wanted bytes × ReplyHasNoSpelling wanted bytes × (rest ≡ bytes)
+ReplyGives (Some wanted) bytes (Err fault) rest = ReplyHasFault wanted bytes fault × ReplyHasNoSpelling wanted bytes × (rest ≡ bytes)
+ReplyGives None bytes (Ok (Some reply)) rest = ⊥
+ReplyGives None bytes (Ok None) rest = (bytes ≡ []) × (rest ≡ bytes)
+ReplyGives None bytes (Err fault) rest = (bytes ≢ []) × (fault ≡ TooMuchData) × (rest ≡ bytes)
 
 -- once a reply was given, none is waited for
 abbrev pub wanted_after : Option Wanted → Result (Option PlainReply) WireFault → Option Wanted

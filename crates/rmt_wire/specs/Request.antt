@@ -1,5 +1,6 @@
 -- Requests as values, and how each is spelled (rmt(8)).
 use Rattle.std.specs.Prelude.{◌≡◌, ◌⊎◌, ℕ, ◌<◌, ◌≤◌, List, [], ◌∷◌, ◌++◌, length, decimal}
+use Rattle.rmt_wire.specs.Limits.{data_limit}
 use Rattle.rmt_wire.specs.Number.{SpellsNumber, IsLine, line_feed, space}
 
 -- a request as a value
@@ -10,10 +11,6 @@ pub data PlainRequest : Type 0 where
   WriteDropped : (count : ℕ) → PlainRequest
   Read : (count : ℕ) → PlainRequest
   Op : (op : ℕ) → (count : ℕ) → PlainRequest
-
--- the greatest number of bytes that a write brings to a drive
-abbrev pub data_limit : ℕ
-data_limit = 65536
 
 -- a mode line is a number, or a number, a space and any text
 abbrev pub SpellsMode : List ℕ → ℕ → Type 0
@@ -28,7 +25,8 @@ SpellsRequest bytes (Open device mode) =
     (line : List ℕ) × IsLine device × SpellsMode line mode × (bytes ≡ 79 ∷ (device ++ line_feed ∷ (line ++ line_feed ∷ [])))
 SpellsRequest bytes Close = (line : List ℕ) × IsLine line × (bytes ≡ 67 ∷ (line ++ line_feed ∷ []))
 SpellsRequest bytes (Write written) =
-    (number : List ℕ) × SpellsNumber number (length written) × (length written ≤ data_limit) × (bytes ≡ 87 ∷ (number ++ line_feed ∷ written))
+    (number : List ℕ) × SpellsNumber number (length written) × (length written ≤ data_limit)
+    × (bytes ≡ 87 ∷ (number ++ line_feed ∷ written))
 SpellsRequest bytes (WriteDropped count) =
     (number : List ℕ) × (dropped : List ℕ) × SpellsNumber number count × (data_limit < count) × (length dropped ≡ count)
     × (bytes ≡ 87 ∷ (number ++ line_feed ∷ dropped))

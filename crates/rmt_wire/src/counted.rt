@@ -68,7 +68,8 @@ impl<R: Read> Read for Counted<R> {
     fn read(&mut self, buf: &mut [u8]) -> io::Result<usize>
         ensures bound { ReadsAtMost result buf.new }
         ensures bytes { ReadConsumes (R.remaining self.old.inner) (R.remaining self.new.inner) result buf.new }
-        ensures failures { MatchResult result (λ _. self.new.failures ≡ self.old.failures) (λ _. self.new.failures ≡ raised self.old.failures) }
+        ensures failures { MatchResult result (λ _. self.new.failures ≡ self.old.failures)
+            (λ _. self.new.failures ≡ raised self.old.failures) }
         ensures left { OnOk result (self.new.left + 1 ≡ self.old.left) }
         ensures lowered { self.new.left ≡ self.old.left - 1 }
         ensures spent { self.old.left ≡ 0 → self.new.inner ≡ self.old.inner }

@@ -1,4 +1,4 @@
-//! A stream for tests, which takes or gives a few bytes a call and fails in mid-stream.
+//! Streams for tests, which take or give a few bytes a call and fail in mid-stream, for good or once.
 ghost use Rattle.std.specs.Prelude.{◌≡◌, IfOk};
 
 use std::alloc::Global;
@@ -62,6 +62,63 @@ impl Read for Fake {
             return self.answer_after();
         }
         self.calls -= 1;
+        let count = buf.len().min(self.piece);
+        buf[..count].fill(b'x');
+        Ok(count)
+    }
+}
+
+/// It takes or gives at most `piece` bytes a call. Of its calls one fails, in this way, and all others work.
+#[derive(Drop)]
+pub(crate) struct FailsOnce {
+    pub(crate) taken: Vec<u8>,
+    pub(crate) piece: usize,
+    /// How many calls work before the one that fails.
+    pub(crate) before: usize,
+    pub(crate) kind: ErrorKind,
+    /// How often it was called.
+    pub(crate) calls: usize,
+}
+
+impl FailsOnce {
+    pub(crate) fn new(alloc: Global, piece: usize, before: usize, kind: ErrorKind) -> Self {
+        FailsOnce {
+            taken: Vec::new(alloc),
+            piece,
+            before,
+            kind,
+            calls: 0,
+        }
+    }
+
+    /// Counts a call, and answers whether it is the one that fails.
+    fn fails_now(&mut self) -> bool {
+        let call = self.calls;
+        self.calls = call.saturating_add(1);
+        call == self.before
+    }
+}
+
+impl Write for FailsOnce {
+    fn write(&mut self, buf: &[u8]) -> io::Result<usize> {
+        if self.fails_now() {
+            return Err(self.kind.into());
+        }
+        let count = buf.len().min(self.piece);
+        self.taken.extend_from_slice(&buf[..count])?;
+        Ok(count)
+    }
+
+    fn flush(&mut self) -> io::Result<()> {
+        Ok(())
+    }
+}
+
+impl Read for FailsOnce {
+    fn read(&mut self, buf: &mut [u8]) -> io::Result<usize> {
+        if self.fails_now() {
+            return Err(self.kind.into());
+        }
         let count = buf.len().min(self.piece);
         buf[..count].fill(b'x');
         Ok(count)

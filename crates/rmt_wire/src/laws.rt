@@ -1,13 +1,15 @@
-ghost use Rattle.std.specs.Prelude.{◌≡◌, ◌⊎◌, ◌↔◌, ℕ, List, [], ◌∷◌, ◌++◌, take, Option, Some, Result};
+ghost use Rattle.std.specs.Prelude.{◌≡◌, ◌⊎◌, ◌↔◌, ◌≤◌, ℕ, List, [], ◌∷◌, ◌++◌, length, take, Option, Some, Result};
 ghost use Rattle.rmt_wire.specs.Number.{HasNoLineFeed, line_feed};
 ghost use Rattle.rmt_wire.specs.Request.{PlainRequest};
-ghost use Rattle.rmt_wire.specs.Reply.{PlainReply, Wanted, SpellsReply};
-ghost use Rattle.rmt_wire.specs.Parts.{IsOpen, HasFault, Parts, Gives, IsDroppedLine};
-ghost use Rattle.rmt_wire.specs.Reader.{dropped_line};
+ghost use Rattle.rmt_wire.specs.Reply.{PlainReply, Wanted, AnswersTo, ReplyHasSpelling, SpellsReply, data_length, reply_text};
+ghost use Rattle.rmt_wire.specs.RequestParts.{IsOpen, HasFault, Parts, Gives, IsDroppedLine};
+ghost use Rattle.rmt_wire.specs.RequestReader.{dropped_line};
 ghost use Rattle.rmt_wire.specs.ReplyFront.{kept_of};
-ghost use Rattle.rmt_wire.specs.ReplyParts as replies;
-ghost use Rattle.rmt_wire.specs.ReplyReader.{IsErrorText};
+ghost use Rattle.rmt_wire.specs.ReplyParts.{ReplyGives};
+ghost use Rattle.rmt_wire.specs.ReplyReader.{IsErrorText, IsWithin};
 ghost use Rattle.rmt_wire.specs.declared.fault.WireFault.{WireFault};
+
+use crate::limits::{DATA_LIMIT, READER_LIMIT};
 
 /// A stream falls into requests and a rest, and in one way only: the rest is a beginning of a request, or has a
 /// fault. At each place a reader can give one thing only.
@@ -44,9 +46,20 @@ pub fn one_reply()
 /// It does nothing: its contract is a law of the definitions.
 pub fn one_reply_reading()
     ensures answers { (wanted : Option Wanted) (bytes rest other : List ℕ) (answer another : Result (Option PlainReply) WireFault) →
-        replies.Gives wanted bytes answer rest → replies.Gives wanted bytes another other → (answer ≡ another) × (rest ≡ other) }
+        ReplyGives wanted bytes answer rest → ReplyGives wanted bytes another other → (answer ≡ another) × (rest ≡ other) }
     ensures some_answer { (wanted : Option Wanted) (bytes : List ℕ) →
-        (answer : Result (Option PlainReply) WireFault) × (rest : List ℕ) × replies.Gives wanted bytes answer rest }
+        (answer : Result (Option PlainReply) WireFault) × (rest : List ℕ) × ReplyGives wanted bytes answer rest }
+{}
+
+/// What a writer writes of a reply is at most `READER_LIMIT` bytes, where its data, if it has any, are at most
+/// `DATA_LIMIT`. They are where the reply answers one who waits for no more.
+///
+/// It does nothing: its contract is a law of the definitions.
+pub fn short_replies()
+    ensures short { (reply : PlainReply) →
+        ReplyHasSpelling reply → data_length reply ≤ DATA_LIMIT → length (reply_text reply) ≤ READER_LIMIT }
+    ensures answers { (reply : PlainReply) (wanted : Wanted) →
+        AnswersTo reply wanted → IsWithin wanted → data_length reply ≤ DATA_LIMIT }
 {}
 
 /// What is kept of a reply that is waited for: of the text of an error the first 255 bytes, and what stands from its

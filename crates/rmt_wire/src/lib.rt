@@ -7,38 +7,27 @@
 #![tactic(auto)]
 
 mod append;
-mod count;
 mod counted;
 #[cfg(test)]
 mod fake;
 mod fault;
-mod head;
+mod kept;
 mod laws;
 mod limits;
-mod line;
 mod number;
-mod parse;
-mod reader;
 mod reply;
-mod reply_front;
-mod reply_reader;
 mod request;
 mod short_text;
 #[cfg(test)]
 mod slow;
 #[cfg(test)]
 mod tests;
-mod wanted;
-mod writer;
 
-pub use append::{push_reply, push_request};
 pub use counted::Counted;
 pub use fault::WireFault;
-pub use laws::{dropped_writes, long_texts, one_reading, one_reply, one_reply_reading};
+pub use laws::{
+    dropped_writes, long_texts, one_reading, one_reply, one_reply_reading, short_replies,
+};
 pub use limits::{DATA_LIMIT, LINE_LIMIT, NUMBER_LIMIT, READER_LIMIT};
-pub use reader::RequestReader;
-pub use reply::Reply;
-pub use reply_reader::ReplyReader;
-pub use request::Request;
-pub use wanted::Wanted;
-pub use writer::{OutputFault, write_reply};
+pub use reply::{OutputFault, Reply, ReplyReader, Wanted, push_reply, write_reply};
+pub use request::{Request, RequestReader, push_request};

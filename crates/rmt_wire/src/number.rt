@@ -1,5 +1,5 @@
 ghost use Rattle.std.specs.Prelude.{◌≡◌, ◌<◌, ◌≤◌, length, IfOk, IfSome};
-ghost use Rattle.rmt_wire.specs.Front as spec;
+ghost use Rattle.rmt_wire.specs.Seen as spec;
 
 use crate::fault::WireFault;
 use crate::limits::NUMBER_LIMIT;

@@ -1,3 +1,15 @@
+mod append;
+mod count;
+mod front;
+mod reader;
+mod wanted;
+mod writer;
+
+pub use append::push_reply;
+pub use reader::ReplyReader;
+pub use wanted::Wanted;
+pub use writer::{OutputFault, write_reply};
+
 /// A reply of a tape server, one to each request (rmt(8)).
 ///
 /// In a syntax, LF is the byte 10, and a number has a value up to `NUMBER_LIMIT`.

@@ -1,3 +1,12 @@
+mod append;
+mod front;
+mod head;
+mod line;
+mod reader;
+
+pub use append::push_request;
+pub use reader::RequestReader;
+
 /// A request to a tape server (rmt(8)). The device of an open and the data of a write are lent by the reader.
 ///
 /// In a syntax, LF is the byte 10, and a number is 1 to 10 digits of a value up to `NUMBER_LIMIT`. Each line, without

@@ -1,6 +1,8 @@
-ghost use Rattle.std.specs.Prelude.{◌≡◌, ◌+◌, ◌<◌, ◌≤◌, [], ◌∷◌, ◌++◌, length};
+ghost use Rattle.std.specs.Prelude.{◌≡◌, ◌+◌, ◌<◌, ◌≤◌, [], ◌∷◌, ◌++◌, length, decimal};
+ghost use Rattle.rmt_wire.specs.Number.{line_feed};
 
-use crate::LINE_LIMIT;
+use crate::limits::{LINE_LIMIT, NUMBER_LIMIT};
+use itoa::Buffer;
 use std::marker::Model;
 
 // A letter, ten digits, a line feed, the text of an error, a line feed.
@@ -56,4 +58,32 @@ impl ShortText {
         self.bytes[self.end..end].copy_from_slice(text);
         self.end = end;
     }
+}
+
+// A letter, a number, a line feed.
+#[tactic(auto, using(crate::proofs::Spelling::short_heads))]
+pub(crate) fn numbered(letter: u8, number: usize) -> ShortText
+    requires { number ≤ NUMBER_LIMIT }
+    ensures text { result ≡ letter ∷ (decimal number ++ line_feed ∷ []) }
+    ensures short { length result ≤ 12 }
+{
+    let mut digits = Buffer::new();
+    let mut line = ShortText::new();
+    line.push_byte(letter);
+    line.push_slice(digits.format(number).as_bytes());
+    line.push_byte(b'\n');
+    line
+}
+
+// Appends a number and a line feed.
+#[tactic(auto, using(crate::proofs::Spelling::short_heads))]
+pub(crate) fn push_number(line: &mut ShortText, number: u32)
+    requires limit { number ≤ NUMBER_LIMIT }
+    requires room { length line.old + 11 ≤ LINE_LIMIT + 13 }
+    ensures text { line.new ≡ line.old ++ (decimal number ++ line_feed ∷ []) }
+    ensures short { length line.new ≤ length line.old + 11 }
+{
+    let mut digits = Buffer::new();
+    line.push_slice(digits.format(number as usize).as_bytes());
+    line.push_byte(b'\n');
 }

@@ -1,5 +1,5 @@
 use super::*;
-use crate::fake::{After, Fake};
+use crate::fake::{After, FailsOnce, Fake};
 use std::test::Fail;
 
 #[test]
@@ -57,5 +57,43 @@ fn failed_and_empty_writes_are_counted(rt: HostRuntime) -> Result<(), Fail> {
     let mut none = Counted::new(Fake::new(rt.alloc(), 1, 0, After::TakesNone));
     assert_eq!(rt; none.write(b"")?, 0);
     assert_eq!(rt; none.failures(), 0, "of no bytes none can be taken");
+    Ok(())
+}
+
+// Failures after which a caller may want to ask again.
+const KINDS: [ErrorKind; 3] = [
+    ErrorKind::Interrupted,
+    ErrorKind::WouldBlock,
+    ErrorKind::BrokenPipe,
+];
+
+#[test]
+fn a_failed_read_is_given_and_not_asked_again(rt: HostRuntime) -> Result<(), Fail> {
+    for kind in KINDS {
+        let mut input = Counted::new(FailsOnce::new(rt.alloc(), 2, 1, kind));
+        let mut piece = [0; 3];
+        assert_eq!(rt; input.read(&mut piece)?, 2);
+        assert!(rt; matches!(input.read(&mut piece), Err(error) if error.kind() == kind));
+        assert_eq!(rt; input.failures(), 1);
+        assert_eq!(rt; input.inner.calls, 2, "the failed read was its last");
+        assert_eq!(rt; input.read(&mut piece)?, 2);
+        assert_eq!(rt; input.failures(), 1);
+        assert_eq!(rt; input.into_inner().calls, 3);
+    }
+    Ok(())
+}
+
+#[test]
+fn a_failed_write_is_given_and_not_asked_again(rt: HostRuntime) -> Result<(), Fail> {
+    for kind in KINDS {
+        let mut out = Counted::new(FailsOnce::new(rt.alloc(), 2, 1, kind));
+        assert_eq!(rt; out.write(b"abc")?, 2);
+        assert!(rt; matches!(out.write(b"c"), Err(error) if error.kind() == kind));
+        assert_eq!(rt; out.failures(), 1);
+        assert_eq!(rt; out.inner.calls, 2, "the failed write was its last");
+        assert_eq!(rt; out.write(b"d")?, 1);
+        assert_eq!(rt; out.failures(), 1);
+        assert_eq!(rt; out.into_inner().taken.as_slice(), b"abd".as_slice());
+    }
     Ok(())
 }

@@ -1,6 +1,6 @@
 //! What stands beside the reader: answers, counted streams, the law of the grammar.
 
-use crate::{Counted, OutputFault, Reply, WireFault, one_reading, write_reply};
+use crate::{Counted, OutputFault, Reply, WireFault, one_reading, short_replies, write_reply};
 use std::io::{Read, Write};
 use std::test::Fail;
 
@@ -103,5 +103,6 @@ fn names_of_faults(rt: HostRuntime) -> Result<(), Fail> {
     }
     assert_eq!(rt; OutputFault.to_string(rt.alloc())?.as_str(), "Output");
     one_reading();
+    short_replies();
     Ok(())
 }

@@ -1,6 +1,6 @@
 //! What the writer writes, split by the slow program: each small reply, and replies at their limits.
 ghost use Rattle.rmt_wire.specs.Lent.{plain_reply};
-ghost use Rattle.rmt_wire.specs.Reply.{HasSpelling};
+ghost use Rattle.rmt_wire.specs.Reply.{ReplyHasSpelling};
 ghost use Rattle.rmt_wire.specs.Reply.PlainReply.{Error};
 
 use super::replied::{check_begun, check_whole};
@@ -17,7 +17,7 @@ fn check_written(
     reply: &Reply<'_>,
     wanted: Wanted,
 ) -> Result<(), Fail>
-    requires { HasSpelling (plain_reply reply.now) }
+    requires { ReplyHasSpelling (plain_reply reply.now) }
 {
     let mut out = Counted::new(Vec::new(alloc));
     write_reply(&mut out, reply)?;
@@ -32,7 +32,7 @@ fn check_written(
 
 /// The same of an error, whatever is waited for.
 fn check_error(rt: &impl Abort, alloc: Global, number: u32, text: &[u8]) -> Result<(), Fail>
-    requires { HasSpelling (Error number text.now) }
+    requires { ReplyHasSpelling (Error number text.now) }
 {
     let reply = Reply::Error { number, text };
     check_written(rt, alloc, &reply, Wanted::Number)?;

@@ -1,0 +1,56 @@
+//! Feeds one of the two readers of `rmt_wire` with a stream in memory, piece by piece, and takes what it gives after each
+//! piece. It prints nothing: `bench/feed.py` measures how long it takes.
+#![tactic(auto)]
+
+ghost use Rattle.std.specs.Prelude.{◌<◌};
+
+mod feed;
+
+use feed::{Kind, feed};
+use std::process::ExitCode;
+use std::{env, io};
+
+/// What the program ends with where its words are wrong, or a reader gave other than it was fed.
+const WRONG: u8 = 1;
+
+/// What is fed, how often, and in pieces of how many bytes.
+#[derive(Drop)]
+struct Words {
+    kind: Kind,
+    count: u32,
+    piece: usize,
+    ghost some_bytes: { 0 < piece },
+}
+
+/// The three words `KIND COUNT PIECE`, if they are that.
+fn words_of(rt: &HostRuntime) -> io::Result<Option<Words>> {
+    let mut words = env::args(rt)?.skip(1);
+    let (Some(kind), Some(count), Some(piece), None) = (
+        words.next(),
+        words.next(),
+        words.next(),
+        words.next(),
+    ) else {
+        return Ok(None);
+    };
+    let kind = Kind::named(kind.as_str());
+    let count = count.as_str().parse::<u32>().ok();
+    let piece = piece.as_str().parse::<usize>().ok();
+    match (kind, count, piece) {
+        (Some(kind), Some(count), Some(piece)) if piece > 0 => Ok(Some(Words {
+            kind,
+            count,
+            piece,
+        })),
+        _ => Ok(None),
+    }
+}
+
+/// Feeds a reader as the words say. With other words it ends with status 1.
+fn main(rt: HostRuntime) -> io::Result<ExitCode> {
+    let Some(Words { kind, count, piece }) = words_of(&rt)? else {
+        return Ok(ExitCode::from(WRONG));
+    };
+    let is_fed = feed(rt.alloc(), kind, count, piece)?;
+    Ok(ExitCode::from(if is_fed { 0 } else { WRONG }))
+}

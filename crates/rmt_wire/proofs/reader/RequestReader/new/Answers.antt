@@ -1,7 +1,0 @@
-use Rattle.std.proofs.Common.{[], subst, sym}
-use Rattle.rmt_wire.specs.Reader.{Unread, held}
-use Rattle.rmt_wire.proofs.Dropped.{unread_whole}
-use Rattle.rmt_wire.proofs.reader.RequestReader.new.Goals as goal
-
-pub returns : goal.returns
-returns c = subst (λ l. Unread (held l 0) []) (sym (c.in_ok-with_capacity.ensures.items)) (unread_whole [])

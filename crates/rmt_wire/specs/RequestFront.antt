@@ -1,0 +1,86 @@
+-- What the bytes of a stream begin with, computed from the front. `RequestParts` says the same of whole texts.
+use Rattle.std.specs.Prelude.{ℕ, ◌≤◌, ◌+◌, ◌-◌, ◌*◌, ◌==◌, ◌&&◌, ◌||◌, Bool, true, false, if◌then◌else◌, nat_lt, nat_le, List, [], ◌∷◌, length, take, drop, Option, Some, None, Result, Ok, Err}
+use Rattle.rmt_wire.specs.Number.{line_feed}
+use Rattle.rmt_wire.specs.Seen.{Seen, after, number_front}
+use Rattle.rmt_wire.specs.Request.{PlainRequest}
+use Rattle.rmt_wire.specs.Limits.{data_limit}
+use Rattle.rmt_wire.specs.Request.PlainRequest.{Open, Close, Write, WriteDropped, Read, Op}
+use Rattle.rmt_wire.specs.declared.fault.WireFault.{WireFault}
+use Rattle.rmt_wire.specs.declared.fault.WireFault.TheVariants.{UnknownCommand, LineTooLong}
+use Rattle.rmt_wire.specs.declared.request.head.Head.{Head}
+use Rattle.rmt_wire.specs.declared.request.head.Head.TheVariants as head
+
+-- how many bytes the line has that the bytes go on with, after `count` bytes of it
+abbrev pub line_from : ℕ → List ℕ → Seen ℕ
+line_from count [] = Ok None
+line_from count (b ∷ bytes) =
+    if b == line_feed then Ok (Some count) else (if count == 255 then Err LineTooLong else line_from (count + 1) bytes)
+
+abbrev pub line_front : List ℕ → Seen ℕ
+line_front bytes = line_from 0 bytes
+
+-- the mode line after a device line of this length: a number first, and then an end as of any line
+unfoldable pub mode_head : ℕ → List ℕ → Seen Head
+mode_head device bytes =
+    after (number_front true bytes) (λ mode. after (line_front bytes) (λ len. Ok (Some (head.Open device mode.0 (device + len + 3)))))
+
+unfoldable pub open_head : List ℕ → Seen Head
+open_head bytes = after (line_front bytes) (λ device. mode_head device (drop (device + 1) bytes))
+
+unfoldable pub close_head : List ℕ → Seen Head
+close_head bytes = after (line_front bytes) (λ len. Ok (Some (head.Close (len + 2))))
+
+unfoldable pub write_head : List ℕ → Seen Head
+write_head bytes = after (number_front false bytes) (λ count. Ok (Some (head.Write count.0 (count.1 + 2))))
+
+unfoldable pub read_head : List ℕ → Seen Head
+read_head bytes = after (number_front false bytes) (λ count. Ok (Some (head.Read count.0 (count.1 + 2))))
+
+-- the second number after `I`, where the first is this one
+unfoldable pub count_head : ℕ × ℕ → List ℕ → Seen Head
+count_head op bytes = after (number_front false bytes) (λ count. Ok (Some (head.Op op.0 count.0 (op.1 + count.1 + 3))))
+
+unfoldable pub op_head : List ℕ → Seen Head
+op_head bytes = after (number_front false bytes) (λ op. count_head op (drop (op.1 + 1) bytes))
+
+-- `O C W R I`
+unfoldable pub letter_head : ℕ → List ℕ → Seen Head
+letter_head letter bytes =
+    if letter == 79 then open_head bytes
+    else if letter == 67 then close_head bytes
+    else if letter == 87 then write_head bytes
+    else if letter == 82 then read_head bytes
+    else if letter == 73 then op_head bytes
+    else Err UnknownCommand
+
+-- the lines of the request that the bytes begin with
+unfoldable pub head_of : List ℕ → Seen Head
+head_of [] = Ok None
+head_of (letter ∷ bytes) = letter_head letter bytes
+
+-- the lines are so many bytes at most, and a device's line is among them
+abbrev pub LiesIn : ℕ → Head → Type 0
+LiesIn most (head.Open device mode len) = (device + 3 ≤ len) × (len ≤ most)
+LiesIn most (head.Close len) = len ≤ most
+LiesIn most (head.Write count len) = len ≤ most
+LiesIn most (head.Read count len) = len ≤ most
+LiesIn most (head.Op op count len) = len ≤ most
+
+-- a write whose line has this length, with all of its bytes
+abbrev pub written_at : ℕ → ℕ → List ℕ → Seen (PlainRequest × ℕ)
+written_at count len bytes =
+    if nat_lt (length bytes) (len + count) then Ok None
+    else if nat_lt data_limit count then Ok (Some (WriteDropped count, len + count))
+    else Ok (Some (Write (take count (drop len bytes)), len + count))
+
+-- the request that these lines begin, and how long it is
+abbrev pub request_at : List ℕ → Head → Seen (PlainRequest × ℕ)
+request_at bytes (head.Open device mode len) = Ok (Some (Open (take device (drop 1 bytes)) mode, len))
+request_at bytes (head.Close len) = Ok (Some (Close, len))
+request_at bytes (head.Write count len) = written_at count len bytes
+request_at bytes (head.Read count len) = Ok (Some (Read count, len))
+request_at bytes (head.Op op count len) = Ok (Some (Op op count, len))
+
+-- the request that the bytes begin with
+unfoldable pub front_of : List ℕ → Seen (PlainRequest × ℕ)
+front_of bytes = after (head_of bytes) (request_at bytes)

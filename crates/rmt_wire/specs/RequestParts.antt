@@ -1,0 +1,76 @@
+-- How a stream falls into requests: whole texts, told by the grammar alone.
+use Rattle.std.specs.Prelude.{◌≡◌, ◌≢◌, ◌⊎◌, ℕ, ◌+◌, ◌<◌, ◌≤◌, List, [], ◌∷◌, ◌++◌, length, Option, Some, None, Result, Ok, Err}
+use Rattle.std.specs.Str.Parse.{AllDigits}
+use Rattle.rmt_wire.specs.Number.{SpellsNumber, HasNoLineFeed, IsLine, line_feed}
+use Rattle.rmt_wire.specs.Request.{PlainRequest, SpellsRequest}
+use Rattle.rmt_wire.specs.Limits.{data_limit}
+use Rattle.rmt_wire.specs.declared.fault.WireFault.{WireFault}
+use Rattle.rmt_wire.specs.declared.fault.WireFault.TheVariants.{UnknownCommand, BadNumber, LineTooLong, NotAReply, TooMuchData}
+
+-- some bytes can follow that make a spelling
+abbrev pub IsOpen : List ℕ → Type 0
+IsOpen bytes = (more : List ℕ) × (request : PlainRequest) × SpellsRequest (bytes ++ more) request
+
+-- no beginning of the bytes is a spelling
+abbrev pub HasNoSpelling : List ℕ → Type 0
+HasNoSpelling bytes = (text rest : List ℕ) (request : PlainRequest) → bytes ≡ text ++ rest → SpellsRequest text request → ⊥
+
+-- the bytes are spellings of these requests, one after the other, and then the rest
+abbrev pub Spelled : List ℕ → List PlainRequest → List ℕ → Type 0
+Spelled bytes [] rest = bytes ≡ rest
+Spelled bytes (request ∷ requests) rest =
+    (text later : List ℕ) × SpellsRequest text request × (bytes ≡ text ++ later) × Spelled later requests rest
+
+-- the requests of a stream, and what follows the last whole one
+abbrev pub Parts : List ℕ → List PlainRequest → List ℕ → Type 0
+Parts bytes requests rest = Spelled bytes requests rest × HasNoSpelling rest
+
+-- a number of ten digits at most stands at the end, with no byte yet that ends it: after `W`, `R` or `I`, after the first line of `I`,
+-- or after the device line of `O`
+abbrev pub EndsInNumber : List ℕ → Type 0
+EndsInNumber seen =
+    (digits : List ℕ) × AllDigits 10 digits × (length digits ≤ 10)
+    × ((seen ≡ 87 ∷ digits) ⊎ (seen ≡ 82 ∷ digits) ⊎ (seen ≡ 73 ∷ digits)
+    ⊎ ((number : List ℕ) × (op : ℕ) × SpellsNumber number op × (seen ≡ 73 ∷ (number ++ line_feed ∷ digits)))
+    ⊎ ((device : List ℕ) × IsLine device × (seen ≡ 79 ∷ (device ++ line_feed ∷ digits))))
+
+-- a line of 255 bytes stands at the end, with no line feed yet: after `O` or `C`, or after the device line of `O`
+abbrev pub EndsInFullLine : List ℕ → Type 0
+EndsInFullLine seen =
+    (line : List ℕ) × (length line ≡ 255) × HasNoLineFeed line
+    × ((seen ≡ 79 ∷ line) ⊎ (seen ≡ 67 ∷ line)
+    ⊎ ((device : List ℕ) × IsLine device × (seen ≡ 79 ∷ (device ++ line_feed ∷ line))))
+
+-- why a byte that makes the bytes hopeless does so, after what was seen before it
+abbrev pub IsCause : List ℕ → ℕ → WireFault → Type 0
+IsCause seen byte UnknownCommand = seen ≡ []
+IsCause seen byte BadNumber = EndsInNumber seen
+IsCause seen byte LineTooLong = EndsInFullLine seen × (byte ≢ line_feed)
+IsCause seen byte NotAReply = ⊥
+IsCause seen byte TooMuchData = ⊥
+
+-- the first byte that leaves no spelling possible is this fault
+pub record HasFault (bytes : List ℕ) (fault : WireFault) : Type 0 where
+  pub seen : List ℕ
+  pub byte : ℕ
+  pub later : List ℕ
+  pub split : bytes ≡ seen ++ byte ∷ later
+  pub open_before : IsOpen seen
+  pub hopeless : ¬ IsOpen (seen ++ byte ∷ [])
+  pub cause : IsCause seen byte fault
+
+-- What a reader gives at these bytes, and what it leaves of them: the first request; none, where they are a
+-- beginning of one; or the fault of the first byte that rules each request out
+abbrev pub Gives : List ℕ → Result (Option PlainRequest) WireFault → List ℕ → Type 0
+Gives bytes (Ok (Some request)) rest = (text : List ℕ) × SpellsRequest text request × (bytes ≡ text ++ rest)
+Gives bytes (Ok None) rest = IsOpen bytes × HasNoSpelling bytes × (rest ≡ bytes)
+Gives bytes (Err fault) rest = HasFault bytes fault × HasNoSpelling bytes × (rest ≡ bytes)
+
+-- the bytes begin with a line of `len` bytes, with its line feed: that of a write of `count` bytes, too many to keep
+pub record IsDroppedLine (bytes : List ℕ) (len count : ℕ) : Type 0 where
+  pub number : List ℕ
+  pub rest : List ℕ
+  pub spelled : SpellsNumber number count
+  pub large : data_limit < count
+  pub split : bytes ≡ 87 ∷ (number ++ line_feed ∷ rest)
+  pub long : len ≡ length number + 2

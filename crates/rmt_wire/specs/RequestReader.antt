@@ -1,0 +1,110 @@
+-- What a reader of requests holds of a stream.
+use Rattle.std.specs.Prelude.{◌≡◌, ◌≤◌, ℕ, ◌+◌, ◌-◌, ◌==◌, false, ◌<◌, if◌then◌else◌, nat_lt, min, List, [], ◌∷◌, ◌++◌, length, take, drop, Option, Some, None, Result, Ok, Err}
+use Rattle.rmt_wire.specs.Request.{PlainRequest}
+use Rattle.rmt_wire.specs.Limits.{data_limit, reader_limit}
+use Rattle.rmt_wire.specs.RequestParts.{Gives}
+use Rattle.rmt_wire.specs.Seen.{Seen, number_front}
+use Rattle.rmt_wire.specs.Lent.{plain_request}
+use Rattle.rmt_wire.specs.declared.request.Request.{Request}
+use Rattle.rmt_wire.specs.declared.fault.WireFault.{WireFault}
+
+-- a write of so many bytes after a line of so many, if it is to be dropped
+abbrev pub dropped_if_long : Seen (ℕ × ℕ) → Option (ℕ × ℕ)
+dropped_if_long (Ok (Some count)) = if nat_lt data_limit count.0 then Some (count.1 + 2, count.0) else None
+dropped_if_long (Ok None) = None
+dropped_if_long (Err fault) = None
+
+-- the length of the line and the count of a write above the limit that the bytes begin with, if they do
+unfoldable pub dropped_line : List ℕ → Option (ℕ × ℕ)
+dropped_line [] = None
+dropped_line (letter ∷ bytes) = if letter == 87 then dropped_if_long (number_front false bytes) else None
+
+-- the bytes that a reader keeps, and how many data of a dropped write it let go from behind the write's line
+pub record RequestHeld : Type 0 where
+  pub kept : List ℕ
+  pub dropped : ℕ
+
+abbrev pub held : List ℕ → ℕ → RequestHeld
+held kept dropped = record { kept = kept; dropped = dropped }
+
+-- no more data were let go than the dropped write has
+abbrev pub IsDropped : Option (ℕ × ℕ) → ℕ → Type 0
+IsDropped None dropped = dropped ≡ 0
+IsDropped (Some line) dropped = dropped ≤ line.1
+
+-- at the line of a dropped write, the bytes are the line, data that were let go, and what is kept behind them
+abbrev pub UnreadAt : Option (ℕ × ℕ) → RequestHeld → List ℕ → Type 0
+UnreadAt None h bytes = (h.dropped ≡ 0) × (bytes ≡ h.kept)
+UnreadAt (Some line) h bytes =
+    (gone : List ℕ) × (length gone ≡ h.dropped) × (h.dropped ≤ line.1)
+    × (bytes ≡ take line.0 h.kept ++ (gone ++ drop line.0 h.kept))
+
+-- how many of the bytes kept are data that can be let go
+abbrev pub gone_at : Option (ℕ × ℕ) → ℕ → ℕ → ℕ
+gone_at None len dropped = 0
+gone_at (Some line) len dropped = min (len - line.0) (line.1 - dropped)
+
+-- these bytes were pushed and not yet given
+abbrev pub Unread : RequestHeld → List ℕ → Type 0
+Unread h bytes = UnreadAt (dropped_line h.kept) h bytes
+
+-- how many bytes the first value not given takes, and those after it: the data of a dropped write count nothing
+abbrev pub taken_at : Option (ℕ × ℕ) → List ℕ → ℕ
+taken_at None bytes = length bytes
+taken_at (Some line) bytes = line.0 + (length bytes - (line.0 + line.1))
+
+abbrev pub taken_of : List ℕ → ℕ
+taken_of bytes = taken_at (dropped_line bytes) bytes
+
+-- what `next` answers, with its request as a value
+abbrev pub told : Result (Option Request) WireFault → Result (Option PlainRequest) WireFault
+told (Ok None) = Ok None
+told (Ok (Some request)) = Ok (Some (plain_request request))
+told (Err fault) = Err fault
+
+-- From old, the reader answers and stands at new: whatever bytes were pushed and not given, it gives of them what
+-- they begin with, and holds the rest
+abbrev pub Continues : RequestHeld → Result (Option PlainRequest) WireFault → RequestHeld → Type 0
+Continues old answer new = (bytes : List ℕ) → Unread old bytes → (rest : List ℕ) × Unread new rest × Gives bytes answer rest
+
+-- after none was given, there is room for one byte or more
+abbrev pub LeavesRoom : Result (Option PlainRequest) WireFault → RequestHeld → Type 0
+LeavesRoom (Ok None) new = (bytes : List ℕ) → Unread new bytes → taken_of bytes < reader_limit
+LeavesRoom (Ok (Some request)) new = Unit {0}
+LeavesRoom (Err fault) new = Unit {0}
+
+-- a request that was given is let go
+abbrev pub Shrinks : RequestHeld → Result (Option PlainRequest) WireFault → RequestHeld → Type 0
+Shrinks old (Ok (Some request)) new = length new.kept < length old.kept
+Shrinks old (Ok None) new = Unit {0}
+Shrinks old (Err fault) new = Unit {0}
+
+-- where no request was given, the reader is exactly as it was
+abbrev pub StaysUnlessGiven : RequestHeld → Result (Option PlainRequest) WireFault → RequestHeld → Type 0
+StaysUnlessGiven old (Ok (Some request)) new = Unit {0}
+StaysUnlessGiven old (Ok None) new = new ≡ old
+StaysUnlessGiven old (Err fault) new = new ≡ old
+
+-- one call of `next`
+pub record IsNext (old : RequestHeld) (answer : Result (Option PlainRequest) WireFault) (new : RequestHeld) : Type 0 where
+  pub continues : Continues old answer new
+  pub room : LeavesRoom answer new
+  pub shrinks : Shrinks old answer new
+  pub unchanged : StaysUnlessGiven old answer new
+
+-- a fault is answered for good, whatever is pushed later
+abbrev pub StaysFaulty : RequestHeld → Result (Option PlainRequest) WireFault → Type 0
+StaysFaulty old (Err fault) = (bytes more : List ℕ) → Unread old bytes → Gives (bytes ++ more) (Err fault) (bytes ++ more)
+StaysFaulty old (Ok answer) = Unit {0}
+
+-- the same of what was found at the front, and of its length
+abbrev pub told_front : Result (Option (Request × ℕ)) WireFault → Result (Option PlainRequest) WireFault
+told_front (Ok None) = Ok None
+told_front (Ok (Some found)) = Ok (Some (plain_request found.0))
+told_front (Err fault) = Err fault
+
+-- what is held once so much of what is kept was given
+abbrev pub held_after : Result (Option (Request × ℕ)) WireFault → RequestHeld → RequestHeld
+held_after (Ok None) h = h
+held_after (Ok (Some found)) h = held (drop found.1 h.kept) 0
+held_after (Err fault) h = h

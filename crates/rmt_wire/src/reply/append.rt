@@ -1,0 +1,37 @@
+ghost use Rattle.std.specs.Prelude.{◌≡◌, ◌+◌, ◌<◌, ◌++◌, length, OnOk, OnErr};
+ghost use Rattle.std.specs.Vec.{vec_capacity, vec_len};
+ghost use Rattle.rmt_wire.specs.Lent.{plain_reply};
+ghost use Rattle.rmt_wire.specs.Reply.{AnswersTo, ReplyHasSpelling, SpellsReply, Wanted, reply_text};
+
+use crate::append::push_text;
+use crate::reply::Reply;
+use crate::short_text::numbered;
+use std::alloc::AllocError;
+
+/// Appends a reply as it is sent, with no leading zeros in its numbers.
+///
+/// The reply has a spelling: its number, or the count of its data, is at most `NUMBER_LIMIT`, and its text one line of
+/// at most `LINE_LIMIT` bytes.
+///
+/// It fails only where `out` has less spare room than the text has bytes and the memory for more is refused. Then `out`
+/// is as it was.
+#[tactic(auto, using(crate::proofs::Spelling::reply_text_spells))]
+pub fn push_reply(out: &mut Vec<u8>, reply: &Reply<'_>) -> Result<(), AllocError>
+    requires { ReplyHasSpelling (plain_reply reply.now) }
+    ensures appended { OnOk result (out.new.items ≡ out.old.items ++ reply_text (plain_reply reply.now)) }
+    ensures unchanged { OnErr result ((out.new.items ≡ out.old.items) × (vec_capacity out.new ≡ vec_capacity out.old)) }
+    ensures full { OnErr result (vec_capacity out.old < vec_len out.old + length (reply_text (plain_reply reply.now))) }
+    ensures spelled { (wanted : Wanted) → AnswersTo (plain_reply reply.now) wanted
+        → SpellsReply (reply_text (plain_reply reply.now)) (plain_reply reply.now) wanted }
+{
+    match *reply {
+        Reply::Done { number } => push_text(out, numbered(b'A', number as usize).as_slice(), b""),
+        Reply::Data { bytes } => push_text(out, numbered(b'A', bytes.len()).as_slice(), bytes),
+        Reply::Error { number, text } => {
+            let mut line = numbered(b'E', number as usize);
+            line.push_slice(text);
+            line.push_byte(b'\n');
+            push_text(out, line.as_slice(), b"")
+        }
+    }
+}

@@ -1,0 +1,131 @@
+ghost use Rattle.std.specs.Prelude.{◌≡◌, ◌+◌, ◌<◌, ◌≤◌, ◌^◌, ◌++◌, false, length, take, drop, IfOk, IfSome};
+ghost use Rattle.rmt_wire.specs.Lent.{plain_wanted, lent_reply};
+ghost use Rattle.rmt_wire.specs.Seen.{number_front};
+ghost use Rattle.rmt_wire.specs.ReplyFront as spec;
+
+use crate::fault::WireFault;
+use crate::limits::LINE_LIMIT;
+use crate::number::number_front;
+use crate::reply::Reply;
+use crate::reply::count::count_front;
+use crate::reply::wanted::Wanted;
+
+/// How many bytes stand before the first line feed; all of them, where there is none.
+pub fn text_len(bytes: &[u8]) -> usize
+    ensures value { result ≡ spec.text_len bytes.now }
+    ensures within { result ≤ length bytes.now }
+{
+    for (len, byte) in bytes.iter().enumerate() {
+        if *byte == b'\n' {
+            return len;
+        }
+    }
+    bytes.len()
+}
+
+/// The error whose text begins these bytes, and how long it is with its first line, which has `len` bytes.
+fn error_at(number: u32, len: usize, text: &[u8]) -> Option<(Reply<'_>, usize)>
+    requires { len + length text.now < 2 ^ 64 }
+    ensures value { lent_reply (Ok result) ≡ spec.error_at number len text.now }
+    ensures within { IfSome result (λ r. r.1 ≤ len + length text.now) }
+{
+    let end = text_len(text);
+    if end == text.len() {
+        return None;
+    }
+    let text = &text[..end.min(LINE_LIMIT)];
+    Some((Reply::Error { number, text }, len + end + 1))
+}
+
+/// The reply whose data begin these bytes, and how long it is with its line, which has `len` bytes.
+fn data_at(count: u32, len: usize, bytes: &[u8]) -> Option<(Reply<'_>, usize)>
+    requires { len + length bytes.now < 2 ^ 64 }
+    ensures value { lent_reply (Ok result) ≡ spec.data_at count len bytes.now }
+    ensures within { IfSome result (λ r. r.1 ≤ len + length bytes.now) }
+{
+    let size = count as usize;
+    if bytes.len() < size {
+        return None;
+    }
+    let bytes = &bytes[..size];
+    Some((Reply::Data { bytes }, len + size))
+}
+
+/// The reply that these bytes begin behind its `A`, and how long it is.
+#[tactic(auto, unfolding(crate::specs::ReplyFront::done_front))]
+fn done_front(bytes: &[u8], wanted: Wanted) -> Result<Option<(Reply<'_>, usize)>, WireFault>
+    ensures value { lent_reply result ≡ spec.done_front (plain_wanted wanted) bytes.now }
+    ensures within { IfOk result (λ o. IfSome o (λ r. r.1 ≤ length bytes.now + 1)) }
+{
+    match wanted {
+        Wanted::Number => {
+            let Some((number, digits)) = number_front(bytes, false)? else {
+                return Ok(None);
+            };
+            Ok(Some((Reply::Done { number }, digits + 2)))
+        }
+        Wanted::Data(most) => {
+            let Some((count, digits)) = count_front(bytes, most)? else {
+                return Ok(None);
+            };
+            Ok(data_at(count, digits + 2, &bytes[digits + 1..]))
+        }
+    }
+}
+
+/// The error that these bytes begin behind its `E`, and how long it is.
+#[tactic(auto, unfolding(crate::specs::ReplyFront::error_front))]
+fn error_front(bytes: &[u8]) -> Result<Option<(Reply<'_>, usize)>, WireFault>
+    ensures value { lent_reply result ≡ spec.error_front bytes.now }
+    ensures within { IfOk result (λ o. IfSome o (λ r. r.1 ≤ length bytes.now + 1)) }
+{
+    let Some((number, digits)) = number_front(bytes, false)? else {
+        return Ok(None);
+    };
+    Ok(error_at(number, digits + 2, &bytes[digits + 1..]))
+}
+
+/// The reply that the bytes begin with, to one who waits for this, and how long it is. None where the bytes are a
+/// beginning of one.
+#[tactic(auto, unfolding(crate::specs::ReplyFront::reply_front))]
+pub fn reply_front(bytes: &[u8], wanted: Wanted) -> Result<Option<(Reply<'_>, usize)>, WireFault>
+    ensures value { lent_reply result ≡ spec.reply_front (plain_wanted wanted) bytes.now }
+    ensures within { IfOk result (λ o. IfSome o (λ r. r.1 ≤ length bytes.now)) }
+{
+    match bytes {
+        [] => Ok(None),
+        [b'A', rest @ ..] => done_front(rest, wanted),
+        [b'E', rest @ ..] => error_front(rest),
+        _ => Err(WireFault::NotAReply),
+    }
+}
+
+/// The bytes of an error's text that are not kept, behind the `E`: where they begin, and how many they are.
+fn surplus_behind(bytes: &[u8]) -> (usize, usize)
+    ensures value { spec.kept_behind (number_front false bytes.now) bytes.now
+        ≡ take result.0 bytes.now ++ drop (result.0 + result.1) bytes.now }
+    ensures within { result.0 + result.1 ≤ length bytes.now }
+{
+    let Ok(Some((_, digits))) = number_front(bytes, false) else {
+        return (0, 0);
+    };
+    let len = text_len(&bytes[digits + 1..]);
+    let kept = len.min(LINE_LIMIT);
+    (digits + 1 + kept, len - kept)
+}
+
+/// The bytes of an error's text that are not kept: where they begin, and how many they are.
+#[tactic(auto, unfolding(crate::specs::ReplyFront::kept_of))]
+pub fn surplus(bytes: &[u8]) -> (usize, usize)
+    ensures value { spec.kept_of bytes.now ≡ take result.0 bytes.now ++ drop (result.0 + result.1) bytes.now }
+    ensures within { result.0 + result.1 ≤ length bytes.now }
+{
+    let [letter, rest @ ..] = bytes else {
+        return (0, 0);
+    };
+    if *letter != b'E' {
+        return (0, 0);
+    }
+    let (at, gone) = surplus_behind(rest);
+    (at + 1, gone)
+}

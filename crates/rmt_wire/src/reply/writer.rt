@@ -1,0 +1,74 @@
+ghost use Rattle.std.specs.Prelude.{◌≡◌, ◌≤◌, OnOk, OnErr};
+ghost use Rattle.std.specs.Io.KnownBytes.{Appends};
+ghost use Rattle.rmt_wire.specs.Counted.{HasRisen};
+ghost use Rattle.rmt_wire.specs.Lent.{plain_reply};
+ghost use Rattle.rmt_wire.specs.Reply.{Wanted, ReplyHasSpelling, AnswersTo, SpellsReply, reply_text};
+ghost use Rattle.rmt_wire.specs.ReplyWriter.{AppendsBeginning};
+
+#[cfg(test)]
+mod tests;
+
+use crate::counted::Counted;
+use crate::reply::Reply;
+use crate::short_text::numbered;
+use std::io::Write;
+use thiserror::Error;
+
+/// The stream of replies failed, or took none of some bytes. A beginning of the reply went out.
+#[derive(Clone, Copy, Debug, PartialEq, Eq, Error)]
+#[error("Output")]
+pub struct OutputFault;
+
+/// Writes a reply, with no leading zeros in its numbers, and takes no memory.
+///
+/// The reply has a spelling: its number, or the count of its data, is at most `NUMBER_LIMIT`, and its text one line of
+/// at most `LINE_LIMIT` bytes. The head of a reply is one write, as far as the stream takes it, and so are the data.
+///
+/// It gives `OutputFault` at the first write of the stream that fails, or takes none of its bytes, and writes no more.
+#[tactic(auto, using(crate::proofs::Spelling::reply_text_spells))]
+pub fn write_reply<W: Write>(out: &mut Counted<W>, reply: &Reply<'_>) -> Result<(), OutputFault>
+    requires { ReplyHasSpelling (plain_reply reply.now) }
+    ensures written { OnOk result (Appends (W.contents out.old.inner) (W.contents out.new.inner) (reply_text (plain_reply reply.now))) }
+    ensures beginning { OnErr result
+        (AppendsBeginning (W.contents out.old.inner) (W.contents out.new.inner) (reply_text (plain_reply reply.now))) }
+    ensures fault { OnErr result (HasRisen out.old.failures out.new.failures) }
+    ensures counted { out.old.failures ≤ out.new.failures }
+    ensures steady { OnOk result (out.new.failures ≡ out.old.failures) }
+    ensures left { out.new.left ≡ out.old.left }
+    ensures spelled { (wanted : Wanted) → AnswersTo (plain_reply reply.now) wanted
+        → SpellsReply (reply_text (plain_reply reply.now)) (plain_reply reply.now) wanted }
+{
+    match reply {
+        Reply::Done { number } => output(out, numbered(b'A', *number as usize).as_slice()),
+        Reply::Data { bytes } => {
+            output(out, numbered(b'A', bytes.len()).as_slice())?;
+            output(out, bytes)
+        }
+        Reply::Error { number, text } => {
+            let mut line = numbered(b'E', *number as usize);
+            line.push_slice(text);
+            line.push_byte(b'\n');
+            output(out, line.as_slice())
+        }
+    }
+}
+
+// Writes all of a text.
+fn output<W: Write>(out: &mut Counted<W>, text: &[u8]) -> Result<(), OutputFault>
+    ensures written { OnOk result (Appends (W.contents out.old.inner) (W.contents out.new.inner) text.now) }
+    ensures beginning { OnErr result (AppendsBeginning (W.contents out.old.inner) (W.contents out.new.inner) text.now) }
+    ensures fault { OnErr result (HasRisen out.old.failures out.new.failures) }
+    ensures counted { out.old.failures ≤ out.new.failures }
+    ensures steady { OnOk result (out.new.failures ≡ out.old.failures) }
+    ensures left { out.new.left ≡ out.old.left }
+{
+    let mut at = 0;
+    while at < text.len() {
+        match out.write(&text[at..]) {
+            Ok(0) => return Err(OutputFault),
+            Ok(n) => at += n,
+            Err(_) => return Err(OutputFault),
+        }
+    }
+    Ok(())
+}

@@ -1,0 +1,118 @@
+ghost use Rattle.std.specs.Prelude.{◌≡◌, ◌+◌, ◌≤◌, length, IfOk, IfSome};
+ghost use Rattle.rmt_wire.specs.RequestFront as spec;
+
+use crate::fault::WireFault;
+use crate::number::number_front;
+use crate::request::line::line_front;
+
+/// The lines of a request, and how many bytes they are with its letter.
+#[derive(Clone, Copy)]
+pub enum Head {
+    Open {
+        device: usize,
+        mode: u32,
+        len: usize,
+    },
+    Close {
+        len: usize,
+    },
+    Write {
+        count: u32,
+        len: usize,
+    },
+    Read {
+        count: u32,
+        len: usize,
+    },
+    Op {
+        op: u32,
+        count: u32,
+        len: usize,
+    },
+}
+
+#[tactic(auto, unfolding(crate::specs::RequestFront::open_head, crate::specs::RequestFront::mode_head))]
+fn open_head(bytes: &[u8]) -> Result<Option<Head>, WireFault>
+    ensures value { result ≡ spec.open_head bytes.now }
+    ensures within { IfOk result (λ o. IfSome o (spec.LiesIn (length bytes.now + 1))) }
+{
+    let Some(device) = line_front(bytes)? else {
+        return Ok(None);
+    };
+    let line = &bytes[device + 1..];
+    let Some((mode, _)) = number_front(line, true)? else {
+        return Ok(None);
+    };
+    let Some(end) = line_front(line)? else {
+        return Ok(None);
+    };
+    let len = device + end + 3;
+    Ok(Some(Head::Open { device, mode, len }))
+}
+
+#[tactic(auto, unfolding(crate::specs::RequestFront::close_head))]
+fn close_head(bytes: &[u8]) -> Result<Option<Head>, WireFault>
+    ensures value { result ≡ spec.close_head bytes.now }
+    ensures within { IfOk result (λ o. IfSome o (spec.LiesIn (length bytes.now + 1))) }
+{
+    let Some(end) = line_front(bytes)? else {
+        return Ok(None);
+    };
+    Ok(Some(Head::Close { len: end + 2 }))
+}
+
+#[tactic(auto, unfolding(crate::specs::RequestFront::write_head))]
+fn write_head(bytes: &[u8]) -> Result<Option<Head>, WireFault>
+    ensures value { result ≡ spec.write_head bytes.now }
+    ensures within { IfOk result (λ o. IfSome o (spec.LiesIn (length bytes.now + 1))) }
+{
+    let Some((count, digits)) = number_front(bytes, false)? else {
+        return Ok(None);
+    };
+    let len = digits + 2;
+    Ok(Some(Head::Write { count, len }))
+}
+
+#[tactic(auto, unfolding(crate::specs::RequestFront::read_head))]
+fn read_head(bytes: &[u8]) -> Result<Option<Head>, WireFault>
+    ensures value { result ≡ spec.read_head bytes.now }
+    ensures within { IfOk result (λ o. IfSome o (spec.LiesIn (length bytes.now + 1))) }
+{
+    let Some((count, digits)) = number_front(bytes, false)? else {
+        return Ok(None);
+    };
+    let len = digits + 2;
+    Ok(Some(Head::Read { count, len }))
+}
+
+#[tactic(auto, unfolding(crate::specs::RequestFront::op_head, crate::specs::RequestFront::count_head))]
+fn op_head(bytes: &[u8]) -> Result<Option<Head>, WireFault>
+    ensures value { result ≡ spec.op_head bytes.now }
+    ensures within { IfOk result (λ o. IfSome o (spec.LiesIn (length bytes.now + 1))) }
+{
+    let Some((op, first)) = number_front(bytes, false)? else {
+        return Ok(None);
+    };
+    let Some((count, second)) = number_front(&bytes[first + 1..], false)? else {
+        return Ok(None);
+    };
+    let len = first + second + 3;
+    Ok(Some(Head::Op { op, count, len }))
+}
+
+/// The lines of the request that the bytes begin with. None where the bytes are a beginning of such lines.
+#[tactic(auto, unfolding(crate::specs::RequestFront::head_of, crate::specs::RequestFront::letter_head))]
+pub fn head_of(bytes: &[u8]) -> Result<Option<Head>, WireFault>
+    ensures value { result ≡ spec.head_of bytes.now }
+    ensures within { IfOk result (λ o. IfSome o (spec.LiesIn (length bytes.now))) }
+{
+    match bytes {
+        [] => Ok(None),
+        [b'O', rest @ ..] => open_head(rest),
+        [b'C', rest @ ..] => close_head(rest),
+        [b'W', rest @ ..] => write_head(rest),
+        [b'R', rest @ ..] => read_head(rest),
+        [b'I', rest @ ..] => op_head(rest),
+        _ => Err(WireFault::UnknownCommand),
+    }
+}

@@ -1,0 +1,21 @@
+ghost use Rattle.std.specs.Prelude.{◌≡◌, ◌<◌, length, IfOk, IfSome};
+ghost use Rattle.rmt_wire.specs.RequestFront as spec;
+
+use crate::fault::WireFault;
+use crate::limits::LINE_LIMIT;
+
+/// How many bytes the line has that the bytes begin with. The line feed comes next. None where there is none yet.
+pub fn line_front(bytes: &[u8]) -> Result<Option<usize>, WireFault>
+    ensures value { result ≡ spec.line_front bytes.now }
+    ensures within { IfOk result (λ o. IfSome o (λ n. n < length bytes.now)) }
+{
+    for (len, byte) in bytes.iter().enumerate() {
+        if *byte == b'\n' {
+            return Ok(Some(len));
+        }
+        if len == LINE_LIMIT {
+            return Err(WireFault::LineTooLong);
+        }
+    }
+    Ok(None)
+}
