@@ -7,6 +7,7 @@ FEED := crates/feed
 PROGRAM := $(RMTD)/out/rmtd
 CLIENT := $(RDUMP)/out/rdump
 ANSWERED := $(RMTD)/out/answered
+MINUTES := out/minutes.txt
 
 .PHONY: build server client run test bench help kit
 .NOTPARALLEL:
@@ -30,10 +31,11 @@ run: server ## the main job: one conversation through `rmtd --stdio`, its answer
 # The programs that are tested are those that `rt ci` has just proved and built, where it left them.
 test: kit ## the gate: each proof from nothing, then the built programs from outside, to the byte
 	rm -f $(PROGRAM) $(CLIENT)
-	rt ci
+	python3 tests/gate.py --minutes $(MINUTES)
 	test -x $(PROGRAM) -a -x $(CLIENT) || $(MAKE) build
 	python3 tests/rows.py $(PROGRAM)
 	python3 tests/dates.py $(CLIENT)
+	@cat $(MINUTES)
 
 bench: build ## long streams through the server, beside cat and GNU rmt; a long dumpdates file, beside cat and wc; both readers fed in pieces
 	python3 bench/stdio.py $(PROGRAM)

@@ -1,7 +1,7 @@
 -- A fault of bytes is one of all that begin with them.
 use Rattle.std.proofs.Common.{◌≡◌, ◌⊎◌, inl, inr, ℕ, List, [], ◌∷◌, ◌++◌, Some, Err, refl, sym, ap, subst, ◌∙◌, append_assoc}
 use Rattle.rmt_wire.specs.Reply.{Wanted, SpellsReply}
-use Rattle.rmt_wire.specs.ReplyParts.{HasFault, HasNoSpelling, Gives}
+use Rattle.rmt_wire.specs.ReplyParts.{ReplyHasFault, ReplyHasNoSpelling, ReplyGives}
 use Rattle.rmt_wire.specs.declared.fault.WireFault.{WireFault}
 
 -- of two beginnings of one text, one begins the other
@@ -33,7 +33,7 @@ two_fronts (a ∷ p) (b ∷ q) r s e = either (two_fronts p q r s (tail_same a b
 up_to_byte : (seen later more : List ℕ) (byte : ℕ) (bytes : List ℕ) → bytes ≡ seen ++ byte ∷ later → bytes ++ more ≡ (seen ++ byte ∷ []) ++ (later ++ more)
 up_to_byte seen later more byte bytes e = ap (λ t. t ++ more) e ∙ append_assoc seen (byte ∷ later) more ∙ sym (append_assoc seen (byte ∷ []) (later ++ more))
 
-fault_behind : (wanted : Wanted) (bytes more : List ℕ) (fault : WireFault) → HasFault wanted bytes fault → HasFault wanted (bytes ++ more) fault
+fault_behind : (wanted : Wanted) (bytes more : List ℕ) (fault : WireFault) → ReplyHasFault wanted bytes fault → ReplyHasFault wanted (bytes ++ more) fault
 fault_behind wanted bytes more fault f = record {
   seen = f.seen;
   byte = f.byte;
@@ -45,7 +45,7 @@ fault_behind wanted bytes more fault f = record {
 }
 
 -- a reply would end within the bytes, or begin with a hopeless text
-no_spelling_behind : (wanted : Wanted) (bytes more : List ℕ) (fault : WireFault) → HasFault wanted bytes fault → HasNoSpelling wanted bytes → HasNoSpelling wanted (bytes ++ more)
+no_spelling_behind : (wanted : Wanted) (bytes more : List ℕ) (fault : WireFault) → ReplyHasFault wanted bytes fault → ReplyHasNoSpelling wanted bytes → ReplyHasNoSpelling wanted (bytes ++ more)
 no_spelling_behind wanted bytes more fault f none text rest reply e s = neither (two_fronts text front rest (f.later ++ more) (sym e ∙ up_to_byte f.seen f.later more f.byte bytes f.split))
   where
     front : List ℕ
@@ -58,5 +58,5 @@ no_spelling_behind wanted bytes more fault f none text rest reply e s = neither 
     neither (inl w) = f.hopeless (w.0, reply, subst (λ t. SpellsReply t reply wanted) w.1 s)
     neither (inr w) = none text (w.0 ++ f.later) reply (whole ∙ ap (λ t. t ++ f.later) w.1 ∙ append_assoc text w.0 f.later) s
 
-pub stays_faulty : (wanted : Wanted) (bytes more rest : List ℕ) (fault : WireFault) → Gives (Some wanted) bytes (Err fault) rest → Gives (Some wanted) (bytes ++ more) (Err fault) (bytes ++ more)
+pub stays_faulty : (wanted : Wanted) (bytes more rest : List ℕ) (fault : WireFault) → ReplyGives (Some wanted) bytes (Err fault) rest → ReplyGives (Some wanted) (bytes ++ more) (Err fault) (bytes ++ more)
 stays_faulty wanted bytes more rest fault g = (fault_behind wanted bytes more fault g.0, no_spelling_behind wanted bytes more fault g.0 g.1, refl)

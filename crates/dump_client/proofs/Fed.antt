@@ -1,7 +1,7 @@
 -- What is unanswered once an outcome was followed.
 use Rattle.std.proofs.Common.{◌≡◌, inl, inr, ℕ, Bool, true, false, List, [], refl, sym, ap, subst, None}
 use Rattle.rmt_wire.specs.ReplyReader as reader
-use Rattle.rmt_wire.specs.ReplyReader.{Unread}
+use Rattle.rmt_wire.specs.ReplyReader.{ReplyUnread}
 use Rattle.dump_client.specs.Run.{PlainRun}
 use Rattle.dump_client.specs.Position.{after_noise, after_end}
 use Rattle.dump_client.specs.Standing.{Standing, IsOver, Becomes}
@@ -14,10 +14,10 @@ use Rattle.dump_client.specs.declared.step.Step.{Step}
 use Rattle.dump_client.specs.declared.step.Step.TheVariants.{Open, Rewind, Label, Block, Mark, Unload, Close}
 
 -- between attempts and in a step that is to be sent, nothing is
-abbrev pub IsUnanswered : Standing → reader.Held → List ℕ → Type 0
+abbrev pub IsUnanswered : Standing → reader.ReplyHeld → List ℕ → Type 0
 IsUnanswered s reader bytes = HasFedAt s.stage reader (unanswered s.stage bytes)
 
-over_fed : (run : PlainRun) (counts : List VolumeCount) (new : Standing) (r : reader.Held) (bytes : List ℕ) → IsOver run counts new → IsUnanswered new r bytes
+over_fed : (run : PlainRun) (counts : List VolumeCount) (new : Standing) (r : reader.ReplyHeld) (bytes : List ℕ) → IsOver run counts new → IsUnanswered new r bytes
 over_fed run counts new r bytes (inl h) = subst (λ n. IsUnanswered n r bytes) (sym h.1) refl
 over_fed run counts new r bytes (inr h) = subst (λ n. IsUnanswered n r bytes) (sym h.1) refl
 
@@ -33,8 +33,8 @@ becomes_run old (Counted next) false progress new h = ap (λ n. n.run) h.1
 becomes_run old (Counted next) true progress new h = over_run old.run (Rattle.dump_client.specs.Standing.counted_to old.counts next) new h.1
 becomes_run old Ended more progress new h = over_run old.run old.counts new h.1
 
-pub becomes_fed : (old : Standing) (outcome : Outcome) (more : Bool) (progress : Progress) (new : Standing) (r : reader.Held) (bytes : List ℕ) → Becomes old outcome more progress new
-    → (more ≡ false → Unread r None []) → HasFedAt new.stage r (unanswered new.stage bytes)
+pub becomes_fed : (old : Standing) (outcome : Outcome) (more : Bool) (progress : Progress) (new : Standing) (r : reader.ReplyHeld) (bytes : List ℕ) → Becomes old outcome more progress new
+    → (more ≡ false → ReplyUnread r None []) → HasFedAt new.stage r (unanswered new.stage bytes)
 becomes_fed old (GoesOn step) false progress new r bytes h k = subst (λ n. IsUnanswered n r bytes) (sym h.1) (k refl, refl)
 becomes_fed old (GoesOn step) true progress new r bytes h k = subst (λ n. IsUnanswered n r bytes) (sym h.1) refl
 becomes_fed old (Fails fault) more progress new r bytes h k = subst (λ n. IsUnanswered n r bytes) (sym h.1) refl
@@ -43,7 +43,7 @@ becomes_fed old (Counted next) true progress new r bytes h k = over_fed old.run 
 becomes_fed old Ended more progress new r bytes h k = over_fed old.run old.counts new r bytes h.1
 
 -- bytes that are no reply, and the end of the connection, leave nothing to send
-pub noise_fed : (old : Standing) (step : Step) (progress : Progress) (new : Standing) (r : reader.Held) (bytes : List ℕ) → Becomes old (after_noise step) false progress new
+pub noise_fed : (old : Standing) (step : Step) (progress : Progress) (new : Standing) (r : reader.ReplyHeld) (bytes : List ℕ) → Becomes old (after_noise step) false progress new
     → HasFedAt new.stage r (unanswered new.stage bytes)
 noise_fed old Close progress new r bytes h = over_fed old.run old.counts new r bytes h.1
 noise_fed old Open progress new r bytes h = subst (λ n. IsUnanswered n r bytes) (sym h.1) refl
@@ -53,7 +53,7 @@ noise_fed old (Block number) progress new r bytes h = subst (λ n. IsUnanswered 
 noise_fed old (Mark next) progress new r bytes h = subst (λ n. IsUnanswered n r bytes) (sym h.1) refl
 noise_fed old (Unload next) progress new r bytes h = subst (λ n. IsUnanswered n r bytes) (sym h.1) refl
 
-pub end_fed : (old : Standing) (step : Step) (progress : Progress) (new : Standing) (r : reader.Held) (bytes : List ℕ) → Becomes old (after_end step) false progress new
+pub end_fed : (old : Standing) (step : Step) (progress : Progress) (new : Standing) (r : reader.ReplyHeld) (bytes : List ℕ) → Becomes old (after_end step) false progress new
     → HasFedAt new.stage r (unanswered new.stage bytes)
 end_fed old Close progress new r bytes h = over_fed old.run old.counts new r bytes h.1
 end_fed old Open progress new r bytes h = subst (λ n. IsUnanswered n r bytes) (sym h.1) refl

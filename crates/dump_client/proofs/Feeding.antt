@@ -3,7 +3,7 @@ use Rattle.std.proofs.Common.{◌≡◌, ℕ, Bool, true, false, List, [], ◌++
 use Rattle.std.proofs.lemmas.List.{length-take-le}
 use Rattle.rmt_wire.specs.Reply.{PlainReply}
 use Rattle.rmt_wire.specs.ReplyReader as reader
-use Rattle.rmt_wire.specs.ReplyReader.{Unread}
+use Rattle.rmt_wire.specs.ReplyReader.{ReplyUnread}
 use Rattle.rmt_wire.specs.Reply.Wanted.{Number}
 use Rattle.dump_client.specs.Position.Heard.{Reply, Noise}
 use Rattle.dump_client.specs.Listening.{IsWaiting, IsSaid, IsListened}
@@ -23,14 +23,14 @@ use Rattle.dump_client.specs.declared.step.Step.TheVariants.{Open, Rewind, Label
 use Rattle.dump_client.proofs.Listening.{waiting_anew}
 
 -- a beginning of a reply
-pub fed_waits : (old : Standing) (step : Step) (r new_reader : reader.Held) (bytes piece : List ℕ) → Waiting step ≡ old.stage → (IsWaiting Number r bytes → IsListened Number (bytes ++ piece) listened.Waits new_reader)
+pub fed_waits : (old : Standing) (step : Step) (r new_reader : reader.ReplyHeld) (bytes piece : List ℕ) → Waiting step ≡ old.stage → (IsWaiting Number r bytes → IsListened Number (bytes ++ piece) listened.Waits new_reader)
     → HasFedAt old.stage r bytes → FedAt old.stage old bytes piece moved.Waiting old
 fed_waits old step r new_reader bytes piece at seen h =
     subst (λ s. HasFedAt s r bytes → FedAt s old bytes piece moved.Waiting old) at
     (λ w. let l = seen w in (Ok None, bytes ++ piece, l.begun, (refl, refl))) h
 
 -- a reply
-pub fed_reply : (old : Standing) (step : Step) (r new_reader : reader.Held) (bytes piece : List ℕ) (said : Said) (more : Bool) (progress : Progress) (new : Standing) → Waiting step ≡ old.stage
+pub fed_reply : (old : Standing) (step : Step) (r new_reader : reader.ReplyHeld) (bytes piece : List ℕ) (said : Said) (more : Bool) (progress : Progress) (new : Standing) → Waiting step ≡ old.stage
     → (IsWaiting Number r bytes → IsListened Number (bytes ++ piece) (listened.Reply said more) new_reader)
     → ((reply : PlainReply) → IsSaid reply said → HearsAt old step (Reply reply) more progress new)
     → HasFedAt old.stage r bytes → FedAt old.stage old bytes piece progress new
@@ -39,7 +39,7 @@ fed_reply old step r new_reader bytes piece said more progress new at seen heard
     (λ w. let l = seen w in (Ok (Some l.0), l.1, l.2, subst (λ m. HearsAt old step (Reply l.0) m progress new) l.4 (heard l.0 l.3))) h
 
 -- no reply
-pub fed_noise : (old : Standing) (step : Step) (r new_reader : reader.Held) (bytes piece : List ℕ) (progress : Progress) (new : Standing) → Waiting step ≡ old.stage
+pub fed_noise : (old : Standing) (step : Step) (r new_reader : reader.ReplyHeld) (bytes piece : List ℕ) (progress : Progress) (new : Standing) → Waiting step ≡ old.stage
     → (IsWaiting Number r bytes → IsListened Number (bytes ++ piece) listened.Noise new_reader) → HearsAt old step Noise false progress new
     → HasFedAt old.stage r bytes → FedAt old.stage old bytes piece progress new
 fed_noise old step r new_reader bytes piece progress new at seen heard h =
@@ -47,15 +47,15 @@ fed_noise old step r new_reader bytes piece progress new at seen heard h =
     (λ w. let l = seen w in (Err l.0, bytes ++ piece, l.1, heard)) h
 
 -- the bytes that were fed where a reply is waited for
-pub waiting_at : (stage : Stage) (step : Step) (r : reader.Held) (bytes : List ℕ) → Waiting step ≡ stage → HasFedAt stage r bytes → IsWaiting Number r bytes
+pub waiting_at : (stage : Stage) (step : Step) (r : reader.ReplyHeld) (bytes : List ℕ) → Waiting step ≡ stage → HasFedAt stage r bytes → IsWaiting Number r bytes
 waiting_at stage step r bytes at h = subst (λ s. HasFedAt s r bytes → IsWaiting Number r bytes) at (λ w. w) h
 
-pub fed_at_waiting : (stage : Stage) (step : Step) (r : reader.Held) (bytes : List ℕ) → Waiting step ≡ stage → IsWaiting Number r bytes → HasFedAt stage r bytes
+pub fed_at_waiting : (stage : Stage) (step : Step) (r : reader.ReplyHeld) (bytes : List ℕ) → Waiting step ≡ stage → IsWaiting Number r bytes → HasFedAt stage r bytes
 fed_at_waiting stage step r bytes at w = subst (λ s. HasFedAt s r bytes) at w
 
 -- a reply is waited for anew, where none was
-pub fed_anew : (stage new_stage : Stage) (step : Step) (r new_reader : reader.Held) (bytes : List ℕ) → ToSend step ≡ stage → new_stage ≡ Waiting step
-    → (Unread r None [] → Unread new_reader (Some Number) []) → HasFedAt stage r bytes → HasFedAt new_stage new_reader bytes
+pub fed_anew : (stage new_stage : Stage) (step : Step) (r new_reader : reader.ReplyHeld) (bytes : List ℕ) → ToSend step ≡ stage → new_stage ≡ Waiting step
+    → (ReplyUnread r None [] → ReplyUnread new_reader (Some Number) []) → HasFedAt stage r bytes → HasFedAt new_stage new_reader bytes
 fed_anew stage new_stage step r new_reader bytes at then_at expects h =
     subst (λ s. HasFedAt s new_reader bytes) (sym then_at)
     (subst (λ s. HasFedAt s r bytes → IsWaiting Number new_reader bytes) at

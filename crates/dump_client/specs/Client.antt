@@ -3,9 +3,9 @@ use Rattle.std.specs.Prelude.{◌≡◌, ◌≢◌, ℕ, ◌+◌, ◌<◌, Bool,
 use Rattle.rmt_wire.specs.Counted.{raised}
 use Rattle.rmt_wire.specs.Request.{PlainRequest, IsTextOf, request_text}
 use Rattle.rmt_wire.specs.Request.PlainRequest.{Write}
-use Rattle.rmt_wire.specs.Reader.{reader_limit}
+use Rattle.rmt_wire.specs.Limits.{reader_limit}
 use Rattle.rmt_wire.specs.ReplyReader as reader
-use Rattle.rmt_wire.specs.ReplyReader.{Unread}
+use Rattle.rmt_wire.specs.ReplyReader.{ReplyUnread}
 use Rattle.dumpdates.specs.Stored.{plain_entry}
 use Rattle.dumpdates.specs.declared.entry.Entry.{Entry}
 use Rattle.dump_client.specs.Run.{PlainRun}
@@ -24,12 +24,12 @@ use Rattle.dump_client.specs.declared.fault.AttemptFault.TheVariants.{SourceFaul
 pub record ClientHeld (B : Type 0) : Type 0 where
   pub at : Standing
   pub source : B
-  pub reader : reader.Held
+  pub reader : reader.ReplyHeld
   pub room : ℕ
 
 -- the bytes that were fed since the request that waits for its reply was sent; none in the other stages
-abbrev pub HasFedAt : Stage → reader.Held → List ℕ → Type 0
-HasFedAt (ToSend step) reader bytes = Unread reader None [] × (bytes ≡ [])
+abbrev pub HasFedAt : Stage → reader.ReplyHeld → List ℕ → Type 0
+HasFedAt (ToSend step) reader bytes = ReplyUnread reader None [] × (bytes ≡ [])
 HasFedAt (Waiting step) reader bytes = IsWaiting (wanted_of step) reader bytes
 HasFedAt stage reader bytes = bytes ≡ []
 

@@ -2,7 +2,7 @@
 use Rattle.std.specs.Prelude.{◌⊎◌, ℕ, ◌<◌, ◌≤◌, List, length}
 use Rattle.std.specs.Int.{IsInRange}
 use Rattle.rmt_wire.specs.Number.{HasNoLineFeed}
-use Rattle.rmt_wire.specs.Request.{data_limit}
+use Rattle.rmt_wire.specs.Limits.{data_limit}
 use Rattle.dumpdates.specs.Entry.{IsName, last_second}
 use Rattle.dump_client.specs.declared.fault.RunFault.{RunFault}
 use Rattle.dump_client.specs.declared.fault.RunFault.TheVariants.{BadDevice, BadName, BadLevel, BadDate, BadBlockSize, TooManyBlocks}

@@ -1,7 +1,7 @@
 -- Where a client stands, as values, and how bytes and the end of a connection move it.
 use Rattle.std.specs.Prelude.{◌≡◌, ◌≢◌, ◌⊎◌, ℕ, ◌+◌, ◌-◌, Bool, true, false, List, [], ◌∷◌, ◌++◌, Option, Some, None, Result, Ok, Err}
 use Rattle.rmt_wire.specs.Reply.{PlainReply}
-use Rattle.rmt_wire.specs.ReplyParts.{Gives}
+use Rattle.rmt_wire.specs.ReplyParts.{ReplyGives}
 use Rattle.rmt_wire.specs.declared.fault.WireFault.{WireFault}
 use Rattle.dump_client.specs.Run.{PlainRun}
 use Rattle.dump_client.specs.Script.{wanted_of}
@@ -104,7 +104,7 @@ FedAt (ToSend step) old bytes piece progress new =
     ((piece ≡ []) × (progress ≡ moved.Send) × (new ≡ old))
     ⊎ ((piece ≢ []) × HearsAt old step Noise false progress new)
 FedAt (Waiting step) old bytes piece progress new =
-    (seen : Result (Option PlainReply) WireFault) × (rest : List ℕ) × Gives (Some (wanted_of step)) (bytes ++ piece) seen rest
+    (seen : Result (Option PlainReply) WireFault) × (rest : List ℕ) × ReplyGives (Some (wanted_of step)) (bytes ++ piece) seen rest
     × Makes old step (bytes ++ piece) seen rest progress new
 FedAt stage old bytes piece progress new = (progress ≡ moved.Idle) × (new ≡ old)
 

@@ -2,7 +2,7 @@
 ghost use Rattle.std.specs.Prelude.{◌≡◌, ℕ, ◌+◌, ◌<◌, false, List, [], length, OnErr, OnOk, None};
 ghost use Rattle.rmt_wire.specs.Reply.{PlainReply};
 ghost use Rattle.rmt_wire.specs.ReplyReader as readers;
-ghost use Rattle.rmt_wire.specs.ReplyReader.{Unread};
+ghost use Rattle.rmt_wire.specs.ReplyReader.{ReplyUnread};
 ghost use Rattle.dump_client.specs.Client.{HasFedAt, unanswered};
 ghost use Rattle.dump_client.specs.Listening.{IsSaid};
 ghost use Rattle.dump_client.specs.Position.Heard.{Reply, Noise, End};
@@ -131,7 +131,7 @@ impl Ledger {
         requires room { RoomFits self.old.at.stage self.old.room }
         ensures heard { (reply : PlainReply) → IsSaid reply said → HearsAt self.old.at step (Reply reply) more result self.new.at }
         ensures slots { self.new.room + length self.new.at.counts ≡ self.old.room + length self.old.at.counts }
-        ensures fed { (reader : readers.Held) (bytes : List ℕ) → (more ≡ false → Unread reader None []) →
+        ensures fed { (reader : readers.ReplyHeld) (bytes : List ℕ) → (more ≡ false → ReplyUnread reader None []) →
             HasFedAt self.new.at.stage reader (unanswered self.new.at.stage bytes) }
         ensures same_run { self.new.at.run ≡ self.old.at.run }
     {
@@ -148,7 +148,7 @@ impl Ledger {
         requires room { RoomFits self.old.at.stage self.old.room }
         ensures heard { HearsAt self.old.at step Noise false result self.new.at }
         ensures slots { self.new.room + length self.new.at.counts ≡ self.old.room + length self.old.at.counts }
-        ensures fed { (reader : readers.Held) (bytes : List ℕ) → HasFedAt self.new.at.stage reader (unanswered self.new.at.stage bytes) }
+        ensures fed { (reader : readers.ReplyHeld) (bytes : List ℕ) → HasFedAt self.new.at.stage reader (unanswered self.new.at.stage bytes) }
         ensures same_run { self.new.at.run ≡ self.old.at.run }
     {
         self.come_to(after_noise(step), false)
@@ -162,7 +162,7 @@ impl Ledger {
         requires room { RoomFits self.old.at.stage self.old.room }
         ensures heard { HearsAt self.old.at step End false result self.new.at }
         ensures slots { self.new.room + length self.new.at.counts ≡ self.old.room + length self.old.at.counts }
-        ensures fed { (reader : readers.Held) (bytes : List ℕ) → HasFedAt self.new.at.stage reader (unanswered self.new.at.stage bytes) }
+        ensures fed { (reader : readers.ReplyHeld) (bytes : List ℕ) → HasFedAt self.new.at.stage reader (unanswered self.new.at.stage bytes) }
         ensures same_run { self.new.at.run ≡ self.old.at.run }
     {
         self.come_to(after_end(step), false)
@@ -174,7 +174,7 @@ impl Ledger {
         requires { OutcomeFits self.old.at.run self.old.at.counts self.old.room outcome }
         ensures becomes { Becomes self.old.at outcome more result self.new.at }
         ensures slots { self.new.room + length self.new.at.counts ≡ self.old.room + length self.old.at.counts }
-        ensures fed { (reader : readers.Held) (bytes : List ℕ) → (more ≡ false → Unread reader None []) →
+        ensures fed { (reader : readers.ReplyHeld) (bytes : List ℕ) → (more ≡ false → ReplyUnread reader None []) →
             HasFedAt self.new.at.stage reader (unanswered self.new.at.stage bytes) }
         ensures same_run { self.new.at.run ≡ self.old.at.run }
     {

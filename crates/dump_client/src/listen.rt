@@ -2,7 +2,7 @@
 ghost use Rattle.std.specs.Prelude.{ℕ, ◌≡◌, List, ◌++◌, Some};
 ghost use Rattle.rmt_wire.specs.Lent.{plain_reply};
 ghost use Rattle.rmt_wire.specs.Reply as kinds;
-ghost use Rattle.rmt_wire.specs.ReplyReader.{Unread};
+ghost use Rattle.rmt_wire.specs.ReplyReader.{ReplyUnread};
 ghost use Rattle.dump_client.specs.Listening.{IsWaiting, IsSaid, IsHeard, IsListened};
 
 use rmt_wire::{Reply, ReplyReader, WireFault};
@@ -41,8 +41,8 @@ fn without_text(reply: Reply<'_>) -> Said
 
 /// What the reader answers of the bytes that it holds while a number is waited for.
 fn hear(reader: &mut ReplyReader) -> Result<Option<Said>, WireFault>
-    requires held { (bytes : List ℕ) × Unread reader.old (Some kinds.Wanted.Number) bytes }
-    ensures heard { (bytes : List ℕ) → Unread reader.old (Some kinds.Wanted.Number) bytes →
+    requires held { (bytes : List ℕ) × ReplyUnread reader.old (Some kinds.Wanted.Number) bytes }
+    ensures heard { (bytes : List ℕ) → ReplyUnread reader.old (Some kinds.Wanted.Number) bytes →
         IsHeard kinds.Wanted.Number bytes result reader.new }
 {
     match reader.next()? {

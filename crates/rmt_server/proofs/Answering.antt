@@ -7,13 +7,14 @@ use Rattle.std.proofs.KnownBytes.{Appends-nil, Appends-trans}
 use Rattle.std.specs.Io.KnownBytes.{Appends, Consumes}
 use Rattle.rmt_wire.specs.Request.{PlainRequest, SpellsRequest}
 use Rattle.rmt_wire.specs.Request.PlainRequest.{Open, Close, Write, WriteDropped, Read, Op}
-use Rattle.rmt_wire.specs.Reply.{PlainReply, reply_text, HasSpelling}
-use Rattle.rmt_wire.specs.Parts.{Spelled, HasNoSpelling, HasFault}
+use Rattle.rmt_wire.specs.Reply.{PlainReply, reply_text, ReplyHasSpelling}
+use Rattle.rmt_wire.specs.RequestParts.{Spelled, HasNoSpelling, HasFault}
 use Rattle.std.specs.Result.{IsErr, IsErrAnd}
 use Rattle.rmt_wire.specs.Counted.{Counting, HasRisen}
-use Rattle.rmt_wire.specs.declared.writer.OutputFault.{OutputFault}
+use Rattle.rmt_wire.specs.declared.reply.writer.OutputFault.{OutputFault}
 use Rattle.rmt_wire.specs.Lent.{plain_request}
-use Rattle.rmt_wire.specs.Reader.{Held, Unread, IsNext, dropped_line, reader_limit, told}
+use Rattle.rmt_wire.specs.RequestReader.{RequestHeld, Unread, IsNext, dropped_line, told}
+use Rattle.rmt_wire.specs.Limits.{reader_limit}
 use Rattle.rmt_wire.specs.declared.request.Request.{Request}
 use Rattle.rmt_wire.specs.declared.fault.WireFault.{WireFault}
 use Rattle.drives.specs.Opening.{Kinds}
@@ -127,7 +128,7 @@ module _ {H S Seat R : Type 0} {k : Kinds H Seat S R} {old : State H S Seat R} w
 
   -- one request more
   pub advances_one : {between new : State H S Seat R} {P Q : List Exchange → List ℕ → Type 0} (request : PlainRequest) (reply : PlainReply)
-      → Advances k old between P → IsCarriedOut k between request reply new → HasSpelling reply
+      → Advances k old between P → IsCarriedOut k between request reply new → ReplyHasSpelling reply
       → ((done : List Exchange) (rest : List ℕ) → P done rest → (later : List ℕ) × Q (done ++ (request, reply) ∷ []) later) → Advances k old new Q
   advances_one request reply a step spelling f =
       let w = f a.done a.rest a.outcome in
@@ -172,7 +173,7 @@ pub faulty_more : (rest more : List ℕ) (fault : WireFault) → IsFaulty rest f
 faulty_more rest more fault f = λ later. subst (λ t. HasFault t fault × HasNoSpelling t) (sym (append_assoc rest more later)) (f (more ++ later))
 
 -- where an answer could not be written
-pub cut_as : {W : Type 0} (contents : W → Option (List ℕ)) (result : Result (Option WireFault) OutputFault) (output output' : Counting W) (wire : Held) (bytes : List ℕ) (done : List Exchange) (rest : List ℕ)
+pub cut_as : {W : Type 0} (contents : W → Option (List ℕ)) (result : Result (Option WireFault) OutputFault) (output output' : Counting W) (wire : RequestHeld) (bytes : List ℕ) (done : List Exchange) (rest : List ℕ)
     → IsErr result → IsCutOff (contents output.inner) (contents output'.inner) bytes done rest → HasRisen output.failures output'.failures
     → AnswersAs contents result output output' wire bytes done rest
 cut_as contents (Ok x) output output' wire bytes done rest e c r = absurd (cc)
@@ -180,7 +181,7 @@ cut_as contents (Err failed) output output' wire bytes done rest e c r = (c, r)
 
 -- What a reader that was settled does with one piece more, by what answering gave.
 module _ {H S Seat R : Type 0} {k : Kinds H Seat S R} {old between new : State H S Seat R} where
-  pub piece_cut : {W : Type 0} (contents : W → Option (List ℕ)) (result : Result (Option WireFault) OutputFault) (first out out' : Counting W) (wire wire' : Held) (bytes text part : List ℕ) (at count : ℕ)
+  pub piece_cut : {W : Type 0} (contents : W → Option (List ℕ)) (result : Result (Option WireFault) OutputFault) (first out out' : Counting W) (wire wire' : RequestHeld) (bytes text part : List ℕ) (at count : ℕ)
       → part ≡ drop at text → IsErr result → first.failures ≤ out.failures
       → Advances k old between (λ done rest. IsAnswered (contents first.inner) (contents out.inner) (bytes ++ take at text) done rest × IsSettled wire rest)
       → ((rest : List ℕ) → IsSettled wire rest → Advances k between new
@@ -198,7 +199,7 @@ module _ {H S Seat R : Type 0} {k : Kinds H Seat S R} {old between new : State H
             (risen_since first.failures out.failures out'.failures since b.outcome.1);
       })
 
-  pub piece_faulty : {W : Type 0} (contents : W → Option (List ℕ)) (fault : WireFault) (first out out' : Counting W) (wire wire' : Held) (bytes text part : List ℕ) (at count : ℕ)
+  pub piece_faulty : {W : Type 0} (contents : W → Option (List ℕ)) (fault : WireFault) (first out out' : Counting W) (wire wire' : RequestHeld) (bytes text part : List ℕ) (at count : ℕ)
       → part ≡ drop at text → Advances k old between (λ done rest. IsAnswered (contents first.inner) (contents out.inner) (bytes ++ take at text) done rest × IsSettled wire rest)
       → ((rest : List ℕ) → IsSettled wire rest → Advances k between new
       (λ more later. IsAnswered (contents out.inner) (contents out'.inner) (rest ++ take count part) more later × IsFaulty later fault))
@@ -216,7 +217,7 @@ module _ {H S Seat R : Type 0} {k : Kinds H Seat S R} {old between new : State H
         );
       })
 
-  pub piece_answered : {W : Type 0} (contents : W → Option (List ℕ)) (first out out' : Counting W) (wire wire' : Held) (bytes text part : List ℕ) (at count : ℕ)
+  pub piece_answered : {W : Type 0} (contents : W → Option (List ℕ)) (first out out' : Counting W) (wire wire' : RequestHeld) (bytes text part : List ℕ) (at count : ℕ)
       → part ≡ drop at text → Advances k old between (λ done rest. IsAnswered (contents first.inner) (contents out.inner) (bytes ++ take at text) done rest × IsSettled wire rest)
       → ((rest : List ℕ) → IsSettled wire rest → Advances k between new
       (λ more later. IsAnswered (contents out.inner) (contents out'.inner) (rest ++ take count part) more later × IsSettled wire' later))
@@ -236,7 +237,7 @@ module _ {H S Seat R : Type 0} {k : Kinds H Seat S R} {old between new : State H
       })
 
 -- One call of `next`, by what it answered.
-pub next_none : (old new : Held) (result : Result (Option Request) WireFault) → IsNext old (told result) new → result ≡ Ok None → (bytes : List ℕ) → Unread old bytes → IsSettled new bytes
+pub next_none : (old new : RequestHeld) (result : Result (Option Request) WireFault) → IsNext old (told result) new → result ≡ Ok None → (bytes : List ℕ) → Unread old bytes → IsSettled new bytes
 next_none old new result n e bytes u =
     let m = subst (λ a. IsNext old (told a) new) e n in
     let w = m.continues bytes u in
@@ -244,14 +245,14 @@ next_none old new result n e bytes u =
     let held : Unread new bytes = subst (Unread new) same w.1 in
     record { unread = held; begins = w.2.0; none = w.2.1; room = m.room bytes held }
 
-pub next_some : (old new : Held) (result : Result (Option Request) WireFault) (request : Request) → IsNext old (told result) new → result ≡ Ok (Some request) → (bytes : List ℕ) → Unread old bytes
+pub next_some : (old new : RequestHeld) (result : Result (Option Request) WireFault) (request : Request) → IsNext old (told result) new → result ≡ Ok (Some request) → (bytes : List ℕ) → Unread old bytes
     → (rest : List ℕ) × Unread new rest × (text : List ℕ) × SpellsRequest text (plain_request request) × (bytes ≡ text ++ rest)
 next_some old new result request n e bytes u =
     let m = subst (λ a. IsNext old (told a) new) e n in
     let w = m.continues bytes u in
     (w.0, w.1, w.2.0, w.2.1, w.2.2)
 
-pub next_shorter : (old new : Held) (result : Result (Option Request) WireFault) (request : Request) → IsNext old (told result) new → result ≡ Ok (Some request) → length new.kept < length old.kept
+pub next_shorter : (old new : RequestHeld) (result : Result (Option Request) WireFault) (request : Request) → IsNext old (told result) new → result ≡ Ok (Some request) → length new.kept < length old.kept
 next_shorter old new result request n e = (subst (λ a. IsNext old (told a) new) e n).shrinks
 
 -- a reader that is settled takes some of a piece that is not empty
@@ -272,7 +273,7 @@ broken_ends rest fault f = subst (λ t. HasFault t fault × HasNoSpelling t) (ap
 
 -- What became of the bytes read so far and one piece more.
 module _ {H S Seat R : Type 0} {k : Kinds H Seat S R} {old between new : State H S Seat R} where
-  pub read_cut : {In W : Type 0} (remaining : In → Option (List ℕ)) (contents : W → Option (List ℕ)) (result : Result Served ServeFault) (input input' : Counting In) (first out out' : Counting W) (wire : Held) (read part : List ℕ)
+  pub read_cut : {In W : Type 0} (remaining : In → Option (List ℕ)) (contents : W → Option (List ℕ)) (result : Result Served ServeFault) (input input' : Counting In) (first out out' : Counting W) (wire : RequestHeld) (read part : List ℕ)
       → IsErrAnd result (λ e. e ≡ Output) → first.failures ≤ out.failures
       → Advances k old between (λ done rest. IsAnswered (contents first.inner) (contents out.inner) read done rest × IsSettled wire rest)
       → ((rest : List ℕ) → IsSettled wire rest → Advances k between new
@@ -289,7 +290,7 @@ module _ {H S Seat R : Type 0} {k : Kinds H Seat S R} {old between new : State H
             (cut_then _ _ _ read rest part b.rest done b.done p.0 b.outcome.0) (risen_since first.failures out.failures out'.failures since b.outcome.1);
       })
 
-  pub read_faulty : {In W : Type 0} (remaining : In → Option (List ℕ)) (contents : W → Option (List ℕ)) (fault : WireFault) (input input' : Counting In) (first out out' : Counting W) (wire : Held) (read part : List ℕ)
+  pub read_faulty : {In W : Type 0} (remaining : In → Option (List ℕ)) (contents : W → Option (List ℕ)) (fault : WireFault) (input input' : Counting In) (first out out' : Counting W) (wire : RequestHeld) (read part : List ℕ)
       → Advances k old between (λ done rest. IsAnswered (contents first.inner) (contents out.inner) read done rest × IsSettled wire rest)
       → ((rest : List ℕ) → IsSettled wire rest → Advances k between new
       (λ more later. IsAnswered (contents out.inner) (contents out'.inner) (rest ++ part) more later × IsFaulty later fault))
@@ -300,7 +301,7 @@ module _ {H S Seat R : Type 0} {k : Kinds H Seat S R} {old between new : State H
       let e = broken_ends b.rest fault b.outcome.1 in
       record { done = b.done; rest = b.rest; run = b.run; outcome = (answered_then _ _ _ read rest part b.rest done b.done p.0 b.outcome.0, e.0, e.1) })
 
-  pub read_answered : {W : Type 0} (contents : W → Option (List ℕ)) (first out out' : Counting W) (wire wire' : Held) (read part : List ℕ)
+  pub read_answered : {W : Type 0} (contents : W → Option (List ℕ)) (first out out' : Counting W) (wire wire' : RequestHeld) (read part : List ℕ)
       → Advances k old between (λ done rest. IsAnswered (contents first.inner) (contents out.inner) read done rest × IsSettled wire rest)
       → ((rest : List ℕ) → IsSettled wire rest → Advances k between new
       (λ more later. IsAnswered (contents out.inner) (contents out'.inner) (rest ++ part) more later × IsSettled wire' later))
@@ -352,7 +353,7 @@ no-text [] rest (Read count) e s = absurd (no-letter _ _ s.2)
 no-text [] rest (Op op count) e s = absurd (no-letter _ _ s.4)
 
 -- a reader that holds nothing is at the beginning of a request
-pub settled_empty : (wire : Held) → Unread wire [] → IsSettled wire []
+pub settled_empty : (wire : RequestHeld) → Unread wire [] → IsSettled wire []
 unfolding dropped_line
 settled_empty wire u = record {
   unread = u;

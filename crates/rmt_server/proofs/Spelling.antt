@@ -1,9 +1,9 @@
 -- Each reply has a spelling.
 use Rattle.std.proofs.Common.{◌≡◌, ℕ, ◌==◌, Bool, true, false, cond, List, [], ◌∷◌, length, Result, Ok, Err, refl, arith, length-take}
-use Rattle.rmt_wire.specs.Request.{data_limit}
+use Rattle.rmt_wire.specs.Limits.{data_limit}
 use Rattle.std.proofs.lemmas.Bool.Decides.{nat_tests}
 use Rattle.rmt_wire.specs.Number.{HasNoLineFeed}
-use Rattle.rmt_wire.specs.Reply.{HasSpelling}
+use Rattle.rmt_wire.specs.Reply.{ReplyHasSpelling}
 use Rattle.rmt_server.specs.declared.refusal.Refusal.{Refusal}
 use Rattle.rmt_server.specs.declared.refusal.Refusal.TheVariants.{NoSuchFile, InputOutput, NotConfigured, BadDescriptor, NoMemory, Permission, Busy, Invalid, NoSpace}
 use Rattle.rmt_server.specs.declared.session.dispatch.Given.{Given}
@@ -27,7 +27,7 @@ is_line-means (b ∷ bs) e =
     ((let f : (b == 10) ≡ false = p.0 in grind (arith, nat_tests)), is_line-means bs p.1)
 
 -- the text of an error is one short line
-refused-spelled : (r : Refusal) → HasSpelling (refused r)
+refused-spelled : (r : Refusal) → ReplyHasSpelling (refused r)
 unfolding is_line
 refused-spelled NoSuchFile = (omega arith, omega arith, is_line-means (text_of NoSuchFile) refl)
 refused-spelled InputOutput = (omega arith, omega arith, is_line-means (text_of InputOutput) refl)
@@ -39,7 +39,7 @@ refused-spelled Busy = (omega arith, omega arith, is_line-means (text_of Busy) r
 refused-spelled Invalid = (omega arith, omega arith, is_line-means (text_of Invalid) refl)
 refused-spelled NoSpace = (omega arith, omega arith, is_line-means (text_of NoSpace) refl)
 
-pub outcome_spelled : (outcome : Result Given Refusal) (buffer : List ℕ) → length buffer ≡ data_limit → IsOutcomeSayable outcome → HasSpelling (outcome_reply outcome buffer)
+pub outcome_spelled : (outcome : Result Given Refusal) (buffer : List ℕ) → length buffer ≡ data_limit → IsOutcomeSayable outcome → ReplyHasSpelling (outcome_reply outcome buffer)
 outcome_spelled (Ok (Number n)) buffer l h = h
 outcome_spelled (Ok (Bytes n)) buffer l h = omega (arith, length-take n buffer)
 outcome_spelled (Err r) buffer l h = refused-spelled r

@@ -3,12 +3,13 @@ use Rattle.std.specs.Prelude.{◌≡◌, ◌≢◌, ℕ, ◌<◌, Bool, List, []
 use Rattle.std.specs.List.{flat_map}
 use Rattle.std.specs.Io.KnownBytes.{Appends, Consumes, IsAtEnd}
 use Rattle.rmt_wire.specs.Request.{PlainRequest}
-use Rattle.rmt_wire.specs.Reply.{PlainReply, HasSpelling, reply_text}
-use Rattle.rmt_wire.specs.Parts.{IsOpen, HasNoSpelling, Spelled, HasFault}
+use Rattle.rmt_wire.specs.Reply.{PlainReply, ReplyHasSpelling, reply_text}
+use Rattle.rmt_wire.specs.RequestParts.{IsOpen, HasNoSpelling, Spelled, HasFault}
 use Rattle.rmt_wire.specs.Counted.{Counting, HasRisen}
-use Rattle.rmt_wire.specs.Reader.{Held, Unread, reader_limit, taken_of}
+use Rattle.rmt_wire.specs.RequestReader.{RequestHeld, Unread, taken_of}
+use Rattle.rmt_wire.specs.Limits.{reader_limit}
 use Rattle.rmt_wire.specs.declared.fault.WireFault.{WireFault}
-use Rattle.rmt_wire.specs.declared.writer.OutputFault.{OutputFault}
+use Rattle.rmt_wire.specs.declared.reply.writer.OutputFault.{OutputFault}
 use Rattle.drives.specs.Opening.{Kinds}
 use Rattle.rmt_server.specs.declared.stream.Served.{Served}
 use Rattle.rmt_server.specs.declared.stream.Served.TheVariants.{End, Truncated, Broken}
@@ -34,7 +35,7 @@ replies_text done = flat_map (λ e. reply_text e.1) done
 pub data CarryRun {H S Seat R : Type 0} (k : Kinds H Seat S R) (start : State H S Seat R) : List Exchange → State H S Seat R → Type 0 where
   none : CarryRun k start [] start
   one_more : {done : List Exchange} {between after : State H S Seat R} (request : PlainRequest) (reply : PlainReply)
-      → CarryRun k start done between → IsCarriedOut k between request reply after → HasSpelling reply
+      → CarryRun k start done between → IsCarriedOut k between request reply after → ReplyHasSpelling reply
       → CarryRun k start (done ++ (request, reply) ∷ []) after
 
 -- The bytes are the spellings of these requests and then the rest, and the replies to them, in order, were written.
@@ -60,7 +61,7 @@ pub record Advances {H S Seat R : Type 0} (k : Kinds H Seat S R) (old new : Stat
   pub outcome : Outcome done rest
 
 -- The reader is left at a beginning of a request, for the rest of which there is room
-pub record IsSettled (wire : Held) (rest : List ℕ) : Type 0 where
+pub record IsSettled (wire : RequestHeld) (rest : List ℕ) : Type 0 where
   pub unread : Unread wire rest
   pub begins : IsOpen rest
   pub none : HasNoSpelling rest
@@ -71,7 +72,7 @@ abbrev pub IsFaulty : List ℕ → WireFault → Type 0
 IsFaulty rest fault = (more : List ℕ) → HasFault (rest ++ more) fault × HasNoSpelling (rest ++ more)
 
 -- what became of the bytes that a reader held
-abbrev pub AnswersAs : {W : Type 0} → (W → Option (List ℕ)) → Result (Option WireFault) OutputFault → Counting W → Counting W → Held
+abbrev pub AnswersAs : {W : Type 0} → (W → Option (List ℕ)) → Result (Option WireFault) OutputFault → Counting W → Counting W → RequestHeld
     → List ℕ → List Exchange → List ℕ → Type 0
 AnswersAs contents (Ok None) output output' wire bytes done rest =
     IsAnswered (contents output.inner) (contents output'.inner) bytes done rest × IsSettled wire rest

@@ -1,7 +1,7 @@
 //! The session of one client: what it has open, and what it answers.
 ghost use Rattle.std.specs.Prelude.{◌≡◌, ◌≤◌, length, Ok, Err, IfOk};
 ghost use Rattle.rmt_wire.specs.Lent.{plain_request, plain_reply};
-ghost use Rattle.rmt_wire.specs.Reply.{HasSpelling};
+ghost use Rattle.rmt_wire.specs.Reply.{ReplyHasSpelling};
 
 mod desk;
 mod dispatch;
@@ -29,7 +29,7 @@ pub struct Session<H: Holds, S: Stacks> {
 
 impl<H: Holds, S: Stacks> Model for Session<H, S> {
     ghost use Rattle.std.specs.Prelude.{◌≡◌, length};
-    ghost use Rattle.rmt_wire.specs.Request.{data_limit};
+    ghost use Rattle.rmt_wire.specs.Limits.{data_limit};
     ghost use Rattle.rmt_server.specs.declared.session.desk.Desk.{Desk};
 
     ghost Value = { Desk H.Seat S.Reel };
@@ -97,7 +97,7 @@ impl<H: Holds, S: Stacks> Session<H, S> {
             IsCarriedOut (kinds H.Holds S.Stacks S.Reel.Reel) (state drives.old self.old) (plain_request request.entry)
             (plain_reply result) (state drives.new new)))
         }
-        ensures spelling { IsSayable (plain_request request.entry) → HasSpelling (plain_reply result) }
+        ensures spelling { IsSayable (plain_request request.entry) → ReplyHasSpelling (plain_reply result) }
     {
         let outcome = dispatch(
             drives,

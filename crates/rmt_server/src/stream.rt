@@ -1,7 +1,7 @@
 //! Serving one stream of requests.
 ghost use Rattle.std.specs.Prelude.{◌≡◌, ◌<◌, ◌≤◌, ℕ, List, [], ◌++◌, Option, None, Ok, Err, OnOk};
 ghost use Rattle.std.specs.Io.KnownBytes.{Consumes};
-ghost use Rattle.rmt_wire.specs.Reader.{Unread};
+ghost use Rattle.rmt_wire.specs.RequestReader.{Unread};
 ghost use Rattle.drives.specs.Opening.{kinds};
 ghost use Rattle.rmt_server.specs.State.{state, IsAt};
 ghost use Rattle.rmt_server.specs.Stream.{IsServedAs, Advances, AnswersAs, IsSettled, EndsAs, NoneFailed};

@@ -9,7 +9,7 @@ use Rattle.dumpdates.specs.Text.{written, line_feed}
 use Rattle.dumpdates.specs.declared.fault.DatesFault.{DatesFault}
 use Rattle.dumpdates.specs.declared.fault.DatesFault.TheVariants.{BadLine, BadDate, OutOfMemory}
 use Rattle.rmt_wire.specs.Counted.{Counting, HasRisen}
-use Rattle.rmt_wire.specs.Writer.{AppendsBeginning}
+use Rattle.rmt_wire.specs.ReplyWriter.{AppendsBeginning}
 
 -- the name and the level that are asked for, as plain values
 abbrev pub plain_asked : Option (Bor (List ℕ) × ℕ) → Option (List ℕ × ℕ)

@@ -1,6 +1,6 @@
 //! What each request does, over the parts of a session.
 ghost use Rattle.std.specs.Prelude.{◌≡◌, length, IfOk};
-ghost use Rattle.rmt_wire.specs.Request.{data_limit};
+ghost use Rattle.rmt_wire.specs.Limits.{data_limit};
 ghost use Rattle.rmt_wire.specs.Lent.{plain_request};
 ghost use Rattle.drives.specs.Opening.{kinds};
 ghost use Rattle.rmt_server.specs.Session.{is_offline};

@@ -1,6 +1,6 @@
 //! The requests that the open reel serves.
 ghost use Rattle.std.specs.Prelude.{◌≡◌, ℕ, ◌<◌, ◌≤◌, ◌&&◌, Some, None, IfOk, length};
-ghost use Rattle.rmt_wire.specs.Request.{data_limit};
+ghost use Rattle.rmt_wire.specs.Limits.{data_limit};
 ghost use Rattle.rmt_wire.specs.Request.PlainRequest.{Write, WriteDropped, Read, Op};
 ghost use Rattle.rmt_server.specs.Session.{refusal, Ready, read_refusal, write_refusal, op_refusal};
 ghost use Rattle.rmt_server.specs.State.{status_at};

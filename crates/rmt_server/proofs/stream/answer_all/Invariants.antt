@@ -1,5 +1,5 @@
 use Rattle.std.proofs.Common.{◌≡◌, ℕ, List, length}
-use Rattle.rmt_wire.specs.Reader.{Unread}
+use Rattle.rmt_wire.specs.RequestReader.{Unread}
 use Rattle.drives.specs.Opening.{kinds}
 use Rattle.rmt_server.specs.State.{state, IsAt}
 use Rattle.rmt_server.specs.Stream.{Advances, IsAnswered}

@@ -1,0 +1,95 @@
+#!/usr/bin/env python3
+"""Runs the gate, `rt ci`, and writes how long each crate's proof, tests and edits took.
+
+    gate.py [--minutes FILE]
+
+It passes on what `rt ci` prints, and ends with its status. `rt ci` tells no times, so once a second it is looked up which
+checks run, by the command lines of the processes below this one: a check of a crate, of its tests, or of an edit that must
+fail. The minutes are those in which at least one such check of the crate ran, written as a table to FILE, or else printed.
+"""
+
+from __future__ import annotations
+
+import argparse
+import subprocess
+import sys
+import threading
+import time
+from collections import defaultdict
+from pathlib import Path
+
+KINDS = ("proof", "tests", "edits")
+
+
+def words_of(process: Path) -> list[str]:
+    """The command line of a process, none where it has ended."""
+    try:
+        return process.joinpath("cmdline").read_bytes().decode(errors="replace").split("\0")
+    except OSError:
+        return []
+
+
+def check_of(process: Path) -> tuple[str, str] | None:
+    """The crate that a process checks, and what of it; None for any other process."""
+    words = words_of(process)
+    if "check" not in words or "--crate-name" not in words:
+        return None
+    crate = words[words.index("--crate-name") + 1]
+    try:
+        folder = process.joinpath("cwd").readlink()
+    except OSError:
+        return None
+    if folder.name != crate or any("rt-edits-" in word for word in words):
+        return crate, "edits"
+    return crate, "tests" if "--test" in words else "proof"
+
+
+class Watch(threading.Thread):
+    """Adds up, second by second, which checks run."""
+
+    def __init__(self) -> None:
+        super().__init__(daemon=True)
+        self.seconds: dict[tuple[str, str], float] = defaultdict(float)
+        self.done = threading.Event()
+
+    def run(self) -> None:
+        last = time.monotonic()
+        while not self.done.wait(1):
+            now = time.monotonic()
+            running = {check_of(it) for it in Path("/proc").iterdir() if it.name.isdigit()}
+            for check in running - {None}:
+                self.seconds[check] += now - last
+            last = now
+
+
+def table(seconds: dict[tuple[str, str], float], whole: float) -> str:
+    crates = sorted({crate for crate, _ in seconds}, key=lambda it: -sum(seconds.get((it, kind), 0) for kind in KINDS))
+    lines = ["minutes      " + "".join(f"{kind:>8}" for kind in KINDS)]
+    for crate in crates:
+        lines.append(f"{crate:13}" + "".join(f"{seconds.get((crate, kind), 0) / 60:8.1f}" for kind in KINDS))
+    lines.append(f"the whole gate: {whole / 60:.1f} minutes")
+    return "\n".join(lines) + "\n"
+
+
+def main() -> int:
+    parser = argparse.ArgumentParser(description="Runs rt ci, and tells the minutes of each crate.")
+    parser.add_argument("--minutes", type=Path, help="the file that the table is written to")
+    asked = parser.parse_args()
+    watch = Watch()
+    watch.start()
+    began = time.monotonic()
+    status = subprocess.run(["rt", "ci"]).returncode
+    whole = time.monotonic() - began
+    watch.done.set()
+    watch.join()
+    told = table(watch.seconds, whole)
+    if asked.minutes:
+        asked.minutes.parent.mkdir(parents=True, exist_ok=True)
+        asked.minutes.write_text(told)
+    else:
+        sys.stdout.write(told)
+    return status
+
+
+if __name__ == "__main__":
+    sys.exit(main())
