@@ -20,7 +20,7 @@ use Rattle.drives.specs.declared.fault.DriveFault.TheVariants.{NoSuchDrive, Busy
 use Rattle.drives.proofs.Shops.{bit, named, times-named, length-sum, sum_by-added, slots-drive, sum_by-at_first, sum_by-to_bin, once-at_first, once-to_bin, length-at_first, length-to_bin, bin_below, bin_within, length-waiting, length-latched, latched-at_first, first_of}
 
 -- a drive at rest
-rack_at-rest : (s : ListShop) (d : ℕ) → rack_at (shop_of s) d ≡ rest_rack (rack_at s.shop d)
+pub rack_at-rest : (s : ListShop) (d : ℕ) → rack_at (shop_of s) d ≡ rest_rack (rack_at s.shop d)
 rack_at-rest s d = get_or-map rest_rack s.shop.racks d (rack [] [])
 
 length-rest : (s : ListShop) (d : ℕ) → d < length s.shop.racks → d < length (shop_of s).racks
@@ -252,7 +252,7 @@ named-rest s name None h t tells = λ k l same. h k (subst (λ n. k < n) (racks-
 named-rest s name (Some d) h t tells =
     (subst (λ n. d < n) (sym (racks-rest s t tells.0)) h.0, name-rest s t d tells.0 ∙ h.1, λ k l same. h.2 k l (sym (name-rest s t k tells.0) ∙ same))
 
-read_at : (s : ShopOf TroubledTape) (d : ℕ) (old : Rack TroubledTape) → d < length s.racks → old ≡ get_or s.racks d old → old ≡ rack_at s d
+pub read_at : (s : ShopOf TroubledTape) (d : ℕ) (old : Rack TroubledTape) → d < length s.racks → old ≡ get_or s.racks d old → old ≡ rack_at s d
 read_at s d old l e = e ∙ get_or_default s.racks d old (rack [] []) l
 
 once_more : (x name : List ℕ) (before after : ℕ) (b : Bool) → bytes_eq x name ≡ b → before ≤ 1 → (x ≡ name → before ≡ 0) → after ≡ before + bit (bytes_eq x name) → after ≤ 1
