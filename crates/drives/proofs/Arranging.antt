@@ -1,8 +1,6 @@
 -- What an operator's order of a stack leaves.
 use Rattle.std.proofs.Common.{◌≡◌, ◌≢◌, ℕ, ◌+◌, ◌-◌, ◌<◌, ◌≤◌, Bool, true, false, not, ◌&&◌, ◌||◌, IsTrue, List, [], ◌∷◌, ◌++◌, length, take, drop, map, set, is_some, Option, Some, None, Result, Ok, Err, IfOk, IsSome, refl, sym, ap, ◌∙◌, subst, inl, inr, arith, get_or-set_other, one-add, get_or, cond, append_assoc, drop-cons, suc}
 use Rattle.std.proofs.Math.Numerals.{suc-eq-add-one}
-use Rattle.std.proofs.Math.ListN.{length-set}
-use Rattle.std.proofs.lemmas.Grind.{common_steps}
 use Rattle.std.proofs.lemmas.List.{get_or-set_same, drop-map, drop-drop, take_all, length-drop}
 use Rattle.std.proofs.lemmas.List.Folds.{list_any-append}
 use Rattle.std.proofs.lemmas.List.Sums.{sum_by-append, sum_by-cons}
@@ -19,15 +17,14 @@ use Rattle.std.specs.Prelude.{unwrap_or}
 use Rattle.std.specs.Set.{remove_key}
 use Rattle.std.specs.Str.{bytes_eq}
 use Rattle.tape.specs.Trouble.{TroubledTape}
-use Rattle.drives.specs.Shop.{Slot, slot, Rack, rack, ShopOf, Shop, shop, rack_at, with_rack, slots_in, names_of, names_in, times, EachReelOnce, latched_at, latched_on, away_name}
-use Rattle.drives.specs.ListShop.{ListShop, with_shop, at_rest, rest_slot, shop_of, IsShop, is_set_in, troubled_in, StacksCanFail, IsStocked}
+use Rattle.drives.specs.Shop.{Slot, Rack, rack, ShopOf, Shop, shop, rack_at, with_rack, slots_in, names_of, names_in, times, EachReelOnce, latched_at, latched_on, away_name}
+use Rattle.drives.specs.ListShop.{ListShop, with_shop, at_rest, rest_slot, shop_of, IsShop, is_set_in, StacksCanFail, IsStocked}
 use Rattle.drives.specs.Arranging.{slot_named, without, picked, left, pile_of, arranged, is_repeated, are_distinct, is_among, is_piled, may_arrange, IsArranged}
 use Rattle.drives.specs.Stacking.{HasLatched}
 use Rattle.drives.specs.declared.fault.DriveFault.{DriveFault}
 use Rattle.drives.specs.declared.fault.DriveFault.TheVariants.{NoSuchDrive, Busy, NoReel, Device, OutOfMemory, NameTaken}
 use Rattle.drives.proofs.Shops.{bit, named, times-named, length-sum, sum_by-slots, sum_by-with_rack}
-use Rattle.drives.proofs.ListShop.{told, same_told, rack_at-rest, read_at, stocked-same}
-use Rattle.drives.proofs.Elsewhere.{same_latched}
+use Rattle.drives.proofs.ListShop.{told, rack_at-rest, read_at, stocked-same}
 
 -- what is left where the first that passes is taken out by its place
 place_step : {X : Type 0} (p : X → Bool) (x : X) (xs : List X) (b : Bool) → p x ≡ b → remove_key p xs ≡ take (position_or_len p xs) xs ++ drop (suc (position_or_len p xs)) xs

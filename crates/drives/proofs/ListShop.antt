@@ -1,5 +1,5 @@
 -- Drives, stacks and bin in memory: what is told of them is moved as they are.
-use Rattle.std.proofs.Common.{◌≡◌, ◌≢◌, ◌⊎◌, ℕ, ◌+◌, ◌<◌, ◌≤◌, Bool, true, false, List, [], ◌∷◌, ◌++◌, length, map, flat_map, take, drop, Option, Some, None, Result, Ok, Err, IfOk, IfErr, IsSome, refl, sym, ap, ◌∙◌, subst, inl, inr, arith, get_or, set}
+use Rattle.std.proofs.Common.{◌≡◌, ◌≢◌, ◌⊎◌, ℕ, ◌+◌, ◌<◌, ◌≤◌, Bool, true, false, List, [], ◌∷◌, ◌++◌, length, map, flat_map, take, drop, Option, Some, None, Result, Ok, Err, IfOk, IsSome, refl, sym, ap, ◌∙◌, subst, inl, inr, arith, get_or, set}
 use Rattle.std.proofs.Math.ListN.{get_or-map}
 use Rattle.std.proofs.lemmas.List.{get_or_default, map-set, map-append, length-map}
 use Rattle.std.proofs.lemmas.Simd.{map-map}
@@ -14,7 +14,7 @@ use Rattle.tape.specs.declared.trouble.Trouble.{Trouble}
 use Rattle.tape.specs.declared.trouble.Trouble.TheVariants.{None as NoTrouble, Kept as KeptTrouble, Lost, Written}
 use Rattle.drives.specs.Shop.{KeptReel, kept_reel, Slot, slot, Rack, rack, ShopOf, Shop, shop, rack_at, with_rack, slots_in, names_of, names_in, times, EachReelOnce, IsDriveNamed, waiting_reel, first_reel, latched_at, with_first, at_first, to_bin, after_unlatch, after_offline}
 use Rattle.drives.specs.ListShop.{ListShop, with_shop, with_reel, blank_reel, at_rest, rest_slot, rest_rack, shop_of, IsShop, is_set, is_set_in, troubled_in, StacksCanFail, IsDriveAdded, IsReelAdded, IsReelLatched, IsReelMoved, IsStocked}
-use Rattle.drives.specs.Stacking.{LatchStep, StaysOnline, HasLatched}
+use Rattle.drives.specs.Stacking.{LatchStep, HasLatched}
 use Rattle.drives.specs.declared.fault.DriveFault.{DriveFault}
 use Rattle.drives.specs.declared.fault.DriveFault.TheVariants.{NoSuchDrive, Busy, NoReel, Device, OutOfMemory, NameTaken}
 use Rattle.drives.proofs.Shops.{bit, named, times-named, length-sum, sum_by-added, slots-drive, sum_by-at_first, sum_by-to_bin, once-at_first, once-to_bin, length-at_first, length-to_bin, bin_below, bin_within, length-waiting, length-latched, latched-at_first, first_of}

@@ -1,5 +1,4 @@
-use Rattle.std.proofs.Common.{◌≡◌, ◌≤◌, ◌+◌, ◌-◌, ◌++◌, length, map, drop, vec_len, vec_capacity}
-use Rattle.drives.specs.Arranging.{picked, left}
+use Rattle.std.proofs.Common.{◌≡◌, ◌≤◌, ◌+◌, ◌-◌, length, map, drop, vec_len, vec_capacity}
 use Rattle.drives.proofs.pick.pick.Given as goal
 use Rattle.drives.proofs.Arranging.{IsPicking}
 

@@ -1,4 +1,4 @@
-use Rattle.std.proofs.Common.{◌≡◌, ◌<◌, [], Some, None, sym, ap, subst, ◌∙◌}
+use Rattle.std.proofs.Common.{◌<◌, [], Some, None, sym, ap, subst, ◌∙◌}
 use Rattle.std.specs.List.{position_from}
 use Rattle.std.specs.Str.{bytes_eq}
 use Rattle.tape.specs.Trouble.{TroubledTape}
