@@ -1,13 +1,13 @@
 -- Each call of stacks in memory is one of stacks.
 use Rattle.std.proofs.Common.{◌≡◌, ◌≢◌, ◌⊎◌, ℕ, ◌<◌, ◌≤◌, true, length, Option, Some, None, Result, Ok, Err, refl, sym, ap, ◌∙◌, subst, inl, inr, arith}
-use Rattle.tape.specs.Failures.{HasRisen, Steps}
+use Rattle.tape.specs.Failures.{HasRisen}
 use Rattle.tape.specs.Trouble.{TroubledTape}
 use Rattle.tape.specs.contracts.troubled.TroubledReelReel.TheImpl.{ghosts as of_reel}
-use Rattle.drives.specs.Shop.{Shop, rack_at, EachReelOnce, IsNameInBin, latched_at}
-use Rattle.drives.specs.Calls.{StacksCall, StacksKind, stacks_kind, fault_of, drive_latched, reel_taken}
+use Rattle.drives.specs.Shop.{rack_at, EachReelOnce}
+use Rattle.drives.specs.Calls.{StacksKind, stacks_kind, fault_of, drive_latched, reel_taken}
 use Rattle.drives.specs.Calls.StacksCall.{Latch, LayBack, Move}
 use Rattle.drives.specs.ListShop.{ListShop, IsShop, StacksCanFail, after_failure, IsReelLatched, IsReelLaidBack, IsReelMoved, IsListCall}
-use Rattle.drives.specs.Stacking.{HasLatched, StaysOnline, CanAnswer, ReelCanFail, IsStacksCall}
+use Rattle.drives.specs.Stacking.{HasLatched, CanAnswer, ReelCanFail, IsStacksCall}
 use Rattle.drives.specs.declared.fault.DriveFault.{DriveFault}
 use Rattle.drives.specs.declared.fault.DriveFault.TheVariants.{NoSuchDrive, Busy, NoReel, Device, OutOfMemory, NameTaken}
 use Rattle.drives.proofs.ListShop.{latch_steps, latch_away, latch_quiet, latch_quiet_reel, lay_steps, lay_quiet, move_steps, move_quiet, same_told}

@@ -3,5 +3,6 @@ pub mod ListShop
 pub mod Seats
 pub mod Shops
 pub mod Elsewhere
+pub mod Arranging
 mod Calls
 mod Refused

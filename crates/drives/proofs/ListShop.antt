@@ -1,5 +1,5 @@
 -- Drives, stacks and bin in memory: what is told of them is moved as they are.
-use Rattle.std.proofs.Common.{◌≡◌, ◌≢◌, ◌⊎◌, ℕ, ◌+◌, ◌<◌, ◌≤◌, Bool, true, false, List, [], ◌∷◌, ◌++◌, length, map, flat_map, take, drop, Option, Some, None, Result, Ok, Err, IfOk, IfErr, IsSome, refl, sym, ap, ◌∙◌, subst, inl, inr, arith, get_or, set}
+use Rattle.std.proofs.Common.{◌≡◌, ◌≢◌, ◌⊎◌, ℕ, ◌+◌, ◌<◌, ◌≤◌, Bool, true, false, List, [], ◌∷◌, ◌++◌, length, map, flat_map, take, drop, Option, Some, None, Result, Ok, Err, IfOk, IsSome, refl, sym, ap, ◌∙◌, subst, inl, inr, arith, get_or, set}
 use Rattle.std.proofs.Math.ListN.{get_or-map}
 use Rattle.std.proofs.lemmas.List.{get_or_default, map-set, map-append, length-map}
 use Rattle.std.proofs.lemmas.Simd.{map-map}
@@ -14,13 +14,13 @@ use Rattle.tape.specs.declared.trouble.Trouble.{Trouble}
 use Rattle.tape.specs.declared.trouble.Trouble.TheVariants.{None as NoTrouble, Kept as KeptTrouble, Lost, Written}
 use Rattle.drives.specs.Shop.{KeptReel, kept_reel, Slot, slot, Rack, rack, ShopOf, Shop, shop, rack_at, with_rack, slots_in, names_of, names_in, times, EachReelOnce, IsDriveNamed, waiting_reel, first_reel, latched_at, with_first, at_first, to_bin, after_unlatch, after_offline}
 use Rattle.drives.specs.ListShop.{ListShop, with_shop, with_reel, blank_reel, at_rest, rest_slot, rest_rack, shop_of, IsShop, is_set, is_set_in, troubled_in, StacksCanFail, IsDriveAdded, IsReelAdded, IsReelLatched, IsReelMoved, IsStocked}
-use Rattle.drives.specs.Stacking.{LatchStep, StaysOnline, HasLatched}
+use Rattle.drives.specs.Stacking.{LatchStep, HasLatched}
 use Rattle.drives.specs.declared.fault.DriveFault.{DriveFault}
 use Rattle.drives.specs.declared.fault.DriveFault.TheVariants.{NoSuchDrive, Busy, NoReel, Device, OutOfMemory, NameTaken}
 use Rattle.drives.proofs.Shops.{bit, named, times-named, length-sum, sum_by-added, slots-drive, sum_by-at_first, sum_by-to_bin, once-at_first, once-to_bin, length-at_first, length-to_bin, bin_below, bin_within, length-waiting, length-latched, latched-at_first, first_of}
 
 -- a drive at rest
-rack_at-rest : (s : ListShop) (d : ℕ) → rack_at (shop_of s) d ≡ rest_rack (rack_at s.shop d)
+pub rack_at-rest : (s : ListShop) (d : ℕ) → rack_at (shop_of s) d ≡ rest_rack (rack_at s.shop d)
 rack_at-rest s d = get_or-map rest_rack s.shop.racks d (rack [] [])
 
 length-rest : (s : ListShop) (d : ℕ) → d < length s.shop.racks → d < length (shop_of s).racks
@@ -252,7 +252,7 @@ named-rest s name None h t tells = λ k l same. h k (subst (λ n. k < n) (racks-
 named-rest s name (Some d) h t tells =
     (subst (λ n. d < n) (sym (racks-rest s t tells.0)) h.0, name-rest s t d tells.0 ∙ h.1, λ k l same. h.2 k l (sym (name-rest s t k tells.0) ∙ same))
 
-read_at : (s : ShopOf TroubledTape) (d : ℕ) (old : Rack TroubledTape) → d < length s.racks → old ≡ get_or s.racks d old → old ≡ rack_at s d
+pub read_at : (s : ShopOf TroubledTape) (d : ℕ) (old : Rack TroubledTape) → d < length s.racks → old ≡ get_or s.racks d old → old ≡ rack_at s d
 read_at s d old l e = e ∙ get_or_default s.racks d old (rack [] []) l
 
 once_more : (x name : List ℕ) (before after : ℕ) (b : Bool) → bytes_eq x name ≡ b → before ≤ 1 → (x ≡ name → before ≡ 0) → after ≡ before + bit (bytes_eq x name) → after ≤ 1

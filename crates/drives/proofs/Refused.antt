@@ -1,13 +1,13 @@
 -- An open whose latch is refused.
-use Rattle.std.proofs.Common.{◌≡◌, ℕ, ◌==◌, List, Option, Some, None, Result, Ok, Err, cond, refl, sym, ap, ◌∙◌, subst, inl, inr, arith}
+use Rattle.std.proofs.Common.{◌≡◌, ℕ, List, Some, Err, refl, ap, inl, inr, arith}
 use Rattle.std.proofs.lemmas.Bool.Decides.{nat_tests}
 use Rattle.drives.specs.declared.fault.DriveFault.{DriveFault}
 use Rattle.drives.specs.declared.fault.DriveFault.TheVariants.{NoSuchDrive, Busy, NoReel, Device, OutOfMemory, NameTaken}
 use Rattle.drives.specs.declared.view.View.{View}
-use Rattle.drives.specs.Holding.{given, taken, last_drive, drive_of_step, word_after_take, word_after_give}
+use Rattle.drives.specs.Holding.{given, taken, last_drive, word_after_take, word_after_give}
 use Rattle.drives.specs.Shop.{Shop, IsDriveNamed}
 use Rattle.drives.specs.Calls.StacksCall.{Latch}
-use Rattle.drives.specs.Stacking.{LatchStep, IsLatchFault, IsStacksCall}
+use Rattle.drives.specs.Stacking.{IsStacksCall}
 use Rattle.drives.specs.Opening.{Kinds, SeatStep, drive_asked, found_in_open, OpenStep, LatchesFor}
 use Rattle.tape.specs.Failures.{Steps}
 

@@ -68,6 +68,7 @@ pub record StacksKind (S R : Type 0) : Type 1 where
   pub can_fail : S → Type 0
   pub makes : S → S → StacksCall R → Type 0
 
-abbrev pub stacks_kind : {S R : Type 0} → (S → Shop → Type 0) → (S → ℕ) → (S → ℕ) → (S → Type 0) → (S → S → StacksCall R → Type 0) → StacksKind S R
+abbrev pub stacks_kind : {S R : Type 0} → (S → Shop → Type 0) → (S → ℕ) → (S → ℕ) → (S → Type 0)
+    → (S → S → StacksCall R → Type 0) → StacksKind S R
 stacks_kind holds drives failures can_fail makes =
     record { holds = holds; drives = drives; failures = failures; can_fail = can_fail; makes = makes }

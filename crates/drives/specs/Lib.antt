@@ -5,3 +5,4 @@ pub mod Calls
 pub mod Stacking
 pub mod Opening
 pub mod ListShop
+pub mod Arranging

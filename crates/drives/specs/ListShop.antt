@@ -85,14 +85,16 @@ with_reel s d name capacity = let r = rack_at s d in with_rack s d (rack r.name 
 -- A drive was added and got the next number. It is not only where a drive has that name, or for want of memory; then
 -- nothing changed.
 abbrev pub IsDriveAdded : ListShop → List ℕ → Result ℕ DriveFault → ListShop → Type 0
-IsDriveAdded old name (Ok d) new = IsDriveNamed name old.shop None × (d ≡ length old.shop.racks) × (new ≡ with_shop old (with_drive old.shop name))
+IsDriveAdded old name (Ok d) new =
+    IsDriveNamed name old.shop None × (d ≡ length old.shop.racks) × (new ≡ with_shop old (with_drive old.shop name))
 IsDriveAdded old name (Err NameTaken) new = ((d : ℕ) × IsDriveNamed name old.shop (Some d)) × (new ≡ old)
 IsDriveAdded old name (Err OutOfMemory) new = IsDriveNamed name old.shop None × (new ≡ old)
 IsDriveAdded old name (Err _) new = ⊥
 
 -- An empty reel was added. It is not only where a reel has that name, or for want of memory; then nothing changed.
 abbrev pub IsReelAdded : {U : Type 0} → ListShop → ℕ → List ℕ → ℕ → Result U DriveFault → ListShop → Type 0
-IsReelAdded old d name capacity (Ok x) new = (times name (names_in old.shop) ≡ 0) × (new ≡ with_shop old (with_reel old.shop d name capacity))
+IsReelAdded old d name capacity (Ok x) new =
+    (times name (names_in old.shop) ≡ 0) × (new ≡ with_shop old (with_reel old.shop d name capacity))
 IsReelAdded old d name capacity (Err NameTaken) new = (0 < times name (names_in old.shop)) × (new ≡ old)
 IsReelAdded old d name capacity (Err OutOfMemory) new = (times name (names_in old.shop) ≡ 0) × (new ≡ old)
 IsReelAdded old d name capacity (Err _) new = ⊥

@@ -1,7 +1,7 @@
 -- The drives of one thread, and what ties its seats to them.
-use Rattle.std.specs.Prelude.{◌≡◌, ℕ, ◌<◌, ◌≤◌, ◌==◌, List, length, slice_index}
+use Rattle.std.specs.Prelude.{◌≡◌, ℕ, ◌<◌, ◌≤◌, ◌+◌, ◌-◌, ◌^◌, ◌==◌, List, length, slice_index, Option, MatchOption}
 use Rattle.drives.specs.declared.view.View.{View}
-use Rattle.drives.specs.Holding.{has}
+use Rattle.drives.specs.Holding.{has, newcomer}
 
 -- each drive's holder, or 0, and the last number that was given to a seat
 pub record Holders : Type 0 where
@@ -21,6 +21,11 @@ pub record IsSeatOf (all : Holders) (v : View) : Type 0 where
   pub made : v.number ≤ all.last
   pub marks : length v.held ≡ 64
   pub agrees : (d : ℕ) → d < length all.numbers → has v d ≡ (slice_index all.numbers d == v.number)
+
+-- The next number was given to a seat that made no step. None is left where the last is the greatest u64.
+abbrev pub IsSeated : Holders → Option View → Holders → Type 0
+IsSeated old seat new = MatchOption seat ((old.last ≡ 2 ^ 64 - 1) × (new ≡ old))
+    (λ v. (old.last < 2 ^ 64 - 1) × (new ≡ holders old.numbers (old.last + 1)) × (v ≡ newcomer (old.last + 1)))
 
 -- drive d is held by the seat n, or by none at 0
 abbrev pub IsHeldBy : Holders → ℕ → ℕ → Type 0

@@ -104,7 +104,9 @@ at_first s d reel = let r = rack_at s d in with_rack s d (rack r.name (with_firs
 
 -- the first reel of drive d lies last in the bin
 abbrev pub to_bin : {X : Type 0} → ShopOf X → ℕ → X → ShopOf X
-to_bin s d reel = let r = rack_at s d in shop (slice_set s.racks d (rack r.name (drop 1 r.stack))) (s.bin ++ with_first (Some reel) (take 1 r.stack))
+to_bin s d reel =
+    let r = rack_at s d in
+    shop (slice_set s.racks d (rack r.name (drop 1 r.stack))) (s.bin ++ with_first (Some reel) (take 1 r.stack))
 
 -- the first reel of drive d was latched
 abbrev pub after_latch : Shop → ℕ → Shop

@@ -6,7 +6,7 @@ use Rattle.tape.specs.declared.reel.Reel.{Ghosts as ReelPromise}
 use Rattle.drives.specs.declared.fault.DriveFault.{DriveFault}
 use Rattle.drives.specs.declared.fault.DriveFault.TheVariants.{NoReel, Device, OutOfMemory, NameTaken}
 use Rattle.drives.specs.Shop.{Shop, KeptReel, waiting_reel, latched_at, after_latch, after_unlatch, after_offline, IsNameInBin}
-use Rattle.drives.specs.Calls.{StacksKind, StacksCall, fault_of, reel_taken, reel_brought, drive_latched, drive_left}
+use Rattle.drives.specs.Calls.{StacksKind, StacksCall, fault_of, reel_taken, reel_brought, drive_latched, drive_left, moved_result}
 use Rattle.drives.specs.Calls.StacksCall.{Latch, LayBack, Move}
 
 -- The first reel is latched at place 0. It is not only where there is none, or one that cannot be had; then
@@ -75,3 +75,7 @@ pub record IsStacksCall {S R : Type 0} (s : StacksKind S R) (r : ReelPromise R) 
   pub same_drives : s.drives new ≡ s.drives old
   -- and what this kind of stacks promises beside that
   pub made : s.makes old new call
+
+-- a move, by what it answered
+abbrev pub IsMoveCall : {S R : Type 0} → StacksKind S R → ReelPromise R → S → ℕ → R → Result Unit (R × DriveFault) → S → Type 0
+IsMoveCall s r old drive reel result new = IsStacksCall s r old (Move drive reel (moved_result result)) new

@@ -62,8 +62,8 @@ pub trait Holds {
         ensures own { belongs self.now seat.new };
 
     /// A seat's number was given: it is from 1 to the last one.
-    ghost numbered: { (all : Self) (s : Self.Seat) → belongs all s → (1 ≤ (shows s).number) × ((shows s).number ≤ seated all) };
+    ghost numbered: { (h : Self) (s : Self.Seat) → belongs h s → (1 ≤ (shows s).number) × ((shows s).number ≤ seated h) };
 
     /// Where they tell who holds a drive, it is the seat exactly where the seat holds that drive.
-    ghost agrees: { (all : Self) (s : Self.Seat) (d n : ℕ) → belongs all s → tells all d n → n ≡ (shows s).number ↔ IsTrue (has (shows s) d) };
+    ghost agrees: { (h : Self) (s : Self.Seat) (d n : ℕ) → belongs h s → tells h d n → n ≡ (shows s).number ↔ IsTrue (has (shows s) d) };
 }

@@ -9,6 +9,7 @@ mod holds;
 mod list;
 mod listed;
 mod local;
+mod pick;
 mod rack;
 mod stacks;
 mod table;

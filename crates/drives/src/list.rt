@@ -1,12 +1,15 @@
-ghost use Rattle.std.specs.Prelude.{◌≡◌, ◌<◌, IfErr, IfSome, None, MatchBool, length};
+ghost use Rattle.std.specs.Prelude.{◌≡◌, ◌≢◌, ℕ, ◌<◌, List, IfErr, IfOk, IfSome, IsTrue, None, MatchBool, map, length};
+ghost use Rattle.std.specs.Option.{option_copied};
 ghost use Rattle.tape.specs.Trouble.{IsTapeOf};
 ghost use Rattle.drives.specs.declared.fault.DriveFault.TheVariants.{Device};
 ghost use Rattle.drives.specs.ListShop.{IsShop, StacksCanFail, empty_shop, shop_of, after_failure, IsDriveAdded, IsReelAdded, IsReelLatched, IsReelLaidBack, IsReelMoved, IsListCall};
-ghost use Rattle.drives.specs.Shop.{Shop, IsDriveNamed, rack_at, times, names_in, EachReelOnce};
+ghost use Rattle.drives.specs.Shop.{Shop, IsDriveNamed, rack_at, slots_in, times, names_of, names_in, EachReelOnce};
+ghost use Rattle.drives.specs.Arranging.{slot_named, reel_named, may_arrange, IsArranged};
 ghost use Rattle.drives.specs.Calls.{moved_result};
 ghost use Rattle.drives.specs.Stacking.{HasLatched};
 
-use crate::rack::{ListRack, any_named, any_stacked};
+use crate::pick::{all_differ, all_there, any_named, find_named, pick};
+use crate::rack::{ListRack, any_stacked, find_stacked};
 use crate::{DriveFault, ListedReel, Stacks};
 use std::alloc::Global;
 use std::marker::Model;
@@ -101,6 +104,47 @@ impl ListStacks {
         &self.bin
     }
 
+    /// The reel of that name, on a stack or in the bin. None while it is latched, and where there is none.
+    pub fn reel(&self, name: &[u8]) -> Option<&TroubledReel>
+        ensures { option_copied result ≡ reel_named name.now (slots_in self.now.shop) }
+    {
+        let listed = self.listed(name)?;
+        listed.reel()
+    }
+
+    /// Whether `arrange` can be asked for these names: no reel of the drive is latched, no name stands twice, and each
+    /// is the name of a reel of its stack or of the bin.
+    pub fn can_arrange(&self, drive: usize, names: &[&[u8]]) -> bool
+        requires { drive < length self.now.shop.racks }
+        ensures { result ≡ may_arrange self.now.shop drive (map (λ n. n.now) names.now) }
+    {
+        let rack = &self.racks[drive];
+        if rack.is_latched() {
+            return false;
+        }
+        all_differ(names) && all_there(names, &self.bin, rack.stack())
+    }
+
+    /// An operator's act: the drive's stack becomes the reels of these names, in that order. Reels of the bin leave it,
+    /// and the stack's others go to the bin's end, in their order. Each reel stays as it is.
+    ///
+    /// Answers `OutOfMemory`. Nothing has changed then.
+    pub fn arrange(&mut self, drive: usize, names: &[&[u8]]) -> Result<(), DriveFault>
+        requires drive { drive < length self.old.shop.racks }
+        requires may { IsTrue (may_arrange self.old.shop drive (map (λ n. n.now) names.now)) }
+        ensures arranged { IsArranged self.old drive (map (λ n. n.now) names.now) result self.new }
+        ensures order { IfOk result (λ _. names_of (rack_at self.new.shop drive).stack ≡ map (λ n. n.now) names.now) }
+        ensures told { IsShop self.new (shop_of self.new) }
+        ensures names { (name : List ℕ) → times name (names_in self.new.shop) ≡ times name (names_in self.old.shop) }
+        ensures elsewhere { (d : ℕ) → d ≢ drive → HasLatched IsShop self.old d → HasLatched IsShop self.new d }
+        ensures quiet { StacksCanFail self.new → StacksCanFail self.old }
+        ensures same_trouble { self.new.trouble ≡ self.old.trouble }
+        ensures same_failures { self.new.failures ≡ self.old.failures }
+        ensures same_drives { length self.new.shop.racks ≡ length self.old.shop.racks }
+    {
+        self.put_stack(drive, names)
+    }
+
     /// Sets whether the next latch of a reel, or move of one to the bin, meets a device failure. A latch that finds no
     /// reel, and an `unlatch`, make no call of the device and leave what was set.
     pub fn trouble(&mut self, on: bool)
@@ -149,6 +193,30 @@ impl ListStacks {
         let rack = &mut self.racks[drive];
         rack.push(reel)?;
         self.reels += 1;
+        Ok(())
+    }
+
+    /// The place of the reel of that name, on a stack or in the bin.
+    fn listed(&self, name: &[u8]) -> Option<&ListedReel>
+        ensures { option_copied result ≡ slot_named name.now (slots_in self.now.shop) }
+    {
+        if let Some(listed) = find_stacked(&self.racks, name) {
+            return Some(listed);
+        }
+        find_named(&self.bin, name)
+    }
+
+    /// Arranges the stack of the drive, as `arrange` does.
+    fn put_stack(&mut self, drive: usize, names: &[&[u8]]) -> Result<(), DriveFault>
+        requires { drive < length self.old.shop.racks }
+        ensures arranged { IsArranged self.old drive (map (λ n. n.now) names.now) result self.new }
+        ensures once { EachReelOnce self.old.shop }
+    {
+        let mut stack = Vec::with_capacity(self.alloc, names.len())?;
+        let rack = &mut self.racks[drive];
+        rack.lay_off(&mut self.bin)?;
+        pick(&mut self.bin, names, &mut stack);
+        rack.lay_on(stack);
         Ok(())
     }
 

@@ -1,7 +1,7 @@
 ghost use Rattle.std.specs.Prelude.{◌≡◌, ◌≢◌, ◌<◌, ◌≤◌, ◌+◌, None, IfOk, IfSome, MatchOption, replicate, length};
 ghost use Rattle.drives.specs.declared.view.View.{View};
 ghost use Rattle.drives.specs.Holding.{newcomer, moved, last_step, HoldsJust};
-ghost use Rattle.drives.specs.Local.{holders, IsSeatOf, IsHeldBy};
+ghost use Rattle.drives.specs.Local.{holders, IsSeated, IsSeatOf, IsHeldBy};
 
 #[cfg(test)]
 mod tests;
@@ -65,7 +65,7 @@ impl LocalHolds {
     /// A seat that holds no drive. Seats have the numbers 1, 2, 3 and on; there is none once the greatest `u64`
     /// was given. It takes no memory.
     pub fn seat(&mut self) -> Option<LocalSeat>
-        ensures next { MatchOption result ((self.old.last ≡ u64.MAX) × (self.new ≡ self.old)) (λ seat. (self.old.last < u64.MAX) × (self.new ≡ holders self.old.numbers (self.old.last + 1)) × (seat ≡ newcomer (self.old.last + 1))) }
+        ensures next { IsSeated self.old result self.new }
         ensures own { IfSome result (λ seat. IsSeatOf self.new seat) }
         ensures idle { IfSome result (λ seat. HoldsJust seat None) }
         ensures others { (v : View) → IsSeatOf self.old v → IsSeatOf self.new v }
@@ -88,7 +88,8 @@ impl LocalHolds {
         requires { drive < length self.now.numbers }
         ensures { IsHeldBy self.now drive result }
     {
-        self.numbers[drive]
+        let numbers = &self.numbers;
+        numbers[drive]
     }
 }
 
@@ -136,5 +137,8 @@ impl Holds for LocalHolds {
 
     ghost numbered = { λ all s h. (h.numbered, h.made) };
 
-    ghost agrees = { λ all s d n h k. let a = h.agrees d k.0 in let e = k.1 in (λ is. Prim.grind (arith, nat_tests), λ holds. Prim.grind (arith, nat_tests)) };
+    ghost agrees = { λ all s d n h k.
+        let a = h.agrees d k.0 in
+        let e = k.1 in
+        (λ is. Prim.grind (arith, nat_tests), λ holds. Prim.grind (arith, nat_tests)) };
 }

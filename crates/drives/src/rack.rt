@@ -1,19 +1,15 @@
-ghost use Rattle.std.specs.Prelude.{◌≡◌, ◌≢◌, ◌<◌, [], ◌∷◌, ◌++◌, None, IsSome, IfOk, MatchBool, MatchResult, length};
+ghost use Rattle.std.specs.Prelude.{◌≡◌, ◌≢◌, ◌<◌, ◌≤◌, vec_capacity, is_some, [], ◌∷◌, ◌++◌, None, IsSome, IfOk, MatchBool, MatchResult, length, flat_map};
 ghost use Rattle.std.specs.List.{list_any};
+ghost use Rattle.std.specs.Option.{option_copied};
 ghost use Rattle.std.specs.Str.{bytes_eq};
-ghost use Rattle.drives.specs.Shop.{rack, first_reel, with_first};
+ghost use Rattle.drives.specs.Arranging.{slot_named};
+ghost use Rattle.drives.specs.Shop.{rack, first_reel, with_first, latched_on};
 
 use crate::ListedReel;
+use crate::pick::any_named;
 use std::alloc::{AllocError, Global};
 use std::marker::Model;
 use tape::TroubledReel;
-
-/// Whether one of the reels has that name.
-pub(crate) fn any_named(reels: &[ListedReel], name: &[u8]) -> bool
-    ensures { result ≡ list_any (λ x. bytes_eq name.now x.name) reels.now }
-{
-    reels.iter().any(|reel| reel.is_named(name))
-}
 
 /// A drive of a `ListStacks`, with its stack. A latched reel stays first on it, and is away.
 #[derive(Drop)]
@@ -73,6 +69,16 @@ impl ListRack {
         }
     }
 
+    /// Whether the first reel of the stack is latched.
+    pub(crate) fn is_latched(&self) -> bool
+        ensures { result ≡ is_some (latched_on self.now.stack) }
+    {
+        match self.stack.first() {
+            Some(first) => first.reel().is_none(),
+            None => false,
+        }
+    }
+
     /// Takes the first reel away, if one lies there.
     pub(crate) fn latch(&mut self) -> Option<TroubledReel>
         ensures taken { result ≡ first_reel self.old.stack }
@@ -100,6 +106,22 @@ impl ListRack {
         self.stack.remove(0)
     }
 
+    /// Moves the stack to the end of the bin. Where memory is refused nothing has changed.
+    pub(crate) fn lay_off(&mut self, bin: &mut Vec<ListedReel>) -> Result<(), AllocError>
+        ensures stack { MatchResult result (λ _. self.new ≡ rack self.old.name []) (λ _. self.new ≡ self.old) }
+        ensures bin { MatchResult result (λ _. bin.new.items ≡ bin.old.items ++ self.old.stack) (λ _. bin.new.items ≡ bin.old.items) }
+        ensures room { vec_capacity bin.old ≤ vec_capacity bin.new }
+    {
+        bin.append(&mut self.stack)
+    }
+
+    /// Gives the drive that stack.
+    pub(crate) fn lay_on(&mut self, stack: Vec<ListedReel>)
+        ensures { self.new ≡ rack self.old.name stack.items }
+    {
+        self.stack = stack;
+    }
+
     /// Lays a reel last on the stack. Where memory is refused nothing has changed.
     pub(crate) fn push(&mut self, reel: ListedReel) -> Result<(), AllocError>
         ensures { MatchResult result (λ _. self.new ≡ rack self.old.name (self.old.stack ++ reel ∷ [])) (λ _. self.new ≡ self.old) }
@@ -114,4 +136,14 @@ pub(crate) fn any_stacked(racks: &[ListRack], name: &[u8]) -> bool
     ensures { result ≡ list_any (λ r. list_any (λ x. bytes_eq name.now x.name) r.stack) racks.now }
 {
     racks.iter().any(|rack| rack.has_reel(name))
+}
+
+/// The reel of that name on one of the stacks, if there is one.
+pub(crate) fn find_stacked<'a>(racks: &'a [ListRack], name: &[u8]) -> Option<&'a ListedReel>
+    ensures { option_copied result ≡ slot_named name.now (flat_map (λ r. r.stack) racks.now) }
+{
+    racks
+        .iter()
+        .flat_map(|rack| rack.stack())
+        .find(|reel| reel.is_named(name))
 }

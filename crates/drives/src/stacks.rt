@@ -1,8 +1,8 @@
 ghost use Rattle.std.specs.Prelude.{◌≡◌, ℕ, ◌<◌, IfSome, IfErr, length};
 ghost use Rattle.drives.specs.Shop.{Shop, IsDriveNamed, EachReelOnce};
-ghost use Rattle.drives.specs.Calls.{StacksCall, stacks_kind, moved_result};
-ghost use Rattle.drives.specs.Calls.StacksCall.{Latch, LayBack, Move};
-ghost use Rattle.drives.specs.Stacking.{HasLatched, IsStacksCall};
+ghost use Rattle.drives.specs.Calls.{StacksCall, stacks_kind};
+ghost use Rattle.drives.specs.Calls.StacksCall.{Latch, LayBack};
+ghost use Rattle.drives.specs.Stacking.{HasLatched, IsStacksCall, IsMoveCall};
 
 use crate::DriveFault;
 use tape::Reel;
@@ -57,7 +57,7 @@ pub trait Stacks {
     fn offline(&mut self, drive: usize, reel: Self::Reel) -> Result<(), (Self::Reel, DriveFault)>
         requires drive { drive < drives self.old }
         requires latched { HasLatched holds self.old drive }
-        ensures call { IsStacksCall (stacks_kind holds drives failures can_fail makes) Self.Reel.Reel self.old (Move drive reel (moved_result result)) self.new }
+        ensures call { IsMoveCall (stacks_kind holds drives failures can_fail makes) Self.Reel.Reel self.old drive reel result self.new }
         ensures back { IfErr result (λ refused. refused.0 ≡ reel) };
 
     /// How often the device has failed. It stays at the greatest `u64`.

@@ -1,9 +1,10 @@
 //! Holds, stacks and their table, one call after another.
 
 ghost use Rattle.std.specs.Prelude.{◌≡◌, [], ◌∷◌, Some, IfOk, length, codes};
-ghost use Rattle.drives.specs.Shop.{shop, rack, slot, kept};
-ghost use Rattle.drives.specs.ListShop.{IsShop, CanFail, with_shop, empty_shop, with_reel, with_drive};
+ghost use Rattle.drives.specs.Shop.{shop, rack, slot, kept_reel};
+ghost use Rattle.drives.specs.ListShop.{IsShop, StacksCanFail, with_shop, empty_shop, with_reel, with_drive};
 
+mod arrange;
 mod list;
 mod orders;
 pub(crate) mod slow_holds;
@@ -16,13 +17,13 @@ use std::test::Fail;
 /// The drive `/dev/st0` with one empty reel.
 fn one_reel(alloc: Global) -> Result<ListStacks, Fail>
     ensures count { IfOk result (λ stacks. length stacks.shop.racks ≡ 1) }
-    ensures is { IfOk result (λ stacks. stacks ≡ with_shop empty_shop (with_reel (with_drive (shop [] []) (codes "/dev/st0")) 0 (codes "reel") 100)) }
-    ensures told { IfOk result (λ stacks. IsShop stacks (shop (rack (codes "/dev/st0") (slot (codes "reel") (Some (kept [] 100)) ∷ []) ∷ []) [])) }
-    ensures quiet { IfOk result (λ stacks. CanFail stacks → ⊥) }
+    ensures is { IfOk result (λ s. s ≡ with_shop empty_shop (with_reel (with_drive (shop [] []) (codes "/dev/st0")) 0 (codes "reel") 9)) }
+    ensures told { IfOk result (λ s. IsShop s (shop (rack (codes "/dev/st0") (slot (codes "reel") (Some (kept_reel [] 9)) ∷ []) ∷ []) [])) }
+    ensures quiet { IfOk result (λ stacks. StacksCanFail stacks → ⊥) }
 {
     let mut stacks = ListStacks::new(alloc);
     let drive = stacks.add_drive(b"/dev/st0")?;
-    stacks.add_reel(drive, b"reel", 100)?;
+    stacks.add_reel(drive, b"reel", 9)?;
     Ok(stacks)
 }
 

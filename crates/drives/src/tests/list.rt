@@ -131,15 +131,20 @@ fn reels_are_moved_to_the_end_of_the_bin(rt: HostRuntime) -> Result<(), Fail> {
 }
 
 #[test]
-fn a_reel_name_is_taken_wherever_it_is(rt: HostRuntime) -> Result<(), Fail> {
+fn a_reel_name_is_taken_on_each_stack(rt: HostRuntime) -> Result<(), Fail> {
     let mut stacks = two_drives(rt.alloc())?;
     assert_eq!(rt; stacks.add_reel(0, b"a", 5), Err(DriveFault::NameTaken));
     assert_eq!(rt; stacks.add_reel(1, b"b", 5), Err(DriveFault::NameTaken));
     let reel = stacks.latch(0)?;
     assert_eq!(rt; stacks.add_reel(1, b"a", 5), Err(DriveFault::NameTaken));
-    stacks.unlatch(0, reel);
-    let reel = stacks.latch(0)?;
-    assert!(rt; stacks.offline(0, reel).is_ok());
+    drop(reel);
+    Ok(())
+}
+
+#[test]
+fn a_reel_name_is_taken_in_the_bin(rt: HostRuntime) -> Result<(), Fail> {
+    let mut stacks = two_drives(rt.alloc())?;
+    move_first(&mut stacks, 0)?;
     assert_eq!(rt; stacks.add_reel(1, b"a", 5), Err(DriveFault::NameTaken));
     assert!(rt; are(stacks.stack(1), b"c"));
     assert_eq!(rt; stacks.add_reel(1, b"d", 5), Ok(()));

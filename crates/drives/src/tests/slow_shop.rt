@@ -65,4 +65,30 @@ impl SlowShop {
         }
         Ok(true)
     }
+
+    /// Whether the stack of the first drive can become these reels: no name twice, and each lies there or in the bin.
+    pub(crate) fn can_arrange(&self, names: &[u8]) -> bool {
+        for (place, name) in names.iter().enumerate() {
+            let doubled = names[..place].contains(name);
+            let there = self.first.names.contains(name) || self.bin.contains(name);
+            if doubled || !there {
+                return false;
+            }
+        }
+        !self.first.latched
+    }
+
+    /// The stack of the first drive becomes these reels. Those of the bin among them leave it, and what was on the
+    /// stack and is not among them comes to its end.
+    pub(crate) fn arrange(&mut self, names: &[u8]) -> Result<(), Fail> {
+        self.bin.retain(|name| !names.contains(name));
+        for name in &self.first.names {
+            if !names.contains(name) {
+                self.bin.push(*name)?;
+            }
+        }
+        self.first.names.clear();
+        self.first.names.extend_from_slice(names)?;
+        Ok(())
+    }
 }

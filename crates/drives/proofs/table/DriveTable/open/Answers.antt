@@ -1,7 +1,7 @@
 use Rattle.std.proofs.Common.{ℕ, ◌<◌, sym, subst, ◌∙◌, ap, ◌≡◌, Some, arith}
 use Rattle.drives.proofs.Held.{given_back}
 use Rattle.drives.proofs.Refused.{latch_refused, word_given_back}
-use Rattle.drives.specs.Holding.{given, taken}
+use Rattle.drives.specs.Holding.{given}
 use Rattle.drives.specs.Opening.{kinds}
 use Rattle.drives.proofs.table.DriveTable.open.Goals as goal
 

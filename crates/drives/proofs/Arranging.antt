@@ -1,0 +1,339 @@
+-- What an operator's order of a stack leaves.
+use Rattle.std.proofs.Common.{◌≡◌, ◌≢◌, ℕ, ◌+◌, ◌-◌, ◌<◌, ◌≤◌, Bool, true, false, not, ◌&&◌, ◌||◌, IsTrue, List, [], ◌∷◌, ◌++◌, length, take, drop, map, set, is_some, Option, Some, None, Result, Ok, Err, IfOk, IsSome, refl, sym, ap, ◌∙◌, subst, inl, inr, arith, get_or-set_other, one-add, get_or, cond, append_assoc, drop-cons, suc}
+use Rattle.std.proofs.Math.Numerals.{suc-eq-add-one}
+use Rattle.std.proofs.lemmas.List.{get_or-set_same, drop-map, drop-drop, take_all, length-drop}
+use Rattle.std.proofs.lemmas.List.Folds.{list_any-append}
+use Rattle.std.proofs.lemmas.List.Sums.{sum_by-append, sum_by-cons}
+use Rattle.std.proofs.lemmas.Map.Made.{sum_by-remove_key}
+use Rattle.std.proofs.lemmas.Slice.Eq.{bytes_eq-Decides}
+use Rattle.std.proofs.Math.Dec.{ltb}
+use Rattle.std.proofs.lemmas.Bool.{ltb-true, ltb-false}
+use Rattle.std.proofs.lemmas.Iterator.Adapters.{position_from-zero}
+use Rattle.std.proofs.lemmas.List.Folds.{find_at, find-append}
+use Rattle.std.proofs.lemmas.Option.{cond_some, slice_get-get_or, slice_get_past}
+use Rattle.std.specs.List.{sum_by, list_any, list_all, find, position_or_len, position_from, cons_option}
+use Rattle.std.specs.Option.{option_map, option_or}
+use Rattle.std.specs.Prelude.{unwrap_or}
+use Rattle.std.specs.Set.{remove_key}
+use Rattle.std.specs.Str.{bytes_eq}
+use Rattle.tape.specs.Trouble.{TroubledTape}
+use Rattle.drives.specs.Shop.{Slot, Rack, rack, ShopOf, Shop, shop, rack_at, with_rack, slots_in, names_of, names_in, times, EachReelOnce, latched_at, latched_on, away_name}
+use Rattle.drives.specs.ListShop.{ListShop, with_shop, at_rest, rest_slot, shop_of, IsShop, is_set_in, StacksCanFail, IsStocked}
+use Rattle.drives.specs.Arranging.{slot_named, without, picked, left, pile_of, arranged, is_repeated, are_distinct, is_among, is_piled, may_arrange, IsArranged}
+use Rattle.drives.specs.Stacking.{HasLatched}
+use Rattle.drives.specs.declared.fault.DriveFault.{DriveFault}
+use Rattle.drives.specs.declared.fault.DriveFault.TheVariants.{NoSuchDrive, Busy, NoReel, Device, OutOfMemory, NameTaken}
+use Rattle.drives.proofs.Shops.{bit, named, times-named, length-sum, sum_by-slots, sum_by-with_rack}
+use Rattle.drives.proofs.ListShop.{told, rack_at-rest, read_at, stocked-same}
+
+-- what is left where the first that passes is taken out by its place
+place_step : {X : Type 0} (p : X → Bool) (x : X) (xs : List X) (b : Bool) → p x ≡ b → remove_key p xs ≡ take (position_or_len p xs) xs ++ drop (suc (position_or_len p xs)) xs
+    → remove_key p (x ∷ xs) ≡ take (position_or_len p (x ∷ xs)) (x ∷ xs) ++ drop (suc (position_or_len p (x ∷ xs))) (x ∷ xs)
+place_step p x xs true e h = rw e refl
+place_step p x xs false e h = rw (e, one-add (position_or_len p xs)) (ap (λ rest. x ∷ rest) h)
+
+pub removed_at : {X : Type 0} (p : X → Bool) (xs : List X) → remove_key p xs ≡ take (position_or_len p xs) xs ++ drop (suc (position_or_len p xs)) xs
+removed_at p [] = refl
+removed_at p (x ∷ xs) = place_step p x xs (p x) refl (removed_at p xs)
+
+-- a sum over a list that may have one element more
+sum_cons : {X : Type 0} (f : X → ℕ) (o : Option X) (xs : List X) → sum_by f (cons_option o xs) ≡ unwrap_or (option_map f o) 0 + sum_by f xs
+sum_cons f None xs = omega arith
+sum_cons f (Some x) xs = sum_by-cons f x xs
+
+-- the reels that are taken and those that are left are all
+sum_picked : {X : Type 0} (f : Slot X → ℕ) (names : List (List ℕ)) (slots : List (Slot X)) → sum_by f (picked names slots) + sum_by f (left names slots) ≡ sum_by f slots
+sum_picked f [] slots = omega arith
+sum_picked f (name ∷ names) slots =
+    let a = sum_by-remove_key f (λ x. bytes_eq name x.name) slots in
+    let b = sum_cons f (slot_named name slots) (picked names (without name slots)) in
+    let c = sum_picked f names (without name slots) in
+    omega (arith, a, b, c)
+
+pub sum_arranged : {X : Type 0} (f : Slot X → ℕ) (s : ShopOf X) (d : ℕ) (names : List (List ℕ)) → d < length s.racks → sum_by f (slots_in (arranged s d names)) ≡ sum_by f (slots_in s)
+sum_arranged f s d names l =
+    let r = rack (rack_at s d).name (picked names (pile_of s d)) in
+    let a = sum_by-with_rack f s d r l in
+    let b = sum_by-slots f (with_rack s d r) in
+    let c = sum_by-slots f (arranged s d names) in
+    let m = sum_by-append f s.bin (rack_at s d).stack in
+    let n = sum_picked f names (pile_of s d) in
+    omega (arith, a, b, c, m, n)
+
+-- no name comes or goes
+pub times-arranged : {X : Type 0} (s : ShopOf X) (d : ℕ) (names : List (List ℕ)) → d < length s.racks → (name : List ℕ) → times name (names_in (arranged s d names)) ≡ times name (names_in s)
+times-arranged s d names l name = times-named name (slots_in (arranged s d names)) ∙ sum_arranged (named name) s d names l ∙ sym (times-named name (slots_in s))
+
+pub once-arranged : {X : Type 0} (s : ShopOf X) (d : ℕ) (names : List (List ℕ)) → d < length s.racks → EachReelOnce s → EachReelOnce (arranged s d names)
+once-arranged s d names l once name = subst (λ n. n ≤ 1) (sym (times-arranged s d names l name)) (once name)
+
+pub length-arranged : {X : Type 0} (s : ShopOf X) (d : ℕ) (names : List (List ℕ)) → d < length s.racks → length (slots_in (arranged s d names)) ≡ length (slots_in s)
+length-arranged s d names l = length-sum (slots_in (arranged s d names)) ∙ sum_arranged (λ x. 1) s d names l ∙ sym (length-sum (slots_in s))
+
+-- a reel of that name is found among those that have one
+found_step : {X : Type 0} (name : List ℕ) (x : Slot X) (rest : List (Slot X)) (b : Bool) → bytes_eq name x.name ≡ b → (b || is_among rest name) ≡ true
+    → (is_among rest name ≡ true → (y : Slot X) × (slot_named name rest ≡ Some y) × (y.name ≡ name)) → (y : Slot X) × (slot_named name (x ∷ rest) ≡ Some y) × (y.name ≡ name)
+found_step name x rest true e h more = (x, rw e refl, sym ((bytes_eq-Decides name x.name).0 e))
+found_step name x rest false e h more = let w = more h in (w.0, rw e w.1, w.2)
+
+found_among : {X : Type 0} (name : List ℕ) (slots : List (Slot X)) → is_among slots name ≡ true → (y : Slot X) × (slot_named name slots ≡ Some y) × (y.name ≡ name)
+found_among name [] h = absurd cc
+found_among name (x ∷ rest) h = found_step name x rest (bytes_eq name x.name) refl h (found_among name rest)
+
+-- one of another name is still there
+stays_step : {X : Type 0} (name other : List ℕ) (x : Slot X) (rest : List (Slot X)) (a b : Bool) → bytes_eq name x.name ≡ a → bytes_eq other x.name ≡ b → bytes_eq name other ≡ false
+    → (b || is_among rest other) ≡ true → (is_among rest other ≡ true → is_among (without name rest) other ≡ true) → is_among (without name (x ∷ rest)) other ≡ true
+stays_step name other x rest true true e f n h more =
+    let same : name ≡ other = (bytes_eq-Decides name x.name).0 e ∙ sym ((bytes_eq-Decides other x.name).0 f) in
+    absurd (let is : bytes_eq name other ≡ true = (bytes_eq-Decides name other).1 same in cc)
+stays_step name other x rest true false e f n h more = rw e h
+stays_step name other x rest false true e f n h more = rw (e, f) refl
+stays_step name other x rest false false e f n h more = rw (e, f) (more h)
+
+stays_among : {X : Type 0} (name other : List ℕ) (slots : List (Slot X)) → bytes_eq name other ≡ false → is_among slots other ≡ true → is_among (without name slots) other ≡ true
+stays_among name other [] n h = absurd cc
+stays_among name other (x ∷ rest) n h = stays_step name other x rest (bytes_eq name x.name) (bytes_eq other x.name) refl refl n h (stays_among name other rest n)
+
+both : (a b : Bool) → (a && b) ≡ true → (a ≡ true) × (b ≡ true)
+both true b h = (refl, h)
+both false b h = absurd cc
+
+neither : (a b : Bool) → (a || b) ≡ false → (a ≡ false) × (b ≡ false)
+neither true b h = absurd cc
+neither false b h = (refl, h)
+
+turned : (b : Bool) → not b ≡ true → b ≡ false
+turned true h = absurd cc
+turned false h = refl
+
+all_stay : {X : Type 0} (name : List ℕ) (names : List (List ℕ)) (slots : List (Slot X)) → list_any (bytes_eq name) names ≡ false → list_all (is_among slots) names ≡ true
+    → list_all (is_among (without name slots)) names ≡ true
+all_stay name [] slots n h = refl
+all_stay name (other ∷ names) slots n h =
+    let no = neither (bytes_eq name other) (list_any (bytes_eq name) names) n in
+    let yes = both (is_among slots other) (list_all (is_among slots) names) h in
+    rw (stays_among name other slots no.0 yes.0) (all_stay name names slots no.1 yes.1)
+
+-- the names of the reels that are taken are those that were asked for
+pub names-picked : {X : Type 0} (names : List (List ℕ)) (slots : List (Slot X)) → are_distinct names ≡ true → list_all (is_among slots) names ≡ true → names_of (picked names slots) ≡ names
+names-picked [] slots d h = refl
+names-picked (name ∷ names) slots d h =
+    let apart = both (not (list_any (bytes_eq name) names)) (are_distinct names) d in
+    let there = both (is_among slots name) (list_all (is_among slots) names) h in
+    let w = found_among name slots there.0 in
+    let more = names-picked names (without name slots) apart.1 (all_stay name names slots (turned _ apart.0) there.1) in
+    ap (λ o. names_of (cons_option o (picked names (without name slots)))) w.1 ∙ ap (λ n. n ∷ names_of (picked names (without name slots))) w.2 ∙ ap (λ rest. name ∷ rest) more
+
+piled : {X : Type 0} (s : ShopOf X) (d : ℕ) (names : List (List ℕ)) → list_all (is_piled s d) names ≡ true
+    → list_all (is_among (pile_of s d)) names ≡ true
+piled s d [] h = refl
+piled s d (name ∷ names) h =
+    let there = both (is_piled s d name) (list_all (is_piled s d) names) h in
+    rw (list_any-append (λ x. bytes_eq name x.name) s.bin (rack_at s d).stack ∙ there.0) (piled s d names there.1)
+
+is_true : (b : Bool) → IsTrue b → b ≡ true
+is_true b h = h
+
+pub order-arranged : {U : Type 0} (old new : ListShop) (d : ℕ) (names : List (List ℕ)) (result : Result U DriveFault) → d < length old.shop.racks → IsTrue (may_arrange old.shop d names)
+    → IsArranged old d names result new → IfOk result (λ _. names_of (rack_at new.shop d).stack ≡ names)
+order-arranged old new d names (Ok x) l may h =
+    let all = both (not (is_some (latched_at old.shop d)) && are_distinct names) (list_all (is_piled old.shop d) names) (is_true _ may) in
+    let apart = both (not (is_some (latched_at old.shop d))) (are_distinct names) all.0 in
+    ap (λ (x : ListShop). names_of (rack_at x.shop d).stack) h
+    ∙ ap (λ (r : Rack TroubledTape). names_of r.stack) (get_or-set_same old.shop.racks d (rack (rack_at old.shop d).name (picked names (pile_of old.shop d))) (rack [] []) l)
+    ∙ names-picked names (pile_of old.shop d) apart.1 (piled old.shop d names all.1)
+order-arranged old new d names (Err fault) l may h = tt
+
+-- a fact of what an arrangement left, which holds where nothing changed
+after_arranged : {U : Type 0} (P : ListShop → Type 0) (old new : ListShop) (d : ℕ) (names : List (List ℕ)) (result : Result U DriveFault) → IsArranged old d names result new
+    → P (with_shop old (arranged old.shop d names)) → P old → P new
+after_arranged P old new d names (Ok x) h made same = subst P (sym h) made
+after_arranged P old new d names (Err OutOfMemory) h made same = subst P (sym h) same
+after_arranged P old new d names (Err NoReel) h made same = absurd h
+after_arranged P old new d names (Err Device) h made same = absurd h
+after_arranged P old new d names (Err (Busy n)) h made same = absurd h
+after_arranged P old new d names (Err NoSuchDrive) h made same = absurd h
+after_arranged P old new d names (Err NameTaken) h made same = absurd h
+
+pub arrange_told : {U : Type 0} (old new : ListShop) (d : ℕ) (names : List (List ℕ)) (result : Result U DriveFault) → d < length old.shop.racks → EachReelOnce old.shop
+    → IsArranged old d names result new → IsShop new (shop_of new)
+arrange_told old new d names result l once h =
+    after_arranged (λ (x : ListShop). IsShop x (shop_of x)) old new d names result h (told (with_shop old (arranged old.shop d names)) (once-arranged old.shop d names l once)) (told old once)
+
+pub arrange_names : {U : Type 0} (old new : ListShop) (d : ℕ) (names : List (List ℕ)) (result : Result U DriveFault) → d < length old.shop.racks
+    → IsArranged old d names result new → (name : List ℕ) → times name (names_in new.shop) ≡ times name (names_in old.shop)
+arrange_names old new d names result l h name =
+    after_arranged (λ (x : ListShop). times name (names_in x.shop) ≡ times name (names_in old.shop)) old new d names result h (times-arranged old.shop d names l name) refl
+
+still_able : (old : ListShop) (d : ℕ) (names : List (List ℕ)) → d < length old.shop.racks → StacksCanFail (with_shop old (arranged old.shop d names)) → StacksCanFail old
+still_able old d names l (inl e) = inl e
+still_able old d names l (inr m) = let same = sum_arranged (λ x. bit (is_set_in x.reel)) old.shop d names l in inr (omega (arith, same, m))
+
+pub arrange_quiet : {U : Type 0} (old new : ListShop) (d : ℕ) (names : List (List ℕ)) (result : Result U DriveFault) → d < length old.shop.racks
+    → IsArranged old d names result new → StacksCanFail new → StacksCanFail old
+arrange_quiet old new d names result l h =
+    after_arranged (λ (x : ListShop). StacksCanFail x → StacksCanFail old) old new d names result h (still_able old d names l) (λ f. f)
+
+-- what is told of the reels that are latched
+away_rest : (name : List ℕ) (reel : Option TroubledTape) → away_name name (option_map at_rest reel) ≡ away_name name reel
+away_rest name None = refl
+away_rest name (Some r) = refl
+
+on_rest : (stack : List (Slot TroubledTape)) → latched_on (map rest_slot stack) ≡ latched_on stack
+on_rest [] = refl
+on_rest (first ∷ rest) = away_rest first.name first.reel
+
+latched-rest : (s : ListShop) (e : ℕ) → latched_at (shop_of s) e ≡ latched_at s.shop e
+latched-rest s e = ap (λ (r : Rack _). latched_on r.stack) (rack_at-rest s e) ∙ on_rest (rack_at s.shop e).stack
+
+other_latched : (old : ListShop) (d e : ℕ) (names : List (List ℕ)) → EachReelOnce old.shop → e ≢ d → HasLatched IsShop old e → HasLatched IsShop (with_shop old (arranged old.shop d names)) e
+other_latched old d e names once n h t tells =
+    let new = with_shop old (arranged old.shop d names) in
+    let same : latched_at new.shop e ≡ latched_at old.shop e =
+    ap (λ (r : Rack _). latched_on r.stack) (get_or-set_other old.shop.racks d e (rack (rack_at old.shop d).name (picked names (pile_of old.shop d))) (rack [] []) n) in
+    subst (λ o. IsSome o) (sym (ap (λ (x : Shop). latched_at x e) tells.0 ∙ latched-rest new e ∙ same ∙ sym (latched-rest old e))) (h (shop_of old) (told old once))
+
+pub arrange_elsewhere : {U : Type 0} (old new : ListShop) (d : ℕ) (names : List (List ℕ)) (result : Result U DriveFault) → EachReelOnce old.shop
+    → IsArranged old d names result new → (e : ℕ) → e ≢ d → HasLatched IsShop old e → HasLatched IsShop new e
+arrange_elsewhere old new d names result once h e n latched =
+    after_arranged (λ (x : ListShop). HasLatched IsShop x e) old new d names result h (other_latched old d e names once n latched) latched
+
+pub arrange_same : {U A : Type 0} (f : ListShop → A) (old new : ListShop) (d : ℕ) (names : List (List ℕ)) (result : Result U DriveFault)
+    → f (with_shop old (arranged old.shop d names)) ≡ f old → IsArranged old d names result new → f new ≡ f old
+arrange_same f old new d names result same h = after_arranged (λ (x : ListShop). f x ≡ f old) old new d names result h same refl
+
+-- on the way: what was picked and will be, and what will be left
+pub record IsPicking {X : Type 0} (rest : List (List ℕ)) (now onto : List (Slot X)) (names : List (List ℕ)) (slots before : List (Slot X)) : Type 0 where
+  pub all : onto ++ picked rest now ≡ before ++ picked names slots
+  pub others : left rest now ≡ left names slots
+
+pub picking_none : {X : Type 0} (name : List ℕ) (rest : List (List ℕ)) (now onto : List (Slot X)) (names : List (List ℕ)) (slots before : List (Slot X))
+    → IsPicking (name ∷ rest) now onto names slots before → slot_named name now ≡ None → IsPicking rest (without name now) onto names slots before
+picking_none name rest now onto names slots before h none = record {
+  all = ap (λ o. onto ++ cons_option o (picked rest (without name now))) (sym none) ∙ h.all;
+  others = h.others;
+}
+
+pub picking_some : {X : Type 0} (name : List ℕ) (rest : List (List ℕ)) (now onto : List (Slot X)) (names : List (List ℕ)) (slots before : List (Slot X)) (x : Slot X)
+    → IsPicking (name ∷ rest) now onto names slots before → slot_named name now ≡ Some x → IsPicking rest (without name now) (onto ++ x ∷ []) names slots before
+picking_some name rest now onto names slots before x h some = record {
+  all = append_assoc onto (x ∷ []) (picked rest (without name now)) ∙ ap (λ o. onto ++ cons_option o (picked rest (without name now))) (sym some) ∙ h.all;
+  others = h.others;
+}
+
+-- a place where the test passes first
+pub place_some : {X : Type 0} (p : X → Bool) (xs : List X) (at : ℕ) (d : X) → position_from p 0 xs ≡ Some at
+    → (at < length xs) × (find p xs ≡ Some (get_or xs at d)) × (remove_key p xs ≡ take at xs ++ drop (at + 1) xs)
+place_some p xs at d e =
+    let n = position_or_len p xs in
+    let is = cond_some (ltb n (length xs)) n at (position_from-zero p xs ∙ e) in
+    let within = ltb-true n (length xs) is.0 in
+    subst (λ k. (k < length xs) × (find p xs ≡ Some (get_or xs k d)) × (remove_key p xs ≡ take k xs ++ drop (k + 1) xs)) is.1
+    (within, find_at p xs ∙ slice_get-get_or xs n d within, removed_at p xs ∙ ap (λ m. take n xs ++ drop m xs) (suc-eq-add-one n))
+
+none_past : {X : Type 0} (n : X) (b : Bool) → cond b (Some n) None ≡ None → b ≡ false
+none_past n true e = absurd cc
+none_past n false e = refl
+
+none_removed_step : {X : Type 0} (p : X → Bool) (x : X) (xs : List X) (b : Bool) → p x ≡ b → cond b (Some x) (find p xs) ≡ None → (find p xs ≡ None → remove_key p xs ≡ xs)
+    → remove_key p (x ∷ xs) ≡ x ∷ xs
+none_removed_step p x xs true e h more = absurd cc
+none_removed_step p x xs false e h more = rw e (ap (λ rest. x ∷ rest) (more h))
+
+none_removed : {X : Type 0} (p : X → Bool) (xs : List X) → find p xs ≡ None → remove_key p xs ≡ xs
+none_removed p [] h = refl
+none_removed p (x ∷ xs) h = none_removed_step p x xs (p x) refl h (none_removed p xs)
+
+-- no place where the test passes
+pub place_none : {X : Type 0} (p : X → Bool) (xs : List X) → position_from p 0 xs ≡ None → (find p xs ≡ None) × (remove_key p xs ≡ xs)
+place_none p xs e =
+    let n = position_or_len p xs in
+    let past = ltb-false n (length xs) (none_past n (ltb n (length xs)) (position_from-zero p xs ∙ e)) in
+    let none = find_at p xs ∙ slice_get_past xs n past in
+    (none, none_removed p xs none)
+
+-- a name among names that are lent
+pub any_lent : {A : Type 0} (f : A → List ℕ) (name : List ℕ) (xs : List A) → list_any (bytes_eq name) (map f xs) ≡ list_any (λ x. bytes_eq name (f x)) xs
+any_lent f name [] = refl
+any_lent f name (x ∷ xs) = ap (λ b. bytes_eq name (f x) || b) (any_lent f name xs)
+
+-- the names from a place on
+pub names_from : {A : Type 0} (f : A → List ℕ) (xs : List A) (i : ℕ) (d : A) → i < length xs → map f (drop i xs) ≡ f (get_or xs i d) ∷ map f (drop (i + 1) xs)
+names_from f xs i d l = ap (map f) (drop-cons xs i d l) ∙ ap (λ m. f (get_or xs i d) ∷ map f (drop m xs)) (suc-eq-add-one i)
+
+-- the first name stands again, or not
+pub repeated_is : {A : Type 0} (f : A → List ℕ) (xs : List A) (x : A) (rest : List A) (found : Bool) → xs ≡ x ∷ rest
+    → found ≡ list_any (λ n. bytes_eq (f x) (f n)) rest → found ≡ is_repeated (map f xs)
+repeated_is f xs x rest found e h = h ∙ sym (any_lent f (f x) rest) ∙ ap (λ ys. is_repeated (map f ys)) (sym e)
+
+pub none_repeated : {A : Type 0} (f : A → List ℕ) (xs : List A) → length xs ≡ 0 → false ≡ is_repeated (map f xs)
+none_repeated f [] e = refl
+none_repeated f (x ∷ xs) e = absurd (omega (arith, e))
+
+repeats : (names : List (List ℕ)) → is_repeated names ≡ true → are_distinct names ≡ false
+repeats [] h = absurd cc
+repeats (name ∷ names) h = ap (λ b. not b && are_distinct names) h
+
+differs : (names : List (List ℕ)) → is_repeated names ≡ false → are_distinct names ≡ are_distinct (drop 1 names)
+differs [] h = refl
+differs (name ∷ names) h = ap (λ b. not b && are_distinct names) h
+
+tail_is : {A : Type 0} (names : List A) (i : ℕ) → take (length names - i) (drop i names) ≡ drop i names
+tail_is names i = take_all (length names - i) (drop i names) (let n = length-drop i names in omega (arith, n))
+
+-- a name that stands again
+pub differ_no : {A : Type 0} (f : A → List ℕ) (names : List A) (i : ℕ) (found : Bool) → found ≡ is_repeated (map f (take (length names - i) (drop i names))) → found ≡ true
+    → are_distinct (map f (drop i names)) ≡ are_distinct (map f names) → false ≡ are_distinct (map f names)
+differ_no f names i found h t same = let e = h ∙ ap (λ xs. is_repeated (map f xs)) (tail_is names i) in sym (repeats (map f (drop i names)) (sym e ∙ t)) ∙ same
+
+-- a name that does not
+pub differ_yet : {A : Type 0} (f : A → List ℕ) (names : List A) (i : ℕ) (found : Bool) → found ≡ is_repeated (map f (take (length names - i) (drop i names))) → found ≡ false
+    → are_distinct (map f (drop i names)) ≡ are_distinct (map f names) → are_distinct (map f (drop (i + 1) names)) ≡ are_distinct (map f names)
+differ_yet f names i found h t same =
+    let e = h ∙ ap (λ xs. is_repeated (map f xs)) (tail_is names i) in
+    let next : drop 1 (map f (drop i names)) ≡ map f (drop (i + 1) names) = drop-map f 1 (drop i names) ∙ ap (map f) (drop-drop 1 i names) in
+    ap are_distinct (sym next) ∙ sym (differs (map f (drop i names)) (sym e ∙ t)) ∙ same
+
+all_lent : {A : Type 0} (f : A → List ℕ) (p : List ℕ → Bool) (xs : List A) → list_all p (map f xs) ≡ list_all (λ x. p (f x)) xs
+all_lent f p [] = refl
+all_lent f p (x ∷ xs) = ap (λ b. p (f x) && b) (all_lent f p xs)
+
+-- what is found of the fields is so of the value
+pub may_is : {A : Type 0} (s now : ListShop) (d : ℕ) (old : Rack TroubledTape) (f : A → List ℕ) (names : List A) (latched differ there : Bool) → s ≡ now → d < length now.shop.racks
+    → old ≡ get_or s.shop.racks d old → latched ≡ is_some (latched_on old.stack) → latched ≡ false → differ ≡ are_distinct (map f names) → differ ≡ true
+    → (bin stack : List (Slot TroubledTape)) → bin ≡ s.shop.bin → stack ≡ old.stack
+    → there ≡ list_all (λ n. is_among bin (f n) || is_among stack (f n)) names → there ≡ may_arrange now.shop d (map f names)
+may_is s now d old f names latched differ there v l e a b m n bin stack g h u =
+    let t = u ∙ ap (λ xs. list_all (λ n. is_among xs (f n) || is_among stack (f n)) names) g ∙ ap (λ xs. list_all (λ n. is_among s.shop.bin (f n) || is_among xs (f n)) names) h in
+    let within : d < length s.shop.racks = subst (λ (x : ListShop). d < length x.shop.racks) (sym v) l in
+    let is : old ≡ rack_at s.shop d = read_at s.shop d old within e in
+    let ready : is_some (latched_at s.shop d) ≡ false = ap (λ (r : Rack TroubledTape). is_some (latched_on r.stack)) (sym is) ∙ sym a ∙ b in
+    let apart : are_distinct (map f names) ≡ true = sym m ∙ n in
+    let all : list_all (is_piled s.shop d) (map f names) ≡ there =
+    all_lent f (is_piled s.shop d) names ∙ ap (λ (r : Rack TroubledTape). list_all (λ n. is_among s.shop.bin (f n) || is_among r.stack (f n)) names) (sym is) ∙ sym t in
+    subst (λ (x : ListShop). there ≡ may_arrange x.shop d (map f names)) v
+    (sym (ap (λ b. (not b && are_distinct (map f names)) && list_all (is_piled s.shop d) (map f names)) ready ∙ ap (λ b. b && list_all (is_piled s.shop d) (map f names)) apart ∙ all))
+
+-- what the fields keep where a stack was arranged
+pub stocked-arranged : (s : ShopOf TroubledTape) (d : ℕ) (old new : Rack TroubledTape) (names : List (List ℕ)) (onto bin : List (Slot TroubledTape)) (reels room more : ℕ) → d < length s.racks
+    → old ≡ get_or s.racks d old → new ≡ rack old.name onto → onto ≡ picked names (s.bin ++ old.stack) → bin ≡ left names (s.bin ++ old.stack) → room ≤ more → IsStocked s reels room
+    → IsStocked (shop (set s.racks d new) bin) reels more
+stocked-arranged s d old new names onto bin reels room more l e n o b m h =
+    let is : old ≡ rack_at s d = read_at s d old l e in
+    let put : shop (set s.racks d new) bin ≡ shop (set s.racks d (rack old.name (picked names (s.bin ++ old.stack)))) (left names (s.bin ++ old.stack)) =
+    ap (λ r. shop (set s.racks d r) bin) (n ∙ ap (λ st. rack old.name st) o) ∙ ap (λ xs. shop (set s.racks d (rack old.name (picked names (s.bin ++ old.stack)))) xs) b in
+    let same = put ∙ ap (λ (r : Rack TroubledTape). shop (set s.racks d (rack r.name (picked names (s.bin ++ r.stack)))) (left names (s.bin ++ r.stack))) is in
+    let made : IsStocked (arranged s d names) reels room = record {
+      once = once-arranged s d names l h.once;
+      counted = h.counted ∙ sym (length-arranged s d names l);
+      fits = h.fits;
+    } in
+    stocked-same (arranged s d names) (shop (set s.racks d new) bin) reels room more same m made
+
+-- a reel that is found on the stacks or in the bin
+pub found_or : {X : Type 0} (name : List ℕ) (above below : List (Slot X)) (o : Option (Slot X)) → o ≡ slot_named name above → IsSome o → o ≡ slot_named name (above ++ below)
+found_or name above below None e h = absurd cc
+found_or name above below (Some x) e h = sym (find-append (λ x. bytes_eq name x.name) above below ∙ ap (λ o. option_or o (slot_named name below)) (sym e))
+
+pub found_below : {X : Type 0} (name : List ℕ) (above below : List (Slot X)) (o : Option (Slot X)) → None ≡ slot_named name above → o ≡ slot_named name below → o ≡ slot_named name (above ++ below)
+found_below name above below o e h = h ∙ sym (find-append (λ x. bytes_eq name x.name) above below ∙ ap (λ a. option_or a (slot_named name below)) (sym e))

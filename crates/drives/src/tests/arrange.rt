@@ -1,0 +1,133 @@
+//! An operator's order of a stack, against plain lists, and reels by their names.
+
+ghost use Rattle.std.specs.Prelude.{◌≡◌, ◌<◌, IfOk, length};
+
+use super::slow_shop::SlowShop;
+use crate::{ListStacks, ListedReel, Stacks};
+use std::alloc::Global;
+use std::test::Fail;
+use tape::Reel;
+
+/// Two drives: the first with the reels a and b, the second with c. The bin has d and e.
+fn five_reels(alloc: Global) -> Result<ListStacks, Fail>
+    ensures { IfOk result (λ stacks. length stacks.shop.racks ≡ 2) }
+{
+    let mut stacks = ListStacks::new(alloc);
+    stacks.add_drive(b"/dev/st0")?;
+    stacks.add_drive(b"/dev/st1")?;
+    stacks.add_reel(0, b"d", 100)?;
+    stacks.add_reel(0, b"e", 100)?;
+    stacks.add_reel(0, b"a", 100)?;
+    stacks.add_reel(0, b"b", 100)?;
+    stacks.add_reel(1, b"c", 100)?;
+    move_first(&mut stacks)?;
+    move_first(&mut stacks)?;
+    Ok(stacks)
+}
+
+/// Moves the first reel of the first drive to the bin.
+fn move_first(stacks: &mut ListStacks) -> Result<(), Fail>
+    requires { length stacks.old.shop.racks ≡ 2 }
+    ensures { length stacks.new.shop.racks ≡ 2 }
+{
+    let reel = stacks.latch(0)?;
+    match stacks.offline(0, reel) {
+        Ok(()) => Ok(()),
+        Err(_) => Err(Fail::new("not moved")),
+    }
+}
+
+/// Whether these are reels of these names of one letter, in order, all of them there.
+fn are(reels: &[ListedReel], names: &[u8]) -> bool {
+    reels.len() == names.len()
+        && reels.iter().zip(names).all(|(reel, name)| reel.name() == [*name].as_slice()
+            && reel.reel().is_some())
+}
+
+/// Up to four letters from a to f, by the digits of a number in base 7, of which 0 is no letter.
+fn letters_of(alloc: Global, number: u32) -> Result<Vec<u8>, Fail> {
+    let mut letters = Vec::new(alloc);
+    let mut rest = number;
+    for _ in 0..4 {
+        match rest % 7 {
+            0 => (),
+            digit => letters.push(b"abcdef"[digit as usize - 1])?,
+        }
+        rest /= 7;
+    }
+    Ok(letters)
+}
+
+/// Has the stacks and the plain ones arranged by these letters, at the first drive, where the plain ones say that it
+/// can be. Afterwards both have to have the same reels.
+fn check(alloc: Global, letters: &[u8]) -> Result<(), Fail> {
+    let mut stacks = five_reels(alloc)?;
+    let mut slow = SlowShop::new(alloc, b"ab", b"c")?;
+    slow.bin.extend_from_slice(b"de")?;
+    let mut names = Vec::new(alloc);
+    for letter in letters {
+        names.push(std::slice::from_ref(letter))?;
+    }
+    if stacks.can_arrange(0, &names) != slow.can_arrange(letters) {
+        return Err(Fail::new("another answer"));
+    }
+    if stacks.can_arrange(0, &names) {
+        stacks.arrange(0, &names)?;
+        slow.arrange(letters)?;
+    }
+    let alike = are(stacks.stack(0), &slow.first.names)
+        && are(stacks.stack(1), &slow.second.names)
+        && are(stacks.bin(), &slow.bin);
+    if !alike {
+        return Err(Fail::new("other reels"));
+    }
+    Ok(())
+}
+
+#[test]
+fn every_short_order_leaves_what_plain_lists_say(rt: HostRuntime) -> Result<(), Fail> {
+    for number in 0..2401 {
+        let letters = letters_of(rt.alloc(), number)?;
+        check(rt.alloc(), &letters)?;
+    }
+    Ok(())
+}
+
+#[test]
+fn a_stack_becomes_the_reels_that_are_named(rt: HostRuntime) -> Result<(), Fail> {
+    let mut stacks = five_reels(rt.alloc())?;
+    let names = [b"e".as_slice(), b"b".as_slice()];
+    assert!(rt; stacks.can_arrange(0, &names));
+    if stacks.can_arrange(0, &names) {
+        stacks.arrange(0, &names)?;
+    }
+    assert!(rt; are(stacks.stack(0), b"eb"));
+    assert!(rt; are(stacks.stack(1), b"c"));
+    assert!(rt; are(stacks.bin(), b"da"));
+    Ok(())
+}
+
+#[test]
+fn no_stack_is_arranged_while_its_reel_is_latched(rt: HostRuntime) -> Result<(), Fail> {
+    let mut stacks = five_reels(rt.alloc())?;
+    let reel = stacks.latch(0)?;
+    assert!(rt; !stacks.can_arrange(0, &[]));
+    assert!(rt; stacks.can_arrange(1, &[]));
+    drop(reel);
+    Ok(())
+}
+
+#[test]
+fn a_reel_is_found_wherever_it_lies(rt: HostRuntime) -> Result<(), Fail> {
+    let mut stacks = five_reels(rt.alloc())?;
+    assert!(rt; stacks.reel(b"a").is_some());
+    assert!(rt; stacks.reel(b"c").is_some());
+    assert!(rt; stacks.reel(b"d").is_some());
+    assert!(rt; stacks.reel(b"f").is_none());
+    let mut reel = stacks.latch(0)?;
+    assert!(rt; stacks.reel(b"a").is_none());
+    reel.write(b"abc")?;
+    stacks.unlatch(0, reel);
+    assert!(rt; stacks.reel(b"a").is_some());
+    Ok(())
+}
