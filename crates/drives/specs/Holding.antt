@@ -1,5 +1,6 @@
 -- What a seat at the drives knows, and what each of its steps does.
 use Rattle.std.specs.Prelude.{◌≡◌, ℕ, ◌+◌, ◌-◌, ◌^◌, ◌<◌, min, ◌↔◌, Bool, IsTrue, true, false, cond, ◌==◌, List, replicate, slice_set, slice_index_or, Option, Some, None}
+use Rattle.tape.specs.Failures.{counted}
 use Rattle.drives.specs.declared.view.StepKind.{StepKind}
 use Rattle.drives.specs.declared.view.StepKind.TheVariants.{Take, Give, Look}
 use Rattle.drives.specs.declared.view.LastStep.{LastStep}
@@ -14,10 +15,6 @@ has v d = slice_index_or v.held d false
 -- the seat holds that drive, or none, and no other
 abbrev pub HoldsJust : View → Option ℕ → Type 0
 HoldsJust v drive = (d : ℕ) → IsTrue (has v d) ↔ (drive ≡ Some d)
-
--- one step more, up to the greatest u64
-abbrev pub counted : ℕ → ℕ
-counted n = min (n + 1) (2 ^ 64 - 1)
 
 abbrev pub last_step : StepKind → ℕ → ℕ → LastStep
 last_step kind drive found = record { kind = kind; drive = drive; found = found }

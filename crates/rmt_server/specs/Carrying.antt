@@ -4,11 +4,11 @@ use Rattle.rmt_wire.specs.Request.{PlainRequest}
 use Rattle.rmt_wire.specs.Request.PlainRequest.{Open, Close, Op}
 use Rattle.rmt_wire.specs.Reply.{PlainReply}
 use Rattle.rmt_wire.specs.Reply.PlainReply.{Done}
-use Rattle.tape.specs.Failures.{HasRisen}
+use Rattle.tape.specs.Failures.{HasRisen, counted}
 use Rattle.tape.specs.declared.reel.Reel.{Ghosts as ReelPromise}
 use Rattle.drives.specs.declared.view.View.{View}
 use Rattle.drives.specs.declared.view.StepKind.TheVariants.{Take}
-use Rattle.drives.specs.Holding.{last_drive, last_step, counted}
+use Rattle.drives.specs.Holding.{last_drive, last_step}
 use Rattle.drives.specs.Opening.{Kinds}
 use Rattle.rmt_server.specs.declared.refusal.Refusal.TheVariants.{Busy}
 use Rattle.rmt_server.specs.declared.session.desk.Opened.{Opened}

@@ -198,6 +198,7 @@ fn a_drive_goes_from_seat_to_seat(rt: HostRuntime) -> Result<(), Fail> {
     assert_eq!(rt; holds.take(&mut first, 0), Taken::Held);
     assert_eq!(rt; holds.take(&mut second, 0), Taken::Busy(1));
     assert_eq!(rt; holds.holder(&mut second, 0), 1);
+    assert_eq!(rt; holds.number_at(0), 1);
     assert!(rt; first.view.held[0] && !second.view.held[0]);
     holds.give(&mut first, 0);
     assert_eq!(rt; holds.holder(&mut second, 0), 0);
