@@ -8,5 +8,6 @@ pub mod ServeSteps
 mod Sharing
 mod Sound
 pub mod Spelling
+mod Staying
 mod Steps
 mod Takes
