@@ -11,3 +11,8 @@ pub mod Spelling
 mod Staying
 mod Steps
 mod Takes
+mod TroubledHolders
+mod TroubledLying
+mod TroubledOpening
+mod TroubledReels
+mod TroubledServing

@@ -10,7 +10,13 @@ ghost use Rattle.drives.specs.Local.{Holders, holders};
 ghost use Rattle.drives.specs.Stacking.{HasLatched};
 ghost use Rattle.drives.specs.Opening.{kinds};
 ghost use Rattle.rmt_server.specs.declared.session.desk.Desk.{Desk};
-ghost use Rattle.rmt_server.specs.State.{state, IsAt, KeepsDrives, drive_of, online_drive};
+ghost use Rattle.rmt_wire.specs.Request.{PlainRequest};
+ghost use Rattle.rmt_wire.specs.Reply.{PlainReply};
+ghost use Rattle.tape.specs.declared.trouble.Trouble.{Trouble};
+ghost use Rattle.rmt_server.specs.Session.{Scene};
+ghost use Rattle.rmt_server.specs.State.{state, IsAt, Tells, KeepsDrives, drive_of, online_drive};
+ghost use Rattle.rmt_server.specs.Carrying.{IsCarriedOut};
+ghost use Rattle.rmt_server.specs.TroubledServe.{MemoryState, in_memory, IsSetFor, IsServedSo};
 
 use drives::{Holds, Stacks};
 
@@ -63,4 +69,18 @@ pub fn stacks_trouble<H: Holds>()
     ensures { (old : Drives H ListShop H.Seat TroubledTape) (desk : Desk H.Seat TroubledTape) (on : Bool) →
         IsAt (kinds H.Holds of_stacks of_reel) (state old desk) →
         IsAt (kinds H.Holds of_stacks of_reel) (state (record old { stacks = record old.stacks { trouble = on } }) desk) }
+{}
+
+/// One request of a session over drives and reels in memory, where it is told how the device call fails that it makes: the
+/// trouble is set for the stacks before an open and operation 6 of mtio, else for the open reel, and nowhere else. Then the
+/// reply, drives, session and holders are those of `TroubledServe`, and no reel that lies on the stacks or in the bin has a
+/// trouble afterwards.
+///
+/// It does nothing: its contract is a law of the definitions.
+pub fn troubled_serve()
+    ensures {
+        (trouble : Trouble) (old new : MemoryState) (before : Scene) (request : PlainRequest) (reply : PlainReply) →
+        IsAt in_memory old → Tells in_memory old before → IsSetFor trouble request old → IsCarriedOut in_memory old request reply new →
+        IsServedSo trouble old before request reply new
+    }
 {}
