@@ -8,5 +8,11 @@ pub mod ServeSteps
 mod Sharing
 mod Sound
 pub mod Spelling
+mod Staying
 mod Steps
 mod Takes
+mod TroubledHolders
+mod TroubledLying
+mod TroubledOpening
+mod TroubledReels
+mod TroubledServing

@@ -27,7 +27,7 @@ online-in : {R : Type 0} (drive : ℕ) (reel : Option R) (d : ℕ) → online_in
 online-in drive None d e = absurd cc
 online-in drive (Some reel) d e = e
 
-online-drive : {R : Type 0} (opened : Option (Opened R)) (d : ℕ) → online_drive opened ≡ Some d → drive_of opened ≡ Some d
+pub online-drive : {R : Type 0} (opened : Option (Opened R)) (d : ℕ) → online_drive opened ≡ Some d → drive_of opened ≡ Some d
 online-drive None d e = absurd cc
 online-drive (Some device) d e = online-in device.drive device.reel d e
 

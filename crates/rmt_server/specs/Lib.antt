@@ -9,3 +9,4 @@ pub mod Serving
 pub mod Carrying
 pub mod Stream
 pub mod Troubling
+pub mod TroubledServe

@@ -1,29 +1,86 @@
-ghost use Rattle.std.specs.Prelude.{◌≡◌, ◌≢◌, ℕ, Some};
+ghost use Rattle.std.specs.Prelude.{◌≡◌, ◌≢◌, ◌≤◌, ℕ, Bool, Some};
+ghost use Rattle.tape.specs.Trouble.{TroubledTape};
+ghost use Rattle.tape.specs.contracts.troubled.TroubledReelReel.TheImpl.{ghosts as of_reel};
+ghost use Rattle.drives.specs.contracts.list.ListStacksStacks.TheImpl.{ghosts as of_stacks};
 ghost use Rattle.drives.specs.contracts.local.LocalHoldsHolds.TheImpl.{ghosts as of_holds};
 ghost use Rattle.drives.specs.declared.table.DriveTable.{DriveTable as Drives};
 ghost use Rattle.drives.specs.declared.view.View.{View};
-ghost use Rattle.drives.specs.Local.{Holders};
+ghost use Rattle.drives.specs.ListShop.{ListShop};
+ghost use Rattle.drives.specs.Local.{Holders, holders};
+ghost use Rattle.drives.specs.Stacking.{HasLatched};
 ghost use Rattle.drives.specs.Opening.{kinds};
 ghost use Rattle.rmt_server.specs.declared.session.desk.Desk.{Desk};
-ghost use Rattle.rmt_server.specs.State.{state, IsAt, KeepsDrives, drive_of};
+ghost use Rattle.rmt_wire.specs.Request.{PlainRequest};
+ghost use Rattle.rmt_wire.specs.Reply.{PlainReply};
+ghost use Rattle.tape.specs.declared.trouble.Trouble.{Trouble};
+ghost use Rattle.rmt_server.specs.Session.{Scene};
+ghost use Rattle.rmt_server.specs.State.{state, IsAt, Tells, KeepsDrives, drive_of, online_drive};
+ghost use Rattle.rmt_server.specs.Carrying.{IsCarriedOut};
+ghost use Rattle.rmt_server.specs.TroubledServe.{MemoryState, in_memory, IsSetFor, IsServedSo};
 
-use drives::Stacks;
+use drives::{Holds, Stacks};
 
 /// No two sessions at the drives of one thread have one drive open, with its reel or without it. And what one of them
 /// does leaves the drives those of each other one, as it was: of its seat, and of what it has open.
 ///
 /// It does nothing: its contract is a law of the definitions.
 pub fn one_holder<S: Stacks>()
-    ensures one {
-        (drives : Drives Holders S View S.Reel) (one other : Desk View S.Reel) (d : ℕ) →
+    ensures one { (drives : Drives Holders S View S.Reel) (one other : Desk View S.Reel) (d : ℕ) →
         IsAt (kinds of_holds S.Stacks S.Reel.Reel) (state drives one) → IsAt (kinds of_holds S.Stacks S.Reel.Reel) (state drives other) →
-        one.seat.number ≢ other.seat.number → drive_of one.opened ≡ Some d → drive_of other.opened ≡ Some d → ⊥
-    }
-    ensures others {
-        (old new : Drives Holders S View S.Reel) (one after other : Desk View S.Reel) →
+        one.seat.number ≢ other.seat.number → drive_of one.opened ≡ Some d → drive_of other.opened ≡ Some d → ⊥ }
+    ensures others { (old new : Drives Holders S View S.Reel) (one after other : Desk View S.Reel) →
         IsAt (kinds of_holds S.Stacks S.Reel.Reel) (state old one) → IsAt (kinds of_holds S.Stacks S.Reel.Reel) (state old other) →
         other.seat.number ≢ one.seat.number → IsAt (kinds of_holds S.Stacks S.Reel.Reel) (state new after) →
         KeepsDrives (kinds of_holds S.Stacks S.Reel.Reel) (state old one) (state new after) →
-        IsAt (kinds of_holds S.Stacks S.Reel.Reel) (state new other)
+        IsAt (kinds of_holds S.Stacks S.Reel.Reel) (state new other) }
+{}
+
+/// The drives are still those of a session after what is not its own: its seat still belongs to the holds, the counts of
+/// drives are as before, and a reel stays latched at the drive that it has open with its reel. So it is where reels stay
+/// latched at all drives but one that it does not have open.
+///
+/// It does nothing: its contract is a law of the definitions.
+pub fn still_at<H: Holds, S: Stacks>()
+    ensures at { (old new : Drives H S H.Seat S.Reel) (desk : Desk H.Seat S.Reel) →
+        IsAt (kinds H.Holds S.Stacks S.Reel.Reel) (state old desk) →
+        H.belongs new.holds desk.seat → H.drives new.holds ≡ H.drives old.holds → S.drives new.stacks ≡ S.drives old.stacks →
+        ((d : ℕ) → online_drive desk.opened ≡ Some d → HasLatched S.holds old.stacks d → HasLatched S.holds new.stacks d) →
+        IsAt (kinds H.Holds S.Stacks S.Reel.Reel) (state new desk) }
+    ensures elsewhere { (old new : Drives H S H.Seat S.Reel) (desk : Desk H.Seat S.Reel) (d : ℕ) →
+        IsAt (kinds H.Holds S.Stacks S.Reel.Reel) (state old desk) → drive_of desk.opened ≢ Some d →
+        H.belongs new.holds desk.seat → H.drives new.holds ≡ H.drives old.holds → S.drives new.stacks ≡ S.drives old.stacks →
+        ((e : ℕ) → e ≢ d → HasLatched S.holds old.stacks e → HasLatched S.holds new.stacks e) →
+        IsAt (kinds H.Holds S.Stacks S.Reel.Reel) (state new desk) }
+{}
+
+/// The drives of one thread are still those of a session after more seats were given.
+///
+/// It does nothing: its contract is a law of the definitions.
+pub fn more_seats<S: Stacks>()
+    ensures { (old : Drives Holders S View S.Reel) (desk : Desk View S.Reel) (last : ℕ) →
+        IsAt (kinds of_holds S.Stacks S.Reel.Reel) (state old desk) → old.holds.last ≤ last →
+        IsAt (kinds of_holds S.Stacks S.Reel.Reel) (state (record old { holds = holders old.holds.numbers last }) desk) }
+{}
+
+/// Drives whose reels are in memory are still those of a session after a trouble of the stacks was set or taken back.
+///
+/// It does nothing: its contract is a law of the definitions.
+pub fn stacks_trouble<H: Holds>()
+    ensures { (old : Drives H ListShop H.Seat TroubledTape) (desk : Desk H.Seat TroubledTape) (on : Bool) →
+        IsAt (kinds H.Holds of_stacks of_reel) (state old desk) →
+        IsAt (kinds H.Holds of_stacks of_reel) (state (record old { stacks = record old.stacks { trouble = on } }) desk) }
+{}
+
+/// One request of a session over drives and reels in memory, where it is told how the device call fails that it makes: the
+/// trouble is set for the stacks before an open and operation 6 of mtio, else for the open reel, and nowhere else. Then the
+/// reply, drives, session and holders are those of `TroubledServe`, and no reel that lies on the stacks or in the bin has a
+/// trouble afterwards.
+///
+/// It does nothing: its contract is a law of the definitions.
+pub fn troubled_serve()
+    ensures {
+        (trouble : Trouble) (old new : MemoryState) (before : Scene) (request : PlainRequest) (reply : PlainReply) →
+        IsAt in_memory old → Tells in_memory old before → IsSetFor trouble request old → IsCarriedOut in_memory old request reply new →
+        IsServedSo trouble old before request reply new
     }
 {}

@@ -1,0 +1,55 @@
+-- A session still fits its drives after what is not its own.
+use Rattle.std.proofs.Common.{◌≡◌, ◌≢◌, ℕ, ◌≤◌, Bool, Some, refl, subst, arith}
+use Rattle.tape.specs.Trouble.{TroubledTape}
+use Rattle.drives.specs.declared.holds.Holds.{Ghosts as HoldsPromise}
+use Rattle.drives.specs.declared.table.DriveTable.{DriveTable}
+use Rattle.drives.specs.declared.view.View.{View}
+use Rattle.drives.specs.Local.{Holders, holders, IsSeatOf}
+use Rattle.drives.specs.ListShop.{ListShop}
+use Rattle.drives.specs.Stacking.{HasLatched}
+use Rattle.drives.specs.Opening.{Kinds, kinds}
+use Rattle.drives.specs.contracts.list.ListStacksStacks.TheImpl.{ghosts as of_stacks}
+use Rattle.drives.specs.contracts.local.LocalHoldsHolds.TheImpl.{ghosts as of_holds}
+use Rattle.drives.specs.declared.stacks.Stacks.{Ghosts as StacksPromise}
+use Rattle.tape.specs.contracts.troubled.TroubledReelReel.TheImpl.{ghosts as of_reel}
+use Rattle.tape.specs.declared.reel.Reel.{Ghosts as ReelPromise}
+use Rattle.rmt_server.specs.declared.session.desk.Desk.{Desk}
+use Rattle.rmt_server.specs.State.{state, drive_of, online_drive, IsAt}
+use Rattle.rmt_server.proofs.Sharing.{online-drive}
+
+module _ {H S Seat R : Type 0} (k : Kinds H Seat S R) (old new : DriveTable H S Seat R) (desk : Desk Seat R) (at : IsAt k (state old desk)) where
+  -- the seat still belongs to the holds, the counts of drives are as before, and the open reel is still latched
+  pub still : k.holds.belongs new.holds desk.seat → k.holds.drives new.holds ≡ k.holds.drives old.holds → k.stacks.drives new.stacks ≡ k.stacks.drives old.stacks
+      → ((d : ℕ) → online_drive desk.opened ≡ Some d → HasLatched k.stacks.holds old.stacks d → HasLatched k.stacks.holds new.stacks d)
+      → IsAt k (state new desk)
+  still own same_holds same_stacks latched = record {
+    own = own;
+    enough = omega (arith, at.enough, same_holds, same_stacks);
+    held = at.held;
+    below = rw same_stacks at.below;
+    latched = λ d e. latched d e (at.latched d e);
+  }
+
+  -- what was done at a drive that is not open here
+  pub still-elsewhere : (d : ℕ) → drive_of desk.opened ≢ Some d → k.holds.belongs new.holds desk.seat
+      → k.holds.drives new.holds ≡ k.holds.drives old.holds → k.stacks.drives new.stacks ≡ k.stacks.drives old.stacks
+      → ((e : ℕ) → e ≢ d → HasLatched k.stacks.holds old.stacks e → HasLatched k.stacks.holds new.stacks e)
+      → IsAt k (state new desk)
+  still-elsewhere d other own same_holds same_stacks elsewhere =
+      still own same_holds same_stacks (λ e is. elsewhere e (λ same. other (subst (λ x. drive_of desk.opened ≡ Some x) same (online-drive desk.opened e is))))
+
+-- seats of those drives are so where more seats were given
+more-seats : (all : Holders) (last : ℕ) (v : View) → all.last ≤ last → IsSeatOf all v → IsSeatOf (holders all.numbers last) v
+more-seats all last v l own = record { numbered = own.numbered; made = omega (arith, own.made); marks = own.marks; agrees = own.agrees }
+
+pub still-seated : {S R : Type 0} (s : StacksPromise S R) (r : ReelPromise R) (old : DriveTable Holders S View R) (desk : Desk View R) (last : ℕ)
+    → IsAt (kinds of_holds s r) (state old desk) → old.holds.last ≤ last
+    → IsAt (kinds of_holds s r) (state (record old { holds = holders old.holds.numbers last }) desk)
+still-seated s r old desk last at l =
+    still (kinds of_holds s r) old (record old { holds = holders old.holds.numbers last }) desk at (more-seats old.holds last desk.seat l at.own) refl refl (λ d e h. h)
+
+pub still-troubled : {H Seat : Type 0} (h : HoldsPromise H Seat) (old : DriveTable H ListShop Seat TroubledTape) (desk : Desk Seat TroubledTape) (on : Bool)
+    → IsAt (kinds h of_stacks of_reel) (state old desk)
+    → IsAt (kinds h of_stacks of_reel) (state (record old { stacks = record old.stacks { trouble = on } }) desk)
+still-troubled h old desk on at =
+    still (kinds h of_stacks of_reel) old (record old { stacks = record old.stacks { trouble = on } }) desk at at.own refl refl (λ d e l. l)

@@ -1,0 +1,170 @@
+-- An open of a session over drives and reels in memory, where it is told whether the latch fails.
+use Rattle.std.proofs.lemmas.List.{length-map}
+use Rattle.std.proofs.Common.{◌≡◌, ◌≢◌, ℕ, ◌<◌, Bool, true, false, List, [], length, slice_index, Option, Some, None, Result, Ok, Err, IfOk, refl, sym, ap, subst, ◌∙◌, arith}
+use Rattle.rmt_wire.specs.Request.{PlainRequest}
+use Rattle.rmt_wire.specs.Request.PlainRequest.{Open, Close, Write, WriteDropped, Read, Op}
+use Rattle.rmt_wire.specs.Reply.{PlainReply}
+use Rattle.tape.specs.Tape.{Tape, tape}
+use Rattle.tape.specs.Trouble.{TroubledTape}
+use Rattle.tape.specs.declared.trouble.Trouble.{Trouble}
+use Rattle.tape.specs.declared.trouble.Trouble.TheVariants.{None as NoTrouble}
+use Rattle.tape.specs.contracts.troubled.TroubledReelReel.TheImpl.{ghosts as of_reel}
+use Rattle.drives.specs.declared.fault.DriveFault.{DriveFault}
+use Rattle.drives.specs.declared.fault.DriveFault.TheVariants.{NoSuchDrive, Busy, NoReel, Device, OutOfMemory, NameTaken}
+use Rattle.drives.specs.declared.view.View.{View}
+use Rattle.drives.specs.Holding.{last_drive}
+use Rattle.drives.specs.Local.{Holders, IsHeldBy}
+use Rattle.drives.specs.Shop.{Shop}
+use Rattle.drives.specs.ListShop.{ListShop, troubled_in, rest_rack, is_set}
+use Rattle.drives.specs.Opening.{OpenStep, SeatStep, LatchesFor, drive_asked, found_in_open}
+use Rattle.rmt_server.specs.declared.access.Access.{Access}
+use Rattle.rmt_server.specs.declared.session.desk.Opened.{Opened}
+use Rattle.rmt_server.specs.declared.refusal.Refusal.TheVariants.{Invalid}
+use Rattle.rmt_server.specs.Refusals.{refused}
+use Rattle.rmt_server.specs.Access.{access_of}
+use Rattle.rmt_server.specs.Session.{PlainReel, plain_reel, Scene, scene, closed, open_reply, session_after, is_offline}
+use Rattle.rmt_server.specs.State.{drive_of, IsAt, IsSeenAs, Tells}
+use Rattle.rmt_server.specs.Opening.{opened_by, IsClosed, OpensFor, IsOpenedFor}
+use Rattle.rmt_server.specs.Carrying.{Operates, CarriesOut}
+use Rattle.rmt_server.specs.TroubledServe.{drive_in, with_holder, holder_of, IsOpenCause, MemoryState, in_memory, IsTroubled, IsSetAt, IsSetFor, IsServedSo}
+use Rattle.rmt_server.proofs.TroubledHolders.{opened-numbers}
+use Rattle.rmt_server.proofs.TroubledLying.{latched-lying}
+use Rattle.rmt_server.proofs.TroubledServing.{unset, set-means, drive-seen, reel-so, reel-parts, closed-lying, closed-held, closed-tells, close-so, offline-so}
+
+-- what an open answered and left, as it is seen
+record OpenSeenSo (trouble : Trouble) (held : ℕ) (device : List ℕ) (access : Access) (asked : Option ℕ) (result : Result (ℕ × TroubledTape) DriveFault) (shop shop' : Shop) : Type 0 where
+  plain : Result (ℕ × PlainReel) DriveFault
+  step : OpenStep (λ (reel : PlainReel) (t : Tape). reel.tape ≡ t) (λ (reel : PlainReel). reel.capacity) device asked plain shop shop'
+  cause : IsOpenCause trouble held plain
+  reply : open_reply result ≡ open_reply plain
+  seen : IsSeenAs of_reel (opened_by access result) (session_after access plain)
+
+open-seen-so : (trouble : Trouble) (held : ℕ) (device : List ℕ) (access : Access) (asked : Option ℕ) (result : Result (ℕ × TroubledTape) DriveFault) (shop shop' : Shop)
+    → OpenStep of_reel.holds of_reel.capacity device asked result shop shop' → IsOpenCause trouble held result → OpenSeenSo trouble held device access asked result shop shop'
+open-seen-so trouble held device access asked (Ok taken) shop shop' h q = record {
+  plain = Ok (taken.0, plain_reel (tape [] h.2.0.entries) taken.1.capacity);
+  step = (h.0, h.1, (h.2.0, h.2.1, h.2.2, refl, h.2.4));
+  cause = q;
+  reply = refl;
+  seen = (tape [] h.2.0.entries, h.2.3, refl);
+}
+open-seen-so trouble held device access asked (Err NoSuchDrive) shop shop' h q = record { plain = Err NoSuchDrive; step = h; cause = q; reply = refl; seen = refl }
+open-seen-so trouble held device access asked (Err (Busy n)) shop shop' h q = record { plain = Err (Busy n); step = h; cause = q; reply = refl; seen = refl }
+open-seen-so trouble held device access asked (Err NoReel) shop shop' h q = record { plain = Err NoReel; step = h; cause = q; reply = refl; seen = refl }
+open-seen-so trouble held device access asked (Err Device) shop shop' h q = record { plain = Err Device; step = h; cause = q; reply = refl; seen = refl }
+open-seen-so trouble held device access asked (Err OutOfMemory) shop shop' h q = record { plain = Err OutOfMemory; step = h; cause = q; reply = refl; seen = refl }
+open-seen-so trouble held device access asked (Err NameTaken) shop shop' h q = absurd q
+
+-- why an open answered so
+open-cause : (trouble : Trouble) (numbers device : List ℕ) (asked : Option ℕ) (result : Result (ℕ × TroubledTape) DriveFault) (v w : View) (old new : ListShop) (shop shop' : Shop)
+    → OpenStep of_reel.holds of_reel.capacity device asked result shop shop' → SeatStep result v w → LatchesFor in_memory old asked result new
+    → ((d : ℕ) → asked ≡ Some d → found_in_open result ≡ slice_index numbers d) → old.trouble ≡ is_set trouble
+    → IsOpenCause trouble (holder_of numbers asked) result
+open-cause trouble numbers device asked (Ok taken) v w old new shop shop' h s call found set =
+    (ap (holder_of numbers) h.0 ∙ sym (found taken.0 h.0), unset trouble (sym set ∙ call.made.0))
+open-cause trouble numbers device asked (Err NoSuchDrive) v w old new shop shop' h s call found set = tt
+open-cause trouble numbers device asked (Err (Busy n)) v w old new shop shop' h s call found set =
+    let is : n ≡ holder_of numbers asked = found h.0 h.1 ∙ sym (ap (holder_of numbers) h.1) in
+    (subst (λ m. 0 < m) is s.0, is)
+open-cause trouble numbers device asked (Err NoReel) v w old new shop shop' h s call found set = ap (holder_of numbers) h.1 ∙ sym (found h.0 h.1)
+open-cause trouble numbers device asked (Err Device) v w old new shop shop' h s call found set =
+    (ap (holder_of numbers) h.1 ∙ sym (found h.0 h.1), set-means trouble (sym set ∙ call.2.made.0))
+open-cause trouble numbers device asked (Err OutOfMemory) v w old new shop shop' h s call found set = absurd call.2.made
+open-cause trouble numbers device asked (Err NameTaken) v w old new shop shop' h s call found set = absurd s
+
+-- a drive that was opened had no holder
+open-free : (numbers device : List ℕ) (asked : Option ℕ) (result : Result (ℕ × TroubledTape) DriveFault) (shop shop' : Shop)
+    → OpenStep of_reel.holds of_reel.capacity device asked result shop shop' → ((d : ℕ) → asked ≡ Some d → found_in_open result ≡ slice_index numbers d)
+    → IfOk result (λ opened. slice_index numbers opened.0 ≡ 0)
+open-free numbers device asked (Ok taken) shop shop' h found = sym (found taken.0 h.0)
+open-free numbers device asked (Err fault) shop shop' h found = tt
+
+some-below : (asked : Option ℕ) (d e n : ℕ) → asked ≡ Some d → asked ≡ Some e → d < n → e < n
+some-below asked d e n a b l = let same : d ≡ e = cc in subst (λ x. x < n) same l
+
+-- no reel that lies there gets a trouble by a latch
+open-lying : (device : List ℕ) (asked : Option ℕ) (result : Result (ℕ × TroubledTape) DriveFault) (old new : ListShop) (shop shop' : Shop)
+    → OpenStep of_reel.holds of_reel.capacity device asked result shop shop' → LatchesFor in_memory old asked result new
+    → length shop.racks ≡ length old.shop.racks → troubled_in old.shop ≡ 0 → troubled_in new.shop ≡ 0
+open-lying device asked (Ok taken) old new shop shop' h call racks none =
+    latched-lying old new taken.0 (Ok taken.1) (subst (λ n. taken.0 < n) racks h.1.0) call.made none
+open-lying device asked (Err NoSuchDrive) old new shop shop' h call racks none = ap (λ (s : ListShop). troubled_in s.shop) call ∙ none
+open-lying device asked (Err (Busy n)) old new shop shop' h call racks none = ap (λ (s : ListShop). troubled_in s.shop) call ∙ none
+open-lying device asked (Err NoReel) old new shop shop' h call racks none =
+    latched-lying old new call.0 (Err NoReel) (subst (λ n. call.0 < n) racks (some-below asked h.0 call.0 _ h.1 call.1 h.2.0)) call.2.made none
+open-lying device asked (Err Device) old new shop shop' h call racks none =
+    latched-lying old new call.0 (Err Device) (subst (λ n. call.0 < n) racks (some-below asked h.0 call.0 _ h.1 call.1 h.2.0)) call.2.made none
+open-lying device asked (Err OutOfMemory) old new shop shop' h call racks none = absurd call.2.made
+open-lying device asked (Err NameTaken) old new shop shop' h call racks none = absurd call.2.made
+
+module _ (trouble : Trouble) (old : MemoryState) (before : Scene) (at : IsAt in_memory old) (tells : Tells in_memory old before) where
+  -- an open of a drive, once what was open is closed
+  opened-so : (device : List ℕ) (mode : ℕ) (access : Access) (reply : PlainReply) (result : Result (ℕ × TroubledTape) DriveFault) (between new : MemoryState)
+      → access_of mode ≡ Some access → reply ≡ open_reply result → IsClosed in_memory old between → IsOpenedFor in_memory between device access result new
+      → IsTroubled NoTrouble (is_set trouble) old → IsServedSo trouble old before (Open device mode) reply new
+  opened-so device mode access reply result between new a e c o set =
+      let asked : Option ℕ = drive_asked result new.seat in
+      let st = o.opening.step (closed before).shop (c.step before tells) in
+      let closed-numbers = closed-held trouble old before at tells between c in
+      let rest = closed-lying trouble old before at tells (is_set trouble) between c set in
+      let found : (d : ℕ) → asked ≡ Some d → found_in_open result ≡ slice_index between.drives.holds.numbers d
+          = λ d x. o.opening.found d (slice_index between.drives.holds.numbers d) x (o.opening.asked d x, refl) in
+      let cause = open-cause trouble between.drives.holds.numbers device asked result between.seat new.seat between.drives.stacks new.drives.stacks (closed before).shop st.0
+          st.2 o.opening.view o.opening.call found (rest.1 ∙ set.next) in
+      let seen = open-seen-so trouble (holder_of between.drives.holds.numbers asked) device access asked result (closed before).shop st.0 st.2 cause in
+      let after : Scene = scene st.0 (session_after access seen.plain) in
+      let told : Tells in_memory new after = record { shop = st.1; session = rw o.opens seen.seen } in
+      let racks : length (closed before).shop.racks ≡ length between.drives.stacks.shop.racks
+          = ap (λ (s : Shop). length s.racks) (c.step before tells).0 ∙ length-map between.drives.stacks.shop.racks rest_rack in
+      let free = open-free between.drives.holds.numbers device asked result (closed before).shop st.0 st.2 found in
+      let opened : new.drives.holds.numbers ≡ with_holder (drive_of (opened_by access result)) between.seat.number between.drives.holds.numbers
+          = opened-numbers access result between.seat.number between.drives.holds new.drives.holds o.opening.same_holds o.opening.told free in
+      record {
+        after = after;
+        tells = told;
+        served = record {
+          step = rw a (seen.plain, asked, seen.step, subst (λ ns. IsOpenCause trouble (holder_of ns asked) seen.plain) closed-numbers seen.cause, e ∙ seen.reply, refl);
+          held = rw (drive-seen new.opened after.session told.session, o.opens, ← closed-numbers, ← c.kept.number) opened;
+        };
+        lying = open-lying device asked result between.drives.stacks new.drives.stacks (closed before).shop st.0 st.2 o.opening.call racks rest.0;
+      }
+
+  -- an open of a mode that is none
+  invalid-so : (device : List ℕ) (mode : ℕ) (reply : PlainReply) (between new : MemoryState) → access_of mode ≡ None → reply ≡ refused Invalid → new ≡ between
+      → IsClosed in_memory old between → IsTroubled NoTrouble (is_set trouble) old → IsServedSo trouble old before (Open device mode) reply new
+  invalid-so device mode reply between new a e n c set = rw n (record {
+    after = closed before;
+    tells = closed-tells trouble old before at tells between c;
+    served = record { step = rw a (e, refl); held = closed-held trouble old before at tells between c };
+    lying = (closed-lying trouble old before at tells (is_set trouble) between c set).0;
+  })
+
+  open-so : (device : List ℕ) (mode : ℕ) (access : Option Access) (reply : PlainReply) (between new : MemoryState) → access_of mode ≡ access
+      → IsClosed in_memory old between → OpensFor in_memory between device access reply new → IsTroubled NoTrouble (is_set trouble) old
+      → IsServedSo trouble old before (Open device mode) reply new
+  open-so device mode None reply between new a c (e, n) set = invalid-so device mode reply between new a e n c set
+  open-so device mode (Some access) reply between new a c (result, e, o) set = opened-so device mode access reply result between new a e c o set
+
+  -- an operation, which is MTOFFL or not
+  op-so : (offline : Bool) (op count : ℕ) (reply : PlainReply) (new : MemoryState) → is_offline op ≡ offline → Operates in_memory offline old op count reply new
+      → IsSetAt offline trouble old → IsServedSo trouble old before (Op op count) reply new
+  op-so true op count reply new off m set = offline-so trouble old before at tells op count reply new off m set
+  op-so false op count reply new off serves set =
+      let p = reel-parts trouble old before at tells (Op op count) reply new serves set in
+      reel-so trouble old before at tells (Op op count) reply new serves set p (rw off p.step)
+
+  -- each request
+  pub served-so : (request : PlainRequest) (reply : PlainReply) (new : MemoryState) → CarriesOut in_memory old request reply new → IsSetFor trouble request old
+      → IsServedSo trouble old before request reply new
+  served-so (Open device mode) reply new (between, c, o) set = open-so device mode (access_of mode) reply between new refl c o set
+  served-so Close reply new c set = close-so trouble old before at tells reply new c set
+  served-so (Write bytes) reply new serves set =
+      let p = reel-parts trouble old before at tells (Write bytes) reply new serves set in
+      reel-so trouble old before at tells (Write bytes) reply new serves set p p.step
+  served-so (WriteDropped count) reply new serves set =
+      let p = reel-parts trouble old before at tells (WriteDropped count) reply new serves set in
+      reel-so trouble old before at tells (WriteDropped count) reply new serves set p p.step
+  served-so (Read count) reply new serves set =
+      let p = reel-parts trouble old before at tells (Read count) reply new serves set in
+      reel-so trouble old before at tells (Read count) reply new serves set p p.step
+  served-so (Op op count) reply new c set = op-so (is_offline op) op count reply new refl c set

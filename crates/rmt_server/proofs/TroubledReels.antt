@@ -1,0 +1,68 @@
+-- What the open reel serves where it is told how its next device call fails.
+use Rattle.std.proofs.Common.{◌≡◌, ℕ, Option, Some, None, MatchOption, refl, ap, subst}
+use Rattle.rmt_wire.specs.Request.{PlainRequest}
+use Rattle.rmt_wire.specs.Reply.{PlainReply}
+use Rattle.tape.specs.Tape.{Tape}
+use Rattle.tape.specs.Trouble.{TroubledTape, DeviceStep}
+use Rattle.tape.specs.declared.trouble.Trouble.{Trouble}
+use Rattle.tape.specs.contracts.troubled.TroubledReelReel.TheImpl.{ghosts as of_reel}
+use Rattle.drives.specs.Shop.{Shop}
+use Rattle.rmt_server.specs.declared.refusal.Refusal.{Refusal}
+use Rattle.rmt_server.specs.declared.session.desk.Opened.{Opened}
+use Rattle.rmt_server.specs.Refusals.{refused}
+use Rattle.rmt_server.specs.Session.{PlainSession, plain_reel, scene, status_of, refusal, tape_request}
+use Rattle.rmt_server.specs.Session.PlainSession.{Online}
+use Rattle.rmt_server.specs.State.{IsSeenWith, IsSeenAs, reel_of, status_at}
+use Rattle.rmt_server.specs.Serving.{CallsIn, CallsReel, ReelServes}
+use Rattle.rmt_server.specs.TroubledServe.{drive_in, TroubledReelStep}
+use Rattle.rmt_server.proofs.Steps.{status-seen}
+
+-- what a request that the reel serves leaves of a session that is seen so
+pub record ReelServedSo (trouble : Trouble) (new : Option (Opened TroubledTape)) (shop : Shop) (session : PlainSession) (by : Option Refusal)
+    (request : PlainRequest) (reply : PlainReply) : Type 0 where
+  pub after : PlainSession
+  pub seen : IsSeenAs of_reel new after
+  pub step : MatchOption by (TroubledReelStep trouble (scene shop session) request reply (scene shop after))
+      (λ x. (reply ≡ refused x) × (scene shop after ≡ scene shop session))
+
+module _ (trouble : Trouble) (new : Option (Opened TroubledTape)) (shop : Shop) (session : PlainSession) (request : PlainRequest) (reply : PlainReply) where
+  calls-in : (device : Opened TroubledTape) (reel : Option TroubledTape) → CallsIn of_reel device reel new request reply
+      → MatchOption reel (Unit {0}) (λ r. r.trouble ≡ trouble) → IsSeenWith of_reel device.drive device.access reel session
+      → ReelServedSo trouble new shop session None request reply
+  calls-in device None call set seen = absurd call
+  calls-in device (Some reel) (answer, moved, n, e, call) set (t, held, s) = record {
+    after = Online device.drive device.access (plain_reel moved.tape moved.capacity);
+    seen = rw n (moved.tape, refl, refl);
+    step = (
+      device.drive,
+      device.access,
+      plain_reel t reel.capacity,
+      answer,
+      moved.tape,
+      s,
+      subst (λ x. DeviceStep reel.capacity x t (tape_request request) answer moved.tape) set
+        (subst (λ x. DeviceStep reel.capacity reel.trouble x (tape_request request) answer moved.tape) held call.made.step),
+      e,
+      ap (λ c. scene shop (Online device.drive device.access (plain_reel moved.tape c))) call.same_capacity,
+    );
+  }
+
+  calls-reel : (old : Option (Opened TroubledTape)) → CallsReel of_reel old new request reply
+      → MatchOption (reel_of old) (Unit {0}) (λ r. r.trouble ≡ trouble) → IsSeenAs of_reel old session
+      → ReelServedSo trouble new shop session None request reply
+  calls-reel None call set seen = absurd call
+  calls-reel (Some device) call set seen = calls-in device device.reel call set seen
+
+  serves-by : (old : Option (Opened TroubledTape)) (by : Option Refusal)
+      → MatchOption by (CallsReel of_reel old new request reply) (λ x. (reply ≡ refused x) × (new ≡ old))
+      → MatchOption (reel_of old) (Unit {0}) (λ r. r.trouble ≡ trouble) → IsSeenAs of_reel old session
+      → ReelServedSo trouble new shop session by request reply
+  serves-by old None call set seen = calls-reel old call set seen
+  serves-by old (Some x) (e, n) set seen = record { after = session; seen = rw n seen; step = (e, refl) }
+
+  -- a request that the reel serves, where it tells
+  pub reel-serves-so : (old : Option (Opened TroubledTape)) → ReelServes of_reel old new request reply
+      → MatchOption (reel_of old) (Unit {0}) (λ r. r.trouble ≡ trouble) → IsSeenAs of_reel old session
+      → ReelServedSo trouble new shop session (refusal (status_of session) request) request reply
+  reel-serves-so old serves set seen =
+      rw (status-seen of_reel old session seen) (serves-by old (refusal (status_at old) request) serves set seen)

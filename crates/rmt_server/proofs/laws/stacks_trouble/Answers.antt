@@ -1,0 +1,5 @@
+use Rattle.rmt_server.proofs.Staying as staying
+use Rattle.rmt_server.proofs.laws.stacks_trouble.Goals as goal
+
+pub returns : goal.returns
+returns g c = staying.still-troubled g.H.Holds

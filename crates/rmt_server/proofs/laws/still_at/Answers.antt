@@ -1,0 +1,9 @@
+use Rattle.drives.specs.Opening.{kinds}
+use Rattle.rmt_server.proofs.Staying as staying
+use Rattle.rmt_server.proofs.laws.still_at.Goals as goal
+
+pub returns-clause-at : goal.returns-clause-at
+returns-clause-at g c = λ old new desk at. staying.still (kinds g.H.Holds g.S.Stacks g.S.Reel.Reel) old new desk at
+
+pub returns-clause-elsewhere : goal.returns-clause-elsewhere
+returns-clause-elsewhere g c = λ old new desk d at. staying.still-elsewhere (kinds g.H.Holds g.S.Stacks g.S.Reel.Reel) old new desk at d

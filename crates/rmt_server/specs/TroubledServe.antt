@@ -1,0 +1,145 @@
+-- One request of a session over drives and reels in memory, where it is told how the device call fails that it makes:
+-- the serve step with its freedom taken out, and who holds the drives.
+use Rattle.std.specs.Prelude.{◌≡◌, ◌≢◌, ℕ, ◌<◌, Bool, true, false, List, slice_set, slice_index, Option, Some, None, MatchOption, Result, Ok, Err}
+use Rattle.rmt_wire.specs.Request.{PlainRequest}
+use Rattle.rmt_wire.specs.Request.PlainRequest.{Open, Close, Op}
+use Rattle.rmt_wire.specs.Reply.{PlainReply}
+use Rattle.rmt_wire.specs.Reply.PlainReply.{Done}
+use Rattle.tape.specs.Tape.{Tape, TapeAnswer}
+use Rattle.tape.specs.Trouble.{TroubledTape, DeviceStep}
+use Rattle.tape.specs.declared.trouble.Trouble.{Trouble}
+use Rattle.tape.specs.declared.trouble.Trouble.TheVariants.{None as NoTrouble}
+use Rattle.tape.specs.contracts.troubled.TroubledReelReel.TheImpl.{ghosts as of_reel}
+use Rattle.drives.specs.declared.fault.DriveFault.{DriveFault}
+use Rattle.drives.specs.declared.fault.DriveFault.TheVariants as drive
+use Rattle.drives.specs.declared.view.View.{View}
+use Rattle.drives.specs.Local.{Holders}
+use Rattle.drives.specs.ListShop.{ListShop, is_set, troubled_in}
+use Rattle.drives.specs.Opening.{Kinds, kinds, OpenStep}
+use Rattle.drives.specs.contracts.list.ListStacksStacks.TheImpl.{ghosts as of_stacks}
+use Rattle.drives.specs.contracts.local.LocalHoldsHolds.TheImpl.{ghosts as of_holds}
+use Rattle.rmt_server.specs.declared.access.Access.{Access}
+use Rattle.rmt_server.specs.declared.refusal.Refusal.TheVariants.{Invalid}
+use Rattle.rmt_server.specs.Access.{access_of}
+use Rattle.rmt_server.specs.Refusals.{refused}
+use Rattle.rmt_server.specs.Session.{PlainReel, plain_reel, PlainSession, Scene, scene, status_of, refusal, tape_request, reel_reply, closed, open_reply, session_after, is_offline, move_reply, MovesAs}
+use Rattle.rmt_server.specs.Session.PlainSession.{Idle, Offline, Online}
+use Rattle.rmt_server.specs.State.{State, reel_of, Tells}
+use Rattle.rmt_server.specs.Carrying.{is_of_stacks}
+
+-- the drive that is open
+abbrev pub drive_in : PlainSession → Option ℕ
+drive_in Idle = None
+drive_in (Offline drive access) = Some drive
+drive_in (Online drive access reel) = Some drive
+
+-- the holders of the drives, where that drive has this one
+abbrev pub with_holder : Option ℕ → ℕ → List ℕ → List ℕ
+with_holder None n holders = holders
+with_holder (Some d) n holders = slice_set holders d n
+
+-- who holds that drive, where there is one
+abbrev pub holder_of : List ℕ → Option ℕ → ℕ
+holder_of holders None = 0
+holder_of holders (Some d) = slice_index holders d
+
+-- the latched reel makes one call, whose device fails so, and all else stays
+abbrev pub TroubledReelStep : Trouble → Scene → PlainRequest → PlainReply → Scene → Type 0
+TroubledReelStep trouble before request reply after =
+    (drive : ℕ) × (access : Access) × (reel : PlainReel) × (answer : TapeAnswer) × (t : Tape)
+    × (before.session ≡ Online drive access reel)
+    × DeviceStep reel.capacity trouble reel.tape (tape_request request) answer t
+    × (reply ≡ reel_reply request answer)
+    × (after ≡ scene before.shop (Online drive access (plain_reel t reel.capacity)))
+
+-- Why an open answers so, where the drive of that name is held by n, or by none at 0: a drive that is held is busy, no
+-- reel is latched in spite of a trouble, and memory is wanting where there is none.
+abbrev pub IsOpenCause : {R : Type 0} → Trouble → ℕ → Result (ℕ × R) DriveFault → Type 0
+IsOpenCause trouble n (Ok opened) = (n ≡ 0) × (trouble ≡ NoTrouble)
+IsOpenCause trouble n (Err drive.NoSuchDrive) = Unit {0}
+IsOpenCause trouble n (Err (drive.Busy m)) = (0 < n) × (m ≡ n)
+IsOpenCause trouble n (Err drive.NoReel) = n ≡ 0
+IsOpenCause trouble n (Err drive.Device) = (n ≡ 0) × (trouble ≢ NoTrouble)
+IsOpenCause trouble n (Err drive.OutOfMemory) = (n ≡ 0) × (trouble ≡ NoTrouble)
+IsOpenCause trouble n (Err drive.NameTaken) = ⊥
+
+-- what an open does once nothing is open, where these hold the drives
+abbrev pub TroubledOpens : Trouble → List ℕ → Scene → List ℕ → Option Access → PlainReply → Scene → Type 0
+TroubledOpens trouble holders before device None reply after = (reply ≡ refused Invalid) × (after ≡ before)
+TroubledOpens trouble holders before device (Some access) reply after =
+    (result : Result (ℕ × PlainReel) DriveFault) × (asked : Option ℕ)
+    × OpenStep (λ reel t. reel.tape ≡ t) (λ reel. reel.capacity) device asked result before.shop after.shop
+    × IsOpenCause trouble (holder_of holders asked) result
+    × (reply ≡ open_reply result)
+    × (after.session ≡ session_after access result)
+
+-- a reel is not moved in spite of a trouble
+abbrev pub IsMoveCause : Trouble → Result Unit DriveFault → Type 0
+IsMoveCause trouble (Err drive.Device) = trouble ≢ NoTrouble
+IsMoveCause trouble result = trouble ≡ NoTrouble
+
+-- the latched reel is rewound and moved to the bin
+abbrev pub TroubledMoveStep : Trouble → Scene → ℕ → PlainReply → Scene → Type 0
+TroubledMoveStep trouble before count reply after =
+    (drive : ℕ) × (access : Access) × (reel : PlainReel) × (result : Result Unit DriveFault)
+    × (before.session ≡ Online drive access reel)
+    × IsMoveCause trouble result
+    × (reply ≡ move_reply count result)
+    × MovesAs (is_set trouble) drive access reel result before.shop after
+
+-- an operation, which is MTOFFL or not
+abbrev pub TroubledOpStep : Bool → Trouble → Scene → ℕ → ℕ → PlainReply → Scene → Type 0
+TroubledOpStep true trouble before op count reply after = TroubledMoveStep trouble before count reply after
+TroubledOpStep false trouble before op count reply after = TroubledReelStep trouble before (Op op count) reply after
+
+-- a request that no check refuses
+abbrev pub TroubledDoneStep : Trouble → Scene → PlainRequest → PlainReply → Scene → Type 0
+TroubledDoneStep trouble before Close reply after = (reply ≡ Done 0) × (after ≡ closed before)
+TroubledDoneStep trouble before (Op op count) reply after = TroubledOpStep (is_offline op) trouble before op count reply after
+TroubledDoneStep trouble before request reply after = TroubledReelStep trouble before request reply after
+
+-- One request and its reply, where these held the drives before. What is open is closed before an open.
+abbrev pub TroubledServeStep : Trouble → List ℕ → Scene → PlainRequest → PlainReply → Scene → Type 0
+TroubledServeStep trouble holders before (Open device mode) reply after =
+    TroubledOpens trouble (with_holder (drive_in before.session) 0 holders) (closed before) device (access_of mode) reply after
+TroubledServeStep trouble holders before request reply after =
+    MatchOption (refusal (status_of before.session) request)
+    (TroubledDoneStep trouble before request reply after)
+    (λ r. (reply ≡ refused r) × (after ≡ before))
+
+-- One request of the session of the number k, its reply, and drives, session and holders after it: the drive that was
+-- open before has no holder then, and the one that is open after has k.
+pub record TroubledServe (trouble : Trouble) (holders : List ℕ) (k : ℕ) (before : Scene) (request : PlainRequest) (reply : PlainReply)
+    (after : Scene) (holders' : List ℕ) : Type 0 where
+  pub step : TroubledServeStep trouble holders before request reply after
+  pub held : holders' ≡ with_holder (drive_in after.session) k (with_holder (drive_in before.session) 0 holders)
+
+-- a session at the drives of one thread, whose reels are in memory
+abbrev pub MemoryState : Type 0
+MemoryState = State Holders ListShop View TroubledTape
+
+abbrev pub in_memory : Kinds Holders View ListShop TroubledTape
+in_memory = kinds of_holds of_stacks of_reel
+
+-- This trouble is set for the open reel, if there is one, and this for the stacks; for a reel that lies there none is.
+pub record IsTroubled (reel : Trouble) (stacks : Bool) (x : MemoryState) : Type 0 where
+  pub online : MatchOption (reel_of x.opened) (Unit {0}) (λ r. r.trouble ≡ reel)
+  pub next : x.drives.stacks.trouble ≡ stacks
+  pub lying : troubled_in x.drives.stacks.shop ≡ 0
+
+abbrev pub IsSetAt : Bool → Trouble → MemoryState → Type 0
+IsSetAt true trouble x = IsTroubled NoTrouble (is_set trouble) x
+IsSetAt false trouble x = IsTroubled trouble false x
+
+-- The trouble is set where the request meets it, and nowhere else: for the stacks before an open and MTOFFL, else for
+-- the open reel. A close meets none.
+abbrev pub IsSetFor : Trouble → PlainRequest → MemoryState → Type 0
+IsSetFor trouble Close x = IsTroubled NoTrouble false x
+IsSetFor trouble request x = IsSetAt (is_of_stacks request) trouble x
+
+-- The request is served so, and no reel that lies on the stacks or in the bin has a trouble afterwards.
+pub record IsServedSo (trouble : Trouble) (old : MemoryState) (before : Scene) (request : PlainRequest) (reply : PlainReply) (new : MemoryState) : Type 0 where
+  pub after : Scene
+  pub tells : Tells in_memory new after
+  pub served : TroubledServe trouble old.drives.holds.numbers old.seat.number before request reply after new.drives.holds.numbers
+  pub lying : troubled_in new.drives.stacks.shop ≡ 0
