@@ -6,8 +6,8 @@ use Rattle.tape.specs.contracts.troubled.TroubledReelReel.TheImpl.{ghosts as of_
 use Rattle.drives.specs.Shop.{rack_at, EachReelOnce}
 use Rattle.drives.specs.Calls.{StacksKind, stacks_kind, fault_of, drive_latched, reel_taken}
 use Rattle.drives.specs.Calls.StacksCall.{Latch, LayBack, Move}
-use Rattle.drives.specs.ListShop.{ListShop, IsShop, StacksCanFail, after_failure, IsReelLatched, IsReelLaidBack, IsReelMoved, IsListCall}
-use Rattle.drives.specs.Stacking.{HasLatched, CanAnswer, ReelCanFail, IsStacksCall}
+use Rattle.drives.specs.ListShop.{ListShop, IsShop, StacksCanFail, after_failure, IsReelLatched, IsReelLaidBack, IsReelMoved, IsListStacksCall}
+use Rattle.drives.specs.Stacking.{HasLatched, CanStacksAnswer, ReelCanFail, IsStacksCall}
 use Rattle.drives.specs.declared.fault.DriveFault.{DriveFault}
 use Rattle.drives.specs.declared.fault.DriveFault.TheVariants.{NoSuchDrive, Busy, NoReel, Device, OutOfMemory, NameTaken}
 use Rattle.drives.proofs.ListShop.{latch_steps, latch_away, latch_quiet, latch_quiet_reel, lay_steps, lay_quiet, move_steps, move_quiet, same_told}
@@ -15,7 +15,7 @@ use Rattle.drives.proofs.Elsewhere.{same_latched, latch_stays, latch_elsewhere, 
 use Rattle.std.proofs.Math.ListN.{length-set}
 
 abbrev of_list : StacksKind ListShop TroubledTape
-of_list = stacks_kind IsShop (λ s. length s.shop.racks) (λ s. s.failures) StacksCanFail IsListCall
+of_list = stacks_kind IsShop (λ s. length s.shop.racks) (λ s. s.failures) StacksCanFail IsListStacksCall
 
 -- what is said of a call's fault and of the count of failures
 record IsTold (old new : ListShop) (fault : Option DriveFault) : Type 0 where
@@ -45,7 +45,7 @@ drives_of : (old new : ListShop) → new.shop ≡ old.shop → length new.shop.r
 drives_of old new e = ap (λ s. length s.racks) e
 
 latch_told : (old new : ListShop) (d : ℕ) (result : Result TroubledTape DriveFault) → IsReelLatched old d result new
-    → IsTold old new (fault_of (Latch d result)) × CanAnswer (Latch d result) × (length new.shop.racks ≡ length old.shop.racks)
+    → IsTold old new (fault_of (Latch d result)) × CanStacksAnswer (Latch d result) × (length new.shop.racks ≡ length old.shop.racks)
 latch_told old new d (Ok reel) h = (unfailed old new None (failures_of h.2) (λ e. absurd cc), inl refl, ap (λ (s : ListShop). length s.shop.racks) h.2 ∙ length-set old.shop.racks d _)
 latch_told old new d (Err NoReel) h = (unfailed old new (Some NoReel) (failures_of h.1) (λ e. absurd cc), inr (inl refl), drives_of old new (ap (λ (s : ListShop). s.shop) h.1))
 latch_told old new d (Err Device) h = (after old new h.0 h.2, inr (inr (inl refl)), drives_of old new (ap (λ (s : ListShop). s.shop) h.2))

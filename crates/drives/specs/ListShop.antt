@@ -120,10 +120,10 @@ abbrev pub IsReelLaidBack : ListShop → ℕ → TroubledTape → ListShop → T
 IsReelLaidBack old d reel new = new ≡ with_shop old (at_first old.shop d (Some reel))
 
 -- exactly what a call of stacks in memory leaves
-abbrev pub IsListCall : ListShop → ListShop → StacksCall TroubledTape → Type 0
-IsListCall old new (Latch d result) = IsReelLatched old d result new
-IsListCall old new (LayBack d reel) = IsReelLaidBack old d reel new
-IsListCall old new (Move d reel result) = IsReelMoved old d reel result new
+abbrev pub IsListStacksCall : ListShop → ListShop → StacksCall TroubledTape → Type 0
+IsListStacksCall old new (Latch d result) = IsReelLatched old d result new
+IsListStacksCall old new (LayBack d reel) = IsReelLaidBack old d reel new
+IsListStacksCall old new (Move d reel result) = IsReelMoved old d reel result new
 
 -- each reel stands once, so many reels are there, and the bin has room for all of them
 pub record IsStocked (s : ShopOf TroubledTape) (reels room : ℕ) : Type 0 where

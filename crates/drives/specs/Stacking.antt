@@ -44,10 +44,10 @@ abbrev pub IsMoveFault : Option DriveFault → Type 0
 IsMoveFault fault = (fault ≡ None) ⊎ (fault ≡ Some Device) ⊎ (fault ≡ Some OutOfMemory) ⊎ (fault ≡ Some NameTaken)
 
 -- the faults that a call can have
-abbrev pub CanAnswer : {R : Type 0} → StacksCall R → Type 0
-CanAnswer (Latch d result) = IsLatchFault (fault_of (Latch d result))
-CanAnswer (LayBack d reel) = Unit {0}
-CanAnswer (Move d reel result) = IsMoveFault (fault_of (Move d reel result))
+abbrev pub CanStacksAnswer : {R : Type 0} → StacksCall R → Type 0
+CanStacksAnswer (Latch d result) = IsLatchFault (fault_of (Latch d result))
+CanStacksAnswer (LayBack d reel) = Unit {0}
+CanStacksAnswer (Move d reel result) = IsMoveFault (fault_of (Move d reel result))
 
 -- a reel, if there is one, whose device can fail
 abbrev pub ReelCanFail : {R : Type 0} → ReelPromise R → Option R → Type 0
@@ -58,7 +58,7 @@ pub record IsStacksCall {S R : Type 0} (s : StacksKind S R) (r : ReelPromise R) 
   -- where they tell, it is a step of their shop
   pub step : ShopStep s r old call new
   -- and whether they tell or not, the answer is one that the call can have
-  pub can : CanAnswer call
+  pub can : CanStacksAnswer call
   -- a reel is latched where the call latched one, and wherever one was, but where the call left none
   pub latched : (d : ℕ) → drive_latched call ≡ Some d → HasLatched s.holds new d
   pub elsewhere : (d : ℕ) → drive_left call ≢ Some d → HasLatched s.holds old d → HasLatched s.holds new d

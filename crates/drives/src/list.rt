@@ -2,7 +2,7 @@ ghost use Rattle.std.specs.Prelude.{◌≡◌, ◌≢◌, ℕ, ◌<◌, List, If
 ghost use Rattle.std.specs.Option.{option_copied};
 ghost use Rattle.tape.specs.Trouble.{IsTapeOf};
 ghost use Rattle.drives.specs.declared.fault.DriveFault.TheVariants.{Device};
-ghost use Rattle.drives.specs.ListShop.{IsShop, StacksCanFail, empty_shop, shop_of, after_failure, IsDriveAdded, IsReelAdded, IsReelLatched, IsReelLaidBack, IsReelMoved, IsListCall};
+ghost use Rattle.drives.specs.ListShop.{IsShop, StacksCanFail, empty_shop, shop_of, after_failure, IsDriveAdded, IsReelAdded, IsReelLatched, IsReelLaidBack, IsReelMoved, IsListStacksCall};
 ghost use Rattle.drives.specs.Shop.{Shop, IsDriveNamed, rack_at, slots_in, times, names_of, names_in, EachReelOnce};
 ghost use Rattle.drives.specs.Arranging.{slot_named, reel_named, may_arrange, IsArranged};
 ghost use Rattle.drives.specs.Calls.{moved_result};
@@ -301,7 +301,7 @@ impl Stacks for ListStacks {
 
     ghost can_fail = { StacksCanFail };
 
-    ghost makes = { IsListCall };
+    ghost makes = { IsListStacksCall };
 
     fn drive(&self, name: &[u8]) -> Option<usize>
         ensures below { IfSome result (λ d. d < length self.now.shop.racks) }

@@ -38,8 +38,8 @@ pub trait Stacks {
 
     /// Latches the first reel of the drive's stack, at its beginning.
     ///
-    /// Answers `NoReel` where no reel lies on the stack or one is latched already, `Device` and `OutOfMemory`. Nothing
-    /// has changed then.
+    /// Answers `NoReel` where no reel lies on the stack or one is latched already, `Device` and `OutOfMemory`. No reel
+    /// moved then.
     fn latch(&mut self, drive: usize) -> Result<Self::Reel, DriveFault>
         requires { drive < drives self.old }
         ensures { IsStacksCall (stacks_kind holds drives failures can_fail makes) Self.Reel.Reel self.old (Latch drive result) self.new };

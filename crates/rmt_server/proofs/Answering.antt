@@ -322,6 +322,13 @@ run_steps (one_more {between = between} request reply run carried spelling) fail
     let excused : IsTrue step.troubled → IsTrue fails = λ t. so_far.4 (step.able t) in
     (step.after, one_step request reply step.troubled step.asked step.found so_far.1 excused (may-find so_far.3 step) step.step, step.tells, may-share so_far.3 carried, λ f. so_far.4 (carried.quiet f))
 
+-- a run keeps the seat's number, and uses up no number of a seat
+run_seats : {H S Seat R : Type 0} {k : Kinds H Seat S R} {old last : State H S Seat R} {done : List Exchange} → CarryRun k old done last
+    → ((k.holds.shows last.seat).number ≡ (k.holds.shows old.seat).number) × (k.holds.seated last.drives.holds ≡ k.holds.seated old.drives.holds)
+run_seats none = (refl, refl)
+run_seats (one_more request reply run carried spelling) =
+    let so_far = run_seats run in (carried.kept.number ∙ so_far.0, carried.same_seats ∙ so_far.1)
+
 pub served_as : {H S Seat R In Out : Type 0} {k : Kinds H Seat S R} (remaining : In → Option (List ℕ)) (contents : Out → Option (List ℕ))
     (result : Result Served ServeFault) (input input' : Counting In) (output output' : Counting Out) {old last new : State H S Seat R}
     (read : List ℕ) → Consumes (remaining input.inner) (remaining input'.inner) read
@@ -336,6 +343,8 @@ served_as remaining contents result input input' output output' {last = last} re
   last = last;
   run = a.run;
   ended = ended;
+  number = ended.kept.number ∙ (run_seats a.run).0;
+  same_seats = ended.same_seats ∙ (run_seats a.run).1;
   steps = λ fails shared may share start tells. (let w = run_steps a.run fails shared may share start tells in (w.0, w.1, ended.step w.0 w.2));
 }
 

@@ -84,11 +84,11 @@ closed_by k old new device at o none laid view told own others same_holds same_s
         number = ap (λ (v : View). v.number) view;
         others = others;
         same_holds = same_holds;
-        same_seats = same_seats;
         same_stacks = kept.same_drives;
         counted = omega (arith, kept.unfailed);
         elsewhere = λ d x y l. kept.elsewhere d (λ e. x (drive ∙ ap Some (sym e))) l;
       };
+      same_seats = same_seats;
       quiet = λ f. elim f [
         | inl x ↦ elim (kept.quiet x) [ inl y ↦ inl y | inr y ↦ inr (subst (λ p. ReelCanFail k.reels (reel_of p)) (sym o) y) ]
         | inr x ↦ absurd (subst (λ p. ReelCanFail k.reels (reel_of p)) none x)

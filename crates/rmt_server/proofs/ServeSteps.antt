@@ -264,5 +264,6 @@ module _ {H S Seat R : Type 0} (k : Kinds H Seat S R) (old : State H S Seat R) w
         steps = carried-steps request reply new c;
         at = sound.at;
         kept = sound.kept;
+        same_seats = sound.same_seats;
         quiet = sound.quiet;
       }

@@ -27,6 +27,7 @@ use Rattle.rmt_server.specs.Carrying.{Operates, CarriesOut}
 pub record IsSound {H S Seat R : Type 0} (k : Kinds H Seat S R) (old new : State H S Seat R) : Type 0 where
   pub at : IsAt k new
   pub kept : KeepsDrives k old new
+  pub same_seats : k.holds.seated new.drives.holds ≡ k.holds.seated old.drives.holds
   pub quiet : SessionCanFail k new → SessionCanFail k old
 
 -- what a call of the reel leaves open
@@ -84,10 +85,10 @@ left-quiet r (Err why) reel f = f
 
 module _ {H S Seat R : Type 0} (k : Kinds H Seat S R) (old : State H S Seat R) (at : IsAt k old) where
   pub kept-same : KeepsDrives k old old
-  kept-same = record { number = refl; others = λ other x b. b; same_holds = refl; same_seats = refl; same_stacks = refl; counted = omega arith; elsewhere = λ d x y l. l }
+  kept-same = record { number = refl; others = λ other x b. b; same_holds = refl; same_stacks = refl; counted = omega arith; elsewhere = λ d x y l. l }
 
   pub sound-same : (new : State H S Seat R) → new ≡ old → IsSound k old new
-  sound-same new e = rw e (record { at = at; kept = kept-same; quiet = λ f. f })
+  sound-same new e = rw e (record { at = at; kept = kept-same; same_seats = refl; quiet = λ f. f })
 
   serves-sound : (request : PlainRequest) (reply : PlainReply) (new : State H S Seat R) → Serves k old request reply new → IsSound k old new
   serves-sound request reply new (n, e, serves) =
@@ -104,11 +105,11 @@ module _ {H S Seat R : Type 0} (k : Kinds H Seat S R) (old : State H S Seat R) (
           number = ap (λ s. (k.holds.shows s).number) e;
           others = λ other x b. rw n b;
           same_holds = rw n refl;
-          same_seats = rw n refl;
           same_stacks = rw n refl;
           counted = rw n (omega arith);
           elsewhere = λ d x y l. rw n l;
         };
+        same_seats = rw n refl;
         quiet = λ f. elim f [
           | inl x ↦ inl (subst (λ (d : DriveTable H S Seat R). k.stacks.can_fail d.stacks) n x)
           | inr x ↦ inr (serves-quiet k.reels old.opened new.opened request reply (refusal (status_at old.opened) request) serves x)
@@ -118,7 +119,7 @@ module _ {H S Seat R : Type 0} (k : Kinds H Seat S R) (old : State H S Seat R) (
   closes-by : (opened : Option (Opened R)) (reply other : PlainReply) (new : State H S Seat R)
       → MatchOption opened ((reply ≡ refused BadDescriptor) × (new ≡ old)) (λ device. (reply ≡ other) × IsClosed k old new) → IsSound k old new
   closes-by None reply other new (e, n) = sound-same new n
-  closes-by (Some device) reply other new (e, c) = record { at = c.at; kept = c.kept; quiet = c.quiet }
+  closes-by (Some device) reply other new (e, c) = record { at = c.at; kept = c.kept; same_seats = c.same_seats; quiet = c.quiet }
 
   taken-sound : (device : Opened R) (reel : R) (result : Result (Unit {0}) DriveFault) (new : State H S Seat R)
       → old.opened ≡ Some device → device.reel ≡ Some reel → IsTakenOff k old device reel result new → IsSound k old new
@@ -139,11 +140,11 @@ module _ {H S Seat R : Type 0} (k : Kinds H Seat S R) (old : State H S Seat R) (
           number = ap (λ s. (k.holds.shows s).number) m.same_seat;
           others = λ other x b. rw m.same_holds b;
           same_holds = rw m.same_holds refl;
-          same_seats = rw m.same_holds refl;
           same_stacks = m.call.same_drives;
           counted = m.call.counted;
           elsewhere = λ d x y l. m.call.elsewhere d (λ z. x (ap drive_of o ∙ left-is result m.rested device.drive d z)) l;
         };
+        same_seats = rw m.same_holds refl;
         quiet = λ f. elim f [
           | inl x ↦ elim (m.call.quiet x) [ inl y ↦ inl y | inr y ↦ inr (subst (λ p. ReelCanFail k.reels (reel_of p)) (sym o) (subst (ReelCanFail k.reels) (sym online) (m.rewound.quiet y))) ]
           | inr x ↦ inr (subst (λ p. ReelCanFail k.reels (reel_of p)) (sym o) (subst (ReelCanFail k.reels) (sym online)
@@ -172,7 +173,7 @@ module _ {H S Seat R : Type 0} (k : Kinds H Seat S R) (old : State H S Seat R) (
 
   opens-sound : (device : List ℕ) (access : Option Access) (reply : PlainReply) (new : State H S Seat R) → OpensFor k old device access reply new → IsSound k old new
   opens-sound device None reply new (e, n) = sound-same new n
-  opens-sound device (Some access) reply new (result, e, o) = record { at = o.at; kept = o.kept; quiet = o.quiet }
+  opens-sound device (Some access) reply new (result, e, o) = record { at = o.at; kept = o.kept; same_seats = o.opening.same_seats; quiet = o.quiet }
 
 module _ {H S Seat R : Type 0} (k : Kinds H Seat S R) where
   -- what is done once what was open is closed
@@ -185,11 +186,11 @@ module _ {H S Seat R : Type 0} (k : Kinds H Seat S R) where
           number = b.kept.number ∙ c.kept.number;
           others = λ other x o. b.kept.others other (λ y. x (y ∙ c.kept.number)) (c.kept.others other x o);
           same_holds = b.kept.same_holds ∙ c.kept.same_holds;
-          same_seats = b.kept.same_seats ∙ c.kept.same_seats;
           same_stacks = b.kept.same_stacks ∙ c.kept.same_stacks;
           counted = omega (arith, b.kept.counted, c.kept.counted);
           elsewhere = λ d x y l. b.kept.elsewhere d (none d) y (c.kept.elsewhere d x (none d) l);
         };
+        same_seats = b.same_seats ∙ c.same_seats;
         quiet = λ f. c.quiet (b.quiet f);
       }
 

@@ -63,8 +63,9 @@ IsAlone k x =
 abbrev pub MayShare : {H S Seat R : Type 0} → Kinds H Seat S R → State H S Seat R → Bool → Type 0
 MayShare k x shared = IsTrue shared ⊎ IsAlone k x
 
--- Where stacks and reel told `before`, they tell `after`, one serve step further. The take of an open is that of
--- the seat's last step, and found there what the holds tell; a number that it found is that of the seat's last step.
+-- Where stacks and reel told `before`, they tell `after`, one serve step further. The drive that an open asked for is
+-- that of the seat's last step, and what was found there is what the holds tell. Where that is a seat's number, the
+-- last step is the take that found it.
 pub record IsServed {H S Seat R : Type 0} (k : Kinds H Seat S R) (old : State H S Seat R) (request : PlainRequest) (reply : PlainReply)
     (new : State H S Seat R) (before : Scene) : Type 0 where
   pub after : Scene
@@ -114,5 +115,7 @@ pub record IsCarriedOut {H S Seat R : Type 0} (k : Kinds H Seat S R) (old : Stat
   pub at : IsAt k new
   -- what is not of the session, or is counted, is as before
   pub kept : KeepsDrives k old new
+  -- no number of a seat is used up
+  pub same_seats : k.holds.seated new.drives.holds ≡ k.holds.seated old.drives.holds
   -- a device can fail then only where one can before
   pub quiet : SessionCanFail k new → SessionCanFail k old

@@ -52,6 +52,8 @@ pub record IsClosed {H S Seat R : Type 0} (k : Kinds H Seat S R) (old new : Stat
   pub told : (d n : ℕ) → k.holds.tells old.drives.holds d n
       → k.holds.tells new.drives.holds d (word_after_close (drive_of old.opened) d n)
   pub kept : KeepsDrives k old new
+  -- no number of a seat is used up
+  pub same_seats : k.holds.seated new.drives.holds ≡ k.holds.seated old.drives.holds
   -- a device can fail then only where one can before
   pub quiet : SessionCanFail k new → SessionCanFail k old
   -- the stacks' device is not called

@@ -44,6 +44,6 @@ IsOutcomeSayable (Ok (Number n)) = n ≤ 2147483647
 IsOutcomeSayable outcome = Unit {0}
 
 -- no more bytes are given than the buffer has
-abbrev pub IsWithin : Result Given Refusal → List ℕ → Type 0
-IsWithin (Ok (Bytes n)) buffer = n ≤ length buffer
-IsWithin outcome buffer = Unit {0}
+abbrev pub IsWithinBuffer : Result Given Refusal → List ℕ → Type 0
+IsWithinBuffer (Ok (Bytes n)) buffer = n ≤ length buffer
+IsWithinBuffer outcome buffer = Unit {0}

@@ -5,7 +5,7 @@ use Rattle.rmt_wire.specs.Limits.{data_limit}
 use Rattle.rmt_wire.specs.Request.PlainRequest.{Open, Close, Write, WriteDropped, Read, Op}
 use Rattle.rmt_wire.specs.Reply.{PlainReply}
 use Rattle.rmt_wire.specs.Reply.PlainReply.{Done, Data}
-use Rattle.tape.specs.Tape.{Tape, tape, TapeRequest, TapeAnswer, TapeStep, entries_of, op_request}
+use Rattle.tape.specs.Tape.{Tape, tape, record_limit, TapeRequest, TapeAnswer, TapeStep, entries_of, op_request}
 use Rattle.tape.specs.Tape.TapeRequest.{Write as WriteRecord, Read as ReadRecord, Unknown}
 use Rattle.tape.specs.Tape.TapeAnswer.{Done as Did, Gave, Fault}
 use Rattle.tape.specs.declared.fault.TapeFault.{TapeFault}
@@ -59,7 +59,7 @@ status_of (Online drive access reel) = Ready access
 -- a record has 1 to 65,536 bytes
 abbrev pub write_refusal : Access → ℕ → Option Refusal
 write_refusal access count =
-    if writes access then (if (count == 0) || nat_lt data_limit count then Some Invalid else None) else Some BadDescriptor
+    if writes access then (if (count == 0) || nat_lt record_limit count then Some Invalid else None) else Some BadDescriptor
 
 abbrev pub read_refusal : Access → ℕ → Option Refusal
 read_refusal access count = if reads access then (if count == 0 then Some Invalid else None) else Some BadDescriptor

@@ -87,14 +87,13 @@ SessionCanFail k x = k.stacks.can_fail x.drives.stacks ⊎ ReelCanFail k.reels (
 abbrev pub IsReelCall : {R : Type 0} → ReelPromise R → R → TapeRequest → TapeAnswer → R → Type 0
 IsReelCall r old request answer new = IsCall r.holds r.capacity r.failures r.can_fail r.makes r.GROWS old new request answer
 
--- The counts of drives and of seats stay, that of failures does not fall, the seat keeps its number, other seats hold
--- what they held, and reels stay latched in other drives than those that were open before and after.
+-- The counts of drives stay, that of failures does not fall, the seat keeps its number, other seats hold what they
+-- held, and reels stay latched in other drives than those that were open before and after.
 pub record KeepsDrives {H S Seat R : Type 0} (k : Kinds H Seat S R) (old new : State H S Seat R) : Type 0 where
   pub number : (k.holds.shows new.seat).number ≡ (k.holds.shows old.seat).number
   pub others : (other : Seat) → (k.holds.shows other).number ≢ (k.holds.shows old.seat).number
       → k.holds.belongs old.drives.holds other → k.holds.belongs new.drives.holds other
   pub same_holds : k.holds.drives new.drives.holds ≡ k.holds.drives old.drives.holds
-  pub same_seats : k.holds.seated new.drives.holds ≡ k.holds.seated old.drives.holds
   pub same_stacks : k.stacks.drives new.drives.stacks ≡ k.stacks.drives old.drives.stacks
   pub counted : k.stacks.failures old.drives.stacks ≤ k.stacks.failures new.drives.stacks
   pub elsewhere : (d : ℕ) → drive_of old.opened ≢ Some d → drive_of new.opened ≢ Some d

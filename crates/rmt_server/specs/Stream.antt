@@ -113,5 +113,8 @@ pub record IsServedAs {H S Seat R In Out : Type 0} (k : Kinds H Seat S R) (remai
   pub last : State H S Seat R
   pub run : CarryRun k old done last
   pub ended : IsClosed k last new
+  -- the seat keeps its number, and no number of a seat is used up
+  pub number : (k.holds.shows new.seat).number ≡ (k.holds.shows old.seat).number
+  pub same_seats : k.holds.seated new.drives.holds ≡ k.holds.seated old.drives.holds
   pub steps : (fails shared : Bool) → MayFail k old fails → MayShare k old shared → (start : Scene) → Tells k old start
       → (finish : Scene) × ServeRun fails shared k.reels.GROWS start done finish × k.stacks.holds new.drives.stacks (closed finish).shop

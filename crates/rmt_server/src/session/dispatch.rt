@@ -5,7 +5,7 @@ ghost use Rattle.rmt_wire.specs.Lent.{plain_request};
 ghost use Rattle.drives.specs.Opening.{kinds};
 ghost use Rattle.rmt_server.specs.Session.{is_offline};
 ghost use Rattle.rmt_server.specs.State.{state, IsAt};
-ghost use Rattle.rmt_server.specs.Replies.{number_reply, outcome_reply, IsWithin, IsSayable, IsOutcomeSayable};
+ghost use Rattle.rmt_server.specs.Replies.{number_reply, outcome_reply, IsWithinBuffer, IsSayable, IsOutcomeSayable};
 ghost use Rattle.rmt_server.specs.Carrying.{Operates, CarriesOut};
 
 use crate::refusal::Refusal;
@@ -58,7 +58,7 @@ pub(crate) fn dispatch<H: Holds, S: Stacks>(
         (outcome_reply result buffer.new) (state drives.new desk.new)
     }
     ensures small { IsSayable (plain_request request.entry) → IsOutcomeSayable result }
-    ensures within { IsWithin result buffer.new }
+    ensures within { IsWithinBuffer result buffer.new }
 {
     let number = match request {
         Request::Open { device, mode } => opening::open(drives, desk, device, mode)?,

@@ -11,7 +11,7 @@ use crate::access::Access;
 use crate::refusal::Refusal;
 use crate::session::Opened;
 use rmt_wire::DATA_LIMIT;
-use tape::{MTNOP, MTWEOF, Reel, TapeFault};
+use tape::{MTNOP, MTWEOF, Reel, TapeFault, is_record};
 
 /// Writes one record. It answers how many bytes were written: none where there is no room.
 pub(crate) fn write<R: Reel>(opened: &mut Option<Opened<R>>, bytes: &[u8]) -> Result<u32, Refusal>
@@ -24,7 +24,7 @@ pub(crate) fn write<R: Reel>(opened: &mut Option<Opened<R>>, bytes: &[u8]) -> Re
     let Some(reel) = &mut device.reel else {
         return Err(Refusal::NotConfigured);
     };
-    check_write(device.access, bytes.len())?;
+    check_write(device.access, bytes)?;
     match reel.write(bytes) {
         Ok(()) => Ok(bytes.len() as u32),
         Err(TapeFault::Full) => Ok(0),
@@ -90,14 +90,14 @@ pub(crate) fn operate<R: Reel>(
     }
 }
 
-/// Whether so many bytes may be written as one record.
-fn check_write(access: Access, len: usize) -> Result<(), Refusal>
-    ensures { write_refusal access len ≡ refusal_in result }
+/// Whether these bytes may be written as one record.
+fn check_write(access: Access, bytes: &[u8]) -> Result<(), Refusal>
+    ensures { write_refusal access (length bytes.now) ≡ refusal_in result }
 {
     if !access.writes() {
         return Err(Refusal::BadDescriptor);
     }
-    if len == 0 || len > DATA_LIMIT {
+    if !is_record(bytes) {
         return Err(Refusal::Invalid);
     }
     Ok(())
