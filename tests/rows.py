@@ -29,7 +29,22 @@ from forms import Ended, in_lock_step, in_one_piece, one_byte_a_piece, started
 BUILT = Path(__file__).resolve().parent.parent / "crates/rmtd/out/rmtd"
 
 # Each differs from the one lawful line of words, `--stdio`.
-BAD_WORDS = ((), ("",), ("stdio",), ("--stdin",), ("--stdio", "--stdio"), ("--stdio", "extra"), ("extra", "--stdio"))
+BAD_WORDS = (
+    (),
+    ("",),
+    ("stdio",),
+    ("--stdin",),
+    ("--stdio", "--stdio"),
+    ("--stdio", "extra"),
+    ("extra", "--stdio"),
+    ("--stdio", "--listen", "127.0.0.1:0"),
+    ("--stdio", "--capacity"),
+    ("--stdio", "--capacity", "9223372036854775808"),
+    ("--stdio", "--capacity", "+1"),
+    ("--stdio", "--connections", "two"),
+    ("--stdio", "--bin", "bin"),
+    ("--stdio", "/dev/st0=stack"),
+)
 
 # A server that hangs would keep the guard waiting at each check, so the checks end early where many fail.
 MOST_FAILURES = 10

@@ -1,3 +1,4 @@
 pub mod Stdio
 pub mod Dates
 pub mod Rdump
+pub mod Rmtd

@@ -4,10 +4,12 @@
 
 mod dates_file;
 mod rdump_line;
+mod rmtd_line;
 mod stdio;
 #[cfg(test)]
 mod tests;
 
 pub use dates_file::dates;
 pub use rdump_line::{RdumpLine, rdump_words};
+pub use rmtd_line::{LineFault, ServerLine, server_line, server_words};
 pub use stdio::run_stdio;

@@ -5,4 +5,5 @@ mod dump;
 mod failing;
 mod link;
 mod rows;
+mod server_words;
 mod words;

@@ -1,0 +1,4 @@
+pub mod Peer
+pub mod Talk
+pub mod Print
+pub mod Lines

@@ -1,0 +1,19 @@
+//! A dump over a connection: the far end of a connection, and a client's attempts over it, from the first request to
+//! the lines that an operator reads.
+//!
+//! `Peer` is the far end: `SocketPeer` is one over TCP. `dump` has a client write its volumes over a peer, asks an
+//! operator after a failure, and prints what is counted.
+#![tactic(auto)]
+
+mod attempt;
+mod lines;
+mod operator;
+mod peer;
+mod print;
+mod rounds;
+mod socket;
+
+pub use peer::{Passed, Peer};
+pub use print::print_text;
+pub use rounds::dump;
+pub use socket::SocketPeer;

@@ -1,0 +1,36 @@
+//! What an operator answers.
+use std::io::{ErrorKind, Read};
+
+/// The answer that has a volume tried again.
+const YES: &[u8] = b"yes";
+
+/// Takes one line of what the operator says, and answers whether it is `yes`. The end of the input ends its last line,
+/// and so does a failure.
+pub(crate) fn says_yes<R: Read>(operator: &mut R) -> bool {
+    let mut wanted = YES;
+    let mut agrees = true;
+    for _ in 0..u64::MAX {
+        match next_byte(operator) {
+            None | Some(b'\n') => return agrees && wanted.is_empty(),
+            Some(byte) => match wanted.split_first() {
+                Some((first, rest)) if *first == byte => wanted = rest,
+                _ => agrees = false,
+            },
+        }
+    }
+    false
+}
+
+/// The next byte, and None at the end and where a read failed.
+fn next_byte<R: Read>(operator: &mut R) -> Option<u8> {
+    let mut byte = [0];
+    for _ in 0..u64::MAX {
+        match operator.read(&mut byte) {
+            Ok(0) => return None,
+            Ok(_) => return Some(byte[0]),
+            Err(error) if error.kind() == ErrorKind::Interrupted => {}
+            Err(_) => return None,
+        }
+    }
+    None
+}

@@ -1,0 +1,45 @@
+//! The far end of a connection.
+ghost use Rattle.std.specs.Prelude.{◌≤◌, ℕ, List, [], length, map, take};
+ghost use Rattle.rmt_peer.specs.Peer.{IsSent, Logs, connected};
+ghost use Rattle.rmt_peer.specs.declared.peer.Passed.{Passed};
+ghost use Rattle.rmt_peer.specs.declared.peer.Passed.TheVariants.{Given, Sent};
+
+/// What passes between a caller and a peer.
+#[derive(Clone, Copy, Debug, PartialEq, Eq)]
+pub enum Passed {
+    /// A connection was made.
+    Connected,
+    /// The peer was sent this byte.
+    Sent(u8),
+    /// The peer gave this byte.
+    Given(u8),
+}
+
+/// The far end of a connection, which can be made again.
+///
+/// A peer tells what passed, in order, or tells nothing: what a clause says of it holds where it tells. False, and 0
+/// where there is room, are the end of the connection.
+pub trait Peer {
+    ghost use Rattle.std.specs.Prelude.{List};
+    ghost use Rattle.rmt_peer.specs.declared.peer.Passed.{Passed};
+
+    /// What passed so far, where it tells.
+    ghost tells: { Self → List Passed → Type 0 };
+
+    /// Makes a connection, in place of any that there is. Answers whether it could.
+    fn connect(&mut self) -> bool
+        ensures { Logs tells self.old self.new (connected result) };
+
+    /// Sends all of these bytes. Answers whether it could; where not, a beginning of them was sent.
+    fn send(&mut self, bytes: &[u8]) -> bool
+        ensures { (sent : List ℕ) × IsSent bytes.now result sent × Logs tells self.old self.new (map Sent sent) };
+
+    /// Waits for bytes, and puts those that came at the front of `into`. Answers how many came.
+    fn receive(&mut self, into: &mut [u8]) -> usize
+        ensures within { result ≤ length into.new }
+        ensures told { Logs tells self.old self.new (map Given (take result into.new)) };
+
+    /// Ends the connection, if there is one.
+    fn hang_up(&mut self)
+        ensures { Logs tells self.old self.new [] };
+}
