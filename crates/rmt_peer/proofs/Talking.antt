@@ -1,7 +1,7 @@
 -- What a client does over a peer, put together.
 use Rattle.std.proofs.Common.{◌≡◌, ◌↔◌, map, ℕ, List, [], ◌++◌, Bool, true, false, Result, Ok, Err, refl, sym, ap, subst, ◌∙◌, append-nil, append_assoc}
 use Rattle.dump_client.specs.Standing.{Standing, StartedAt, AnsweredAt, FedAt, CutAt}
-use Rattle.dump_client.specs.Client.{Held, HasFed, AskedAt, unanswered}
+use Rattle.dump_client.specs.Client.{ClientHeld, HasFed, AskedAt, unanswered}
 use Rattle.dump_client.specs.declared.fault.AttemptFault.{AttemptFault}
 use Rattle.dump_client.specs.declared.fault.StartFault.{StartFault}
 use Rattle.dump_client.specs.declared.stage.Answer.{Answer}
@@ -50,7 +50,7 @@ joined {told} {a} {b} {fa} {fb} {one} first {c = c} {fc = fc} (one_more {passed 
     subst (λ all. Talks told a fa all c fc) (append_assoc one passed more) (one_more (joined first before) step)
 
 -- one call of the client, with what passed in it
-pub record IsCalled {B P : Type 0} (told : List (List ℕ) → Type 0) (tells : P → List Passed → Type 0) (c c' : Held B) (p p' : P) (fed : List ℕ) : Type 0 where
+pub record IsCalled {B P : Type 0} (told : List (List ℕ) → Type 0) (tells : P → List Passed → Type 0) (c c' : ClientHeld B) (p p' : P) (fed : List ℕ) : Type 0 where
   pub passed : List Passed
   pub later : List ℕ
   pub step : TalkStep told c.at fed passed c'.at later
@@ -62,13 +62,13 @@ pub alone : {P : Type 0} (tells : P → List Passed → Type 0) (p : P) → Logs
 alone tells p log h = subst (tells p) (sym (append-nil log)) h
 
 module _ {B P : Type 0} (holds : B → List (List ℕ) → Type 0) (tells : P → List Passed → Type 0) where
-  pub nothing_said : (c : Held B) (p : P) → TalksOver holds tells c c p p
+  pub nothing_said : (c : ClientHeld B) (p : P) → TalksOver holds tells c c p p
   nothing_said c p = record {
     same = λ payload h. h;
     talked = λ fed h. record { passed = []; later = fed; talks = none; keeps = h; logs = alone tells p };
   }
 
-  pub one_call : (c c' : Held B) (p p' : P) → ((payload : List (List ℕ)) → holds c.source payload → holds c'.source payload)
+  pub one_call : (c c' : ClientHeld B) (p p' : P) → ((payload : List (List ℕ)) → holds c.source payload → holds c'.source payload)
       → ((fed : List ℕ) → HasFed c fed → IsCalled (holds c.source) tells c c' p p' fed) → TalksOver holds tells c c' p p'
   one_call c c' p p' same call = record {
     same = same;
@@ -77,7 +77,7 @@ module _ {B P : Type 0} (holds : B → List (List ℕ) → Type 0) (tells : P �
         record { passed = one.passed; later = one.later; talks = one_more none one.step; keeps = one.keeps; logs = one.logs };
   }
 
-  pub followed : (c d e : Held B) (p q r : P) → TalksOver holds tells c d p q → TalksOver holds tells d e q r → TalksOver holds tells c e p r
+  pub followed : (c d e : ClientHeld B) (p q r : P) → TalksOver holds tells c d p q → TalksOver holds tells d e q r → TalksOver holds tells c e p r
   followed c d e p q r a b = record {
     same = λ payload h. b.same payload (a.same payload h);
     talked = λ fed h.
@@ -93,26 +93,26 @@ module _ {B P : Type 0} (holds : B → List (List ℕ) → Type 0) (tells : P �
   }
 
   -- a call of the client while the peer is left alone
-  pub by_itself : (c c' : Held B) (p : P) → TalksAlone holds c c' → TalksOver holds tells c c' p p
+  pub by_itself : (c c' : ClientHeld B) (p : P) → TalksAlone holds c c' → TalksOver holds tells c c' p p
   by_itself c c' p call = one_call c c' p p call.same
       (λ fed h.
       let one = call.talked fed h in
       record { passed = []; later = one.0; step = one.1; keeps = one.2; logs = alone tells p })
 
-  kept_source : (c c' : Held B) → c'.source ≡ c.source → (payload : List (List ℕ)) → holds c.source payload → holds c'.source payload
+  kept_source : (c c' : ClientHeld B) → c'.source ≡ c.source → (payload : List (List ℕ)) → holds c.source payload → holds c'.source payload
   kept_source c c' e payload h = subst (λ s. holds s payload) (sym e) h
 
   -- the client is told of the end
-  pub told_end : (c c' : Held B) (p q : P) (progress : Progress) → CutAt c.at.stage c.at progress c'.at → HasFed c' [] → c'.source ≡ c.source → Logs tells p q []
+  pub told_end : (c c' : ClientHeld B) (p q : P) (progress : Progress) → CutAt c.at.stage c.at progress c'.at → HasFed c' [] → c'.source ≡ c.source → Logs tells p q []
       → TalksOver holds tells c c' p q
   told_end c c' p q progress cut fed e logs = one_call c c' p q (kept_source c c' e)
       (λ old h. record { passed = []; later = []; step = ends progress cut; keeps = fed; logs = logs })
 
-  pub told_end_alone : (c c' : Held B) (p : P) (progress : Progress) → CutAt c.at.stage c.at progress c'.at → HasFed c' [] → c'.source ≡ c.source → TalksOver holds tells c c' p p
+  pub told_end_alone : (c c' : ClientHeld B) (p : P) (progress : Progress) → CutAt c.at.stage c.at progress c'.at → HasFed c' [] → c'.source ≡ c.source → TalksOver holds tells c c' p p
   told_end_alone c c' p progress cut fed e = told_end c c' p p progress cut fed e (alone tells p)
 
   -- a piece is fed
-  pub fed_piece : (c c' : Held B) (p q : P) (piece : List ℕ) (progress : Progress)
+  pub fed_piece : (c c' : ClientHeld B) (p q : P) (piece : List ℕ) (progress : Progress)
       → ((fed : List ℕ) → HasFed c fed → FedAt c.at.stage c.at fed piece progress c'.at)
       → ((fed : List ℕ) → HasFed c fed → HasFed c' (unanswered c'.at.stage (fed ++ piece)))
       → c'.source ≡ c.source → Logs tells p q (map Given piece) → TalksOver holds tells c c' p q
@@ -126,7 +126,7 @@ module _ {B P : Type 0} (holds : B → List (List ℕ) → Type 0) (tells : P �
       })
 
   -- a request is asked for, and what is made of it is sent
-  pub asked_and_sent : (c c' : Held B) (p q : P) (capacity : ℕ) (before : List ℕ) (result : Result Bool AttemptFault) (text sent : List ℕ)
+  pub asked_and_sent : (c c' : ClientHeld B) (p q : P) (capacity : ℕ) (before : List ℕ) (result : Result Bool AttemptFault) (text sent : List ℕ)
       → before ≡ [] → AskedAt c.at.stage (holds c.source) c.at capacity before result text c'.at → IsRequestSent result text sent
       → ((payload : List (List ℕ)) → holds c.source payload ↔ holds c'.source payload)
       → ((fed : List ℕ) → HasFed c fed → HasFed c' fed) → Logs tells p q (map Sent sent) → TalksOver holds tells c c' p q
@@ -140,31 +140,31 @@ module _ {B P : Type 0} (holds : B → List (List ℕ) → Type 0) (tells : P �
       })
 
   -- the connection is ended
-  pub hung_up : (c : Held B) (p q : P) → Logs tells p q [] → TalksOver holds tells c c p q
+  pub hung_up : (c : ClientHeld B) (p q : P) → Logs tells p q [] → TalksOver holds tells c c p q
   hung_up c p q logs = record {
     same = λ payload h. h;
     talked = λ fed h. record { passed = []; later = fed; talks = none; keeps = h; logs = logs };
   }
 
-  pub started_on : (c c' : Held B) (p q : P) (room : ℕ) (made : Bool) → StartedAt c.at.stage c.at room (Ok tt) c'.at
+  pub started_on : (c c' : ClientHeld B) (p q : P) (room : ℕ) (made : Bool) → StartedAt c.at.stage c.at room (Ok tt) c'.at
       → ((fed : List ℕ) → HasFed c fed → HasFed c' fed) → c'.source ≡ c.source → Logs tells p q (connected made) → TalksOver holds tells c c' p q
   started_on c c' p q room made start fed e logs = one_call c c' p q (kept_source c c' e)
       (λ old h. record { passed = connected made; later = old; step = starts room made start; keeps = fed old h; logs = logs })
 
-  pub not_started : (c c' : Held B) (p : P) (room : ℕ) (fault : StartFault) → StartedAt c.at.stage c.at room (Err fault) c'.at
+  pub not_started : (c c' : ClientHeld B) (p : P) (room : ℕ) (fault : StartFault) → StartedAt c.at.stage c.at room (Err fault) c'.at
       → ((fed : List ℕ) → HasFed c fed → HasFed c' fed) → c'.source ≡ c.source → TalksOver holds tells c c' p p
   not_started c c' p room fault start fed e = one_call c c' p p (kept_source c c' e)
       (λ old h. record { passed = []; later = old; step = stays room fault start; keeps = fed old h; logs = alone tells p })
 
 module _ {B : Type 0} (holds : B → List (List ℕ) → Type 0) where
-  pub answered_alone : (c c' : Held B) (answer : Answer) (result : Result Unit StartFault) → AnsweredAt c.at.stage c.at answer result c'.at
+  pub answered_alone : (c c' : ClientHeld B) (answer : Answer) (result : Result Unit StartFault) → AnsweredAt c.at.stage c.at answer result c'.at
       → ((fed : List ℕ) → HasFed c fed → HasFed c' fed) → c'.source ≡ c.source → TalksAlone holds c c'
   answered_alone c c' answer result h fed e = record {
     same = λ payload told. subst (λ s. holds s payload) (sym e) told;
     talked = λ old k. (old, answers answer result h, fed old k);
   }
 
-  pub ended_alone : (c c' : Held B) (progress : Progress) → CutAt c.at.stage c.at progress c'.at → HasFed c' [] → c'.source ≡ c.source → TalksAlone holds c c'
+  pub ended_alone : (c c' : ClientHeld B) (progress : Progress) → CutAt c.at.stage c.at progress c'.at → HasFed c' [] → c'.source ≡ c.source → TalksAlone holds c c'
   ended_alone c c' progress h fed e = record {
     same = λ payload told. subst (λ s. holds s payload) (sym e) told;
     talked = λ old k. ([], ends progress h, fed);

@@ -2,7 +2,7 @@
 use Rattle.std.specs.Prelude.{◌≡◌, ℕ, Bool, true, false, List, Option}
 use Rattle.std.specs.Io.KnownBytes.{Appends}
 use Rattle.rmt_wire.specs.Counted.{Counting, HasRisen}
-use Rattle.rmt_wire.specs.Writer.{AppendsBeginning}
+use Rattle.rmt_wire.specs.ReplyWriter.{AppendsBeginning}
 
 -- The text was printed, and no write failed. Or one did, and a beginning of the text was printed.
 abbrev pub IsPrinted : {W : Type 0} → (W → Option (List ℕ)) → List ℕ → Counting W → Counting W → Bool → Type 0

@@ -1,7 +1,7 @@
 -- What a client does over a peer: each call of the client, with what passed in it.
 use Rattle.std.specs.Prelude.{◌≡◌, ℕ, Bool, true, false, List, [], ◌++◌, map, Result, Ok, Err}
 use Rattle.dump_client.specs.Standing.{Standing, StartedAt, AnsweredAt, FedAt, CutAt}
-use Rattle.dump_client.specs.Client.{Held, HasFed, AskedAt, unanswered}
+use Rattle.dump_client.specs.Client.{ClientHeld, HasFed, AskedAt, unanswered}
 use Rattle.dump_client.specs.declared.fault.AttemptFault.{AttemptFault}
 use Rattle.dump_client.specs.declared.fault.StartFault.{StartFault}
 use Rattle.dump_client.specs.declared.stage.Answer.{Answer}
@@ -41,7 +41,7 @@ pub data Talks (told : List (List ℕ) → Type 0) (start : Standing) (first : L
       → Talks told start first (passed ++ more) after later
 
 -- what passed in the calls between the client before and now is what passed at the peer
-pub record HasTalked {B P : Type 0} (told : List (List ℕ) → Type 0) (tells : P → List Passed → Type 0) (c c' : Held B) (p p' : P) (fed : List ℕ) : Type 0 where
+pub record HasTalked {B P : Type 0} (told : List (List ℕ) → Type 0) (tells : P → List Passed → Type 0) (c c' : ClientHeld B) (p p' : P) (fed : List ℕ) : Type 0 where
   pub passed : List Passed
   pub later : List ℕ
   pub talks : Talks told c.at fed passed c'.at later
@@ -49,11 +49,11 @@ pub record HasTalked {B P : Type 0} (told : List (List ℕ) → Type 0) (tells :
   pub logs : Logs tells p p' passed
 
 -- the client talked over the peer, and its source still tells what it told
-pub record TalksOver {B P : Type 0} (holds : B → List (List ℕ) → Type 0) (tells : P → List Passed → Type 0) (c c' : Held B) (p p' : P) : Type 0 where
+pub record TalksOver {B P : Type 0} (holds : B → List (List ℕ) → Type 0) (tells : P → List Passed → Type 0) (c c' : ClientHeld B) (p p' : P) : Type 0 where
   pub same : (payload : List (List ℕ)) → holds c.source payload → holds c'.source payload
   pub talked : (fed : List ℕ) → HasFed c fed → HasTalked (holds c.source) tells c c' p p' fed
 
 -- a call of the client while the peer is left alone
-pub record TalksAlone {B : Type 0} (holds : B → List (List ℕ) → Type 0) (c c' : Held B) : Type 0 where
+pub record TalksAlone {B : Type 0} (holds : B → List (List ℕ) → Type 0) (c c' : ClientHeld B) : Type 0 where
   pub same : (payload : List (List ℕ)) → holds c.source payload → holds c'.source payload
   pub talked : (fed : List ℕ) → HasFed c fed → (later : List ℕ) × TalkStep (holds c.source) c.at fed [] c'.at later × HasFed c' later

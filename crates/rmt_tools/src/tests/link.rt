@@ -4,7 +4,10 @@ ghost use Rattle.std.specs.Prelude.{◌≡◌, ◌≢◌, ◌≤◌, ◌*◌, If
 ghost use Rattle.rmt_wire.specs.Lent.{plain_request};
 ghost use Rattle.drives.specs.Holding.{HoldsJust};
 ghost use Rattle.drives.specs.Local.{IsSeatOf};
-ghost use Rattle.rmt_server.specs.Carrying.{IsAt, IsSayable};
+ghost use Rattle.tape.specs.contracts.troubled.TroubledReelReel.TheImpl.{ghosts as of_reel};
+ghost use Rattle.drives.specs.Opening.{kinds};
+ghost use Rattle.rmt_server.specs.State.{state, IsAt};
+ghost use Rattle.rmt_server.specs.Replies.{IsSayable};
 ghost use Rattle.drives.specs.contracts.local.LocalHoldsHolds.TheImpl.{ghosts as of_holds};
 ghost use Rattle.drives.specs.contracts.list.ListStacksStacks.TheImpl.{ghosts as of_stacks};
 ghost use Rattle.std.specs.Prelude.{None};
@@ -65,7 +68,7 @@ fn server(alloc: Global, seat: LocalSeat, drives: &Drives) -> Result<Server, Fai
     requires own { IsSeatOf drives.now.holds seat }
     requires idle { HoldsJust seat None }
     requires enough { length drives.now.stacks.shop.racks ≤ length drives.now.holds.numbers }
-    ensures at { IfOk result (λ s. IsAt of_holds of_stacks drives.now s.seat s.opened) }
+    ensures at { IfOk result (λ s. IsAt (kinds of_holds of_stacks of_reel) (state drives.now s)) }
     ensures seat { IfOk result (λ s. s.seat ≡ seat) }
 {
     match Session::new(alloc, seat) {
@@ -92,11 +95,11 @@ fn carry(
     request: Request<'_>,
     out: &mut Vec<u8>,
 ) -> Result<(), Fail>
-    requires at { IsAt of_holds of_stacks drives.old session.old.seat session.old.opened }
-    requires other { IsAt of_holds of_stacks drives.old other.now.seat other.now.opened }
+    requires at { IsAt (kinds of_holds of_stacks of_reel) (state drives.old session.old) }
+    requires other { IsAt (kinds of_holds of_stacks of_reel) (state drives.old other.now) }
     requires apart { other.now.seat.number ≢ session.old.seat.number }
-    ensures at { IsAt of_holds of_stacks drives.new session.new.seat session.new.opened }
-    ensures other { IsAt of_holds of_stacks drives.new other.now.seat other.now.opened }
+    ensures at { IsAt (kinds of_holds of_stacks of_reel) (state drives.new session.new) }
+    ensures other { IsAt (kinds of_holds of_stacks of_reel) (state drives.new other.now) }
     ensures number { session.new.seat.number ≡ session.old.seat.number }
 {
     one_holder::<ListStacks>();
@@ -110,11 +113,11 @@ fn carry(
 
 /// Ends a session beside another.
 fn end(drives: &mut Drives, session: &mut Server, other: &Server)
-    requires at { IsAt of_holds of_stacks drives.old session.old.seat session.old.opened }
-    requires other { IsAt of_holds of_stacks drives.old other.now.seat other.now.opened }
+    requires at { IsAt (kinds of_holds of_stacks of_reel) (state drives.old session.old) }
+    requires other { IsAt (kinds of_holds of_stacks of_reel) (state drives.old other.now) }
     requires apart { other.now.seat.number ≢ session.old.seat.number }
-    ensures at { IsAt of_holds of_stacks drives.new session.new.seat session.new.opened }
-    ensures other { IsAt of_holds of_stacks drives.new other.now.seat other.now.opened }
+    ensures at { IsAt (kinds of_holds of_stacks of_reel) (state drives.new session.new) }
+    ensures other { IsAt (kinds of_holds of_stacks of_reel) (state drives.new other.now) }
     ensures number { session.new.seat.number ≡ session.old.seat.number }
 {
     one_holder::<ListStacks>();
@@ -130,8 +133,8 @@ pub(super) struct Link {
     wire: RequestReader,
     session: Server,
     stale: Server,
-    ghost at: { IsAt of_holds of_stacks drives session.seat session.opened },
-    ghost at_stale: { IsAt of_holds of_stacks drives stale.seat stale.opened },
+    ghost at: { IsAt (kinds of_holds of_stacks of_reel) (state drives session) },
+    ghost at_stale: { IsAt (kinds of_holds of_stacks of_reel) (state drives stale) },
     ghost apart: { stale.seat.number ≢ session.seat.number },
 }
 
