@@ -16,3 +16,4 @@ mod TroubledLying
 mod TroubledOpening
 mod TroubledReels
 mod TroubledServing
+mod TroubledSteps

@@ -1,11 +1,11 @@
-ghost use Rattle.std.specs.Prelude.{◌≡◌, ◌≢◌, ◌≤◌, ℕ, Bool, Some};
+ghost use Rattle.std.specs.Prelude.{◌≡◌, ◌≢◌, ◌≤◌, ℕ, Bool, true, List, Option, Some};
 ghost use Rattle.tape.specs.Trouble.{TroubledTape};
 ghost use Rattle.tape.specs.contracts.troubled.TroubledReelReel.TheImpl.{ghosts as of_reel};
 ghost use Rattle.drives.specs.contracts.list.ListStacksStacks.TheImpl.{ghosts as of_stacks};
 ghost use Rattle.drives.specs.contracts.local.LocalHoldsHolds.TheImpl.{ghosts as of_holds};
 ghost use Rattle.drives.specs.declared.table.DriveTable.{DriveTable as Drives};
 ghost use Rattle.drives.specs.declared.view.View.{View};
-ghost use Rattle.drives.specs.ListShop.{ListShop};
+ghost use Rattle.drives.specs.ListShop.{ListShop, is_set};
 ghost use Rattle.drives.specs.Local.{Holders, holders};
 ghost use Rattle.drives.specs.Stacking.{HasLatched};
 ghost use Rattle.drives.specs.Opening.{kinds};
@@ -13,10 +13,10 @@ ghost use Rattle.rmt_server.specs.declared.session.desk.Desk.{Desk};
 ghost use Rattle.rmt_wire.specs.Request.{PlainRequest};
 ghost use Rattle.rmt_wire.specs.Reply.{PlainReply};
 ghost use Rattle.tape.specs.declared.trouble.Trouble.{Trouble};
-ghost use Rattle.rmt_server.specs.Session.{Scene};
+ghost use Rattle.rmt_server.specs.Session.{Scene, ServeStep};
 ghost use Rattle.rmt_server.specs.State.{state, IsAt, Tells, KeepsDrives, drive_of, online_drive};
 ghost use Rattle.rmt_server.specs.Carrying.{IsCarriedOut};
-ghost use Rattle.rmt_server.specs.TroubledServe.{MemoryState, in_memory, IsSetFor, IsServedSo};
+ghost use Rattle.rmt_server.specs.TroubledServe.{TroubledServe, MemoryState, in_memory, IsSetFor, IsServedSo};
 
 use drives::{Holds, Stacks};
 
@@ -82,5 +82,16 @@ pub fn troubled_serve()
         (trouble : Trouble) (old new : MemoryState) (before : Scene) (request : PlainRequest) (reply : PlainReply) →
         IsAt in_memory old → Tells in_memory old before → IsSetFor trouble request old → IsCarriedOut in_memory old request reply new →
         IsServedSo trouble old before request reply new
+    }
+{}
+
+/// What `troubled_serve` says of one request is a serve step.
+///
+/// It does nothing: its contract is a law of the definitions.
+pub fn troubled_is_served()
+    ensures {
+        (trouble : Trouble) (holders holders' : List ℕ) (k : ℕ) (before after : Scene) (request : PlainRequest) (reply : PlainReply) →
+        TroubledServe trouble holders k before request reply after holders' →
+        (asked : Option ℕ) × (found : ℕ) × ServeStep (is_set trouble) true asked found before request reply after
     }
 {}
