@@ -17,3 +17,4 @@ mod TroubledOpening
 mod TroubledReels
 mod TroubledServing
 mod TroubledSteps
+mod Troubles

@@ -24,7 +24,8 @@ use Rattle.rmt_server.specs.Access.{access_of}
 use Rattle.rmt_server.specs.Refusals.{refused}
 use Rattle.rmt_server.specs.Session.{PlainReel, plain_reel, PlainSession, Scene, scene, status_of, refusal, tape_request, reel_reply, closed, open_reply, session_after, is_offline, move_reply, MovesAs}
 use Rattle.rmt_server.specs.Session.PlainSession.{Idle, Offline, Online}
-use Rattle.rmt_server.specs.State.{State, reel_of, Tells}
+use Rattle.rmt_server.specs.State.{State, seated_at, reel_of, Tells}
+use Rattle.rmt_server.specs.Troubling.{with_trouble}
 use Rattle.rmt_server.specs.Carrying.{is_of_stacks}
 
 -- the drive that is open
@@ -138,8 +139,30 @@ IsSetFor trouble Close x = IsTroubled NoTrouble false x
 IsSetFor trouble request x = IsSetAt (is_of_stacks request) trouble x
 
 -- The request is served so, and no reel that lies on the stacks or in the bin has a trouble afterwards.
-pub record IsServedSo (trouble : Trouble) (old : MemoryState) (before : Scene) (request : PlainRequest) (reply : PlainReply) (new : MemoryState) : Type 0 where
+pub record IsServedUnder (trouble : Trouble) (old : MemoryState) (before : Scene) (request : PlainRequest) (reply : PlainReply)
+    (new : MemoryState) : Type 0 where
   pub after : Scene
   pub tells : Tells in_memory new after
   pub served : TroubledServe trouble old.drives.holds.numbers old.seat.number before request reply after new.drives.holds.numbers
+  pub lying : troubled_in new.drives.stacks.shop ≡ 0
+
+-- this trouble is set for the open reel, if there is one, and this for the stacks
+abbrev pub with_troubles : Trouble → Bool → MemoryState → MemoryState
+with_troubles reel stacks x =
+    seated_at (record x.drives { stacks = record x.drives.stacks { trouble = stacks } }) x.seat (with_trouble reel x.opened)
+
+abbrev pub set_at : Bool → Trouble → MemoryState → MemoryState
+set_at true trouble x = with_troubles NoTrouble (is_set trouble) x
+set_at false trouble x = with_troubles trouble false x
+
+-- the trouble is set where the request meets it
+abbrev pub set_for : Trouble → PlainRequest → MemoryState → MemoryState
+set_for trouble Close x = with_troubles NoTrouble false x
+set_for trouble request x = set_at (is_of_stacks request) trouble x
+
+-- What was open is closed: its reel lies on its stack again, its drive has no holder, and no reel that lies there has a
+-- trouble.
+pub record IsEnded (old : MemoryState) (before : Scene) (new : MemoryState) : Type 0 where
+  pub tells : Tells in_memory new (closed before)
+  pub held : new.drives.holds.numbers ≡ with_holder (drive_in before.session) 0 old.drives.holds.numbers
   pub lying : troubled_in new.drives.stacks.shop ≡ 0
