@@ -4,6 +4,7 @@ mod Closed
 mod Moved
 mod Opens
 mod Seats
+mod Seen
 pub mod ServeSteps
 mod Sharing
 mod Sound

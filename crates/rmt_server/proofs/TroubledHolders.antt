@@ -11,7 +11,8 @@ use Rattle.tape.specs.contracts.troubled.TroubledReelReel.TheImpl.{ghosts as of_
 use Rattle.rmt_server.specs.declared.access.Access.{Access}
 use Rattle.rmt_server.specs.State.{drive_of, IsAt}
 use Rattle.rmt_server.specs.Opening.{word_after_close, opened_by}
-use Rattle.rmt_server.specs.TroubledServe.{with_holder, MemoryState, in_memory}
+use Rattle.rmt_server.specs.Memory.{MemoryState, in_memory}
+use Rattle.rmt_server.specs.TroubledServe.{with_holder}
 use Rattle.rmt_server.proofs.Sharing.{open-held}
 
 eq_or_ne : (m n : ℕ) → (m ≡ n) ⊎ (m ≢ n)

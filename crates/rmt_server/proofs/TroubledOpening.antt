@@ -23,7 +23,8 @@ use Rattle.rmt_server.specs.Session.{PlainReel, plain_reel, Scene, scene, closed
 use Rattle.rmt_server.specs.State.{drive_of, IsAt, IsSeenAs, Tells}
 use Rattle.rmt_server.specs.Opening.{opened_by, IsClosed, OpensFor, IsOpenedFor}
 use Rattle.rmt_server.specs.Carrying.{Operates, CarriesOut}
-use Rattle.rmt_server.specs.TroubledServe.{with_holder, holder_of, IsOpenCause, MemoryState, in_memory, IsTroubled, IsSetAt, IsSetFor, IsServedUnder}
+use Rattle.rmt_server.specs.Memory.{MemoryState, in_memory}
+use Rattle.rmt_server.specs.TroubledServe.{with_holder, holder_of, IsOpenCause, IsTroubled, IsSetAt, IsSetFor, IsServedUnder}
 use Rattle.rmt_server.proofs.TroubledHolders.{opened-numbers}
 use Rattle.rmt_server.proofs.TroubledLying.{latched-lying}
 use Rattle.rmt_server.proofs.TroubledServing.{unset, set-means, drive-seen, reel-so, reel-parts, closed-lying, closed-held, closed-tells, close-so, offline-so}

@@ -25,7 +25,8 @@ use Rattle.rmt_server.specs.State.{drive_of, online_in, online_drive, reel_of, s
 use Rattle.rmt_server.specs.Opening.{LaysBack, LaysBackOpened, IsClosed, Closes}
 use Rattle.rmt_server.specs.Moving.{IsTakenOff, MovesIn, MovesReel, MovesOff}
 use Rattle.rmt_server.specs.Serving.{Serves}
-use Rattle.rmt_server.specs.TroubledServe.{drive_in, with_holder, TroubledServeStep, MemoryState, in_memory, IsTroubled, IsServedUnder}
+use Rattle.rmt_server.specs.Memory.{MemoryState, in_memory}
+use Rattle.rmt_server.specs.TroubledServe.{drive_in, with_holder, TroubledServeStep, IsTroubled, IsServedUnder}
 use Rattle.rmt_server.proofs.Sound.{serves-same}
 use Rattle.rmt_server.proofs.Steps.{status-seen}
 use Rattle.rmt_server.proofs.TroubledHolders.{closed-numbers, kept-numbers, own-held}

@@ -12,7 +12,8 @@ use Rattle.rmt_server.specs.Session.{PlainSession, Scene, is_offline}
 use Rattle.rmt_server.specs.State.{drive_of, online_in, online_drive, reel_of, IsAt, IsSeenWith, IsSeenAs, Tells}
 use Rattle.rmt_server.specs.Opening.{IsClosed}
 use Rattle.rmt_server.specs.Troubling.{troubled, with_trouble}
-use Rattle.rmt_server.specs.TroubledServe.{MemoryState, in_memory, IsTroubled, IsSetAt, IsSetFor, with_troubles, set_at, set_for, IsEnded}
+use Rattle.rmt_server.specs.Memory.{MemoryState, in_memory}
+use Rattle.rmt_server.specs.TroubledServe.{IsTroubled, IsSetAt, IsSetFor, with_troubles, set_at, set_for, IsEnded}
 use Rattle.rmt_server.proofs.TroubledServing.{closed-lying, closed-held, closed-tells}
 
 reel-set : (trouble : Trouble) (reel : Option TroubledTape) → MatchOption (troubled trouble reel) (Unit {0}) (λ r. r.trouble ≡ trouble)

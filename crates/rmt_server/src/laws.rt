@@ -5,7 +5,7 @@ ghost use Rattle.drives.specs.contracts.list.ListStacksStacks.TheImpl.{ghosts as
 ghost use Rattle.drives.specs.contracts.local.LocalHoldsHolds.TheImpl.{ghosts as of_holds};
 ghost use Rattle.drives.specs.declared.table.DriveTable.{DriveTable as Drives};
 ghost use Rattle.drives.specs.declared.view.View.{View};
-ghost use Rattle.drives.specs.ListShop.{ListShop, is_set, troubled_in};
+ghost use Rattle.drives.specs.ListShop.{ListShop, shop_of, IsShop, is_set, troubled_in};
 ghost use Rattle.drives.specs.Local.{Holders, holders, IsHeldBy};
 ghost use Rattle.drives.specs.Stacking.{HasLatched};
 ghost use Rattle.drives.specs.Opening.{kinds};
@@ -18,7 +18,8 @@ ghost use Rattle.rmt_server.specs.Session.{Scene, ServeStep};
 ghost use Rattle.rmt_server.specs.State.{state, IsAt, Tells, KeepsDrives, drive_of, online_drive};
 ghost use Rattle.rmt_server.specs.Opening.{IsClosed};
 ghost use Rattle.rmt_server.specs.Carrying.{IsCarriedOut};
-ghost use Rattle.rmt_server.specs.TroubledServe.{TroubledServe, MemoryState, in_memory, IsTroubled, with_troubles, set_for, IsSetFor, IsServedUnder, IsEnded};
+ghost use Rattle.rmt_server.specs.Memory.{MemoryState, in_memory, scene_seen};
+ghost use Rattle.rmt_server.specs.TroubledServe.{TroubledServe, IsTroubled, with_troubles, set_for, IsSetFor, IsServedUnder, IsEnded};
 
 use drives::{Holds, Stacks};
 
@@ -84,6 +85,14 @@ pub fn stacks_trouble<H: Holds>()
     ensures { (old : Drives H ListShop H.Seat TroubledTape) (desk : Desk H.Seat TroubledTape) (on : Bool) →
         IsAt (kinds H.Holds of_stacks of_reel) (state old desk) →
         IsAt (kinds H.Holds of_stacks of_reel) (state (record old { stacks = record old.stacks { trouble = on } }) desk) }
+{}
+
+/// Stacks and reels in memory tell one scene, where each reel stands once.
+///
+/// It does nothing: its contract is a law of the definitions.
+pub fn one_scene()
+    ensures told { (x : MemoryState) → IsShop x.drives.stacks (shop_of x.drives.stacks) → Tells in_memory x (scene_seen x) }
+    ensures one { (x : MemoryState) (v : Scene) → Tells in_memory x v → v ≡ scene_seen x }
 {}
 
 /// One request of a session over drives and reels in memory, where it is told how the device call fails that it makes: the

@@ -10,7 +10,7 @@ mod stream;
 mod tests;
 
 pub use laws::{
-    more_seats, one_holder, open_is_held, stacks_trouble, still_at, troubled_is_served,
+    more_seats, one_holder, one_scene, open_is_held, stacks_trouble, still_at, troubled_is_served,
     troubled_serve, troubles_set, untroubled_end,
 };
 pub use session::Session;
