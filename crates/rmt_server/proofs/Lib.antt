@@ -4,6 +4,7 @@ mod Closed
 mod Moved
 mod Opens
 mod Seats
+mod Seen
 pub mod ServeSteps
 mod Sharing
 mod Sound
@@ -16,3 +17,5 @@ mod TroubledLying
 mod TroubledOpening
 mod TroubledReels
 mod TroubledServing
+mod TroubledSteps
+mod Troubles

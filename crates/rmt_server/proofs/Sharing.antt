@@ -2,12 +2,11 @@
 use Rattle.std.proofs.Common.{◌≡◌, ◌≢◌, ℕ, ◌<◌, ◌==◌, true, IsTrue, length, slice_index, Option, Some, None, sym, ◌∙◌, arith}
 use Rattle.std.proofs.lemmas.Bool.Decides.{nat_tests}
 use Rattle.tape.specs.declared.reel.Reel.{Ghosts as ReelPromise}
-use Rattle.drives.specs.declared.holds.Holds.{Ghosts as HoldsPromise}
 use Rattle.drives.specs.declared.stacks.Stacks.{Ghosts as StacksPromise}
 use Rattle.drives.specs.declared.table.DriveTable.{DriveTable}
 use Rattle.drives.specs.declared.view.View.{View}
 use Rattle.drives.specs.Holding.{has}
-use Rattle.drives.specs.Local.{Holders, IsSeatOf}
+use Rattle.drives.specs.Local.{Holders, IsSeatOf, IsHeldBy}
 use Rattle.drives.specs.Opening.{Kinds, kinds}
 use Rattle.drives.specs.contracts.local.LocalHoldsHolds.TheImpl.{ghosts as of_holds}
 use Rattle.rmt_server.specs.declared.session.desk.Opened.{Opened}
@@ -44,9 +43,24 @@ stays-at k old new other at kept n before after = record {
   latched = λ d e. kept.elsewhere d (before d (online-drive other.opened d e)) (after d (online-drive other.opened d e)) (at.latched d e);
 }
 
+number-is : (n a : ℕ) → (n == a) ≡ true → n ≡ a
+number-is n a e = grind (arith, nat_tests)
+
 module _ {S R : Type 0} (s : StacksPromise S R) (r : ReelPromise R) where
   abbrev local : Kinds Holders View S R
   local = kinds of_holds s r
+
+  -- the open drive is held by the session's seat
+  pub open-held : (drives : DriveTable Holders S View R) (desk : Desk View R) (d : ℕ) → IsAt local (state drives desk) → drive_of desk.opened ≡ Some d
+      → IsHeldBy drives.holds d desk.seat.number
+  open-held drives desk d at e =
+      let l : d < length drives.holds.numbers = omega (arith, at.below d e, at.enough) in
+      (l, number-is (slice_index drives.holds.numbers d) desk.seat.number (sym (at.own.agrees d l) ∙ (at.held d).1 e))
+
+  -- so a drive that has no holder is not open
+  pub free-closed : (drives : DriveTable Holders S View R) (desk : Desk View R) (d : ℕ) → IsAt local (state drives desk) → IsHeldBy drives.holds d 0
+      → drive_of desk.opened ≢ Some d
+  free-closed drives desk d at free e = omega (arith, (open-held drives desk d at e).1, free.1, at.own.numbered)
 
   -- two sessions do not have one drive open
   pub one-holder : (drives : DriveTable Holders S View R) (one other : Desk View R) (d : ℕ)

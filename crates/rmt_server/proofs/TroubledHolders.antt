@@ -1,16 +1,19 @@
 -- Who holds the drives of one thread after a close, after an open, and where nothing was taken or given back.
-use Rattle.std.proofs.Common.{◌≡◌, ◌≢◌, ◌⊎◌, ℕ, ◌<◌, Bool, true, false, cond, ◌==◌, IsTrue, List, length, slice_set, slice_index, Option, Some, None, Result, Ok, Err, IfOk, refl, sym, ap, subst, ◌∙◌, inl, inr, arith, length-set, get_or-set_same, get_or-set_other}
+use Rattle.std.proofs.Common.{◌≡◌, ◌≢◌, ◌⊎◌, ℕ, ◌<◌, true, false, cond, ◌==◌, List, length, slice_set, slice_index, Option, Some, None, Result, Ok, Err, IfOk, refl, sym, ap, subst, ◌∙◌, inl, inr, arith, length-set, get_or-set_same, get_or-set_other}
 use Rattle.std.proofs.lemmas.List.{ext_get_or}
 use Rattle.std.proofs.lemmas.Bool.Decides.{nat_tests}
 use Rattle.drives.specs.declared.fault.DriveFault.{DriveFault}
-use Rattle.drives.specs.declared.view.View.{View}
-use Rattle.drives.specs.Local.{Holders, IsHeldBy, IsSeatOf}
+use Rattle.drives.specs.Local.{Holders, IsHeldBy}
 use Rattle.drives.specs.Opening.{word_after_open}
 use Rattle.tape.specs.Trouble.{TroubledTape}
+use Rattle.drives.specs.contracts.list.ListStacksStacks.TheImpl.{ghosts as of_stacks}
+use Rattle.tape.specs.contracts.troubled.TroubledReelReel.TheImpl.{ghosts as of_reel}
 use Rattle.rmt_server.specs.declared.access.Access.{Access}
 use Rattle.rmt_server.specs.State.{drive_of, IsAt}
 use Rattle.rmt_server.specs.Opening.{word_after_close, opened_by}
-use Rattle.rmt_server.specs.TroubledServe.{with_holder, MemoryState, in_memory}
+use Rattle.rmt_server.specs.Memory.{MemoryState, in_memory}
+use Rattle.rmt_server.specs.TroubledServe.{with_holder}
+use Rattle.rmt_server.proofs.Sharing.{open-held}
 
 eq_or_ne : (m n : ℕ) → (m ≡ n) ⊎ (m ≢ n)
 eq_or_ne m n = grind arith
@@ -42,8 +45,8 @@ pub opened-numbers : (access : Access) (result : Result (ℕ × TroubledTape) Dr
 opened-numbers access (Ok opened) number old new same told free =
     ext_get_or 0 new.numbers (slice_set old.numbers opened.0 number) (same ∙ sym (length-set old.numbers opened.0 number))
     (λ d l. (let m : d < length old.numbers = subst (λ n. d < n) same l in
-        (told d (slice_index old.numbers d) (m, refl)).1 ∙ word-free number opened.0 d (slice_index old.numbers d) (λ e. ap (slice_index old.numbers) e ∙ free)
-        ∙ sym (set-at old.numbers opened.0 number d m)))
+    (told d (slice_index old.numbers d) (m, refl)).1 ∙ word-free number opened.0 d (slice_index old.numbers d) (λ e. ap (slice_index old.numbers) e ∙ free)
+    ∙ sym (set-at old.numbers opened.0 number d m)))
 opened-numbers access (Err fault) number old new same told free =
     ext_get_or 0 new.numbers old.numbers same (λ d l. (told d (slice_index old.numbers d) (subst (λ n. d < n) same l, refl)).1)
 
@@ -58,14 +61,9 @@ kept-numbers (Some e) number numbers own =
     let long : length (slice_set (slice_set numbers e 0) e number) ≡ length numbers = length-set (slice_set numbers e 0) e number ∙ length-set numbers e 0 in
     ext_get_or 0 numbers (slice_set (slice_set numbers e 0) e number) (sym long)
     (λ d l. (let first = set-at numbers e 0 d l in
-        let last = set-at (slice_set numbers e 0) e number d (subst (λ n. d < n) (sym (length-set numbers e 0)) l) in
-        kept-word d e number (slice_index numbers d) (slice_index (slice_set numbers e 0) d) (λ same. ap (slice_index numbers) same ∙ own e refl) first ∙ sym last))
-
-number-is : (n a : ℕ) → (n == a) ≡ true → n ≡ a
-number-is n a e = grind (arith, nat_tests)
+    let last = set-at (slice_set numbers e 0) e number d (subst (λ n. d < n) (sym (length-set numbers e 0)) l) in
+    kept-word d e number (slice_index numbers d) (slice_index (slice_set numbers e 0) d) (λ same. ap (slice_index numbers) same ∙ own e refl) first ∙ sym last))
 
 -- the open drive is held by the session's seat
 pub own-held : (x : MemoryState) → IsAt in_memory x → (d : ℕ) → drive_of x.opened ≡ Some d → slice_index x.drives.holds.numbers d ≡ x.seat.number
-own-held x at d e =
-    let l : d < length x.drives.holds.numbers = omega (arith, at.below d e, at.enough) in
-    number-is (slice_index x.drives.holds.numbers d) x.seat.number (sym (at.own.agrees d l) ∙ (at.held d).1 e)
+own-held x at d e = (open-held of_stacks of_reel x.drives (record { seat = x.seat; opened = x.opened }) d at e).1

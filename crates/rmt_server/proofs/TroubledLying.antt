@@ -1,5 +1,5 @@
 -- No reel that lies on the stacks or in the bin gets a trouble by a call of the stacks that brings none.
-use Rattle.std.proofs.Common.{◌≡◌, ◌≢◌, ◌⊎◌, ℕ, ◌<◌, Bool, true, false, List, [], length, map, Option, Some, None, MatchOption, Result, Ok, Err, refl, sym, ap, subst, ◌∙◌, inl, inr, arith}
+use Rattle.std.proofs.Common.{◌≡◌, ℕ, ◌<◌, false, [], length, Result, Ok, Err, refl, ap, subst, ◌∙◌, inl, inr, arith}
 use Rattle.std.proofs.Math.ListN.{get_or-map}
 use Rattle.std.proofs.lemmas.List.{length-map}
 use Rattle.tape.specs.Trouble.{TroubledTape}
@@ -7,7 +7,7 @@ use Rattle.tape.specs.declared.trouble.Trouble.TheVariants.{None as NoTrouble}
 use Rattle.drives.specs.declared.fault.DriveFault.{DriveFault}
 use Rattle.drives.specs.declared.fault.DriveFault.TheVariants.{NoSuchDrive, Busy, NoReel, Device, OutOfMemory, NameTaken}
 use Rattle.drives.specs.Shop.{KeptReel, Rack, rack, Shop, rack_at}
-use Rattle.drives.specs.ListShop.{ListShop, troubled_in, rest_slot, rest_rack, shop_of, IsShop, StacksCanFail, IsReelLatched, IsReelMoved, IsReelLaidBack}
+use Rattle.drives.specs.ListShop.{ListShop, troubled_in, rest_slot, rest_rack, IsShop, StacksCanFail, IsReelLatched, IsReelMoved, IsReelLaidBack}
 use Rattle.drives.specs.Stacking.{HasLatched}
 use Rattle.drives.proofs.Shops.{length-latched}
 use Rattle.drives.proofs.ListShop.{latch_quiet, lay_quiet, move_quiet}

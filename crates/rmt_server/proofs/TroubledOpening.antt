@@ -1,6 +1,6 @@
 -- An open of a session over drives and reels in memory, where it is told whether the latch fails.
 use Rattle.std.proofs.lemmas.List.{length-map}
-use Rattle.std.proofs.Common.{◌≡◌, ◌≢◌, ℕ, ◌<◌, Bool, true, false, List, [], length, slice_index, Option, Some, None, Result, Ok, Err, IfOk, refl, sym, ap, subst, ◌∙◌, arith}
+use Rattle.std.proofs.Common.{◌≡◌, ℕ, ◌<◌, Bool, true, false, List, [], length, slice_index, Option, Some, None, Result, Ok, Err, IfOk, refl, sym, ap, subst, ◌∙◌}
 use Rattle.rmt_wire.specs.Request.{PlainRequest}
 use Rattle.rmt_wire.specs.Request.PlainRequest.{Open, Close, Write, WriteDropped, Read, Op}
 use Rattle.rmt_wire.specs.Reply.{PlainReply}
@@ -12,13 +12,10 @@ use Rattle.tape.specs.contracts.troubled.TroubledReelReel.TheImpl.{ghosts as of_
 use Rattle.drives.specs.declared.fault.DriveFault.{DriveFault}
 use Rattle.drives.specs.declared.fault.DriveFault.TheVariants.{NoSuchDrive, Busy, NoReel, Device, OutOfMemory, NameTaken}
 use Rattle.drives.specs.declared.view.View.{View}
-use Rattle.drives.specs.Holding.{last_drive}
-use Rattle.drives.specs.Local.{Holders, IsHeldBy}
 use Rattle.drives.specs.Shop.{Shop}
 use Rattle.drives.specs.ListShop.{ListShop, troubled_in, rest_rack, is_set}
 use Rattle.drives.specs.Opening.{OpenStep, SeatStep, LatchesFor, drive_asked, found_in_open}
 use Rattle.rmt_server.specs.declared.access.Access.{Access}
-use Rattle.rmt_server.specs.declared.session.desk.Opened.{Opened}
 use Rattle.rmt_server.specs.declared.refusal.Refusal.TheVariants.{Invalid}
 use Rattle.rmt_server.specs.Refusals.{refused}
 use Rattle.rmt_server.specs.Access.{access_of}
@@ -26,7 +23,8 @@ use Rattle.rmt_server.specs.Session.{PlainReel, plain_reel, Scene, scene, closed
 use Rattle.rmt_server.specs.State.{drive_of, IsAt, IsSeenAs, Tells}
 use Rattle.rmt_server.specs.Opening.{opened_by, IsClosed, OpensFor, IsOpenedFor}
 use Rattle.rmt_server.specs.Carrying.{Operates, CarriesOut}
-use Rattle.rmt_server.specs.TroubledServe.{drive_in, with_holder, holder_of, IsOpenCause, MemoryState, in_memory, IsTroubled, IsSetAt, IsSetFor, IsServedSo}
+use Rattle.rmt_server.specs.Memory.{MemoryState, in_memory}
+use Rattle.rmt_server.specs.TroubledServe.{with_holder, holder_of, IsOpenCause, IsTroubled, IsSetAt, IsSetFor, IsServedUnder}
 use Rattle.rmt_server.proofs.TroubledHolders.{opened-numbers}
 use Rattle.rmt_server.proofs.TroubledLying.{latched-lying}
 use Rattle.rmt_server.proofs.TroubledServing.{unset, set-means, drive-seen, reel-so, reel-parts, closed-lying, closed-held, closed-tells, close-so, offline-so}
@@ -101,24 +99,24 @@ module _ (trouble : Trouble) (old : MemoryState) (before : Scene) (at : IsAt in_
   -- an open of a drive, once what was open is closed
   opened-so : (device : List ℕ) (mode : ℕ) (access : Access) (reply : PlainReply) (result : Result (ℕ × TroubledTape) DriveFault) (between new : MemoryState)
       → access_of mode ≡ Some access → reply ≡ open_reply result → IsClosed in_memory old between → IsOpenedFor in_memory between device access result new
-      → IsTroubled NoTrouble (is_set trouble) old → IsServedSo trouble old before (Open device mode) reply new
+      → IsTroubled NoTrouble (is_set trouble) old → IsServedUnder trouble old before (Open device mode) reply new
   opened-so device mode access reply result between new a e c o set =
       let asked : Option ℕ = drive_asked result new.seat in
       let st = o.opening.step (closed before).shop (c.step before tells) in
       let closed-numbers = closed-held trouble old before at tells between c in
       let rest = closed-lying trouble old before at tells (is_set trouble) between c set in
       let found : (d : ℕ) → asked ≡ Some d → found_in_open result ≡ slice_index between.drives.holds.numbers d
-          = λ d x. o.opening.found d (slice_index between.drives.holds.numbers d) x (o.opening.asked d x, refl) in
+      = λ d x. o.opening.found d (slice_index between.drives.holds.numbers d) x (o.opening.asked d x, refl) in
       let cause = open-cause trouble between.drives.holds.numbers device asked result between.seat new.seat between.drives.stacks new.drives.stacks (closed before).shop st.0
-          st.2 o.opening.view o.opening.call found (rest.1 ∙ set.next) in
+      st.2 o.opening.view o.opening.call found (rest.1 ∙ set.next) in
       let seen = open-seen-so trouble (holder_of between.drives.holds.numbers asked) device access asked result (closed before).shop st.0 st.2 cause in
       let after : Scene = scene st.0 (session_after access seen.plain) in
       let told : Tells in_memory new after = record { shop = st.1; session = rw o.opens seen.seen } in
       let racks : length (closed before).shop.racks ≡ length between.drives.stacks.shop.racks
-          = ap (λ (s : Shop). length s.racks) (c.step before tells).0 ∙ length-map between.drives.stacks.shop.racks rest_rack in
+      = ap (λ (s : Shop). length s.racks) (c.step before tells).0 ∙ length-map between.drives.stacks.shop.racks rest_rack in
       let free = open-free between.drives.holds.numbers device asked result (closed before).shop st.0 st.2 found in
       let opened : new.drives.holds.numbers ≡ with_holder (drive_of (opened_by access result)) between.seat.number between.drives.holds.numbers
-          = opened-numbers access result between.seat.number between.drives.holds new.drives.holds o.opening.same_holds o.opening.told free in
+      = opened-numbers access result between.seat.number between.drives.holds new.drives.holds o.opening.same_holds o.opening.told free in
       record {
         after = after;
         tells = told;
@@ -131,7 +129,7 @@ module _ (trouble : Trouble) (old : MemoryState) (before : Scene) (at : IsAt in_
 
   -- an open of a mode that is none
   invalid-so : (device : List ℕ) (mode : ℕ) (reply : PlainReply) (between new : MemoryState) → access_of mode ≡ None → reply ≡ refused Invalid → new ≡ between
-      → IsClosed in_memory old between → IsTroubled NoTrouble (is_set trouble) old → IsServedSo trouble old before (Open device mode) reply new
+      → IsClosed in_memory old between → IsTroubled NoTrouble (is_set trouble) old → IsServedUnder trouble old before (Open device mode) reply new
   invalid-so device mode reply between new a e n c set = rw n (record {
     after = closed before;
     tells = closed-tells trouble old before at tells between c;
@@ -141,13 +139,13 @@ module _ (trouble : Trouble) (old : MemoryState) (before : Scene) (at : IsAt in_
 
   open-so : (device : List ℕ) (mode : ℕ) (access : Option Access) (reply : PlainReply) (between new : MemoryState) → access_of mode ≡ access
       → IsClosed in_memory old between → OpensFor in_memory between device access reply new → IsTroubled NoTrouble (is_set trouble) old
-      → IsServedSo trouble old before (Open device mode) reply new
+      → IsServedUnder trouble old before (Open device mode) reply new
   open-so device mode None reply between new a c (e, n) set = invalid-so device mode reply between new a e n c set
   open-so device mode (Some access) reply between new a c (result, e, o) set = opened-so device mode access reply result between new a e c o set
 
   -- an operation, which is MTOFFL or not
   op-so : (offline : Bool) (op count : ℕ) (reply : PlainReply) (new : MemoryState) → is_offline op ≡ offline → Operates in_memory offline old op count reply new
-      → IsSetAt offline trouble old → IsServedSo trouble old before (Op op count) reply new
+      → IsSetAt offline trouble old → IsServedUnder trouble old before (Op op count) reply new
   op-so true op count reply new off m set = offline-so trouble old before at tells op count reply new off m set
   op-so false op count reply new off serves set =
       let p = reel-parts trouble old before at tells (Op op count) reply new serves set in
@@ -155,7 +153,7 @@ module _ (trouble : Trouble) (old : MemoryState) (before : Scene) (at : IsAt in_
 
   -- each request
   pub served-so : (request : PlainRequest) (reply : PlainReply) (new : MemoryState) → CarriesOut in_memory old request reply new → IsSetFor trouble request old
-      → IsServedSo trouble old before request reply new
+      → IsServedUnder trouble old before request reply new
   served-so (Open device mode) reply new (between, c, o) set = open-so device mode (access_of mode) reply between new refl c o set
   served-so Close reply new c set = close-so trouble old before at tells reply new c set
   served-so (Write bytes) reply new serves set =

@@ -1,8 +1,7 @@
 -- What the open reel serves where it is told how its next device call fails.
-use Rattle.std.proofs.Common.{◌≡◌, ℕ, Option, Some, None, MatchOption, refl, ap, subst}
+use Rattle.std.proofs.Common.{◌≡◌, Option, Some, None, MatchOption, refl, ap, subst}
 use Rattle.rmt_wire.specs.Request.{PlainRequest}
 use Rattle.rmt_wire.specs.Reply.{PlainReply}
-use Rattle.tape.specs.Tape.{Tape}
 use Rattle.tape.specs.Trouble.{TroubledTape, DeviceStep}
 use Rattle.tape.specs.declared.trouble.Trouble.{Trouble}
 use Rattle.tape.specs.contracts.troubled.TroubledReelReel.TheImpl.{ghosts as of_reel}
@@ -14,7 +13,7 @@ use Rattle.rmt_server.specs.Session.{PlainSession, plain_reel, scene, status_of,
 use Rattle.rmt_server.specs.Session.PlainSession.{Online}
 use Rattle.rmt_server.specs.State.{IsSeenWith, IsSeenAs, reel_of, status_at}
 use Rattle.rmt_server.specs.Serving.{CallsIn, CallsReel, ReelServes}
-use Rattle.rmt_server.specs.TroubledServe.{drive_in, TroubledReelStep}
+use Rattle.rmt_server.specs.TroubledServe.{TroubledReelStep}
 use Rattle.rmt_server.proofs.Steps.{status-seen}
 
 -- what a request that the reel serves leaves of a session that is seen so
@@ -41,7 +40,7 @@ module _ (trouble : Trouble) (new : Option (Opened TroubledTape)) (shop : Shop) 
       moved.tape,
       s,
       subst (λ x. DeviceStep reel.capacity x t (tape_request request) answer moved.tape) set
-        (subst (λ x. DeviceStep reel.capacity reel.trouble x (tape_request request) answer moved.tape) held call.made.step),
+          (subst (λ x. DeviceStep reel.capacity reel.trouble x (tape_request request) answer moved.tape) held call.made.step),
       e,
       ap (λ c. scene shop (Online device.drive device.access (plain_reel moved.tape c))) call.same_capacity,
     );

@@ -1,35 +1,32 @@
 -- Each request of a session over drives and reels in memory, where it is told how the device call fails that it makes.
-use Rattle.std.proofs.Common.{◌≡◌, ◌≢◌, ◌⊎◌, ℕ, ◌<◌, Bool, true, false, IsTrue, List, length, slice_index, Option, Some, None, MatchOption, Result, Ok, Err, IfOk, refl, sym, ap, subst, ◌∙◌, inl, inr, arith}
+use Rattle.std.proofs.Common.{◌≡◌, ◌≢◌, ℕ, ◌<◌, Bool, true, false, length, Option, Some, None, MatchOption, Result, Ok, Err, refl, sym, ap, subst, ◌∙◌}
 use Rattle.rmt_wire.specs.Request.{PlainRequest}
-use Rattle.rmt_wire.specs.Request.PlainRequest.{Open, Close, Write, WriteDropped, Read, Op}
+use Rattle.rmt_wire.specs.Request.PlainRequest.{Close, Op}
 use Rattle.rmt_wire.specs.Reply.{PlainReply}
 use Rattle.rmt_wire.specs.Reply.PlainReply.{Done}
-use Rattle.tape.specs.Tape.{Tape, tape}
-use Rattle.tape.specs.Tape.TapeRequest.{Rewind}
-use Rattle.tape.specs.Tape.TapeAnswer.{Done as Did}
+use Rattle.tape.specs.Tape.{Tape}
 use Rattle.tape.specs.Trouble.{TroubledTape}
 use Rattle.tape.specs.declared.trouble.Trouble.{Trouble}
 use Rattle.tape.specs.declared.trouble.Trouble.TheVariants.{None as NoTrouble, Kept, Lost, Written}
 use Rattle.tape.specs.contracts.troubled.TroubledReelReel.TheImpl.{ghosts as of_reel}
 use Rattle.drives.specs.declared.fault.DriveFault.{DriveFault}
 use Rattle.drives.specs.declared.fault.DriveFault.TheVariants.{NoSuchDrive, Busy, NoReel, Device, OutOfMemory, NameTaken}
-use Rattle.drives.specs.declared.view.View.{View}
-use Rattle.drives.specs.Shop.{Shop, rack_at}
+use Rattle.drives.specs.Shop.{Shop}
 use Rattle.drives.specs.ListShop.{ListShop, troubled_in, is_set, IsShop}
 use Rattle.drives.specs.Stacking.{HasLatched}
 use Rattle.rmt_server.specs.declared.access.Access.{Access}
 use Rattle.rmt_server.specs.declared.refusal.Refusal.{Refusal}
 use Rattle.rmt_server.specs.declared.refusal.Refusal.TheVariants.{BadDescriptor}
 use Rattle.rmt_server.specs.declared.session.desk.Opened.{Opened}
-use Rattle.rmt_server.specs.Access.{access_of}
 use Rattle.rmt_server.specs.Refusals.{refused}
 use Rattle.rmt_server.specs.Session.{PlainSession, Scene, scene, plain_reel, status_of, refusal, is_offline, closed, move_reply}
-use Rattle.rmt_server.specs.Session.PlainSession.{Idle, Offline, Online}
-use Rattle.rmt_server.specs.State.{drive_of, online_in, online_drive, reel_of, status_in, status_at, IsAt, IsSeenWith, IsSeenAs, Tells, IsReelCall}
+use Rattle.rmt_server.specs.Session.PlainSession.{Offline, Online}
+use Rattle.rmt_server.specs.State.{drive_of, online_in, online_drive, reel_of, status_in, status_at, IsAt, IsSeenWith, IsSeenAs, Tells}
 use Rattle.rmt_server.specs.Opening.{LaysBack, LaysBackOpened, IsClosed, Closes}
 use Rattle.rmt_server.specs.Moving.{IsTakenOff, MovesIn, MovesReel, MovesOff}
 use Rattle.rmt_server.specs.Serving.{Serves}
-use Rattle.rmt_server.specs.TroubledServe.{drive_in, with_holder, TroubledServeStep, TroubledServe, MemoryState, in_memory, IsTroubled, IsSetFor, IsServedSo}
+use Rattle.rmt_server.specs.Memory.{MemoryState, in_memory}
+use Rattle.rmt_server.specs.TroubledServe.{drive_in, with_holder, TroubledServeStep, IsTroubled, IsServedUnder}
 use Rattle.rmt_server.proofs.Sound.{serves-same}
 use Rattle.rmt_server.proofs.Steps.{status-seen}
 use Rattle.rmt_server.proofs.TroubledHolders.{closed-numbers, kept-numbers, own-held}
@@ -76,7 +73,7 @@ module _ (trouble : Trouble) (old : MemoryState) (before : Scene) (at : IsAt in_
 
   -- a refused request
   refused-so : (request : PlainRequest) (reply : PlainReply) (new : MemoryState) → new ≡ old → troubled_in old.drives.stacks.shop ≡ 0
-      → TroubledServeStep trouble old.drives.holds.numbers before request reply before → IsServedSo trouble old before request reply new
+      → TroubledServeStep trouble old.drives.holds.numbers before request reply before → IsServedUnder trouble old before request reply new
   refused-so request reply new n none step = rw n (record {
     after = before;
     tells = tells;
@@ -88,7 +85,7 @@ module _ (trouble : Trouble) (old : MemoryState) (before : Scene) (at : IsAt in_
   pub reel-so : (request : PlainRequest) (reply : PlainReply) (new : MemoryState) → Serves in_memory old request reply new → IsTroubled trouble false old
       → (p : ReelServedSo trouble new.opened before.shop before.session (refusal (status_of before.session) request) request reply)
       → TroubledServeStep trouble old.drives.holds.numbers before request reply (scene before.shop p.after)
-      → IsServedSo trouble old before request reply new
+      → IsServedUnder trouble old before request reply new
   reel-so request reply new (n, e, serves) set p step =
       let seen : Tells in_memory new (scene before.shop p.after) = record { shop = rw n tells.shop; session = p.seen } in
       record {
@@ -137,7 +134,7 @@ module _ (trouble : Trouble) (old : MemoryState) (before : Scene) (at : IsAt in_
 
   closes-by : (opened : Option (Opened TroubledTape)) (reply : PlainReply) (new : MemoryState) → old.opened ≡ opened
       → MatchOption opened ((reply ≡ refused BadDescriptor) × (new ≡ old)) (λ device. (reply ≡ Done 0) × IsClosed in_memory old new) → IsTroubled NoTrouble false old
-      → IsServedSo trouble old before Close reply new
+      → IsServedUnder trouble old before Close reply new
   closes-by None reply new o (e, n) set =
       let idle : status_of before.session ≡ status_at {R = TroubledTape} None = status-seen of_reel None before.session (subst (λ p. IsSeenAs of_reel p before.session) o tells.session) in
       refused-so Close reply new n set.lying (rw idle (e, refl))
@@ -150,7 +147,7 @@ module _ (trouble : Trouble) (old : MemoryState) (before : Scene) (at : IsAt in_
         lying = (closed-lying false new c set).0;
       }
 
-  pub close-so : (reply : PlainReply) (new : MemoryState) → Closes in_memory old reply new → IsTroubled NoTrouble false old → IsServedSo trouble old before Close reply new
+  pub close-so : (reply : PlainReply) (new : MemoryState) → Closes in_memory old reply new → IsTroubled NoTrouble false old → IsServedUnder trouble old before Close reply new
   close-so reply new c set = closes-by old.opened reply new refl c set
 
   calm-in : (device : Opened TroubledTape) (reel : TroubledTape) (stacks : Bool) → old.opened ≡ Some device → device.reel ≡ Some reel → IsTroubled NoTrouble stacks old → reel.trouble ≡ NoTrouble
@@ -162,7 +159,7 @@ module _ (trouble : Trouble) (old : MemoryState) (before : Scene) (at : IsAt in_
       → old.opened ≡ Some device → device.reel ≡ Some reel → is_offline op ≡ true → refusal (status_of before.session) (Op op count) ≡ None
       → reply ≡ move_reply count result → IsTakenOff in_memory old device reel result new → IsTroubled NoTrouble (is_set trouble) old
       → (t : Tape) → reel.tape ≡ t → before.session ≡ Online device.drive device.access (plain_reel t reel.capacity)
-      → IsServedSo trouble old before (Op op count) reply new
+      → IsServedUnder trouble old before (Op op count) reply new
   taken-so device reel op count reply (Ok x) new o online off free e m set t held seen =
       let u = m.rewound.step t held in
       let v = m.call.step u.0 u.1 before.shop tells.shop in
@@ -222,26 +219,26 @@ module _ (trouble : Trouble) (old : MemoryState) (before : Scene) (at : IsAt in_
   moves-in-so : (device : Opened TroubledTape) (lying : Option TroubledTape) (op count : ℕ) (reply : PlainReply) (new : MemoryState)
       → old.opened ≡ Some device → device.reel ≡ lying → is_offline op ≡ true → refusal (status_of before.session) (Op op count) ≡ None
       → MovesIn in_memory old device lying count reply new → IsTroubled NoTrouble (is_set trouble) old → IsSeenWith of_reel device.drive device.access lying before.session
-      → IsServedSo trouble old before (Op op count) reply new
+      → IsServedUnder trouble old before (Op op count) reply new
   moves-in-so device None op count reply new o online off free m set seen = absurd m
   moves-in-so device (Some reel) op count reply new o online off free (result, e, m) set (t, held, seen) = taken-so device reel op count reply result new o online off free e m set t held seen
 
   moves-reel-so : (opened : Option (Opened TroubledTape)) (op count : ℕ) (reply : PlainReply) (new : MemoryState)
       → old.opened ≡ opened → is_offline op ≡ true → refusal (status_of before.session) (Op op count) ≡ None
       → MovesReel in_memory old opened count reply new → IsTroubled NoTrouble (is_set trouble) old → IsSeenAs of_reel opened before.session
-      → IsServedSo trouble old before (Op op count) reply new
+      → IsServedUnder trouble old before (Op op count) reply new
   moves-reel-so None op count reply new o off free m set seen = absurd m
   moves-reel-so (Some device) op count reply new o off free m set seen = moves-in-so device device.reel op count reply new o refl off free m set seen
 
   moves-by-so : (by : Option Refusal) (op count : ℕ) (reply : PlainReply) (new : MemoryState)
       → refusal (status_of before.session) (Op op count) ≡ by → is_offline op ≡ true
       → MatchOption by (MovesReel in_memory old old.opened count reply new) (λ x. (reply ≡ refused x) × (new ≡ old)) → IsTroubled NoTrouble (is_set trouble) old
-      → IsServedSo trouble old before (Op op count) reply new
+      → IsServedUnder trouble old before (Op op count) reply new
   moves-by-so None op count reply new free off m set = moves-reel-so old.opened op count reply new refl off free m set tells.session
   moves-by-so (Some x) op count reply new free off (e, n) set = refused-so (Op op count) reply new n set.lying (rw free (e, refl))
 
   -- MTOFFL
   pub offline-so : (op count : ℕ) (reply : PlainReply) (new : MemoryState) → is_offline op ≡ true → MovesOff in_memory old op count reply new → IsTroubled NoTrouble (is_set trouble) old
-      → IsServedSo trouble old before (Op op count) reply new
+      → IsServedUnder trouble old before (Op op count) reply new
   offline-so op count reply new off m set =
       moves-by-so (refusal (status_at old.opened) (Op op count)) op count reply new (ap (λ s. refusal s (Op op count)) (status-seen of_reel old.opened before.session tells.session)) off m set

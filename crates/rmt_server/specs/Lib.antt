@@ -9,4 +9,5 @@ pub mod Serving
 pub mod Carrying
 pub mod Stream
 pub mod Troubling
+pub mod Memory
 pub mod TroubledServe

@@ -6,25 +6,22 @@ use Rattle.rmt_wire.specs.Request.PlainRequest.{Open, Close, Op}
 use Rattle.rmt_wire.specs.Reply.{PlainReply}
 use Rattle.rmt_wire.specs.Reply.PlainReply.{Done}
 use Rattle.tape.specs.Tape.{Tape, TapeAnswer}
-use Rattle.tape.specs.Trouble.{TroubledTape, DeviceStep}
+use Rattle.tape.specs.Trouble.{DeviceStep}
 use Rattle.tape.specs.declared.trouble.Trouble.{Trouble}
 use Rattle.tape.specs.declared.trouble.Trouble.TheVariants.{None as NoTrouble}
-use Rattle.tape.specs.contracts.troubled.TroubledReelReel.TheImpl.{ghosts as of_reel}
 use Rattle.drives.specs.declared.fault.DriveFault.{DriveFault}
 use Rattle.drives.specs.declared.fault.DriveFault.TheVariants as drive
-use Rattle.drives.specs.declared.view.View.{View}
-use Rattle.drives.specs.Local.{Holders}
-use Rattle.drives.specs.ListShop.{ListShop, is_set, troubled_in}
-use Rattle.drives.specs.Opening.{Kinds, kinds, OpenStep}
-use Rattle.drives.specs.contracts.list.ListStacksStacks.TheImpl.{ghosts as of_stacks}
-use Rattle.drives.specs.contracts.local.LocalHoldsHolds.TheImpl.{ghosts as of_holds}
+use Rattle.drives.specs.ListShop.{is_set, troubled_in}
+use Rattle.drives.specs.Opening.{OpenStep}
 use Rattle.rmt_server.specs.declared.access.Access.{Access}
 use Rattle.rmt_server.specs.declared.refusal.Refusal.TheVariants.{Invalid}
 use Rattle.rmt_server.specs.Access.{access_of}
 use Rattle.rmt_server.specs.Refusals.{refused}
 use Rattle.rmt_server.specs.Session.{PlainReel, plain_reel, PlainSession, Scene, scene, status_of, refusal, tape_request, reel_reply, closed, open_reply, session_after, is_offline, move_reply, MovesAs}
 use Rattle.rmt_server.specs.Session.PlainSession.{Idle, Offline, Online}
-use Rattle.rmt_server.specs.State.{State, reel_of, Tells}
+use Rattle.rmt_server.specs.State.{seated_at, reel_of, Tells}
+use Rattle.rmt_server.specs.Memory.{MemoryState, in_memory}
+use Rattle.rmt_server.specs.Troubling.{with_trouble}
 use Rattle.rmt_server.specs.Carrying.{is_of_stacks}
 
 -- the drive that is open
@@ -114,13 +111,6 @@ pub record TroubledServe (trouble : Trouble) (holders : List ℕ) (k : ℕ) (bef
   pub step : TroubledServeStep trouble holders before request reply after
   pub held : holders' ≡ with_holder (drive_in after.session) k (with_holder (drive_in before.session) 0 holders)
 
--- a session at the drives of one thread, whose reels are in memory
-abbrev pub MemoryState : Type 0
-MemoryState = State Holders ListShop View TroubledTape
-
-abbrev pub in_memory : Kinds Holders View ListShop TroubledTape
-in_memory = kinds of_holds of_stacks of_reel
-
 -- This trouble is set for the open reel, if there is one, and this for the stacks; for a reel that lies there none is.
 pub record IsTroubled (reel : Trouble) (stacks : Bool) (x : MemoryState) : Type 0 where
   pub online : MatchOption (reel_of x.opened) (Unit {0}) (λ r. r.trouble ≡ reel)
@@ -138,8 +128,30 @@ IsSetFor trouble Close x = IsTroubled NoTrouble false x
 IsSetFor trouble request x = IsSetAt (is_of_stacks request) trouble x
 
 -- The request is served so, and no reel that lies on the stacks or in the bin has a trouble afterwards.
-pub record IsServedSo (trouble : Trouble) (old : MemoryState) (before : Scene) (request : PlainRequest) (reply : PlainReply) (new : MemoryState) : Type 0 where
+pub record IsServedUnder (trouble : Trouble) (old : MemoryState) (before : Scene) (request : PlainRequest) (reply : PlainReply)
+    (new : MemoryState) : Type 0 where
   pub after : Scene
   pub tells : Tells in_memory new after
   pub served : TroubledServe trouble old.drives.holds.numbers old.seat.number before request reply after new.drives.holds.numbers
+  pub lying : troubled_in new.drives.stacks.shop ≡ 0
+
+-- this trouble is set for the open reel, if there is one, and this for the stacks
+abbrev pub with_troubles : Trouble → Bool → MemoryState → MemoryState
+with_troubles reel stacks x =
+    seated_at (record x.drives { stacks = record x.drives.stacks { trouble = stacks } }) x.seat (with_trouble reel x.opened)
+
+abbrev pub set_at : Bool → Trouble → MemoryState → MemoryState
+set_at true trouble x = with_troubles NoTrouble (is_set trouble) x
+set_at false trouble x = with_troubles trouble false x
+
+-- the trouble is set where the request meets it
+abbrev pub set_for : Trouble → PlainRequest → MemoryState → MemoryState
+set_for trouble Close x = with_troubles NoTrouble false x
+set_for trouble request x = set_at (is_of_stacks request) trouble x
+
+-- What was open is closed: its reel lies on its stack again, its drive has no holder, and no reel that lies there has a
+-- trouble.
+pub record IsEnded (old : MemoryState) (before : Scene) (new : MemoryState) : Type 0 where
+  pub tells : Tells in_memory new (closed before)
+  pub held : new.drives.holds.numbers ≡ with_holder (drive_in before.session) 0 old.drives.holds.numbers
   pub lying : troubled_in new.drives.stacks.shop ≡ 0

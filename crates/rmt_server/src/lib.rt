@@ -9,6 +9,9 @@ mod stream;
 #[cfg(test)]
 mod tests;
 
-pub use laws::{more_seats, one_holder, stacks_trouble, still_at, troubled_serve};
+pub use laws::{
+    more_seats, one_holder, one_scene, open_is_held, stacks_trouble, still_at, troubled_is_served,
+    troubled_serve, troubles_set, untroubled_end,
+};
 pub use session::Session;
 pub use stream::{ServeFault, Served, serve};

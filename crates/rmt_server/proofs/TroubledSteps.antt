@@ -1,0 +1,106 @@
+-- A request that is served where it is told how the device call fails is a serve step.
+use Rattle.std.proofs.Common.{◌≡◌, ◌≢◌, ℕ, ◌<◌, Bool, true, false, IsTrue, List, Option, Some, None, MatchOption, Result, Ok, Err, refl, sym, subst}
+use Rattle.rmt_wire.specs.Request.{PlainRequest}
+use Rattle.rmt_wire.specs.Request.PlainRequest.{Open, Close, Write, WriteDropped, Read, Op}
+use Rattle.rmt_wire.specs.Reply.{PlainReply}
+use Rattle.tape.specs.Tape.{Tape, TapeRequest, TapeAnswer}
+use Rattle.tape.specs.Tape.TapeAnswer.{Done, Gave, Fault}
+use Rattle.tape.specs.Trouble.{DeviceStep}
+use Rattle.tape.specs.declared.fault.TapeFault.TheVariants as fault
+use Rattle.tape.specs.declared.trouble.Trouble.{Trouble}
+use Rattle.tape.specs.declared.trouble.Trouble.TheVariants.{None as NoTrouble, Kept, Lost, Written}
+use Rattle.tape.proofs.Devices.{tape_step}
+use Rattle.drives.specs.declared.fault.DriveFault.{DriveFault}
+use Rattle.drives.specs.declared.fault.DriveFault.TheVariants.{NoSuchDrive, Busy, NoReel, Device, OutOfMemory, NameTaken}
+use Rattle.drives.specs.ListShop.{is_set}
+use Rattle.drives.specs.Opening.{found_in_open}
+use Rattle.rmt_server.specs.declared.access.Access.{Access}
+use Rattle.rmt_server.specs.declared.refusal.Refusal.{Refusal}
+use Rattle.rmt_server.specs.Access.{access_of}
+use Rattle.rmt_server.specs.Refusals.{refused}
+use Rattle.rmt_server.specs.Session.{PlainReel, Scene, status_of, refusal, tape_request, closed, is_offline, IsExcused, ReelStep, IsOpenExcused, OpensAs, OpStep, DoneStep, ServeStep}
+use Rattle.rmt_server.specs.TroubledServe.{drive_in, with_holder, holder_of, IsOpenCause, TroubledReelStep, TroubledOpens, TroubledOpStep, TroubledDoneStep, TroubledServeStep}
+
+set-is : (trouble : Trouble) → trouble ≢ NoTrouble → IsTrue (is_set trouble)
+set-is NoTrouble n = absurd (n refl)
+set-is Kept n = refl
+set-is Lost n = refl
+set-is (Written count) n = refl
+
+-- a reel's device is at fault only where a trouble is set
+call-excused : (capacity : ℕ) (trouble : Trouble) (t : Tape) (request : TapeRequest) (answer : TapeAnswer) (u : Tape)
+    → DeviceStep capacity trouble t request answer u → IsExcused (is_set trouble) true answer
+call-excused capacity trouble t request Done u h = tt
+call-excused capacity trouble t request (Gave bytes) u h = tt
+call-excused capacity trouble t request (Fault fault.Device) u h = set-is trouble h.0
+call-excused capacity trouble t request (Fault fault.Full) u h = tt
+call-excused capacity trouble t request (Fault fault.EndOrMark) u h = tt
+call-excused capacity trouble t request (Fault fault.BadOperation) u h = tt
+call-excused capacity trouble t request (Fault fault.OutOfMemory) u h = refl
+
+reel-step : (trouble : Trouble) (before : Scene) (request : PlainRequest) (reply : PlainReply) (after : Scene)
+    → TroubledReelStep trouble before request reply after → ReelStep (is_set trouble) true before request reply after
+reel-step trouble before request reply after (drive, access, reel, answer, t, s, h, e, a) = (
+  drive,
+  access,
+  reel,
+  answer,
+  t,
+  s,
+  tape_step reel.capacity trouble reel.tape (tape_request request) answer t h,
+  call-excused reel.capacity trouble reel.tape (tape_request request) answer t h,
+  e,
+  a,
+)
+
+-- and the stacks' device too
+open-excused : (trouble : Trouble) (n : ℕ) (result : Result (ℕ × PlainReel) DriveFault) → IsOpenCause trouble n result → IsOpenExcused (is_set trouble) result
+open-excused trouble n (Ok opened) q = tt
+open-excused trouble n (Err NoSuchDrive) q = tt
+open-excused trouble n (Err (Busy m)) q = subst (λ x. 0 < x) (sym q.1) q.0
+open-excused trouble n (Err NoReel) q = tt
+open-excused trouble n (Err Device) q = set-is trouble q.1
+open-excused trouble n (Err OutOfMemory) q = tt
+open-excused trouble n (Err NameTaken) q = q
+
+open-step : (trouble : Trouble) (holders : List ℕ) (before : Scene) (device : List ℕ) (access : Option Access) (reply : PlainReply) (after : Scene)
+    → TroubledOpens trouble holders before device access reply after
+    → (asked : Option ℕ) × (found : ℕ) × OpensAs (is_set trouble) asked found before device access reply after
+open-step trouble holders before device None reply after (e, n) = (None, 0, (e, n))
+open-step trouble holders before device (Some access) reply after (result, asked, h, q, e, s) =
+    (asked, found_in_open result, (result, h, refl, open-excused trouble (holder_of holders asked) result q, e, s))
+
+op-step : (offline : Bool) (trouble : Trouble) (before : Scene) (op count : ℕ) (reply : PlainReply) (after : Scene)
+    → TroubledOpStep offline trouble before op count reply after → OpStep offline (is_set trouble) true before op count reply after
+op-step true trouble before op count reply after (drive, access, reel, result, s, q, e, m) = (drive, access, reel, result, s, e, m)
+op-step false trouble before op count reply after h = reel-step trouble before (Op op count) reply after h
+
+done-step : (trouble : Trouble) (before : Scene) (request : PlainRequest) (reply : PlainReply) (after : Scene)
+    → TroubledDoneStep trouble before request reply after → DoneStep (is_set trouble) true before request reply after
+done-step trouble before (Open device mode) reply after h = reel-step trouble before (Open device mode) reply after h
+done-step trouble before Close reply after h = h
+done-step trouble before (Write bytes) reply after h = reel-step trouble before (Write bytes) reply after h
+done-step trouble before (WriteDropped count) reply after h = reel-step trouble before (WriteDropped count) reply after h
+done-step trouble before (Read count) reply after h = reel-step trouble before (Read count) reply after h
+done-step trouble before (Op op count) reply after h = op-step (is_offline op) trouble before op count reply after h
+
+step-by : (by : Option Refusal) (trouble : Trouble) (before : Scene) (request : PlainRequest) (reply : PlainReply) (after : Scene)
+    → MatchOption by (TroubledDoneStep trouble before request reply after) (λ r. (reply ≡ refused r) × (after ≡ before))
+    → MatchOption by (DoneStep (is_set trouble) true before request reply after) (λ r. (reply ≡ refused r) × (after ≡ before))
+step-by None trouble before request reply after h = done-step trouble before request reply after h
+step-by (Some r) trouble before request reply after h = h
+
+pub serve-step : (trouble : Trouble) (holders : List ℕ) (before : Scene) (request : PlainRequest) (reply : PlainReply) (after : Scene)
+    → TroubledServeStep trouble holders before request reply after
+    → (asked : Option ℕ) × (found : ℕ) × ServeStep (is_set trouble) true asked found before request reply after
+serve-step trouble holders before (Open device mode) reply after h =
+    open-step trouble (with_holder (drive_in before.session) 0 holders) (closed before) device (access_of mode) reply after h
+serve-step trouble holders before Close reply after h = (None, 0, step-by (refusal (status_of before.session) Close) trouble before Close reply after h)
+serve-step trouble holders before (Write bytes) reply after h =
+    (None, 0, step-by (refusal (status_of before.session) (Write bytes)) trouble before (Write bytes) reply after h)
+serve-step trouble holders before (WriteDropped count) reply after h =
+    (None, 0, step-by (refusal (status_of before.session) (WriteDropped count)) trouble before (WriteDropped count) reply after h)
+serve-step trouble holders before (Read count) reply after h =
+    (None, 0, step-by (refusal (status_of before.session) (Read count)) trouble before (Read count) reply after h)
+serve-step trouble holders before (Op op count) reply after h =
+    (None, 0, step-by (refusal (status_of before.session) (Op op count)) trouble before (Op op count) reply after h)

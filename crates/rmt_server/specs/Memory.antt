@@ -1,0 +1,34 @@
+-- A session at the drives of one thread, whose reels are in memory, and what it is seen as.
+use Rattle.std.specs.Prelude.{ℕ, Option, Some, None}
+use Rattle.tape.specs.Trouble.{TroubledTape}
+use Rattle.tape.specs.contracts.troubled.TroubledReelReel.TheImpl.{ghosts as of_reel}
+use Rattle.drives.specs.declared.view.View.{View}
+use Rattle.drives.specs.Local.{Holders}
+use Rattle.drives.specs.ListShop.{ListShop, shop_of}
+use Rattle.drives.specs.Opening.{Kinds, kinds}
+use Rattle.drives.specs.contracts.list.ListStacksStacks.TheImpl.{ghosts as of_stacks}
+use Rattle.drives.specs.contracts.local.LocalHoldsHolds.TheImpl.{ghosts as of_holds}
+use Rattle.rmt_server.specs.declared.access.Access.{Access}
+use Rattle.rmt_server.specs.declared.session.desk.Opened.{Opened}
+use Rattle.rmt_server.specs.Session.{plain_reel, PlainSession, Scene, scene}
+use Rattle.rmt_server.specs.Session.PlainSession.{Idle, Offline, Online}
+use Rattle.rmt_server.specs.State.{State}
+
+abbrev pub MemoryState : Type 0
+MemoryState = State Holders ListShop View TroubledTape
+
+abbrev pub in_memory : Kinds Holders View ListShop TroubledTape
+in_memory = kinds of_holds of_stacks of_reel
+
+-- the session where this drive is open, with this reel or with none
+abbrev pub session_with : ℕ → Access → Option TroubledTape → PlainSession
+session_with drive access None = Offline drive access
+session_with drive access (Some reel) = Online drive access (plain_reel reel.tape reel.capacity)
+
+abbrev pub session_seen : Option (Opened TroubledTape) → PlainSession
+session_seen None = Idle
+session_seen (Some device) = session_with device.drive device.access device.reel
+
+-- what stacks and open reel tell
+abbrev pub scene_seen : MemoryState → Scene
+scene_seen x = scene (shop_of x.drives.stacks) (session_seen x.opened)
