@@ -14,16 +14,12 @@ use drives::Stacks;
 ///
 /// It does nothing: its contract is a law of the definitions.
 pub fn one_holder<S: Stacks>()
-    ensures one {
-        (drives : Drives Holders S View S.Reel) (one other : Desk View S.Reel) (d : ℕ) →
+    ensures one { (drives : Drives Holders S View S.Reel) (one other : Desk View S.Reel) (d : ℕ) →
         IsAt (kinds of_holds S.Stacks S.Reel.Reel) (state drives one) → IsAt (kinds of_holds S.Stacks S.Reel.Reel) (state drives other) →
-        one.seat.number ≢ other.seat.number → drive_of one.opened ≡ Some d → drive_of other.opened ≡ Some d → ⊥
-    }
-    ensures others {
-        (old new : Drives Holders S View S.Reel) (one after other : Desk View S.Reel) →
+        one.seat.number ≢ other.seat.number → drive_of one.opened ≡ Some d → drive_of other.opened ≡ Some d → ⊥ }
+    ensures others { (old new : Drives Holders S View S.Reel) (one after other : Desk View S.Reel) →
         IsAt (kinds of_holds S.Stacks S.Reel.Reel) (state old one) → IsAt (kinds of_holds S.Stacks S.Reel.Reel) (state old other) →
         other.seat.number ≢ one.seat.number → IsAt (kinds of_holds S.Stacks S.Reel.Reel) (state new after) →
         KeepsDrives (kinds of_holds S.Stacks S.Reel.Reel) (state old one) (state new after) →
-        IsAt (kinds of_holds S.Stacks S.Reel.Reel) (state new other)
-    }
+        IsAt (kinds of_holds S.Stacks S.Reel.Reel) (state new other) }
 {}

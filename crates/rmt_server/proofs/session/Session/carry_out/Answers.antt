@@ -1,4 +1,4 @@
-use Rattle.std.proofs.Common.{◌≡◌, ◌≤◌, List, length, take, refl, rules, arith, length-take}
+use Rattle.std.proofs.Common.{◌≡◌, take, refl, rules, arith, length-take}
 use Rattle.std.proofs.lemmas.Grind.{common_steps}
 use Rattle.drives.specs.Opening.{kinds}
 use Rattle.rmt_wire.specs.Lent.{plain_request}
