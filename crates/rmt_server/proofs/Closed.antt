@@ -1,5 +1,5 @@
 -- What closing does to the stacks.
-use Rattle.std.proofs.Common.{◌≡◌, ◌≢◌, ◌⊎◌, ℕ, ◌≤◌, Option, Some, None, refl, sym, ap, subst, ◌∙◌, inl, inr, arith}
+use Rattle.std.proofs.Common.{◌≡◌, ◌≢◌, ◌⊎◌, ℕ, Option, Some, None, sym, ap, subst, ◌∙◌, inl, inr, arith}
 use Rattle.tape.specs.declared.reel.Reel.{Ghosts as ReelPromise}
 use Rattle.drives.specs.Calls.{StacksKind}
 use Rattle.drives.specs.Calls.StacksCall.{LayBack}

@@ -1,5 +1,5 @@
 -- A move of the open reel to the bin, by the parts of its code.
-use Rattle.std.proofs.Common.{◌≡◌, ℕ, Option, Some, None, MatchOption, Result, Ok, Err, refl, sym, ap, subst, ◌∙◌}
+use Rattle.std.proofs.Common.{◌≡◌, ℕ, Option, Some, None, MatchOption, Result, refl, sym, ap, subst, ◌∙◌}
 use Rattle.rmt_wire.specs.Request.PlainRequest.{Op}
 use Rattle.rmt_wire.specs.Reply.{PlainReply}
 use Rattle.drives.specs.declared.fault.DriveFault.{DriveFault}

@@ -1,5 +1,5 @@
 -- An open that is carried out is a serve step where the stacks tell.
-use Rattle.std.proofs.Common.{◌≡◌, ◌≢◌, ◌⊎◌, ℕ, ◌<◌, ◌≤◌, Bool, true, false, IsTrue, List, [], Option, Some, None, Result, Ok, Err, refl, ap, subst, inl, inr, arith}
+use Rattle.std.proofs.Common.{◌≡◌, ◌≢◌, ℕ, ◌<◌, ◌≤◌, Bool, true, false, IsTrue, List, [], Option, Some, Result, Ok, Err, refl, ap, subst, inl, inr, arith}
 use Rattle.tape.specs.Tape.{Tape, tape}
 use Rattle.tape.specs.Failures.{HasRisen}
 use Rattle.tape.specs.declared.reel.Reel.{Ghosts as ReelPromise}
@@ -163,4 +163,3 @@ open-number (Err NoReel) rested after s = ap (λ (v : View). v.number) s.1
 open-number (Err Device) rested after s = ap (λ (v : View). v.number) s.1
 open-number (Err OutOfMemory) rested after s = ap (λ (v : View). v.number) s.1
 open-number (Err NameTaken) rested after s = absurd s
-

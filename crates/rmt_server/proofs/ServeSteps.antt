@@ -1,15 +1,12 @@
 -- Each request that is carried out is a serve step where stacks and reel tell.
-use Rattle.std.proofs.Common.{◌≡◌, ◌≢◌, ℕ, ◌<◌, Bool, true, false, IsTrue, List, Option, Some, None, MatchOption, Result, Ok, Err, refl, sym, ap, subst, ◌∙◌, inl, inr, arith}
+use Rattle.std.proofs.Common.{◌≡◌, ℕ, ◌<◌, Bool, true, false, IsTrue, List, Option, Some, None, MatchOption, Result, Ok, Err, refl, sym, ap, subst, ◌∙◌, inl, inr, arith}
 use Rattle.rmt_wire.specs.Request.{PlainRequest}
 use Rattle.rmt_wire.specs.Request.PlainRequest.{Open, Close, Write, WriteDropped, Read, Op}
 use Rattle.rmt_wire.specs.Reply.{PlainReply}
 use Rattle.rmt_wire.specs.Reply.PlainReply.{Done}
-use Rattle.tape.specs.Failures.{HasRisen}
 use Rattle.tape.specs.Tape.{Tape}
 use Rattle.drives.specs.declared.fault.DriveFault.{DriveFault}
 use Rattle.drives.specs.declared.fault.DriveFault.TheVariants.{NoSuchDrive, Busy, NoReel, Device, OutOfMemory, NameTaken}
-use Rattle.drives.specs.declared.view.View.{View}
-use Rattle.drives.specs.Calls.StacksCall.{Move}
 use Rattle.drives.specs.Stacking.{IsMoveFault}
 use Rattle.drives.specs.Opening.{Kinds, drive_asked, found_in_open}
 use Rattle.rmt_server.specs.declared.access.Access.{Access}
@@ -21,7 +18,7 @@ use Rattle.rmt_server.specs.Refusals.{refused}
 use Rattle.rmt_server.specs.Session.{Scene, scene, plain_reel, status_of, refusal, is_offline, closed, session_after, IsMoveExcused, move_reply, ServeStep}
 use Rattle.rmt_server.specs.Session.PlainSession.{Offline, Online}
 use Rattle.rmt_server.specs.State.{State, drive_of, reel_of, status_in, status_at, IsAt, IsSeenWith, IsSeenAs, Tells, SessionCanFail}
-use Rattle.rmt_server.specs.Opening.{view_after_close, IsClosed, Closes, OpensFor}
+use Rattle.rmt_server.specs.Opening.{view_after_close, IsClosed, OpensFor}
 use Rattle.rmt_server.specs.Moving.{IsTakenOff, MovesIn, MovesReel}
 use Rattle.rmt_server.specs.Serving.{Serves}
 use Rattle.rmt_server.specs.Carrying.{Operates, CarriesOut, HasTrouble, is_of_stacks, IsServed, TakesFor, SeatSteps, IsCarriedOut}

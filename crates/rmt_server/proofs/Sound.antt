@@ -1,5 +1,5 @@
 -- What each request leaves: the drives are those of the session, what is not of it stays, and no device becomes able to fail.
-use Rattle.std.proofs.Common.{◌≡◌, ◌≢◌, ◌⊎◌, ℕ, ◌≤◌, Bool, true, false, List, Option, Some, None, MatchOption, Result, Ok, Err, refl, sym, ap, subst, ◌∙◌, inl, inr, arith}
+use Rattle.std.proofs.Common.{◌≡◌, ◌≢◌, ℕ, Bool, true, false, List, Option, Some, None, MatchOption, Result, Ok, Err, refl, sym, ap, subst, ◌∙◌, inl, inr, arith}
 use Rattle.rmt_wire.specs.Request.{PlainRequest}
 use Rattle.rmt_wire.specs.Request.PlainRequest.{Open, Close, Write, WriteDropped, Read, Op}
 use Rattle.rmt_wire.specs.Reply.{PlainReply}
@@ -10,7 +10,7 @@ use Rattle.drives.specs.declared.table.DriveTable.{DriveTable}
 use Rattle.rmt_wire.specs.Reply.PlainReply.{Done}
 use Rattle.rmt_server.specs.declared.refusal.Refusal.TheVariants.{BadDescriptor}
 use Rattle.drives.specs.Calls.StacksCall.{Move}
-use Rattle.drives.specs.Stacking.{HasLatched, ReelCanFail}
+use Rattle.drives.specs.Stacking.{ReelCanFail}
 use Rattle.drives.specs.Opening.{Kinds}
 use Rattle.rmt_server.specs.declared.access.Access.{Access}
 use Rattle.rmt_server.specs.declared.refusal.Refusal.{Refusal}
@@ -19,8 +19,8 @@ use Rattle.rmt_server.specs.Access.{access_of}
 use Rattle.rmt_server.specs.Refusals.{refused}
 use Rattle.rmt_server.specs.Session.{refusal, is_offline}
 use Rattle.rmt_server.specs.State.{State, drive_of, online_in, online_drive, reel_of, status_at, IsAt, SessionCanFail, KeepsDrives}
-use Rattle.rmt_server.specs.Opening.{IsClosed, Closes, OpensFor, OpensAnew}
-use Rattle.rmt_server.specs.Moving.{reel_left, IsTakenOff, MovesIn, MovesReel, MovesOff}
+use Rattle.rmt_server.specs.Opening.{IsClosed, OpensFor}
+use Rattle.rmt_server.specs.Moving.{reel_left, IsTakenOff, MovesIn, MovesReel}
 use Rattle.rmt_server.specs.Serving.{CallsIn, CallsReel, ReelServes, Serves}
 use Rattle.rmt_server.specs.Carrying.{Operates, CarriesOut}
 

@@ -1,5 +1,5 @@
 -- The steps of a seat in a request.
-use Rattle.std.proofs.Common.{◌≡◌, ◌≢◌, ℕ, List, Option, Some, None, Result, Ok, Err, refl, ap, arith}
+use Rattle.std.proofs.Common.{◌≡◌, ◌≢◌, ℕ, List, Option, Some, None, Result, Ok, Err, refl, arith}
 use Rattle.rmt_wire.specs.Reply.PlainReply.{Error}
 use Rattle.rmt_server.specs.declared.access.Access.{Access}
 use Rattle.rmt_server.specs.declared.refusal.Refusal.TheVariants.{Busy, Invalid}

@@ -11,7 +11,6 @@ use Rattle.drives.specs.declared.view.StepKind.TheVariants.{Take}
 use Rattle.drives.specs.Holding.{last_drive, last_step}
 use Rattle.drives.specs.Opening.{Kinds}
 use Rattle.rmt_server.specs.declared.refusal.Refusal.TheVariants.{Busy}
-use Rattle.rmt_server.specs.declared.session.desk.Opened.{Opened}
 use Rattle.rmt_server.specs.Refusals.{refused}
 use Rattle.rmt_server.specs.Session.{Scene, is_offline, ServeStep}
 use Rattle.rmt_server.specs.State.{State, drive_of, reel_of, IsAt, Tells, SessionCanFail, KeepsDrives}

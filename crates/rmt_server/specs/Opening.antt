@@ -1,5 +1,5 @@
 -- What a session does to close what it has open, and to open a drive.
-use Rattle.std.specs.Prelude.{◌≡◌, ◌≢◌, ℕ, Option, Some, None, MatchOption, Result, Ok, Err, List}
+use Rattle.std.specs.Prelude.{◌≡◌, ℕ, Option, Some, None, MatchOption, Result, Ok, Err, List}
 use Rattle.rmt_wire.specs.Reply.{PlainReply}
 use Rattle.rmt_wire.specs.Reply.PlainReply.{Done}
 use Rattle.tape.specs.Tape.TapeRequest.{Rewind}

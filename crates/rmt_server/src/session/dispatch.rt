@@ -31,10 +31,8 @@ fn operate<H: Holds, S: Stacks>(
     count: u32,
 ) -> Result<u32, Refusal>
     requires { IsAt (kinds H.Holds S.Stacks S.Reel.Reel) (state drives.old desk.old) }
-    ensures operates {
-        Operates (kinds H.Holds S.Stacks S.Reel.Reel) (is_offline op) (state drives.old desk.old) op count (number_reply result)
-        (state drives.new desk.new)
-    }
+    ensures operates { Operates (kinds H.Holds S.Stacks S.Reel.Reel) (is_offline op) (state drives.old desk.old) op count (number_reply result)
+        (state drives.new desk.new) }
     ensures number { IfOk result (λ n. n ≡ count) }
 {
     if op == MTOFFL {
@@ -53,10 +51,8 @@ pub(crate) fn dispatch<H: Holds, S: Stacks>(
 ) -> Result<Given, Refusal>
     requires at { IsAt (kinds H.Holds S.Stacks S.Reel.Reel) (state drives.old desk.old) }
     requires room { length buffer.old ≡ data_limit }
-    ensures carried {
-        CarriesOut (kinds H.Holds S.Stacks S.Reel.Reel) (state drives.old desk.old) (plain_request request.entry)
-        (outcome_reply result buffer.new) (state drives.new desk.new)
-    }
+    ensures carried { CarriesOut (kinds H.Holds S.Stacks S.Reel.Reel) (state drives.old desk.old) (plain_request request.entry)
+        (outcome_reply result buffer.new) (state drives.new desk.new) }
     ensures small { IsSayable (plain_request request.entry) → IsOutcomeSayable result }
     ensures within { IsWithinBuffer result buffer.new }
 {

@@ -21,10 +21,8 @@ pub(crate) fn take_offline<H: Holds, S: Stacks>(
 ) -> Result<u32, Refusal>
     requires below { (d : ℕ) → drive_of opened.old ≡ Some d → d < S.drives drives.old.stacks }
     requires latched { (d : ℕ) → online_drive opened.old ≡ Some d → HasLatched S.holds drives.old.stacks d }
-    ensures moves {
-        (seat : H.Seat) → MovesOff (kinds H.Holds S.Stacks S.Reel.Reel) (seated_at drives.old seat opened.old) 6 count
-        (number_reply result) (seated_at drives.new seat opened.new)
-    }
+    ensures moves { (seat : H.Seat) → MovesOff (kinds H.Holds S.Stacks S.Reel.Reel) (seated_at drives.old seat opened.old) 6 count
+        (number_reply result) (seated_at drives.new seat opened.new) }
     ensures number { IfOk result (λ n. n ≡ count) }
 {
     let Some(device) = opened else {

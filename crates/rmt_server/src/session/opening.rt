@@ -18,9 +18,7 @@ use tape::Reel;
 fn put_back<S: Stacks>(stacks: &mut S, drive: usize, reel: Option<S::Reel>)
     requires drive { drive < S.drives stacks.old }
     requires latched { (d : ℕ) → online_in drive reel ≡ Some d → HasLatched S.holds stacks.old d }
-    ensures {
-        LaysBack (stacks_kind S.holds S.drives S.failures S.can_fail S.makes) S.Reel.Reel stacks.old drive reel stacks.new
-    }
+    ensures { LaysBack (stacks_kind S.holds S.drives S.failures S.can_fail S.makes) S.Reel.Reel stacks.old drive reel stacks.new }
 {
     if let Some(mut reel) = reel {
         reel.rewind();
@@ -50,9 +48,7 @@ pub(crate) fn close_opened<H: Holds, S: Stacks>(
     desk: &mut Desk<H::Seat, S::Reel>,
 ) -> Result<u32, Refusal>
     requires { IsAt (kinds H.Holds S.Stacks S.Reel.Reel) (state drives.old desk.old) }
-    ensures closes {
-        Closes (kinds H.Holds S.Stacks S.Reel.Reel) (state drives.old desk.old) (number_reply result) (state drives.new desk.new)
-    }
+    ensures closes { Closes (kinds H.Holds S.Stacks S.Reel.Reel) (state drives.old desk.old) (number_reply result) (state drives.new desk.new) }
     ensures number { IfOk result (λ n. n ≡ 0) }
 {
     if desk.opened.is_none() {
@@ -71,10 +67,8 @@ fn open_named<H: Holds, S: Stacks>(
 ) -> Result<u32, Refusal>
     requires at { IsAt (kinds H.Holds S.Stacks S.Reel.Reel) (state drives.old desk.old) }
     requires nothing { desk.old.opened ≡ None }
-    ensures opens {
-        OpensFor (kinds H.Holds S.Stacks S.Reel.Reel) (state drives.old desk.old) device.now (access_of mode) (number_reply result)
-        (state drives.new desk.new)
-    }
+    ensures opens { OpensFor (kinds H.Holds S.Stacks S.Reel.Reel) (state drives.old desk.old) device.now (access_of mode) (number_reply result)
+        (state drives.new desk.new) }
     ensures number { IfOk result (λ n. n ≡ 0) }
 {
     let Some(access) = Access::of(mode) else {
@@ -101,10 +95,8 @@ pub(crate) fn open<H: Holds, S: Stacks>(
     mode: u32,
 ) -> Result<u32, Refusal>
     requires { IsAt (kinds H.Holds S.Stacks S.Reel.Reel) (state drives.old desk.old) }
-    ensures opens {
-        OpensAnew (kinds H.Holds S.Stacks S.Reel.Reel) (state drives.old desk.old) device.now mode (number_reply result)
-        (state drives.new desk.new)
-    }
+    ensures opens { OpensAnew (kinds H.Holds S.Stacks S.Reel.Reel) (state drives.old desk.old) device.now mode (number_reply result)
+        (state drives.new desk.new) }
     ensures number { IfOk result (λ n. n ≡ 0) }
 {
     close(drives, desk);

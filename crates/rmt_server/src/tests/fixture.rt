@@ -1,7 +1,9 @@
 //! One drive in memory, and one stream that is served with it.
 
 ghost use Rattle.std.specs.Prelude.{◌≡◌, ◌≤◌, IfOk, length};
-ghost use Rattle.rmt_server.specs.Carrying.{IsAt};
+ghost use Rattle.tape.specs.contracts.troubled.TroubledReelReel.TheImpl.{ghosts as of_reel};
+ghost use Rattle.drives.specs.Opening.{kinds};
+ghost use Rattle.rmt_server.specs.State.{state, IsAt};
 ghost use Rattle.drives.specs.contracts.local.LocalHoldsHolds.TheImpl.{ghosts as of_holds};
 ghost use Rattle.drives.specs.contracts.list.ListStacksStacks.TheImpl.{ghosts as of_stacks};
 
@@ -40,7 +42,7 @@ pub(crate) fn begin(
     alloc: Global,
     capacity: u64,
 ) -> Result<(Drives, Session<LocalHolds, ListStacks>), Fail>
-    ensures { IfOk result (λ made. IsAt of_holds of_stacks made.0 made.1.seat made.1.opened) }
+    ensures { IfOk result (λ made. IsAt (kinds of_holds of_stacks of_reel) (state made.0 made.1)) }
 {
     let mut holds = LocalHolds::new(alloc, 1)?;
     let Some(seat) = holds.seat() else {

@@ -37,6 +37,8 @@ impl Stacks for FullBin {
 
     ghost can_fail = { λ _. ⊥ };
 
+    ghost makes = { λ _ _ _. Unit {0} };
+
     fn drive(&self, name: &[u8]) -> Option<usize> {
         if name == b"/dev/st0".as_slice() {
             Some(0)

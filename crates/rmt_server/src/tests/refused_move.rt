@@ -1,7 +1,9 @@
 //! What a session answers where the bin refuses its reel.
 
 ghost use Rattle.std.specs.Prelude.{IfOk};
-ghost use Rattle.rmt_server.specs.Carrying.{IsAt};
+ghost use Rattle.tape.specs.contracts.list.ListReelReel.TheImpl.{ghosts as of_reel};
+ghost use Rattle.drives.specs.Opening.{kinds};
+ghost use Rattle.rmt_server.specs.State.{state, IsAt};
 ghost use Rattle.drives.specs.contracts.local.LocalHoldsHolds.TheImpl.{ghosts as of_holds};
 ghost use Rattle.rmt_server.specs.contracts.tests.full_bin.FullBinStacks.TheImpl.{ghosts as of_stacks};
 
@@ -21,7 +23,7 @@ type Client = Session<LocalHolds, FullBin>;
 
 /// The drive with an empty reel, and a session with nothing open.
 fn begin(alloc: Global, why: Why) -> Result<(Drives, Client), Fail>
-    ensures { IfOk result (λ made. IsAt of_holds of_stacks made.0 made.1.seat made.1.opened) }
+    ensures { IfOk result (λ made. IsAt (kinds of_holds of_stacks of_reel) (state made.0 made.1)) }
 {
     let mut holds = LocalHolds::new(alloc, 1)?;
     let Some(seat) = holds.seat() else {

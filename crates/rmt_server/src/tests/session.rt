@@ -1,6 +1,7 @@
 //! Each call of a session once.
 
-ghost use Rattle.rmt_server.specs.Carrying.{IsAt};
+ghost use Rattle.drives.specs.Opening.{kinds};
+ghost use Rattle.rmt_server.specs.State.{state, IsAt};
 
 use super::CAPACITY;
 use super::fixture::{begin, first_holder};
@@ -16,8 +17,8 @@ fn number<H: Holds, S: Stacks>(
     drives: &mut DriveTable<H, S>,
     request: Request<'_>,
 ) -> Option<u32>
-    requires { IsAt H.Holds S.Stacks drives.old session.old.seat session.old.opened }
-    ensures { IsAt H.Holds S.Stacks drives.new session.new.seat session.new.opened }
+    requires { IsAt (kinds H.Holds S.Stacks S.Reel.Reel) (state drives.old session.old) }
+    ensures { IsAt (kinds H.Holds S.Stacks S.Reel.Reel) (state drives.new session.new) }
 {
     match session.carry_out(drives, request) {
         Reply::Done { number } => Some(number),
@@ -32,8 +33,8 @@ pub(crate) fn gives<H: Holds, S: Stacks>(
     count: u32,
     wanted: &[u8],
 ) -> bool
-    requires { IsAt H.Holds S.Stacks drives.old session.old.seat session.old.opened }
-    ensures { IsAt H.Holds S.Stacks drives.new session.new.seat session.new.opened }
+    requires { IsAt (kinds H.Holds S.Stacks S.Reel.Reel) (state drives.old session.old) }
+    ensures { IsAt (kinds H.Holds S.Stacks S.Reel.Reel) (state drives.new session.new) }
 {
     match session.carry_out(drives, Request::Read { count }) {
         Reply::Data { bytes } => bytes == wanted,

@@ -3,7 +3,9 @@
 ghost use Rattle.std.specs.Prelude.{◌≡◌, ◌≢◌, ◌≤◌, ◌<◌, IfOk, length};
 ghost use Rattle.drives.specs.Holding.{HoldsJust};
 ghost use Rattle.drives.specs.Local.{IsSeatOf};
-ghost use Rattle.rmt_server.specs.Carrying.{IsAt};
+ghost use Rattle.tape.specs.contracts.troubled.TroubledReelReel.TheImpl.{ghosts as of_reel};
+ghost use Rattle.drives.specs.Opening.{kinds};
+ghost use Rattle.rmt_server.specs.State.{state, IsAt};
 ghost use Rattle.drives.specs.contracts.local.LocalHoldsHolds.TheImpl.{ghosts as of_holds};
 ghost use Rattle.drives.specs.contracts.list.ListStacksStacks.TheImpl.{ghosts as of_stacks};
 ghost use Rattle.std.specs.Prelude.{None};
@@ -42,14 +44,14 @@ fn carry(
     another: &Client,
     request: Request<'_>,
 ) -> u32
-    requires at { IsAt of_holds of_stacks drives.old session.old.seat session.old.opened }
-    requires other { IsAt of_holds of_stacks drives.old other.now.seat other.now.opened }
-    requires another { IsAt of_holds of_stacks drives.old another.now.seat another.now.opened }
+    requires at { IsAt (kinds of_holds of_stacks of_reel) (state drives.old session.old) }
+    requires other { IsAt (kinds of_holds of_stacks of_reel) (state drives.old other.now) }
+    requires another { IsAt (kinds of_holds of_stacks of_reel) (state drives.old another.now) }
     requires apart { other.now.seat.number ≢ session.old.seat.number }
     requires apart_too { another.now.seat.number ≢ session.old.seat.number }
-    ensures at { IsAt of_holds of_stacks drives.new session.new.seat session.new.opened }
-    ensures other { IsAt of_holds of_stacks drives.new other.now.seat other.now.opened }
-    ensures another { IsAt of_holds of_stacks drives.new another.now.seat another.now.opened }
+    ensures at { IsAt (kinds of_holds of_stacks of_reel) (state drives.new session.new) }
+    ensures other { IsAt (kinds of_holds of_stacks of_reel) (state drives.new other.now) }
+    ensures another { IsAt (kinds of_holds of_stacks of_reel) (state drives.new another.now) }
     ensures number { session.new.seat.number ≡ session.old.seat.number }
 {
     number_of(session.carry_out(drives, request))
@@ -57,14 +59,14 @@ fn carry(
 
 /// Ends a session beside two others.
 fn end(drives: &mut Drives, session: &mut Client, other: &Client, another: &Client)
-    requires at { IsAt of_holds of_stacks drives.old session.old.seat session.old.opened }
-    requires other { IsAt of_holds of_stacks drives.old other.now.seat other.now.opened }
-    requires another { IsAt of_holds of_stacks drives.old another.now.seat another.now.opened }
+    requires at { IsAt (kinds of_holds of_stacks of_reel) (state drives.old session.old) }
+    requires other { IsAt (kinds of_holds of_stacks of_reel) (state drives.old other.now) }
+    requires another { IsAt (kinds of_holds of_stacks of_reel) (state drives.old another.now) }
     requires apart { other.now.seat.number ≢ session.old.seat.number }
     requires apart_too { another.now.seat.number ≢ session.old.seat.number }
-    ensures at { IsAt of_holds of_stacks drives.new session.new.seat session.new.opened }
-    ensures other { IsAt of_holds of_stacks drives.new other.now.seat other.now.opened }
-    ensures another { IsAt of_holds of_stacks drives.new another.now.seat another.now.opened }
+    ensures at { IsAt (kinds of_holds of_stacks of_reel) (state drives.new session.new) }
+    ensures other { IsAt (kinds of_holds of_stacks of_reel) (state drives.new other.now) }
+    ensures another { IsAt (kinds of_holds of_stacks of_reel) (state drives.new another.now) }
     ensures number { session.new.seat.number ≡ session.old.seat.number }
 {
     session.end(drives);
@@ -87,14 +89,14 @@ fn answer(
     another: &Client,
     event: Event,
 ) -> u32
-    requires at { IsAt of_holds of_stacks drives.old session.old.seat session.old.opened }
-    requires other { IsAt of_holds of_stacks drives.old other.now.seat other.now.opened }
-    requires another { IsAt of_holds of_stacks drives.old another.now.seat another.now.opened }
+    requires at { IsAt (kinds of_holds of_stacks of_reel) (state drives.old session.old) }
+    requires other { IsAt (kinds of_holds of_stacks of_reel) (state drives.old other.now) }
+    requires another { IsAt (kinds of_holds of_stacks of_reel) (state drives.old another.now) }
     requires apart { other.now.seat.number ≢ session.old.seat.number }
     requires apart_too { another.now.seat.number ≢ session.old.seat.number }
-    ensures at { IsAt of_holds of_stacks drives.new session.new.seat session.new.opened }
-    ensures other { IsAt of_holds of_stacks drives.new other.now.seat other.now.opened }
-    ensures another { IsAt of_holds of_stacks drives.new another.now.seat another.now.opened }
+    ensures at { IsAt (kinds of_holds of_stacks of_reel) (state drives.new session.new) }
+    ensures other { IsAt (kinds of_holds of_stacks of_reel) (state drives.new other.now) }
+    ensures another { IsAt (kinds of_holds of_stacks of_reel) (state drives.new another.now) }
     ensures number { session.new.seat.number ≡ session.old.seat.number }
 {
     let request = match event {
@@ -134,7 +136,7 @@ fn client(alloc: Global, seat: LocalSeat, drives: &Drives) -> Result<Client, Fai
     requires own { IsSeatOf drives.now.holds seat }
     requires idle { HoldsJust seat None }
     requires enough { length drives.now.stacks.shop.racks ≤ length drives.now.holds.numbers }
-    ensures at { IfOk result (λ s. IsAt of_holds of_stacks drives.now s.seat s.opened) }
+    ensures at { IfOk result (λ s. IsAt (kinds of_holds of_stacks of_reel) (state drives.now s)) }
     ensures seat { IfOk result (λ s. s.seat ≡ seat) }
 {
     match Session::new(alloc, seat) {
@@ -150,9 +152,9 @@ struct Three {
     first: Client,
     second: Client,
     third: Client,
-    ghost at_first: { IsAt of_holds of_stacks drives first.seat first.opened },
-    ghost at_second: { IsAt of_holds of_stacks drives second.seat second.opened },
-    ghost at_third: { IsAt of_holds of_stacks drives third.seat third.opened },
+    ghost at_first: { IsAt (kinds of_holds of_stacks of_reel) (state drives first) },
+    ghost at_second: { IsAt (kinds of_holds of_stacks of_reel) (state drives second) },
+    ghost at_third: { IsAt (kinds of_holds of_stacks of_reel) (state drives third) },
     ghost first_second: { first.seat.number ≢ second.seat.number },
     ghost first_third: { first.seat.number ≢ third.seat.number },
     ghost second_third: { second.seat.number ≢ third.seat.number },

@@ -1,7 +1,9 @@
 //! What a session answers while the device of its reel fails.
 
 ghost use Rattle.std.specs.Prelude.{IfOk};
-ghost use Rattle.rmt_server.specs.Carrying.{IsAt};
+ghost use Rattle.tape.specs.contracts.troubled.TroubledReelReel.TheImpl.{ghosts as of_reel};
+ghost use Rattle.drives.specs.Opening.{kinds};
+ghost use Rattle.rmt_server.specs.State.{state, IsAt};
 ghost use Rattle.drives.specs.contracts.local.LocalHoldsHolds.TheImpl.{ghosts as of_holds};
 ghost use Rattle.drives.specs.contracts.list.ListStacksStacks.TheImpl.{ghosts as of_stacks};
 
@@ -30,8 +32,8 @@ pub(crate) fn answer<H: Holds, S: Stacks>(
     drives: &mut DriveTable<H, S>,
     request: Request<'_>,
 ) -> Result<u32, u32>
-    requires { IsAt H.Holds S.Stacks drives.old session.old.seat session.old.opened }
-    ensures { IsAt H.Holds S.Stacks drives.new session.new.seat session.new.opened }
+    requires { IsAt (kinds H.Holds S.Stacks S.Reel.Reel) (state drives.old session.old) }
+    ensures { IsAt (kinds H.Holds S.Stacks S.Reel.Reel) (state drives.new session.new) }
 {
     match session.carry_out(drives, request) {
         Reply::Done { number } => Ok(number),
@@ -42,8 +44,8 @@ pub(crate) fn answer<H: Holds, S: Stacks>(
 
 /// Sets the trouble of the reel that is online.
 fn set(session: &mut Session<LocalHolds, ListStacks>, drives: &Drives, trouble: Trouble)
-    requires { IsAt of_holds of_stacks drives.now session.old.seat session.old.opened }
-    ensures { IsAt of_holds of_stacks drives.now session.new.seat session.new.opened }
+    requires { IsAt (kinds of_holds of_stacks of_reel) (state drives.now session.old) }
+    ensures { IsAt (kinds of_holds of_stacks of_reel) (state drives.now session.new) }
 {
     session.trouble(trouble);
 }
@@ -53,7 +55,7 @@ fn two_records(
     rt: &impl Abort,
     alloc: Global,
 ) -> Result<(Drives, Session<LocalHolds, ListStacks>), Fail>
-    ensures { IfOk result (λ made. IsAt of_holds of_stacks made.0 made.1.seat made.1.opened) }
+    ensures { IfOk result (λ made. IsAt (kinds of_holds of_stacks of_reel) (state made.0 made.1)) }
 {
     let (mut drives, mut session) = begin(alloc, 100)?;
     assert_eq!(rt; answer(&mut session, &mut drives, OPEN), Ok(0));
@@ -143,8 +145,8 @@ fn none<H: Holds, S: Stacks>(
     drives: &mut DriveTable<H, S>,
     op: u32,
 ) -> Result<u32, u32>
-    requires { IsAt H.Holds S.Stacks drives.old session.old.seat session.old.opened }
-    ensures { IsAt H.Holds S.Stacks drives.new session.new.seat session.new.opened }
+    requires { IsAt (kinds H.Holds S.Stacks S.Reel.Reel) (state drives.old session.old) }
+    ensures { IsAt (kinds H.Holds S.Stacks S.Reel.Reel) (state drives.new session.new) }
 {
     answer(session, drives, Request::Op { op, count: 0 })
 }

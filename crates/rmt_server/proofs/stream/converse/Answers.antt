@@ -8,8 +8,11 @@ loop-wire-init g c = (
   c.requires.at,
   refl,
   refl,
-  ([], Consumes-nil (g.R.Read.remaining c.args.input.now.inner),
-    advances_none [] (answered_none (g.W.Write.contents c.args.output.now.inner) [], settled_empty c.args.wire.now c.requires.empty)),
+  (
+    [],
+    Consumes-nil (g.R.Read.remaining c.args.input.now.inner),
+    advances_none [] (answered_none (g.W.Write.contents c.args.output.now.inner) [], settled_empty c.args.wire.now c.requires.empty),
+  ),
 )
 
 pub returns-in_err-fault-in-Ok-clause-converses : goal.returns-in_err-fault-in-Ok-clause-converses

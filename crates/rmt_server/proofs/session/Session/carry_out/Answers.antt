@@ -1,4 +1,4 @@
-use Rattle.std.proofs.Common.{◌≡◌, ◌≤◌, List, length, take, refl, rules, arith, length-take}
+use Rattle.std.proofs.Common.{◌≡◌, take, refl, rules, arith, length-take}
 use Rattle.std.proofs.lemmas.Grind.{common_steps}
 use Rattle.drives.specs.Opening.{kinds}
 use Rattle.rmt_wire.specs.Lent.{plain_request}
@@ -15,4 +15,6 @@ returns-in-Ok-Bytes g c =
     let new = state c.dispatch-outcome.new.drives c.dispatch-outcome.new.desk in
     let same : c.as_slice.result.now ≡ c.dispatch-outcome.new.buffer = grind (arith, common_steps) in
     let effect : CarriesOut k old (plain_request c.args.request) (Data (take c.in-Ok-Bytes.count c.dispatch-outcome.new.buffer)) new = search rules in
-    rw same ((refl, λ x. tt, carried k old (plain_request c.args.request) _ new c.requires effect), record { rests = tt; spelling = λ s. omega (arith, length-take c.in-Ok-Bytes.count c.dispatch-outcome.new.buffer, c.dispatch-outcome.auto.buffer, c.as_mut_slice.ensures.value, c.as_mut_slice.ensures.len, c.self.invariant) })
+    let few : length (take c.in-Ok-Bytes.count c.dispatch-outcome.new.buffer) ≤ 65536 =
+        omega (arith, length-take c.in-Ok-Bytes.count c.dispatch-outcome.new.buffer, c.dispatch-outcome.auto.buffer, c.as_mut_slice.ensures.value, c.as_mut_slice.ensures.len, c.self.invariant) in
+    rw same ((refl, λ x. tt, carried k old (plain_request c.args.request) _ new c.requires effect), record { rests = tt; spelling = λ s. omega (arith, few); short = few })

@@ -1,7 +1,7 @@
-use Rattle.std.proofs.Common.{Some, None, ◌≡◌, inl, inr, refl, sym, ap, subst, ◌∙◌, arith}
+use Rattle.std.proofs.Common.{refl, sym, subst, arith}
 use Rattle.drives.specs.Opening.{kinds}
-use Rattle.rmt_server.specs.State.{state, drive_of, IsAt}
-use Rattle.rmt_server.proofs.Closed.{laid_kept, closed_by}
+use Rattle.rmt_server.specs.State.{state, IsAt}
+use Rattle.rmt_server.proofs.Closed.{closed_by}
 use Rattle.rmt_server.proofs.session.opening.close.Goals as goal
 
 pub put_back-requires-clause-drive : goal.put_back-requires-clause-drive
