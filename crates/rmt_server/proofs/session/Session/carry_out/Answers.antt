@@ -16,5 +16,5 @@ returns-in-Ok-Bytes g c =
     let same : c.as_slice.result.now ≡ c.dispatch-outcome.new.buffer = grind (arith, common_steps) in
     let effect : CarriesOut k old (plain_request c.args.request) (Data (take c.in-Ok-Bytes.count c.dispatch-outcome.new.buffer)) new = search rules in
     let few : length (take c.in-Ok-Bytes.count c.dispatch-outcome.new.buffer) ≤ 65536 =
-        omega (arith, length-take c.in-Ok-Bytes.count c.dispatch-outcome.new.buffer, c.dispatch-outcome.auto.buffer, c.as_mut_slice.ensures.value, c.as_mut_slice.ensures.len, c.self.invariant) in
+    omega (arith, length-take c.in-Ok-Bytes.count c.dispatch-outcome.new.buffer, c.dispatch-outcome.auto.buffer, c.as_mut_slice.ensures.value, c.as_mut_slice.ensures.len, c.self.invariant) in
     rw same ((refl, λ x. tt, carried k old (plain_request c.args.request) _ new c.requires effect), record { rests = tt; spelling = λ s. omega (arith, few); short = few })
