@@ -8,11 +8,13 @@ abbrev pub access_of : ℕ → Option Access
 access_of mode =
     if mode % 4 == 0 then Some Read else if mode % 4 == 1 then Some Write else if mode % 4 == 2 then Some Both else None
 
+-- it lets a client read
 abbrev pub reads : Access → Bool
 reads Read = true
 reads Write = false
 reads Both = true
 
+-- it lets a client write
 abbrev pub writes : Access → Bool
 writes Read = false
 writes Write = true

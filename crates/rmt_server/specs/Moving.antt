@@ -28,12 +28,14 @@ pub record IsTakenOff {H S Seat R : Type 0} (k : Kinds H Seat S R) (old : State 
   pub same_holds : new.drives.holds ≡ old.drives.holds
   pub same_seat : new.seat ≡ old.seat
 
+-- the reel of this open device is moved, and the move's result decides the reply
 abbrev pub MovesIn : {H S Seat R : Type 0} → Kinds H Seat S R → State H S Seat R → Opened R → Option R → ℕ → PlainReply
     → State H S Seat R → Type 0
 MovesIn k old device None count reply new = ⊥
 MovesIn k old device (Some reel) count reply new =
     (result : Result Unit DriveFault) × (reply ≡ move_reply count result) × IsTakenOff k old device reel result new
 
+-- the same of what is open
 abbrev pub MovesReel : {H S Seat R : Type 0} → Kinds H Seat S R → State H S Seat R → Option (Opened R) → ℕ → PlainReply
     → State H S Seat R → Type 0
 MovesReel k old None count reply new = ⊥

@@ -26,6 +26,7 @@ LaysBack s r old drive None new = new ≡ old
 LaysBack {R = R} s r old drive (Some reel) new =
     (rested : R) × IsReelCall r reel Rewind Did rested × IsStacksCall s r old (LayBack drive rested) new
 
+-- the same of what is open
 abbrev pub LaysBackOpened : {S R : Type 0} → StacksKind S R → ReelPromise R → S → Option (Opened R) → S → Type 0
 LaysBackOpened s r old None new = new ≡ old
 LaysBackOpened s r old (Some device) new = LaysBack s r old device.drive device.reel new
@@ -47,7 +48,9 @@ pub record IsClosed {H S Seat R : Type 0} (k : Kinds H Seat S R) (old new : Stat
   pub at : IsAt k new
   -- nothing else is asked of the reel and of the stacks
   pub laid : LaysBackOpened k.stacks k.reels old.drives.stacks old.opened new.drives.stacks
+  -- where stacks and reel tell, the reel's tape lies on the stack
   pub step : (v : Scene) → Tells k old v → k.stacks.holds new.drives.stacks (closed v).shop
+  -- the seat gives the open drive back, and the holds tell so
   pub view : k.holds.shows new.seat ≡ view_after_close (k.holds.shows old.seat) (drive_of old.opened)
   pub told : (d n : ℕ) → k.holds.tells old.drives.holds d n
       → k.holds.tells new.drives.holds d (word_after_close (drive_of old.opened) d n)

@@ -9,6 +9,7 @@ use Rattle.drives.specs.declared.fault.DriveFault.TheVariants as drive
 use Rattle.rmt_server.specs.declared.refusal.Refusal.{Refusal}
 use Rattle.rmt_server.specs.declared.refusal.Refusal.TheVariants.{NoSuchFile, InputOutput, NotConfigured, BadDescriptor, NoMemory, Permission, Busy, Invalid, NoSpace}
 
+-- its number in errno
 abbrev pub number_of : Refusal → ℕ
 number_of NoSuchFile = 2
 number_of InputOutput = 5
@@ -20,6 +21,7 @@ number_of Busy = 16
 number_of Invalid = 22
 number_of NoSpace = 28
 
+-- the text that is sent beside the number
 abbrev pub text_of : Refusal → List ℕ
 text_of NoSuchFile = codes "No such file or directory"
 text_of InputOutput = codes "Input/output error"

@@ -29,6 +29,7 @@ abbrev pub given_reply : Given → List ℕ → PlainReply
 given_reply (Number n) buffer = Done n
 given_reply (Bytes n) buffer = Data (take n buffer)
 
+-- the same, where it may have been refused
 abbrev pub outcome_reply : Result Given Refusal → List ℕ → PlainReply
 outcome_reply (Ok given) buffer = given_reply given buffer
 outcome_reply (Err r) buffer = refused r

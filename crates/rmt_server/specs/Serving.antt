@@ -17,6 +17,7 @@ CallsIn {R} r device (Some reel) new request reply =
     (answer : TapeAnswer) × (moved : R) × (new ≡ Some (record device { reel = Some moved })) × (reply ≡ reel_reply request answer)
     × IsReelCall r reel (tape_request request) answer moved
 
+-- the same of what is open
 abbrev pub CallsReel : {R : Type 0} → ReelPromise R → Option (Opened R) → Option (Opened R) → PlainRequest → PlainReply → Type 0
 CallsReel r None new request reply = ⊥
 CallsReel r (Some device) new request reply = CallsIn r device device.reel new request reply

@@ -19,9 +19,11 @@ pub record State (H S Seat R : Type 0) : Type 0 where
   pub seat : Seat
   pub opened : Option (Opened R)
 
+-- a state by its parts
 abbrev pub seated_at : {H S Seat R : Type 0} → DriveTable H S Seat R → Seat → Option (Opened R) → State H S Seat R
 seated_at drives seat opened = record { drives = drives; seat = seat; opened = opened }
 
+-- a desk at these drives
 abbrev pub state : {H S Seat R : Type 0} → DriveTable H S Seat R → Desk Seat R → State H S Seat R
 state drives desk = seated_at drives desk.seat desk.opened
 
@@ -30,6 +32,7 @@ abbrev pub drive_of : {R : Type 0} → Option (Opened R) → Option ℕ
 drive_of None = None
 drive_of (Some device) = Some device.drive
 
+-- this drive, where its reel is not in the bin
 abbrev pub online_in : {R : Type 0} → ℕ → Option R → Option ℕ
 online_in drive None = None
 online_in drive (Some reel) = Some drive
@@ -39,14 +42,17 @@ abbrev pub online_drive : {R : Type 0} → Option (Opened R) → Option ℕ
 online_drive None = None
 online_drive (Some device) = online_in device.drive device.reel
 
+-- the open reel
 abbrev pub reel_of : {R : Type 0} → Option (Opened R) → Option R
 reel_of None = None
 reel_of (Some device) = device.reel
 
+-- what the checks look at of a device that is open
 abbrev pub status_in : {R : Type 0} → Access → Option R → Status
 status_in access None = ReelAway
 status_in access (Some reel) = Ready access
 
+-- what the checks look at of what is open
 abbrev pub status_at : {R : Type 0} → Option (Opened R) → Status
 status_at None = NothingOpen
 status_at (Some device) = status_in device.access device.reel
@@ -70,6 +76,7 @@ IsSeenWith r drive access None session = session ≡ Offline drive access
 IsSeenWith r drive access (Some reel) session =
     (t : Tape) × r.holds reel t × (session ≡ Online drive access (plain_reel t (r.capacity reel)))
 
+-- what is open is seen as this, where its reel tells
 abbrev pub IsSeenAs : {R : Type 0} → ReelPromise R → Option (Opened R) → PlainSession → Type 0
 IsSeenAs r None session = session ≡ Idle
 IsSeenAs r (Some device) session = IsSeenWith r device.drive device.access device.reel session

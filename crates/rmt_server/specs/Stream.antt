@@ -24,6 +24,7 @@ use Rattle.rmt_server.specs.Carrying.{IsCarriedOut, MayFail, MayShare}
 abbrev pub Exchange : Type 0
 Exchange = PlainRequest × PlainReply
 
+-- the requests alone
 abbrev pub requests_of : List Exchange → List PlainRequest
 requests_of done = map (λ e. e.0) done
 
@@ -60,7 +61,7 @@ pub record Advances {H S Seat R : Type 0} (k : Kinds H Seat S R) (old new : Stat
   pub run : CarryRun k old done new
   pub outcome : Outcome done rest
 
--- The reader is left at a beginning of a request, for the rest of which there is room
+-- The reader is left at a beginning of a request, for the rest of which there is room.
 pub record IsSettled (wire : RequestHeld) (rest : List ℕ) : Type 0 where
   pub unread : Unread wire rest
   pub begins : IsOpen rest
@@ -89,11 +90,13 @@ abbrev pub EndsAs : {R W : Type 0} → (R → Option (List ℕ)) → (W → Opti
 EndsAs remaining contents (Ok End) input input' output output' read done rest =
     IsAnswered (contents output.inner) (contents output'.inner) read done rest × (rest ≡ []) × IsAtEnd (remaining input'.inner)
 EndsAs remaining contents (Ok Truncated) input input' output output' read done rest =
-    IsAnswered (contents output.inner) (contents output'.inner) read done rest × (rest ≢ []) × IsOpen rest × HasNoSpelling rest × IsAtEnd (remaining input'.inner)
+    IsAnswered (contents output.inner) (contents output'.inner) read done rest
+    × (rest ≢ []) × IsOpen rest × HasNoSpelling rest × IsAtEnd (remaining input'.inner)
 EndsAs remaining contents (Ok (Broken fault)) input input' output output' read done rest =
     IsAnswered (contents output.inner) (contents output'.inner) read done rest × HasFault rest fault × HasNoSpelling rest
 EndsAs remaining contents (Err Input) input input' output output' read done rest =
-    IsAnswered (contents output.inner) (contents output'.inner) read done rest × IsOpen rest × HasNoSpelling rest × HasRisen input.failures input'.failures
+    IsAnswered (contents output.inner) (contents output'.inner) read done rest
+    × IsOpen rest × HasNoSpelling rest × HasRisen input.failures input'.failures
 EndsAs remaining contents (Err Output) input input' output output' read done rest =
     IsCutOff (contents output.inner) (contents output'.inner) read done rest × HasRisen output.failures output'.failures
 
@@ -103,8 +106,9 @@ NoneFailed input input' output output' = (input'.failures ≡ input.failures) ×
 
 -- What was served: the bytes read, the requests carried out with their replies, and what follows them of the bytes.
 -- Then what was open was closed. Where stacks and reel tell, the requests and replies are a run of serve steps.
-pub record IsServedAs {H S Seat R In Out : Type 0} (k : Kinds H Seat S R) (remaining : In → Option (List ℕ)) (contents : Out → Option (List ℕ))
-    (result : Result Served ServeFault) (input input' : Counting In) (output output' : Counting Out) (old new : State H S Seat R) : Type 0 where
+pub record IsServedAs {H S Seat R In Out : Type 0} (k : Kinds H Seat S R) (remaining : In → Option (List ℕ))
+    (contents : Out → Option (List ℕ)) (result : Result Served ServeFault) (input input' : Counting In) (output output' : Counting Out)
+    (old new : State H S Seat R) : Type 0 where
   pub read : List ℕ
   pub done : List Exchange
   pub rest : List ℕ

@@ -1,8 +1,8 @@
 //! The session of one client: what it has open, and what it answers.
 ghost use Rattle.std.specs.Prelude.{◌≡◌, ◌≤◌, length, Ok, Err, IfOk};
 ghost use Rattle.rmt_wire.specs.Lent.{plain_request, plain_reply};
-ghost use Rattle.rmt_wire.specs.Limits.{data_limit};
-ghost use Rattle.rmt_wire.specs.Reply.{ReplyHasSpelling, data_length};
+ghost use Rattle.rmt_wire.specs.Reply.{ReplyHasSpelling, reply_text};
+ghost use Rattle.rmt_wire.specs.Limits.{reader_limit};
 
 mod desk;
 mod dispatch;
@@ -59,7 +59,8 @@ impl<H: Holds, S: Stacks> Session<H, S> {
     pub fn new(alloc: Global, seat: H::Seat) -> Result<Session<H, S>, (H::Seat, AllocError)>
         requires { HoldsJust (H.shows seat) None }
         ensures made { MatchResult result (λ s. s ≡ record { seat = seat; opened = None }) (λ refused. refused.0 ≡ seat) }
-        ensures at { IfOk result (λ s. (drives : Drives H S H.Seat S.Reel) → H.belongs drives.holds seat → S.drives drives.stacks ≤ H.drives drives.holds →
+        ensures at { IfOk result (λ s. (drives : Drives H S H.Seat S.Reel) → H.belongs drives.holds seat →
+            S.drives drives.stacks ≤ H.drives drives.holds →
             IsAt (kinds H.Holds S.Stacks S.Reel.Reel) (state drives s)) }
     {
         match Vec::from_elem(alloc, 0u8, DATA_LIMIT) {
@@ -88,14 +89,14 @@ impl<H: Holds, S: Stacks> Session<H, S> {
     /// without an error has 0 for an open or a close, the count for a write or an operation, or the bytes of a read.
     ///
     /// The drives are those of the seat and of what is open, and the stacks have no more of them than the holds.
-    #[tactic(auto, using(crate::proofs::ServeSteps::carried, crate::proofs::Spelling::outcome_spelled))]
+    #[tactic(auto, using(crate::proofs::ServeSteps::carried, crate::proofs::Spelling::outcome_spelled, crate::proofs::Spelling::number_short, crate::proofs::Spelling::outcome_short))]
     pub fn carry_out(&mut self, drives: &mut DriveTable<H, S>, request: Request<'_>) -> Reply<'_>
         requires { IsAt (kinds H.Holds S.Stacks S.Reel.Reel) (state drives.old self.old) }
         ensures* rests { sem 𝓛 (Rests (the_row H.row S.row H.Seat.row S.Reel.row H.Holds S.Stacks S.Reel.Reel) self.entry (λ new.
             IsCarriedOut (kinds H.Holds S.Stacks S.Reel.Reel) (state drives.old self.old) (plain_request request.entry)
             (plain_reply result) (state drives.new new))) }
         ensures spelling { IsSayable (plain_request request.entry) → ReplyHasSpelling (plain_reply result) }
-        ensures short { data_length (plain_reply result) ≤ data_limit }
+        ensures short { IsSayable (plain_request request.entry) → length (reply_text (plain_reply result)) ≤ reader_limit }
     {
         let outcome = dispatch(drives, &mut self.desk, self.buffer.as_mut_slice(), request);
         match outcome {

@@ -58,7 +58,9 @@ fn answer_all<W: Write, H: Holds, S: Stacks>(
     requires at { IsAt (kinds H.Holds S.Stacks S.Reel.Reel) (state drives.old session.old) }
     requires held { (bytes : List ℕ) × Unread wire.old bytes }
     ensures at { IsAt (kinds H.Holds S.Stacks S.Reel.Reel) (state drives.new session.new) }
-    ensures answers { (bytes : List ℕ) → Unread wire.old bytes → Advances (kinds H.Holds S.Stacks S.Reel.Reel) (state drives.old session.old) (state drives.new session.new) (AnswersAs W.contents result output.old output.new wire.new bytes) }
+    ensures answers { (bytes : List ℕ) → Unread wire.old bytes →
+        Advances (kinds H.Holds S.Stacks S.Reel.Reel) (state drives.old session.old) (state drives.new session.new)
+        (AnswersAs W.contents result output.old output.new wire.new bytes) }
     ensures counted { output.old.failures ≤ output.new.failures }
     ensures steady { OnOk result (output.new.failures ≡ output.old.failures) }
 {
@@ -85,7 +87,9 @@ fn take_in<W: Write, H: Holds, S: Stacks>(
     requires at { IsAt (kinds H.Holds S.Stacks S.Reel.Reel) (state drives.old session.old) }
     requires settled { (bytes : List ℕ) × IsSettled wire.old bytes }
     ensures at { IsAt (kinds H.Holds S.Stacks S.Reel.Reel) (state drives.new session.new) }
-    ensures answers { (bytes : List ℕ) → IsSettled wire.old bytes → Advances (kinds H.Holds S.Stacks S.Reel.Reel) (state drives.old session.old) (state drives.new session.new) (AnswersAs W.contents result output.old output.new wire.new (bytes ++ piece.now)) }
+    ensures answers { (bytes : List ℕ) → IsSettled wire.old bytes →
+        Advances (kinds H.Holds S.Stacks S.Reel.Reel) (state drives.old session.old) (state drives.new session.new)
+        (AnswersAs W.contents result output.old output.new wire.new (bytes ++ piece.now)) }
     ensures counted { output.old.failures ≤ output.new.failures }
     ensures steady { OnOk result (output.new.failures ≡ output.old.failures) }
 {
@@ -110,7 +114,9 @@ fn converse<R: Read, W: Write, H: Holds, S: Stacks>(
     requires at { IsAt (kinds H.Holds S.Stacks S.Reel.Reel) (state drives.old session.old) }
     requires empty { Unread wire.old [] }
     ensures at { IsAt (kinds H.Holds S.Stacks S.Reel.Reel) (state drives.new session.new) }
-    ensures converses { (read : List ℕ) × Consumes (R.remaining input.old.inner) (R.remaining input.new.inner) read × Advances (kinds H.Holds S.Stacks S.Reel.Reel) (state drives.old session.old) (state drives.new session.new) (EndsAs R.remaining W.contents result input.old input.new output.old output.new read) }
+    ensures converses { (read : List ℕ) × Consumes (R.remaining input.old.inner) (R.remaining input.new.inner) read ×
+        Advances (kinds H.Holds S.Stacks S.Reel.Reel) (state drives.old session.old) (state drives.new session.new)
+        (EndsAs R.remaining W.contents result input.old input.new output.old output.new read) }
     ensures steady { OnOk result (NoneFailed input.old input.new output.old output.new) }
 {
     let mut piece = [0; PIECE];
@@ -145,7 +151,8 @@ pub fn serve<R: Read, W: Write, H: Holds, S: Stacks>(
     requires at { IsAt (kinds H.Holds S.Stacks S.Reel.Reel) (state drives.old session.old) }
     // the reader has given all that was pushed
     requires empty { Unread wire.old [] }
-    ensures served { IsServedAs (kinds H.Holds S.Stacks S.Reel.Reel) R.remaining W.contents result input.old input.new output.old output.new (state drives.old session.old) (state drives.new session.new) }
+    ensures served { IsServedAs (kinds H.Holds S.Stacks S.Reel.Reel) R.remaining W.contents result input.old input.new output.old output.new
+        (state drives.old session.old) (state drives.new session.new) }
     // a stream that failed ends as failed
     ensures steady { OnOk result (NoneFailed input.old input.new output.old output.new) }
     ensures nothing { session.new.opened ≡ None }

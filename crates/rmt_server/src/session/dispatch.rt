@@ -31,8 +31,8 @@ fn operate<H: Holds, S: Stacks>(
     count: u32,
 ) -> Result<u32, Refusal>
     requires { IsAt (kinds H.Holds S.Stacks S.Reel.Reel) (state drives.old desk.old) }
-    ensures operates { Operates (kinds H.Holds S.Stacks S.Reel.Reel) (is_offline op) (state drives.old desk.old) op count (number_reply result)
-        (state drives.new desk.new) }
+    ensures operates { Operates (kinds H.Holds S.Stacks S.Reel.Reel) (is_offline op) (state drives.old desk.old) op count
+        (number_reply result) (state drives.new desk.new) }
     ensures number { IfOk result (λ n. n ≡ count) }
 {
     if op == MTOFFL {

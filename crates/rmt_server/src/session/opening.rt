@@ -48,7 +48,8 @@ pub(crate) fn close_opened<H: Holds, S: Stacks>(
     desk: &mut Desk<H::Seat, S::Reel>,
 ) -> Result<u32, Refusal>
     requires { IsAt (kinds H.Holds S.Stacks S.Reel.Reel) (state drives.old desk.old) }
-    ensures closes { Closes (kinds H.Holds S.Stacks S.Reel.Reel) (state drives.old desk.old) (number_reply result) (state drives.new desk.new) }
+    ensures closes { Closes (kinds H.Holds S.Stacks S.Reel.Reel) (state drives.old desk.old) (number_reply result)
+        (state drives.new desk.new) }
     ensures number { IfOk result (λ n. n ≡ 0) }
 {
     if desk.opened.is_none() {
@@ -67,8 +68,8 @@ fn open_named<H: Holds, S: Stacks>(
 ) -> Result<u32, Refusal>
     requires at { IsAt (kinds H.Holds S.Stacks S.Reel.Reel) (state drives.old desk.old) }
     requires nothing { desk.old.opened ≡ None }
-    ensures opens { OpensFor (kinds H.Holds S.Stacks S.Reel.Reel) (state drives.old desk.old) device.now (access_of mode) (number_reply result)
-        (state drives.new desk.new) }
+    ensures opens { OpensFor (kinds H.Holds S.Stacks S.Reel.Reel) (state drives.old desk.old) device.now (access_of mode)
+        (number_reply result) (state drives.new desk.new) }
     ensures number { IfOk result (λ n. n ≡ 0) }
 {
     let Some(access) = Access::of(mode) else {

@@ -29,7 +29,8 @@ impl<H: Holds> Session<H, ListStacks> {
     pub fn trouble(&mut self, trouble: Trouble)
         ensures seat { self.new.seat ≡ self.old.seat }
         ensures at { (drives : Drives H ListShop H.Seat TroubledTape) →
-            IsAt (kinds H.Holds of_stacks of_reel) (state drives self.old) → IsAt (kinds H.Holds of_stacks of_reel) (state drives self.new) }
+            IsAt (kinds H.Holds of_stacks of_reel) (state drives self.old) →
+            IsAt (kinds H.Holds of_stacks of_reel) (state drives self.new) }
         ensures set { self.new.opened ≡ with_trouble trouble self.old.opened }
     {
         if let Some(device) = &mut self.desk.opened {

@@ -1,11 +1,14 @@
-use Rattle.std.proofs.Common.{◌≡◌, take, refl, rules, arith, length-take}
+use Rattle.std.proofs.Common.{◌≡◌, length, take, refl, Ok, rules, arith}
 use Rattle.std.proofs.lemmas.Grind.{common_steps}
 use Rattle.drives.specs.Opening.{kinds}
 use Rattle.rmt_wire.specs.Lent.{plain_request}
+use Rattle.rmt_wire.specs.Limits.{data_limit}
 use Rattle.rmt_wire.specs.Reply.PlainReply.{Data}
 use Rattle.rmt_server.specs.State.{state}
 use Rattle.rmt_server.specs.Carrying.{CarriesOut}
+use Rattle.rmt_server.specs.declared.session.dispatch.Given.TheVariants.{Bytes}
 use Rattle.rmt_server.proofs.ServeSteps.{carried}
+use Rattle.rmt_server.proofs.Spelling.{outcome_spelled, outcome_short}
 use Rattle.rmt_server.proofs.session.Session.carry_out.Goals as goal
 
 pub returns-in-Ok-Bytes : goal.returns-in-Ok-Bytes
@@ -15,6 +18,12 @@ returns-in-Ok-Bytes g c =
     let new = state c.dispatch-outcome.new.drives c.dispatch-outcome.new.desk in
     let same : c.as_slice.result.now ≡ c.dispatch-outcome.new.buffer = grind (arith, common_steps) in
     let effect : CarriesOut k old (plain_request c.args.request) (Data (take c.in-Ok-Bytes.count c.dispatch-outcome.new.buffer)) new = search rules in
-    let few : length (take c.in-Ok-Bytes.count c.dispatch-outcome.new.buffer) ≤ 65536 =
-    omega (arith, length-take c.in-Ok-Bytes.count c.dispatch-outcome.new.buffer, c.dispatch-outcome.auto.buffer, c.as_mut_slice.ensures.value, c.as_mut_slice.ensures.len, c.self.invariant) in
-    rw same ((refl, λ x. tt, carried k old (plain_request c.args.request) _ new c.requires effect), record { rests = tt; spelling = λ s. omega (arith, few); short = few })
+    let full : length c.dispatch-outcome.new.buffer ≡ data_limit = omega (arith, c.dispatch-outcome.auto.buffer, c.as_mut_slice.ensures.value, c.as_mut_slice.ensures.len, c.self.invariant) in
+    rw same (
+      (refl, λ x. tt, carried k old (plain_request c.args.request) _ new c.requires effect),
+      record {
+        rests = tt;
+        spelling = λ s. outcome_spelled (Ok (Bytes c.in-Ok-Bytes.count)) c.dispatch-outcome.new.buffer full tt;
+        short = λ s. outcome_short (Ok (Bytes c.in-Ok-Bytes.count)) c.dispatch-outcome.new.buffer full tt;
+      },
+    )
