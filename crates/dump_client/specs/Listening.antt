@@ -33,7 +33,8 @@ is_more (b ∷ bytes) = true
 abbrev pub IsHeard : Wanted → List ℕ → Result (Option Said) WireFault → ReplyHeld → Type 0
 IsHeard wanted bytes (Ok None) new = IsWaiting wanted new bytes
 IsHeard wanted bytes (Ok (Some s)) new =
-    (reply : PlainReply) × (rest : List ℕ) × ReplyGives (Some wanted) bytes (Ok (Some reply)) rest × IsSaid reply s × ReplyUnread new None rest
+    (reply : PlainReply) × (rest : List ℕ) × ReplyGives (Some wanted) bytes (Ok (Some reply)) rest
+    × IsSaid reply s × ReplyUnread new None rest
 IsHeard wanted bytes (Err fault) new = (more : List ℕ) → ReplyGives (Some wanted) (bytes ++ more) (Err fault) (bytes ++ more)
 
 -- What all the bytes are that came since a reply was waited for, and where the reader stands then: a beginning of a reply; a

@@ -148,7 +148,8 @@ impl Ledger {
         requires room { RoomFits self.old.at.stage self.old.room }
         ensures heard { HearsAt self.old.at step Noise false result self.new.at }
         ensures slots { self.new.room + length self.new.at.counts ≡ self.old.room + length self.old.at.counts }
-        ensures fed { (reader : readers.ReplyHeld) (bytes : List ℕ) → HasFedAt self.new.at.stage reader (unanswered self.new.at.stage bytes) }
+        ensures fed { (reader : readers.ReplyHeld) (bytes : List ℕ) →
+            HasFedAt self.new.at.stage reader (unanswered self.new.at.stage bytes) }
         ensures same_run { self.new.at.run ≡ self.old.at.run }
     {
         self.come_to(after_noise(step), false)
@@ -162,7 +163,8 @@ impl Ledger {
         requires room { RoomFits self.old.at.stage self.old.room }
         ensures heard { HearsAt self.old.at step End false result self.new.at }
         ensures slots { self.new.room + length self.new.at.counts ≡ self.old.room + length self.old.at.counts }
-        ensures fed { (reader : readers.ReplyHeld) (bytes : List ℕ) → HasFedAt self.new.at.stage reader (unanswered self.new.at.stage bytes) }
+        ensures fed { (reader : readers.ReplyHeld) (bytes : List ℕ) →
+            HasFedAt self.new.at.stage reader (unanswered self.new.at.stage bytes) }
         ensures same_run { self.new.at.run ≡ self.old.at.run }
     {
         self.come_to(after_end(step), false)

@@ -11,7 +11,8 @@ use Rattle.rmt_peer.specs.Print.{IsPrinted}
 
 -- a volume that is counted: its number, how many blocks it has, and the first
 abbrev pub count_line : VolumeCount → List ℕ
-count_line c = codes "volume " ++ decimal c.volume ++ codes ": " ++ decimal c.count ++ codes " blocks from " ++ decimal c.first ++ codes "\n"
+count_line c =
+    codes "volume " ++ decimal c.volume ++ codes ": " ++ decimal c.count ++ codes " blocks from " ++ decimal c.first ++ codes "\n"
 
 abbrev pub count_lines : List VolumeCount → List ℕ
 count_lines counts = flat_map count_line counts
@@ -57,7 +58,8 @@ IsLast true at last status =
 IsLast false at last status = status ≡ 3
 
 -- what a dump prints, from these counts on up to where the client stands, and its status
-pub record IsDumped {W : Type 0} (contents : W → Option (List ℕ)) (first : List VolumeCount) (at : Standing) (out out' : Counting W) (status : ℕ) : Type 0 where
+pub record IsDumped {W : Type 0} (contents : W → Option (List ℕ)) (first : List VolumeCount) (at : Standing)
+    (out out' : Counting W) (status : ℕ) : Type 0 where
   pub text : List ℕ
   pub last : List ℕ
   pub whole : Bool
@@ -72,4 +74,5 @@ IsRound contents first at out out' (Some status) = IsDumped contents first at ou
 
 -- the last line, and the status
 abbrev pub IsFinish : {W : Type 0} → (W → Option (List ℕ)) → Standing → Counting W → Counting W → ℕ → Type 0
-IsFinish contents at out out' status = (last : List ℕ) × (whole : Bool) × IsPrinted contents last out out' whole × IsLast whole at last status
+IsFinish contents at out out' status =
+    (last : List ℕ) × (whole : Bool) × IsPrinted contents last out out' whole × IsLast whole at last status

@@ -7,4 +7,5 @@ use Rattle.rmt_wire.specs.ReplyWriter.{AppendsBeginning}
 -- The text was printed, and no write failed. Or one did, and a beginning of the text was printed.
 abbrev pub IsPrinted : {W : Type 0} → (W → Option (List ℕ)) → List ℕ → Counting W → Counting W → Bool → Type 0
 IsPrinted contents text out out' true = Appends (contents out.inner) (contents out'.inner) text × (out'.failures ≡ out.failures)
-IsPrinted contents text out out' false = AppendsBeginning (contents out.inner) (contents out'.inner) text × HasRisen out.failures out'.failures
+IsPrinted contents text out out' false =
+    AppendsBeginning (contents out.inner) (contents out'.inner) text × HasRisen out.failures out'.failures

@@ -41,7 +41,8 @@ pub data Talks (told : List (List ℕ) → Type 0) (start : Standing) (first : L
       → Talks told start first (passed ++ more) after later
 
 -- what passed in the calls between the client before and now is what passed at the peer
-pub record HasTalked {B P : Type 0} (told : List (List ℕ) → Type 0) (tells : P → List Passed → Type 0) (c c' : ClientHeld B) (p p' : P) (fed : List ℕ) : Type 0 where
+pub record HasTalked {B P : Type 0} (told : List (List ℕ) → Type 0) (tells : P → List Passed → Type 0)
+    (c c' : ClientHeld B) (p p' : P) (fed : List ℕ) : Type 0 where
   pub passed : List Passed
   pub later : List ℕ
   pub talks : Talks told c.at fed passed c'.at later
@@ -49,7 +50,8 @@ pub record HasTalked {B P : Type 0} (told : List (List ℕ) → Type 0) (tells :
   pub logs : Logs tells p p' passed
 
 -- the client talked over the peer, and its source still tells what it told
-pub record TalksOver {B P : Type 0} (holds : B → List (List ℕ) → Type 0) (tells : P → List Passed → Type 0) (c c' : ClientHeld B) (p p' : P) : Type 0 where
+pub record TalksOver {B P : Type 0} (holds : B → List (List ℕ) → Type 0) (tells : P → List Passed → Type 0)
+    (c c' : ClientHeld B) (p p' : P) : Type 0 where
   pub same : (payload : List (List ℕ)) → holds c.source payload → holds c'.source payload
   pub talked : (fed : List ℕ) → HasFed c fed → HasTalked (holds c.source) tells c c' p p' fed
 

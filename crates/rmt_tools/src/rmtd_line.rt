@@ -177,7 +177,8 @@ fn number_of(text: &str) -> Option<u64>
 
 /// The capacity that a text says, if one is given.
 fn capacity_of(text: Option<&str>) -> Option<u64>
-    ensures { MatchOption result (¬ (IsNumberIfGiven (option_map (λ s. s.now) text.entry))) (ReadsCapacity (option_map (λ s. s.now) text.entry)) }
+    ensures { MatchOption result (¬ (IsNumberIfGiven (option_map (λ s. s.now) text.entry)))
+        (ReadsCapacity (option_map (λ s. s.now) text.entry)) }
 {
     match text {
         Some(text) => number_of(text),
@@ -187,7 +188,8 @@ fn capacity_of(text: Option<&str>) -> Option<u64>
 
 /// The number of connections that a text says, if one is given.
 fn connections_of(text: Option<&str>) -> Result<Option<u64>, Wrong>
-    ensures { MatchResult result (ReadsConnections (option_map (λ s. s.now) text.entry)) (λ _. ¬ (IsNumberIfGiven (option_map (λ s. s.now) text.entry))) }
+    ensures { MatchResult result (ReadsConnections (option_map (λ s. s.now) text.entry))
+        (λ _. ¬ (IsNumberIfGiven (option_map (λ s. s.now) text.entry))) }
 {
     let Some(text) = text else {
         return Ok(None);

@@ -32,7 +32,8 @@ impl Spaced {
 pub(super) fn forward_files(entries: &[Entry], place: usize, offset: u64, count: u32) -> Spaced
     requires { IsStanding (plain_entries entries.now) place offset (2 ^ 64 - 1) }
     ensures { let way = drop place (plain_entries entries.now) in
-        IsSpaced (plain_entries entries.now) count (marks_met way) (place + passed_for_marks count way) result.place result.offset result.left }
+        IsSpaced (plain_entries entries.now) count (marks_met way) (place + passed_for_marks count way)
+        result.place result.offset result.left }
 {
     let mut at = place;
     let mut offset = offset;
@@ -56,7 +57,8 @@ pub(super) fn forward_files(entries: &[Entry], place: usize, offset: u64, count:
 pub(super) fn back_files(entries: &[Entry], place: usize, offset: u64, count: u32) -> Spaced
     requires { IsStanding (plain_entries entries.now) place offset (2 ^ 64 - 1) }
     ensures { let way = reverse (take place (plain_entries entries.now)) in
-        IsSpaced (plain_entries entries.now) count (marks_met way) (place - passed_for_marks count way) result.place result.offset result.left }
+        IsSpaced (plain_entries entries.now) count (marks_met way) (place - passed_for_marks count way)
+        result.place result.offset result.left }
 {
     let mut at = place;
     let mut offset = offset;
@@ -80,7 +82,8 @@ pub(super) fn back_files(entries: &[Entry], place: usize, offset: u64, count: u3
 pub(super) fn forward_records(entries: &[Entry], place: usize, offset: u64, count: u32) -> Spaced
     requires { IsStanding (plain_entries entries.now) place offset (2 ^ 64 - 1) }
     ensures { let way = drop place (plain_entries entries.now) in
-        IsSpaced (plain_entries entries.now) count (records_met way) (place + passed_for_records count way) result.place result.offset result.left }
+        IsSpaced (plain_entries entries.now) count (records_met way) (place + passed_for_records count way)
+        result.place result.offset result.left }
 {
     let mut at = place;
     let mut offset = offset;
@@ -109,7 +112,8 @@ pub(super) fn forward_records(entries: &[Entry], place: usize, offset: u64, coun
 pub(super) fn back_records(entries: &[Entry], place: usize, offset: u64, count: u32) -> Spaced
     requires { IsStanding (plain_entries entries.now) place offset (2 ^ 64 - 1) }
     ensures { let way = reverse (take place (plain_entries entries.now)) in
-        IsSpaced (plain_entries entries.now) count (records_met way) (place - passed_for_records count way) result.place result.offset result.left }
+        IsSpaced (plain_entries entries.now) count (records_met way) (place - passed_for_records count way)
+        result.place result.offset result.left }
 {
     let mut at = place;
     let mut offset = offset;
