@@ -4,7 +4,7 @@ use Rattle.rmt_wire.specs.Request.{PlainRequest}
 use Rattle.rmt_wire.specs.Request.PlainRequest.{Write}
 use Rattle.dump_client.specs.Standing.{Standing, checkpoint_of}
 use Rattle.dump_client.specs.Client.{IsRequestOf, IsScarce, IsFaultAt, IsPushed, AppendedBy, ReadBy, IsRequestGiven, is_source_fault, has_failed}
-use Rattle.dump_client.specs.declared.blocks.SourceFailed.{SourceFailed}
+use Rattle.dump_run.specs.declared.blocks.SourceFailed.{SourceFailed}
 use Rattle.dump_client.specs.declared.step.Step.{Step}
 use Rattle.dump_client.specs.declared.step.Step.TheVariants.{Open, Rewind, Label, Block, Mark, Unload, Close}
 use Rattle.dump_client.specs.declared.fault.AttemptFault.{AttemptFault}

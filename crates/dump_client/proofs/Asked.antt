@@ -1,6 +1,6 @@
 -- The request of a step at the checkpoint is that of the position.
 use Rattle.std.proofs.Common.{◌≡◌, ℕ, List, refl}
-use Rattle.dump_client.specs.Run.{PlainRun}
+use Rattle.dump_run.specs.Run.{PlainRun}
 use Rattle.dump_client.specs.Script.{request_of}
 use Rattle.dump_client.specs.Standing.{checkpoint_of}
 use Rattle.dump_client.specs.Lawful.{attempt_request}

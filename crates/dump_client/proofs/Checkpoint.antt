@@ -1,6 +1,6 @@
 -- Where the next volume begins.
 use Rattle.std.proofs.Common.{◌≡◌, ◌⊎◌, inl, inr, ℕ, ◌+◌, ◌-◌, ◌<◌, ◌≤◌, List, [], ◌∷◌, ◌++◌, length, length-append, refl, sym, ◌∙◌, ap, subst, arith}
-use Rattle.dump_client.specs.Run.{PlainRun}
+use Rattle.dump_run.specs.Run.{PlainRun}
 use Rattle.dump_client.specs.Script.{IsCount}
 use Rattle.dump_client.specs.Position.{Covers, CoversFrom}
 use Rattle.dump_client.specs.Standing.{checkpoint_after, checkpoint_of, count_to, counted_to}

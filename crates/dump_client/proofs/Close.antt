@@ -2,8 +2,8 @@
 use Rattle.std.proofs.Common.{◌≡◌, ◌≢◌, ℕ, ◌+◌, ◌==◌, Bool, true, false, if◌then◌else◌, nat_lt, refl}
 use Rattle.rmt_wire.specs.Reply.{PlainReply}
 use Rattle.rmt_wire.specs.Reply.PlainReply.{Done, Data, Error}
-use Rattle.dump_client.specs.Run.{PlainRun}
-use Rattle.dump_client.specs.Label.{label_bytes}
+use Rattle.dump_run.specs.Run.{PlainRun}
+use Rattle.dump_run.specs.Label.{label_bytes}
 use Rattle.dump_client.specs.Position.{Heard, outcome, after_step, at_end_of_reel, after_write, after_op, after_number, after_refusal, after_error, after_noise, after_reply}
 use Rattle.dump_client.specs.Position.Heard.{Reply, Noise, End}
 use Rattle.dump_client.specs.declared.step.Step.{Step}

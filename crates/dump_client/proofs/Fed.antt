@@ -2,7 +2,7 @@
 use Rattle.std.proofs.Common.{◌≡◌, inl, inr, ℕ, Bool, true, false, List, [], refl, sym, ap, subst, None}
 use Rattle.rmt_wire.specs.ReplyReader as reader
 use Rattle.rmt_wire.specs.ReplyReader.{ReplyUnread}
-use Rattle.dump_client.specs.Run.{PlainRun}
+use Rattle.dump_run.specs.Run.{PlainRun}
 use Rattle.dump_client.specs.Position.{after_noise, after_end}
 use Rattle.dump_client.specs.Standing.{Standing, IsOver, Becomes}
 use Rattle.dump_client.specs.Client.{HasFedAt, unanswered}

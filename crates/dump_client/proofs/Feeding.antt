@@ -9,7 +9,7 @@ use Rattle.dump_client.specs.Position.Heard.{Reply, Noise}
 use Rattle.dump_client.specs.Listening.{IsWaiting, IsSaid, IsListened}
 use Rattle.dump_client.specs.Standing.{Standing, HearsAt, FedAt}
 use Rattle.dump_client.specs.Client.{HasFedAt, ReadBy, is_source_fault}
-use Rattle.dump_client.specs.declared.blocks.SourceFailed.{SourceFailed}
+use Rattle.dump_run.specs.declared.blocks.SourceFailed.{SourceFailed}
 use Rattle.dump_client.specs.declared.fault.AttemptFault.{AttemptFault}
 use Rattle.dump_client.specs.declared.fault.AttemptFault.TheVariants.{Refused, Botched, ConnectionEnded, ShortWrite, ReelTooSmall, SourceFault, OutOfMemory}
 use Rattle.dump_client.specs.declared.listen.Said.{Said}

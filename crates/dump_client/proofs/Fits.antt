@@ -3,8 +3,8 @@ use Rattle.std.proofs.Common.{◌≡◌, ◌⊎◌, inl, inr, ℕ, ◌+◌, ◌-
 use Rattle.std.proofs.lemmas.Bool.Decides.{nat_tests}
 use Rattle.rmt_wire.specs.Reply.{PlainReply}
 use Rattle.rmt_wire.specs.Reply.PlainReply.{Done, Data, Error}
-use Rattle.dump_client.specs.Run.{PlainRun}
-use Rattle.dump_client.specs.Label.{label_bytes}
+use Rattle.dump_run.specs.Run.{PlainRun}
+use Rattle.dump_run.specs.Label.{label_bytes}
 use Rattle.dump_client.specs.Script.{IsCount}
 use Rattle.dump_client.specs.Position.{after_step, after_reply, after_noise, after_end, at_end_of_reel, after_write}
 use Rattle.dump_client.specs.Standing.{Standing, IsAtStep, checkpoint_of}

@@ -4,8 +4,8 @@ use Rattle.std.proofs.lemmas.Bool.Decides.{nat_tests}
 use Rattle.std.proofs.lemmas.List.{append-nil, map-append}
 use Rattle.rmt_wire.specs.Reply.{PlainReply}
 use Rattle.rmt_wire.specs.Reply.PlainReply.{Done, Data, Error}
-use Rattle.dump_client.specs.Run.{PlainRun}
-use Rattle.dump_client.specs.Label.{label_bytes}
+use Rattle.dump_run.specs.Run.{PlainRun}
+use Rattle.dump_run.specs.Label.{label_bytes}
 use Rattle.dump_client.specs.Script.{Wish, Grants, IsCount, block_steps, refused_step, last_steps, steps_of}
 use Rattle.dump_client.specs.Script.Wish.{AnyNumber, Number, NoRoom, Anything}
 use Rattle.dump_client.specs.Position.{after_reply, at_end_of_reel, block_or_mark}

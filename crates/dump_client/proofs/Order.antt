@@ -6,8 +6,8 @@ use Rattle.std.proofs.Math.Seq.{take-append_seam}
 use Rattle.rmt_wire.specs.Request.{PlainRequest}
 use Rattle.rmt_wire.specs.Reply.{PlainReply}
 use Rattle.rmt_wire.specs.Reply.PlainReply.{Done, Data, Error}
-use Rattle.dump_client.specs.Run.{PlainRun}
-use Rattle.dump_client.specs.Label.{label_bytes}
+use Rattle.dump_run.specs.Run.{PlainRun}
+use Rattle.dump_run.specs.Label.{label_bytes}
 use Rattle.dump_client.specs.Script.{request_of}
 use Rattle.dump_client.specs.Position.{after_reply, at_end_of_reel, block_or_mark}
 use Rattle.dump_client.specs.Standing.{checkpoint_of, count_to, counted_to}

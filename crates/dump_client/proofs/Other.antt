@@ -3,8 +3,8 @@ use Rattle.std.proofs.Common.{◌≡◌, ◌⊎◌, inl, inr, ℕ, ◌<◌, ◌=
 use Rattle.std.proofs.lemmas.Bool.Decides.{nat_tests}
 use Rattle.rmt_wire.specs.Reply.{PlainReply}
 use Rattle.rmt_wire.specs.Reply.PlainReply.{Done, Data, Error}
-use Rattle.dump_client.specs.Run.{PlainRun}
-use Rattle.dump_client.specs.Label.{label_bytes}
+use Rattle.dump_run.specs.Run.{PlainRun}
+use Rattle.dump_run.specs.Label.{label_bytes}
 use Rattle.dump_client.specs.declared.step.Step.{Step}
 use Rattle.dump_client.specs.declared.step.Step.TheVariants.{Open, Rewind, Label, Block, Mark, Unload, Close}
 use Rattle.dump_client.specs.Position.{IsWantedAt, IsFailure, after_reply, at_end_of_reel, block_or_mark}

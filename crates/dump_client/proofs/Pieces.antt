@@ -4,7 +4,7 @@ use Rattle.rmt_wire.specs.Reply.{PlainReply}
 use Rattle.rmt_wire.specs.Reply.Wanted.{Number}
 use Rattle.rmt_wire.specs.ReplyParts.{ReplyGives}
 use Rattle.rmt_wire.specs.declared.fault.WireFault.{WireFault}
-use Rattle.dump_client.specs.Run.{PlainRun}
+use Rattle.dump_run.specs.Run.{PlainRun}
 use Rattle.dump_client.specs.Client.{unanswered}
 use Rattle.dump_client.specs.Listening.{is_more}
 use Rattle.dump_client.specs.Position.{outcome, after_noise, after_end}

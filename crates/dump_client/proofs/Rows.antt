@@ -2,8 +2,8 @@
 use Rattle.std.proofs.Common.{◌≡◌, [], ◌∷◌, refl}
 use Rattle.std.specs.Prelude.{codes}
 use Rattle.rmt_wire.specs.Request.PlainRequest.{Open, Op, Write, Close}
-use Rattle.dump_client.specs.Run.{PlainRun, plain_run}
-use Rattle.dump_client.specs.Label.{label}
+use Rattle.dump_run.specs.Run.{PlainRun, plain_run}
+use Rattle.dump_run.specs.Label.{label}
 use Rattle.dump_client.specs.Script.{script}
 use Rattle.dump_client.specs.Script.Wish.{AnyNumber, Number, Anything}
 

@@ -4,7 +4,7 @@ use Rattle.std.proofs.lemmas.List.{map-append}
 use Rattle.std.proofs.Math.Seq.{take-length, take-append_seam}
 use Rattle.rmt_wire.specs.Request.{PlainRequest}
 use Rattle.rmt_wire.specs.Request.PlainRequest.{Op}
-use Rattle.dump_client.specs.Run.{PlainRun}
+use Rattle.dump_run.specs.Run.{PlainRun}
 use Rattle.dump_client.specs.Script.{Wish, IsCount, request_of, steps_of, script}
 use Rattle.dump_client.specs.Position.{Position, Counts}
 use Rattle.dump_client.specs.Standing.{Standing, checkpoint_after, checkpoint_of}

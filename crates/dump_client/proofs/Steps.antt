@@ -1,7 +1,7 @@
 -- The steps of a volume, without what is wanted of the replies.
 use Rattle.std.proofs.Common.{◌≡◌, ◌⊎◌, inl, inr, ℕ, zero, suc, ◌+◌, ◌-◌, ◌<◌, ◌≤◌, Bool, true, false, if◌then◌else◌, nat_lt, List, [], ◌∷◌, ◌++◌, map, refl, sym, ◌∙◌, ap, arith, append_assoc}
 use Rattle.std.proofs.lemmas.List.{map-append}
-use Rattle.dump_client.specs.Run.{PlainRun}
+use Rattle.dump_run.specs.Run.{PlainRun}
 use Rattle.dump_client.specs.Script.{IsCount, block_steps, refused_step, last_steps, steps_of}
 use Rattle.dump_client.specs.Script.Wish.{NoRoom}
 use Rattle.dump_client.specs.Lawful.{blocks_from, steps_to, steps_before}

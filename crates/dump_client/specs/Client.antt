@@ -8,7 +8,7 @@ use Rattle.rmt_wire.specs.ReplyReader as reader
 use Rattle.rmt_wire.specs.ReplyReader.{ReplyUnread}
 use Rattle.dumpdates.specs.Stored.{plain_entry}
 use Rattle.dumpdates.specs.declared.entry.Entry.{Entry}
-use Rattle.dump_client.specs.Run.{PlainRun}
+use Rattle.dump_run.specs.Run.{PlainRun}
 use Rattle.dump_client.specs.Script.{request_of, wanted_of}
 use Rattle.dump_client.specs.Listening.{IsWaiting}
 use Rattle.dump_client.specs.Standing.{Standing, standing, checkpoint_of, IsOver}
@@ -16,7 +16,7 @@ use Rattle.dump_client.specs.declared.step.Step.{Step}
 use Rattle.dump_client.specs.declared.step.Step.TheVariants.{Block, Close}
 use Rattle.dump_client.specs.declared.stage.Stage.{Stage}
 use Rattle.dump_client.specs.declared.stage.Stage.TheVariants.{ToSend, Waiting, Asking, Finished}
-use Rattle.dump_client.specs.declared.blocks.SourceFailed.{SourceFailed}
+use Rattle.dump_run.specs.declared.blocks.SourceFailed.{SourceFailed}
 use Rattle.dump_client.specs.declared.fault.AttemptFault.{AttemptFault}
 use Rattle.dump_client.specs.declared.fault.AttemptFault.TheVariants.{SourceFault, OutOfMemory}
 

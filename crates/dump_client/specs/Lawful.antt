@@ -2,7 +2,7 @@
 use Rattle.std.specs.Prelude.{◌≡◌, ◌⊎◌, ℕ, zero, suc, ◌+◌, ◌-◌, ◌<◌, ◌≤◌, if◌then◌else◌, nat_lt, List, [], ◌∷◌, ◌++◌, length, map, take, Contains}
 use Rattle.rmt_wire.specs.Request.{PlainRequest}
 use Rattle.rmt_wire.specs.Request.PlainRequest.{Op}
-use Rattle.dump_client.specs.Run.{PlainRun, IsRun}
+use Rattle.dump_run.specs.Run.{PlainRun, IsRun}
 use Rattle.dump_client.specs.Script.{IsCount, request_of}
 use Rattle.dump_client.specs.Position.{Covers, Position, Counts}
 use Rattle.dump_client.specs.Standing.{Standing, checkpoint_of}

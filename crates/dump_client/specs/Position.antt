@@ -4,8 +4,8 @@ use Rattle.rmt_wire.specs.Request.{PlainRequest}
 use Rattle.rmt_wire.specs.Request.PlainRequest.{Op}
 use Rattle.rmt_wire.specs.Reply.{PlainReply}
 use Rattle.rmt_wire.specs.Reply.PlainReply.{Done, Data, Error}
-use Rattle.dump_client.specs.Run.{PlainRun}
-use Rattle.dump_client.specs.Label.{label_bytes}
+use Rattle.dump_run.specs.Run.{PlainRun}
+use Rattle.dump_run.specs.Label.{label_bytes}
 use Rattle.dump_client.specs.Script.{Wish, Grants, IsCount, script}
 use Rattle.dump_client.specs.Script.Wish.{AnyNumber, Number, NoRoom, Anything}
 use Rattle.dump_client.specs.declared.step.Step.{Step}

@@ -1,7 +1,7 @@
 -- Where the replies that come lead, and that they are those that the script wants.
 use Rattle.std.specs.Prelude.{◌≡◌, ℕ, ◌+◌, List, [], ◌∷◌, ◌++◌, length, map}
 use Rattle.rmt_wire.specs.Reply.{PlainReply}
-use Rattle.dump_client.specs.Run.{PlainRun}
+use Rattle.dump_run.specs.Run.{PlainRun}
 use Rattle.dump_client.specs.Script.{Wish, Grants, IsCount, steps_of}
 use Rattle.dump_client.specs.Position.{after_reply}
 use Rattle.dump_client.specs.Lawful.{steps_before}

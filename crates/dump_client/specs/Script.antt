@@ -5,8 +5,8 @@ use Rattle.rmt_wire.specs.Request.PlainRequest.{Open as OpenDevice, Op, Write, C
 use Rattle.rmt_wire.specs.Reply.{PlainReply, Wanted}
 use Rattle.rmt_wire.specs.Reply.Wanted.{Number as NumberReply}
 use Rattle.rmt_wire.specs.Reply.PlainReply.{Done, Error}
-use Rattle.dump_client.specs.Run.{PlainRun}
-use Rattle.dump_client.specs.Label.{label, label_bytes}
+use Rattle.dump_run.specs.Run.{PlainRun}
+use Rattle.dump_run.specs.Label.{label, label_bytes}
 use Rattle.dump_client.specs.declared.step.Step.{Step}
 use Rattle.dump_client.specs.declared.step.Step.TheVariants.{Open, Rewind, Label, Block, Mark, Unload, Close}
 

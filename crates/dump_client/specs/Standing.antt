@@ -3,7 +3,7 @@ use Rattle.std.specs.Prelude.{◌≡◌, ◌≢◌, ◌⊎◌, ℕ, ◌+◌, ◌
 use Rattle.rmt_wire.specs.Reply.{PlainReply}
 use Rattle.rmt_wire.specs.ReplyParts.{ReplyGives}
 use Rattle.rmt_wire.specs.declared.fault.WireFault.{WireFault}
-use Rattle.dump_client.specs.Run.{PlainRun}
+use Rattle.dump_run.specs.Run.{PlainRun}
 use Rattle.dump_client.specs.Script.{wanted_of}
 use Rattle.dump_client.specs.Position.{Covers, Heard, outcome}
 use Rattle.dump_client.specs.Position.Heard.{Reply, Noise, End}

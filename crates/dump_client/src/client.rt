@@ -1,7 +1,7 @@
 //! The client: one attempt after the other, and what they count.
 ghost use Rattle.std.specs.Prelude.{◌≡◌, ◌↔◌, ℕ, ◌++◌, ◌+◌, ◌<◌, true, List, [], length, IfOk, OnErr, OnOk};
 ghost use Rattle.std.specs.Vec.{vec_capacity};
-ghost use Rattle.dump_client.specs.Blocks.{listed};
+ghost use Rattle.dump_run.specs.Blocks.{listed};
 ghost use Rattle.dump_client.specs.Standing.{standing, state_of, checkpoint_of, StartedAt, AnsweredAt, FedAt, CutAt};
 ghost use Rattle.dump_client.specs.Lawful.{IsLawful};
 ghost use Rattle.dump_client.specs.Client.{HasFed, unanswered, IsPayload, AskedAt, ReadAt, TellsEntry, failures_after, is_source_fault};

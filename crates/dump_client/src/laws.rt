@@ -1,6 +1,6 @@
 ghost use Rattle.std.specs.Prelude.{◌≡◌, ◌≢◌, ◌⊎◌, ℕ, ◌-◌, ◌<◌, ◌≤◌, List, [], ◌∷◌, ◌++◌};
 ghost use Rattle.rmt_wire.specs.Reply.{PlainReply};
-ghost use Rattle.dump_client.specs.Run.{PlainRun, IsRun};
+ghost use Rattle.dump_run.specs.Run.{PlainRun, IsRun};
 ghost use Rattle.dump_client.specs.Script.{IsCount, request_of, steps_of};
 ghost use Rattle.dump_client.specs.Position.{Follows, Heard, IsWantedAt, IsFailure, after_reply, outcome};
 ghost use Rattle.dump_client.specs.Position.Heard.{Noise, End};

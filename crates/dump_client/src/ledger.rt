@@ -6,7 +6,7 @@ ghost use Rattle.rmt_wire.specs.ReplyReader.{ReplyUnread};
 ghost use Rattle.dump_client.specs.Client.{HasFedAt, unanswered};
 ghost use Rattle.dump_client.specs.Listening.{IsSaid};
 ghost use Rattle.dump_client.specs.Position.Heard.{Reply, Noise, End};
-ghost use Rattle.dump_client.specs.Run.{IsRun};
+ghost use Rattle.dump_run.specs.Run.{IsRun};
 ghost use Rattle.dump_client.specs.Standing.{standing, checkpoint_of, StartedAt, AnsweredAt, HearsAt, Becomes, IsOver, IsAtStep};
 ghost use Rattle.dump_client.specs.Lawful.{IsLawful, AreVolumes, IsRunLeft, StageFits, OutcomeFits, RoomFits};
 ghost use Rattle.dump_client.specs.declared.stage.Stage.TheVariants as stages;

@@ -6,19 +6,14 @@
 //! counts a volume when MTOFFL was answered as done, and by nothing else. It carries no bytes itself.
 #![tactic(auto)]
 
-mod blocks;
 mod client;
 mod count;
 mod fault;
-mod label;
 mod laws;
 mod ledger;
-mod list;
 mod listen;
 mod outcome;
 mod request;
-mod row;
-mod run;
 #[cfg(test)]
 mod slow;
 mod stage;
@@ -26,14 +21,12 @@ mod step;
 #[cfg(test)]
 mod tests;
 
-pub use blocks::{Blocks, SourceFailed};
 pub use client::Client;
 pub use count::VolumeCount;
-pub use fault::{AttemptFault, RunFault, StartFault};
+pub use dump_run::{BLOCKS_LIMIT, Blocks, ListBlocks, Run, RunFault, SourceFailed};
+pub use fault::{AttemptFault, StartFault};
 pub use laws::{
     after_the_count, fed_in_pieces, granted_replies, lawful_positions, sent_in_order,
     wanted_replies,
 };
-pub use list::ListBlocks;
-pub use run::{BLOCKS_LIMIT, Run};
 pub use stage::{Answer, Progress, State};

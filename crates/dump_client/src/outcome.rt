@@ -3,12 +3,12 @@ ghost use Rattle.std.specs.Prelude.{◌≡◌, ◌<◌};
 ghost use Rattle.rmt_wire.specs.Reply.{PlainReply};
 ghost use Rattle.dump_client.specs.Listening.{IsSaid};
 ghost use Rattle.dump_client.specs.Position as spec;
-ghost use Rattle.dump_client.specs.Run.{IsRun};
+ghost use Rattle.dump_run.specs.Run.{IsRun};
 
-use crate::label::LABEL_BYTES;
 use crate::listen::Said;
 use crate::step::Step;
 use crate::{AttemptFault, Run};
+use dump_run::LABEL_BYTES;
 
 /// The error of a write for which there is no room (ENOSPC).
 const NO_ROOM: u32 = 28;

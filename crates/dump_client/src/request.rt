@@ -5,14 +5,14 @@ ghost use Rattle.rmt_wire.specs.Lent.{plain_request};
 ghost use Rattle.rmt_wire.specs.Request as requests;
 ghost use Rattle.rmt_wire.specs.Request.PlainRequest.{Open, Write, Op};
 ghost use Rattle.dump_client.specs.Client.{IsPayload, IsPushed, AppendedBy, ReadBy, failures_after, is_source_fault};
-ghost use Rattle.dump_client.specs.Label as labels;
+ghost use Rattle.dump_run.specs.Label as labels;
 ghost use Rattle.dump_client.specs.Lawful.{IsLawful, StepFits};
 ghost use Rattle.dump_client.specs.Standing.{checkpoint_of};
 
-use crate::label::label;
 use crate::ledger::Ledger;
 use crate::step::Step;
 use crate::{AttemptFault, Blocks, Run};
+use dump_run::label;
 use rmt_wire::{Request, push_request};
 
 /// An open for reading and writing.

@@ -1,4 +1,3 @@
-mod blocks;
 mod client;
 mod client_cut;
 mod client_ends;
@@ -6,10 +5,8 @@ mod client_faults;
 mod client_source;
 mod client_steps;
 mod faults;
-mod label;
 mod laws;
 mod listen;
 mod next;
-mod run;
 mod script;
 mod talk;

@@ -42,7 +42,6 @@ fn payload(alloc: Global, blocks: u32, size: usize) -> Result<Vec<u8>, Fail> {
 }
 
 /// A client of this run with so many blocks.
-#[tactic(auto, using(crate::proofs::Cut::size_cut, crate::proofs::Cut::length_cut))]
 fn client_of(alloc: Global, run: SlowRun, blocks: u32) -> Result<Client<ListBlocks>, Fail> {
     let size = run.block_bytes as usize;
     let payload = payload(alloc, blocks, size)?;

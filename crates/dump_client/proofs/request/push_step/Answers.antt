@@ -1,7 +1,7 @@
 use Rattle.std.proofs.Common.{refl, ◌∙◌, ap}
 use Rattle.std.specs.Vec.{vec_capacity}
 use Rattle.rmt_wire.specs.Request.PlainRequest.{Open, Write, Op}
-use Rattle.dump_client.specs.Label as labels
+use Rattle.dump_run.specs.Label as labels
 use Rattle.dump_client.specs.Standing.{checkpoint_of}
 use Rattle.dump_client.specs.declared.step.Step.TheVariants as steps
 use Rattle.dump_client.proofs.Appended.{appended_at, block_read, block_failed}

@@ -1,7 +1,7 @@
 use Rattle.std.proofs.Common.{◌≡◌, ◌+◌, ◌-◌, length, ap, sym, ◌∙◌, arith}
 use Rattle.std.proofs.lemmas.List.{length-take-le}
-use Rattle.dump_client.proofs.Labels.{zeros_behind}
-use Rattle.dump_client.proofs.label.Lines.push.Goals as goal
+use Rattle.dump_run.proofs.LabelText.{zeros_behind}
+use Rattle.dump_run.proofs.labels.Lines.push.Goals as goal
 
 pub invariant_of-self : goal.invariant_of-self
 invariant_of-self c =

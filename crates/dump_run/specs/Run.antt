@@ -4,8 +4,8 @@ use Rattle.std.specs.Int.{IsInRange}
 use Rattle.rmt_wire.specs.Number.{HasNoLineFeed}
 use Rattle.rmt_wire.specs.Limits.{data_limit}
 use Rattle.dumpdates.specs.Entry.{IsName, last_second}
-use Rattle.dump_client.specs.declared.fault.RunFault.{RunFault}
-use Rattle.dump_client.specs.declared.fault.RunFault.TheVariants.{BadDevice, BadName, BadLevel, BadDate, BadBlockSize, TooManyBlocks}
+use Rattle.dump_run.specs.declared.fault.RunFault.{RunFault}
+use Rattle.dump_run.specs.declared.fault.RunFault.TheVariants.{BadDevice, BadName, BadLevel, BadDate, BadBlockSize, TooManyBlocks}
 
 -- the drive, the file system's name, the level, the date of this dump and that of the dump it builds on, the bytes of a block, and
 -- the number of blocks

@@ -1,6 +1,6 @@
 ghost use Rattle.std.specs.Prelude.{◌≡◌, ℕ, ◌*◌, ◌<◌, IsTrue, [], length, get_or, false};
 ghost use Rattle.std.proofs.Common.{sym, ◌∙◌};
-ghost use Rattle.dump_client.specs.Blocks.{HasBlock, AreBlocksOf, ListedRead, cut_blocks, listed};
+ghost use Rattle.dump_run.specs.Blocks.{HasBlock, AreBlocksOf, ListedRead, cut_blocks, listed};
 
 use crate::{Blocks, SourceFailed};
 use std::marker::Model;
@@ -19,7 +19,7 @@ pub struct ListBlocks {
 
 impl Model for ListBlocks {
     ghost use Rattle.std.specs.Prelude.{◌≡◌, ◌*◌, length};
-    ghost use Rattle.dump_client.specs.Blocks.{Listed, listed, cut_blocks};
+    ghost use Rattle.dump_run.specs.Blocks.{Listed, listed, cut_blocks};
 
     ghost Value = { Listed };
 

@@ -1,7 +1,7 @@
 use Rattle.std.proofs.Common.{◌≡◌, ℕ, List, [], ◌++◌, decimal, append_assoc, ap, ◌∙◌}
 use Rattle.std.specs.Prelude.{codes}
-use Rattle.dump_client.specs.Label.{line_of}
-use Rattle.dump_client.proofs.label.lines_of.Goals as goal
+use Rattle.dump_run.specs.Label.{line_of}
+use Rattle.dump_run.proofs.labels.lines_of.Goals as goal
 
 -- six lines, each added to those before it
 six_lines : (a b c d e f : List ℕ) (t1 t2 t3 t4 t5 t6 : List ℕ) → t1 ≡ a → t2 ≡ t1 ++ b → t3 ≡ t2 ++ c → t4 ≡ t3 ++ d → t5 ≡ t4 ++ e → t6 ≡ t5 ++ f

@@ -3,7 +3,7 @@ use Rattle.std.proofs.Common.{◌≡◌, ℕ, zero, suc, ◌+◌, ◌*◌, ◌<�
 use Rattle.std.specs.Prelude.{get_or}
 use Rattle.std.proofs.Math.Nat.{mul-le-mul_right}
 use Rattle.std.proofs.lemmas.List.{drop-drop, length-take-le, length-drop}
-use Rattle.dump_client.specs.Blocks.{HasBlock, cut_blocks}
+use Rattle.dump_run.specs.Blocks.{HasBlock, cut_blocks}
 
 pub length_cut : (n size : ℕ) (payload : List ℕ) → length (cut_blocks n size payload) ≡ n
 length_cut zero size payload = refl

@@ -1,13 +1,13 @@
 ghost use Rattle.std.specs.Prelude.{◌≡◌, ◌+◌, ◌-◌, ◌≤◌, ◌++◌, [], length, replicate, decimal};
-ghost use Rattle.dump_client.specs.Label as labels;
-ghost use Rattle.dump_client.specs.Label.{line_of, label_bytes, label_text};
+ghost use Rattle.dump_run.specs.Label as labels;
+ghost use Rattle.dump_run.specs.Label.{line_of, label_bytes, label_text};
 
 use crate::Run;
 use itoa::Buffer;
 use std::marker::Model;
 
 /// The bytes of a label.
-pub(crate) const LABEL_BYTES: usize = 1024;
+pub const LABEL_BYTES: usize = 1024;
 
 /// The greatest number of a line, of twelve digits.
 const LINE_NUMBER_LIMIT: u64 = 999_999_999_999;
@@ -21,7 +21,7 @@ struct Lines {
 
 impl Model for Lines {
     ghost use Rattle.std.specs.Prelude.{List, ℕ, ◌≡◌, ◌-◌, ◌≤◌, take, drop, replicate};
-    ghost use Rattle.dump_client.specs.Label.{label_bytes};
+    ghost use Rattle.dump_run.specs.Label.{label_bytes};
 
     ghost Value = { List ℕ };
 
@@ -51,7 +51,7 @@ impl Lines {
     }
 
     // Adds the line of a word and a text.
-    #[tactic(auto, using(crate::proofs::Labels::length_line))]
+    #[tactic(auto, using(crate::proofs::LabelText::length_line))]
     fn push_line(&mut self, word: &str, text: &[u8])
         requires { length self.old + length word.now + length text.now + 2 ≤ label_bytes }
         ensures line { self.new ≡ self.old ++ line_of word.now text.now }
@@ -64,7 +64,7 @@ impl Lines {
     }
 
     // Adds the line of a word and a number.
-    #[tactic(auto, using(crate::proofs::Labels::line_number_is_short))]
+    #[tactic(auto, using(crate::proofs::LabelText::line_number_is_short))]
     fn push_number(&mut self, word: &str, number: u64)
         requires limit { number ≤ LINE_NUMBER_LIMIT }
         requires room { length self.old + length word.now + 14 ≤ label_bytes }
@@ -98,7 +98,7 @@ fn lines_of(run: &Run, volume: u32, first: u32) -> Lines
 }
 
 /// The label of a volume of the run, from this block on: its lines, then zero bytes. It takes no memory.
-pub(crate) fn label(run: &Run, volume: u32, first: u32) -> [u8; LABEL_BYTES]
+pub fn label(run: &Run, volume: u32, first: u32) -> [u8; LABEL_BYTES]
     ensures { result ≡ labels.label run.now volume first }
 {
     lines_of(run, volume, first).into_bytes()

@@ -4,8 +4,8 @@ use Rattle.std.proofs.lemmas.Fmt.{length-decimal-le}
 use Rattle.std.proofs.lemmas.List.{drop-drop, drop-replicate, length-replicate}
 use Rattle.std.proofs.lemmas.Slice.{drop-put_mid}
 use borrow.Rule.Slice.PartMut.{put_mid}
-use Rattle.dump_client.specs.Run.{PlainRun, IsRun}
-use Rattle.dump_client.specs.Label.{label, label_text, line_of}
+use Rattle.dump_run.specs.Run.{PlainRun, IsRun}
+use Rattle.dump_run.specs.Label.{label, label_text, line_of}
 
 -- a number of a line has at most twelve digits
 pub line_number_is_short : (n : ℕ) → n ≤ 999999999999 → length (decimal n) ≤ 12

@@ -1,7 +1,7 @@
 -- Where the blocks of a run come from.
 use Rattle.std.specs.Prelude.{◌≡◌, ℕ, zero, suc, ◌<◌, Bool, true, false, List, [], ◌∷◌, length, get_or, take, drop, Result, Ok, Err}
 use Rattle.rmt_wire.specs.Counted.{raised}
-use Rattle.dump_client.specs.declared.blocks.SourceFailed.{SourceFailed}
+use Rattle.dump_run.specs.declared.blocks.SourceFailed.{SourceFailed}
 
 -- there is a block of this number, and it has this length
 abbrev pub HasBlock : List (List ℕ) → ℕ → ℕ → Type 0

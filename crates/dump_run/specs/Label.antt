@@ -1,7 +1,7 @@
 -- The record that begins a volume: of which run it is, its number, and from which block on (the form is this project's).
 use Rattle.std.specs.Prelude.{ℕ, ◌-◌, List, [], ◌∷◌, ◌++◌, codes, length, replicate, decimal}
 use Rattle.rmt_wire.specs.Number.{line_feed, space}
-use Rattle.dump_client.specs.Run.{PlainRun}
+use Rattle.dump_run.specs.Run.{PlainRun}
 
 -- a word, a space, a text and the end of the line
 abbrev pub line_of : List ℕ → List ℕ → List ℕ

@@ -1,5 +1,5 @@
 ghost use Rattle.std.specs.Prelude.{◌≡◌, ◌↔◌, ℕ, List, Result, IsErr, length};
-ghost use Rattle.dump_client.specs.Blocks.{HasBlock, GivesBlock, counted_after};
+ghost use Rattle.dump_run.specs.Blocks.{HasBlock, GivesBlock, counted_after};
 
 use thiserror::Error;
 
@@ -13,7 +13,7 @@ pub struct SourceFailed;
 /// A source tells its blocks or tells nothing, as std's readers do with their bytes: what a clause says of blocks
 /// holds where it tells.
 pub trait Blocks {
-    ghost use Rattle.dump_client.specs.declared.blocks.SourceFailed.{SourceFailed};
+    ghost use Rattle.dump_run.specs.declared.blocks.SourceFailed.{SourceFailed};
 
     /// The blocks, where it tells.
     ghost holds: { Self → List (List ℕ) → Type 0 };

@@ -1,7 +1,6 @@
 //! Labels of runs that were spelled out by hand.
 
-use crate::Run;
-use crate::label::label;
+use crate::{Run, label};
 use std::process::Abort;
 
 /// These are the lines of the label, and all behind them are zero bytes.

@@ -1,6 +1,6 @@
 ghost use Rattle.std.specs.Prelude.{◌≡◌, ◌≤◌, ◌↔◌, IsTrue, IfOk, MatchResult, Ok};
 ghost use Rattle.dumpdates.specs.Entry.{IsName, last_second};
-ghost use Rattle.dump_client.specs.Run.{IsDevice, IsBlockSize, IsRun, IsFirstBroken, plain_run};
+ghost use Rattle.dump_run.specs.Run.{IsDevice, IsBlockSize, IsRun, IsFirstBroken, plain_run};
 
 use crate::RunFault;
 use crate::row::Row;
@@ -30,7 +30,7 @@ pub struct Run {
 
 impl Model for Run {
     ghost use Rattle.std.specs.Prelude.{IsUtf8};
-    ghost use Rattle.dump_client.specs.Run.{PlainRun, IsRun, plain_run};
+    ghost use Rattle.dump_run.specs.Run.{PlainRun, IsRun, plain_run};
 
     ghost Value = { PlainRun };
 

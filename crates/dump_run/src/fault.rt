@@ -1,0 +1,24 @@
+use thiserror::Error;
+
+/// Why something is no run: the first limit, in this order, that it breaks.
+#[derive(Clone, Copy, Debug, PartialEq, Eq, Error)]
+pub enum RunFault {
+    /// The device is not 1 to 255 bytes of one line.
+    #[error("BadDevice")]
+    BadDevice,
+    /// The name is not 1 to 255 bytes of printed ASCII without a space.
+    #[error("BadName")]
+    BadName,
+    /// The level is above 9.
+    #[error("BadLevel")]
+    BadLevel,
+    /// The date, or the date of the dump that it builds on, is behind the last second of the year 9999.
+    #[error("BadDate")]
+    BadDate,
+    /// A block is not 1 to `DATA_LIMIT` bytes.
+    #[error("BadBlockSize")]
+    BadBlockSize,
+    /// The blocks are more than `BLOCKS_LIMIT`.
+    #[error("TooManyBlocks")]
+    TooManyBlocks,
+}

@@ -1,0 +1,4 @@
+mod blocks;
+mod faults;
+mod label;
+mod run;
