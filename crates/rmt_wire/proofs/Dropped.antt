@@ -9,6 +9,7 @@ use Rattle.rmt_wire.specs.Seen.{Seen, number_front}
 use Rattle.rmt_wire.specs.RequestFront.{front_of}
 use Rattle.rmt_wire.specs.RequestReader.{dropped_if_long, dropped_line, RequestHeld, held, IsDropped, UnreadAt, Unread, gone_at, taken_at, taken_of}
 use Rattle.rmt_wire.specs.RequestParts.{Gives, IsDroppedLine}
+use Rattle.rmt_wire.specs.declared.number.Place.TheVariants as places
 use Rattle.rmt_wire.proofs.Numbers.{NumberView, number_view}
 use Rattle.rmt_wire.proofs.Spellings.{number_is_seen, length_line, write_seen, written_less}
 use Rattle.rmt_wire.proofs.Fronts.{digits_spell}
@@ -21,7 +22,7 @@ chosen false x y z e = inr (refl, e)
 some_same : {A : Type 0} (x y : A) → Some x ≡ Some y → x ≡ y
 some_same x y e = cc
 
-long_write : (bytes : List ℕ) (seen : Seen (ℕ × ℕ)) (line : ℕ × ℕ) → NumberView false 0 0 bytes seen → dropped_if_long seen ≡ Some line → IsDroppedLine (87 ∷ bytes) line.0 line.1
+long_write : (bytes : List ℕ) (seen : Seen (ℕ × ℕ)) (line : ℕ × ℕ) → NumberView places.Line 0 0 bytes seen → dropped_if_long seen ≡ Some line → IsDroppedLine (87 ∷ bytes) line.0 line.1
 long_write bytes (Ok None) line v e = absurd (cc)
 long_write bytes (Ok (Some p)) line v e =
     ⊎_elim
@@ -45,14 +46,14 @@ long_write bytes (Ok (Some p)) line v e =
     (chosen (ltb data_limit p.0) (Some (p.1 + 2, p.0)) None (Some line) e)
 long_write bytes (Err fault) line v e = absurd (cc)
 
-letter_write : (letter : ℕ) (bytes : List ℕ) (line : ℕ × ℕ) → cond (eqb letter 87) (dropped_if_long (number_front false bytes)) None ≡ Some line → IsDroppedLine (letter ∷ bytes) line.0 line.1
+letter_write : (letter : ℕ) (bytes : List ℕ) (line : ℕ × ℕ) → cond (eqb letter 87) (dropped_if_long (number_front places.Line bytes)) None ≡ Some line → IsDroppedLine (letter ∷ bytes) line.0 line.1
 letter_write letter bytes line e =
     ⊎_elim
-    (λ (h : (eqb letter 87 ≡ true) × (dropped_if_long (number_front false bytes) ≡ Some line)).
+    (λ (h : (eqb letter 87 ≡ true) × (dropped_if_long (number_front places.Line bytes) ≡ Some line)).
     let is : 87 ≡ letter = grind (arith, nat_tests) in
-    subst (λ l. IsDroppedLine (l ∷ bytes) line.0 line.1) is (long_write bytes (number_front false bytes) line (number_view false 0 0 bytes (omega arith) (omega arith)) h.1))
+    subst (λ l. IsDroppedLine (l ∷ bytes) line.0 line.1) is (long_write bytes (number_front places.Line bytes) line (number_view places.Line bytes) h.1))
     (λ h. absurd (cc))
-    (chosen (eqb letter 87) (dropped_if_long (number_front false bytes)) None (Some line) e)
+    (chosen (eqb letter 87) (dropped_if_long (number_front places.Line bytes)) None (Some line) e)
 
 pub dropped_found : (bytes : List ℕ) (line : ℕ × ℕ) → dropped_line bytes ≡ Some line → IsDroppedLine bytes line.0 line.1
 unfolding dropped_line
@@ -64,7 +65,7 @@ pub dropped_seen : (number rest : List ℕ) (n : ℕ) → SpellsNumber number n 
 unfolding dropped_line
 dropped_seen number rest n s great =
     let large : ltb data_limit n ≡ true = grind (arith, nat_tests) in
-    ap dropped_if_long (number_is_seen false number n line_feed rest s refl) ∙ ap (λ b. cond b (Some (length number + 2, n)) None) large
+    ap dropped_if_long (number_is_seen places.Line number n line_feed rest s refl refl) ∙ ap (λ b. cond b (Some (length number + 2, n)) None) large
 
 -- the line is what is kept in front, and the rest is behind it
 pub line_split : (bytes : List ℕ) (line : ℕ × ℕ) (d : IsDroppedLine bytes line.0 line.1) → (drop line.0 bytes ≡ d.rest) × ((more : List ℕ) → take line.0 bytes ++ more ≡ 87 ∷ (d.number ++ line_feed ∷ more)) × (line.0 ≤ length bytes)

@@ -15,7 +15,9 @@ use Rattle.rmt_wire.specs.RequestReader.{dropped_line, taken_at, taken_of}
 use Rattle.rmt_wire.specs.declared.fault.WireFault.{WireFault}
 use Rattle.rmt_wire.specs.declared.fault.WireFault.TheVariants.{BadNumber}
 use Rattle.rmt_wire.specs.declared.request.head.Head.TheVariants as head
-use Rattle.rmt_wire.proofs.Numbers.{AreDigits, NumberView, number_view, by_test}
+use Rattle.rmt_wire.specs.declared.number.Place.{Place}
+use Rattle.rmt_wire.specs.declared.number.Place.TheVariants as places
+use Rattle.rmt_wire.proofs.Numbers.{AreDigits, NumberView, bad_number, number_view, by_test}
 use Rattle.rmt_wire.proofs.Spellings.{drop_past, length_line, drop_line, number_is_seen}
 
 -- What the bytes begin with: a beginning of a spelling, for which there is room; a spelling; or bytes that a byte
@@ -28,16 +30,16 @@ FrontView bytes (Err fault) =
     × ((more : List ℕ) → front_of (seen ++ byte ∷ more) ≡ Err fault)
 
 -- digits are a number, or become one
-pub digits_spell : (digits : List ℕ) → AreDigits 0 0 digits → 0 < 0 + length digits → SpellsNumber digits (digits_value 10 digits)
+pub digits_spell : {place : Place} (digits : List ℕ) → AreDigits place 0 0 digits → 0 < 0 + length digits → SpellsNumber digits (digits_value 10 digits)
 digits_spell digits d some =
     let few = d.few in
     record { digits = (omega arith, d.each); few = omega arith; value = refl; small = d.small }
 
-pub number_done : (digits : List ℕ) → AreDigits 0 0 digits → (fill : List ℕ) × (n : ℕ) × SpellsNumber (digits ++ fill) n
+pub number_done : {place : Place} (digits : List ℕ) → AreDigits place 0 0 digits → (fill : List ℕ) × (n : ℕ) × SpellsNumber (digits ++ fill) n
 number_done [] d = (48 ∷ [], 0, record { digits = (omega arith, (omega arith, tt)); few = omega arith; value = refl; small = omega arith })
 number_done (b ∷ digits) d = ([], digits_value 10 (b ∷ digits), rw append-nil (digits_spell (b ∷ digits) d (omega arith)))
 
-pub few_digits : (digits : List ℕ) → AreDigits 0 0 digits → length digits ≤ 10
+pub few_digits : {place : Place} (digits : List ℕ) → AreDigits place 0 0 digits → length digits ≤ 10
 few_digits digits d = let few = d.few in omega arith
 
 -- a number and as many bytes are a write
@@ -49,28 +51,28 @@ some_write number written n s long =
     (cases_lt data_limit n)
 
 -- the end of a number on a line of its own is a line feed
-pub end_feed : (stop : ℕ) → ends_number false stop ≡ true → stop ≡ line_feed
+pub end_feed : (stop : ℕ) → ends_number places.Line stop ≡ true → stop ≡ line_feed
 end_feed stop h = grind (arith, nat_tests)
 
-pub end_mode : (stop : ℕ) → ends_number true stop ≡ true → stop ≢ line_feed → stop ≡ space
+pub end_mode : (stop : ℕ) → ends_number places.Mode stop ≡ true → stop ≢ line_feed → stop ≡ space
 end_mode stop h other = grind (arith, nat_tests)
 
-open_read : (digits : List ℕ) → AreDigits 0 0 digits → IsOpen (82 ∷ digits)
+open_read : (digits : List ℕ) → AreDigits places.Line 0 0 digits → IsOpen (82 ∷ digits)
 open_read digits d =
     let f = number_done digits d in
     (f.0 ++ line_feed ∷ [], Read f.1, (digits ++ f.0, f.2, ap (λ t. 82 ∷ t) (sym (append_assoc digits f.0 (line_feed ∷ [])))))
 
-open_write : (digits : List ℕ) → AreDigits 0 0 digits → IsOpen (87 ∷ digits)
+open_write : (digits : List ℕ) → AreDigits places.Line 0 0 digits → IsOpen (87 ∷ digits)
 open_write digits d =
     let f = number_done digits d in
     let w = some_write (digits ++ f.0) (replicate f.1 0) f.1 f.2 (length-replicate f.1 0) in
     (f.0 ++ line_feed ∷ replicate f.1 0, w.0, subst (λ t. SpellsRequest (87 ∷ t) w.0) (append_assoc digits f.0 (line_feed ∷ replicate f.1 0)) w.1)
 
-read_faulty : (bytes : List ℕ) (fault : WireFault) → number_front false bytes ≡ Err fault → front_of (82 ∷ bytes) ≡ Err fault
+read_faulty : (bytes : List ℕ) (fault : WireFault) → number_front places.Line bytes ≡ Err fault → front_of (82 ∷ bytes) ≡ Err fault
 unfolding front_of head_of letter_head read_head
 read_faulty bytes fault e = ap (λ s. after (after s (λ count. Ok (Some (head.Read count.0 (count.1 + 2))))) (request_at (82 ∷ bytes))) e
 
-write_faulty : (bytes : List ℕ) (fault : WireFault) → number_front false bytes ≡ Err fault → front_of (87 ∷ bytes) ≡ Err fault
+write_faulty : (bytes : List ℕ) (fault : WireFault) → number_front places.Line bytes ≡ Err fault → front_of (87 ∷ bytes) ≡ Err fault
 unfolding front_of head_of letter_head write_head
 write_faulty bytes fault e = ap (λ s. after (after s (λ count. Ok (Some (head.Write count.0 (count.1 + 2))))) (request_at (87 ∷ bytes))) e
 
@@ -79,7 +81,7 @@ pub taken_plain : (letter : ℕ) (bytes : List ℕ) → eqb letter 87 ≡ false 
 unfolding dropped_line
 taken_plain letter bytes other = rw other refl
 
-pub read_view : (bytes : List ℕ) (seen : Seen (ℕ × ℕ)) → NumberView false 0 0 bytes seen
+pub read_view : (bytes : List ℕ) (seen : Seen (ℕ × ℕ)) → NumberView places.Line 0 0 bytes seen
     → FrontView (82 ∷ bytes) (after (after seen (λ count. Ok (Some (head.Read count.0 (count.1 + 2))))) (request_at (82 ∷ bytes)))
 read_view bytes (Ok None) v = (open_read bytes v, (let few = v.few in let t = taken_plain 82 bytes refl in omega arith))
 read_view bytes (Ok (Some p)) v =
@@ -93,18 +95,19 @@ read_view bytes (Ok (Some p)) v =
       (let l = length_line 82 digits [] in omega arith),
     )
 read_view bytes (Err fault) v =
-    subst (λ f. FrontView (82 ∷ bytes) (Err f)) (sym v.5)
-    (82 ∷ v.0, v.1, v.2, ap (λ l. 82 ∷ l) v.4, open_read v.0 v.3, (v.0, v.3.each, few_digits v.0 v.3, inr (inl refl)), λ more. read_faulty (v.0 ++ v.2 ∷ more) BadNumber (v.6 more))
+    let bad = bad_number places.Line v.0 v.2 fault (λ n. refl) v.5 in
+    subst (λ f. FrontView (82 ∷ bytes) (Err f)) (sym bad)
+    (82 ∷ v.0, v.1, v.2, ap (λ l. 82 ∷ l) v.4, open_read v.0 v.3, (v.0, v.3.each, few_digits v.0 v.3, inr (inl refl)), λ more. read_faulty (v.0 ++ v.2 ∷ more) BadNumber (v.6 more ∙ ap Err bad))
 
 -- the room that a write's line takes, with none of its data or some
-taken_write : (bytes : List ℕ) (p : ℕ × ℕ) → number_front false bytes ≡ Ok (Some p) → length bytes + 1 < p.1 + 2 + p.0 → p.1 ≤ 10 → taken_of (87 ∷ bytes) < reader_limit
+taken_write : (bytes : List ℕ) (p : ℕ × ℕ) → number_front places.Line bytes ≡ Ok (Some p) → length bytes + 1 < p.1 + 2 + p.0 → p.1 ≤ 10 → taken_of (87 ∷ bytes) < reader_limit
 unfolding dropped_line
 taken_write bytes p e short few =
     rw e (by_test (λ o. taken_at o (87 ∷ bytes) < reader_limit) (ltb data_limit p.0) (Some (p.1 + 2, p.0)) None
     (λ large. omega arith)
     (λ small. (let s : p.0 ≤ data_limit = grind (arith, nat_tests) in omega arith)))
 
-taken_short : (bytes : List ℕ) → number_front false bytes ≡ Ok None → taken_of (87 ∷ bytes) ≡ suc (length bytes)
+taken_short : (bytes : List ℕ) → number_front places.Line bytes ≡ Ok None → taken_of (87 ∷ bytes) ≡ suc (length bytes)
 unfolding dropped_line
 taken_short bytes e = rw e refl
 
@@ -125,7 +128,7 @@ write_line_view number rest n s =
     let w = some_write number (rest ++ fill) n s long in
     let few = s.few in (
       (fill, w.0, subst (λ t. SpellsRequest (87 ∷ t) w.0) (sym (append_assoc number (line_feed ∷ rest) fill)) w.1),
-      taken_write (number ++ line_feed ∷ rest) (n, length number) (number_is_seen false number n line_feed rest s refl) (omega arith) few,
+      taken_write (number ++ line_feed ∷ rest) (n, length number) (number_is_seen places.Line number n line_feed rest s refl refl) (omega arith) few,
     ))
     (λ enough.
     let room : n ≤ length rest = grind (arith, nat_tests) in
@@ -138,7 +141,7 @@ write_line_view number rest n s =
     subst (λ l. FrontView bytes (Ok (Some (Write l, length number + 2 + n)))) (ap (take n) (sym behind))
     (87 ∷ (number ++ line_feed ∷ take n rest), drop n rest, split room, (number, (rw size s), (rw size fits), refl), long)))
 
-pub write_view : (bytes : List ℕ) (seen : Seen (ℕ × ℕ)) → number_front false bytes ≡ seen → NumberView false 0 0 bytes seen
+pub write_view : (bytes : List ℕ) (seen : Seen (ℕ × ℕ)) → number_front places.Line bytes ≡ seen → NumberView places.Line 0 0 bytes seen
     → FrontView (87 ∷ bytes) (after (after seen (λ count. Ok (Some (head.Write count.0 (count.1 + 2))))) (request_at (87 ∷ bytes)))
 write_view bytes (Ok None) e v = (open_write bytes v, (let few = v.few in let t = taken_short bytes e in omega arith))
 write_view bytes (Ok (Some p)) e v =
@@ -149,10 +152,11 @@ write_view bytes (Ok (Some p)) e v =
     subst (λ n. FrontView (87 ∷ bytes) (written_at p.0 (n + 2) (87 ∷ bytes))) (sym long)
     (subst (λ l. FrontView (87 ∷ l) (written_at p.0 (length digits + 2) (87 ∷ l))) (sym here) (write_line_view digits v.1 p.0 s))
 write_view bytes (Err fault) e v =
-    subst (λ f. FrontView (87 ∷ bytes) (Err f)) (sym v.5)
-    (87 ∷ v.0, v.1, v.2, ap (λ l. 87 ∷ l) v.4, open_write v.0 v.3, (v.0, v.3.each, few_digits v.0 v.3, inl refl), λ more. write_faulty (v.0 ++ v.2 ∷ more) BadNumber (v.6 more))
+    let bad = bad_number places.Line v.0 v.2 fault (λ n. refl) v.5 in
+    subst (λ f. FrontView (87 ∷ bytes) (Err f)) (sym bad)
+    (87 ∷ v.0, v.1, v.2, ap (λ l. 87 ∷ l) v.4, open_write v.0 v.3, (v.0, v.3.each, few_digits v.0 v.3, inl refl), λ more. write_faulty (v.0 ++ v.2 ∷ more) BadNumber (v.6 more ∙ ap Err bad))
 
-open_first : (digits : List ℕ) → AreDigits 0 0 digits → IsOpen (73 ∷ digits)
+open_first : (digits : List ℕ) → AreDigits places.Line 0 0 digits → IsOpen (73 ∷ digits)
 open_first digits d =
     let f = number_done digits d in
     let zero : SpellsNumber (48 ∷ []) 0 = record { digits = (omega arith, (omega arith, tt)); few = omega arith; value = refl; small = omega arith } in (
@@ -165,7 +169,7 @@ open_first digits d =
 pub behind : (letter : ℕ) (first a b : List ℕ) → letter ∷ (first ++ line_feed ∷ (a ++ b)) ≡ letter ∷ (first ++ line_feed ∷ a) ++ b
 behind letter first a b = ap (λ t. letter ∷ t) (sym (append_assoc first (line_feed ∷ a) b))
 
-open_second : (first digits : List ℕ) (op : ℕ) → SpellsNumber first op → AreDigits 0 0 digits → IsOpen (73 ∷ (first ++ line_feed ∷ digits))
+open_second : (first digits : List ℕ) (op : ℕ) → SpellsNumber first op → AreDigits places.Line 0 0 digits → IsOpen (73 ∷ (first ++ line_feed ∷ digits))
 open_second first digits op s d =
     let f = number_done digits d in (
       f.0 ++ line_feed ∷ [],
@@ -173,7 +177,7 @@ open_second first digits op s d =
       (first, digits ++ f.0, s, f.2, sym (behind 73 first digits (f.0 ++ line_feed ∷ [])) ∙ ap (λ t. 73 ∷ (first ++ line_feed ∷ t)) (sym (append_assoc digits f.0 (line_feed ∷ [])))),
     )
 
-first_faulty : (bytes : List ℕ) (fault : WireFault) → number_front false bytes ≡ Err fault → front_of (73 ∷ bytes) ≡ Err fault
+first_faulty : (bytes : List ℕ) (fault : WireFault) → number_front places.Line bytes ≡ Err fault → front_of (73 ∷ bytes) ≡ Err fault
 unfolding front_of head_of letter_head op_head
 first_faulty bytes fault e = ap (λ s. after (after s (λ op. count_head op (drop (op.1 + 1) bytes))) (request_at (73 ∷ bytes))) e
 
@@ -181,16 +185,16 @@ first_faulty bytes fault e = ap (λ s. after (after s (λ op. count_head op (dro
 second_seen : (first rest : List ℕ) (op : ℕ) → SpellsNumber first op → front_of (73 ∷ (first ++ line_feed ∷ rest)) ≡ after (count_head (op, length first) rest) (request_at (73 ∷ (first ++ line_feed ∷ rest)))
 unfolding front_of head_of letter_head op_head
 second_seen first rest op s =
-    ap (λ s. after (after s (λ op. count_head op (drop (op.1 + 1) (first ++ line_feed ∷ rest)))) (request_at (73 ∷ (first ++ line_feed ∷ rest)))) (number_is_seen false first op line_feed rest s refl)
+    ap (λ s. after (after s (λ op. count_head op (drop (op.1 + 1) (first ++ line_feed ∷ rest)))) (request_at (73 ∷ (first ++ line_feed ∷ rest)))) (number_is_seen places.Line first op line_feed rest s refl refl)
     ∙ ap (λ l. after (count_head (op, length first) l) (request_at (73 ∷ (first ++ line_feed ∷ rest)))) (drop_past first rest line_feed)
 
-second_faulty : (first rest : List ℕ) (op : ℕ) (fault : WireFault) → SpellsNumber first op → number_front false rest ≡ Err fault → front_of (73 ∷ (first ++ line_feed ∷ rest)) ≡ Err fault
+second_faulty : (first rest : List ℕ) (op : ℕ) (fault : WireFault) → SpellsNumber first op → number_front places.Line rest ≡ Err fault → front_of (73 ∷ (first ++ line_feed ∷ rest)) ≡ Err fault
 unfolding count_head
 second_faulty first rest op fault s e =
     second_seen first rest op s
     ∙ ap (λ s. after (after s (λ count. Ok (Some (head.Op op count.0 (length first + count.1 + 3))))) (request_at (73 ∷ (first ++ line_feed ∷ rest)))) e
 
-second_view : (first rest : List ℕ) (op : ℕ) (seen : Seen (ℕ × ℕ)) → SpellsNumber first op → NumberView false 0 0 rest seen
+second_view : (first rest : List ℕ) (op : ℕ) (seen : Seen (ℕ × ℕ)) → SpellsNumber first op → NumberView places.Line 0 0 rest seen
     → FrontView (73 ∷ (first ++ line_feed ∷ rest)) (after (after seen (λ count. Ok (Some (head.Op op count.0 (length first + count.1 + 3))))) (request_at (73 ∷ (first ++ line_feed ∷ rest))))
 second_view first rest op (Ok None) s v =
     let few = v.few in
@@ -210,17 +214,18 @@ second_view first rest op (Ok (Some p)) s v =
       omega arith,
     )
 second_view first rest op (Err fault) s v =
-    subst (λ f. FrontView (73 ∷ (first ++ line_feed ∷ rest)) (Err f)) (sym v.5) (
+    let bad = bad_number places.Line v.0 v.2 fault (λ n. refl) v.5 in
+    subst (λ f. FrontView (73 ∷ (first ++ line_feed ∷ rest)) (Err f)) (sym bad) (
       73 ∷ (first ++ line_feed ∷ v.0),
       v.1,
       v.2,
       ap (λ l. 73 ∷ (first ++ line_feed ∷ l)) v.4 ∙ behind 73 first v.0 (v.2 ∷ v.1),
       open_second first v.0 op s v.3,
       (v.0, v.3.each, few_digits v.0 v.3, inr (inr (inr (inl (first, op, s, refl))))),
-      λ more. ap front_of (sym (behind 73 first v.0 (v.2 ∷ more))) ∙ second_faulty first (v.0 ++ v.2 ∷ more) op BadNumber s (v.6 more),
+      λ more. ap front_of (sym (behind 73 first v.0 (v.2 ∷ more))) ∙ second_faulty first (v.0 ++ v.2 ∷ more) op BadNumber s (v.6 more ∙ ap Err bad),
     )
 
-pub op_view : (bytes : List ℕ) (seen : Seen (ℕ × ℕ)) → NumberView false 0 0 bytes seen
+pub op_view : (bytes : List ℕ) (seen : Seen (ℕ × ℕ)) → NumberView places.Line 0 0 bytes seen
     → FrontView (73 ∷ bytes) (after (after seen (λ op. count_head op (drop (op.1 + 1) bytes))) (request_at (73 ∷ bytes)))
 unfolding count_head
 op_view bytes (Ok None) v =
@@ -233,10 +238,11 @@ op_view bytes (Ok (Some p)) v =
     let long : p.1 ≡ length digits = v.7 ∙ zero-add (length digits) in
     let s : SpellsNumber digits p.0 = rw v.6 (digits_spell digits v.3 v.8) in
     let behind_it : drop (p.1 + 1) bytes ≡ v.1 = ap (λ n. drop (n + 1) bytes) long ∙ ap (drop (length digits + 1)) here ∙ drop_past digits v.1 line_feed in
-    let there = second_view digits v.1 p.0 (number_front false v.1) s (number_view false 0 0 v.1 (omega arith) (omega arith)) in
-    let moved = subst (λ l. FrontView (73 ∷ l) (after (after (number_front false v.1) (λ count. Ok (Some (head.Op p.0 count.0 (length digits + count.1 + 3))))) (request_at (73 ∷ l)))) (sym here) there in
-    let with_length = subst (λ n. FrontView (73 ∷ bytes) (after (after (number_front false v.1) (λ count. Ok (Some (head.Op p.0 count.0 (n + count.1 + 3))))) (request_at (73 ∷ bytes)))) (sym long) moved in
-    subst (λ l. FrontView (73 ∷ bytes) (after (after (number_front false l) (λ count. Ok (Some (head.Op p.0 count.0 (p.1 + count.1 + 3))))) (request_at (73 ∷ bytes)))) (sym behind_it) with_length
+    let there = second_view digits v.1 p.0 (number_front places.Line v.1) s (number_view places.Line v.1) in
+    let moved = subst (λ l. FrontView (73 ∷ l) (after (after (number_front places.Line v.1) (λ count. Ok (Some (head.Op p.0 count.0 (length digits + count.1 + 3))))) (request_at (73 ∷ l)))) (sym here) there in
+    let with_length = subst (λ n. FrontView (73 ∷ bytes) (after (after (number_front places.Line v.1) (λ count. Ok (Some (head.Op p.0 count.0 (n + count.1 + 3))))) (request_at (73 ∷ bytes)))) (sym long) moved in
+    subst (λ l. FrontView (73 ∷ bytes) (after (after (number_front places.Line l) (λ count. Ok (Some (head.Op p.0 count.0 (p.1 + count.1 + 3))))) (request_at (73 ∷ bytes)))) (sym behind_it) with_length
 op_view bytes (Err fault) v =
-    subst (λ f. FrontView (73 ∷ bytes) (Err f)) (sym v.5)
-    (73 ∷ v.0, v.1, v.2, ap (λ l. 73 ∷ l) v.4, open_first v.0 v.3, (v.0, v.3.each, few_digits v.0 v.3, inr (inr (inl refl))), λ more. first_faulty (v.0 ++ v.2 ∷ more) BadNumber (v.6 more))
+    let bad = bad_number places.Line v.0 v.2 fault (λ n. refl) v.5 in
+    subst (λ f. FrontView (73 ∷ bytes) (Err f)) (sym bad)
+    (73 ∷ v.0, v.1, v.2, ap (λ l. 73 ∷ l) v.4, open_first v.0 v.3, (v.0, v.3.each, few_digits v.0 v.3, inr (inr (inl refl))), λ more. first_faulty (v.0 ++ v.2 ∷ more) BadNumber (v.6 more ∙ ap Err bad))

@@ -12,7 +12,6 @@ pub mod Replies
 pub mod Splitting
 pub mod Spelling
 pub mod Beginnings
-pub mod Counts
 pub mod Texts
 pub mod ReplyFronts
 pub mod ReplyGiving

@@ -15,7 +15,8 @@ use Rattle.rmt_wire.specs.RequestReader.{taken_of, dropped_line}
 use Rattle.rmt_wire.specs.declared.fault.WireFault.{WireFault}
 use Rattle.rmt_wire.specs.declared.fault.WireFault.TheVariants.{UnknownCommand, BadNumber, LineTooLong}
 use Rattle.rmt_wire.specs.declared.request.head.Head.TheVariants as head
-use Rattle.rmt_wire.proofs.Numbers.{AreDigits, NumberView, number_view, number_seen}
+use Rattle.rmt_wire.specs.declared.number.Place.TheVariants as places
+use Rattle.rmt_wire.proofs.Numbers.{AreDigits, NumberView, bad_number, number_view, number_seen}
 use Rattle.rmt_wire.proofs.Lines.{AreOfLine, LineView, line_view}
 use Rattle.rmt_wire.proofs.Align.{align_less, align_same, no_feed_at, digits_no_feed}
 use Rattle.rmt_wire.proofs.Spellings.{drop_past, length_line, line_is_seen}
@@ -65,7 +66,7 @@ open_device : (line : List ℕ) → AreOfLine 0 line → IsOpen (79 ∷ line)
 open_device line l =
     (line_feed ∷ (48 ∷ line_feed ∷ []), Open line 0, (48 ∷ [], line_of line l, number_mode (48 ∷ []) 0 zero_number, refl))
 
-open_number : (device digits : List ℕ) → IsLine device → AreDigits 0 0 digits → IsOpen (79 ∷ (device ++ line_feed ∷ digits))
+open_number : (device digits : List ℕ) → IsLine device → AreDigits places.Mode 0 0 digits → IsOpen (79 ∷ (device ++ line_feed ∷ digits))
 open_number device digits l d =
     let f = number_done digits d in (
       f.0 ++ line_feed ∷ [],
@@ -82,7 +83,7 @@ open_mode : (device line : List ℕ) (mode : ℕ) → IsLine device → SpellsMo
 open_mode device line mode l s = (line_feed ∷ [], Open device mode, (line, l, s, sym (behind 79 device line (line_feed ∷ []))))
 
 -- A number with its end, within a line that has no line feed: the end is a space
-spaced_mode : (digits t line : List ℕ) (stop : ℕ) → AreDigits 0 0 digits → 0 < 0 + length digits → ends_number true stop ≡ true → IsLine line → line ≡ digits ++ stop ∷ t
+spaced_mode : (digits t line : List ℕ) (stop : ℕ) → AreDigits places.Mode 0 0 digits → 0 < 0 + length digits → ends_number places.Mode stop ≡ true → IsLine line → line ≡ digits ++ stop ∷ t
     → SpellsMode line (digits_value 10 digits)
 spaced_mode digits t line stop d some ends l e =
     let no_feed = rw e at l.1 in
@@ -90,7 +91,7 @@ spaced_mode digits t line stop d some ends l e =
     (l, inr (digits, t, digits_spell digits d some, e ∙ ap (λ x. digits ++ x ∷ t) is_space))
 
 -- the same where the line ends in a line feed
-ended_mode : (digits line later rest : List ℕ) (stop : ℕ) → AreDigits 0 0 digits → 0 < 0 + length digits → ends_number true stop ≡ true → IsLine line
+ended_mode : (digits line later rest : List ℕ) (stop : ℕ) → AreDigits places.Mode 0 0 digits → 0 < 0 + length digits → ends_number places.Mode stop ≡ true → IsLine line
     → digits ++ stop ∷ later ≡ line ++ line_feed ∷ rest → SpellsMode line (digits_value 10 digits)
 ended_mode digits line later rest stop d some ends l e =
     ⊎_elim
@@ -125,13 +126,13 @@ abbrev after_mode : List ℕ → List ℕ → ℕ → Seen ℕ → Seen (PlainRe
 after_mode device rest mode seen =
     after (after seen (λ len. Ok (Some (head.Open (length device) mode (length device + len + 3))))) (request_at (79 ∷ (device ++ line_feed ∷ rest)))
 
-mode_faulty : (device rest : List ℕ) (fault : WireFault) → IsLine device → number_front true rest ≡ Err fault → front_of (79 ∷ (device ++ line_feed ∷ rest)) ≡ Err fault
+mode_faulty : (device rest : List ℕ) (fault : WireFault) → IsLine device → number_front places.Mode rest ≡ Err fault → front_of (79 ∷ (device ++ line_feed ∷ rest)) ≡ Err fault
 unfolding mode_head
 mode_faulty device rest fault l e =
     mode_seen device rest l
     ∙ ap (λ s. after (after s (λ mode. after (line_front rest) (λ len. Ok (Some (head.Open (length device) mode.0 (length device + len + 3)))))) (request_at (79 ∷ (device ++ line_feed ∷ rest)))) e
 
-line_faulty : (device rest : List ℕ) (mode : ℕ × ℕ) (fault : WireFault) → IsLine device → number_front true rest ≡ Ok (Some mode) → line_front rest ≡ Err fault
+line_faulty : (device rest : List ℕ) (mode : ℕ × ℕ) (fault : WireFault) → IsLine device → number_front places.Mode rest ≡ Ok (Some mode) → line_front rest ≡ Err fault
     → front_of (79 ∷ (device ++ line_feed ∷ rest)) ≡ Err fault
 unfolding mode_head
 line_faulty device rest mode fault l n e =
@@ -140,7 +141,7 @@ line_faulty device rest mode fault l n e =
     ∙ ap (after_mode device rest mode.0) e
 
 -- the number in front of a mode line that ends behind it, told by its digits
-line_view_in_mode : (device rest digits later : List ℕ) (stop : ℕ) (seen : Seen ℕ) → IsLine device → AreDigits 0 0 digits → 0 < 0 + length digits → ends_number true stop ≡ true
+line_view_in_mode : (device rest digits later : List ℕ) (stop : ℕ) (seen : Seen ℕ) → IsLine device → AreDigits places.Mode 0 0 digits → 0 < 0 + length digits → ends_number places.Mode stop ≡ true
     → rest ≡ digits ++ stop ∷ later → LineView 0 rest seen → FrontView (79 ∷ (device ++ line_feed ∷ rest)) (after_mode device rest (digits_value 10 digits) seen)
 line_view_in_mode device rest digits later stop (Ok None) l d some ends e v =
     let few = v.few in
@@ -178,10 +179,10 @@ line_view_in_mode device rest digits later stop (Err fault) l d some ends e v =
           let again = ap (λ t. t ++ v.2 ∷ more) w.1 ∙ append_assoc digits (stop ∷ w.0) (v.2 ∷ more) in
           ap front_of (sym (behind 79 device line (v.2 ∷ more)))
           ∙ line_faulty device (line ++ v.2 ∷ more) (digits_value 10 digits, 0 + length digits) LineTooLong l
-          (ap (number_front true) again ∙ number_seen true 0 0 digits stop (w.0 ++ v.2 ∷ more) d some ends) (v.8 more),
+          (ap (number_front places.Mode) again ∙ number_seen places.Mode 0 0 digits stop (w.0 ++ v.2 ∷ more) d some ends) (v.8 more),
     )
 
-mode_view : (device rest : List ℕ) (seen : Seen (ℕ × ℕ)) → IsLine device → NumberView true 0 0 rest seen
+mode_view : (device rest : List ℕ) (seen : Seen (ℕ × ℕ)) → IsLine device → NumberView places.Mode 0 0 rest seen
     → FrontView (79 ∷ (device ++ line_feed ∷ rest))
     (after (after seen (λ mode. after (line_front rest) (λ len. Ok (Some (head.Open (length device) mode.0 (length device + len + 3)))))) (request_at (79 ∷ (device ++ line_feed ∷ rest))))
 mode_view device rest (Ok None) l v =
@@ -194,14 +195,15 @@ mode_view device rest (Ok (Some p)) l v =
     subst (λ n. FrontView (79 ∷ (device ++ line_feed ∷ rest)) (after_mode device rest n (line_front rest))) (sym v.6)
     (line_view_in_mode device rest v.0 v.1 v.2 (line_front rest) l v.3 v.8 v.5 v.4 (line_view 0 rest (omega arith)))
 mode_view device rest (Err fault) l v =
-    subst (λ f. FrontView (79 ∷ (device ++ line_feed ∷ rest)) (Err f)) (sym v.5) (
+    let bad = bad_number places.Mode v.0 v.2 fault (λ n. refl) v.5 in
+    subst (λ f. FrontView (79 ∷ (device ++ line_feed ∷ rest)) (Err f)) (sym bad) (
       79 ∷ (device ++ line_feed ∷ v.0),
       v.1,
       v.2,
       ap (λ t. 79 ∷ (device ++ line_feed ∷ t)) v.4 ∙ behind 79 device v.0 (v.2 ∷ v.1),
       open_number device v.0 l v.3,
       (v.0, v.3.each, few_digits v.0 v.3, inr (inr (inr (inr (device, l, refl))))),
-      λ more. ap front_of (sym (behind 79 device v.0 (v.2 ∷ more))) ∙ mode_faulty device (v.0 ++ v.2 ∷ more) BadNumber l (v.6 more),
+      λ more. ap front_of (sym (behind 79 device v.0 (v.2 ∷ more))) ∙ mode_faulty device (v.0 ++ v.2 ∷ more) BadNumber l (v.6 more ∙ ap Err bad),
     )
 
 open_view : (bytes : List ℕ) (seen : Seen ℕ) → LineView 0 bytes seen
@@ -213,7 +215,7 @@ open_view bytes (Ok (Some n)) v =
     let l = line_of device v.2 in
     let long : n ≡ length device = v.4 ∙ zero-add (length device) in
     let behind_it : drop (n + 1) bytes ≡ v.1 = ap (λ k. drop (k + 1) bytes) long ∙ ap (drop (length device + 1)) v.3 ∙ drop_past device v.1 line_feed in
-    let there = mode_view device v.1 (number_front true v.1) l (number_view true 0 0 v.1 (omega arith) (omega arith)) in
+    let there = mode_view device v.1 (number_front places.Mode v.1) l (number_view places.Mode v.1) in
     let moved = subst (λ t. FrontView (79 ∷ t) (after (mode_head (length device) v.1) (request_at (79 ∷ t)))) (sym v.3) there in
     let with_length = subst (λ k. FrontView (79 ∷ bytes) (after (mode_head k v.1) (request_at (79 ∷ bytes)))) (sym long) moved in
     subst (λ t. FrontView (79 ∷ bytes) (after (mode_head n t) (request_at (79 ∷ bytes)))) (sym behind_it) with_length
@@ -255,15 +257,15 @@ close_at bytes = close_view bytes (line_front bytes) (line_view 0 bytes (omega a
 
 write_at : (bytes : List ℕ) → FrontView (87 ∷ bytes) (front_of (87 ∷ bytes))
 unfolding front_of head_of letter_head write_head
-write_at bytes = write_view bytes (number_front false bytes) refl (number_view false 0 0 bytes (omega arith) (omega arith))
+write_at bytes = write_view bytes (number_front places.Line bytes) refl (number_view places.Line bytes)
 
 read_at : (bytes : List ℕ) → FrontView (82 ∷ bytes) (front_of (82 ∷ bytes))
 unfolding front_of head_of letter_head read_head
-read_at bytes = read_view bytes (number_front false bytes) (number_view false 0 0 bytes (omega arith) (omega arith))
+read_at bytes = read_view bytes (number_front places.Line bytes) (number_view places.Line bytes)
 
 op_at : (bytes : List ℕ) → FrontView (73 ∷ bytes) (front_of (73 ∷ bytes))
 unfolding front_of head_of letter_head op_head
-op_at bytes = op_view bytes (number_front false bytes) (number_view false 0 0 bytes (omega arith) (omega arith))
+op_at bytes = op_view bytes (number_front places.Line bytes) (number_view places.Line bytes)
 
 nothing_open : IsOpen []
 nothing_open = (67 ∷ line_feed ∷ [], Close, ([], (omega arith, tt), refl))

@@ -12,14 +12,14 @@ use Rattle.rmt_wire.specs.ReplyParts.{ReplyIsOpen, IsTooMuch, ReplyIsCause}
 use Rattle.rmt_wire.specs.Limits.{reader_limit}
 use Rattle.rmt_wire.specs.ReplyReader.{IsWithin}
 use Rattle.rmt_wire.specs.Seen.{Seen, after, number_front}
-use Rattle.rmt_wire.specs.ReplyFront.{count_front, text_len, kept_text, error_at, data_at, done_front, error_front, reply_front, kept_behind, kept_of}
+use Rattle.rmt_wire.specs.ReplyFront.{text_len, kept_text, error_at, data_at, done_front, error_front, reply_front, kept_behind, kept_of}
 use Rattle.rmt_wire.specs.declared.fault.WireFault.{WireFault}
 use Rattle.rmt_wire.specs.declared.fault.WireFault.TheVariants.{UnknownCommand, BadNumber, LineTooLong, NotAReply, TooMuchData}
+use Rattle.rmt_wire.specs.declared.number.Place.TheVariants as places
 use Rattle.rmt_wire.proofs.Align.{head_same, tail_same}
-use Rattle.rmt_wire.proofs.Numbers.{AreDigits, NumberView, number_view, by_test}
+use Rattle.rmt_wire.proofs.Numbers.{AreDigits, NumberView, IsNumberFault, bad_number, number_view, by_test}
 use Rattle.rmt_wire.proofs.Spellings.{drop_past, length_line, number_is_seen}
 use Rattle.rmt_wire.proofs.Fronts.{digits_spell, number_done, few_digits, end_feed}
-use Rattle.rmt_wire.proofs.Counts.{IsCountFault, CountView, count_view, count_is_seen}
 use Rattle.rmt_wire.proofs.Texts.{TextView, text_view, ended_len, open_len, kept_open}
 
 -- an error's first line leads to its text
@@ -27,7 +27,7 @@ pub error_line_seen : (wanted : Wanted) (number text : List ℕ) (n : ℕ) → S
     → reply_front wanted (69 ∷ (number ++ line_feed ∷ text)) ≡ error_at n (length number + 2) text
 unfolding reply_front error_front
 error_line_seen wanted number text n s =
-    ap (λ s. after s (λ m. error_at m.0 (m.1 + 2) (drop (m.1 + 1) (number ++ line_feed ∷ text)))) (number_is_seen false number n line_feed text s refl)
+    ap (λ s. after s (λ m. error_at m.0 (m.1 + 2) (drop (m.1 + 1) (number ++ line_feed ∷ text)))) (number_is_seen places.Line number n line_feed text s refl refl)
     ∙ ap (error_at n (length number + 2)) (drop_past number text line_feed)
 
 -- a text that has ended is an error's
@@ -55,13 +55,13 @@ error_open wanted number line n s h = error_line_seen wanted number line n s ∙
 
 done_seen : (number rest : List ℕ) (n : ℕ) → SpellsNumber number n → reply_front Number (65 ∷ (number ++ line_feed ∷ rest)) ≡ Ok (Some (Done n, length number + 2))
 unfolding reply_front done_front
-done_seen number rest n s = ap (λ s. after s (λ m. Ok (Some (Done m.0, m.1 + 2)))) (number_is_seen false number n line_feed rest s refl)
+done_seen number rest n s = ap (λ s. after s (λ m. Ok (Some (Done m.0, m.1 + 2)))) (number_is_seen places.Line number n line_feed rest s refl refl)
 
 data_line_seen : (most : ℕ) (number rest : List ℕ) (n : ℕ) → SpellsNumber number n → n ≤ most
     → reply_front (DataUpTo most) (65 ∷ (number ++ line_feed ∷ rest)) ≡ data_at n (length number + 2) rest
 unfolding reply_front done_front
 data_line_seen most number rest n s within =
-    ap (λ s. after s (λ m. data_at m.0 (m.1 + 2) (drop (m.1 + 1) (number ++ line_feed ∷ rest)))) (count_is_seen most number n rest s within)
+    ap (λ s. after s (λ m. data_at m.0 (m.1 + 2) (drop (m.1 + 1) (number ++ line_feed ∷ rest)))) (number_is_seen (places.Data most) number n line_feed rest s (grind (arith, nat_tests)) refl)
     ∙ ap (data_at n (length number + 2)) (drop_past number rest line_feed)
 
 data_whole : (given rest : List ℕ) (n len : ℕ) → length given ≡ n → data_at n len (given ++ rest) ≡ Ok (Some (Data given, len + n))
@@ -95,11 +95,11 @@ kept_letter : (letter : ℕ) (bytes : List ℕ) → eqb letter 69 ≡ false → 
 unfolding kept_of
 kept_letter letter bytes other = rw other refl
 
-kept_unended : (bytes : List ℕ) → number_front false bytes ≡ Ok None → kept_of (69 ∷ bytes) ≡ 69 ∷ bytes
+kept_unended : (bytes : List ℕ) → number_front places.Line bytes ≡ Ok None → kept_of (69 ∷ bytes) ≡ 69 ∷ bytes
 unfolding kept_of
 kept_unended bytes e = ap (λ s. 69 ∷ kept_behind s bytes) e
 
-kept_faulty : (bytes : List ℕ) (fault : WireFault) → number_front false bytes ≡ Err fault → kept_of (69 ∷ bytes) ≡ 69 ∷ bytes
+kept_faulty : (bytes : List ℕ) (fault : WireFault) → number_front places.Line bytes ≡ Err fault → kept_of (69 ∷ bytes) ≡ 69 ∷ bytes
 unfolding kept_of
 kept_faulty bytes fault e = ap (λ s. 69 ∷ kept_behind s bytes) e
 
@@ -109,7 +109,7 @@ unfolding kept_of
 kept_error number text n s =
     let front : take (length number + 1) (number ++ line_feed ∷ text) ≡ number ++ line_feed ∷ [] =
     ap (take (length number + 1)) (sym (append_assoc number (line_feed ∷ []) text)) ∙ take_at (number ++ line_feed ∷ []) text (length number + 1) (length-append number (line_feed ∷ [])) in
-    ap (λ s. 69 ∷ kept_behind s (number ++ line_feed ∷ text)) (number_is_seen false number n line_feed text s refl)
+    ap (λ s. 69 ∷ kept_behind s (number ++ line_feed ∷ text)) (number_is_seen places.Line number n line_feed text s refl refl)
     ∙ ap (λ l. 69 ∷ (l ++ kept_text (drop (length number + 1) (number ++ line_feed ∷ text)))) front
     ∙ ap (λ l. 69 ∷ ((number ++ line_feed ∷ []) ++ kept_text l)) (drop_past number text line_feed)
     ∙ ap (λ l. 69 ∷ l) (append_assoc number (line_feed ∷ []) (kept_text text))
@@ -124,7 +124,7 @@ ReplyView wanted bytes (Err fault) =
     × ((more : List ℕ) → reply_front wanted (seen ++ byte ∷ more) ≡ Err fault)
 
 -- beginnings of replies
-open_error : (wanted : Wanted) (digits : List ℕ) → AreDigits 0 0 digits → ReplyIsOpen wanted (69 ∷ digits)
+open_error : (wanted : Wanted) (digits : List ℕ) → AreDigits places.Line 0 0 digits → ReplyIsOpen wanted (69 ∷ digits)
 open_error wanted digits d =
     let f = number_done digits d in (
       f.0 ++ line_feed ∷ line_feed ∷ [],
@@ -136,22 +136,26 @@ open_text : (wanted : Wanted) (number line : List ℕ) (n : ℕ) → SpellsNumbe
 open_text wanted number line n s h =
     (line_feed ∷ [], Error n (take 255 line), (number, line, s, h, refl, ap (λ t. 69 ∷ t) (append_assoc number (line_feed ∷ line) (line_feed ∷ []))))
 
-open_number : (digits : List ℕ) → AreDigits 0 0 digits → ReplyIsOpen Number (65 ∷ digits)
+open_number : (digits : List ℕ) → AreDigits places.Line 0 0 digits → ReplyIsOpen Number (65 ∷ digits)
 open_number digits d =
     let f = number_done digits d in
     (f.0 ++ line_feed ∷ [], Done f.1, (digits ++ f.0, f.2, ap (λ t. 65 ∷ t) (sym (append_assoc digits f.0 (line_feed ∷ [])))))
 
--- the digits of a number of bytes are one, or become one that is no greater
-count_done : (most : ℕ) (digits : List ℕ) → AreDigits 0 0 digits → digits_value 10 digits ≤ most → (fill : List ℕ) × (n : ℕ) × SpellsNumber (digits ++ fill) n × (n ≤ most)
-count_done most [] d within = (48 ∷ [], 0, record { digits = (omega arith, (omega arith, tt)); few = omega arith; value = refl; small = omega arith }, omega arith)
-count_done most (b ∷ digits) d within = ([], digits_value 10 (b ∷ digits), (rw append-nil (digits_spell (b ∷ digits) d (omega arith))), within)
+-- the digits of a number of bytes write no more than are wanted
+value_within : (most : ℕ) (digits : List ℕ) → AreDigits (places.Data most) 0 0 digits → digits_value 10 digits ≤ most
+value_within most digits d = let wanted = d.wanted in grind (arith, nat_tests)
+
+-- they are a number, or become one that is no greater
+count_done : (most : ℕ) (digits : List ℕ) → AreDigits (places.Data most) 0 0 digits → (fill : List ℕ) × (n : ℕ) × SpellsNumber (digits ++ fill) n × (n ≤ most)
+count_done most [] d = (48 ∷ [], 0, record { digits = (omega arith, (omega arith, tt)); few = omega arith; value = refl; small = omega arith }, omega arith)
+count_done most (b ∷ digits) d = ([], digits_value 10 (b ∷ digits), (rw append-nil (digits_spell (b ∷ digits) d (omega arith))), value_within most (b ∷ digits) d)
 
 some_data : (most : ℕ) (number given : List ℕ) (n : ℕ) → SpellsNumber number n → n ≤ most → length given ≡ n → SpellsReply (65 ∷ (number ++ line_feed ∷ given)) (Data given) (DataUpTo most)
 some_data most number given n s within long = (number, subst (SpellsNumber number) (sym long) s, subst (λ k. k ≤ most) (sym long) within, refl)
 
-open_count : (most : ℕ) (digits : List ℕ) → AreDigits 0 0 digits → digits_value 10 digits ≤ most → ReplyIsOpen (DataUpTo most) (65 ∷ digits)
-open_count most digits d within =
-    let f = count_done most digits d within in
+open_count : (most : ℕ) (digits : List ℕ) → AreDigits (places.Data most) 0 0 digits → ReplyIsOpen (DataUpTo most) (65 ∷ digits)
+open_count most digits d =
+    let f = count_done most digits d in
     let given : List ℕ = replicate f.1 0 in (
       f.0 ++ line_feed ∷ given,
       Data given,
@@ -160,15 +164,15 @@ open_count most digits d within =
     )
 
 -- faults are seen whatever follows
-error_number_faulty : (wanted : Wanted) (bytes : List ℕ) (fault : WireFault) → number_front false bytes ≡ Err fault → reply_front wanted (69 ∷ bytes) ≡ Err fault
+error_number_faulty : (wanted : Wanted) (bytes : List ℕ) (fault : WireFault) → number_front places.Line bytes ≡ Err fault → reply_front wanted (69 ∷ bytes) ≡ Err fault
 unfolding reply_front error_front
 error_number_faulty wanted bytes fault e = ap (λ s. after s (λ m. error_at m.0 (m.1 + 2) (drop (m.1 + 1) bytes))) e
 
-done_number_faulty : (bytes : List ℕ) (fault : WireFault) → number_front false bytes ≡ Err fault → reply_front Number (65 ∷ bytes) ≡ Err fault
+done_number_faulty : (bytes : List ℕ) (fault : WireFault) → number_front places.Line bytes ≡ Err fault → reply_front Number (65 ∷ bytes) ≡ Err fault
 unfolding reply_front done_front
 done_number_faulty bytes fault e = ap (λ s. after s (λ m. Ok (Some (Done m.0, m.1 + 2)))) e
 
-count_faulty : (most : ℕ) (bytes : List ℕ) (fault : WireFault) → count_front most bytes ≡ Err fault → reply_front (DataUpTo most) (65 ∷ bytes) ≡ Err fault
+count_faulty : (most : ℕ) (bytes : List ℕ) (fault : WireFault) → number_front (places.Data most) bytes ≡ Err fault → reply_front (DataUpTo most) (65 ∷ bytes) ≡ Err fault
 unfolding reply_front done_front
 count_faulty most bytes fault e = ap (λ s. after s (λ m. data_at m.0 (m.1 + 2) (drop (m.1 + 1) bytes))) e
 
@@ -203,7 +207,7 @@ text_at_view wanted number text n s v =
     ))
     v
 
-error_view : (wanted : Wanted) (bytes : List ℕ) (seen : Seen (ℕ × ℕ)) → number_front false bytes ≡ seen → NumberView false 0 0 bytes seen
+error_view : (wanted : Wanted) (bytes : List ℕ) (seen : Seen (ℕ × ℕ)) → number_front places.Line bytes ≡ seen → NumberView places.Line 0 0 bytes seen
     → ReplyView wanted (69 ∷ bytes) (after seen (λ m. error_at m.0 (m.1 + 2) (drop (m.1 + 1) bytes)))
 error_view wanted bytes (Ok None) e v = (open_error wanted bytes v, λ within. (let few = v.few in omega (arith, ap (length {A = ℕ}) (kept_unended bytes e))))
 error_view wanted bytes (Ok (Some p)) e v =
@@ -217,17 +221,18 @@ error_view wanted bytes (Ok (Some p)) e v =
     (subst (λ k. ReplyView wanted (69 ∷ bytes) (error_at p.0 (k + 2) v.1)) (sym long)
     (subst (λ l. ReplyView wanted (69 ∷ l) (error_at p.0 (length digits + 2) v.1)) (sym here) there))
 error_view wanted bytes (Err fault) e v =
-    subst (λ f. ReplyView wanted (69 ∷ bytes) (Err f)) (sym v.5) (
+    let bad = bad_number places.Line v.0 v.2 fault (λ n. refl) v.5 in
+    subst (λ f. ReplyView wanted (69 ∷ bytes) (Err f)) (sym bad) (
       69 ∷ v.0,
       v.1,
       v.2,
       ap (λ l. 69 ∷ l) v.4,
       open_error wanted v.0 v.3,
       ((v.0, v.3.each, few_digits v.0 v.3, inr refl), never_in_error wanted v.0 v.2),
-      λ more. error_number_faulty wanted (v.0 ++ v.2 ∷ more) BadNumber (v.6 more),
+      λ more. error_number_faulty wanted (v.0 ++ v.2 ∷ more) BadNumber (v.6 more ∙ ap Err bad),
     )
 
-number_view_of : (bytes : List ℕ) (seen : Seen (ℕ × ℕ)) → NumberView false 0 0 bytes seen → ReplyView Number (65 ∷ bytes) (after seen (λ m. Ok (Some (Done m.0, m.1 + 2))))
+number_view_of : (bytes : List ℕ) (seen : Seen (ℕ × ℕ)) → NumberView places.Line 0 0 bytes seen → ReplyView Number (65 ∷ bytes) (after seen (λ m. Ok (Some (Done m.0, m.1 + 2))))
 number_view_of bytes (Ok None) v = (open_number bytes v, λ within. (let few = v.few in omega (arith, ap (length {A = ℕ}) (kept_letter 65 bytes refl))))
 number_view_of bytes (Ok (Some p)) v =
     let digits = v.0 in
@@ -239,14 +244,15 @@ number_view_of bytes (Ok (Some p)) v =
       (let l = length_line 65 digits [] in omega arith),
     )
 number_view_of bytes (Err fault) v =
-    subst (λ f. ReplyView Number (65 ∷ bytes) (Err f)) (sym v.5) (
+    let bad = bad_number places.Line v.0 v.2 fault (λ n. refl) v.5 in
+    subst (λ f. ReplyView Number (65 ∷ bytes) (Err f)) (sym bad) (
       65 ∷ v.0,
       v.1,
       v.2,
       ap (λ l. 65 ∷ l) v.4,
       open_number v.0 v.3,
       ((v.0, v.3.each, few_digits v.0 v.3, inl refl), λ m. m),
-      λ more. done_number_faulty (v.0 ++ v.2 ∷ more) BadNumber (v.6 more),
+      λ more. done_number_faulty (v.0 ++ v.2 ∷ more) BadNumber (v.6 more ∙ ap Err bad),
     )
 
 -- the data behind their line
@@ -287,7 +293,7 @@ last_digit [] byte each = each.0
 last_digit (d ∷ digits) byte each = last_digit digits byte each.1
 
 -- the cause of such a fault
-count_cause : (most : ℕ) (digits : List ℕ) (byte : ℕ) (fault : WireFault) → AreDigits 0 0 digits → IsCountFault most 0 digits byte fault → ReplyIsCause (DataUpTo most) (65 ∷ digits) byte fault
+count_cause : (most : ℕ) (digits : List ℕ) (byte : ℕ) (fault : WireFault) → AreDigits (places.Data most) 0 0 digits → IsNumberFault (places.Data most) 0 digits byte fault → ReplyIsCause (DataUpTo most) (65 ∷ digits) byte fault
 count_cause most digits byte UnknownCommand d h = h
 count_cause most digits byte BadNumber d h = (
   (digits, d.each, few_digits digits d, inl refl),
@@ -295,22 +301,24 @@ count_cause most digits byte BadNumber d h = (
       let same = tail_same 65 65 digits m.0 m.1 in
       let each = subst (λ l. AllDigits 10 (l ++ byte ∷ [])) (sym same) m.2 in
       let much = subst (λ l. most < digits_value 10 (l ++ byte ∷ [])) (sym same) m.3 in
-      h (last_digit digits byte each, much),
+      h (last_digit digits byte each, grind (arith, nat_tests)),
 )
 count_cause most digits byte LineTooLong d h = h
 count_cause most digits byte NotAReply d h = absurd h
-count_cause most digits byte TooMuchData d h = (digits, refl, digits_and digits byte d.each h.0, h.1)
+count_cause most digits byte TooMuchData d h =
+    let much : most < digits_value 10 (digits ++ byte ∷ []) = (let test = h.1 in grind (arith, nat_tests)) in
+    (digits, refl, digits_and digits byte d.each h.0, much)
 
-count_view_of : (most : ℕ) (bytes : List ℕ) (seen : Seen (ℕ × ℕ)) → CountView most 0 0 bytes seen
+count_view_of : (most : ℕ) (bytes : List ℕ) (seen : Seen (ℕ × ℕ)) → NumberView (places.Data most) 0 0 bytes seen
     → ReplyView (DataUpTo most) (65 ∷ bytes) (after seen (λ m. data_at m.0 (m.1 + 2) (drop (m.1 + 1) bytes)))
-count_view_of most bytes (Ok None) v = (open_count most bytes v.0 v.1, λ within. (let few = v.0.few in omega (arith, ap (length {A = ℕ}) (kept_letter 65 bytes refl))))
+count_view_of most bytes (Ok None) v = (open_count most bytes v, λ within. (let few = v.few in omega (arith, ap (length {A = ℕ}) (kept_letter 65 bytes refl))))
 count_view_of most bytes (Ok (Some p)) v =
     let digits = v.0 in
-    let here : bytes ≡ digits ++ line_feed ∷ v.1 = v.4 in
-    let long : p.1 ≡ length digits = v.6 ∙ zero-add (length digits) in
-    let s : SpellsNumber digits p.0 = rw v.5 (digits_spell digits v.2 v.7) in
-    let value = v.5 in
-    let fits = v.3 in
+    let here : bytes ≡ digits ++ line_feed ∷ v.1 = v.4 ∙ ap (λ x. digits ++ x ∷ v.1) (end_feed v.2 v.5) in
+    let long : p.1 ≡ length digits = v.7 ∙ zero-add (length digits) in
+    let s : SpellsNumber digits p.0 = rw v.6 (digits_spell digits v.3 v.8) in
+    let value = v.6 in
+    let fits = value_within most digits v.3 in
     let within : p.0 ≤ most = omega arith in
     let behind : drop (p.1 + 1) bytes ≡ v.1 = ap (λ k. drop (k + 1) bytes) long ∙ ap (drop (length digits + 1)) here ∙ drop_past digits v.1 line_feed in
     let there = data_at_view most digits v.1 p.0 s within in
@@ -321,20 +329,20 @@ count_view_of most bytes (Err fault) v = (
   65 ∷ v.0,
   v.1,
   v.2,
-  ap (λ l. 65 ∷ l) v.5,
-  open_count most v.0 v.3 v.4,
-  count_cause most v.0 v.2 fault v.3 v.6,
-  λ more. count_faulty most (v.0 ++ v.2 ∷ more) fault (v.7 more),
+  ap (λ l. 65 ∷ l) v.4,
+  open_count most v.0 v.3,
+  count_cause most v.0 v.2 fault v.3 v.5,
+  λ more. count_faulty most (v.0 ++ v.2 ∷ more) fault (v.6 more),
 )
 
 done_view : (wanted : Wanted) (bytes : List ℕ) → ReplyView wanted (65 ∷ bytes) (done_front wanted bytes)
 unfolding done_front
-done_view Number bytes = number_view_of bytes (number_front false bytes) (number_view false 0 0 bytes (omega arith) (omega arith))
-done_view (DataUpTo most) bytes = count_view_of most bytes (count_front most bytes) (count_view most 0 0 bytes (omega arith) (omega arith) (omega arith))
+done_view Number bytes = number_view_of bytes (number_front places.Line bytes) (number_view places.Line bytes)
+done_view (DataUpTo most) bytes = count_view_of most bytes (number_front (places.Data most) bytes) (number_view (places.Data most) bytes)
 
 error_view_of : (wanted : Wanted) (bytes : List ℕ) → ReplyView wanted (69 ∷ bytes) (error_front bytes)
 unfolding error_front
-error_view_of wanted bytes = error_view wanted bytes (number_front false bytes) refl (number_view false 0 0 bytes (omega arith) (omega arith))
+error_view_of wanted bytes = error_view wanted bytes (number_front places.Line bytes) refl (number_view places.Line bytes)
 
 -- nothing is a beginning
 zero_text : SpellsNumber (48 ∷ []) 0

@@ -17,6 +17,7 @@ use Rattle.rmt_wire.specs.declared.reply.Reply.{Reply}
 use Rattle.rmt_wire.specs.declared.reply.wanted.Wanted as declared
 use Rattle.rmt_wire.specs.declared.fault.WireFault.{WireFault}
 use Rattle.rmt_wire.specs.declared.fault.WireFault.TheVariants.{TooMuchData}
+use Rattle.rmt_wire.specs.declared.number.Place.TheVariants as places
 use Rattle.rmt_wire.proofs.Numbers.{NumberView, number_view}
 use Rattle.rmt_wire.proofs.Spellings.{length_line}
 use Rattle.rmt_wire.proofs.Fronts.{digits_spell, end_feed}
@@ -34,7 +35,7 @@ pub record HasText (bytes : List ℕ) : Type 0 where
   pub spelled : SpellsNumber number value
   pub split : bytes ≡ 69 ∷ (number ++ line_feed ∷ text)
 
-text_after : (bytes : List ℕ) (seen : Seen (ℕ × ℕ)) → NumberView false 0 0 bytes seen → HasText (69 ∷ bytes) ⊎ (kept_behind seen bytes ≡ bytes)
+text_after : (bytes : List ℕ) (seen : Seen (ℕ × ℕ)) → NumberView places.Line 0 0 bytes seen → HasText (69 ∷ bytes) ⊎ (kept_behind seen bytes ≡ bytes)
 text_after bytes (Ok None) v = inr refl
 text_after bytes (Ok (Some p)) v =
     inl (record {
@@ -50,7 +51,7 @@ text_at : (letter : ℕ) (bytes : List ℕ) (test : Bool) → eqb letter 69 ≡ 
 unfolding kept_of
 text_at letter bytes true e =
     let is : 69 ≡ letter = grind (arith, nat_tests) in
-    ⊎_elim (λ t. inl (subst (λ l. HasText (l ∷ bytes)) is t)) (λ k. inr (rw e (ap (λ l. letter ∷ l) k))) (text_after bytes (number_front false bytes) (number_view false 0 0 bytes (omega arith) (omega arith)))
+    ⊎_elim (λ t. inl (subst (λ l. HasText (l ∷ bytes)) is t)) (λ k. inr (rw e (ap (λ l. letter ∷ l) k))) (text_after bytes (number_front places.Line bytes) (number_view places.Line bytes))
 text_at letter bytes false e = inr (rw e refl)
 
 -- or all of them are kept
@@ -240,7 +241,7 @@ no_cons x xs e = cc
 
 kept_some : (letter : ℕ) (bytes : List ℕ) (test : Bool) → eqb letter 69 ≡ test → kept_of (letter ∷ bytes) ≡ [] → ⊥
 unfolding kept_of
-kept_some letter bytes true e k = no_cons letter (kept_behind (number_front false bytes) bytes) (rw e at k)
+kept_some letter bytes true e k = no_cons letter (kept_behind (number_front places.Line bytes) bytes) (rw e at k)
 kept_some letter bytes false e k = no_cons letter bytes (rw e at k)
 
 none_kept : (wanted : Option Wanted) (bytes : List ℕ) → kept_while wanted bytes ≡ [] → bytes ≡ []
@@ -315,8 +316,8 @@ cut_at bytes len size kept e =
     ∙ ap (λ l. take (len + kept) bytes ++ l) (drop-drop size len bytes ∙ ap (λ n. drop n bytes) sum)
 
 -- behind the letter of an error
-pub cut_behind : (bytes : List ℕ) (p : ℕ × ℕ) (size kept : ℕ) → number_front false bytes ≡ Ok (Some p) → size ≡ text_len (take (length bytes - (p.1 + 1)) (drop (p.1 + 1) bytes))
-    → kept ≡ min size 255 → kept_behind (number_front false bytes) bytes ≡ take (p.1 + 1 + kept) bytes ++ drop (p.1 + 1 + kept + (size - kept)) bytes
+pub cut_behind : (bytes : List ℕ) (p : ℕ × ℕ) (size kept : ℕ) → number_front places.Line bytes ≡ Ok (Some p) → size ≡ text_len (take (length bytes - (p.1 + 1)) (drop (p.1 + 1) bytes))
+    → kept ≡ min size 255 → kept_behind (number_front places.Line bytes) bytes ≡ take (p.1 + 1 + kept) bytes ++ drop (p.1 + 1 + kept + (size - kept)) bytes
 cut_behind bytes p size kept e s k =
     let all : size ≡ text_len (drop (p.1 + 1) bytes) = s ∙ ap text_len (take_rest bytes (p.1 + 1)) in
     ap (λ n. kept_behind n bytes) e
@@ -324,7 +325,7 @@ cut_behind bytes p size kept e s k =
     ∙ cut_at bytes (p.1 + 1) size kept k
 
 -- and with it
-cut_letter : (rest : List ℕ) (at gone : ℕ) → kept_behind (number_front false rest) rest ≡ take at rest ++ drop (at + gone) rest
+cut_letter : (rest : List ℕ) (at gone : ℕ) → kept_behind (number_front places.Line rest) rest ≡ take at rest ++ drop (at + gone) rest
     → kept_of (69 ∷ rest) ≡ take (at + 1) (69 ∷ rest) ++ drop (at + 1 + gone) (69 ∷ rest)
 unfolding kept_of
 cut_letter rest at gone e =
@@ -334,7 +335,7 @@ cut_letter rest at gone e =
     (subst (λ n. kept_of (69 ∷ rest) ≡ take n (69 ∷ rest) ++ drop (suc (at + gone)) (69 ∷ rest)) first (ap (λ l. 69 ∷ l) e))
 
 pub cut_error : (bytes : List ℕ) (at gone : ℕ) → 1 ≤ length bytes → get_or bytes 0 0 ≡ 69
-    → kept_behind (number_front false (take (length bytes - 1) (drop 1 bytes))) (take (length bytes - 1) (drop 1 bytes))
+    → kept_behind (number_front places.Line (take (length bytes - 1) (drop 1 bytes))) (take (length bytes - 1) (drop 1 bytes))
     ≡ take at (take (length bytes - 1) (drop 1 bytes)) ++ drop (at + gone) (take (length bytes - 1) (drop 1 bytes))
     → kept_of bytes ≡ take (at + 1) bytes ++ drop (at + 1 + gone) bytes
 cut_error [] at gone some is cut = absurd (omega arith)
@@ -342,7 +343,7 @@ cut_error (b ∷ rest) at gone some is cut =
     let all : take (length (b ∷ rest) - 1) (drop 1 (b ∷ rest)) ≡ rest = take_rest (b ∷ rest) 1 in
     let here : 69 ≡ b = sym is in
     subst (λ x. kept_of (x ∷ rest) ≡ take (at + 1) (x ∷ rest) ++ drop (at + 1 + gone) (x ∷ rest)) here
-    (cut_letter rest at gone (subst (λ l. kept_behind (number_front false l) l ≡ take at l ++ drop (at + gone) l) all cut))
+    (cut_letter rest at gone (subst (λ l. kept_behind (number_front places.Line l) l ≡ take at l ++ drop (at + gone) l) all cut))
 
 -- what is kept, by the grammar
 pub text_begun : (bytes number line : List ℕ) → IsErrorText bytes number line → HasNoLineFeed line → kept_of bytes ≡ 69 ∷ (number ++ line_feed ∷ take 255 line)

@@ -7,9 +7,11 @@ use Rattle.rmt_wire.specs.Number.{SpellsNumber, IsLine, line_feed, space}
 use Rattle.rmt_wire.specs.Request.{PlainRequest, SpellsMode, SpellsRequest}
 use Rattle.rmt_wire.specs.Limits.{data_limit}
 use Rattle.rmt_wire.specs.Request.PlainRequest.{Open, Close, Write, WriteDropped, Read, Op}
-use Rattle.rmt_wire.specs.Seen.{after, ends_number, number_front}
+use Rattle.rmt_wire.specs.Seen.{after, ends_number, is_too_much, number_front}
 use Rattle.rmt_wire.specs.RequestFront.{line_front, mode_head, open_head, close_head, write_head, read_head, count_head, op_head, letter_head, head_of, written_at, request_at, front_of}
 use Rattle.rmt_wire.specs.declared.request.head.Head.TheVariants as head
+use Rattle.rmt_wire.specs.declared.number.Place.{Place}
+use Rattle.rmt_wire.specs.declared.number.Place.TheVariants as places
 use Rattle.rmt_wire.proofs.Numbers.{AreDigits, number_seen}
 use Rattle.rmt_wire.proofs.Lines.{line_seen}
 
@@ -18,17 +20,17 @@ pub drop_past : (xs ys : List ℕ) (y : ℕ) → drop (length xs + 1) (xs ++ y �
 drop_past [] ys y = refl
 drop_past (x ∷ xs) ys y = let e : suc (length xs) + 1 ≡ suc (length xs + 1) = omega arith in rw e (drop_past xs ys y)
 
-pub digits_of_number : (text : List ℕ) (n : ℕ) → SpellsNumber text n → AreDigits 0 0 text
-digits_of_number text n s =
+digits_of_number : (place : Place) (text : List ℕ) (n : ℕ) → SpellsNumber text n → is_too_much place n ≡ false → AreDigits place 0 0 text
+digits_of_number place text n s wanted =
     let e = s.value in
     let few = s.few in
-    record { each = s.digits.1; small = rw e s.small; few = omega arith }
+    record { each = s.digits.1; small = rw e s.small; few = omega arith; wanted = rw e wanted }
 
-pub number_is_seen : (m : Bool) (text : List ℕ) (n stop : ℕ) (more : List ℕ) → SpellsNumber text n → ends_number m stop ≡ true
-    → number_front m (text ++ stop ∷ more) ≡ Ok (Some (n, length text))
-number_is_seen m text n stop more s ends =
+pub number_is_seen : (place : Place) (text : List ℕ) (n stop : ℕ) (more : List ℕ) → SpellsNumber text n → is_too_much place n ≡ false → ends_number place stop ≡ true
+    → number_front place (text ++ stop ∷ more) ≡ Ok (Some (n, length text))
+number_is_seen place text n stop more s wanted ends =
     let some = s.digits.0 in
-    let found = number_seen m 0 0 text stop more (digits_of_number text n s) (omega arith) ends in
+    let found = number_seen place 0 0 text stop more (digits_of_number place text n s wanted) (omega arith) ends in
     let value : digits_value_after 10 0 text ≡ n = s.value in
     found ∙ ap (λ v. Ok (Some (v, 0 + length text))) value ∙ ap (λ l. Ok (Some (n, l))) (zero-add (length text))
 
@@ -45,33 +47,33 @@ close_seen line rest l =
 pub read_seen : (number rest : List ℕ) (n : ℕ) → SpellsNumber number n → front_of (82 ∷ (number ++ line_feed ∷ rest)) ≡ Ok (Some (Read n, length number + 2))
 unfolding front_of head_of letter_head read_head
 read_seen number rest n s =
-    ap (λ s. after (after s (λ count. Ok (Some (head.Read count.0 (count.1 + 2))))) (request_at (82 ∷ (number ++ line_feed ∷ rest)))) (number_is_seen false number n line_feed rest s refl)
+    ap (λ s. after (after s (λ count. Ok (Some (head.Read count.0 (count.1 + 2))))) (request_at (82 ∷ (number ++ line_feed ∷ rest)))) (number_is_seen places.Line number n line_feed rest s refl refl)
 
 -- a write's line leads to its data
 pub write_seen : (number rest : List ℕ) (n : ℕ) → SpellsNumber number n → front_of (87 ∷ (number ++ line_feed ∷ rest)) ≡ written_at n (length number + 2) (87 ∷ (number ++ line_feed ∷ rest))
 unfolding front_of head_of letter_head write_head
 write_seen number rest n s =
-    ap (λ s. after (after s (λ count. Ok (Some (head.Write count.0 (count.1 + 2))))) (request_at (87 ∷ (number ++ line_feed ∷ rest)))) (number_is_seen false number n line_feed rest s refl)
+    ap (λ s. after (after s (λ count. Ok (Some (head.Write count.0 (count.1 + 2))))) (request_at (87 ∷ (number ++ line_feed ∷ rest)))) (number_is_seen places.Line number n line_feed rest s refl refl)
 
 pub op_seen : (first second rest : List ℕ) (op n : ℕ) → SpellsNumber first op → SpellsNumber second n
     → front_of (73 ∷ (first ++ line_feed ∷ (second ++ line_feed ∷ rest))) ≡ Ok (Some (Op op n, length first + length second + 3))
 unfolding front_of head_of letter_head op_head count_head
 op_seen first second rest op n s t =
     let bytes : List ℕ = first ++ line_feed ∷ (second ++ line_feed ∷ rest) in
-    ap (λ s. after (after s (λ op. count_head op (drop (op.1 + 1) bytes))) (request_at (73 ∷ bytes))) (number_is_seen false first op line_feed (second ++ line_feed ∷ rest) s refl)
-    ∙ ap (λ l. after (after (number_front false l) (λ count. Ok (Some (head.Op op count.0 (length first + count.1 + 3))))) (request_at (73 ∷ bytes))) (drop_past first (second ++ line_feed ∷ rest) line_feed)
-    ∙ ap (λ s. after (after s (λ count. Ok (Some (head.Op op count.0 (length first + count.1 + 3))))) (request_at (73 ∷ bytes))) (number_is_seen false second n line_feed rest t refl)
+    ap (λ s. after (after s (λ op. count_head op (drop (op.1 + 1) bytes))) (request_at (73 ∷ bytes))) (number_is_seen places.Line first op line_feed (second ++ line_feed ∷ rest) s refl refl)
+    ∙ ap (λ l. after (after (number_front places.Line l) (λ count. Ok (Some (head.Op op count.0 (length first + count.1 + 3))))) (request_at (73 ∷ bytes))) (drop_past first (second ++ line_feed ∷ rest) line_feed)
+    ∙ ap (λ s. after (after s (λ count. Ok (Some (head.Op op count.0 (length first + count.1 + 3))))) (request_at (73 ∷ bytes))) (number_is_seen places.Line second n line_feed rest t refl refl)
 
 -- the number of a mode line is seen in front of all that follows
-pub mode_is_seen : (line rest : List ℕ) (mode : ℕ) → SpellsMode line mode → (digits : ℕ) × (number_front true (line ++ line_feed ∷ rest) ≡ Ok (Some (mode, digits)))
+pub mode_is_seen : (line rest : List ℕ) (mode : ℕ) → SpellsMode line mode → (digits : ℕ) × (number_front places.Mode (line ++ line_feed ∷ rest) ≡ Ok (Some (mode, digits)))
 mode_is_seen line rest mode s =
     ⊎_elim
-    (λ n. (length line, number_is_seen true line mode line_feed rest n refl))
+    (λ n. (length line, number_is_seen places.Mode line mode line_feed rest n refl refl))
     (λ w. (
       length w.0,
-      ap (λ l. number_front true (l ++ line_feed ∷ rest)) w.3
-          ∙ ap (λ l. number_front true l) (append_assoc w.0 (space ∷ w.1) (line_feed ∷ rest))
-          ∙ number_is_seen true w.0 mode space (w.1 ++ line_feed ∷ rest) w.2 refl,
+      ap (λ l. number_front places.Mode (l ++ line_feed ∷ rest)) w.3
+          ∙ ap (λ l. number_front places.Mode l) (append_assoc w.0 (space ∷ w.1) (line_feed ∷ rest))
+          ∙ number_is_seen places.Mode w.0 mode space (w.1 ++ line_feed ∷ rest) w.2 refl refl,
     ))
     s.1
 

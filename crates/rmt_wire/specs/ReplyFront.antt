@@ -1,26 +1,13 @@
 -- What the bytes of a stream begin with where a reply is waited for, computed from the front. `ReplyParts` says the same of whole
 -- texts.
-use Rattle.std.specs.Prelude.{ℕ, suc, ◌+◌, ◌-◌, ◌*◌, ◌==◌, ◌&&◌, ◌||◌, false, if◌then◌else◌, nat_lt, min, List, [], ◌∷◌, ◌++◌, length, take, drop, Some, None, Ok, Err}
+use Rattle.std.specs.Prelude.{ℕ, suc, ◌+◌, ◌==◌, if◌then◌else◌, nat_lt, min, List, [], ◌∷◌, ◌++◌, length, take, drop, Some, None, Ok, Err}
 use Rattle.rmt_wire.specs.Number.{line_feed}
-use Rattle.rmt_wire.specs.Seen.{Seen, after, is_digit, number_front}
+use Rattle.rmt_wire.specs.Seen.{Seen, after, number_front}
 use Rattle.rmt_wire.specs.Reply.{PlainReply, Wanted}
 use Rattle.rmt_wire.specs.Reply.PlainReply.{Done, Data, Error}
 use Rattle.rmt_wire.specs.Reply.Wanted.{Number, DataUpTo}
-use Rattle.rmt_wire.specs.declared.fault.WireFault.TheVariants.{BadNumber, NotAReply, TooMuchData}
-
--- the number of bytes, `most` of them at most, that the bytes go on with after `count` digits of this value, and how many digits
--- it has
-abbrev pub count_from : ℕ → ℕ → ℕ → List ℕ → Seen (ℕ × ℕ)
-count_from most value count [] = Ok None
-count_from most value count (b ∷ bytes) =
-    if is_digit b
-    then (if nat_lt most (value * 10 + (b - 48)) then Err TooMuchData
-    else if count == 10 || nat_lt 2147483647 (value * 10 + (b - 48)) then Err BadNumber
-    else count_from most (value * 10 + (b - 48)) (count + 1) bytes)
-    else (if nat_lt 0 count && b == line_feed then Ok (Some (value, count)) else Err BadNumber)
-
-abbrev pub count_front : ℕ → List ℕ → Seen (ℕ × ℕ)
-count_front most bytes = count_from most 0 0 bytes
+use Rattle.rmt_wire.specs.declared.fault.WireFault.TheVariants.{NotAReply}
+use Rattle.rmt_wire.specs.declared.number.Place.TheVariants as places
 
 -- how many bytes stand before the first line feed; all of them, where there is none
 abbrev pub text_len : List ℕ → ℕ
@@ -44,12 +31,12 @@ data_at count len bytes = if nat_lt (length bytes) count then Ok None else Ok (S
 
 -- what follows `A`
 unfoldable pub done_front : Wanted → List ℕ → Seen (PlainReply × ℕ)
-done_front Number bytes = after (number_front false bytes) (λ n. Ok (Some (Done n.0, n.1 + 2)))
-done_front (DataUpTo most) bytes = after (count_front most bytes) (λ n. data_at n.0 (n.1 + 2) (drop (n.1 + 1) bytes))
+done_front Number bytes = after (number_front places.Line bytes) (λ n. Ok (Some (Done n.0, n.1 + 2)))
+done_front (DataUpTo most) bytes = after (number_front (places.Data most) bytes) (λ n. data_at n.0 (n.1 + 2) (drop (n.1 + 1) bytes))
 
 -- what follows `E`
 unfoldable pub error_front : List ℕ → Seen (PlainReply × ℕ)
-error_front bytes = after (number_front false bytes) (λ n. error_at n.0 (n.1 + 2) (drop (n.1 + 1) bytes))
+error_front bytes = after (number_front places.Line bytes) (λ n. error_at n.0 (n.1 + 2) (drop (n.1 + 1) bytes))
 
 -- the reply that the bytes begin with, and how long it is
 unfoldable pub reply_front : Wanted → List ℕ → Seen (PlainReply × ℕ)
@@ -68,4 +55,4 @@ kept_behind (Err fault) bytes = bytes
 -- the bytes of a reply that was waited for, as they are kept
 unfoldable pub kept_of : List ℕ → List ℕ
 kept_of [] = []
-kept_of (letter ∷ bytes) = if letter == 69 then letter ∷ kept_behind (number_front false bytes) bytes else letter ∷ bytes
+kept_of (letter ∷ bytes) = if letter == 69 then letter ∷ kept_behind (number_front places.Line bytes) bytes else letter ∷ bytes

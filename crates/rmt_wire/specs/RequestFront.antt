@@ -6,6 +6,7 @@ use Rattle.rmt_wire.specs.Request.{PlainRequest}
 use Rattle.rmt_wire.specs.Limits.{data_limit}
 use Rattle.rmt_wire.specs.Request.PlainRequest.{Open, Close, Write, WriteDropped, Read, Op}
 use Rattle.rmt_wire.specs.declared.fault.WireFault.{WireFault}
+use Rattle.rmt_wire.specs.declared.number.Place.TheVariants as places
 use Rattle.rmt_wire.specs.declared.fault.WireFault.TheVariants.{UnknownCommand, LineTooLong}
 use Rattle.rmt_wire.specs.declared.request.head.Head.{Head}
 use Rattle.rmt_wire.specs.declared.request.head.Head.TheVariants as head
@@ -22,7 +23,7 @@ line_front bytes = line_from 0 bytes
 -- the mode line after a device line of this length: a number first, and then an end as of any line
 unfoldable pub mode_head : ℕ → List ℕ → Seen Head
 mode_head device bytes =
-    after (number_front true bytes) (λ mode. after (line_front bytes) (λ len. Ok (Some (head.Open device mode.0 (device + len + 3)))))
+    after (number_front places.Mode bytes) (λ mode. after (line_front bytes) (λ len. Ok (Some (head.Open device mode.0 (device + len + 3)))))
 
 unfoldable pub open_head : List ℕ → Seen Head
 open_head bytes = after (line_front bytes) (λ device. mode_head device (drop (device + 1) bytes))
@@ -31,17 +32,17 @@ unfoldable pub close_head : List ℕ → Seen Head
 close_head bytes = after (line_front bytes) (λ len. Ok (Some (head.Close (len + 2))))
 
 unfoldable pub write_head : List ℕ → Seen Head
-write_head bytes = after (number_front false bytes) (λ count. Ok (Some (head.Write count.0 (count.1 + 2))))
+write_head bytes = after (number_front places.Line bytes) (λ count. Ok (Some (head.Write count.0 (count.1 + 2))))
 
 unfoldable pub read_head : List ℕ → Seen Head
-read_head bytes = after (number_front false bytes) (λ count. Ok (Some (head.Read count.0 (count.1 + 2))))
+read_head bytes = after (number_front places.Line bytes) (λ count. Ok (Some (head.Read count.0 (count.1 + 2))))
 
 -- the second number after `I`, where the first is this one
 unfoldable pub count_head : ℕ × ℕ → List ℕ → Seen Head
-count_head op bytes = after (number_front false bytes) (λ count. Ok (Some (head.Op op.0 count.0 (op.1 + count.1 + 3))))
+count_head op bytes = after (number_front places.Line bytes) (λ count. Ok (Some (head.Op op.0 count.0 (op.1 + count.1 + 3))))
 
 unfoldable pub op_head : List ℕ → Seen Head
-op_head bytes = after (number_front false bytes) (λ op. count_head op (drop (op.1 + 1) bytes))
+op_head bytes = after (number_front places.Line bytes) (λ op. count_head op (drop (op.1 + 1) bytes))
 
 -- `O C W R I`
 unfoldable pub letter_head : ℕ → List ℕ → Seen Head

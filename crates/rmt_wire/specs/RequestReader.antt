@@ -7,6 +7,7 @@ use Rattle.rmt_wire.specs.Seen.{Seen, number_front}
 use Rattle.rmt_wire.specs.Lent.{plain_request}
 use Rattle.rmt_wire.specs.declared.request.Request.{Request}
 use Rattle.rmt_wire.specs.declared.fault.WireFault.{WireFault}
+use Rattle.rmt_wire.specs.declared.number.Place.TheVariants as places
 
 -- a write of so many bytes after a line of so many, if it is to be dropped
 abbrev pub dropped_if_long : Seen (ℕ × ℕ) → Option (ℕ × ℕ)
@@ -17,7 +18,7 @@ dropped_if_long (Err fault) = None
 -- the length of the line and the count of a write above the limit that the bytes begin with, if they do
 unfoldable pub dropped_line : List ℕ → Option (ℕ × ℕ)
 dropped_line [] = None
-dropped_line (letter ∷ bytes) = if letter == 87 then dropped_if_long (number_front false bytes) else None
+dropped_line (letter ∷ bytes) = if letter == 87 then dropped_if_long (number_front places.Line bytes) else None
 
 -- the bytes that a reader keeps, and how many data of a dropped write it let go from behind the write's line
 pub record RequestHeld : Type 0 where

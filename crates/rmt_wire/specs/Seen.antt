@@ -1,8 +1,10 @@
 -- What is seen of the beginning of some bytes, computed from the front, and the numbers there.
-use Rattle.std.specs.Prelude.{ℕ, ◌+◌, ◌-◌, ◌*◌, ◌==◌, ◌&&◌, ◌||◌, Bool, if◌then◌else◌, nat_lt, nat_le, List, [], ◌∷◌, Option, Some, None, Result, Ok, Err}
+use Rattle.std.specs.Prelude.{ℕ, ◌+◌, ◌-◌, ◌*◌, ◌==◌, ◌&&◌, ◌||◌, Bool, false, if◌then◌else◌, nat_lt, nat_le, List, [], ◌∷◌, Option, Some, None, Result, Ok, Err}
 use Rattle.rmt_wire.specs.Number.{line_feed, space}
 use Rattle.rmt_wire.specs.declared.fault.WireFault.{WireFault}
-use Rattle.rmt_wire.specs.declared.fault.WireFault.TheVariants.{BadNumber}
+use Rattle.rmt_wire.specs.declared.fault.WireFault.TheVariants.{BadNumber, TooMuchData}
+use Rattle.rmt_wire.specs.declared.number.Place.{Place}
+use Rattle.rmt_wire.specs.declared.number.Place.TheVariants as places
 
 -- what was seen of an A: all of it, less than it, or a byte that rules it out
 abbrev pub Seen : Type 0 → Type 0
@@ -17,18 +19,28 @@ after (Ok (Some a)) next = next a
 abbrev pub is_digit : ℕ → Bool
 is_digit b = nat_le 48 b && nat_le b 57
 
--- the byte ends a number: a line feed, and in a mode line a space
-abbrev pub ends_number : Bool → ℕ → Bool
-ends_number is_mode b = b == line_feed || (is_mode && b == space)
+-- the byte ends a number that stands here: a line feed, and in a mode line a space
+abbrev pub ends_number : Place → ℕ → Bool
+ends_number places.Line b = b == line_feed
+ends_number places.Mode b = b == line_feed || b == space
+ends_number (places.Data most) b = b == line_feed
 
--- the number that the bytes go on with after `count` digits of this value, and how many digits it has
-abbrev pub number_from : Bool → ℕ → ℕ → List ℕ → Seen (ℕ × ℕ)
-number_from is_mode value count [] = Ok None
-number_from is_mode value count (b ∷ bytes) =
+-- the value is more than the bytes of data that are wanted here
+abbrev pub is_too_much : Place → ℕ → Bool
+is_too_much places.Line value = false
+is_too_much places.Mode value = false
+is_too_much (places.Data most) value = nat_lt most value
+
+-- the number that the bytes go on with after `count` digits of this value, and how many digits it has; data that are too many come
+-- before a bad number
+abbrev pub number_from : Place → ℕ → ℕ → List ℕ → Seen (ℕ × ℕ)
+number_from place value count [] = Ok None
+number_from place value count (b ∷ bytes) =
     if is_digit b
-    then (if count == 10 || nat_lt 2147483647 (value * 10 + (b - 48)) then Err BadNumber
-    else number_from is_mode (value * 10 + (b - 48)) (count + 1) bytes)
-    else (if nat_lt 0 count && ends_number is_mode b then Ok (Some (value, count)) else Err BadNumber)
+    then (if is_too_much place (value * 10 + (b - 48)) then Err TooMuchData
+    else if count == 10 || nat_lt 2147483647 (value * 10 + (b - 48)) then Err BadNumber
+    else number_from place (value * 10 + (b - 48)) (count + 1) bytes)
+    else (if nat_lt 0 count && ends_number place b then Ok (Some (value, count)) else Err BadNumber)
 
-abbrev pub number_front : Bool → List ℕ → Seen (ℕ × ℕ)
-number_front is_mode bytes = number_from is_mode 0 0 bytes
+abbrev pub number_front : Place → List ℕ → Seen (ℕ × ℕ)
+number_front place bytes = number_from place 0 0 bytes

@@ -5,29 +5,57 @@ use crate::fault::WireFault;
 use crate::limits::NUMBER_LIMIT;
 
 /// The most digits that a number has.
-pub(crate) const MOST_DIGITS: usize = 10;
+const MOST_DIGITS: usize = 10;
 
-fn ends_number(byte: u8, is_mode: bool) -> bool
-    ensures { result ≡ spec.ends_number is_mode byte }
-{
-    byte == b'\n' || (is_mode && byte == b' ')
+/// Where a number stands: that says which bytes end it, and which values are too much there.
+#[derive(Clone, Copy)]
+pub enum Place {
+    /// On a line of its own.
+    Line,
+    /// At the front of a mode line, where a space ends it too.
+    Mode,
+    /// On the line of a reply with data, of which at most so many bytes are wanted.
+    Data(u32),
 }
 
-/// The number that the bytes begin with, and how many digits it has. The byte that ends it comes next: a line
-/// feed, or in a mode line a space too. None where the bytes are digits and nothing ends them.
-pub fn number_front(bytes: &[u8], is_mode: bool) -> Result<Option<(u32, usize)>, WireFault>
-    ensures value { result ≡ spec.number_front is_mode bytes.now }
+impl Place {
+    fn ends_number(self, byte: u8) -> bool
+        ensures { result ≡ spec.ends_number self byte }
+    {
+        match self {
+            Place::Line | Place::Data(_) => byte == b'\n',
+            Place::Mode => byte == b'\n' || byte == b' ',
+        }
+    }
+
+    fn is_too_much(self, value: u64) -> bool
+        ensures { result ≡ spec.is_too_much self value }
+    {
+        match self {
+            Place::Line | Place::Mode => false,
+            Place::Data(most) => value > u64::from(most),
+        }
+    }
+}
+
+/// The number that the bytes begin with, and how many digits it has. The byte that ends it comes next. None where the
+/// bytes are digits and nothing ends them.
+pub fn number_front(bytes: &[u8], place: Place) -> Result<Option<(u32, usize)>, WireFault>
+    ensures value { result ≡ spec.number_front place bytes.now }
     ensures within { IfOk result (λ o. IfSome o (λ n. n.1 < length bytes.now)) }
 {
     let mut value = 0u32;
     for (len, byte) in bytes.iter().enumerate() {
         if !byte.is_ascii_digit() {
-            if len > 0 && ends_number(*byte, is_mode) {
+            if len > 0 && place.ends_number(*byte) {
                 return Ok(Some((value, len)));
             }
             return Err(WireFault::BadNumber);
         }
         let next = u64::from(value) * 10 + u64::from(*byte - b'0');
+        if place.is_too_much(next) {
+            return Err(WireFault::TooMuchData);
+        }
         if len == MOST_DIGITS || next > u64::from(NUMBER_LIMIT) {
             return Err(WireFault::BadNumber);
         }

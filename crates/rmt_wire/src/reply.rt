@@ -1,5 +1,4 @@
 mod append;
-mod count;
 mod front;
 mod reader;
 mod wanted;

@@ -1,13 +1,13 @@
-ghost use Rattle.std.specs.Prelude.{◌≡◌, ◌+◌, ◌<◌, ◌≤◌, ◌^◌, ◌++◌, false, length, take, drop, IfOk, IfSome};
+ghost use Rattle.std.specs.Prelude.{◌≡◌, ◌+◌, ◌<◌, ◌≤◌, ◌^◌, ◌++◌, length, take, drop, IfOk, IfSome};
 ghost use Rattle.rmt_wire.specs.Lent.{plain_wanted, lent_reply};
 ghost use Rattle.rmt_wire.specs.Seen.{number_front};
+ghost use Rattle.rmt_wire.specs.declared.number.Place.TheVariants as places;
 ghost use Rattle.rmt_wire.specs.ReplyFront as spec;
 
 use crate::fault::WireFault;
 use crate::limits::LINE_LIMIT;
-use crate::number::number_front;
+use crate::number::{Place, number_front};
 use crate::reply::Reply;
-use crate::reply::count::count_front;
 use crate::reply::wanted::Wanted;
 
 /// How many bytes stand before the first line feed; all of them, where there is none.
@@ -59,13 +59,13 @@ fn done_front(bytes: &[u8], wanted: Wanted) -> Result<Option<(Reply<'_>, usize)>
 {
     match wanted {
         Wanted::Number => {
-            let Some((number, digits)) = number_front(bytes, false)? else {
+            let Some((number, digits)) = number_front(bytes, Place::Line)? else {
                 return Ok(None);
             };
             Ok(Some((Reply::Done { number }, digits + 2)))
         }
         Wanted::Data(most) => {
-            let Some((count, digits)) = count_front(bytes, most)? else {
+            let Some((count, digits)) = number_front(bytes, Place::Data(most))? else {
                 return Ok(None);
             };
             Ok(data_at(count, digits + 2, &bytes[digits + 1..]))
@@ -79,7 +79,7 @@ fn error_front(bytes: &[u8]) -> Result<Option<(Reply<'_>, usize)>, WireFault>
     ensures value { lent_reply result ≡ spec.error_front bytes.now }
     ensures within { IfOk result (λ o. IfSome o (λ r. r.1 ≤ length bytes.now + 1)) }
 {
-    let Some((number, digits)) = number_front(bytes, false)? else {
+    let Some((number, digits)) = number_front(bytes, Place::Line)? else {
         return Ok(None);
     };
     Ok(error_at(number, digits + 2, &bytes[digits + 1..]))
@@ -102,11 +102,11 @@ pub fn reply_front(bytes: &[u8], wanted: Wanted) -> Result<Option<(Reply<'_>, us
 
 /// The bytes of an error's text that are not kept, behind the `E`: where they begin, and how many they are.
 fn surplus_behind(bytes: &[u8]) -> (usize, usize)
-    ensures value { spec.kept_behind (number_front false bytes.now) bytes.now
+    ensures value { spec.kept_behind (number_front places.Line bytes.now) bytes.now
         ≡ take result.0 bytes.now ++ drop (result.0 + result.1) bytes.now }
     ensures within { result.0 + result.1 ≤ length bytes.now }
 {
-    let Ok(Some((_, digits))) = number_front(bytes, false) else {
+    let Ok(Some((_, digits))) = number_front(bytes, Place::Line) else {
         return (0, 0);
     };
     let len = text_len(&bytes[digits + 1..]);

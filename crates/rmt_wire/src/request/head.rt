@@ -2,7 +2,7 @@ ghost use Rattle.std.specs.Prelude.{◌≡◌, ◌+◌, ◌≤◌, length, IfOk,
 ghost use Rattle.rmt_wire.specs.RequestFront as spec;
 
 use crate::fault::WireFault;
-use crate::number::number_front;
+use crate::number::{Place, number_front};
 use crate::request::line::line_front;
 
 /// The lines of a request, and how many bytes they are with its letter.
@@ -40,7 +40,7 @@ fn open_head(bytes: &[u8]) -> Result<Option<Head>, WireFault>
         return Ok(None);
     };
     let line = &bytes[device + 1..];
-    let Some((mode, _)) = number_front(line, true)? else {
+    let Some((mode, _)) = number_front(line, Place::Mode)? else {
         return Ok(None);
     };
     let Some(end) = line_front(line)? else {
@@ -66,7 +66,7 @@ fn write_head(bytes: &[u8]) -> Result<Option<Head>, WireFault>
     ensures value { result ≡ spec.write_head bytes.now }
     ensures within { IfOk result (λ o. IfSome o (spec.LiesIn (length bytes.now + 1))) }
 {
-    let Some((count, digits)) = number_front(bytes, false)? else {
+    let Some((count, digits)) = number_front(bytes, Place::Line)? else {
         return Ok(None);
     };
     let len = digits + 2;
@@ -78,7 +78,7 @@ fn read_head(bytes: &[u8]) -> Result<Option<Head>, WireFault>
     ensures value { result ≡ spec.read_head bytes.now }
     ensures within { IfOk result (λ o. IfSome o (spec.LiesIn (length bytes.now + 1))) }
 {
-    let Some((count, digits)) = number_front(bytes, false)? else {
+    let Some((count, digits)) = number_front(bytes, Place::Line)? else {
         return Ok(None);
     };
     let len = digits + 2;
@@ -90,10 +90,10 @@ fn op_head(bytes: &[u8]) -> Result<Option<Head>, WireFault>
     ensures value { result ≡ spec.op_head bytes.now }
     ensures within { IfOk result (λ o. IfSome o (spec.LiesIn (length bytes.now + 1))) }
 {
-    let Some((op, first)) = number_front(bytes, false)? else {
+    let Some((op, first)) = number_front(bytes, Place::Line)? else {
         return Ok(None);
     };
-    let Some((count, second)) = number_front(&bytes[first + 1..], false)? else {
+    let Some((count, second)) = number_front(&bytes[first + 1..], Place::Line)? else {
         return Ok(None);
     };
     let len = first + second + 3;

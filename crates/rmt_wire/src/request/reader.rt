@@ -5,7 +5,7 @@ ghost use Rattle.rmt_wire.specs.RequestReader.{Unread, IsDropped, taken_of, told
 use crate::fault::WireFault;
 use crate::kept::{append, remove};
 use crate::limits::{DATA_LIMIT, READER_LIMIT};
-use crate::number::number_front;
+use crate::number::{Place, number_front};
 use crate::request::Request;
 use crate::request::front::request_front;
 use bytes::BytesMut;
@@ -21,7 +21,7 @@ fn dropped_line(bytes: &[u8]) -> Option<(usize, u32)>
     let [b'W', rest @ ..] = bytes else {
         return None;
     };
-    match number_front(rest, false) {
+    match number_front(rest, Place::Line) {
         Ok(Some((count, digits))) if count as usize > DATA_LIMIT => Some((digits + 2, count)),
         _ => None,
     }
