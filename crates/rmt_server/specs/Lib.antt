@@ -11,3 +11,4 @@ pub mod Stream
 pub mod Troubling
 pub mod Memory
 pub mod TroubledServe
+pub mod Hall

@@ -1,0 +1,163 @@
+-- Parts of the world, and how an event changes one.
+use Rattle.std.specs.Prelude.{ℕ, zero, suc, ◌+◌, ◌==◌, Bool, true, false, if◌then◌else◌, List, [], ◌∷◌, ◌++◌, length, map, take, drop, option_and_then, option_map, option_to_list, slice_index_or, Option, Some, None}
+use Rattle.rmt_wire.specs.Counted.{raised}
+use Rattle.rmt_wire.specs.Request.{PlainRequest}
+use Rattle.rmt_wire.specs.Request.PlainRequest.{Open, Write, Op}
+use Rattle.rmt_wire.specs.Reply.{PlainReply, reply_text}
+use Rattle.rmt_wire.specs.Reply.PlainReply.{Done, Data, Error}
+use Rattle.rmt_wire.specs.RequestReader.{held}
+use Rattle.drives.specs.Shop.{Shop, Slot, rack_at}
+use Rattle.rmt_server.specs.Access.{writes}
+use Rattle.rmt_server.specs.Session.{PlainSession, closed_shop}
+use Rattle.rmt_server.specs.Session.PlainSession.{Idle, Offline, Online}
+use Rattle.rmt_server.specs.TroubledServe.{drive_in, with_holder}
+use Rattle.rmt_server.specs.Hall.{Hall, hall, Side, side}
+use Rattle.dump_client.specs.Standing.{Standing, checkpoint_of}
+use Rattle.dump_client.specs.declared.count.VolumeCount.{VolumeCount}
+use Rattle.dump_client.specs.declared.stage.Progress.{Progress}
+use Rattle.dump_client.specs.declared.stage.Progress.TheVariants.{Failed, Ended}
+use Rattle.dump_client.specs.declared.fault.AttemptFault.{AttemptFault}
+use Rattle.tape_events.specs.World.{World, Link, Dumping, Caller, Count, Opening, numbered, with_numbered}
+
+-- the list with the member of this number changed, if there is one
+abbrev pub changed_from : {X : Type 0} → (X → X) → List X → ℕ → Option X → List X
+changed_from f xs n None = xs
+changed_from f xs n (Some x) = with_numbered xs n (f x)
+
+abbrev pub changed : {X : Type 0} → (X → X) → List X → ℕ → List X
+changed f xs n = changed_from f xs n (numbered xs n)
+
+-- the server's side of a connection, while it is live
+abbrev pub side_of : Hall → ℕ → Option Side
+side_of h k = option_and_then (λ s. s) (numbered h.sides k)
+
+abbrev pub link_of : World → ℕ → Option Link
+link_of w k = numbered w.links k
+
+-- the last event made nothing fail
+abbrev pub calm : World → World
+calm w = record w { failure = None }
+
+-- a new connection: its server's side reads from the start, and has nothing open
+abbrev pub new_link : Option Dumping → Link
+new_link dump = record { toward = []; back = []; cut = false; other = true; dump = dump }
+
+abbrev pub with_side : Hall → Hall
+with_side h = hall h.shop h.holders (h.sides ++ Some (side (held [] 0) Idle) ∷ [])
+
+abbrev pub joined : World → Option Dumping → World
+joined w dump = record w { hall = with_side w.hall; links = w.links ++ new_link dump ∷ [] }
+
+-- bytes are sent: after a cut they are lost
+abbrev pub sent_on : Bool → List ℕ → List ℕ → List ℕ
+sent_on true way bytes = way
+sent_on false way bytes = way ++ bytes
+
+-- Which end a connection has: it is cut, and what is on the way to the side that is over is lost.
+abbrev pub over_there : Link → Link
+over_there l = record l { back = []; cut = true; other = false }
+
+abbrev pub over_here : Link → Link
+over_here l = record l { toward = []; cut = true }
+
+-- the side that is not the server's is over
+abbrev pub left : World → ℕ → World
+left w k = record w { links = changed over_there w.links k }
+
+-- so is the client's, and with it its attempt
+abbrev pub given_up : World → ℕ → World
+given_up w k = record (left w k) { own = None }
+
+-- the server's side is over: what was open is closed, and its drive has no holder
+abbrev pub ended_from : Hall → ℕ → Option Side → Hall
+ended_from h k None = h
+ended_from h k (Some s) =
+    hall (closed_shop h.shop s.session) (with_holder (drive_in s.session) 0 h.holders) (with_numbered h.sides k None)
+
+abbrev pub ended : Hall → ℕ → Hall
+ended h k = ended_from h k (side_of h k)
+
+-- the sides of the first so many connections are over
+abbrev pub all_ended : Hall → ℕ → Hall
+all_ended h zero = h
+all_ended h (suc k) = ended (all_ended h k) (suc k)
+
+abbrev pub ended_at : World → ℕ → World
+ended_at w k = record w { hall = ended w.hall k; links = changed over_here w.links k }
+
+abbrev pub restarted : World → World
+restarted w = record w { hall = all_ended w.hall (length w.hall.sides); links = map over_here w.links }
+
+-- the name of the first reel of a stack
+abbrev pub first_name : {X : Type 0} → List (Slot X) → List ℕ
+first_name [] = []
+first_name (first ∷ rest) = first.name
+
+-- the reel that is open for writing
+abbrev pub written_reel : Shop → PlainSession → Option (List ℕ)
+written_reel s (Online drive access reel) = if writes access then Some (first_name (rack_at s drive).stack) else None
+written_reel s session = None
+
+-- the reel that this request opened for writing, if it did
+abbrev pub opened_reel : PlainRequest → Shop → PlainSession → Option (List ℕ)
+opened_reel (Open device mode) s session = written_reel s session
+opened_reel request s session = None
+
+abbrev pub opening : ℕ → List ℕ → Opening
+opening k reel = record { connection = k; reel = reel }
+
+-- A write of an attempt was answered: the first that is accepted is the label's, and others are blocks'; the answer of a device
+-- fault is noted.
+abbrev pub accepted : Dumping → Dumping
+accepted d = if d.label then record d { blocks = d.blocks + 1 } else record d { label = true }
+
+abbrev pub noted_error : Dumping → ℕ → Dumping
+noted_error d n = if n == 5 then record d { fault = true } else d
+
+abbrev pub noted_write : Dumping → PlainReply → Dumping
+noted_write d (Done zero) = d
+noted_write d (Done (suc n)) = accepted d
+noted_write d (Data bytes) = d
+noted_write d (Error n text) = noted_error d n
+
+abbrev pub noted_marks : Dumping → PlainReply → Dumping
+noted_marks d (Done n) = record d { mark = true }
+noted_marks d (Data bytes) = d
+noted_marks d (Error n text) = noted_error d n
+
+-- mtio's operation 0 writes marks
+abbrev pub noted_by : Dumping → PlainRequest → PlainReply → Dumping
+noted_by d (Write bytes) reply = noted_write d reply
+noted_by d (Op op count) reply = if op == 0 then noted_marks d reply else d
+noted_by d request reply = d
+
+-- a request of it was carried out
+abbrev pub noted : PlainRequest → PlainReply → Dumping → Dumping
+noted request reply d = let d' = noted_by d request reply in record d' { carried = raised d'.carried }
+
+abbrev pub answered : PlainRequest → PlainReply → Link → Link
+answered request reply l =
+    record l { back = sent_on l.cut l.back (reply_text reply); dump = option_map (noted request reply) l.dump }
+
+-- a request of it was sent
+abbrev pub noted_sent : Dumping → Dumping
+noted_sent d = record d { sent = raised d.sent }
+
+-- the reel of a connection's first opening
+abbrev pub reel_of : ℕ → List Opening → List ℕ
+reel_of k [] = []
+reel_of k (o ∷ opens) = if o.connection == k then o.reel else reel_of k opens
+
+-- the counts that the client has beyond so many, as those of its run, on its connection
+abbrev pub counts_of : World → ℕ → ℕ → VolumeCount → Count
+counts_of w number k c =
+    record { run = number; volume = c.volume; first = c.first; count = c.count; reel = reel_of k w.opens; connection = k }
+
+abbrev pub counted_from : World → ℕ → ℕ → List VolumeCount → World
+counted_from w number k counts = record w { counts = w.counts ++ map (counts_of w number k) counts }
+
+-- what came of the client's call, on its connection
+abbrev pub came_to : World → ℕ → Standing → Progress → World
+came_to w k at (Failed fault) = record (given_up w k) { failure = Some ((checkpoint_of at.counts).0, fault) }
+came_to w k at Ended = given_up w k
+came_to w k at progress = w

@@ -1,0 +1,5 @@
+pub mod World
+pub mod Events
+pub mod Changes
+pub mod Rows
+pub mod Steps

@@ -1,0 +1,99 @@
+-- Which events are possible, and what each does.
+use Rattle.std.specs.Prelude.{◌≡◌, ◌⊎◌, ◌≢◌, ℕ, ◌+◌, ◌*◌, ◌<◌, ◌≤◌, Bool, true, false, IsTrue, List, [], ◌∷◌, ◌++◌, length, take, drop, option_map, option_to_list, slice_index_or, slice_get, Contains, Option, Some, None, Result, Ok, Err}
+use Rattle.rmt_wire.specs.Request.{PlainRequest, request_text}
+use Rattle.rmt_wire.specs.Reply.{PlainReply}
+use Rattle.rmt_wire.specs.RequestParts.{Gives}
+use Rattle.rmt_wire.specs.RequestReader.{RequestHeld, Unread, taken_of}
+use Rattle.rmt_wire.specs.ReplyReader.{ReplyHeld, reply_held}
+use Rattle.rmt_wire.specs.Limits.{reader_limit}
+use Rattle.rmt_wire.specs.declared.fault.WireFault.{WireFault}
+use Rattle.tape.specs.declared.trouble.Trouble.{Trouble}
+use Rattle.drives.specs.Shop.{IsDriveNamed}
+use Rattle.drives.specs.Arranging.{are_distinct, is_piled, arranged}
+use Rattle.std.specs.List.{list_all}
+use Rattle.rmt_server.specs.Session.{PlainSession, scene}
+use Rattle.rmt_server.specs.TroubledServe.{TroubledServe}
+use Rattle.rmt_server.specs.Hall.{Hall, hall, Side, side}
+use Rattle.dumpdates.specs.Entry.{DatesEntry}
+use Rattle.dumpdates.specs.Dates.{entered}
+use Rattle.dump_run.specs.Run.{PlainRun, IsRun}
+use Rattle.dump_run.specs.Blocks.{cut_blocks}
+use Rattle.dump_client.specs.Script.{request_of}
+use Rattle.dump_client.specs.Standing.{Standing, standing, checkpoint_of, FedAt, CutAt, stage_after}
+use Rattle.dump_client.specs.Client.{HasFedAt, unanswered}
+use Rattle.dump_client.specs.declared.step.Step.{Step}
+use Rattle.dump_client.specs.declared.step.Step.TheVariants.{Open, Block}
+use Rattle.dump_client.specs.declared.stage.Stage.{Stage}
+use Rattle.dump_client.specs.declared.stage.Stage.TheVariants.{Ready, ToSend, Waiting, Asking, Finished, Abandoned}
+use Rattle.dump_client.specs.declared.stage.Progress.{Progress}
+use Rattle.dump_client.specs.declared.stage.Progress.TheVariants.{Failed}
+use Rattle.dump_client.specs.declared.stage.Answer.{Answer}
+use Rattle.dump_client.specs.declared.fault.AttemptFault.TheVariants.{SourceFault}
+use Rattle.tape_events.specs.World.{World, Link, Dumping, Begun, Caller, Entered, numbered}
+use Rattle.tape_events.specs.Events.{PlainEvent}
+use Rattle.tape_events.specs.Events.PlainEvent.{StartRun, Connect, Send, ToServer, Serve, ToClient, Cut, EndAtServer, EndAtClient, ServerRestart, ClientRestart, Respond, Arrange, Stranger, Says, Enter}
+use Rattle.tape_events.specs.Changes.{changed, side_of, link_of, calm, joined, sent_on, left, ended, ended_at, restarted, given_up, opened_reel, opening, answered, noted_sent, counted_from, came_to}
+
+-- the client stands so
+abbrev pub StandsIn : World → (Stage → Type 0) → Type 0
+StandsIn w p = (c : Caller) × (w.caller ≡ Some c) × p c.at.stage
+
+abbrev pub is_done : Stage → Bool
+is_done Finished = true
+is_done Abandoned = true
+is_done stage = false
+
+-- there is no run, or it is finished or abandoned
+abbrev pub NoRun : World → Type 0
+NoRun w = (w.caller ≡ None) ⊎ StandsIn w (λ stage. IsTrue (is_done stage))
+
+-- the run's number is among those entered
+abbrev pub IsEntered : World → ℕ → Type 0
+IsEntered w number = (e : Entered) × Contains w.entered e × (e.run ≡ number)
+
+-- the server's side is live, and there it has reached this
+abbrev pub IsLiveHere : World → ℕ → Side → Type 0
+IsLiveHere w k s = side_of w.hall k ≡ Some s
+
+-- the other side is live
+abbrev pub IsLiveThere : World → ℕ → Link → Type 0
+IsLiveThere w k l = (link_of w k ≡ Some l) × IsTrue l.other
+
+-- that many bytes are on the way
+abbrev pub IsPart : ℕ → List ℕ → Type 0
+IsPart n way = (1 ≤ n) × (n ≤ length way)
+
+-- the reader has room for so many bytes
+abbrev pub HasRoomFor : RequestHeld → ℕ → Type 0
+HasRoomFor h n = (bytes : List ℕ) → Unread h bytes → n + taken_of bytes ≤ reader_limit
+
+-- what is unread begins with a request, or with a fault
+abbrev pub IsFound : RequestHeld → Result (Option PlainRequest) WireFault → Type 0
+IsFound h found = (bytes : List ℕ) × (rest : List ℕ) × Unread h bytes × Gives bytes found rest × (found ≢ Ok None)
+
+-- the drive is there and free, and these reels may lie on its stack
+abbrev pub MayArrange : Hall → List ℕ → List (List ℕ) → Type 0
+MayArrange h drive reels =
+    (d : ℕ) × IsDriveNamed drive h.shop (Some d) × (slice_index_or h.holders d 0 ≡ 0)
+    × IsTrue (are_distinct reels) × IsTrue (list_all (is_piled h.shop d) reels)
+
+abbrev pub Possible : World → PlainEvent → Type 0
+Possible w (StartRun run payload) = NoRun w × IsRun run × (length payload ≡ run.blocks * run.block_bytes)
+Possible w Connect = StandsIn w (λ stage. stage ≡ Ready)
+Possible w (Send fails) = StandsIn w (λ stage. (step : Step) × (stage ≡ ToSend step))
+Possible w (ToServer k n) =
+    (s : Side) × (l : Link) × IsLiveHere w k s × (link_of w k ≡ Some l) × IsPart n l.toward × HasRoomFor s.reached n
+Possible w (Serve k trouble) =
+    (s : Side) × (found : Result (Option PlainRequest) WireFault) × IsLiveHere w k s × IsFound s.reached found
+Possible w (ToClient k n) = (l : Link) × IsLiveThere w k l × IsPart n l.back
+Possible w (Cut k) = (l : Link) × (link_of w k ≡ Some l) × (l.cut ≡ false)
+Possible w (EndAtServer k) = (s : Side) × (l : Link) × IsLiveHere w k s × (link_of w k ≡ Some l) × IsTrue l.cut
+Possible w (EndAtClient k) = (l : Link) × IsLiveThere w k l × IsTrue l.cut
+Possible w ServerRestart = Unit {0}
+Possible w ClientRestart = (c : Caller) × (w.caller ≡ Some c)
+Possible w (Respond answer) = StandsIn w (λ stage. stage ≡ Asking)
+Possible w (Arrange drive reels) = MayArrange w.hall drive reels
+Possible w Stranger = Unit {0}
+Possible w (Says k bytes) = (l : Link) × IsLiveThere w k l × (l.dump ≡ None)
+Possible w Enter =
+    (c : Caller) × (w.caller ≡ Some c) × (c.at.stage ≡ Finished) × (IsEntered w c.number → ⊥)

@@ -1,0 +1,177 @@
+-- What each event does.
+use Rattle.std.specs.Prelude.{◌≡◌, ◌≢◌, ℕ, ◌+◌, Bool, true, false, List, [], ◌∷◌, ◌++◌, length, take, drop, option_map, option_to_list, Option, Some, None, Result, Ok, Err}
+use Rattle.rmt_wire.specs.Request.{PlainRequest, request_text}
+use Rattle.rmt_wire.specs.Reply.{PlainReply}
+use Rattle.rmt_wire.specs.RequestParts.{Gives}
+use Rattle.rmt_wire.specs.RequestReader.{RequestHeld, Unread}
+use Rattle.rmt_wire.specs.ReplyReader.{ReplyHeld, reply_held}
+use Rattle.rmt_wire.specs.declared.fault.WireFault.{WireFault}
+use Rattle.tape.specs.declared.trouble.Trouble.{Trouble}
+use Rattle.drives.specs.Shop.{Shop, IsDriveNamed}
+use Rattle.drives.specs.Arranging.{arranged}
+use Rattle.rmt_server.specs.Session.{PlainSession, scene}
+use Rattle.rmt_server.specs.TroubledServe.{TroubledServe}
+use Rattle.rmt_server.specs.Hall.{hall, Side, side}
+use Rattle.dumpdates.specs.Entry.{DatesEntry}
+use Rattle.dumpdates.specs.Dates.{entered}
+use Rattle.dump_run.specs.Run.{PlainRun}
+use Rattle.dump_run.specs.Blocks.{cut_blocks}
+use Rattle.dump_client.specs.Script.{request_of}
+use Rattle.dump_client.specs.Standing.{Standing, standing, checkpoint_of, FedAt, CutAt, stage_after}
+use Rattle.dump_client.specs.Client.{HasFedAt, unanswered}
+use Rattle.dump_client.specs.declared.step.Step.{Step}
+use Rattle.dump_client.specs.declared.step.Step.TheVariants.{Open, Block}
+use Rattle.dump_client.specs.declared.stage.Stage.TheVariants.{Ready, ToSend, Waiting, Asking}
+use Rattle.dump_client.specs.declared.stage.Progress.{Progress}
+use Rattle.dump_client.specs.declared.fault.AttemptFault.TheVariants.{SourceFault}
+use Rattle.tape_events.specs.World.{World, Link, Dumping, Begun, Caller, Entered, numbered, with_numbered}
+use Rattle.tape_events.specs.Events.{PlainEvent}
+use Rattle.tape_events.specs.Events.PlainEvent.{StartRun, Connect, Send, ToServer, Serve, ToClient, Cut, EndAtServer, EndAtClient, ServerRestart, ClientRestart, Respond, Arrange, Stranger, Says, Enter}
+use Rattle.tape_events.specs.Rows.{Possible}
+use Rattle.tape_events.specs.Changes.{changed, side_of, link_of, calm, joined, sent_on, left, given_up, ended_at, restarted, opened_reel, opening, answered, noted_sent, counted_from, came_to}
+
+abbrev pub caller : ℕ → Standing → ReplyHeld → Caller
+caller number at reader = record { number = number; at = at; reader = reader }
+
+-- a new run, the next number, and a client that is ready
+abbrev pub begun : World → PlainRun → List ℕ → World
+begun w run payload = record w {
+    begun = w.begun ++ record { run = run; payload = cut_blocks run.blocks run.block_bytes payload } ∷ [];
+    caller = Some (caller (length w.begun + 1) (standing run [] Ready) (reply_held None []));
+    failure = None }
+
+-- an attempt that has done nothing
+abbrev pub fresh : Caller → Dumping
+fresh c = record { run = c.number; volume = (checkpoint_of c.at.counts).0; first = (checkpoint_of c.at.counts).1; sent = 0; carried = 0
+    ; label = false; blocks = 0; mark = false; fault = false }
+
+-- the client starts an attempt, on a connection of its own
+abbrev pub connected : World → Caller → World
+connected w c = record (joined w (Some (fresh c))) {
+    caller = Some (caller c.number (standing c.at.run c.at.counts (ToSend Open)) (reply_held None []));
+    own = Some (length w.links + 1); failure = None }
+
+-- a read of the payload fails in this request
+abbrev pub is_failing : Bool → Step → Bool
+is_failing true (Block n) = true
+is_failing fails step = false
+
+-- the attempt fails
+abbrev pub failed_read : World → ℕ → Caller → ReplyHeld → World
+failed_read w k c reader = record (given_up w k) {
+    caller = Some (caller c.number (standing c.at.run c.at.counts Asking) reader);
+    failure = Some ((checkpoint_of c.at.counts).0, SourceFault) }
+
+abbrev pub sent_link : List ℕ → Link → Link
+sent_link text l = record l { toward = sent_on l.cut l.toward text; dump = option_map noted_sent l.dump }
+
+abbrev pub next_text : Caller → List (List ℕ) → Step → List ℕ
+next_text c payload step =
+    request_text (request_of c.at.run payload (checkpoint_of c.at.counts).0 (checkpoint_of c.at.counts).1 step)
+
+abbrev pub asked : World → ℕ → Caller → List (List ℕ) → Step → ReplyHeld → World
+asked w k c payload step reader = record w {
+    links = changed (sent_link (next_text c payload step)) w.links k;
+    caller = Some (caller c.number (standing c.at.run c.at.counts (Waiting step)) reader); failure = None }
+
+-- The client sends the next request, on its own connection; or a read of the payload fails. `k` is that connection.
+abbrev pub Sends : Bool → World → ℕ → Caller → List (List ℕ) → Step → World → Type 0
+Sends true w k c payload step u = (reader : ReplyHeld) × (u ≡ failed_read w k c reader)
+Sends false w k c payload step u =
+    (reader : ReplyHeld) × HasFedAt (Waiting step) reader [] × (u ≡ asked w k c payload step reader)
+
+-- so many bytes are pushed
+abbrev pub reached_by : World → ℕ → ℕ → Side → RequestHeld → World
+reached_by w k n s reached = record (calm w) {
+    hall = hall w.hall.shop w.hall.holders (with_numbered w.hall.sides k (Some (side reached s.session)));
+    links = changed (λ l. record l { toward = drop n l.toward }) w.links k }
+
+-- one request is carried out, and its reply is on the way back
+abbrev pub carried : World → ℕ → PlainRequest → PlainReply → RequestHeld → Shop → PlainSession → List ℕ → World
+carried w k request reply reached shop session holders = record (calm w) {
+    hall = hall shop holders (with_numbered w.hall.sides k (Some (side reached session)));
+    links = changed (answered request reply) w.links k;
+    opens = w.opens ++ option_to_list (option_map (opening k) (opened_reel request shop session)) }
+
+-- the server's side finds a request, or a fault, which ends it
+abbrev pub Finds : World → ℕ → Trouble → Side → Result (Option PlainRequest) WireFault → List ℕ → World → Type 0
+Finds w k trouble s (Ok None) rest u = ⊥
+Finds w k trouble s (Ok (Some request)) rest u =
+    (reply : PlainReply) × (reached : RequestHeld) × (shop : Shop) × (session : PlainSession) × (holders : List ℕ) × Unread reached rest
+    × TroubledServe trouble w.hall.holders k (scene w.hall.shop s.session) request reply (scene shop session) holders
+    × (u ≡ carried w k request reply reached shop session holders)
+Finds w k trouble s (Err fault) rest u = u ≡ ended_at (calm w) k
+
+-- so many bytes are fed to the client, and what comes of that is told of its connection
+abbrev pub heard : World → ℕ → ℕ → Caller → Standing → ReplyHeld → Progress → World
+heard w k n c at reader progress =
+    came_to (counted_from (record (calm w) {
+        links = changed (λ l. record l { back = drop n l.back }) w.links k; caller = Some (caller c.number at reader) })
+        c.number k (drop (length c.at.counts) at.counts)) k at progress
+
+-- a stranger drops what reaches it
+abbrev pub Hears : Option Dumping → World → ℕ → ℕ → List ℕ → World → Type 0
+Hears None w k n piece u = u ≡ record (calm w) { links = changed (λ l. record l { back = drop n l.back }) w.links k }
+Hears (Some dump) w k n piece u =
+    (c : Caller) × (fed : List ℕ) × (at : Standing) × (reader : ReplyHeld) × (progress : Progress) × (w.caller ≡ Some c)
+    × HasFedAt c.at.stage c.reader fed × FedAt c.at.stage c.at fed piece progress at
+    × HasFedAt at.stage reader (unanswered at.stage (fed ++ piece)) × (u ≡ heard w k n c at reader progress)
+
+-- the side that is not the server's sees the end
+abbrev pub SeesEnd : Option Dumping → World → ℕ → World → Type 0
+SeesEnd None w k u = u ≡ left (calm w) k
+SeesEnd (Some dump) w k u =
+    (c : Caller) × (at : Standing) × (reader : ReplyHeld) × (progress : Progress) × (w.caller ≡ Some c)
+    × CutAt c.at.stage c.at progress at × HasFedAt at.stage reader []
+    × (u ≡ came_to (record (left (calm w) k) { caller = Some (caller c.number at reader) }) k at progress)
+
+-- the client forgets its run, and its connection is over
+abbrev pub forgotten_from : World → Option ℕ → World
+forgotten_from w None = w
+forgotten_from w (Some k) = given_up w k
+
+abbrev pub forgotten : World → World
+forgotten w = record (forgotten_from (calm w) w.own) { caller = None }
+
+abbrev pub entry_of : PlainRun → DatesEntry
+entry_of run = record { name = run.name; level = run.level; date = run.date }
+
+abbrev pub recorded : World → Caller → World
+recorded w c = record (calm w) {
+    entered = w.entered ++ record { run = c.number } ∷ []; dates = entered w.dates (entry_of c.at.run) }
+
+-- One event, and the world after it.
+abbrev pub WorldStep : World → PlainEvent → World → Type 0
+WorldStep w (StartRun run payload) u = u ≡ begun w run payload
+WorldStep w Connect u = (c : Caller) × (w.caller ≡ Some c) × (c.at.stage ≡ Ready) × (u ≡ connected w c)
+WorldStep w (Send fails) u =
+    (c : Caller) × (step : Step) × (k : ℕ) × (b : Begun) × (w.caller ≡ Some c) × (c.at.stage ≡ ToSend step) × (w.own ≡ Some k)
+    × (numbered w.begun c.number ≡ Some b) × Sends (is_failing fails step) w k c b.payload step u
+WorldStep w (ToServer k n) u =
+    (s : Side) × (l : Link) × (reached : RequestHeld) × (side_of w.hall k ≡ Some s) × (link_of w k ≡ Some l)
+    × ((bytes : List ℕ) → Unread s.reached bytes → Unread reached (bytes ++ take n l.toward)) × (u ≡ reached_by w k n s reached)
+WorldStep w (Serve k trouble) u =
+    (s : Side) × (found : Result (Option PlainRequest) WireFault) × (bytes : List ℕ) × (rest : List ℕ) × (side_of w.hall k ≡ Some s)
+    × Unread s.reached bytes × Gives bytes found rest × Finds w k trouble s found rest u
+WorldStep w (ToClient k n) u = (l : Link) × (link_of w k ≡ Some l) × Hears l.dump w k n (take n l.back) u
+WorldStep w (Cut k) u = u ≡ record (calm w) { links = changed (λ l. record l { cut = true }) w.links k }
+WorldStep w (EndAtServer k) u = u ≡ ended_at (calm w) k
+WorldStep w (EndAtClient k) u = (l : Link) × (link_of w k ≡ Some l) × SeesEnd l.dump w k u
+WorldStep w ServerRestart u = u ≡ restarted (calm w)
+WorldStep w ClientRestart u = u ≡ forgotten w
+WorldStep w (Respond answer) u =
+    (c : Caller) × (reader : ReplyHeld) × (w.caller ≡ Some c) × (c.at.stage ≡ Asking)
+    × (u ≡ record (calm w) { caller = Some (caller c.number (standing c.at.run c.at.counts (stage_after answer)) reader) })
+WorldStep w (Arrange drive reels) u =
+    (d : ℕ) × IsDriveNamed drive w.hall.shop (Some d)
+    × (u ≡ record (calm w) { hall = hall (arranged w.hall.shop d reels) w.hall.holders w.hall.sides })
+WorldStep w Stranger u = u ≡ joined (calm w) None
+WorldStep w (Says k bytes) u =
+    u ≡ record (calm w) { links = changed (λ l. record l { toward = sent_on l.cut l.toward bytes }) w.links k }
+WorldStep w Enter u = (c : Caller) × (w.caller ≡ Some c) × (u ≡ recorded w c)
+
+-- Events one after the other, each possible where it comes.
+pub data Runs (first : World) : List PlainEvent → World → Type 0 where
+  none : Runs first [] first
+  one_more : {events : List PlainEvent} {before after : World} (event : PlainEvent)
+      → Runs first events before → Possible before event → WorldStep before event after → Runs first (events ++ event ∷ []) after
