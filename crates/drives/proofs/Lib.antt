@@ -5,4 +5,5 @@ pub mod Shops
 pub mod Elsewhere
 pub mod Arranging
 mod Calls
+mod Lying
 mod Refused

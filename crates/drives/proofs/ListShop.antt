@@ -114,7 +114,7 @@ first_waits : (stack : List (Slot TroubledTape)) (r : TroubledTape) → first_re
 first_waits [] r e = absurd cc
 first_waits (first ∷ rest) r e = (first, rest, refl, e)
 
-latched_first : (s : ListShop) (d : ℕ) (r : TroubledTape) → waiting_reel s.shop d ≡ Some r
+pub latched_first : (s : ListShop) (d : ℕ) (r : TroubledTape) → waiting_reel s.shop d ≡ Some r
     → (first : Slot TroubledTape) × (rest : List (Slot TroubledTape)) × ((rack_at s.shop d).stack ≡ first ∷ rest) × (first.reel ≡ Some r)
 latched_first s d r e = first_waits (rack_at s.shop d).stack r e
 
