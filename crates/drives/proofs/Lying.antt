@@ -1,5 +1,5 @@
 -- How many of the reels that lie on the stacks and in the bin have a trouble set, after a call of stacks in memory.
-use Rattle.std.proofs.Common.{◌≡◌, ℕ, ◌+◌, ◌<◌, List, [], ◌∷◌, length, map, Option, Some, None, Result, Ok, Err, MatchResult, IsSome, refl, sym, ap, ◌∙◌, subst, arith}
+use Rattle.std.proofs.Common.{◌≡◌, ℕ, ◌+◌, ◌<◌, List, [], ◌∷◌, length, map, Option, Some, None, Result, Ok, Err, MatchResult, IsSome, refl, ap, ◌∙◌, subst, arith}
 use Rattle.std.proofs.Math.ListN.{length-set}
 use Rattle.std.specs.Option.{option_map}
 use Rattle.tape.specs.Trouble.{TroubledTape}
@@ -7,8 +7,8 @@ use Rattle.drives.specs.declared.fault.DriveFault.{DriveFault}
 use Rattle.drives.specs.declared.fault.DriveFault.TheVariants.{NoSuchDrive, Busy, NoReel, Device, OutOfMemory, NameTaken}
 use Rattle.drives.specs.Calls.{StacksCall, given_by}
 use Rattle.drives.specs.Calls.StacksCall.{Latch, LayBack, Move}
-use Rattle.drives.specs.Shop.{KeptReel, Slot, Rack, rack, Shop, rack_at, slots_in, latched_on, away_name, at_first, to_bin}
-use Rattle.drives.specs.ListShop.{ListShop, at_rest, rest_slot, shop_of, IsShop, is_set_in, troubled_in, troubles_of, IsReelLatched, IsReelLaidBack, IsReelMoved, IsListStacksCall}
+use Rattle.drives.specs.Shop.{KeptReel, Slot, Rack, rack, Shop, rack_at, latched_on, away_name, at_first, to_bin}
+use Rattle.drives.specs.ListShop.{ListShop, at_rest, rest_slot, IsShop, is_set_in, troubled_in, troubles_of, IsReelLatched, IsReelLaidBack, IsReelMoved, IsListStacksCall}
 use Rattle.drives.specs.Stacking.{HasLatched}
 use Rattle.drives.proofs.Shops.{bit, sum_by-at_first, sum_by-to_bin}
 use Rattle.drives.proofs.ListShop.{rack_at-rest, latched_first}
