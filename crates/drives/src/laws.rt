@@ -1,8 +1,9 @@
-ghost use Rattle.std.specs.Prelude.{◌≡◌, ℕ, ◌+◌, ◌<◌, length, Some, Result, MatchResult};
+ghost use Rattle.std.specs.Prelude.{◌≡◌, ℕ, ◌+◌, ◌<◌, List, length, Some, Result, MatchResult};
 ghost use Rattle.tape.specs.Trouble.{TroubledTape};
 ghost use Rattle.drives.specs.declared.fault.DriveFault.{DriveFault};
 ghost use Rattle.drives.specs.Shop.{Shop};
-ghost use Rattle.drives.specs.ListShop.{ListShop, IsShop, troubled_in, troubles_of, IsListStacksCall};
+ghost use Rattle.drives.specs.ListShop.{ListShop, shop_of, IsShop, troubled_in, troubles_of, IsListStacksCall};
+ghost use Rattle.drives.specs.Arranging.{may_arrange};
 ghost use Rattle.drives.specs.Calls.{StacksCall, given_by};
 ghost use Rattle.drives.specs.Calls.StacksCall.{Latch, LayBack, Move};
 ghost use Rattle.drives.specs.Stacking.{HasLatched};
@@ -25,4 +26,11 @@ pub fn lying_troubles()
         (λ _. troubled_in new.shop ≡ troubled_in old.shop) }
     ensures same_drives { (old new : ListShop) (call : StacksCall TroubledTape) →
         IsListStacksCall old new call → length new.shop.racks ≡ length old.shop.racks }
+{}
+
+/// What may be asked of stacks in memory as an operator's order is told by the shop that they tell.
+///
+/// It does nothing: its contract is a law of the definitions.
+pub fn told_orders()
+    ensures { (s : ListShop) (d : ℕ) (names : List (List ℕ)) → may_arrange s.shop d names ≡ may_arrange (shop_of s) d names }
 {}
