@@ -13,6 +13,10 @@ use Rattle.drives.specs.Arranging.{slot_named, reel_named, without, picked, left
 use Rattle.drives.proofs.ListShop.{rack_at-rest, slots_in-rest}
 use Rattle.drives.proofs.Arranging.{latched-rest}
 
+-- a stack is told
+pub stack-told : (s : ListShop) (d : ℕ) (stack : List (Slot TroubledTape)) → stack ≡ (rack_at s.shop d).stack → map rest_slot stack ≡ (rack_at (shop_of s) d).stack
+stack-told s d stack e = ap (map rest_slot) e ∙ ap (λ (r : Rack KeptReel). r.stack) (sym (rack_at-rest s d))
+
 found-rest : (b : Bool) (x : Slot TroubledTape) (o : Option (Slot TroubledTape)) → cond b (Some (rest_slot x)) (option_map rest_slot o) ≡ option_map rest_slot (cond b (Some x) o)
 found-rest true x o = refl
 found-rest false x o = refl

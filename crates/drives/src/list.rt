@@ -2,7 +2,7 @@ ghost use Rattle.std.specs.Prelude.{◌≡◌, ◌≢◌, ℕ, ◌<◌, List, If
 ghost use Rattle.std.specs.Option.{option_copied, option_map};
 ghost use Rattle.tape.specs.Trouble.{IsTapeOf};
 ghost use Rattle.drives.specs.declared.fault.DriveFault.TheVariants.{Device};
-ghost use Rattle.drives.specs.ListShop.{IsShop, StacksCanFail, empty_shop, shop_of, at_rest, after_failure, IsDriveAdded, IsReelAdded, IsReelLatched, IsReelLaidBack, IsReelMoved, IsListStacksCall};
+ghost use Rattle.drives.specs.ListShop.{IsShop, StacksCanFail, empty_shop, shop_of, at_rest, rest_slot, after_failure, IsDriveAdded, IsReelAdded, IsReelLatched, IsReelLaidBack, IsReelMoved, IsListStacksCall};
 ghost use Rattle.drives.specs.Shop.{Shop, IsDriveNamed, rack_at, slots_in, times, names_of, names_in, EachReelOnce};
 ghost use Rattle.drives.specs.Arranging.{slot_named, reel_named, arranged, may_arrange, IsArranged};
 ghost use Rattle.drives.specs.Calls.{moved_result};
@@ -91,7 +91,8 @@ impl ListStacks {
     /// The reels of the drive's stack in order, first the one that is latched or would be latched next.
     pub fn stack(&self, drive: usize) -> &[ListedReel]
         requires { drive < length self.now.shop.racks }
-        ensures { result.now ≡ (rack_at self.now.shop drive).stack }
+        ensures lying { result.now ≡ (rack_at self.now.shop drive).stack }
+        ensures told { map rest_slot result.now ≡ (rack_at (shop_of self.now) drive).stack }
     {
         let rack = &self.racks[drive];
         rack.stack()
@@ -99,7 +100,8 @@ impl ListStacks {
 
     /// The reels of the bin, in the order in which they were moved there.
     pub fn bin(&self) -> &[ListedReel]
-        ensures { result.now ≡ self.now.shop.bin }
+        ensures lying { result.now ≡ self.now.shop.bin }
+        ensures told { map rest_slot result.now ≡ (shop_of self.now).bin }
     {
         &self.bin
     }
