@@ -1,5 +1,5 @@
 -- An operator's order of a stack, and reels by their names, as the shop that is told has them.
-use Rattle.std.proofs.Common.{◌≡◌, ℕ, Bool, true, false, not, ◌&&◌, ◌||◌, List, [], ◌∷◌, ◌++◌, map, flat_map, set, cond, is_some, Option, Some, None, Result, Ok, Err, MatchResult, refl, sym, ap, ◌∙◌}
+use Rattle.std.proofs.Common.{◌≡◌, ℕ, Bool, true, false, not, ◌&&◌, ◌||◌, List, [], ◌∷◌, ◌++◌, map, set, cond, is_some, Option, Some, None, Result, Ok, Err, MatchResult, refl, sym, ap, ◌∙◌}
 use Rattle.std.proofs.lemmas.List.{map-set, map-append}
 use Rattle.std.specs.List.{list_all, cons_option}
 use Rattle.std.specs.Option.{option_map, option_and_then}
