@@ -18,6 +18,7 @@ mod session;
 mod slow;
 mod slow_shop;
 mod spelled;
+mod talk;
 mod three;
 mod troubled;
 mod turns;
