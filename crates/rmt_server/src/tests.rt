@@ -9,6 +9,7 @@ mod dice;
 mod failures;
 mod fixture;
 mod full_bin;
+mod laws;
 mod pieces;
 mod refused_move;
 mod rows;
