@@ -134,11 +134,11 @@ set_online trouble request = if is_of_stacks request then NoTrouble else trouble
 
 -- What is left of a trouble that was set: all of it, or nothing where a device call met it, which is answered so.
 abbrev pub IsSpent : Trouble → PlainReply → Trouble → Type 0
-IsSpent set reply left = (left ≡ set) ⊎ (set ≢ NoTrouble) × (left ≡ NoTrouble) × (reply ≡ refused InputOutput)
+IsSpent set reply left = (left ≡ set) ⊎ ((set ≢ NoTrouble) × (left ≡ NoTrouble) × (reply ≡ refused InputOutput))
 
 -- the same of the stacks' own trouble
 abbrev pub IsNextSpent : Bool → PlainReply → Bool → Type 0
-IsNextSpent set reply left = (left ≡ set) ⊎ (set ≡ true) × (left ≡ false) × (reply ≡ refused InputOutput)
+IsNextSpent set reply left = (left ≡ set) ⊎ ((set ≡ true) × (left ≡ false) × (reply ≡ refused InputOutput))
 
 -- The request is served so. Then no reel that lies on the stacks or in the bin has a trouble, and of the trouble that
 -- was set is left what no device call met.

@@ -97,30 +97,49 @@ fn a_session_by_chance_answers_as_the_plain_server_does(rt: HostRuntime) -> Resu
     Ok(())
 }
 
+/// Takes in what it can of the stream, and has the plain server answer the next request of the reader, if there is one.
+/// It gives how many bytes were taken.
+fn answer_next(
+    alloc: Global,
+    stream: &[u8],
+    wire: &mut RequestReader,
+    server: &mut SlowServer,
+    answers: &mut Vec<u8>,
+) -> Result<usize, Fail> {
+    let taken = wire.push(stream);
+    if let Ok(Some(request)) = wire.next() {
+        spell_answer(alloc, &server.answer(request)?, answers)?;
+    }
+    Ok(taken)
+}
+
 /// What the plain server answers to a stream.
 fn slow_answers(alloc: Global, stream: &[u8]) -> Result<Vec<u8>, Fail> {
     let mut wire = RequestReader::new(alloc)?;
     let mut server = SlowServer::new(alloc, CAPACITY);
     let mut answers = Vec::new(alloc);
-    let mut rest = stream;
+    let mut at = 0usize;
     for _ in 0..REQUESTS {
-        let taken = wire.push(rest);
-        rest = rest.get(taken..).unwrap_or(&[]);
-        if let Ok(Some(request)) = wire.next() {
-            spell_answer(alloc, &server.answer(request)?, &mut answers)?;
-        }
+        let rest = stream.get(at..).unwrap_or(&[]);
+        let taken = answer_next(alloc, rest, &mut wire, &mut server, &mut answers)?;
+        at = at.saturating_add(taken);
     }
     Ok(answers)
 }
 
+/// The plain server has to answer so.
+fn check_plain(rt: &impl Abort, alloc: Global, stream: &[u8], want: &[u8]) -> Result<(), Fail> {
+    let answers = slow_answers(alloc, stream)?;
+    assert!(rt; answers.as_slice() == want);
+    Ok(())
+}
+
 #[test]
 fn the_plain_server_answers_what_was_written_by_hand(rt: HostRuntime) -> Result<(), Fail> {
-    for (stream, want, _) in ROWS {
-        let answers = slow_answers(rt.alloc(), stream)?;
-        assert_eq!(rt; answers.as_slice(), want);
+    let alloc = rt.alloc();
+    for (stream, want, _) in &ROWS {
+        check_plain(&rt, alloc, stream, want)?;
     }
-    let largest = with_data(rt.alloc(), &LARGEST)?;
-    let answers = slow_answers(rt.alloc(), largest.as_slice())?;
-    assert_eq!(rt; answers.as_slice(), LARGEST_ANSWERS);
-    Ok(())
+    let largest = with_data(alloc, &LARGEST)?;
+    check_plain(&rt, alloc, largest.as_slice(), LARGEST_ANSWERS)
 }

@@ -1,10 +1,10 @@
 //! Streams that fail.
 
 use super::CAPACITY;
-use super::fixture::serve_once;
+use super::fixture::{serve_once, status_of};
 use super::pieces::Pieces;
 use super::script::{READ_BACK_ANSWERS, READ_BACK_BYTES, answered_of};
-use crate::{ServeFault, Served};
+use crate::ServeFault;
 use std::alloc::Global;
 use std::io::{self, ErrorKind, Read, Write};
 use std::process::Abort;
@@ -117,8 +117,8 @@ fn a_writer_may_take_a_byte_a_call(rt: HostRuntime) -> Result<(), Fail> {
         most: 1,
         fails: true,
     };
-    let ended = serve_once(rt.alloc(), Pieces::whole(READ_BACK_BYTES), output, CAPACITY)?;
-    assert!(rt; ended.is(Ok(Served::End), 0, 0));
-    assert_eq!(rt; taken.as_slice(), READ_BACK_ANSWERS);
+    let input = Pieces::whole(READ_BACK_BYTES);
+    assert!(rt; status_of(rt.alloc(), input, output, CAPACITY)? == 0);
+    assert!(rt; taken.as_slice() == READ_BACK_ANSWERS);
     Ok(())
 }

@@ -1,6 +1,6 @@
 //! Streams whose answers were written by hand.
 
-use super::pieces::{Pieces, check, check_cuts};
+use super::pieces::{Pieces, check, check_cuts, check_pieces};
 use std::alloc::{AllocError, Global};
 use std::test::Fail;
 
@@ -71,8 +71,8 @@ pub(crate) const ROWS: [Row; 17] = [
 
 #[test]
 fn streams_are_answered_as_was_written_by_hand(rt: HostRuntime) -> Result<(), Fail> {
-    for (bytes, want, status) in ROWS {
-        check_cuts(&rt, rt.alloc(), bytes, want, status)?;
+    for (bytes, want, status) in &ROWS {
+        check_cuts(&rt, rt.alloc(), bytes, want, *status)?;
     }
     Ok(())
 }
@@ -114,13 +114,18 @@ const LINE_PLACES: [(usize, usize); 4] = [
 fn the_greatest_record_and_one_byte_more(rt: HostRuntime) -> Result<(), Fail> {
     let alloc = rt.alloc();
     let bytes = with_data(alloc, &LARGEST)?;
-    let (bytes, want) = (bytes.as_slice(), LARGEST_ANSWERS);
-    assert_eq!(rt; bytes.len(), 131107);
-    check(&rt, alloc, Pieces::whole(bytes), want, 0, "whole")?;
-    check(&rt, alloc, Pieces::each(bytes, 1), want, 0, "one a piece")?;
-    for (from, to) in LINE_PLACES {
-        for at in from..to {
-            check(&rt, alloc, Pieces::cut(bytes, at), want, 0, "cut")?;
+    let bytes = bytes.as_slice();
+    check_pieces(&rt, alloc, bytes, LARGEST_ANSWERS, 0)?;
+    for (from, to) in &LINE_PLACES {
+        for at in *from..*to {
+            check(
+                &rt,
+                alloc,
+                Pieces::cut(bytes, at),
+                LARGEST_ANSWERS,
+                0,
+                "cut",
+            )?;
         }
     }
     Ok(())
@@ -148,7 +153,5 @@ fn counts_at_their_limits(rt: HostRuntime) -> Result<(), Fail> {
     let alloc = rt.alloc();
     let bytes = with_data(alloc, &LIMITS)?;
     let want = with_data(alloc, &LIMITS_ANSWERS)?;
-    let (bytes, want) = (bytes.as_slice(), want.as_slice());
-    check(&rt, alloc, Pieces::whole(bytes), want, 3, "whole")?;
-    check(&rt, alloc, Pieces::each(bytes, 1), want, 3, "one a piece")
+    check_pieces(&rt, alloc, bytes.as_slice(), want.as_slice(), 3)
 }

@@ -69,6 +69,12 @@ impl SlowShop {
         self.bin.as_slice()
     }
 
+    /// Whether the stacks and the bin have these names.
+    pub(crate) fn has_names(&self, names: [&[u8]; 3]) -> bool {
+        let [first, second, bin] = names;
+        self.stack(0) == first && self.stack(1) == second && self.bin() == bin
+    }
+
     /// How often a latch or a move failed.
     pub(crate) fn failures(&self) -> u64 {
         self.failures

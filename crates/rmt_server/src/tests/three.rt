@@ -198,14 +198,12 @@ impl Three {
         }
     }
 
-    /// Whether the seats of these numbers hold the drives, of which 0 is none.
-    fn has_holders(&mut self, first: u64, second: u64) -> bool {
+    /// The number of the seat that holds the drive, or 0. None where there is no such drive, or no seat is left to ask.
+    fn holder(&mut self, drive: usize) -> Option<u64> {
         more_seats::<ListStacks>();
-        let Some(mut seat) = self.drives.holds.seat() else {
-            return false;
-        };
-        self.drives.holds.holder(&mut seat, 0) == first
-            && self.drives.holds.holder(&mut seat, 1) == second
+        let drive = self.drives.stacks.drive(device(drive))?;
+        let mut seat = self.drives.holds.seat()?;
+        Some(self.drives.holds.holder(&mut seat, drive))
     }
 
     /// The drive that the session of that number says that it has open with its reel.
@@ -244,8 +242,16 @@ fn has_reels(stacks: &ListStacks, slow: &SlowShop) -> bool {
         && has_names(stacks.bin(), slow.bin())
 }
 
-/// Has both do one thing, and compares what they answer, what is open then, who holds which drive, the reels, and how
-/// often the stacks failed. It gives the answer.
+/// Whether both have the same open in the session of that number, the same holders, reels and count of failures.
+fn is_like(three: &mut Three, slow: &SlowShop, number: usize) -> bool {
+    three.online(number) == slow.online(number)
+        && three.holder(0) == Some(slow.holder(0))
+        && three.holder(1) == Some(slow.holder(1))
+        && three.drives.stacks.failures() == slow.failures()
+        && has_reels(&three.drives.stacks, slow)
+}
+
+/// Has both do one thing, and compares what they answer and what is there then. It gives the answer.
 fn step(
     rt: &impl Abort,
     three: &mut Three,
@@ -255,10 +261,7 @@ fn step(
 ) -> Result<u32, Fail> {
     let answer = slow.answer(number, event)?;
     assert_eq!(rt; three.answer(number, event), answer);
-    assert!(rt; three.online(number) == slow.online(number));
-    assert!(rt; three.has_holders(slow.holder(0), slow.holder(1)));
-    assert!(rt; has_reels(&three.drives.stacks, slow));
-    assert!(rt; three.drives.stacks.failures() == slow.failures());
+    assert!(rt; is_like(three, slow, number));
     Ok(answer)
 }
 
@@ -363,20 +366,29 @@ const FAILED_MOVE: [Row; 4] = [
     (1, Event::Offline, 1, 1, 0),
 ];
 
-/// Does what the rows say, with the plain sessions beside. Then the stacks and the bin have reels of these names.
+/// Does what the row of that number says, with the plain sessions beside.
+fn check_row(
+    rt: &impl Abort,
+    three: &mut Three,
+    slow: &mut SlowShop,
+    at: usize,
+    row: Row,
+) -> Result<(), Fail> {
+    let (number, event, wanted, first, second) = row;
+    let answer = step(rt, three, slow, number, event)?;
+    let is_wanted = answer == wanted && slow.holder(0) == first && slow.holder(1) == second;
+    assert!(rt; is_wanted, "row {at}");
+    Ok(())
+}
+
+/// Does what the rows say. Then the stacks and the bin have reels of these names.
 fn check_rows(rt: &impl Abort, alloc: Global, rows: &[Row], names: [&[u8]; 3]) -> Result<(), Fail> {
     let mut three = Three::new(alloc)?;
     let mut slow = SlowShop::new(alloc)?;
     for (at, row) in rows.iter().enumerate() {
-        let (number, event, wanted, first, second) = *row;
-        let answer = step(rt, &mut three, &mut slow, number, event)?;
-        assert_eq!(rt; answer, wanted, "row {at}");
-        assert!(rt;
-            slow.holder(0) == first && slow.holder(1) == second,
-            "row {at}"
-        );
+        check_row(rt, &mut three, &mut slow, at, *row)?;
     }
-    assert!(rt; slow.stack(0) == names[0] && slow.stack(1) == names[1] && slow.bin() == names[2]);
+    assert!(rt; slow.has_names(names));
     Ok(())
 }
 

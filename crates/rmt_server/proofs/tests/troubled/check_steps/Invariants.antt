@@ -5,5 +5,5 @@ use Rattle.drives.specs.Opening.{kinds}
 use Rattle.rmt_server.specs.State.{state, IsAt}
 use Rattle.rmt_server.proofs.tests.troubled.check_steps.Given as goal
 
-abbrev pub invariant-loop : goal.invariant-loop-at
-invariant-loop g l = IsAt (kinds of_holds of_stacks of_reel) (state l.drives l.session)
+abbrev pub invariant-loop-step : goal.invariant-loop-step
+invariant-loop-step g l = IsAt (kinds of_holds of_stacks of_reel) (state l.drives l.session)
