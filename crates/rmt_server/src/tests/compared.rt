@@ -1,12 +1,13 @@
 //! Sessions and streams against the plain server, over requests by chance.
 
+use super::CAPACITY;
 use super::dice::{Dice, next_request};
 use super::fixture::{begin, status_of};
 use super::pieces::Pieces;
-use super::script::READ_BACK_ANSWERS;
+use super::rows::{LARGEST, LARGEST_ANSWERS, ROWS, with_data};
 use super::slow::{Answer, SlowServer, error_text};
 use super::spelled::{spell, spell_answer};
-use rmt_wire::{Reply, Request};
+use rmt_wire::{Reply, RequestReader};
 use std::alloc::Global;
 use std::process::Abort;
 use std::test::Fail;
@@ -96,150 +97,49 @@ fn a_session_by_chance_answers_as_the_plain_server_does(rt: HostRuntime) -> Resu
     Ok(())
 }
 
-/// What the plain server answers.
-fn slow_answers(alloc: Global, requests: &[Request<'_>]) -> Result<Vec<u8>, Fail> {
-    let mut server = SlowServer::new(alloc, 1048576);
+/// Takes in what it can of the stream, and has the plain server answer the next request of the reader, if there is one.
+/// It gives how many bytes were taken.
+fn answer_next(
+    alloc: Global,
+    stream: &[u8],
+    wire: &mut RequestReader,
+    server: &mut SlowServer,
+    answers: &mut Vec<u8>,
+) -> Result<usize, Fail> {
+    let taken = wire.push(stream);
+    if let Ok(Some(request)) = wire.next() {
+        spell_answer(alloc, &server.answer(request)?, answers)?;
+    }
+    Ok(taken)
+}
+
+/// What the plain server answers to a stream.
+fn slow_answers(alloc: Global, stream: &[u8]) -> Result<Vec<u8>, Fail> {
+    let mut wire = RequestReader::new(alloc)?;
+    let mut server = SlowServer::new(alloc, CAPACITY);
     let mut answers = Vec::new(alloc);
-    for request in requests {
-        spell_answer(alloc, &server.answer(*request)?, &mut answers)?;
+    let mut at = 0usize;
+    for _ in 0..REQUESTS {
+        let rest = stream.get(at..).unwrap_or(&[]);
+        let taken = answer_next(alloc, rest, &mut wire, &mut server, &mut answers)?;
+        at = at.saturating_add(taken);
     }
     Ok(answers)
 }
 
-const OPEN: Request<'static> = Request::Open {
-    device: b"/dev/st0",
-    mode: 2,
-};
+/// The plain server has to answer so.
+fn check_plain(rt: &impl Abort, alloc: Global, stream: &[u8], want: &[u8]) -> Result<(), Fail> {
+    let answers = slow_answers(alloc, stream)?;
+    assert!(rt; answers.as_slice() == want);
+    Ok(())
+}
 
 #[test]
 fn the_plain_server_answers_what_was_written_by_hand(rt: HostRuntime) -> Result<(), Fail> {
-    let read_back = [
-        OPEN,
-        Request::Write { bytes: b"hello" },
-        Request::Op { op: 0, count: 1 },
-        Request::Op { op: 5, count: 1 },
-        Request::Read { count: 10 },
-        Request::Read { count: 10 },
-        Request::Close,
-    ];
-    let answers = slow_answers(rt.alloc(), &read_back)?;
-    assert_eq!(rt; answers.as_slice(), READ_BACK_ANSWERS);
-    let unopened = slow_answers(rt.alloc(), &[Request::Write { bytes: b"abc" }])?;
-    assert_eq!(rt;
-        unopened.as_slice(),
-        b"E9\nBad file descriptor\n".as_slice()
-    );
-    let lost_tail = [
-        OPEN,
-        Request::Write { bytes: b"abc" },
-        Request::Write { bytes: b"de" },
-        Request::Op { op: 5, count: 1 },
-        Request::Write { bytes: b"x" },
-        Request::Read { count: 5 },
-        Request::Close,
-    ];
-    let answers = slow_answers(rt.alloc(), &lost_tail)?;
-    assert_eq!(rt;
-        answers.as_slice(),
-        b"A0\nA3\nA2\nA1\nA1\nA0\nA0\n".as_slice()
-    );
-    Ok(())
-}
-
-#[test]
-fn the_plain_server_refuses_as_was_written_by_hand(rt: HostRuntime) -> Result<(), Fail> {
-    let device = b"/dev/st0".as_slice();
-    let for_reads = [
-        Request::Open { device, mode: 0 },
-        Request::Write { bytes: b"x" },
-        Request::Op { op: 0, count: 1 },
-    ];
-    let answers = slow_answers(rt.alloc(), &for_reads)?;
-    assert_eq!(rt;
-        answers.as_slice(),
-        b"A0\nE9\nBad file descriptor\nE13\nPermission denied\n".as_slice()
-    );
-    let greatest = Vec::from_elem(rt.alloc(), b'a', 65536)?;
-    let largest = [
-        OPEN,
-        Request::Write {
-            bytes: greatest.as_slice(),
-        },
-        Request::WriteDropped { count: 65537 },
-        Request::Write { bytes: b"" },
-        Request::Op { op: 7, count: 9 },
-    ];
-    let answers = slow_answers(rt.alloc(), &largest)?;
-    assert_eq!(rt;
-        answers.as_slice(),
-        b"A0\nA65536\nE22\nInvalid argument\nE22\nInvalid argument\nA9\n".as_slice()
-    );
-    let modes = [
-        Request::Open { device, mode: 3 },
-        Request::Open { device, mode: 513 },
-        Request::Read { count: 1 },
-        Request::Open {
-            device: b"/dev/st9",
-            mode: 2,
-        },
-    ];
-    let answers = slow_answers(rt.alloc(), &modes)?;
-    assert_eq!(rt;
-        answers.as_slice(),
-        b"E22\nInvalid argument\nA0\nE9\nBad file descriptor\nE2\nNo such file or directory\n".as_slice()
-    );
-    Ok(())
-}
-
-#[test]
-fn the_plain_server_takes_the_reel_away_as_was_written_by_hand(
-    rt: HostRuntime,
-) -> Result<(), Fail> {
-    let away = [
-        OPEN,
-        Request::Op { op: 6, count: 1 },
-        Request::Write { bytes: b"x" },
-        Request::Op { op: 7, count: 1 },
-        Request::Close,
-        OPEN,
-    ];
-    let answers = slow_answers(rt.alloc(), &away)?;
-    assert_eq!(rt;
-        answers.as_slice(),
-        b"A0\nA1\nE6\nDevice not configured\nE6\nDevice not configured\nA0\nE6\nDevice not configured\n".as_slice()
-    );
-    Ok(())
-}
-
-#[test]
-fn the_plain_server_spaces_as_was_written_by_hand(rt: HostRuntime) -> Result<(), Fail> {
-    let nothing_ahead = [
-        OPEN,
-        Request::Op { op: 3, count: 1 },
-        Request::Op { op: 8, count: 1 },
-    ];
-    let answers = slow_answers(rt.alloc(), &nothing_ahead)?;
-    assert_eq!(rt;
-        answers.as_slice(),
-        b"A0\nE5\nInput/output error\nE22\nInvalid argument\n".as_slice()
-    );
-    let both_ways = [
-        OPEN,
-        Request::Write { bytes: b"a" },
-        Request::Op { op: 0, count: 1 },
-        Request::Write { bytes: b"b" },
-        Request::Op { op: 0, count: 1 },
-        Request::Op { op: 2, count: 2 },
-        Request::Read { count: 9 },
-        Request::Op { op: 4, count: 1 },
-        Request::Op { op: 1, count: 1 },
-        Request::Read { count: 1 },
-        Request::Close,
-    ];
-    let answers = slow_answers(rt.alloc(), &both_ways)?;
-    assert_eq!(rt;
-        answers.as_slice(),
-        b"A0\nA1\nA1\nA1\nA1\nA2\nA0\nE5\nInput/output error\nA1\nA1\nbA0\n".as_slice()
-    );
-    Ok(())
+    let alloc = rt.alloc();
+    for (stream, want, _) in &ROWS {
+        check_plain(&rt, alloc, stream, want)?;
+    }
+    let largest = with_data(alloc, &LARGEST)?;
+    check_plain(&rt, alloc, largest.as_slice(), LARGEST_ANSWERS)
 }

@@ -17,6 +17,9 @@ use std::test::Fail;
 /// The drives of these tests.
 pub(crate) type Drives = DriveTable<LocalHolds, ListStacks>;
 
+/// The sessions of these tests.
+pub(crate) type Client = Session<LocalHolds, ListStacks>;
+
 /// What serving came to, how often each end failed, and the drives afterwards with the first one's holder.
 #[derive(Drop)]
 pub(crate) struct Ended {
@@ -25,6 +28,16 @@ pub(crate) struct Ended {
     pub(crate) failed_writes: u64,
     pub(crate) holder: Option<u64>,
     pub(crate) drives: Drives,
+}
+
+impl Ended {
+    /// Whether it ended so, after so many failed reads and writes, with the first drive free.
+    pub(crate) fn is(&self, ending: Result<Served, ServeFault>, reads: u64, writes: u64) -> bool {
+        self.ending == ending
+            && self.failed_reads == reads
+            && self.failed_writes == writes
+            && self.holder == Some(0)
+    }
 }
 
 /// The drive `/dev/st0` with one empty reel.
@@ -38,10 +51,7 @@ pub(crate) fn one_reel(alloc: Global, capacity: u64) -> Result<ListStacks, Fail>
 }
 
 /// One drive with one empty reel, and a session with nothing open.
-pub(crate) fn begin(
-    alloc: Global,
-    capacity: u64,
-) -> Result<(Drives, Session<LocalHolds, ListStacks>), Fail>
+pub(crate) fn begin(alloc: Global, capacity: u64) -> Result<(Drives, Client), Fail>
     ensures { IfOk result (λ made. IsAt (kinds of_holds of_stacks of_reel) (state made.0 made.1)) }
 {
     let mut holds = LocalHolds::new(alloc, 1)?;

@@ -73,6 +73,18 @@ pub(crate) fn check(
     Ok(())
 }
 
+/// The same in one piece, and a byte a piece.
+pub(crate) fn check_pieces(
+    rt: &impl Abort,
+    alloc: Global,
+    bytes: &[u8],
+    want: &[u8],
+    status: u8,
+) -> Result<(), Fail> {
+    check(rt, alloc, Pieces::whole(bytes), want, status, "whole")?;
+    check(rt, alloc, Pieces::each(bytes, 1), want, status, "by bytes")
+}
+
 /// The same in one piece, a byte a piece, and cut in two at every place.
 pub(crate) fn check_cuts(
     rt: &impl Abort,
@@ -81,15 +93,7 @@ pub(crate) fn check_cuts(
     want: &[u8],
     status: u8,
 ) -> Result<(), Fail> {
-    check(rt, alloc, Pieces::whole(bytes), want, status, "whole")?;
-    check(
-        rt,
-        alloc,
-        Pieces::each(bytes, 1),
-        want,
-        status,
-        "one a piece",
-    )?;
+    check_pieces(rt, alloc, bytes, want, status)?;
     for at in 0..bytes.len() {
         check(rt, alloc, Pieces::cut(bytes, at), want, status, "cut")?;
     }

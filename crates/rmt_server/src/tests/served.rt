@@ -2,7 +2,6 @@
 
 use super::CAPACITY;
 use super::fixture::{Drives, serve_once, status_of};
-use super::pieces::Pieces;
 use super::script::{READ_BACK_ANSWERS, READ_BACK_BYTES};
 use crate::{ServeFault, Served};
 use drives::Stacks;
@@ -23,18 +22,39 @@ fn first_record<'a>(drives: &mut Drives, into: &'a mut [u8; 8]) -> Result<&'a [u
     Ok(&into[..count.min(8)])
 }
 
-/// Serves the bytes. The drive has to be free afterwards, with this first record on its reel.
-fn check_ending(
-    rt: &impl Abort,
-    alloc: Global,
-    bytes: &[u8],
-    ending: Served,
-    record: &[u8],
-) -> Result<(), Fail> {
+/// Bytes, their answers, how they end, and the first record of the reel then. The drive has to be free.
+type Ending = (&'static [u8], &'static [u8], Served, &'static [u8]);
+
+const ENDINGS: [Ending; 6] = [
+    (b"", b"", Served::End, b""),
+    (READ_BACK_BYTES, READ_BACK_ANSWERS, Served::End, b"hello"),
+    (
+        b"O/dev/st0\n2\nW5\nhello",
+        b"A0\nA5\n",
+        Served::End,
+        b"hello",
+    ),
+    (b"O/dev/st0\n2\nW5\nhel", b"A0\n", Served::Truncated, b""),
+    (
+        b"O/dev/st0\n2\nS\n",
+        b"A0\n",
+        Served::Broken(WireFault::UnknownCommand),
+        b"",
+    ),
+    (
+        b"O/dev/st0\n2\nW2\nabW99999999999\nW1\nc",
+        b"A0\nA2\n",
+        Served::Broken(WireFault::BadNumber),
+        b"ab",
+    ),
+];
+
+fn check_ending(rt: &impl Abort, alloc: Global, row: Ending) -> Result<(), Fail> {
+    let (bytes, answers, ending, record) = row;
     let mut output = Vec::new(alloc);
-    let mut ended = serve_once(alloc, Pieces::whole(bytes), &mut output, CAPACITY)?;
-    assert_eq!(rt; ended.ending, Ok(ending));
-    assert_eq!(rt; ended.holder, Some(0));
+    let mut ended = serve_once(alloc, bytes, &mut output, CAPACITY)?;
+    assert!(rt; ended.is(Ok(ending), 0, 0));
+    assert_eq!(rt; output.as_slice(), answers);
     let mut into = [0; 8];
     assert_eq!(rt; first_record(&mut ended.drives, &mut into)?, record);
     Ok(())
@@ -42,45 +62,9 @@ fn check_ending(
 
 #[test]
 fn each_ending_closes_what_is_open(rt: HostRuntime) -> Result<(), Fail> {
-    let alloc = rt.alloc();
-    check_ending(&rt, alloc, b"", Served::End, b"")?;
-    check_ending(
-        &rt,
-        alloc,
-        b"O/dev/st0\n2\nW5\nhello",
-        Served::End,
-        b"hello",
-    )?;
-    check_ending(&rt, alloc, b"O/dev/st0\n2\nW5\nhel", Served::Truncated, b"")?;
-    check_ending(
-        &rt,
-        alloc,
-        b"O/dev/st0\n2\nS\n",
-        Served::Broken(WireFault::UnknownCommand),
-        b"",
-    )?;
-    check_ending(
-        &rt,
-        alloc,
-        b"O/dev/st0\n2\nW2\nabW99999999999\nW1\nc",
-        Served::Broken(WireFault::BadNumber),
-        b"ab",
-    )?;
-    Ok(())
-}
-
-#[test]
-fn a_stream_is_served(rt: HostRuntime) -> Result<(), Fail> {
-    let mut output = Vec::new(rt.alloc());
-    let mut ended = serve_once(rt.alloc(), READ_BACK_BYTES, &mut output, CAPACITY)?;
-    assert_eq!(rt; ended.ending, Ok(Served::End));
-    assert_eq!(rt; (ended.failed_reads, ended.failed_writes), (0, 0));
-    let mut into = [0; 8];
-    assert_eq!(rt;
-        first_record(&mut ended.drives, &mut into)?,
-        b"hello".as_slice()
-    );
-    assert_eq!(rt; output.as_slice(), READ_BACK_ANSWERS);
+    for row in ENDINGS {
+        check_ending(&rt, rt.alloc(), row)?;
+    }
     Ok(())
 }
 

@@ -14,6 +14,8 @@ pub(crate) enum Event {
     Offline,
     Close,
     End,
+    /// To meet a failure of the stacks' device at the next latch or move, of whichever session.
+    Trouble,
 }
 
 /// A session: the drive that it has open, and whether its reel is still there.
@@ -35,6 +37,8 @@ pub(crate) struct SlowShop {
     stacks: Vec<Vec<u8>>,
     bin: Vec<u8>,
     sessions: [SlowSession; 3],
+    trouble: bool,
+    failures: u64,
 }
 
 impl SlowShop {
@@ -47,6 +51,8 @@ impl SlowShop {
             stacks,
             bin: Vec::new(alloc),
             sessions: [AT_REST; 3],
+            trouble: false,
+            failures: 0,
         })
     }
 
@@ -61,6 +67,17 @@ impl SlowShop {
     /// The names in the bin.
     pub(crate) fn bin(&self) -> &[u8] {
         self.bin.as_slice()
+    }
+
+    /// Whether the stacks and the bin have these names.
+    pub(crate) fn has_names(&self, names: [&[u8]; 3]) -> bool {
+        let [first, second, bin] = names;
+        self.stack(0) == first && self.stack(1) == second && self.bin() == bin
+    }
+
+    /// How often a latch or a move failed.
+    pub(crate) fn failures(&self) -> u64 {
+        self.failures
     }
 
     /// The number of the session that has the drive open, from 1, or 0.
@@ -93,7 +110,21 @@ impl SlowShop {
                 self.close(number);
                 Ok(0)
             }
+            Event::Trouble => {
+                self.trouble = true;
+                Ok(0)
+            }
         }
+    }
+
+    /// Whether a latch or a move that comes now fails.
+    fn fails(&mut self) -> bool {
+        if !self.trouble {
+            return false;
+        }
+        self.trouble = false;
+        self.failures = self.failures.saturating_add(1);
+        true
     }
 
     fn session(&self, number: usize) -> SlowSession {
@@ -120,6 +151,9 @@ impl SlowShop {
         if self.stack(drive).is_empty() {
             return 6;
         }
+        if self.fails() {
+            return 5;
+        }
         let session = SlowSession {
             open: Some(drive),
             online: true,
@@ -135,6 +169,9 @@ impl SlowShop {
         };
         if !session.online {
             return Ok(6);
+        }
+        if self.fails() {
+            return Ok(5);
         }
         if let Some(stack) = self.stacks.get_mut(drive) {
             if !stack.is_empty() {

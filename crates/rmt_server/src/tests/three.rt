@@ -13,7 +13,7 @@ ghost use Rattle.std.specs.Prelude.{None};
 use super::CAPACITY;
 use super::slow::error_text;
 use super::slow_shop::{Event, SlowShop};
-use crate::Session;
+use crate::{Session, more_seats, one_holder, stacks_trouble};
 use drives::{DriveTable, Holds, ListStacks, ListedReel, LocalHolds, LocalSeat, Stacks};
 use rmt_wire::{Reply, Request};
 use std::alloc::Global;
@@ -54,6 +54,7 @@ fn carry(
     ensures another { IsAt (kinds of_holds of_stacks of_reel) (state drives.new another.now) }
     ensures number { session.new.seat.number ≡ session.old.seat.number }
 {
+    one_holder::<ListStacks>();
     number_of(session.carry_out(drives, request))
 }
 
@@ -69,6 +70,7 @@ fn end(drives: &mut Drives, session: &mut Client, other: &Client, another: &Clie
     ensures another { IsAt (kinds of_holds of_stacks of_reel) (state drives.new another.now) }
     ensures number { session.new.seat.number ≡ session.old.seat.number }
 {
+    one_holder::<ListStacks>();
     session.end(drives);
 }
 
@@ -112,6 +114,11 @@ fn answer(
         Event::Close => Request::Close,
         Event::End => {
             end(drives, session, other, another);
+            return 0;
+        }
+        Event::Trouble => {
+            stacks_trouble::<LocalHolds>();
+            drives.stacks.trouble(true);
             return 0;
         }
     };
@@ -193,14 +200,10 @@ impl Three {
 
     /// The number of the seat that holds the drive, or 0. None where there is no such drive, or no seat is left to ask.
     fn holder(&mut self, drive: usize) -> Option<u64> {
+        more_seats::<ListStacks>();
         let drive = self.drives.stacks.drive(device(drive))?;
         let mut seat = self.drives.holds.seat()?;
         Some(self.drives.holds.holder(&mut seat, drive))
-    }
-
-    /// The next latch or move fails.
-    fn trouble(&mut self) {
-        self.drives.stacks.trouble(true);
     }
 
     /// The drive that the session of that number says that it has open with its reel.
@@ -232,24 +235,34 @@ fn has_stack(stacks: &ListStacks, drive: usize, names: &[u8]) -> bool {
     }
 }
 
-/// Has both do one thing, and compares what they answer, what is open then, who holds which drive, and the reels.
+/// Whether the stacks and the bin have the reels that the plain ones have.
+fn has_reels(stacks: &ListStacks, slow: &SlowShop) -> bool {
+    has_stack(stacks, 0, slow.stack(0))
+        && has_stack(stacks, 1, slow.stack(1))
+        && has_names(stacks.bin(), slow.bin())
+}
+
+/// Whether both have the same open in the session of that number, the same holders, reels and count of failures.
+fn is_like(three: &mut Three, slow: &SlowShop, number: usize) -> bool {
+    three.online(number) == slow.online(number)
+        && three.holder(0) == Some(slow.holder(0))
+        && three.holder(1) == Some(slow.holder(1))
+        && three.drives.stacks.failures() == slow.failures()
+        && has_reels(&three.drives.stacks, slow)
+}
+
+/// Has both do one thing, and compares what they answer and what is there then. It gives the answer.
 fn step(
     rt: &impl Abort,
     three: &mut Three,
     slow: &mut SlowShop,
     number: usize,
     event: Event,
-) -> Result<(), Fail> {
-    let wanted = slow.answer(number, event)?;
-    assert_eq!(rt; three.answer(number, event), wanted);
-    assert_eq!(rt; three.online(number), slow.online(number));
-    assert_eq!(rt; three.holder(0), Some(slow.holder(0)));
-    assert_eq!(rt; three.holder(1), Some(slow.holder(1)));
-    let stacks = &three.drives.stacks;
-    assert!(rt; has_stack(stacks, 0, slow.stack(0)));
-    assert!(rt; has_stack(stacks, 1, slow.stack(1)));
-    assert!(rt; has_names(stacks.bin(), slow.bin()));
-    Ok(())
+) -> Result<u32, Fail> {
+    let answer = slow.answer(number, event)?;
+    assert_eq!(rt; three.answer(number, event), answer);
+    assert!(rt; is_like(three, slow, number));
+    Ok(answer)
 }
 
 /// What a session can be asked for in the lists.
@@ -271,7 +284,7 @@ fn run(rt: &impl Abort, alloc: Global, length: usize, list: usize) -> Result<(),
     let mut rest = list;
     for _ in 0..length {
         let event = EVENTS.get(rest % 5).copied().unwrap_or(Event::End);
-        step(rt, &mut three, &mut slow, 1 + rest / 5 % 3, event)?;
+        let _ = step(rt, &mut three, &mut slow, 1 + rest / 5 % 3, event)?;
         rest /= KINDS;
     }
     Ok(())
@@ -336,67 +349,61 @@ const AWAY: [Row; 13] = [
     (2, Event::Close, 0, 0, 0),
 ];
 
-/// Does what the rows say, with the plain sessions beside.
-fn check_rows(rt: &impl Abort, alloc: Global, rows: &[Row]) -> Result<(Three, SlowShop), Fail> {
+/// A latch that is told to fail fails once, after what was open is closed.
+const FAILED_LATCH: [Row; 5] = [
+    (2, Event::Open(1), 0, 0, 2),
+    (1, Event::Trouble, 0, 0, 2),
+    (2, Event::Open(0), 5, 0, 0),
+    (2, Event::Open(0), 0, 2, 0),
+    (2, Event::Offline, 1, 2, 0),
+];
+
+/// A move that is told to fail fails once.
+const FAILED_MOVE: [Row; 4] = [
+    (1, Event::Open(0), 0, 1, 0),
+    (1, Event::Trouble, 0, 1, 0),
+    (1, Event::Offline, 5, 1, 0),
+    (1, Event::Offline, 1, 1, 0),
+];
+
+/// Does what the row of that number says, with the plain sessions beside.
+fn check_row(
+    rt: &impl Abort,
+    three: &mut Three,
+    slow: &mut SlowShop,
+    at: usize,
+    row: Row,
+) -> Result<(), Fail> {
+    let (number, event, wanted, first, second) = row;
+    let answer = step(rt, three, slow, number, event)?;
+    let is_wanted = answer == wanted && slow.holder(0) == first && slow.holder(1) == second;
+    assert!(rt; is_wanted, "row {at}");
+    Ok(())
+}
+
+/// Does what the rows say. Then the stacks and the bin have reels of these names.
+fn check_rows(rt: &impl Abort, alloc: Global, rows: &[Row], names: [&[u8]; 3]) -> Result<(), Fail> {
     let mut three = Three::new(alloc)?;
     let mut slow = SlowShop::new(alloc)?;
-    for (at, (number, event, wanted, first, second)) in rows.iter().enumerate() {
-        assert_eq!(rt; three.answer(*number, *event), *wanted, "row {at}");
-        assert_eq!(rt; three.holder(0), Some(*first), "row {at}");
-        assert_eq!(rt; three.holder(1), Some(*second), "row {at}");
-        assert_eq!(rt; slow.answer(*number, *event)?, *wanted, "row {at}");
-        assert_eq!(rt; slow.holder(0), *first, "row {at}");
-        assert_eq!(rt; slow.holder(1), *second, "row {at}");
+    for (at, row) in rows.iter().enumerate() {
+        check_row(rt, &mut three, &mut slow, at, *row)?;
     }
-    Ok((three, slow))
-}
-
-#[test]
-fn the_end_of_a_session_frees_its_drive(rt: HostRuntime) -> Result<(), Fail> {
-    check_rows(&rt, rt.alloc(), &TWO_SESSIONS)?;
+    assert!(rt; slow.has_names(names));
     Ok(())
 }
 
 #[test]
-fn a_refused_open_gives_back_what_was_open(rt: HostRuntime) -> Result<(), Fail> {
-    check_rows(&rt, rt.alloc(), &REFUSED)?;
-    Ok(())
+fn drives_are_shared_as_was_written_by_hand(rt: HostRuntime) -> Result<(), Fail> {
+    let alloc = rt.alloc();
+    check_rows(&rt, alloc, &TWO_SESSIONS, [b"ab", b"c", b""])?;
+    check_rows(&rt, alloc, &REFUSED, [b"b", b"c", b"a"])?;
+    check_rows(&rt, alloc, &AWAY, [b"b", b"", b"ca"])
 }
 
 #[test]
-fn reels_go_to_the_bin_in_order(rt: HostRuntime) -> Result<(), Fail> {
-    let (three, slow) = check_rows(&rt, rt.alloc(), &AWAY)?;
-    let stacks = &three.drives.stacks;
-    assert!(rt; has_stack(stacks, 0, b"b"));
-    assert!(rt; has_stack(stacks, 1, b""));
-    assert!(rt; has_names(stacks.bin(), b"ca"));
-    assert_eq!(rt; slow.bin(), b"ca".as_slice());
-    Ok(())
-}
-
-#[test]
-fn a_move_that_is_told_to_fail_fails_once(rt: HostRuntime) -> Result<(), Fail> {
-    let mut three = Three::new(rt.alloc())?;
-    assert_eq!(rt; three.answer(1, Event::Open(0)), 0);
-    three.trouble();
-    assert_eq!(rt; three.answer(1, Event::Offline), 5);
-    assert_eq!(rt; three.online(1), Some(0));
-    assert!(rt; has_stack(&three.drives.stacks, 0, b"ab"));
-    assert_eq!(rt; three.answer(1, Event::Offline), 1);
-    assert_eq!(rt; three.drives.stacks.failures(), 1);
-    assert!(rt; has_stack(&three.drives.stacks, 0, b"b"));
-    assert!(rt; has_names(three.drives.stacks.bin(), b"a"));
-    Ok(())
-}
-
-#[test]
-fn a_latch_that_is_told_to_fail_fails_once(rt: HostRuntime) -> Result<(), Fail> {
-    let mut three = Three::new(rt.alloc())?;
-    assert_eq!(rt; three.answer(2, Event::Open(1)), 0);
-    three.trouble();
-    assert_eq!(rt; three.answer(2, Event::Open(0)), 5);
-    assert_eq!(rt; (three.holder(0), three.holder(1)), (Some(0), Some(0)));
-    assert_eq!(rt; three.answer(2, Event::Open(0)), 0);
-    assert_eq!(rt; three.drives.stacks.failures(), 1);
-    Ok(())
+fn a_latch_or_a_move_that_is_told_to_fail_fails_once(rt: HostRuntime) -> Result<(), Fail> {
+    let alloc = rt.alloc();
+    check_rows(&rt, alloc, &FAILED_LATCH, [b"b", b"c", b"a"])?;
+    check_rows(&rt, alloc, &FAILED_MOVE[..3], [b"ab", b"c", b""])?;
+    check_rows(&rt, alloc, &FAILED_MOVE, [b"b", b"c", b"a"])
 }
