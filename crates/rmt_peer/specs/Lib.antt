@@ -4,3 +4,5 @@ pub mod Print
 pub mod Lines
 pub mod Answer
 pub mod Call
+pub mod Calls
+pub mod Operation

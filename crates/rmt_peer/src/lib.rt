@@ -10,6 +10,7 @@ mod attempt;
 mod caller;
 mod fault;
 mod lines;
+mod operation;
 mod operator;
 mod peer;
 mod print;
@@ -17,6 +18,7 @@ mod rounds;
 mod socket;
 
 pub use fault::{Asked, ReadFault};
+pub use operation::mt;
 pub use peer::{Passed, Peer};
 pub use print::print_text;
 pub use rounds::dump;
