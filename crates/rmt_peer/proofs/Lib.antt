@@ -3,3 +3,4 @@ pub mod Talking
 pub mod Heard
 pub mod Calls
 pub mod Operating
+pub mod Reading

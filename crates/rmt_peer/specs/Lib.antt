@@ -6,3 +6,4 @@ pub mod Answer
 pub mod Call
 pub mod Calls
 pub mod Operation
+pub mod Reading

@@ -16,6 +16,9 @@ mod peer;
 mod print;
 mod rounds;
 mod socket;
+#[cfg(test)]
+mod tests;
+mod volume;
 
 pub use fault::{Asked, ReadFault};
 pub use operation::mt;
@@ -23,3 +26,4 @@ pub use peer::{Passed, Peer};
 pub use print::print_text;
 pub use rounds::dump;
 pub use socket::SocketPeer;
+pub use volume::{copy_volume, read_volume};
