@@ -5,15 +5,25 @@
 //! operator after a failure, and prints what is counted.
 #![tactic(auto)]
 
+mod answer;
 mod attempt;
+mod caller;
+mod fault;
 mod lines;
+mod operation;
 mod operator;
 mod peer;
 mod print;
 mod rounds;
 mod socket;
+#[cfg(test)]
+mod tests;
+mod volume;
 
+pub use fault::{Asked, ReadFault};
+pub use operation::mt;
 pub use peer::{Passed, Peer};
 pub use print::print_text;
 pub use rounds::dump;
 pub use socket::SocketPeer;
+pub use volume::{copy_volume, read_volume};
