@@ -1,3 +1,4 @@
 pub mod Endings
+pub mod Resting
 pub mod Reached
 pub mod App

@@ -3,6 +3,8 @@
 #![tactic(auto)]
 
 mod dates_file;
+mod listening;
+mod memory_server;
 mod rdump_line;
 mod rmtd_line;
 mod stdio;
@@ -10,6 +12,8 @@ mod stdio;
 mod tests;
 
 pub use dates_file::dates;
+pub use listening::serve_connections;
+pub use memory_server::MemoryServer;
 pub use rdump_line::{RdumpLine, rdump_words};
 pub use rmtd_line::{LineFault, ServerLine, server_line, server_words};
 pub use stdio::run_stdio;
