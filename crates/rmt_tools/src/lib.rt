@@ -5,9 +5,12 @@
 mod dates_file;
 mod listening;
 mod memory_server;
+mod number;
 mod rdump_line;
 mod rmtd_line;
+mod run_line;
 mod stdio;
+mod tape_line;
 #[cfg(test)]
 mod tests;
 
@@ -16,4 +19,6 @@ pub use listening::serve_connections;
 pub use memory_server::MemoryServer;
 pub use rdump_line::{RdumpLine, rdump_words};
 pub use rmtd_line::{LineFault, ServerLine, server_line, server_words};
+pub use run_line::DumpLine;
 pub use stdio::run_stdio;
+pub use tape_line::{MtLine, ReadLine};
