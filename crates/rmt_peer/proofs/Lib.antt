@@ -1,2 +1,4 @@
 pub mod Printed
 pub mod Talking
+pub mod Heard
+pub mod Calls

@@ -5,7 +5,10 @@
 //! operator after a failure, and prints what is counted.
 #![tactic(auto)]
 
+mod answer;
 mod attempt;
+mod caller;
+mod fault;
 mod lines;
 mod operator;
 mod peer;
@@ -13,6 +16,7 @@ mod print;
 mod rounds;
 mod socket;
 
+pub use fault::{Asked, ReadFault};
 pub use peer::{Passed, Peer};
 pub use print::print_text;
 pub use rounds::dump;
