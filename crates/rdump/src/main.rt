@@ -2,7 +2,10 @@
 #![tactic(auto)]
 
 use clap::error::ErrorKind;
-use rmt_tools::{RdumpLine, dates, rdump_words};
+use rmt_tools::{
+    DatesFile, DumpLine, DumperFault, RdumpLine, RunFault, SocketPeer, base_date, dates, dump,
+    dump_and_update, dumper, rdump_words, read_or_empty, read_steady, seconds_now,
+};
 use rmt_wire::Counted;
 use std::process::ExitCode;
 use std::{env, fs, io};
@@ -27,18 +30,84 @@ fn words(rt: &HostRuntime) -> io::Result<Vec<String>> {
 /// Does what these words ask, and answers the status.
 fn run(rt: &HostRuntime, words: Vec<String>) -> io::Result<u8> {
     match rdump_words(rt.alloc(), words.as_slice()) {
+        Ok(RdumpLine::Dump(line)) => start_dump(rt, &line),
+        Ok(RdumpLine::Read(line)) => say(rt, line.to, "this client does not read yet"),
+        Ok(RdumpLine::Mt(line)) => say(rt, line.to, "this client does no operation yet"),
         Ok(RdumpLine::Dates { file, asked }) => ask_dates(rt, file, asked),
         Err(error) => refuse(rt, error),
     }
 }
 
-/// Tells why words gave nothing to do, and answers the status. Help goes to standard output.
+/// Tells why words gave nothing to do, and answers the status. Help and the version go to standard output.
 fn refuse(rt: &HostRuntime, error: clap::Error) -> io::Result<u8> {
     if error.kind() == ErrorKind::OutOfMemory {
         return tell(rt, "", io::ErrorKind::OutOfMemory.into());
     }
     error.print(rt)?;
     Ok(if error.use_stderr() { FAILED } else { 0 })
+}
+
+/// Reads the payload and the dumpdates file, dumps, and answers the status.
+fn start_dump(rt: &HostRuntime, line: &DumpLine<'_>) -> io::Result<u8> {
+    let payload = match read_steady(rt, rt.alloc(), line.payload) {
+        Ok(Some(payload)) => payload,
+        Ok(None) => return say(rt, line.payload, "its length changed while it was read"),
+        Err(error) => return tell(rt, line.payload, error),
+    };
+    let file = match read_or_empty(rt, rt.alloc(), line.dumpdates) {
+        Ok(file) => file,
+        Err(error) => return tell(rt, line.dumpdates, error),
+    };
+    let level = u8::try_from(line.level).unwrap_or(u8::MAX);
+    let mut out = Counted::new(rt.stdout());
+    match base_date(rt.alloc(), &file, line.fs, level, &mut out) {
+        Some(since) => run_dump(rt, line, payload, since),
+        None => say(rt, line.dumpdates, "it is no dumpdates file"),
+    }
+}
+
+/// Dumps a payload that builds on a dump of the date `since`, and answers the status.
+fn run_dump(
+    rt: &HostRuntime,
+    line: &DumpLine<'_>,
+    payload: Vec<u8>,
+    since: u64,
+) -> io::Result<u8> {
+    let Some(date) = line.date.or(seconds_now(rt)) else {
+        return say(rt, "the clock", "it tells no date");
+    };
+    let mut client = match dumper(rt.alloc(), line, date, since, payload) {
+        Ok(client) => client,
+        Err(DumperFault::Run(fault)) => return refuse_run(rt, fault),
+        Err(DumperFault::OutOfMemory) => return tell(rt, "", io::ErrorKind::OutOfMemory.into()),
+    };
+    let mut peer = SocketPeer::new(rt, line.to);
+    let mut operator = rt.stdin();
+    let mut out = Counted::new(rt.stdout());
+    let status = if line.update {
+        let mut store = DatesFile::new(rt, rt.alloc(), line.dumpdates);
+        dump_and_update(rt.alloc(), &mut client, &mut peer, &mut operator, &mut out, &mut store)
+    } else {
+        dump(rt.alloc(), &mut client, &mut peer, &mut operator, &mut out)
+    };
+    if out.failures() > 0 {
+        eprintln!(rt; "rdump: standard output could not be written")?;
+    }
+    Ok(status)
+}
+
+/// Tells which limit of a run its words break, and answers the status.
+fn refuse_run(rt: &HostRuntime, fault: RunFault) -> io::Result<u8> {
+    let what = match fault {
+        RunFault::BadDevice => "--device <DEVICE>: a device is 1 to 255 bytes of one line",
+        RunFault::BadName => "--fs <NAME>: a name is 1 to 255 bytes of printable ASCII without a space",
+        RunFault::BadLevel => "--level <LEVEL>: a level is 0 to 9",
+        RunFault::BadDate => "--date <SECONDS>: a date is 0 to 253402300799",
+        RunFault::BadBlockSize => "--block <BYTES>: a block is 1 to 65536 bytes",
+        RunFault::TooManyBlocks => "--block <BYTES>: a dump has at most 2147483647 blocks",
+    };
+    eprintln!(rt; "rdump: {fault}: {what}")?;
+    Ok(FAILED)
 }
 
 /// Asks a dumpdates file, and answers the status. A file that can't be read and a failed write are told.
@@ -53,6 +122,12 @@ fn ask_dates(rt: &HostRuntime, file: &str, asked: Option<(&str, u8)>) -> io::Res
         eprintln!(rt; "rdump: standard output could not be written")?;
     }
     Ok(status)
+}
+
+/// Tells on standard error what is at fault and why, and answers the status.
+fn say(rt: &HostRuntime, what: &str, why: &str) -> io::Result<u8> {
+    eprintln!(rt; "rdump: {what}: {why}")?;
+    Ok(FAILED)
 }
 
 /// Tells of an error on standard error, or of refused memory on standard output, and answers the status.

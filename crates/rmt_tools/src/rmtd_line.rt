@@ -4,12 +4,10 @@ ghost use Rattle.std.specs.Prelude.{◌≡◌, map, codes, false, [], IfOk, IfEr
 ghost use Rattle.clap.specs.Words.{app_of, first_of, found_of, kind_of, new_app, rows_of, rule_of};
 ghost use Rattle.rmt_tools.specs.Rmtd.{app, faults_in, flag_rule, has_stdio, matches_in, option_rule, with_version, IsLineIn, IsLineOf, IsRefused, KeepsRules, ReadsCapacity, ReadsConnections, SaysNumber, IsNumberIfGiven};
 
+use crate::number::number_of;
 use clap::error::ErrorKind;
 use clap::{Arg, ArgAction, ArgMatches, Command, Error};
 use std::alloc::{AllocError, Global};
-
-/// The greatest number that a word can say.
-const NUMBER_LIMIT: u64 = 9_223_372_036_854_775_807;
 
 /// How many bytes the reel in memory holds where no word says it.
 const USUAL_CAPACITY: u64 = 1_048_576;
@@ -160,19 +158,6 @@ fn text_of<'a>(matches: &ArgMatches<'a>, id: &str) -> Option<&'a str>
     ensures { option_map (λ s. s.now) result ≡ first_of id.now (rows_of (found_of matches.now)) }
 {
     matches.get_str(id)
-}
-
-/// The number that a text says, in digits alone.
-fn number_of(text: &str) -> Option<u64>
-    ensures { SaysNumber text.now result }
-{
-    if text.as_bytes().first() == Some(&b'+') {
-        return None;
-    }
-    match text.parse::<u64>() {
-        Ok(n) if n <= NUMBER_LIMIT => Some(n),
-        _ => None,
-    }
 }
 
 /// The capacity that a text says, if one is given.

@@ -13,6 +13,7 @@ fn taken<'a>(
 ) -> (&'a str, Option<(&'a str, u8)>) {
     match rdump_words(alloc, words) {
         Ok(RdumpLine::Dates { file, asked }) => (file, asked),
+        Ok(_) => panic!(rt; "another command"),
         Err(_) => panic!(rt; "the words were refused"),
     }
 }
