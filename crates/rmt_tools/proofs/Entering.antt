@@ -4,7 +4,7 @@ use Rattle.rmt_wire.specs.Counted.{Counting}
 use Rattle.dumpdates.specs.declared.entry.Entry.{Entry}
 use Rattle.dumpdates.specs.Entry.{DatesEntry}
 use Rattle.dumpdates.specs.Stored.{plain_entry}
-use Rattle.dump_client.specs.Run.{PlainRun}
+use Rattle.dump_run.specs.Run.{PlainRun}
 use Rattle.dump_client.specs.Client.{TellsEntry}
 use Rattle.dump_client.specs.Standing.{Standing}
 use Rattle.dump_client.specs.declared.count.VolumeCount.{VolumeCount}

@@ -1,8 +1,8 @@
 -- A payload in blocks, and the run that dumps it.
 use Rattle.std.specs.Prelude.{◌≡◌, ℕ, zero, suc, ◌*◌, ◌-◌, ◌++◌, false, List, length, replicate}
 use Rattle.std.specs.Int.{div_ceil}
-use Rattle.dump_client.specs.Blocks.{Listed, listed, cut_blocks}
-use Rattle.dump_client.specs.Run.{PlainRun, plain_run, IsFirstBroken}
+use Rattle.dump_run.specs.Blocks.{Listed, listed, cut_blocks}
+use Rattle.dump_run.specs.Run.{PlainRun, plain_run, IsFirstBroken}
 use Rattle.rmt_tools.specs.declared.run_line.DumpLine.{DumpLine}
 use Rattle.rmt_tools.specs.declared.payload.DumperFault.{DumperFault}
 use Rattle.rmt_tools.specs.declared.payload.DumperFault.TheVariants.{Run, OutOfMemory}

@@ -7,7 +7,7 @@ use Rattle.dumpdates.specs.Lines.{HasDatesFault, SpellsDates}
 use Rattle.dumpdates.specs.Text.{written}
 use Rattle.dumpdates.specs.declared.fault.DatesFault.{DatesFault}
 use Rattle.dumpdates.specs.declared.fault.DatesFault.TheVariants.{OutOfMemory}
-use Rattle.dump_client.specs.Run.{PlainRun}
+use Rattle.dump_run.specs.Run.{PlainRun}
 use Rattle.dump_client.specs.Standing.{Standing}
 use Rattle.dump_client.specs.declared.count.VolumeCount.{VolumeCount}
 use Rattle.dump_client.specs.declared.stage.Stage.TheVariants.{Finished}

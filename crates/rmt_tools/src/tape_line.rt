@@ -1,6 +1,6 @@
 //! The words of `rdump read` and `rdump mt`.
 ghost use Rattle.std.specs.Prelude.{◌≡◌, ◌≤◌, ◌↔◌, IfOk, IfSome, IsTrue};
-ghost use Rattle.dump_client.specs.Run.{IsDevice};
+ghost use Rattle.dump_run.specs.Run.{IsDevice};
 ghost use Rattle.rmt_tools.specs.Rdump.{IsMtLine, IsReadLine, count_limit};
 
 use crate::number::number_of;
