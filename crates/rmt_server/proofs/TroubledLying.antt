@@ -1,5 +1,5 @@
 -- No reel that lies on the stacks or in the bin gets a trouble by a call of the stacks that brings none.
-use Rattle.std.proofs.Common.{◌≡◌, ℕ, ◌+◌, ◌<◌, cond, length, Option, Some, None, Result, Ok, Err, MatchResult, refl, ap, ◌∙◌, arith}
+use Rattle.std.proofs.Common.{◌≡◌, ℕ, ◌+◌, ◌<◌, cond, length, Some, Result, Ok, Err, MatchResult, refl, ap, ◌∙◌, arith}
 use Rattle.tape.specs.Trouble.{TroubledTape}
 use Rattle.tape.specs.declared.trouble.Trouble.{Trouble}
 use Rattle.tape.specs.declared.trouble.Trouble.TheVariants.{None as NoTrouble, Kept, Lost, Written}

@@ -2,6 +2,7 @@
 
 use super::pieces::{Pieces, check, check_cuts, check_pieces};
 use std::alloc::{AllocError, Global};
+use std::process::Abort;
 use std::test::Fail;
 
 /// A stream, what it is answered, and how it ends: 0 between two requests, 2 inside one, 3 at bytes that are no
@@ -110,25 +111,20 @@ const LINE_PLACES: [(usize, usize); 4] = [
     (70000, 70001),
 ];
 
-#[test]
-fn the_greatest_record_and_one_byte_more(rt: HostRuntime) -> Result<(), Fail> {
-    let alloc = rt.alloc();
-    let bytes = with_data(alloc, &LARGEST)?;
-    let bytes = bytes.as_slice();
-    check_pieces(&rt, alloc, bytes, LARGEST_ANSWERS, 0)?;
+/// The stream at each cut of those places, in one piece, and a byte a piece.
+fn check_places(rt: &impl Abort, alloc: Global, bytes: &[u8], want: &[u8]) -> Result<(), Fail> {
     for (from, to) in &LINE_PLACES {
         for at in *from..*to {
-            check(
-                &rt,
-                alloc,
-                Pieces::cut(bytes, at),
-                LARGEST_ANSWERS,
-                0,
-                "cut",
-            )?;
+            check(rt, alloc, Pieces::cut(bytes, at), want, 0, "cut")?;
         }
     }
-    Ok(())
+    check_pieces(rt, alloc, bytes, want, 0)
+}
+
+#[test]
+fn the_greatest_record_and_one_byte_more(rt: HostRuntime) -> Result<(), Fail> {
+    let bytes = with_data(rt.alloc(), &LARGEST)?;
+    check_places(&rt, rt.alloc(), bytes.as_slice(), LARGEST_ANSWERS)
 }
 
 /// Counts at their limits.

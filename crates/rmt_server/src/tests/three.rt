@@ -277,17 +277,28 @@ const EVENTS: [Event; 5] = [
 /// How many things there are to do: each event by each session.
 const KINDS: usize = 15;
 
-/// Does so many things, of which the number has one digit each.
-fn run(rt: &impl Abort, alloc: Global, length: usize, list: usize) -> Result<(), Fail> {
-    let mut three = Three::new(alloc)?;
-    let mut slow = SlowShop::new(alloc)?;
+/// Does so many things, of which the number has one digit each, with the plain sessions beside.
+fn do_list(
+    rt: &impl Abort,
+    three: &mut Three,
+    slow: &mut SlowShop,
+    length: usize,
+    list: usize,
+) -> Result<(), Fail> {
     let mut rest = list;
     for _ in 0..length {
         let event = EVENTS.get(rest % 5).copied().unwrap_or(Event::End);
-        let _ = step(rt, &mut three, &mut slow, 1 + rest / 5 % 3, event)?;
+        let _ = step(rt, three, slow, 1 + rest / 5 % 3, event)?;
         rest /= KINDS;
     }
     Ok(())
+}
+
+/// Does the same with new sessions.
+fn run(rt: &impl Abort, alloc: Global, length: usize, list: usize) -> Result<(), Fail> {
+    let mut slow = SlowShop::new(alloc)?;
+    let mut three = Three::new(alloc)?;
+    do_list(rt, &mut three, &mut slow, length, list)
 }
 
 #[test]
@@ -382,14 +393,25 @@ fn check_row(
 }
 
 /// Does what the rows say. Then the stacks and the bin have reels of these names.
-fn check_rows(rt: &impl Abort, alloc: Global, rows: &[Row], names: [&[u8]; 3]) -> Result<(), Fail> {
-    let mut three = Three::new(alloc)?;
-    let mut slow = SlowShop::new(alloc)?;
+fn do_rows(
+    rt: &impl Abort,
+    three: &mut Three,
+    slow: &mut SlowShop,
+    rows: &[Row],
+    names: [&[u8]; 3],
+) -> Result<(), Fail> {
     for (at, row) in rows.iter().enumerate() {
-        check_row(rt, &mut three, &mut slow, at, *row)?;
+        check_row(rt, three, slow, at, *row)?;
     }
     assert!(rt; slow.has_names(names));
     Ok(())
+}
+
+/// Does the same with new sessions.
+fn check_rows(rt: &impl Abort, alloc: Global, rows: &[Row], names: [&[u8]; 3]) -> Result<(), Fail> {
+    let mut slow = SlowShop::new(alloc)?;
+    let mut three = Three::new(alloc)?;
+    do_rows(rt, &mut three, &mut slow, rows, names)
 }
 
 #[test]
