@@ -2,3 +2,5 @@ pub mod Printed
 pub mod Talking
 pub mod Heard
 pub mod Calls
+pub mod Operating
+pub mod Reading

@@ -4,3 +4,6 @@ pub mod Print
 pub mod Lines
 pub mod Answer
 pub mod Call
+pub mod Calls
+pub mod Operation
+pub mod Reading

@@ -2,6 +2,7 @@
 ghost use Rattle.std.specs.Prelude.{◌≡◌, IfOk};
 ghost use Rattle.rmt_wire.specs.Lent.{plain_reply};
 ghost use Rattle.rmt_peer.specs.Answer.{plain_answer};
+ghost use Rattle.rmt_peer.specs.Calls.{is_done};
 
 use rmt_wire::Reply;
 use std::alloc::{AllocError, Global};
@@ -15,6 +16,15 @@ pub(crate) enum Answer {
     Data { bytes: Vec<u8> },
     /// It was refused, with the number and the text of an error.
     Error { number: u32, text: Vec<u8> },
+}
+
+impl Answer {
+    /// Whether what was asked was done.
+    pub(crate) fn is_done(&self) -> bool
+        ensures { result ≡ is_done (plain_answer self.now) }
+    {
+        matches!(self, Answer::Done { .. })
+    }
 }
 
 /// Keeps a reply. It fails only where the memory for its data or text is refused.

@@ -10,14 +10,20 @@ mod attempt;
 mod caller;
 mod fault;
 mod lines;
+mod operation;
 mod operator;
 mod peer;
 mod print;
 mod rounds;
 mod socket;
+#[cfg(test)]
+mod tests;
+mod volume;
 
 pub use fault::{Asked, ReadFault};
+pub use operation::mt;
 pub use peer::{Passed, Peer};
 pub use print::print_text;
 pub use rounds::dump;
 pub use socket::SocketPeer;
+pub use volume::{copy_volume, read_volume};
