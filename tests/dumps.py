@@ -320,7 +320,7 @@ def checks_of_starts(world: World) -> Iterator[Check]:
     nowhere = "127.0.0.1:1"
 
     def start(changed: dict[str, str | None], fault: str, output: bytes = b"") -> Check:
-        got = world.run(*world.words(nowhere, **changed), "--update")
+        got = world.run(*world.words(**{"to": nowhere, **changed}), "--update")
         told = (got.output, got.status, fault in got.told.decode())
         return Check(f"a start with {changed}", (output, FAILED, True), told)
 

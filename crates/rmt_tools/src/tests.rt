@@ -7,4 +7,5 @@ mod link;
 mod listening;
 mod rows;
 mod server_words;
+mod updates;
 mod words;

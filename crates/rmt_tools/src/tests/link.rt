@@ -14,6 +14,7 @@ ghost use Rattle.std.specs.Prelude.{None};
 
 use drives::{DriveTable, ListStacks, LocalHolds, LocalSeat};
 use dump_client::{Client, ListBlocks, Progress, Run, State};
+use rmt_peer::Peer;
 use rmt_server::{Session, one_holder};
 use rmt_wire::{NUMBER_LIMIT, Request, RequestReader, push_reply};
 use std::alloc::Global;
@@ -131,6 +132,7 @@ pub(super) struct Link {
     alloc: Global,
     pub(super) drives: Drives,
     wire: RequestReader,
+    reply: Vec<u8>,
     session: Server,
     stale: Server,
     ghost at: { IsAt (kinds of_holds of_stacks of_reel) (state drives session) },
@@ -154,6 +156,7 @@ impl Link {
             alloc,
             drives,
             wire,
+            reply: Vec::new(alloc),
             session,
             stale,
         })
@@ -163,6 +166,11 @@ impl Link {
     /// the connection before is as it was; that of the one before it has ended.
     pub(super) fn connect(&mut self, dumper: &mut Dumper) -> Result<(), Fail> {
         dumper.start()?;
+        self.renew()
+    }
+
+    /// A new connection with a session of its own, as `connect` has it.
+    fn renew(&mut self) -> Result<(), Fail> {
         self.end_stale();
         self.wire = RequestReader::new(self.alloc)?;
         let Some(seat) = self.drives.holds.seat() else {
@@ -223,5 +231,37 @@ impl Link {
     /// The session of the connection before ends.
     pub(super) fn end_stale(&mut self) {
         end(&mut self.drives, &mut self.stale, &self.session);
+    }
+}
+
+/// The link as the far end of a connection, of which it tells nothing. Each request comes whole.
+impl Peer for Link {
+    ghost tells = { λ _ _. ⊥ };
+
+    fn connect(&mut self) -> bool {
+        self.end();
+        self.reply.clear();
+        self.renew().is_ok()
+    }
+
+    fn send(&mut self, bytes: &[u8]) -> bool {
+        match self.serve(bytes) {
+            Ok(reply) => {
+                self.reply = reply;
+                true
+            }
+            Err(_) => false,
+        }
+    }
+
+    fn receive(&mut self, into: &mut [u8]) -> usize {
+        let count = into.len().min(self.reply.len());
+        into[..count].copy_from_slice(&self.reply.as_slice()[..count]);
+        self.reply.clear();
+        count
+    }
+
+    fn hang_up(&mut self) {
+        self.end();
     }
 }

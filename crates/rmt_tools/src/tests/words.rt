@@ -96,3 +96,89 @@ fn words_are_refused(rt: HostRuntime) {
         }
     }
 }
+
+/// The words of a dump.
+const DUMPED: [&str; 17] = [
+    "rdump",
+    "dump",
+    "--to",
+    "h:1",
+    "--device",
+    "d",
+    "--fs",
+    "/usr",
+    "--level",
+    "1",
+    "--payload",
+    "p",
+    "--block",
+    "1024",
+    "--dumpdates=f",
+    "--date=9223372036854775807",
+    "--update",
+];
+
+#[test]
+fn words_of_a_dump(rt: HostRuntime) {
+    match rdump_words(rt.alloc(), DUMPED.as_slice()) {
+        Ok(RdumpLine::Dump(line)) => {
+            assert_eq!(&rt;
+                (line.to, line.device, line.fs, line.level),
+                ("h:1", "d", "/usr", 1)
+            );
+            assert_eq!(&rt;
+                (line.payload, line.block, line.dumpdates),
+                ("p", 1024, "f")
+            );
+            assert_eq!(&rt; (line.date, line.update), (Some(9223372036854775807), true));
+        }
+        _ => panic!(&rt; "no dump"),
+    }
+    match rdump_words(rt.alloc(), &DUMPED.as_slice()[..15]) {
+        Ok(RdumpLine::Dump(line)) => assert_eq!(&rt; (line.date, line.update), (None, false)),
+        _ => panic!(&rt; "no dump"),
+    }
+    assert!(&rt; rdump_words(rt.alloc(), &DUMPED.as_slice()[..14]).is_err());
+}
+
+#[test]
+fn words_of_a_read_and_an_operation(rt: HostRuntime) {
+    let words = [
+        "rdump", "read", "--to", "h:1", "--device", "d", "--out", "o",
+    ]
+    .as_slice();
+    match rdump_words(rt.alloc(), words) {
+        Ok(RdumpLine::Read(line)) => {
+            assert_eq!(&rt; (line.to, line.device, line.out), ("h:1", "d", "o"));
+        }
+        _ => panic!(&rt; "no read"),
+    }
+    let words = [
+        "rdump",
+        "mt",
+        "--to=h:1",
+        "--device=d",
+        "offline",
+        "2147483647",
+    ]
+    .as_slice();
+    match rdump_words(rt.alloc(), words) {
+        Ok(RdumpLine::Mt(line)) => {
+            assert_eq!(&rt;
+                (line.to, line.device, line.op, line.count),
+                ("h:1", "d", 6, 2147483647)
+            );
+        }
+        _ => panic!(&rt; "no operation"),
+    }
+    let bad = [
+        ("rewind", "2147483648"),
+        ("eject", "1"),
+        ("nop", "+1"),
+        ("nop", ""),
+    ];
+    for (op, count) in bad {
+        let words = ["rdump", "mt", "--to=h:1", "--device=d", op, count];
+        assert!(&rt; rdump_words(rt.alloc(), words.as_slice()).is_err());
+    }
+}
