@@ -2,4 +2,3 @@ pub mod Endings
 pub mod Resting
 pub mod Entering
 pub mod Reached
-pub mod App

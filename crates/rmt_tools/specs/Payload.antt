@@ -3,7 +3,7 @@ use Rattle.std.specs.Prelude.{◌≡◌, ℕ, zero, suc, ◌*◌, ◌-◌, ◌++
 use Rattle.std.specs.Int.{div_ceil}
 use Rattle.dump_run.specs.Blocks.{Listed, listed, cut_blocks}
 use Rattle.dump_run.specs.Run.{PlainRun, plain_run, IsFirstBroken}
-use Rattle.rmt_tools.specs.declared.run_line.DumpLine.{DumpLine}
+use Rattle.rmt_words.specs.declared.run_line.DumpLine.{DumpLine}
 use Rattle.rmt_tools.specs.declared.payload.DumperFault.{DumperFault}
 use Rattle.rmt_tools.specs.declared.payload.DumperFault.TheVariants.{Run, OutOfMemory}
 

@@ -6,6 +6,4 @@ mod failing;
 mod link;
 mod listening;
 mod rows;
-mod server_words;
 mod updates;
-mod words;

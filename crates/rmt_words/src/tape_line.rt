@@ -1,7 +1,7 @@
 //! The words of `rdump read` and `rdump mt`.
 ghost use Rattle.std.specs.Prelude.{◌≡◌, ◌≤◌, ◌↔◌, IfOk, IfSome, IsTrue};
 ghost use Rattle.dump_run.specs.Run.{IsDevice};
-ghost use Rattle.rmt_tools.specs.Rdump.{IsMtLine, IsReadLine, count_limit};
+ghost use Rattle.rmt_words.specs.Rdump.{IsMtLine, IsReadLine, count_limit};
 
 use crate::number::number_of;
 use crate::rdump_line::{WordFault, required, value_in};

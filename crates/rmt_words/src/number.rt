@@ -1,5 +1,5 @@
 //! Numbers in words.
-ghost use Rattle.rmt_tools.specs.Rmtd.{SaysNumber};
+ghost use Rattle.rmt_words.specs.Rmtd.{SaysNumber};
 
 /// The greatest number that a word can say.
 const NUMBER_LIMIT: u64 = 9_223_372_036_854_775_807;

@@ -2,7 +2,7 @@
 
 ghost use Rattle.std.specs.Prelude.{◌≡◌, map, codes, false, [], IfOk, IfErr, IsErrOf, MatchOption, MatchResult, option_map};
 ghost use Rattle.clap.specs.Words.{app_of, first_of, found_of, kind_of, new_app, rows_of, rule_of};
-ghost use Rattle.rmt_tools.specs.Rmtd.{app, faults_in, flag_rule, has_stdio, matches_in, option_rule, with_version, IsLineIn, IsLineOf, IsRefused, KeepsRules, ReadsCapacity, ReadsConnections, SaysNumber, IsNumberIfGiven};
+ghost use Rattle.rmt_words.specs.Rmtd.{app, faults_in, flag_rule, has_stdio, matches_in, option_rule, with_version, IsLineIn, IsLineOf, IsRefused, KeepsRules, ReadsCapacity, ReadsConnections, SaysNumber, IsNumberIfGiven};
 
 use crate::number::number_of;
 use clap::error::ErrorKind;

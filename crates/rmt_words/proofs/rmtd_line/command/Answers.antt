@@ -1,7 +1,7 @@
 use Rattle.std.proofs.Common.{ap₂, ◌∙◌}
 use Rattle.clap.specs.Words.{with_rule}
-use Rattle.rmt_tools.specs.Rmtd.{app}
-use Rattle.rmt_tools.proofs.rmtd_line.command.Goals as goal
+use Rattle.rmt_words.specs.Rmtd.{app}
+use Rattle.rmt_words.proofs.rmtd_line.command.Goals as goal
 
 pub returns : goal.returns
 unfolding app

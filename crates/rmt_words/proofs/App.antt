@@ -5,7 +5,7 @@ use Rattle.clap.specs.declared.error.Error.{Error}
 use Rattle.clap.specs.declared.error.kind.ErrorKind.{ErrorKind}
 use Rattle.clap.specs.declared.error.kind.ErrorKind.TheVariants.{OutOfMemory}
 use Rattle.clap.proofs.OnLiterals.{clap_on_literals}
-use Rattle.rmt_tools.specs.Rmtd.{app}
+use Rattle.rmt_words.specs.Rmtd.{app}
 
 pub app-is_simple : is_simple app ≡ true
 unfolding app clap_on_literals

@@ -5,7 +5,7 @@ use Rattle.std.specs.Str.{bytes_eq}
 use Rattle.std.specs.Str.Parse.{IsNumeral, digits_value}
 use Rattle.clap.specs.Words.{App, Row, Rule, Text, Kinds, fault_of, first_of, matches_of, new_app, new_rule, with_rule}
 use Rattle.clap.specs.declared.builder.action.ArgAction.TheVariants.{Set, SetTrue}
-use Rattle.rmt_tools.specs.declared.rmtd_line.ServerLine.{ServerLine}
+use Rattle.rmt_words.specs.declared.rmtd_line.ServerLine.{ServerLine}
 
 -- `--NAME`, which takes no value
 abbrev pub flag_rule : Text → Rule

@@ -2,7 +2,7 @@
 
 ghost use Rattle.std.specs.Prelude.{◌≡◌, ◌↔◌, ℕ, ◌≤◌, ◌+◌, ◌∷◌, [], IfOk, IfSome, IsSome, IsTrue, option_map};
 ghost use Rattle.dumpdates.specs.Entry.{IsName};
-ghost use Rattle.rmt_tools.specs.Rdump.{IsAsked, IsDumpLine, IsMtLine, IsRdumpLine, IsReadLine};
+ghost use Rattle.rmt_words.specs.Rdump.{IsAsked, IsDumpLine, IsMtLine, IsRdumpLine, IsReadLine};
 
 use crate::run_line::{DumpLine, dump_command, dump_in};
 use crate::tape_line::{MtLine, ReadLine, mt_command, mt_in, read_command, read_in};

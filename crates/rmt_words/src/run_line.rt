@@ -1,7 +1,7 @@
 //! The words of `rdump dump`.
 ghost use Rattle.std.specs.Prelude.{◌≤◌, IfOk, IfSome};
-ghost use Rattle.rmt_tools.specs.Rdump.{IsDumpLine};
-ghost use Rattle.rmt_tools.specs.Rmtd.{number_limit};
+ghost use Rattle.rmt_words.specs.Rdump.{IsDumpLine};
+ghost use Rattle.rmt_words.specs.Rmtd.{number_limit};
 
 use crate::number::number_of;
 use crate::rdump_line::{WordFault, required, value_in};

@@ -1,7 +1,7 @@
 use Rattle.std.proofs.Common.{rules, codes, ◌∙◌}
 use Rattle.clap.specs.Words.{found_of}
 use Rattle.clap.proofs.WalkLemmas.{first_value-rows}
-use Rattle.rmt_tools.proofs.rmtd_line.stdio_of.Goals as goal
+use Rattle.rmt_words.proofs.rmtd_line.stdio_of.Goals as goal
 
 pub returns-in-Some : goal.returns-in-Some
 returns-in-Some c =

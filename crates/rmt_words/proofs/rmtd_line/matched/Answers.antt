@@ -1,9 +1,9 @@
 use Rattle.std.proofs.Common.{ap, sym, map, List, ℕ, Bor, ◌≡◌, ◌∙◌}
 use Rattle.std.proofs.lemmas.Result.{IfOk-weaker}
 use Rattle.clap.specs.Words.{App, Text, FailsBy, fault_of, is_simple, is_simple_and_free, matches_of}
-use Rattle.rmt_tools.specs.Rmtd.{app, faults_in, matches_in}
-use Rattle.rmt_tools.proofs.App.{app-is_simple, app-is_simple_and_free, taken_where_ok, some_where_not_memory}
-use Rattle.rmt_tools.proofs.rmtd_line.matched.Goals as goal
+use Rattle.rmt_words.specs.Rmtd.{app, faults_in, matches_in}
+use Rattle.rmt_words.proofs.App.{app-is_simple, app-is_simple_and_free, taken_where_ok, some_where_not_memory}
+use Rattle.rmt_words.proofs.rmtd_line.matched.Goals as goal
 
 pub returns-clause-rows : goal.returns-clause-rows
 unfolding matches_in
