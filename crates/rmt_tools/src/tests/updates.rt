@@ -78,7 +78,7 @@ impl DatesStore for Kept {
     }
 }
 
-fn kept(alloc: Global, text: &[u8], reads: bool, takes: bool) -> Result<Kept, Fail> {
+fn file_of(alloc: Global, text: &[u8], reads: bool, takes: bool) -> Result<Kept, Fail> {
     Ok(Kept {
         text: Vec::from_slice(alloc, text)?,
         reads,
@@ -97,7 +97,7 @@ fn check_dump(
 ) -> Result<(), Fail> {
     let mut link = Link::new(alloc, THREE_RECORDS, reels)?;
     let mut client = three_blocks(alloc)?;
-    let mut store = kept(alloc, OLD, true, true)?;
+    let mut store = file_of(alloc, OLD, true, true)?;
     let mut operator = b"".as_slice();
     let mut printed = Vec::new(alloc);
     let mut out = Counted::new(&mut printed);
@@ -148,18 +148,18 @@ fn a_dump_that_cannot_be_entered(rt: HostRuntime) -> Result<(), Fail> {
     let Some(entry) = Entry::new("/usr", 1, 951868800) else {
         return Err(Fail::new("no entry"));
     };
-    let mut store = kept(alloc, OLD, true, true)?;
+    let mut store = file_of(alloc, OLD, true, true)?;
     assert_eq!(&rt; update(alloc, &mut store, entry), Ok(()));
     assert_eq!(&rt; update(alloc, &mut store, entry), Ok(()));
     assert_eq!(&rt; store.text.as_slice(), ENTERED);
-    let mut store = kept(alloc, OLD, false, true)?;
+    let mut store = file_of(alloc, OLD, false, true)?;
     assert_eq!(&rt; update(alloc, &mut store, entry), Err(UpdateFault::Unread));
-    let mut store = kept(alloc, OLD, true, false)?;
+    let mut store = file_of(alloc, OLD, true, false)?;
     assert_eq!(&rt;
         update(alloc, &mut store, entry),
         Err(UpdateFault::Unwritten)
     );
-    let mut store = kept(alloc, b"\n/usr", true, true)?;
+    let mut store = file_of(alloc, b"\n/usr", true, true)?;
     let bad = UpdateFault::Dates(dumpdates::DatesFault::BadLine(2));
     assert_eq!(&rt; update(alloc, &mut store, entry), Err(bad));
     assert_eq!(&rt; store.text.as_slice(), b"\n/usr".as_slice());

@@ -10,7 +10,7 @@ use Rattle.tape.specs.declared.reel.Reel.{Ghosts as ReelPromise}
 use Rattle.tape.specs.contracts.troubled.TroubledReelReel.TheImpl.{ghosts as of_reel}
 use Rattle.rmt_server.specs.declared.session.desk.Desk.{Desk}
 use Rattle.rmt_server.specs.State.{state, IsAt}
-use Rattle.rmt_tools.proofs.tests.link.Link.connect.Goals as goal
+use Rattle.rmt_tools.proofs.tests.link.Link.renew.Goals as goal
 
 -- one seat more leaves the drives those of each other seat
 at_more : {S R : Type 0} (s : StacksPromise S R) (r : ReelPromise R) (old : DriveTable Holders S View R) (new : Holders) (desk : Desk View R)
