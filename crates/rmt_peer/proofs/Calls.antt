@@ -48,8 +48,7 @@ module _ {P : Type 0} (tells : P → List Passed → Type 0) where
       → text ≡ request_text request → bytes ≡ text → whole ≡ true → IsSent bytes whole sent → Logs tells p q sent → wanted ≡ wanted_by request → IsHeard tells wanted result q r → IsCalled tells request result p r
   sent_and_heard request wanted result p q r text bytes whole sent e same all h logs w heard =
       let told : sent ≡ map Sent bytes = subst (λ v. IsSent bytes v sent) all h in
-      let is : sent ≡ map Sent (request_text request) = told ∙ ap (map Sent) (same ∙ e) in
-      (
+      let is : sent ≡ map Sent (request_text request) = told ∙ ap (map Sent) (same ∙ e) in (
         sent ++ heard.0,
         inl (heard.0, subst (λ v. Brings v result heard.0) w heard.1, ap (λ s. s ++ heard.0) is),
         logs_both p q r sent heard.0 logs heard.2,

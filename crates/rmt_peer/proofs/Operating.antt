@@ -41,7 +41,7 @@ module _ {P : Type 0} (tells : P → List Passed → Type 0) (device : List ℕ)
       let first = plain_answer opened in (
         first ∷ reply ∷ [],
         extends_both next tells p q r [] (first ∷ []) (first ∷ reply ∷ []) (call_extends next tells p q [] request result opened (ap Some (sym e)) is h)
-        (call_extends next tells q r (first ∷ []) (Op op count) (Ok answer) answer (ap (λ b. if b then Some (Op op count) else Some Close) met) refl k),
+            (call_extends next tells q r (first ∷ []) (Op op count) (Ok answer) answer (ap (λ b. if b then Some (Op op count) else Some Close) met) refl k),
         ap (λ b. if b then Some Close else None) met,
         ap (λ b. if b then Some reply else Some first) met,
         λ closed. (refl, ap (λ b. if b then Some reply else Some first) met),
@@ -51,7 +51,7 @@ module _ {P : Type 0} (tells : P → List Passed → Type 0) (device : List ℕ)
       let first = plain_answer opened in (
         first ∷ [],
         finishes_after next tells p q r [] (first ∷ []) (first ∷ []) (Some fault) (call_extends next tells p q [] request result opened (ap Some (sym e)) is h)
-        (call_finishes next tells q r (first ∷ []) (Op op count) (Err fault) fault (ap (λ b. if b then Some (Op op count) else Some Close) met) refl k),
+            (call_finishes next tells q r (first ∷ []) (Op op count) (Err fault) fault (ap (λ b. if b then Some (Op op count) else Some Close) met) refl k),
         ap (λ b. if b then None else Some first) met,
       )
 

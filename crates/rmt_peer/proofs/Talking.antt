@@ -10,7 +10,7 @@ use Rattle.dump_client.specs.declared.stage.Stage.{Stage}
 use Rattle.dump_client.specs.declared.stage.Stage.TheVariants.{Ready, ToSend, Waiting, Asking, Finished, Abandoned}
 use Rattle.rmt_peer.specs.Peer.{IsSent, Logs, connected, given}
 use Rattle.rmt_peer.specs.declared.peer.Passed.{Passed}
-use Rattle.rmt_peer.specs.declared.peer.Passed.TheVariants.{Given, Ended}
+use Rattle.rmt_peer.specs.declared.peer.Passed.TheVariants.{Given, Sent, Ended}
 use Rattle.rmt_peer.specs.Talk.{TalkStep, Talks, TalksAlone, TalksOver}
 use Rattle.rmt_peer.specs.Talk.TalkStep.{starts, stays, asks, has_none, hears, ends, answers}
 use Rattle.rmt_peer.specs.Talk.Talks.{none, one_more}
@@ -220,3 +220,8 @@ some_given (r ∷ room) n within some = some_bytes r room (take n (r ∷ room)) 
 
 pub none_given : (room : List ℕ) (n : ℕ) → 0 < length room → n ≡ 0 → given room (take n room) ≡ Ended ∷ []
 none_given room n some e = ap (λ m. given room (take m room)) e ∙ into_room room some
+
+-- something was sent, all of the bytes or none
+pub some_sent : (bytes : List ℕ) (whole : Bool) → (passed : List Passed) × IsSent bytes whole passed
+some_sent bytes true = (map Sent bytes, refl)
+some_sent bytes false = (map Sent (take 0 bytes) ++ Ended ∷ [], (0, refl))

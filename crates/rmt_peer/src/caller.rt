@@ -93,11 +93,7 @@ fn hear<P: Peer>(
 }
 
 /// Takes a piece of what came to where a reply is waited for. None where all that came is a beginning of one.
-fn take(
-    alloc: Global,
-    reader: &mut ReplyReader,
-    piece: &[u8],
-) -> Result<Option<Answer>, CallFault>
+fn take(alloc: Global, reader: &mut ReplyReader, piece: &[u8]) -> Result<Option<Answer>, CallFault>
     requires { (wanted : kinds.Wanted) × (bytes : List ℕ) × IsWaiting wanted reader.old bytes }
     ensures { (wanted : kinds.Wanted) (bytes : List ℕ) → IsWaiting wanted reader.old bytes →
         IsTaken wanted (bytes ++ piece.now) result reader.new }

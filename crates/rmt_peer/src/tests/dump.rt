@@ -17,7 +17,9 @@ const FULL: Replies<'static> = &[
 ];
 
 /// One block, which is the last.
-const LAST: Replies<'static> = &[b"A0\n", b"A1\n", b"A1024\n", b"A1024\n", b"A1\n", b"A1\n", b"A0\n"];
+const LAST: Replies<'static> = &[
+    b"A0\n", b"A1\n", b"A1024\n", b"A1024\n", b"A1\n", b"A1\n", b"A0\n",
+];
 
 /// A drive without a reel.
 const EMPTY: Replies<'static> = &[b"E6\nDevice not configured\n"];
@@ -38,7 +40,15 @@ fn payload(alloc: Global, blocks: u32) -> Result<Vec<u8>, Fail>
 fn client(alloc: Global, blocks: u32) -> Result<Client<ListBlocks>, Fail>
     requires { blocks ≤ 3 }
 {
-    let run = Run::new(b"/dev/st0", "/usr", 0, 951782400, 0, 1024, u64::from(blocks))?;
+    let run = Run::new(
+        b"/dev/st0",
+        "/usr",
+        0,
+        951782400,
+        0,
+        1024,
+        u64::from(blocks),
+    )?;
     let source = ListBlocks::new(payload(alloc, blocks)?, BLOCK_BYTES, blocks);
     Ok(Client::new(alloc, run, source)?)
 }
@@ -63,7 +73,8 @@ fn check_dump(
 
 #[test]
 fn two_volumes(rt: HostRuntime) -> Result<(), Fail> {
-    let lines = b"volume 1: 2 blocks from 0\nvolume 2: 1 blocks from 2\ndump complete: 2 volumes, 3 blocks\n";
+    let lines =
+        b"volume 1: 2 blocks from 0\nvolume 2: 1 blocks from 2\ndump complete: 2 volumes, 3 blocks\n";
     check_dump(&rt, rt.alloc(), &[FULL, LAST], b"", lines, 0)
 }
 
@@ -76,7 +87,8 @@ fn an_abandon(rt: HostRuntime) -> Result<(), Fail> {
 /// The third connection is made after `yes`, and the fourth cannot be.
 #[test]
 fn a_retry(rt: HostRuntime) -> Result<(), Fail> {
-    let lines = b"volume 1 failed: Refused 6\nretry?\nvolume 1: 2 blocks from 0\nvolume 2 failed: ConnectionEnded\nretry?\ndump abandoned\n";
+    let lines =
+        b"volume 1 failed: Refused 6\nretry?\nvolume 1: 2 blocks from 0\nvolume 2 failed: ConnectionEnded\nretry?\ndump abandoned\n";
     check_dump(&rt, rt.alloc(), &[EMPTY, FULL], b"yes\nno\n", lines, 3)
 }
 
@@ -108,7 +120,10 @@ fn an_attempt_that_is_under_way(rt: HostRuntime) -> Result<(), Fail> {
     assert!(rt; client.start().is_ok());
     let told = dump(rt.alloc(), &mut client, &mut peer, &mut says, &mut out);
     assert_eq!(rt; told, 3);
-    assert_eq!(rt; out.into_inner().as_slice(), b"volume 1 failed: ConnectionEnded\nretry?\ndump abandoned\n".as_slice());
+    assert_eq!(rt;
+        out.into_inner().as_slice(),
+        b"volume 1 failed: ConnectionEnded\nretry?\ndump abandoned\n".as_slice()
+    );
     Ok(())
 }
 

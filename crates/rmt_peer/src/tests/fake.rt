@@ -11,7 +11,9 @@ pub(super) type Replies<'a> = &'a [&'a [u8]];
 pub(super) struct FakePeer<'a> {
     pub(super) sent: Vec<u8>,
     connections: &'a [Replies<'a>],
-    replies: Option<Replies<'a>>,
+    made: usize,
+    current: Option<usize>,
+    given: usize,
 }
 
 impl<'a> FakePeer<'a> {
@@ -19,7 +21,9 @@ impl<'a> FakePeer<'a> {
         FakePeer {
             sent: Vec::new(alloc),
             connections,
-            replies: None,
+            made: 0,
+            current: None,
+            given: 0,
         }
     }
 }
@@ -28,31 +32,34 @@ impl<'a> Peer for FakePeer<'a> {
     ghost tells = { λ _ _. ⊥ };
 
     fn connect(&mut self) -> bool {
-        match self.connections.split_first() {
-            Some((replies, later)) => {
-                self.replies = Some(replies);
-                self.connections = later;
-                true
-            }
-            None => {
-                self.replies = None;
-                false
-            }
+        if self.made >= self.connections.len() {
+            self.current = None;
+            return false;
         }
+        self.current = Some(self.made);
+        self.given = 0;
+        self.made += 1;
+        true
     }
 
     fn send(&mut self, bytes: &[u8]) -> bool {
-        self.replies.is_some() && self.sent.extend_from_slice(bytes).is_ok()
+        match self.current {
+            Some(_) => self.sent.extend_from_slice(bytes).is_ok(),
+            None => false,
+        }
     }
 
     fn receive(&mut self, into: &mut [u8]) -> usize {
-        let Some(replies) = self.replies else {
+        let Some(current) = self.current else {
             return 0;
         };
-        match replies.split_first() {
-            Some((reply, later)) if reply.len() <= into.len() => {
+        let Some(replies) = self.connections.get(current) else {
+            return 0;
+        };
+        match replies.get(self.given) {
+            Some(reply) if reply.len() <= into.len() => {
                 into[..reply.len()].copy_from_slice(reply);
-                self.replies = Some(later);
+                self.given = self.given.saturating_add(1);
                 reply.len()
             }
             _ => 0,
@@ -60,7 +67,7 @@ impl<'a> Peer for FakePeer<'a> {
     }
 
     fn hang_up(&mut self) {
-        self.replies = None;
+        self.current = None;
     }
 }
 

@@ -8,7 +8,13 @@ use std::test::Fail;
 type Row<'a> = (u32, Replies<'a>, &'a [u8], &'a [u8], u8);
 
 const ROWS: [Row<'static>; 8] = [
-    (0, &[b"A0\n", b"A1\n", b"A0\n"], b"O/dev/st0\n2\nI0\n1\nC\n", b"A1\n", 0),
+    (
+        0,
+        &[b"A0\n", b"A1\n", b"A0\n"],
+        b"O/dev/st0\n2\nI0\n1\nC\n",
+        b"A1\n",
+        0,
+    ),
     (
         3,
         &[b"A0\n", b"E5\nInput/output error\n", b"A0\n"],
@@ -18,13 +24,29 @@ const ROWS: [Row<'static>; 8] = [
     ),
     (
         7,
-        &[b"E6\nDevice ", b"not configured\n", b"E9\nBad file descriptor\n"],
+        &[
+            b"E6\nDevice ",
+            b"not configured\n",
+            b"E9\nBad file descriptor\n",
+        ],
         b"O/dev/st0\n0\nC\n",
         b"E6 Device not configured\n",
         3,
     ),
-    (6, &[b"A", b"0", b"\n", b"A1\n"], b"O/dev/st0\n0\nI6\n1\nC\n", b"A1\n", 0),
-    (6, &[b"A0\n", b"A1\n", b"E9\nBad file descriptor\n"], b"O/dev/st0\n0\nI6\n1\nC\n", b"A1\n", 0),
+    (
+        6,
+        &[b"A", b"0", b"\n", b"A1\n"],
+        b"O/dev/st0\n0\nI6\n1\nC\n",
+        b"A1\n",
+        0,
+    ),
+    (
+        6,
+        &[b"A0\n", b"A1\n", b"E9\nBad file descriptor\n"],
+        b"O/dev/st0\n0\nI6\n1\nC\n",
+        b"A1\n",
+        0,
+    ),
     (5, &[b"A0\n", b"A"], b"O/dev/st0\n0\nI5\n1\n", b"", 3),
     (5, &[b"A0\n", b"A1\nA0\n"], b"O/dev/st0\n0\nI5\n1\n", b"", 3),
     (5, &[b"X\n"], b"O/dev/st0\n0\n", b"", 3),

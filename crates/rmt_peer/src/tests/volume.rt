@@ -8,7 +8,14 @@ const ALL_SENT: &[u8] = b"O/dev/st0\n0\nI5\n1\nR65536\nR65536\nR65536\nR65536\nC
 
 /// A label of three bytes, and two records.
 const REPLIES: Replies<'static> = &[
-    b"A0\n", b"A1\n", b"A5\none\0\0", b"A3\nabc", b"A2\nd", b"e", b"A0\n", b"A0\n",
+    b"A0\n",
+    b"A1\n",
+    b"A5\none\0\0",
+    b"A3\nabc",
+    b"A2\nd",
+    b"e",
+    b"A0\n",
+    b"A0\n",
 ];
 
 #[test]
@@ -30,15 +37,24 @@ fn faults(rt: HostRuntime) -> Result<(), Fail> {
     let rows: [(Replies<'_>, ReadFault); 6] = [
         (
             &[b"E6\nDevice not configured\n"],
-            ReadFault::Refused { asked: Asked::Open, number: 6 },
+            ReadFault::Refused {
+                asked: Asked::Open,
+                number: 6,
+            },
         ),
         (
             &[b"A0\n", b"A1\n", b"A1\na", b"E5\nInput/output error\n"],
-            ReadFault::Refused { asked: Asked::Read, number: 5 },
+            ReadFault::Refused {
+                asked: Asked::Read,
+                number: 5,
+            },
         ),
         (
             &[b"A0\n", b"A1\n", b"A0\n", b"E9\nBad file descriptor\n"],
-            ReadFault::Refused { asked: Asked::Close, number: 9 },
+            ReadFault::Refused {
+                asked: Asked::Close,
+                number: 9,
+            },
         ),
         (&[b"A0\n", b"A1\n", b"A5\nab"], ReadFault::ConnectionEnded),
         (&[b"A0\n", b"A1\n", b"A65537\n"], ReadFault::Botched),
@@ -60,7 +76,10 @@ fn faults(rt: HostRuntime) -> Result<(), Fail> {
 
 #[test]
 fn faults_are_told(rt: HostRuntime) -> Result<(), Fail> {
-    let refused = ReadFault::Refused { asked: Asked::Rewind, number: 5 };
+    let refused = ReadFault::Refused {
+        asked: Asked::Rewind,
+        number: 5,
+    };
     let text = format!(in rt.alloc(); "{refused}")?;
     assert_eq!(rt; text.as_str(), "rewind refused with E5");
     Ok(())

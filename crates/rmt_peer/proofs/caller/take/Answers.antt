@@ -43,9 +43,9 @@ returns-then-at-piece c = λ wanted bytes u.
     (c.in-Ok-Some.is ∙ ap Ok c.in-Ok-Some.field-0-is)
     (λ rest held.
     elim c.then-at-piece.branch [
-      then-at-piece-via-then-at-piece w ↦ piece_behind c.args.piece.now (c.loop-at.at + c.push-at.result) w.if-at-piece.true rest
+      | then-at-piece-via-then-at-piece w ↦ piece_behind c.args.piece.now (c.loop-at.at + c.push-at.result) w.if-at-piece.true rest
       | then-at-piece-via-else-at-piece+then-not-is_empty w ↦
-        bytes_behind rest (drop (c.loop-at.at + c.push-at.result) c.args.piece.now) (λ none. let full = (w.is_empty.ensures.value _ rest held).1 none in let no = w.if-not-is_empty.true in cc)
+          bytes_behind rest (drop (c.loop-at.at + c.push-at.result) c.args.piece.now) (λ none. let full = (w.is_empty.ensures.value _ rest held).1 none in let no = w.if-not-is_empty.true in cc)
     ])
 
 pub returns-in-Ok-Some : goal.returns-in-Ok-Some

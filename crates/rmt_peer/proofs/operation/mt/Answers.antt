@@ -22,7 +22,7 @@ returns-in_default g c = record {
 pub returns-then-not-connect : goal.returns-then-not-connect
 returns-then-not-connect g c =
     let w = no_talk (next_of c.args.device.now c.args.op c.args.count) g.P.Peer.tells c.args.peer.now c.connect.new.self
-        (subst (λ made. Logs g.P.Peer.tells c.args.peer.now c.connect.new.self (connected made)) c.if-not-connect.true c.connect.ensures) in
+    (subst (λ made. Logs g.P.Peer.tells c.args.peer.now c.connect.new.self (connected made)) c.if-not-connect.true c.connect.ensures) in
     record {
       replies = [];
       fault = Some ConnectionEnded;
@@ -38,7 +38,7 @@ pub returns : goal.returns
 returns g c =
     let o = c.operate-status.ensures in
     let w = whole_talk (next_of c.args.device.now c.args.op c.args.count) g.P.Peer.tells c.args.peer.now c.connect.new.self c.operate-status.new.peer c.hang_up.new.self o.fault o.replies
-        (subst (λ made. Logs g.P.Peer.tells c.args.peer.now c.connect.new.self (connected made)) c.if-not-connect.false c.connect.ensures) o.finishes c.hang_up.ensures in
+    (subst (λ made. Logs g.P.Peer.tells c.args.peer.now c.connect.new.self (connected made)) c.if-not-connect.false c.connect.ensures) o.finishes c.hang_up.ensures in
     record {
       replies = o.replies;
       fault = o.fault;
