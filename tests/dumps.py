@@ -405,7 +405,58 @@ def take_dump(listener: socket.socket, sent: list[bytes]) -> None:
                 stream.sendall(b"A0\n")
 
 
+def checks_of_reads(world: World) -> Iterator[Check]:
+    """A volume that a client wrote and closed is read back, equal to the byte; then one that is not there."""
+    label = b"name /usr\nlevel 0\nvolume 1\n"
+    records = (bytes(range(256)) * 256, b"x", b"\0" * 1024)
+    written = b"O/dev/st0\n2\nW1024\n" + label.ljust(1024, b"\0")
+    written += b"".join(b"W%d\n" % len(record) + record for record in records) + b"I0\n1\nC\n"
+    out = world.folder / "out"
+    with world.serving(MIB) as server:
+        server.converse(written)
+        got = world.run("read", "--to", server.address, "--device", "/dev/st0", "--out", "out")
+        yield Check("a volume that is read", Ended(label, b"", DONE), got)
+        yield Check("its records", b"".join(records), out.read_bytes())
+        got = world.run("read", "--to", server.address, "--device", "/dev/st9", "--out", "out")
+        yield Check("a volume of a drive that is not there", (b"", ABNORMAL), (got.output, got.status))
+        got = world.run("read", "--to", server.address, "--device", "/dev/st0", "--out", "nowhere/out")
+        yield Check("a file that can't be made", (b"", FAILED, True), (got.output, got.status, b"nowhere/out" in got.told))
+    got = world.run("read", "--to", server.address, "--device", "/dev/st0", "--out", "out")
+    yield Check("a volume without a server", (b"", ABNORMAL), (got.output, got.status))
+
+
+# Operations in a row at one drive, each with what is printed and the status; the last are after the reel is away.
+OPERATIONS = (
+    ("weof", "1", b"A1\n", DONE),
+    ("fsf", "1", b"A1\n", DONE),
+    ("fsr", "1", b"E5 Input/output error\n", ABNORMAL),
+    ("bsf", "1", b"E5 Input/output error\n", ABNORMAL),
+    ("bsr", "0", b"A0\n", DONE),
+    ("rewind", "7", b"A7\n", DONE),
+    ("nop", "2147483647", b"A2147483647\n", DONE),
+    ("offline", "1", b"A1\n", DONE),
+    ("nop", "1", b"E6 Device not configured\n", ABNORMAL),
+)
+
+
+def checks_of_operations(world: World) -> Iterator[Check]:
+    """Each operation of `rdump mt`, and words that are none."""
+    with world.serving(MIB) as server:
+        for operation, count, lines, status in OPERATIONS:
+            got = world.run("mt", "--to", server.address, "--device", "/dev/st0", operation, count)
+            yield Check(f"mt {operation} {count}", Ended(lines, b"", status), got)
+        got = world.run("mt", "--to", server.address, "--device", "/dev/st9", "nop", "1")
+        yield Check("a drive that is not there", Ended(b"E2 No such file or directory\n", b"", ABNORMAL), got)
+        for words in (("eject", "1"), ("nop", "2147483648"), ("nop", "x"), ("nop",), ()):
+            got = world.run("mt", "--to", server.address, "--device", "/dev/st0", *words)
+            yield Check(f"the words mt {words}", (b"", True, FAILED), (got.output, bool(got.told), got.status))
+    got = world.run("mt", "--to", server.address, "--device", "/dev/st0", "nop", "1")
+    yield Check("an operation without a server", (b"", ABNORMAL), (got.output, got.status))
+
+
 KINDS: Sequence[Callable[[World], Iterator[Check]]] = (
+    checks_of_operations,
+    checks_of_reads,
     checks_of_listening,
     checks_of_addresses,
     checks_of_starts,

@@ -1,17 +1,24 @@
 //! The dump client.
 #![tactic(auto)]
 
+ghost use Rattle.rmt_tools.specs.Rdump.{IsMtLine, IsReadLine};
+
 use clap::error::ErrorKind;
+use rmt_peer::{ReadFault, copy_volume, mt};
 use rmt_tools::{
-    DatesFile, DumpLine, DumperFault, RdumpLine, RunFault, SocketPeer, base_date, dates, dump,
-    dump_and_update, dumper, rdump_words, read_or_empty, read_steady, seconds_now,
+    DatesFile, DumpLine, DumperFault, MtLine, RdumpLine, ReadLine, RunFault, SocketPeer, base_date, dates,
+    dump, dump_and_update, dumper, rdump_words, read_or_empty, read_steady, seconds_now,
 };
 use rmt_wire::Counted;
+use std::fs::{self, File};
 use std::process::ExitCode;
-use std::{env, fs, io};
+use std::{env, io};
 
 /// What the program ends with where its words are wrong, a file can't be read, or memory is refused.
 const FAILED: u8 = 1;
+
+/// What the program ends with where a volume was not read whole.
+const ABNORMAL: u8 = 3;
 
 /// Does what the words ask, and ends with its status.
 fn main(rt: HostRuntime) -> io::Result<ExitCode> {
@@ -31,8 +38,8 @@ fn words(rt: &HostRuntime) -> io::Result<Vec<String>> {
 fn run(rt: &HostRuntime, words: Vec<String>) -> io::Result<u8> {
     match rdump_words(rt.alloc(), words.as_slice()) {
         Ok(RdumpLine::Dump(line)) => start_dump(rt, &line),
-        Ok(RdumpLine::Read(line)) => say(rt, line.to, "this client does not read yet"),
-        Ok(RdumpLine::Mt(line)) => say(rt, line.to, "this client does no operation yet"),
+        Ok(RdumpLine::Read(line)) => read(rt, line),
+        Ok(RdumpLine::Mt(line)) => operate(rt, line),
         Ok(RdumpLine::Dates { file, asked }) => ask_dates(rt, file, asked),
         Err(error) => refuse(rt, error),
     }
@@ -67,12 +74,7 @@ fn start_dump(rt: &HostRuntime, line: &DumpLine<'_>) -> io::Result<u8> {
 }
 
 /// Dumps a payload that builds on a dump of the date `since`, and answers the status.
-fn run_dump(
-    rt: &HostRuntime,
-    line: &DumpLine<'_>,
-    payload: Vec<u8>,
-    since: u64,
-) -> io::Result<u8> {
+fn run_dump(rt: &HostRuntime, line: &DumpLine<'_>, payload: Vec<u8>, since: u64) -> io::Result<u8> {
     let Some(date) = line.date.or(seconds_now(rt)) else {
         return say(rt, "the clock", "it tells no date");
     };
@@ -86,13 +88,18 @@ fn run_dump(
     let mut out = Counted::new(rt.stdout());
     let status = if line.update {
         let mut store = DatesFile::new(rt, rt.alloc(), line.dumpdates);
-        dump_and_update(rt.alloc(), &mut client, &mut peer, &mut operator, &mut out, &mut store)
+        dump_and_update(
+            rt.alloc(),
+            &mut client,
+            &mut peer,
+            &mut operator,
+            &mut out,
+            &mut store,
+        )
     } else {
         dump(rt.alloc(), &mut client, &mut peer, &mut operator, &mut out)
     };
-    if out.failures() > 0 {
-        eprintln!(rt; "rdump: standard output could not be written")?;
-    }
+    tell_failed(rt, &out)?;
     Ok(status)
 }
 
@@ -100,7 +107,8 @@ fn run_dump(
 fn refuse_run(rt: &HostRuntime, fault: RunFault) -> io::Result<u8> {
     let what = match fault {
         RunFault::BadDevice => "--device <DEVICE>: a device is 1 to 255 bytes of one line",
-        RunFault::BadName => "--fs <NAME>: a name is 1 to 255 bytes of printable ASCII without a space",
+        RunFault::BadName =>
+            "--fs <NAME>: a name is 1 to 255 bytes of printable ASCII without a space",
         RunFault::BadLevel => "--level <LEVEL>: a level is 0 to 9",
         RunFault::BadDate => "--date <SECONDS>: a date is 0 to 253402300799",
         RunFault::BadBlockSize => "--block <BYTES>: a block is 1 to 65536 bytes",
@@ -108,6 +116,49 @@ fn refuse_run(rt: &HostRuntime, fault: RunFault) -> io::Result<u8> {
     };
     eprintln!(rt; "rdump: {fault}: {what}")?;
     Ok(FAILED)
+}
+
+/// Reads a volume back into a file, and answers the status.
+fn read(rt: &HostRuntime, line: ReadLine<'_>) -> io::Result<u8>
+    requires { IsReadLine line }
+{
+    let mut file = match File::create(rt, line.out) {
+        Ok(file) => Counted::new(file),
+        Err(error) => return tell(rt, line.out, error),
+    };
+    let mut peer = SocketPeer::new(rt, line.to);
+    let mut out = Counted::new(rt.stdout());
+    let device = line.device.as_bytes();
+    match copy_volume(rt.alloc(), &mut peer, device, &mut file, &mut out) {
+        Ok(()) => Ok(0),
+        Err(fault) => tell_read(rt, line, fault),
+    }
+}
+
+/// Tells why a volume was not read whole, and answers the status.
+fn tell_read(rt: &HostRuntime, line: ReadLine<'_>, fault: ReadFault) -> io::Result<u8> {
+    eprintln!(rt; "rdump: {}: {fault}", line.to)?;
+    Ok(ABNORMAL)
+}
+
+/// Does one operation at a drive, and answers the status.
+fn operate(rt: &HostRuntime, line: MtLine<'_>) -> io::Result<u8>
+    requires { IsMtLine line }
+{
+    let mut peer = SocketPeer::new(rt, line.to);
+    let mut out = Counted::new(rt.stdout());
+    let device = line.device.as_bytes();
+    let status = mt(rt.alloc(), &mut peer, device, line.op, line.count, &mut out);
+    tell_failed(rt, &out)?;
+    Ok(status)
+}
+
+/// Tells where standard output could not be written.
+fn tell_failed<W: io::Write>(rt: &HostRuntime, out: &Counted<W>) -> io::Result<()> {
+    if out.failures() > 0 {
+        eprintln!(rt; "rdump: standard output could not be written")?;
+    }
+    Ok(())
 }
 
 /// Asks a dumpdates file, and answers the status. A file that can't be read and a failed write are told.
@@ -118,9 +169,7 @@ fn ask_dates(rt: &HostRuntime, file: &str, asked: Option<(&str, u8)>) -> io::Res
     };
     let mut out = Counted::new(rt.stdout());
     let status = dates(rt.alloc(), &bytes, asked, &mut out);
-    if out.failures() > 0 {
-        eprintln!(rt; "rdump: standard output could not be written")?;
-    }
+    tell_failed(rt, &out)?;
     Ok(status)
 }
 
