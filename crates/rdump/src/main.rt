@@ -1,16 +1,17 @@
 //! The dump client.
 #![tactic(auto)]
 
-ghost use Rattle.rmt_tools.specs.Rdump.{IsMtLine, IsReadLine};
+ghost use Rattle.rmt_words.specs.Rdump.{IsMtLine, IsReadLine};
 
 use clap::error::ErrorKind;
-use rmt_peer::{ReadFault, copy_volume, mt};
 use rmt_tools::{
-    DatesFile, DumpLine, DumperFault, MtLine, RdumpLine, ReadLine, RunFault, SocketPeer, base_date, dates,
-    dump, dump_and_update, dumper, rdump_words, read_or_empty, read_steady, seconds_now,
+    DatesFile, DumpLine, DumperFault, MtLine, RdumpLine, ReadFault, ReadLine, RunFault, SocketPeer,
+    base_date, copy_volume, dates, dump, dump_and_update, dumper, mt, rdump_words, read_or_empty,
+    read_steady, seconds_now,
 };
 use rmt_wire::Counted;
 use std::fs::{self, File};
+use std::io::Write;
 use std::process::ExitCode;
 use std::{env, io};
 
@@ -146,10 +147,14 @@ fn operate(rt: &HostRuntime, line: MtLine<'_>) -> io::Result<u8>
     requires { IsMtLine line }
 {
     let mut peer = SocketPeer::new(rt, line.to);
-    let mut out = Counted::new(rt.stdout());
+    let mut answer = Vec::new(rt.alloc());
+    let mut out = Counted::new(&mut answer);
     let device = line.device.as_bytes();
     let status = mt(rt.alloc(), &mut peer, device, line.op, line.count, &mut out);
-    tell_failed(rt, &out)?;
+    if answer.is_empty() {
+        eprintln!(rt; "rdump: {}: the connection ended before the answer", line.to)?;
+    }
+    rt.stdout().write_all(&answer)?;
     Ok(status)
 }
 

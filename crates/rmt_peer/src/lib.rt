@@ -2,7 +2,8 @@
 //! the lines that an operator reads.
 //!
 //! `Peer` is the far end: `SocketPeer` is one over TCP. `dump` has a client write its volumes over a peer, asks an
-//! operator after a failure, and prints what is counted.
+//! operator after a failure, and prints what is counted. `copy_volume` reads a volume back, and `mt` does one operation,
+//! each over a connection of its own.
 #![tactic(auto)]
 
 mod answer;
