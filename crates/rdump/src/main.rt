@@ -89,14 +89,18 @@ fn run_dump(rt: &HostRuntime, line: &DumpLine<'_>, payload: Vec<u8>, since: u64)
     let mut out = Counted::new(rt.stdout());
     let status = if line.update {
         let mut store = DatesFile::new(rt, rt.alloc(), line.dumpdates);
-        dump_and_update(
+        let status = dump_and_update(
             rt.alloc(),
             &mut client,
             &mut peer,
             &mut operator,
             &mut out,
             &mut store,
-        )
+        );
+        if let Some(error) = store.failure() {
+            eprintln!(rt; "rdump: {}: {error}", line.dumpdates)?;
+        }
+        status
     } else {
         dump(rt.alloc(), &mut client, &mut peer, &mut operator, &mut out)
     };
@@ -152,7 +156,10 @@ fn operate(rt: &HostRuntime, line: MtLine<'_>) -> io::Result<u8>
     let device = line.device.as_bytes();
     let status = mt(rt.alloc(), &mut peer, device, line.op, line.count, &mut out);
     if answer.is_empty() {
-        eprintln!(rt; "rdump: {}: the connection ended before the answer", line.to)?;
+        eprintln!(rt;
+            "rdump: {}: the connection ended before the answer",
+            line.to
+        )?;
     }
     rt.stdout().write_all(&answer)?;
     Ok(status)
