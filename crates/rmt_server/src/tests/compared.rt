@@ -90,6 +90,18 @@ fn append_all(
     Ok(())
 }
 
+/// The same with a new plain server.
+fn append_stream(
+    alloc: Global,
+    seed: usize,
+    capacity: u64,
+    requests: &mut Vec<u8>,
+    answers: &mut Vec<u8>,
+) -> Result<(), Fail> {
+    let mut chance = Chance::new(alloc, seed, capacity)?;
+    append_all(alloc, &mut chance, requests, answers)
+}
+
 /// Writes a stream of requests by chance, and what the plain server answers, and has it served.
 fn check_written(
     rt: &impl Abort,
@@ -99,8 +111,7 @@ fn check_written(
     requests: &mut Vec<u8>,
     answers: &mut Vec<u8>,
 ) -> Result<(), Fail> {
-    let mut chance = Chance::new(alloc, seed, capacity)?;
-    append_all(alloc, &mut chance, requests, answers)?;
+    append_stream(alloc, seed, capacity, requests, answers)?;
     for most in &[usize::MAX, 7, 65549] {
         let input = Pieces::each(requests.as_slice(), *most);
         check_at(rt, alloc, capacity, input, answers.as_slice(), 0)?;
