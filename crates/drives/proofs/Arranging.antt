@@ -183,7 +183,7 @@ on_rest : (stack : List (Slot TroubledTape)) → latched_on (map rest_slot stack
 on_rest [] = refl
 on_rest (first ∷ rest) = away_rest first.name first.reel
 
-latched-rest : (s : ListShop) (e : ℕ) → latched_at (shop_of s) e ≡ latched_at s.shop e
+pub latched-rest : (s : ListShop) (e : ℕ) → latched_at (shop_of s) e ≡ latched_at s.shop e
 latched-rest s e = ap (λ (r : Rack _). latched_on r.stack) (rack_at-rest s e) ∙ on_rest (rack_at s.shop e).stack
 
 other_latched : (old : ListShop) (d e : ℕ) (names : List (List ℕ)) → EachReelOnce old.shop → e ≢ d → HasLatched IsShop old e → HasLatched IsShop (with_shop old (arranged old.shop d names)) e

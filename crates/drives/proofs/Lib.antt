@@ -4,5 +4,7 @@ pub mod Seats
 pub mod Shops
 pub mod Elsewhere
 pub mod Arranging
+pub mod ToldOrder
 mod Calls
+mod Lying
 mod Refused

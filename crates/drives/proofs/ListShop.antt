@@ -53,10 +53,12 @@ slots-rest : (racks : List (Rack TroubledTape)) → flat_map (λ r. r.stack) (ma
 slots-rest [] = refl
 slots-rest (r ∷ racks) = ap (λ xs. map rest_slot r.stack ++ xs) (slots-rest racks) ∙ sym (map-append rest_slot r.stack (flat_map (λ r. r.stack) racks))
 
+pub slots_in-rest : (s : ListShop) → slots_in (shop_of s) ≡ map rest_slot (slots_in s.shop)
+slots_in-rest s = ap (λ xs. xs ++ map rest_slot s.shop.bin) (slots-rest s.shop.racks) ∙ sym (map-append rest_slot (flat_map (λ r. r.stack) s.shop.racks) s.shop.bin)
+
 names-rest : (s : ListShop) → names_in (shop_of s) ≡ names_in s.shop
 names-rest s =
-    ap names_of (ap (λ xs. xs ++ map rest_slot s.shop.bin) (slots-rest s.shop.racks) ∙ sym (map-append rest_slot (flat_map (λ r. r.stack) s.shop.racks) s.shop.bin))
-    ∙ map-map (λ x. x.name) rest_slot (slots_in s.shop)
+    ap names_of (slots_in-rest s) ∙ map-map (λ x. x.name) rest_slot (slots_in s.shop)
 
 pub once-rest : (s : ListShop) → EachReelOnce s.shop → EachReelOnce (shop_of s)
 once-rest s once name = subst (λ names. times name names ≤ 1) (sym (names-rest s)) (once name)
@@ -114,7 +116,7 @@ first_waits : (stack : List (Slot TroubledTape)) (r : TroubledTape) → first_re
 first_waits [] r e = absurd cc
 first_waits (first ∷ rest) r e = (first, rest, refl, e)
 
-latched_first : (s : ListShop) (d : ℕ) (r : TroubledTape) → waiting_reel s.shop d ≡ Some r
+pub latched_first : (s : ListShop) (d : ℕ) (r : TroubledTape) → waiting_reel s.shop d ≡ Some r
     → (first : Slot TroubledTape) × (rest : List (Slot TroubledTape)) × ((rack_at s.shop d).stack ≡ first ∷ rest) × (first.reel ≡ Some r)
 latched_first s d r e = first_waits (rack_at s.shop d).stack r e
 

@@ -1,5 +1,5 @@
 -- What a seat at the drives knows, and what each of its steps does.
-use Rattle.std.specs.Prelude.{◌≡◌, ℕ, ◌+◌, ◌-◌, ◌^◌, ◌<◌, min, ◌↔◌, Bool, IsTrue, true, false, cond, ◌==◌, List, replicate, slice_set, slice_index_or, Option, Some, None}
+use Rattle.std.specs.Prelude.{◌≡◌, ℕ, ◌<◌, ◌↔◌, Bool, IsTrue, true, false, cond, ◌==◌, List, replicate, slice_set, slice_index_or, Option, Some, None}
 use Rattle.tape.specs.Failures.{counted}
 use Rattle.drives.specs.declared.view.StepKind.{StepKind}
 use Rattle.drives.specs.declared.view.StepKind.TheVariants.{Take, Give, Look}

@@ -1,5 +1,5 @@
 -- Drives, stacks and bin in memory.
-use Rattle.std.specs.Prelude.{◌≡◌, ◌⊎◌, ℕ, ◌<◌, ◌≤◌, Bool, true, false, List, [], ◌∷◌, ◌++◌, length, map, Option, Some, None, Result, Ok, Err, IsSome}
+use Rattle.std.specs.Prelude.{◌≡◌, ◌⊎◌, ℕ, ◌<◌, ◌≤◌, Bool, true, false, cond, List, [], ◌∷◌, ◌++◌, length, map, Option, Some, None, Result, Ok, Err, IsSome}
 use Rattle.std.specs.List.{count_by}
 use Rattle.std.specs.Option.{option_map}
 use Rattle.tape.specs.Failures.{raised}
@@ -61,6 +61,10 @@ is_set _ = true
 abbrev pub is_set_in : Option TroubledTape → Bool
 is_set_in None = false
 is_set_in (Some r) = is_set r.trouble
+
+-- how many troubles come or go with that reel: one where there is a reel and its trouble is set
+abbrev pub troubles_of : Option TroubledTape → ℕ
+troubles_of reel = cond (is_set_in reel) 1 0
 
 -- how many reels lie on the stacks and in the bin for which a trouble is set
 abbrev pub troubled_in : ShopOf TroubledTape → ℕ

@@ -6,6 +6,7 @@
 
 mod fault;
 mod holds;
+mod laws;
 mod list;
 mod listed;
 mod local;
@@ -20,6 +21,7 @@ mod view;
 
 pub use fault::DriveFault;
 pub use holds::Holds;
+pub use laws::{lying_troubles, told_orders};
 pub use list::ListStacks;
 pub use listed::ListedReel;
 pub use local::{LocalHolds, LocalSeat};

@@ -1,10 +1,10 @@
-ghost use Rattle.std.specs.Prelude.{◌≡◌, ◌≢◌, ℕ, ◌<◌, List, IfErr, IfOk, IfSome, IsTrue, None, MatchBool, map, length};
-ghost use Rattle.std.specs.Option.{option_copied};
+ghost use Rattle.std.specs.Prelude.{◌≡◌, ◌≢◌, ℕ, ◌<◌, List, IfErr, IfOk, IfSome, IsTrue, None, MatchBool, MatchResult, map, length};
+ghost use Rattle.std.specs.Option.{option_copied, option_map};
 ghost use Rattle.tape.specs.Trouble.{IsTapeOf};
 ghost use Rattle.drives.specs.declared.fault.DriveFault.TheVariants.{Device};
-ghost use Rattle.drives.specs.ListShop.{IsShop, StacksCanFail, empty_shop, shop_of, after_failure, IsDriveAdded, IsReelAdded, IsReelLatched, IsReelLaidBack, IsReelMoved, IsListStacksCall};
+ghost use Rattle.drives.specs.ListShop.{IsShop, StacksCanFail, empty_shop, shop_of, at_rest, rest_slot, after_failure, IsDriveAdded, IsReelAdded, IsReelLatched, IsReelLaidBack, IsReelMoved, IsListStacksCall};
 ghost use Rattle.drives.specs.Shop.{Shop, IsDriveNamed, rack_at, slots_in, times, names_of, names_in, EachReelOnce};
-ghost use Rattle.drives.specs.Arranging.{slot_named, reel_named, may_arrange, IsArranged};
+ghost use Rattle.drives.specs.Arranging.{slot_named, reel_named, arranged, may_arrange, IsArranged};
 ghost use Rattle.drives.specs.Calls.{moved_result};
 ghost use Rattle.drives.specs.Stacking.{HasLatched};
 
@@ -91,7 +91,8 @@ impl ListStacks {
     /// The reels of the drive's stack in order, first the one that is latched or would be latched next.
     pub fn stack(&self, drive: usize) -> &[ListedReel]
         requires { drive < length self.now.shop.racks }
-        ensures { result.now ≡ (rack_at self.now.shop drive).stack }
+        ensures lying { result.now ≡ (rack_at self.now.shop drive).stack }
+        ensures told { map rest_slot result.now ≡ (rack_at (shop_of self.now) drive).stack }
     {
         let rack = &self.racks[drive];
         rack.stack()
@@ -99,14 +100,16 @@ impl ListStacks {
 
     /// The reels of the bin, in the order in which they were moved there.
     pub fn bin(&self) -> &[ListedReel]
-        ensures { result.now ≡ self.now.shop.bin }
+        ensures lying { result.now ≡ self.now.shop.bin }
+        ensures told { map rest_slot result.now ≡ (shop_of self.now).bin }
     {
         &self.bin
     }
 
     /// The reel of that name, on a stack or in the bin. None while it is latched, and where there is none.
     pub fn reel(&self, name: &[u8]) -> Option<&TroubledReel>
-        ensures { option_copied result ≡ reel_named name.now (slots_in self.now.shop) }
+        ensures found { option_copied result ≡ reel_named name.now (slots_in self.now.shop) }
+        ensures told { option_map at_rest (option_copied result) ≡ reel_named name.now (slots_in (shop_of self.now)) }
     {
         let listed = self.listed(name)?;
         listed.reel()
@@ -116,13 +119,10 @@ impl ListStacks {
     /// is the name of a reel of its stack or of the bin.
     pub fn can_arrange(&self, drive: usize, names: &[&[u8]]) -> bool
         requires { drive < length self.now.shop.racks }
-        ensures { result ≡ may_arrange self.now.shop drive (map (λ n. n.now) names.now) }
+        ensures may { result ≡ may_arrange self.now.shop drive (map (λ n. n.now) names.now) }
+        ensures told { result ≡ may_arrange (shop_of self.now) drive (map (λ n. n.now) names.now) }
     {
-        let rack = &self.racks[drive];
-        if rack.is_latched() {
-            return false;
-        }
-        all_differ(names) && all_there(names, &self.bin, rack.stack())
+        self.can_put_stack(drive, names)
     }
 
     /// An operator's act: the drive's stack becomes the reels of these names, in that order. Reels of the bin leave it,
@@ -133,6 +133,9 @@ impl ListStacks {
         requires drive { drive < length self.old.shop.racks }
         requires may { IsTrue (may_arrange self.old.shop drive (map (λ n. n.now) names.now)) }
         ensures arranged { IsArranged self.old drive (map (λ n. n.now) names.now) result self.new }
+        ensures told_order { MatchResult result
+            (λ _. shop_of self.new ≡ arranged (shop_of self.old) drive (map (λ n. n.now) names.now))
+            (λ _. shop_of self.new ≡ shop_of self.old) }
         ensures order { IfOk result (λ _. names_of (rack_at self.new.shop drive).stack ≡ map (λ n. n.now) names.now) }
         ensures told { IsShop self.new (shop_of self.new) }
         ensures names { (name : List ℕ) → times name (names_in self.new.shop) ≡ times name (names_in self.old.shop) }
@@ -204,6 +207,18 @@ impl ListStacks {
             return Some(listed);
         }
         find_named(&self.bin, name)
+    }
+
+    /// Whether the stack of the drive can be arranged so, as `can_arrange` says.
+    fn can_put_stack(&self, drive: usize, names: &[&[u8]]) -> bool
+        requires { drive < length self.now.shop.racks }
+        ensures { result ≡ may_arrange self.now.shop drive (map (λ n. n.now) names.now) }
+    {
+        let rack = &self.racks[drive];
+        if rack.is_latched() {
+            return false;
+        }
+        all_differ(names) && all_there(names, &self.bin, rack.stack())
     }
 
     /// Arranges the stack of the drive, as `arrange` does.

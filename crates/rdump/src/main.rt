@@ -1,14 +1,25 @@
 //! The dump client.
 #![tactic(auto)]
 
+ghost use Rattle.rmt_words.specs.Rdump.{IsMtLine, IsReadLine};
+
 use clap::error::ErrorKind;
-use rmt_tools::{RdumpLine, dates, rdump_words};
+use rmt_tools::{
+    DatesFile, DumpLine, DumperFault, MtLine, RdumpLine, ReadFault, ReadLine, RunFault, SocketPeer,
+    base_date, copy_volume, dates, dump, dump_and_update, dumper, mt, rdump_words, read_or_empty,
+    read_steady, seconds_now,
+};
 use rmt_wire::Counted;
+use std::fs::{self, File};
+use std::io::Write;
 use std::process::ExitCode;
-use std::{env, fs, io};
+use std::{env, io};
 
 /// What the program ends with where its words are wrong, a file can't be read, or memory is refused.
 const FAILED: u8 = 1;
+
+/// What the program ends with where a volume was not read whole.
+const ABNORMAL: u8 = 3;
 
 /// Does what the words ask, and ends with its status.
 fn main(rt: HostRuntime) -> io::Result<ExitCode> {
@@ -27,18 +38,139 @@ fn words(rt: &HostRuntime) -> io::Result<Vec<String>> {
 /// Does what these words ask, and answers the status.
 fn run(rt: &HostRuntime, words: Vec<String>) -> io::Result<u8> {
     match rdump_words(rt.alloc(), words.as_slice()) {
+        Ok(RdumpLine::Dump(line)) => start_dump(rt, &line),
+        Ok(RdumpLine::Read(line)) => read(rt, line),
+        Ok(RdumpLine::Mt(line)) => operate(rt, line),
         Ok(RdumpLine::Dates { file, asked }) => ask_dates(rt, file, asked),
         Err(error) => refuse(rt, error),
     }
 }
 
-/// Tells why words gave nothing to do, and answers the status. Help goes to standard output.
+/// Tells why words gave nothing to do, and answers the status. Help and the version go to standard output.
 fn refuse(rt: &HostRuntime, error: clap::Error) -> io::Result<u8> {
     if error.kind() == ErrorKind::OutOfMemory {
         return tell(rt, "", io::ErrorKind::OutOfMemory.into());
     }
     error.print(rt)?;
     Ok(if error.use_stderr() { FAILED } else { 0 })
+}
+
+/// Reads the payload and the dumpdates file, dumps, and answers the status.
+fn start_dump(rt: &HostRuntime, line: &DumpLine<'_>) -> io::Result<u8> {
+    let payload = match read_steady(rt, rt.alloc(), line.payload) {
+        Ok(Some(payload)) => payload,
+        Ok(None) => return say(rt, line.payload, "its length changed while it was read"),
+        Err(error) => return tell(rt, line.payload, error),
+    };
+    let file = match read_or_empty(rt, rt.alloc(), line.dumpdates) {
+        Ok(file) => file,
+        Err(error) => return tell(rt, line.dumpdates, error),
+    };
+    let level = u8::try_from(line.level).unwrap_or(u8::MAX);
+    let mut out = Counted::new(rt.stdout());
+    match base_date(rt.alloc(), &file, line.fs, level, &mut out) {
+        Some(since) => run_dump(rt, line, payload, since),
+        None => say(rt, line.dumpdates, "it is no dumpdates file"),
+    }
+}
+
+/// Dumps a payload that builds on a dump of the date `since`, and answers the status.
+fn run_dump(rt: &HostRuntime, line: &DumpLine<'_>, payload: Vec<u8>, since: u64) -> io::Result<u8> {
+    let Some(date) = line.date.or(seconds_now(rt)) else {
+        return say(rt, "the clock", "it tells no date");
+    };
+    let mut client = match dumper(rt.alloc(), line, date, since, payload) {
+        Ok(client) => client,
+        Err(DumperFault::Run(fault)) => return refuse_run(rt, fault),
+        Err(DumperFault::OutOfMemory) => return tell(rt, "", io::ErrorKind::OutOfMemory.into()),
+    };
+    let mut peer = SocketPeer::new(rt, line.to);
+    let mut operator = rt.stdin();
+    let mut out = Counted::new(rt.stdout());
+    let status = if line.update {
+        let mut store = DatesFile::new(rt, rt.alloc(), line.dumpdates);
+        let status = dump_and_update(
+            rt.alloc(),
+            &mut client,
+            &mut peer,
+            &mut operator,
+            &mut out,
+            &mut store,
+        );
+        if let Some(error) = store.failure() {
+            eprintln!(rt; "rdump: {}: {error}", line.dumpdates)?;
+        }
+        status
+    } else {
+        dump(rt.alloc(), &mut client, &mut peer, &mut operator, &mut out)
+    };
+    tell_failed(rt, &out)?;
+    Ok(status)
+}
+
+/// Tells which limit of a run its words break, and answers the status.
+fn refuse_run(rt: &HostRuntime, fault: RunFault) -> io::Result<u8> {
+    let what = match fault {
+        RunFault::BadDevice => "--device <DEVICE>: a device is 1 to 255 bytes of one line",
+        RunFault::BadName =>
+            "--fs <NAME>: a name is 1 to 255 bytes of printable ASCII without a space",
+        RunFault::BadLevel => "--level <LEVEL>: a level is 0 to 9",
+        RunFault::BadDate => "--date <SECONDS>: a date is 0 to 253402300799",
+        RunFault::BadBlockSize => "--block <BYTES>: a block is 1 to 65536 bytes",
+        RunFault::TooManyBlocks => "--block <BYTES>: a dump has at most 2147483647 blocks",
+    };
+    eprintln!(rt; "rdump: {fault}: {what}")?;
+    Ok(FAILED)
+}
+
+/// Reads a volume back into a file, and answers the status.
+fn read(rt: &HostRuntime, line: ReadLine<'_>) -> io::Result<u8>
+    requires { IsReadLine line }
+{
+    let mut file = match File::create(rt, line.out) {
+        Ok(file) => Counted::new(file),
+        Err(error) => return tell(rt, line.out, error),
+    };
+    let mut peer = SocketPeer::new(rt, line.to);
+    let mut out = Counted::new(rt.stdout());
+    let device = line.device.as_bytes();
+    match copy_volume(rt.alloc(), &mut peer, device, &mut file, &mut out) {
+        Ok(()) => Ok(0),
+        Err(fault) => tell_read(rt, line, fault),
+    }
+}
+
+/// Tells why a volume was not read whole, and answers the status.
+fn tell_read(rt: &HostRuntime, line: ReadLine<'_>, fault: ReadFault) -> io::Result<u8> {
+    eprintln!(rt; "rdump: {}: {fault}", line.to)?;
+    Ok(ABNORMAL)
+}
+
+/// Does one operation at a drive, and answers the status.
+fn operate(rt: &HostRuntime, line: MtLine<'_>) -> io::Result<u8>
+    requires { IsMtLine line }
+{
+    let mut peer = SocketPeer::new(rt, line.to);
+    let mut answer = Vec::new(rt.alloc());
+    let mut out = Counted::new(&mut answer);
+    let device = line.device.as_bytes();
+    let status = mt(rt.alloc(), &mut peer, device, line.op, line.count, &mut out);
+    if answer.is_empty() {
+        eprintln!(rt;
+            "rdump: {}: the connection ended before the answer",
+            line.to
+        )?;
+    }
+    rt.stdout().write_all(&answer)?;
+    Ok(status)
+}
+
+/// Tells where standard output could not be written.
+fn tell_failed<W: io::Write>(rt: &HostRuntime, out: &Counted<W>) -> io::Result<()> {
+    if out.failures() > 0 {
+        eprintln!(rt; "rdump: standard output could not be written")?;
+    }
+    Ok(())
 }
 
 /// Asks a dumpdates file, and answers the status. A file that can't be read and a failed write are told.
@@ -49,10 +181,14 @@ fn ask_dates(rt: &HostRuntime, file: &str, asked: Option<(&str, u8)>) -> io::Res
     };
     let mut out = Counted::new(rt.stdout());
     let status = dates(rt.alloc(), &bytes, asked, &mut out);
-    if out.failures() > 0 {
-        eprintln!(rt; "rdump: standard output could not be written")?;
-    }
+    tell_failed(rt, &out)?;
     Ok(status)
+}
+
+/// Tells on standard error what is at fault and why, and answers the status.
+fn say(rt: &HostRuntime, what: &str, why: &str) -> io::Result<u8> {
+    eprintln!(rt; "rdump: {what}: {why}")?;
+    Ok(FAILED)
 }
 
 /// Tells of an error on standard error, or of refused memory on standard output, and answers the status.

@@ -1,2 +1,6 @@
 pub mod Printed
 pub mod Talking
+pub mod Heard
+pub mod Calls
+pub mod Operating
+pub mod Reading

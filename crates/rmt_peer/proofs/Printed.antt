@@ -1,5 +1,5 @@
 -- Texts that are printed one after the other, and the lines of a dump.
-use Rattle.std.proofs.Common.{◌≡◌, ◌≢◌, ◌≤◌, ◌+◌, ℕ, List, [], ◌++◌, Bool, true, false, if◌then◌else◌, inl, inr, Option, Some, None, refl, sym, ap, subst, ◌∙◌, min, take, drop, length, append-nil, append_assoc, arith}
+use Rattle.std.proofs.Common.{◌≡◌, ◌≢◌, ◌+◌, ℕ, List, [], ◌++◌, Bool, true, false, if◌then◌else◌, inl, inr, Option, Some, None, refl, sym, ap, subst, ◌∙◌, min, take, drop, length, append-nil, append_assoc, arith}
 use Rattle.std.specs.Io.KnownBytes.{Appends}
 use Rattle.std.proofs.KnownBytes.{Appends-nil, Appends-trans}
 use Rattle.std.proofs.Math.Seq.{take-append-add}

@@ -1,5 +1,5 @@
 -- What a client does over a peer, put together.
-use Rattle.std.proofs.Common.{◌≡◌, ◌↔◌, map, ℕ, List, [], ◌++◌, Bool, true, false, Result, Ok, Err, refl, sym, ap, subst, ◌∙◌, append-nil, append_assoc}
+use Rattle.std.proofs.Common.{◌≡◌, ◌≢◌, ◌↔◌, map, ℕ, List, [], ◌∷◌, ◌++◌, Bool, true, false, Result, Ok, Err, refl, sym, ap, subst, ◌∙◌, append-nil, append_assoc, ◌<◌, ◌≤◌, length, take, arith, length-take}
 use Rattle.dump_client.specs.Standing.{Standing, StartedAt, AnsweredAt, FedAt, CutAt}
 use Rattle.dump_client.specs.Client.{ClientHeld, HasFed, AskedAt, unanswered}
 use Rattle.dump_client.specs.declared.fault.AttemptFault.{AttemptFault}
@@ -8,11 +8,11 @@ use Rattle.dump_client.specs.declared.stage.Answer.{Answer}
 use Rattle.dump_client.specs.declared.stage.Progress.{Progress}
 use Rattle.dump_client.specs.declared.stage.Stage.{Stage}
 use Rattle.dump_client.specs.declared.stage.Stage.TheVariants.{Ready, ToSend, Waiting, Asking, Finished, Abandoned}
-use Rattle.rmt_peer.specs.Peer.{IsSent, Logs, connected}
+use Rattle.rmt_peer.specs.Peer.{IsSent, Logs, connected, given}
 use Rattle.rmt_peer.specs.declared.peer.Passed.{Passed}
-use Rattle.rmt_peer.specs.declared.peer.Passed.TheVariants.{Given, Sent}
-use Rattle.rmt_peer.specs.Talk.{IsRequestSent, TalkStep, Talks, HasTalked, TalksAlone, TalksOver}
-use Rattle.rmt_peer.specs.Talk.TalkStep.{starts, stays, asks, hears, ends, answers}
+use Rattle.rmt_peer.specs.declared.peer.Passed.TheVariants.{Given, Sent, Ended}
+use Rattle.rmt_peer.specs.Talk.{TalkStep, Talks, TalksAlone, TalksOver}
+use Rattle.rmt_peer.specs.Talk.TalkStep.{starts, stays, asks, has_none, hears, ends, answers}
 use Rattle.rmt_peer.specs.Talk.Talks.{none, one_more}
 
 -- a request that is told by all blocks of which more is told
@@ -30,10 +30,12 @@ asked_weaker told less f Abandoned old capacity before result now new h = h
 
 step_weaker : {told less : List (List ℕ) → Type 0} → ((payload : List (List ℕ)) → less payload → told payload)
     → {old new : Standing} {fed later : List ℕ} {passed : List Passed} → TalkStep told old fed passed new later → TalkStep less old fed passed new later
-step_weaker f (starts room made h) = starts room made h
+step_weaker f (starts room begun made h k) = starts room begun made h k
 step_weaker f (stays room fault h) = stays room fault h
-step_weaker {told} {less} f {old} {new} (asks capacity result text sent asked whole) =
-    asks capacity result text sent (asked_weaker told less f old.stage old capacity [] result text new asked) whole
+step_weaker {told} {less} f {old} (asks capacity text asked whole h sent k) =
+    asks capacity text asked whole (asked_weaker told less f old.stage old capacity [] (Ok true) text asked h) sent k
+step_weaker {told} {less} f {old} {new} (has_none capacity result text h unmade) =
+    has_none capacity result text (asked_weaker told less f old.stage old capacity [] result text new h) unmade
 step_weaker f (hears piece progress h) = hears piece progress h
 step_weaker f (ends progress h) = ends progress h
 step_weaker f (answers answer result h) = answers answer result h
@@ -103,13 +105,10 @@ module _ {B P : Type 0} (holds : B → List (List ℕ) → Type 0) (tells : P �
   kept_source c c' e payload h = subst (λ s. holds s payload) (sym e) h
 
   -- the client is told of the end
-  pub told_end : (c c' : ClientHeld B) (p q : P) (progress : Progress) → CutAt c.at.stage c.at progress c'.at → HasFed c' [] → c'.source ≡ c.source → Logs tells p q []
+  pub told_end : (c c' : ClientHeld B) (p q : P) (progress : Progress) → CutAt c.at.stage c.at progress c'.at → HasFed c' [] → c'.source ≡ c.source → Logs tells p q (Ended ∷ [])
       → TalksOver holds tells c c' p q
   told_end c c' p q progress cut fed e logs = one_call c c' p q (kept_source c c' e)
-      (λ old h. record { passed = []; later = []; step = ends progress cut; keeps = fed; logs = logs })
-
-  pub told_end_alone : (c c' : ClientHeld B) (p : P) (progress : Progress) → CutAt c.at.stage c.at progress c'.at → HasFed c' [] → c'.source ≡ c.source → TalksOver holds tells c c' p p
-  told_end_alone c c' p progress cut fed e = told_end c c' p p progress cut fed e (alone tells p)
+      (λ old h. record { passed = Ended ∷ []; later = []; step = ends progress cut; keeps = fed; logs = logs })
 
   -- a piece is fed
   pub fed_piece : (c c' : ClientHeld B) (p q : P) (piece : List ℕ) (progress : Progress)
@@ -125,18 +124,47 @@ module _ {B P : Type 0} (holds : B → List (List ℕ) → Type 0) (tells : P �
         logs = logs;
       })
 
-  -- a request is asked for, and what is made of it is sent
-  pub asked_and_sent : (c c' : ClientHeld B) (p q : P) (capacity : ℕ) (before : List ℕ) (result : Result Bool AttemptFault) (text sent : List ℕ)
-      → before ≡ [] → AskedAt c.at.stage (holds c.source) c.at capacity before result text c'.at → IsRequestSent result text sent
+  -- a request is asked for and sent
+  pub asked_and_sent : (c c' : ClientHeld B) (p q : P) (capacity : ℕ) (before text : List ℕ) (passed : List Passed)
+      → before ≡ [] → AskedAt c.at.stage (holds c.source) c.at capacity before (Ok true) text c'.at → IsSent text true passed
       → ((payload : List (List ℕ)) → holds c.source payload ↔ holds c'.source payload)
-      → ((fed : List ℕ) → HasFed c fed → HasFed c' fed) → Logs tells p q (map Sent sent) → TalksOver holds tells c c' p q
-  asked_and_sent c c' p q capacity before result text sent e asked whole same fed logs = one_call c c' p q (λ payload. (same payload).0)
+      → ((fed : List ℕ) → HasFed c fed → HasFed c' fed) → Logs tells p q passed → TalksOver holds tells c c' p q
+  asked_and_sent c c' p q capacity before text passed e asked sent same fed logs = one_call c c' p q (λ payload. (same payload).0)
       (λ old h. record {
-        passed = map Sent sent;
+        passed = passed;
         later = old;
-        step = asks capacity result text sent (subst (λ b. AskedAt c.at.stage (holds c.source) c.at capacity b result text c'.at) e asked) whole;
+        step = asks capacity text c'.at true (subst (λ b. AskedAt c.at.stage (holds c.source) c.at capacity b (Ok true) text c'.at) e asked) sent (refl, refl);
         keeps = fed old h;
         logs = logs;
+      })
+
+  -- a request is asked for, and the connection ends while it is sent
+  pub asked_and_cut : (c b c' : ClientHeld B) (p q : P) (capacity : ℕ) (before text : List ℕ) (passed : List Passed) (progress : Progress)
+      → before ≡ [] → AskedAt c.at.stage (holds c.source) c.at capacity before (Ok true) text b.at → IsSent text false passed
+      → CutAt b.at.stage b.at progress c'.at → HasFed c' [] → ((payload : List (List ℕ)) → holds c.source payload ↔ holds b.source payload)
+      → c'.source ≡ b.source → Logs tells p q passed → TalksOver holds tells c c' p q
+  asked_and_cut c b c' p q capacity before text passed progress e asked sent cut fed same kept logs =
+      one_call c c' p q (λ payload told. kept_source b c' kept payload ((same payload).0 told))
+      (λ old h. record {
+        passed = passed;
+        later = [];
+        step = asks capacity text b.at false (subst (λ b'. AskedAt c.at.stage (holds c.source) c.at capacity b' (Ok true) text b.at) e asked) sent (progress, cut, refl);
+        keeps = fed;
+        logs = logs;
+      })
+
+  -- no request is to be had
+  pub asked_none : (c c' : ClientHeld B) (p : P) (capacity : ℕ) (before : List ℕ) (result : Result Bool AttemptFault) (text : List ℕ)
+      → before ≡ [] → AskedAt c.at.stage (holds c.source) c.at capacity before result text c'.at → result ≢ Ok true
+      → ((payload : List (List ℕ)) → holds c.source payload ↔ holds c'.source payload)
+      → ((fed : List ℕ) → HasFed c fed → HasFed c' fed) → TalksOver holds tells c c' p p
+  asked_none c c' p capacity before result text e asked unmade same fed = one_call c c' p p (λ payload. (same payload).0)
+      (λ old h. record {
+        passed = [];
+        later = old;
+        step = has_none capacity result text (subst (λ b. AskedAt c.at.stage (holds c.source) c.at capacity b result text c'.at) e asked) unmade;
+        keeps = fed old h;
+        logs = alone tells p;
       })
 
   -- the connection is ended
@@ -146,10 +174,16 @@ module _ {B P : Type 0} (holds : B → List (List ℕ) → Type 0) (tells : P �
     talked = λ fed h. record { passed = []; later = fed; talks = none; keeps = h; logs = logs };
   }
 
-  pub started_on : (c c' : ClientHeld B) (p q : P) (room : ℕ) (made : Bool) → StartedAt c.at.stage c.at room (Ok tt) c'.at
-      → ((fed : List ℕ) → HasFed c fed → HasFed c' fed) → c'.source ≡ c.source → Logs tells p q (connected made) → TalksOver holds tells c c' p q
-  started_on c c' p q room made start fed e logs = one_call c c' p q (kept_source c c' e)
-      (λ old h. record { passed = connected made; later = old; step = starts room made start; keeps = fed old h; logs = logs })
+  pub started_on : (c c' : ClientHeld B) (p q : P) (room : ℕ) → StartedAt c.at.stage c.at room (Ok tt) c'.at
+      → ((fed : List ℕ) → HasFed c fed → HasFed c' fed) → c'.source ≡ c.source → Logs tells p q (connected true) → TalksOver holds tells c c' p q
+  started_on c c' p q room start fed e logs = one_call c c' p q (kept_source c c' e)
+      (λ old h. record { passed = connected true; later = old; step = starts room c'.at true start (refl, refl); keeps = fed old h; logs = logs })
+
+  -- no connection could be made
+  pub started_and_cut : (c b c' : ClientHeld B) (p q : P) (room : ℕ) (progress : Progress) → StartedAt c.at.stage c.at room (Ok tt) b.at
+      → CutAt b.at.stage b.at progress c'.at → HasFed c' [] → b.source ≡ c.source → c'.source ≡ b.source → Logs tells p q (connected false) → TalksOver holds tells c c' p q
+  started_and_cut c b c' p q room progress start cut fed e kept logs = one_call c c' p q (kept_source c c' (kept ∙ e))
+      (λ old h. record { passed = connected false; later = []; step = starts room b.at false start (progress, cut, refl); keeps = fed; logs = logs })
 
   pub not_started : (c c' : ClientHeld B) (p : P) (room : ℕ) (fault : StartFault) → StartedAt c.at.stage c.at room (Err fault) c'.at
       → ((fed : List ℕ) → HasFed c fed → HasFed c' fed) → c'.source ≡ c.source → TalksOver holds tells c c' p p
@@ -164,15 +198,30 @@ module _ {B : Type 0} (holds : B → List (List ℕ) → Type 0) where
     talked = λ old k. (old, answers answer result h, fed old k);
   }
 
-  pub ended_alone : (c c' : ClientHeld B) (progress : Progress) → CutAt c.at.stage c.at progress c'.at → HasFed c' [] → c'.source ≡ c.source → TalksAlone holds c c'
-  ended_alone c c' progress h fed e = record {
-    same = λ payload told. subst (λ s. holds s payload) (sym e) told;
-    talked = λ old k. ([], ends progress h, fed);
-  }
+-- these are no request
+pub ok_none : (result : Result Bool AttemptFault) (more : Bool) → result ≡ Ok more → more ≡ false → result ≢ Ok true
+ok_none result more e unmade h = cc
 
--- a request that was not made is not sent
-pub unsent : (more : Bool) (text : List ℕ) → more ≡ false → IsRequestSent (Ok more) text []
-unsent more text e = subst (λ v. IsRequestSent (Ok v) text []) (sym e) refl
+pub err_none : (result : Result Bool AttemptFault) (fault : AttemptFault) → result ≡ Err fault → result ≢ Ok true
+err_none result fault e h = cc
 
-pub sent_by : (more whole : Bool) (text sent : List ℕ) → more ≡ true → IsSent text whole sent → IsRequestSent (Ok more) text sent
-sent_by more whole text sent e h = subst (λ v. IsRequestSent (Ok v) text sent) (sym e) (whole, h)
+-- into room that there is none is given at the end, and else what is given
+into_room : (room : List ℕ) → 0 < length room → given room (take 0 room) ≡ Ended ∷ []
+into_room [] some = absurd (omega (arith, some))
+into_room (r ∷ room) some = refl
+
+some_bytes : (r : ℕ) (room bytes : List ℕ) → 0 < length bytes → given (r ∷ room) bytes ≡ map Given bytes
+some_bytes r room [] some = absurd (omega (arith, some))
+some_bytes r room (b ∷ bytes) some = refl
+
+pub some_given : (room : List ℕ) (n : ℕ) → n ≤ length room → n ≢ 0 → given room (take n room) ≡ map Given (take n room)
+some_given [] n within some = absurd (some (omega (arith, within)))
+some_given (r ∷ room) n within some = some_bytes r room (take n (r ∷ room)) (omega (arith, length-take n (r ∷ room)))
+
+pub none_given : (room : List ℕ) (n : ℕ) → 0 < length room → n ≡ 0 → given room (take n room) ≡ Ended ∷ []
+none_given room n some e = ap (λ m. given room (take m room)) e ∙ into_room room some
+
+-- something was sent, all of the bytes or none
+pub some_sent : (bytes : List ℕ) (whole : Bool) → (passed : List Passed) × IsSent bytes whole passed
+some_sent bytes true = (map Sent bytes, refl)
+some_sent bytes false = (map Sent (take 0 bytes) ++ Ended ∷ [], (0, refl))

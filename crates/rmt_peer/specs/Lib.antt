@@ -2,3 +2,8 @@ pub mod Peer
 pub mod Talk
 pub mod Print
 pub mod Lines
+pub mod Answer
+pub mod Call
+pub mod Calls
+pub mod Operation
+pub mod Reading

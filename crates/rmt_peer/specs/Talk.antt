@@ -1,5 +1,5 @@
 -- What a client does over a peer: each call of the client, with what passed in it.
-use Rattle.std.specs.Prelude.{◌≡◌, ℕ, Bool, true, false, List, [], ◌++◌, map, Result, Ok, Err}
+use Rattle.std.specs.Prelude.{◌≡◌, ◌≢◌, ℕ, Bool, true, false, List, [], ◌∷◌, ◌++◌, map, Result, Ok, Err}
 use Rattle.dump_client.specs.Standing.{Standing, StartedAt, AnsweredAt, FedAt, CutAt}
 use Rattle.dump_client.specs.Client.{ClientHeld, HasFed, AskedAt, unanswered}
 use Rattle.dump_client.specs.declared.fault.AttemptFault.{AttemptFault}
@@ -8,28 +8,30 @@ use Rattle.dump_client.specs.declared.stage.Answer.{Answer}
 use Rattle.dump_client.specs.declared.stage.Progress.{Progress}
 use Rattle.rmt_peer.specs.Peer.{IsSent, Logs, connected}
 use Rattle.rmt_peer.specs.declared.peer.Passed.{Passed}
-use Rattle.rmt_peer.specs.declared.peer.Passed.TheVariants.{Sent, Given}
+use Rattle.rmt_peer.specs.declared.peer.Passed.TheVariants.{Given, Ended}
 
--- what is sent of a request that was asked for: its text, or, where the sending failed, a beginning of it; where none was made,
--- nothing is
-abbrev pub IsRequestSent : Result Bool AttemptFault → List ℕ → List ℕ → Type 0
-IsRequestSent (Ok true) text sent = (whole : Bool) × IsSent text whole sent
-IsRequestSent result text sent = sent ≡ []
+-- the connection goes on, and the client stands as it did; or the connection ended there, and the client is told
+abbrev pub GoesOn : Bool → Standing → List ℕ → Standing → List ℕ → Type 0
+GoesOn true at fed new later = (new ≡ at) × (later ≡ fed)
+GoesOn false at fed new later = (progress : Progress) × CutAt at.stage at progress new × (later ≡ [])
 
--- One call of the client, where it stood and the bytes since its last request before, with what passed, and the same after: an
--- attempt starts, on a connection that was made or not; the next request is asked for and sent, once; what the peer gave is fed, all
--- of it; the end of the connection is told; the operator's answer is.
+-- One call of the client, or one and the end of the connection in it: where it stood and the bytes since its last request before,
+-- with what passed, and the same after. An attempt starts, and a connection is made for it; the next request is asked for and sent,
+-- once, or none is to be had; what the peer gave is fed, all of it; the end of the connection is told; the operator's answer is.
 pub data TalkStep (told : List (List ℕ) → Type 0) : Standing → List ℕ → List Passed → Standing → List ℕ → Type 0 where
-  starts : {old new : Standing} {fed : List ℕ} (room : ℕ) (made : Bool)
-      → StartedAt old.stage old room (Ok tt) new → TalkStep told old fed (connected made) new fed
+  starts : {old new : Standing} {fed later : List ℕ} (room : ℕ) (begun : Standing) (made : Bool)
+      → StartedAt old.stage old room (Ok tt) begun → GoesOn made begun fed new later → TalkStep told old fed (connected made) new later
   stays : {old new : Standing} {fed : List ℕ} (room : ℕ) (fault : StartFault)
       → StartedAt old.stage old room (Err fault) new → TalkStep told old fed [] new fed
-  asks : {old new : Standing} {fed : List ℕ} (capacity : ℕ) (result : Result Bool AttemptFault) (text sent : List ℕ)
-      → AskedAt old.stage told old capacity [] result text new → IsRequestSent result text sent
-      → TalkStep told old fed (map Sent sent) new fed
+  asks : {old new : Standing} {fed later : List ℕ} {passed : List Passed} (capacity : ℕ) (text : List ℕ) (asked : Standing) (whole : Bool)
+      → AskedAt old.stage told old capacity [] (Ok true) text asked → IsSent text whole passed → GoesOn whole asked fed new later
+      → TalkStep told old fed passed new later
+  has_none : {old new : Standing} {fed : List ℕ} (capacity : ℕ) (result : Result Bool AttemptFault) (text : List ℕ)
+      → AskedAt old.stage told old capacity [] result text new → result ≢ Ok true → TalkStep told old fed [] new fed
   hears : {old new : Standing} {fed : List ℕ} (piece : List ℕ) (progress : Progress)
       → FedAt old.stage old fed piece progress new → TalkStep told old fed (map Given piece) new (unanswered new.stage (fed ++ piece))
-  ends : {old new : Standing} {fed : List ℕ} (progress : Progress) → CutAt old.stage old progress new → TalkStep told old fed [] new []
+  ends : {old new : Standing} {fed : List ℕ} (progress : Progress)
+      → CutAt old.stage old progress new → TalkStep told old fed (Ended ∷ []) new []
   answers : {old new : Standing} {fed : List ℕ} (answer : Answer) (result : Result Unit StartFault)
       → AnsweredAt old.stage old answer result new → TalkStep told old fed [] new fed
 

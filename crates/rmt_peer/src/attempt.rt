@@ -10,7 +10,7 @@ const PIECE: usize = 4096;
 /// What came of an attempt.
 #[derive(Clone, Copy, Debug, PartialEq, Eq)]
 pub(crate) enum Attempted {
-    /// It is over, and its volume is counted.
+    /// It did not fail. It is over, and its volume is counted; or its turns ran out, and it goes on.
     Over,
     /// It failed. The client asks whether it is tried again.
     Failed(AttemptFault),
@@ -19,6 +19,8 @@ pub(crate) enum Attempted {
 }
 
 /// Has a client write its next volume over a new connection, which is ended then. `text` is room for requests.
+///
+/// An attempt that is under way goes on over the connection that there is. Where there is none, that is its end.
 pub(crate) fn attempt<B: Blocks, P: Peer>(
     client: &mut Client<B>,
     peer: &mut P,
@@ -26,10 +28,10 @@ pub(crate) fn attempt<B: Blocks, P: Peer>(
 ) -> Attempted
     ensures { TalksOver B.holds P.tells client.old client.new peer.old peer.new }
 {
-    let Ok(made) = begin(client, peer) else {
+    let Ok(begun) = begin(client, peer) else {
         return Attempted::NotStarted;
     };
-    let progress = talk(client, peer, text, made);
+    let progress = talk(client, peer, text, begun);
     peer.hang_up();
     match progress {
         Progress::Failed(fault) => Attempted::Failed(fault),
@@ -37,27 +39,33 @@ pub(crate) fn attempt<B: Blocks, P: Peer>(
     }
 }
 
-/// Starts an attempt on a new connection. Answers whether that could be made.
-fn begin<B: Blocks, P: Peer>(client: &mut Client<B>, peer: &mut P) -> Result<bool, StartFault>
+/// Starts an attempt on a new connection, unless one is under way. Where no connection could be made, that is its end.
+fn begin<B: Blocks, P: Peer>(client: &mut Client<B>, peer: &mut P) -> Result<Progress, StartFault>
     ensures { TalksOver B.holds P.tells client.old client.new peer.old peer.new }
 {
+    if client.state() != State::Ready {
+        return Ok(Progress::Send);
+    }
     client.start()?;
-    Ok(peer.connect())
+    if peer.connect() {
+        return Ok(Progress::Send);
+    }
+    Ok(client.ended())
 }
 
-/// Carries the attempt out where the connection was made. Where it was not, that is its end.
+/// Carries on with an attempt that has begun, unless that was its end.
 fn talk<B: Blocks, P: Peer>(
     client: &mut Client<B>,
     peer: &mut P,
     text: &mut Vec<u8>,
-    made: bool,
+    begun: Progress,
 ) -> Progress
     ensures { TalksOver B.holds P.tells client.old client.new peer.old peer.new }
 {
-    if made {
-        return converse(client, peer, text);
+    match begun {
+        Progress::Send => converse(client, peer, text),
+        end => end,
     }
-    client.ended()
 }
 
 /// Sends request after request, each after the reply to the one before, up to the end of the attempt.
@@ -74,7 +82,7 @@ fn converse<B: Blocks, P: Peer>(
             progress => return progress,
         }
     }
-    client.ended()
+    Progress::Waiting
 }
 
 /// Sends the next request, where there is one to send, or takes what the peer gives.
@@ -86,29 +94,27 @@ fn exchange<B: Blocks, P: Peer>(
     ensures { TalksOver B.holds P.tells client.old client.new peer.old peer.new }
 {
     match client.state() {
-        State::ToSend => match ask(client, peer, text) {
-            Ok(true) => Progress::Waiting,
-            Ok(false) => client.ended(),
-            Err(fault) => Progress::Failed(fault),
-        },
+        State::ToSend => ask(client, peer, text),
         State::Waiting => hear(client, peer),
         _ => Progress::Idle,
     }
 }
 
-/// Makes the next request and sends it. False where there is none, or it could not be sent whole.
-fn ask<B: Blocks, P: Peer>(
-    client: &mut Client<B>,
-    peer: &mut P,
-    text: &mut Vec<u8>,
-) -> Result<bool, AttemptFault>
+/// Makes the next request and sends it. Tells the client of the end, where it could not be sent whole.
+fn ask<B: Blocks, P: Peer>(client: &mut Client<B>, peer: &mut P, text: &mut Vec<u8>) -> Progress
     ensures { TalksOver B.holds P.tells client.old client.new peer.old peer.new }
 {
     text.clear();
-    if !client.next_request(text)? {
-        return Ok(false);
+    match client.next_request(text) {
+        Ok(true) => {
+            if peer.send(text.as_slice()) {
+                return Progress::Waiting;
+            }
+            client.ended()
+        }
+        Ok(false) => Progress::Ended,
+        Err(fault) => Progress::Failed(fault),
     }
-    Ok(peer.send(text.as_slice()))
 }
 
 /// Takes what the peer gives, and feeds it to the client, or tells it of the end.

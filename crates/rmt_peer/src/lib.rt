@@ -2,18 +2,29 @@
 //! the lines that an operator reads.
 //!
 //! `Peer` is the far end: `SocketPeer` is one over TCP. `dump` has a client write its volumes over a peer, asks an
-//! operator after a failure, and prints what is counted.
+//! operator after a failure, and prints what is counted. `copy_volume` reads a volume back, and `mt` does one operation,
+//! each over a connection of its own.
 #![tactic(auto)]
 
+mod answer;
 mod attempt;
+mod caller;
+mod fault;
 mod lines;
+mod operation;
 mod operator;
 mod peer;
 mod print;
 mod rounds;
 mod socket;
+#[cfg(test)]
+mod tests;
+mod volume;
 
+pub use fault::{Asked, ReadFault};
+pub use operation::mt;
 pub use peer::{Passed, Peer};
 pub use print::print_text;
 pub use rounds::dump;
 pub use socket::SocketPeer;
+pub use volume::{copy_volume, read_volume};

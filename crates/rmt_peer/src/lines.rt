@@ -66,7 +66,7 @@ pub(crate) fn complete_text(volumes: usize, blocks: u32) -> ArrayString<LINE_ROO
 }
 
 /// Appends a text, and a number after it.
-fn push_part(line: &mut ArrayString<LINE_ROOM>, text: &str, number: u64)
+pub(crate) fn push_part(line: &mut ArrayString<LINE_ROOM>, text: &str, number: u64)
     requires { length line.old.bytes + length text.now + 20 ≤ LINE_ROOM }
     ensures appended { line.new.bytes ≡ line.old.bytes ++ text.now ++ decimal number }
     ensures short { length line.new.bytes ≤ length line.old.bytes + length text.now + 20 }

@@ -60,12 +60,13 @@ fn round<B: Blocks, P: Peer, R: Read, W: Write>(
     ensures printed { IsRound W.contents client.old.at.counts client.new.at out.old out.new result }
 {
     match client.state() {
-        State::Ready => try_volume(client, peer, operator, out, text),
+        State::Ready | State::ToSend | State::Waiting => {
+            try_volume(client, peer, operator, out, text)
+        }
         State::Asking => {
             ask(client, operator);
             None
         }
-        State::ToSend | State::Waiting => lose(client, out),
         State::Finished | State::Abandoned => Some(finish(client, out)),
     }
 }
@@ -87,19 +88,6 @@ fn try_volume<B: Blocks, P: Peer, R: Read, W: Write>(
         return Some(ABNORMAL);
     }
     report(client, attempted, operator, out)
-}
-
-/// An attempt that is under way has lost its connection. Prints what came of that.
-fn lose<B: Blocks, W: Write>(client: &mut Client<B>, out: &mut Counted<W>) -> Option<u8>
-    ensures alone { TalksAlone B.holds client.old client.new }
-    ensures printed { IsRound W.contents client.old.at.counts client.new.at out.old out.new result }
-{
-    let before = volumes(client);
-    let _ = client.ended();
-    if !print_since(client, before, out) {
-        return Some(ABNORMAL);
-    }
-    None
 }
 
 /// Prints that an attempt failed, if it did. Where it could not start, the operator is asked here. Answers the status at

@@ -1,66 +1,64 @@
 -- No reel that lies on the stacks or in the bin gets a trouble by a call of the stacks that brings none.
-use Rattle.std.proofs.Common.{◌≡◌, ℕ, ◌<◌, false, [], length, Result, Ok, Err, refl, ap, subst, ◌∙◌, inl, inr, arith}
-use Rattle.std.proofs.Math.ListN.{get_or-map}
-use Rattle.std.proofs.lemmas.List.{length-map}
+use Rattle.std.proofs.Common.{◌≡◌, ℕ, ◌+◌, ◌<◌, cond, length, Some, Result, Ok, Err, MatchResult, refl, ap, ◌∙◌, arith}
 use Rattle.tape.specs.Trouble.{TroubledTape}
-use Rattle.tape.specs.declared.trouble.Trouble.TheVariants.{None as NoTrouble}
+use Rattle.tape.specs.declared.trouble.Trouble.{Trouble}
+use Rattle.tape.specs.declared.trouble.Trouble.TheVariants.{None as NoTrouble, Kept, Lost, Written}
 use Rattle.drives.specs.declared.fault.DriveFault.{DriveFault}
-use Rattle.drives.specs.declared.fault.DriveFault.TheVariants.{NoSuchDrive, Busy, NoReel, Device, OutOfMemory, NameTaken}
-use Rattle.drives.specs.Shop.{KeptReel, Rack, rack, Shop, rack_at}
-use Rattle.drives.specs.ListShop.{ListShop, troubled_in, rest_slot, rest_rack, IsShop, StacksCanFail, IsReelLatched, IsReelMoved, IsReelLaidBack}
+use Rattle.drives.specs.Shop.{Shop}
+use Rattle.drives.specs.Calls.{given_by}
+use Rattle.drives.specs.Calls.StacksCall.{Latch, LayBack, Move}
+use Rattle.drives.specs.ListShop.{ListShop, troubled_in, troubles_of, is_set, IsShop, IsListStacksCall}
 use Rattle.drives.specs.Stacking.{HasLatched}
-use Rattle.drives.proofs.Shops.{length-latched}
-use Rattle.drives.proofs.ListShop.{latch_quiet, lay_quiet, move_quiet}
 
--- where a reel is latched the stack is not empty
-pub some-latched : (s : ListShop) (t : Shop) (d : ℕ) → IsShop s t → HasLatched IsShop s d → 0 < length (rack_at s.shop d).stack
-some-latched s t d tells latched =
-    let at_rest : rack_at t d ≡ rest_rack (rack_at s.shop d) = ap (λ (x : Shop). rack_at x d) tells.0 ∙ get_or-map rest_rack s.shop.racks d (rack [] []) in
-    let same : length (rack_at t d).stack ≡ length (rack_at s.shop d).stack = ap (λ (r : Rack KeptReel). length r.stack) at_rest ∙ length-map (rack_at s.shop d).stack rest_slot in
-    subst (λ n. 0 < n) same (length-latched (rack_at t d).stack (latched t tells))
+-- how many reels lie with a trouble after each call, as `drives::lying_troubles` says
+pub record LyingLaw : Type 0 where
+  pub latched : (old new : ListShop) (d : ℕ) (result : Result TroubledTape DriveFault) → d < length old.shop.racks → IsListStacksCall old new (Latch d result)
+      → troubled_in new.shop + troubles_of (given_by result) ≡ troubled_in old.shop
+  pub laid_back : (old new : ListShop) (s : Shop) (d : ℕ) (reel : TroubledTape) → d < length old.shop.racks → IsShop old s → HasLatched IsShop old d
+      → IsListStacksCall old new (LayBack d reel) → troubled_in new.shop ≡ troubled_in old.shop + troubles_of (Some reel)
+  pub moved : (old new : ListShop) (s : Shop) (d : ℕ) (reel : TroubledTape) (result : Result (Unit {0}) DriveFault) → d < length old.shop.racks → IsShop old s
+      → HasLatched IsShop old d → IsListStacksCall old new (Move d reel result)
+      → MatchResult result (λ done. troubled_in new.shop ≡ troubled_in old.shop + troubles_of (Some reel)) (λ why. troubled_in new.shop ≡ troubled_in old.shop)
 
-none-of : (n : ℕ) → (0 < n → ⊥) → n ≡ 0
-none-of n h = grind (arith, h)
+none-left : (m n : ℕ) → m + n ≡ 0 → m ≡ 0
+none-left m n e = grind arith
 
-calm : ListShop → ListShop
-calm s = record s { trouble = false }
+none-right : (m n : ℕ) → m + n ≡ 0 → n ≡ 0
+none-right m n e = grind arith
 
-none-set : (s : ListShop) → s.trouble ≡ false → troubled_in s.shop ≡ 0 → StacksCanFail s → ⊥
-none-set s f n (inl t) = cc
-none-set s f n (inr m) = omega arith
+unset-of : (trouble : Trouble) → ◌≡◌ {A = ℕ} (cond (is_set trouble) 1 0) 0 → trouble ≡ NoTrouble
+unset-of NoTrouble e = refl
+unset-of Kept e = absurd cc
+unset-of Lost e = absurd cc
+unset-of (Written count) e = absurd cc
 
--- a reel that is laid back
-pub laid-lying : (old new : ListShop) (d : ℕ) (reel : TroubledTape) → d < length old.shop.racks → 0 < length (rack_at old.shop d).stack → IsReelLaidBack old d reel new
-    → troubled_in old.shop ≡ 0 → reel.trouble ≡ NoTrouble → troubled_in new.shop ≡ 0
-unfolding calm
-laid-lying old new d reel l some h none t =
-    none-of (troubled_in new.shop) (λ m. elim (lay_quiet (calm old) (calm new) d reel l some (ap calm h) (inr m)) [
-      | inl can ↦ none-set (calm old) refl none can
-      | inr set ↦ set t
-    ])
+none-both : (m n : ℕ) → m ≡ 0 → n ≡ 0 → m + n ≡ 0
+none-both m n e f = grind arith
 
--- a reel that is latched, or is not
-pub latched-lying : (old new : ListShop) (d : ℕ) (result : Result TroubledTape DriveFault) → d < length old.shop.racks → IsReelLatched old d result new
-    → troubled_in old.shop ≡ 0 → troubled_in new.shop ≡ 0
-latched-lying old new d (Ok reel) l h none = none-of (troubled_in new.shop) (λ m. none-set old h.0 none (latch_quiet old new d (Ok reel) l h (inr m)))
-latched-lying old new d (Err NoReel) l h none = ap (λ (s : ListShop). troubled_in s.shop) h.1 ∙ none
-latched-lying old new d (Err Device) l h none = ap (λ (s : ListShop). troubled_in s.shop) h.2 ∙ none
-latched-lying old new d (Err (Busy n)) l h none = absurd h
-latched-lying old new d (Err NoSuchDrive) l h none = absurd h
-latched-lying old new d (Err OutOfMemory) l h none = absurd h
-latched-lying old new d (Err NameTaken) l h none = absurd h
+no-trouble-of : (reel : TroubledTape) → reel.trouble ≡ NoTrouble → troubles_of (Some reel) ≡ 0
+no-trouble-of reel e = ap (λ t. cond (is_set t) 1 0) e
 
--- a reel that is moved to the bin, or is not
-pub moved-lying : (old new : ListShop) (d : ℕ) (reel : TroubledTape) (result : Result (Unit {0}) DriveFault) → d < length old.shop.racks → 0 < length (rack_at old.shop d).stack
-    → IsReelMoved old d reel result new → troubled_in old.shop ≡ 0 → reel.trouble ≡ NoTrouble → troubled_in new.shop ≡ 0
-moved-lying old new d reel (Ok x) l some h none t =
-    none-of (troubled_in new.shop) (λ m. elim (move_quiet old new d reel x l some h (inr m)) [
-      | inl can ↦ none-set old h.0 none can
-      | inr set ↦ set t
-    ])
-moved-lying old new d reel (Err Device) l some h none t = ap (λ (s : ListShop). troubled_in s.shop) h.1 ∙ none
-moved-lying old new d reel (Err NoReel) l some h none t = absurd h
-moved-lying old new d reel (Err (Busy n)) l some h none t = absurd h
-moved-lying old new d reel (Err NoSuchDrive) l some h none t = absurd h
-moved-lying old new d reel (Err OutOfMemory) l some h none t = absurd h
-moved-lying old new d reel (Err NameTaken) l some h none t = absurd h
+module _ (law : LyingLaw) where
+  -- a reel that is laid back
+  pub laid-lying : (old new : ListShop) (s : Shop) (d : ℕ) (reel : TroubledTape) → d < length old.shop.racks → IsShop old s → HasLatched IsShop old d
+      → IsListStacksCall old new (LayBack d reel) → troubled_in old.shop ≡ 0 → reel.trouble ≡ NoTrouble → troubled_in new.shop ≡ 0
+  laid-lying old new s d reel l tells latched h none t =
+      law.laid_back old new s d reel l tells latched h ∙ none-both (troubled_in old.shop) (troubles_of (Some reel)) none (no-trouble-of reel t)
+
+  -- a reel that is latched, or is not
+  pub latched-lying : (old new : ListShop) (d : ℕ) (result : Result TroubledTape DriveFault) → d < length old.shop.racks → IsListStacksCall old new (Latch d result)
+      → troubled_in old.shop ≡ 0 → troubled_in new.shop ≡ 0
+  latched-lying old new d result l h none = none-left (troubled_in new.shop) (troubles_of (given_by result)) (law.latched old new d result l h ∙ none)
+
+  -- and a reel that is latched has none
+  pub latched-calm : (old new : ListShop) (d : ℕ) (reel : TroubledTape) → d < length old.shop.racks → IsListStacksCall old new (Latch d (Ok reel))
+      → troubled_in old.shop ≡ 0 → reel.trouble ≡ NoTrouble
+  latched-calm old new d reel l h none =
+      unset-of reel.trouble (none-right (troubled_in new.shop) (troubles_of (Some reel)) (law.latched old new d (Ok reel) l h ∙ none))
+
+  -- a reel that is moved to the bin, or is not
+  pub moved-lying : (old new : ListShop) (s : Shop) (d : ℕ) (reel : TroubledTape) (result : Result (Unit {0}) DriveFault) → d < length old.shop.racks → IsShop old s
+      → HasLatched IsShop old d → IsListStacksCall old new (Move d reel result) → troubled_in old.shop ≡ 0 → reel.trouble ≡ NoTrouble → troubled_in new.shop ≡ 0
+  moved-lying old new s d reel (Ok done) l tells latched h none t =
+      law.moved old new s d reel (Ok done) l tells latched h ∙ none-both (troubled_in old.shop) (troubles_of (Some reel)) none (no-trouble-of reel t)
+  moved-lying old new s d reel (Err why) l tells latched h none t = law.moved old new s d reel (Err why) l tells latched h ∙ none

@@ -1,6 +1,6 @@
 -- An open of a session over drives and reels in memory, where it is told whether the latch fails.
 use Rattle.std.proofs.lemmas.List.{length-map}
-use Rattle.std.proofs.Common.{◌≡◌, ℕ, ◌<◌, Bool, true, false, List, [], length, slice_index, Option, Some, None, Result, Ok, Err, IfOk, refl, sym, ap, subst, ◌∙◌}
+use Rattle.std.proofs.Common.{◌≡◌, ℕ, ◌<◌, Bool, true, false, List, [], length, slice_index, Option, Some, None, MatchOption, Result, Ok, Err, IfOk, refl, sym, ap, subst, ◌∙◌, inl, inr}
 use Rattle.rmt_wire.specs.Request.{PlainRequest}
 use Rattle.rmt_wire.specs.Request.PlainRequest.{Open, Close, Write, WriteDropped, Read, Op}
 use Rattle.rmt_wire.specs.Reply.{PlainReply}
@@ -20,13 +20,13 @@ use Rattle.rmt_server.specs.declared.refusal.Refusal.TheVariants.{Invalid}
 use Rattle.rmt_server.specs.Refusals.{refused}
 use Rattle.rmt_server.specs.Access.{access_of}
 use Rattle.rmt_server.specs.Session.{PlainReel, plain_reel, Scene, scene, closed, open_reply, session_after, is_offline}
-use Rattle.rmt_server.specs.State.{drive_of, IsAt, IsSeenAs, Tells}
+use Rattle.rmt_server.specs.State.{drive_of, reel_of, IsAt, IsSeenAs, Tells}
 use Rattle.rmt_server.specs.Opening.{opened_by, IsClosed, OpensFor, IsOpenedFor}
 use Rattle.rmt_server.specs.Carrying.{Operates, CarriesOut}
 use Rattle.rmt_server.specs.Memory.{MemoryState, in_memory}
-use Rattle.rmt_server.specs.TroubledServe.{with_holder, holder_of, IsOpenCause, IsTroubled, IsSetAt, IsSetFor, IsServedUnder}
+use Rattle.rmt_server.specs.TroubledServe.{with_holder, holder_of, IsOpenCause, IsTroubled, IsSetAt, IsSetFor, IsSpent, IsNextSpent, IsServedUnder}
 use Rattle.rmt_server.proofs.TroubledHolders.{opened-numbers}
-use Rattle.rmt_server.proofs.TroubledLying.{latched-lying}
+use Rattle.rmt_server.proofs.TroubledLying.{LyingLaw, latched-lying, latched-calm}
 use Rattle.rmt_server.proofs.TroubledServing.{unset, set-means, drive-seen, reel-so, reel-parts, closed-lying, closed-held, closed-tells, close-so, offline-so}
 
 -- what an open answered and left, as it is seen
@@ -81,21 +81,41 @@ some-below : (asked : Option ℕ) (d e n : ℕ) → asked ≡ Some d → asked �
 some-below asked d e n a b l = let same : d ≡ e = cc in subst (λ x. x < n) same l
 
 -- no reel that lies there gets a trouble by a latch
-open-lying : (device : List ℕ) (asked : Option ℕ) (result : Result (ℕ × TroubledTape) DriveFault) (old new : ListShop) (shop shop' : Shop)
+open-lying : (law : LyingLaw) (device : List ℕ) (asked : Option ℕ) (result : Result (ℕ × TroubledTape) DriveFault) (old new : ListShop) (shop shop' : Shop)
     → OpenStep of_reel.holds of_reel.capacity device asked result shop shop' → LatchesFor in_memory old asked result new
     → length shop.racks ≡ length old.shop.racks → troubled_in old.shop ≡ 0 → troubled_in new.shop ≡ 0
-open-lying device asked (Ok taken) old new shop shop' h call racks none =
-    latched-lying old new taken.0 (Ok taken.1) (subst (λ n. taken.0 < n) racks h.1.0) call.made none
-open-lying device asked (Err NoSuchDrive) old new shop shop' h call racks none = ap (λ (s : ListShop). troubled_in s.shop) call ∙ none
-open-lying device asked (Err (Busy n)) old new shop shop' h call racks none = ap (λ (s : ListShop). troubled_in s.shop) call ∙ none
-open-lying device asked (Err NoReel) old new shop shop' h call racks none =
-    latched-lying old new call.0 (Err NoReel) (subst (λ n. call.0 < n) racks (some-below asked h.0 call.0 _ h.1 call.1 h.2.0)) call.2.made none
-open-lying device asked (Err Device) old new shop shop' h call racks none =
-    latched-lying old new call.0 (Err Device) (subst (λ n. call.0 < n) racks (some-below asked h.0 call.0 _ h.1 call.1 h.2.0)) call.2.made none
-open-lying device asked (Err OutOfMemory) old new shop shop' h call racks none = absurd call.2.made
-open-lying device asked (Err NameTaken) old new shop shop' h call racks none = absurd call.2.made
+open-lying law device asked (Ok taken) old new shop shop' h call racks none =
+    latched-lying law old new taken.0 (Ok taken.1) (subst (λ n. taken.0 < n) racks h.1.0) call.made none
+open-lying law device asked (Err NoSuchDrive) old new shop shop' h call racks none = ap (λ (s : ListShop). troubled_in s.shop) call ∙ none
+open-lying law device asked (Err (Busy n)) old new shop shop' h call racks none = ap (λ (s : ListShop). troubled_in s.shop) call ∙ none
+open-lying law device asked (Err NoReel) old new shop shop' h call racks none =
+    latched-lying law old new call.0 (Err NoReel) (subst (λ n. call.0 < n) racks (some-below asked h.0 call.0 _ h.1 call.1 h.2.0)) call.2.made none
+open-lying law device asked (Err Device) old new shop shop' h call racks none =
+    latched-lying law old new call.0 (Err Device) (subst (λ n. call.0 < n) racks (some-below asked h.0 call.0 _ h.1 call.1 h.2.0)) call.2.made none
+open-lying law device asked (Err OutOfMemory) old new shop shop' h call racks none = absurd call.2.made
+open-lying law device asked (Err NameTaken) old new shop shop' h call racks none = absurd call.2.made
 
-module _ (trouble : Trouble) (old : MemoryState) (before : Scene) (at : IsAt in_memory old) (tells : Tells in_memory old before) where
+-- a reel that is opened has no trouble
+open-calm : (law : LyingLaw) (access : Access) (reply : PlainReply) (device : List ℕ) (asked : Option ℕ) (result : Result (ℕ × TroubledTape) DriveFault) (old new : ListShop) (shop shop' : Shop)
+    → OpenStep of_reel.holds of_reel.capacity device asked result shop shop' → LatchesFor in_memory old asked result new
+    → length shop.racks ≡ length old.shop.racks → troubled_in old.shop ≡ 0
+    → MatchOption (reel_of (opened_by access result)) (Unit {0}) (λ r. IsSpent NoTrouble reply r.trouble)
+open-calm law access reply device asked (Ok taken) old new shop shop' h call racks none =
+    inl (latched-calm law old new taken.0 taken.1 (subst (λ n. taken.0 < n) racks h.1.0) call.made none)
+open-calm law access reply device asked (Err fault) old new shop shop' h call racks none = tt
+
+-- the stacks' trouble is gone where a latch met it, and else left
+open-next : (asked : Option ℕ) (result : Result (ℕ × TroubledTape) DriveFault) (reply : PlainReply) (old new : ListShop) → LatchesFor in_memory old asked result new
+    → reply ≡ open_reply result → IsNextSpent old.trouble reply new.trouble
+open-next asked (Ok taken) reply old new call e = inl (ap (λ (s : ListShop). s.trouble) call.made.2)
+open-next asked (Err NoSuchDrive) reply old new call e = inl (ap (λ (s : ListShop). s.trouble) call)
+open-next asked (Err (Busy n)) reply old new call e = inl (ap (λ (s : ListShop). s.trouble) call)
+open-next asked (Err NoReel) reply old new call e = inl (ap (λ (s : ListShop). s.trouble) call.2.made.1)
+open-next asked (Err Device) reply old new call e = inr (call.2.made.0, ap (λ (s : ListShop). s.trouble) call.2.made.2, e)
+open-next asked (Err OutOfMemory) reply old new call e = absurd call.2.made
+open-next asked (Err NameTaken) reply old new call e = absurd call.2.made
+
+module _ (law : LyingLaw) (trouble : Trouble) (old : MemoryState) (before : Scene) (at : IsAt in_memory old) (tells : Tells in_memory old before) where
   -- an open of a drive, once what was open is closed
   opened-so : (device : List ℕ) (mode : ℕ) (access : Access) (reply : PlainReply) (result : Result (ℕ × TroubledTape) DriveFault) (between new : MemoryState)
       → access_of mode ≡ Some access → reply ≡ open_reply result → IsClosed in_memory old between → IsOpenedFor in_memory between device access result new
@@ -103,8 +123,8 @@ module _ (trouble : Trouble) (old : MemoryState) (before : Scene) (at : IsAt in_
   opened-so device mode access reply result between new a e c o set =
       let asked : Option ℕ = drive_asked result new.seat in
       let st = o.opening.step (closed before).shop (c.step before tells) in
-      let closed-numbers = closed-held trouble old before at tells between c in
-      let rest = closed-lying trouble old before at tells (is_set trouble) between c set in
+      let closed-numbers = closed-held law trouble old before at tells between c in
+      let rest = closed-lying law trouble old before at tells (is_set trouble) between c set in
       let found : (d : ℕ) → asked ≡ Some d → found_in_open result ≡ slice_index between.drives.holds.numbers d
       = λ d x. o.opening.found d (slice_index between.drives.holds.numbers d) x (o.opening.asked d x, refl) in
       let cause = open-cause trouble between.drives.holds.numbers device asked result between.seat new.seat between.drives.stacks new.drives.stacks (closed before).shop st.0
@@ -124,7 +144,9 @@ module _ (trouble : Trouble) (old : MemoryState) (before : Scene) (at : IsAt in_
           step = rw a (seen.plain, asked, seen.step, subst (λ ns. IsOpenCause trouble (holder_of ns asked) seen.plain) closed-numbers seen.cause, e ∙ seen.reply, refl);
           held = rw (drive-seen new.opened after.session told.session, o.opens, ← closed-numbers, ← c.kept.number) opened;
         };
-        lying = open-lying device asked result between.drives.stacks new.drives.stacks (closed before).shop st.0 st.2 o.opening.call racks rest.0;
+        lying = open-lying law device asked result between.drives.stacks new.drives.stacks (closed before).shop st.0 st.2 o.opening.call racks rest.0;
+        online = rw o.opens (open-calm law access reply device asked result between.drives.stacks new.drives.stacks (closed before).shop st.0 st.2 o.opening.call racks rest.0);
+        next = subst (λ flag. IsNextSpent flag reply new.drives.stacks.trouble) rest.1 (open-next asked result reply between.drives.stacks new.drives.stacks o.opening.call e);
       }
 
   -- an open of a mode that is none
@@ -132,9 +154,11 @@ module _ (trouble : Trouble) (old : MemoryState) (before : Scene) (at : IsAt in_
       → IsClosed in_memory old between → IsTroubled NoTrouble (is_set trouble) old → IsServedUnder trouble old before (Open device mode) reply new
   invalid-so device mode reply between new a e n c set = rw n (record {
     after = closed before;
-    tells = closed-tells trouble old before at tells between c;
-    served = record { step = rw a (e, refl); held = closed-held trouble old before at tells between c };
-    lying = (closed-lying trouble old before at tells (is_set trouble) between c set).0;
+    tells = closed-tells law trouble old before at tells between c;
+    served = record { step = rw a (e, refl); held = closed-held law trouble old before at tells between c };
+    lying = (closed-lying law trouble old before at tells (is_set trouble) between c set).0;
+    online = rw c.nothing tt;
+    next = inl ((closed-lying law trouble old before at tells (is_set trouble) between c set).1);
   })
 
   open-so : (device : List ℕ) (mode : ℕ) (access : Option Access) (reply : PlainReply) (between new : MemoryState) → access_of mode ≡ access
@@ -146,23 +170,23 @@ module _ (trouble : Trouble) (old : MemoryState) (before : Scene) (at : IsAt in_
   -- an operation, which is MTOFFL or not
   op-so : (offline : Bool) (op count : ℕ) (reply : PlainReply) (new : MemoryState) → is_offline op ≡ offline → Operates in_memory offline old op count reply new
       → IsSetAt offline trouble old → IsServedUnder trouble old before (Op op count) reply new
-  op-so true op count reply new off m set = offline-so trouble old before at tells op count reply new off m set
+  op-so true op count reply new off m set = offline-so law trouble old before at tells op count reply new off m set
   op-so false op count reply new off serves set =
-      let p = reel-parts trouble old before at tells (Op op count) reply new serves set in
-      reel-so trouble old before at tells (Op op count) reply new serves set p (rw off p.step)
+      let p = reel-parts law trouble old before at tells (Op op count) reply new serves set in
+      reel-so law trouble old before at tells (Op op count) reply new serves set (rw off refl) p (rw off p.step)
 
   -- each request
   pub served-so : (request : PlainRequest) (reply : PlainReply) (new : MemoryState) → CarriesOut in_memory old request reply new → IsSetFor trouble request old
       → IsServedUnder trouble old before request reply new
   served-so (Open device mode) reply new (between, c, o) set = open-so device mode (access_of mode) reply between new refl c o set
-  served-so Close reply new c set = close-so trouble old before at tells reply new c set
+  served-so Close reply new c set = close-so law trouble old before at tells reply new c set
   served-so (Write bytes) reply new serves set =
-      let p = reel-parts trouble old before at tells (Write bytes) reply new serves set in
-      reel-so trouble old before at tells (Write bytes) reply new serves set p p.step
+      let p = reel-parts law trouble old before at tells (Write bytes) reply new serves set in
+      reel-so law trouble old before at tells (Write bytes) reply new serves set refl p p.step
   served-so (WriteDropped count) reply new serves set =
-      let p = reel-parts trouble old before at tells (WriteDropped count) reply new serves set in
-      reel-so trouble old before at tells (WriteDropped count) reply new serves set p p.step
+      let p = reel-parts law trouble old before at tells (WriteDropped count) reply new serves set in
+      reel-so law trouble old before at tells (WriteDropped count) reply new serves set refl p p.step
   served-so (Read count) reply new serves set =
-      let p = reel-parts trouble old before at tells (Read count) reply new serves set in
-      reel-so trouble old before at tells (Read count) reply new serves set p p.step
+      let p = reel-parts law trouble old before at tells (Read count) reply new serves set in
+      reel-so law trouble old before at tells (Read count) reply new serves set refl p p.step
   served-so (Op op count) reply new c set = op-so (is_offline op) op count reply new refl c set

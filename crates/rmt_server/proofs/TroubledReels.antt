@@ -1,19 +1,24 @@
 -- What the open reel serves where it is told how its next device call fails.
-use Rattle.std.proofs.Common.{◌≡◌, Option, Some, None, MatchOption, refl, ap, subst}
+use Rattle.std.proofs.Common.{◌≡◌, Option, Some, None, MatchOption, refl, ap, subst, ◌∙◌, inl, inr}
 use Rattle.rmt_wire.specs.Request.{PlainRequest}
+use Rattle.rmt_wire.specs.Request.PlainRequest.{Open, Close, Write, WriteDropped, Read, Op}
 use Rattle.rmt_wire.specs.Reply.{PlainReply}
-use Rattle.tape.specs.Trouble.{TroubledTape, DeviceStep}
+use Rattle.tape.specs.Tape.{TapeAnswer}
+use Rattle.tape.specs.Tape.TapeAnswer.{Done, Gave, Fault}
+use Rattle.tape.specs.declared.fault.TapeFault.TheVariants as fault
+use Rattle.tape.specs.Trouble.{TroubledTape, DeviceStep, IsCounted}
 use Rattle.tape.specs.declared.trouble.Trouble.{Trouble}
 use Rattle.tape.specs.contracts.troubled.TroubledReelReel.TheImpl.{ghosts as of_reel}
 use Rattle.drives.specs.Shop.{Shop}
 use Rattle.rmt_server.specs.declared.refusal.Refusal.{Refusal}
+use Rattle.rmt_server.specs.declared.refusal.Refusal.TheVariants.{InputOutput}
 use Rattle.rmt_server.specs.declared.session.desk.Opened.{Opened}
 use Rattle.rmt_server.specs.Refusals.{refused}
-use Rattle.rmt_server.specs.Session.{PlainSession, plain_reel, scene, status_of, refusal, tape_request}
+use Rattle.rmt_server.specs.Session.{PlainSession, plain_reel, scene, status_of, refusal, tape_request, reel_reply}
 use Rattle.rmt_server.specs.Session.PlainSession.{Online}
 use Rattle.rmt_server.specs.State.{IsSeenWith, IsSeenAs, reel_of, status_at}
 use Rattle.rmt_server.specs.Serving.{CallsIn, CallsReel, ReelServes}
-use Rattle.rmt_server.specs.TroubledServe.{TroubledReelStep}
+use Rattle.rmt_server.specs.TroubledServe.{TroubledReelStep, IsSpent}
 use Rattle.rmt_server.proofs.Steps.{status-seen}
 
 -- what a request that the reel serves leaves of a session that is seen so
@@ -23,6 +28,32 @@ pub record ReelServedSo (trouble : Trouble) (new : Option (Opened TroubledTape))
   pub seen : IsSeenAs of_reel new after
   pub step : MatchOption by (TroubledReelStep trouble (scene shop session) request reply (scene shop after))
       (λ x. (reply ≡ refused x) × (scene shop after ≡ scene shop session))
+  pub left : MatchOption (reel_of new) (Unit {0}) (λ r. IsSpent trouble reply r.trouble)
+
+device-reply : (request : PlainRequest) → reel_reply request (Fault fault.Device) ≡ refused InputOutput
+device-reply (Open device mode) = refl
+device-reply Close = refl
+device-reply (Write bytes) = refl
+device-reply (WriteDropped count) = refl
+device-reply (Read count) = refl
+device-reply (Op op count) = refl
+
+-- a trouble is gone where the device call met it, and else left
+spent-by : (request : PlainRequest) (answer : TapeAnswer) (old new : TroubledTape) (reply : PlainReply) → reply ≡ reel_reply request answer → IsCounted answer old new
+    → DeviceStep old.capacity old.trouble old.tape (tape_request request) answer new.tape → IsSpent old.trouble reply new.trouble
+spent-by request Done old new reply e counted step = inl counted.0
+spent-by request (Gave bytes) old new reply e counted step = inl counted.0
+spent-by request (Fault fault.Device) old new reply e counted step = inr (step.0, counted.0, e ∙ device-reply request)
+spent-by request (Fault fault.Full) old new reply e counted step = inl counted.0
+spent-by request (Fault fault.EndOrMark) old new reply e counted step = inl counted.0
+spent-by request (Fault fault.BadOperation) old new reply e counted step = inl counted.0
+spent-by request (Fault fault.OutOfMemory) old new reply e counted step = inl counted.0
+
+-- a reel that no call is made of has its trouble
+pub kept-left : (trouble : Trouble) (reply : PlainReply) (reel : Option TroubledTape) → MatchOption reel (Unit {0}) (λ r. r.trouble ≡ trouble)
+    → MatchOption reel (Unit {0}) (λ r. IsSpent trouble reply r.trouble)
+kept-left trouble reply None set = tt
+kept-left trouble reply (Some reel) set = inl set
 
 module _ (trouble : Trouble) (new : Option (Opened TroubledTape)) (shop : Shop) (session : PlainSession) (request : PlainRequest) (reply : PlainReply) where
   calls-in : (device : Opened TroubledTape) (reel : Option TroubledTape) → CallsIn of_reel device reel new request reply
@@ -44,6 +75,7 @@ module _ (trouble : Trouble) (new : Option (Opened TroubledTape)) (shop : Shop) 
       e,
       ap (λ c. scene shop (Online device.drive device.access (plain_reel moved.tape c))) call.same_capacity,
     );
+    left = rw n (subst (λ x. IsSpent x reply moved.trouble) set (spent-by request answer reel moved reply e call.made.counted call.made.step));
   }
 
   calls-reel : (old : Option (Opened TroubledTape)) → CallsReel of_reel old new request reply
@@ -57,7 +89,12 @@ module _ (trouble : Trouble) (new : Option (Opened TroubledTape)) (shop : Shop) 
       → MatchOption (reel_of old) (Unit {0}) (λ r. r.trouble ≡ trouble) → IsSeenAs of_reel old session
       → ReelServedSo trouble new shop session by request reply
   serves-by old None call set seen = calls-reel old call set seen
-  serves-by old (Some x) (e, n) set seen = record { after = session; seen = rw n seen; step = (e, refl) }
+  serves-by old (Some x) (e, n) set seen = record {
+    after = session;
+    seen = rw n seen;
+    step = (e, refl);
+    left = rw n (kept-left trouble reply (reel_of old) set);
+  }
 
   -- a request that the reel serves, where it tells
   pub reel-serves-so : (old : Option (Opened TroubledTape)) → ReelServes of_reel old new request reply

@@ -1,5 +1,5 @@
 -- Each request of a session over drives and reels in memory, where it is told how the device call fails that it makes.
-use Rattle.std.proofs.Common.{◌≡◌, ◌≢◌, ℕ, ◌<◌, Bool, true, false, length, Option, Some, None, MatchOption, Result, Ok, Err, refl, sym, ap, subst, ◌∙◌}
+use Rattle.std.proofs.Common.{◌≡◌, ◌≢◌, ℕ, ◌<◌, Bool, true, false, length, Option, Some, None, MatchOption, Result, Ok, Err, refl, sym, ap, subst, ◌∙◌, inl, inr}
 use Rattle.rmt_wire.specs.Request.{PlainRequest}
 use Rattle.rmt_wire.specs.Request.PlainRequest.{Close, Op}
 use Rattle.rmt_wire.specs.Reply.{PlainReply}
@@ -26,12 +26,12 @@ use Rattle.rmt_server.specs.Opening.{LaysBack, LaysBackOpened, IsClosed, Closes}
 use Rattle.rmt_server.specs.Moving.{IsTakenOff, MovesIn, MovesReel, MovesOff}
 use Rattle.rmt_server.specs.Serving.{Serves}
 use Rattle.rmt_server.specs.Memory.{MemoryState, in_memory}
-use Rattle.rmt_server.specs.TroubledServe.{drive_in, with_holder, TroubledServeStep, IsTroubled, IsServedUnder}
+use Rattle.rmt_server.specs.TroubledServe.{drive_in, with_holder, TroubledServeStep, IsTroubled, set_online, IsSpent, IsServedUnder}
 use Rattle.rmt_server.proofs.Sound.{serves-same}
 use Rattle.rmt_server.proofs.Steps.{status-seen}
 use Rattle.rmt_server.proofs.TroubledHolders.{closed-numbers, kept-numbers, own-held}
-use Rattle.rmt_server.proofs.TroubledLying.{some-latched, laid-lying, moved-lying}
-use Rattle.rmt_server.proofs.TroubledReels.{ReelServedSo, reel-serves-so}
+use Rattle.rmt_server.proofs.TroubledLying.{LyingLaw, laid-lying, moved-lying}
+use Rattle.rmt_server.proofs.TroubledReels.{ReelServedSo, kept-left, reel-serves-so}
 
 -- a trouble that is set is one
 pub unset : (trouble : Trouble) → is_set trouble ≡ false → trouble ≡ NoTrouble
@@ -54,16 +54,16 @@ drive-seen None session seen = ap drive_in seen
 drive-seen (Some device) session seen = seen-with device device.reel session seen
 
 -- a reel that was laid back, or was not there
-pub lays-lying : (old new : ListShop) (t : Shop) (drive : ℕ) (reel : Option TroubledTape) → IsShop old t → drive < length old.shop.racks
+pub lays-lying : (law : LyingLaw) (old new : ListShop) (t : Shop) (drive : ℕ) (reel : Option TroubledTape) → IsShop old t → drive < length old.shop.racks
     → MatchOption reel (Unit {0}) (λ r. HasLatched IsShop old drive) → LaysBack in_memory.stacks of_reel old drive reel new
     → MatchOption reel (Unit {0}) (λ r. r.trouble ≡ NoTrouble) → troubled_in old.shop ≡ 0 → (troubled_in new.shop ≡ 0) × (new.trouble ≡ old.trouble)
-lays-lying old new t drive None tells l latched e calm none = (ap (λ (s : ListShop). troubled_in s.shop) e ∙ none, ap (λ (s : ListShop). s.trouble) e)
-lays-lying old new t drive (Some reel) tells l latched (rested, rewound, call) calm none = (
-  laid-lying old new drive rested l (some-latched old t drive tells latched) call.made none (rewound.made.counted.0 ∙ calm),
+lays-lying law old new t drive None tells l latched e calm none = (ap (λ (s : ListShop). troubled_in s.shop) e ∙ none, ap (λ (s : ListShop). s.trouble) e)
+lays-lying law old new t drive (Some reel) tells l latched (rested, rewound, call) calm none = (
+  laid-lying law old new t drive rested l tells latched call.made none (rewound.made.counted.0 ∙ calm),
   ap (λ (s : ListShop). s.trouble) call.made,
 )
 
-module _ (trouble : Trouble) (old : MemoryState) (before : Scene) (at : IsAt in_memory old) (tells : Tells in_memory old before) where
+module _ (law : LyingLaw) (trouble : Trouble) (old : MemoryState) (before : Scene) (at : IsAt in_memory old) (tells : Tells in_memory old before) where
   -- where drives and seat are as before, and the same drive is open
   held-same : (new : MemoryState) (after : Scene) → new.drives.holds ≡ old.drives.holds → drive_of new.opened ≡ drive_of old.opened → Tells in_memory new after
       → new.drives.holds.numbers ≡ with_holder (drive_in after.session) old.seat.number (with_holder (drive_in before.session) 0 old.drives.holds.numbers)
@@ -72,21 +72,24 @@ module _ (trouble : Trouble) (old : MemoryState) (before : Scene) (at : IsAt in_
       (kept-numbers (drive_of old.opened) old.seat.number old.drives.holds.numbers (own-held old at))
 
   -- a refused request
-  refused-so : (request : PlainRequest) (reply : PlainReply) (new : MemoryState) → new ≡ old → troubled_in old.drives.stacks.shop ≡ 0
-      → TroubledServeStep trouble old.drives.holds.numbers before request reply before → IsServedUnder trouble old before request reply new
-  refused-so request reply new n none step = rw n (record {
+  refused-so : (request : PlainRequest) (reply : PlainReply) (new : MemoryState) (reel : Trouble) (stacks : Bool) → new ≡ old → IsTroubled reel stacks old
+      → reel ≡ set_online trouble request → TroubledServeStep trouble old.drives.holds.numbers before request reply before → IsServedUnder trouble old before request reply new
+  refused-so request reply new reel stacks n set same step = rw n (record {
     after = before;
     tells = tells;
     served = record { step = step; held = held-same old before refl refl tells };
-    lying = none;
+    lying = set.lying;
+    online = subst (λ t. MatchOption (reel_of old.opened) (Unit {0}) (λ r. IsSpent t reply r.trouble)) same (kept-left reel reply (reel_of old.opened) set.online);
+    next = inl refl;
   })
 
   -- a request that the reel serves
   pub reel-so : (request : PlainRequest) (reply : PlainReply) (new : MemoryState) → Serves in_memory old request reply new → IsTroubled trouble false old
+      → set_online trouble request ≡ trouble
       → (p : ReelServedSo trouble new.opened before.shop before.session (refusal (status_of before.session) request) request reply)
       → TroubledServeStep trouble old.drives.holds.numbers before request reply (scene before.shop p.after)
       → IsServedUnder trouble old before request reply new
-  reel-so request reply new (n, e, serves) set p step =
+  reel-so request reply new (n, e, serves) set same p step =
       let seen : Tells in_memory new (scene before.shop p.after) = record { shop = rw n tells.shop; session = p.seen } in
       record {
         after = scene before.shop p.after;
@@ -96,6 +99,8 @@ module _ (trouble : Trouble) (old : MemoryState) (before : Scene) (at : IsAt in_
           held = held-same new (scene before.shop p.after) (ap (λ d. d.holds) n) (serves-same of_reel old.opened new.opened request reply serves).0 seen;
         };
         lying = ap (λ d. troubled_in d.stacks.shop) n ∙ set.lying;
+        online = rw same p.left;
+        next = inl (ap (λ d. d.stacks.trouble) n);
       }
 
   pub reel-parts : (request : PlainRequest) (reply : PlainReply) (new : MemoryState) → Serves in_memory old request reply new → IsTroubled trouble false old
@@ -115,7 +120,7 @@ module _ (trouble : Trouble) (old : MemoryState) (before : Scene) (at : IsAt in_
       → (troubled_in stacks.shop ≡ 0) × (stacks.trouble ≡ old.drives.stacks.trouble)
   closed-by None stacks o e calm none = (ap (λ (s : ListShop). troubled_in s.shop) e ∙ none, ap (λ (s : ListShop). s.trouble) e)
   closed-by (Some device) stacks o laid calm none =
-      lays-lying old.drives.stacks stacks before.shop device.drive device.reel tells.shop (below-in device o) (latched-in device device.reel o refl) laid calm none
+      lays-lying law old.drives.stacks stacks before.shop device.drive device.reel tells.shop (below-in device o) (latched-in device device.reel o refl) laid calm none
 
   -- what was open is closed
   pub closed-lying : (stacks : Bool) (new : MemoryState) → IsClosed in_memory old new → IsTroubled NoTrouble stacks old
@@ -137,7 +142,7 @@ module _ (trouble : Trouble) (old : MemoryState) (before : Scene) (at : IsAt in_
       → IsServedUnder trouble old before Close reply new
   closes-by None reply new o (e, n) set =
       let idle : status_of before.session ≡ status_at {R = TroubledTape} None = status-seen of_reel None before.session (subst (λ p. IsSeenAs of_reel p before.session) o tells.session) in
-      refused-so Close reply new n set.lying (rw idle (e, refl))
+      refused-so Close reply new NoTrouble false n set refl (rw idle (e, refl))
   closes-by (Some device) reply new o (e, c) set =
       let online : status_of before.session ≡ status_at (Some device) = status-seen of_reel (Some device) before.session (subst (λ p. IsSeenAs of_reel p before.session) o tells.session) in
       record {
@@ -145,6 +150,8 @@ module _ (trouble : Trouble) (old : MemoryState) (before : Scene) (at : IsAt in_
         tells = closed-tells new c;
         served = record { step = rw (online, not-refused device.access device.reel) (e, refl); held = closed-held new c };
         lying = (closed-lying false new c set).0;
+        online = rw c.nothing tt;
+        next = inl ((closed-lying false new c set).1);
       }
 
   pub close-so : (reply : PlainReply) (new : MemoryState) → Closes in_memory old reply new → IsTroubled NoTrouble false old → IsServedUnder trouble old before Close reply new
@@ -181,9 +188,10 @@ module _ (trouble : Trouble) (old : MemoryState) (before : Scene) (at : IsAt in_
           );
           held = held-same new after m.same_holds (ap drive_of m.opens ∙ sym (ap drive_of o)) told;
         };
-        lying = moved-lying old.drives.stacks new.drives.stacks device.drive m.rested (Ok x) (below-in device o)
-            (some-latched old.drives.stacks before.shop device.drive tells.shop (latched-in device (Some reel) o online)) m.call.made set.lying
-            (m.rewound.made.counted.0 ∙ calm-in device reel (is_set trouble) o online set);
+        lying = moved-lying law old.drives.stacks new.drives.stacks before.shop device.drive m.rested (Ok x) (below-in device o) tells.shop
+            (latched-in device (Some reel) o online) m.call.made set.lying (m.rewound.made.counted.0 ∙ calm-in device reel (is_set trouble) o online set);
+        online = rw m.opens tt;
+        next = inl (ap (λ (x : ListShop). x.trouble) m.call.made.1);
       }
   taken-so device reel op count reply (Err Device) new o online off free e m set t held seen =
       let u = m.rewound.step t held in
@@ -206,9 +214,10 @@ module _ (trouble : Trouble) (old : MemoryState) (before : Scene) (at : IsAt in_
           );
           held = held-same new after m.same_holds (ap drive_of m.opens ∙ sym (ap drive_of o)) told;
         };
-        lying = moved-lying old.drives.stacks new.drives.stacks device.drive m.rested (Err Device) (below-in device o)
-            (some-latched old.drives.stacks before.shop device.drive tells.shop (latched-in device (Some reel) o online)) m.call.made set.lying
-            (m.rewound.made.counted.0 ∙ calm-in device reel (is_set trouble) o online set);
+        lying = moved-lying law old.drives.stacks new.drives.stacks before.shop device.drive m.rested (Err Device) (below-in device o) tells.shop
+            (latched-in device (Some reel) o online) m.call.made set.lying (m.rewound.made.counted.0 ∙ calm-in device reel (is_set trouble) o online set);
+        online = rw (m.opens, off) (inl (m.rewound.made.counted.0 ∙ calm-in device reel (is_set trouble) o online set));
+        next = inr (m.call.made.0, ap (λ (x : ListShop). x.trouble) m.call.made.1, e);
       }
   taken-so device reel op count reply (Err NoSuchDrive) new o online off free e m set t held seen = absurd m.call.made
   taken-so device reel op count reply (Err (Busy n)) new o online off free e m set t held seen = absurd m.call.made
@@ -235,7 +244,7 @@ module _ (trouble : Trouble) (old : MemoryState) (before : Scene) (at : IsAt in_
       → MatchOption by (MovesReel in_memory old old.opened count reply new) (λ x. (reply ≡ refused x) × (new ≡ old)) → IsTroubled NoTrouble (is_set trouble) old
       → IsServedUnder trouble old before (Op op count) reply new
   moves-by-so None op count reply new free off m set = moves-reel-so old.opened op count reply new refl off free m set tells.session
-  moves-by-so (Some x) op count reply new free off (e, n) set = refused-so (Op op count) reply new n set.lying (rw free (e, refl))
+  moves-by-so (Some x) op count reply new free off (e, n) set = refused-so (Op op count) reply new NoTrouble (is_set trouble) n set (rw off refl) (rw free (e, refl))
 
   -- MTOFFL
   pub offline-so : (op count : ℕ) (reply : PlainReply) (new : MemoryState) → is_offline op ≡ true → MovesOff in_memory old op count reply new → IsTroubled NoTrouble (is_set trouble) old

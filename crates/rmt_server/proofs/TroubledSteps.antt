@@ -3,13 +3,12 @@ use Rattle.std.proofs.Common.{◌≡◌, ◌≢◌, ℕ, ◌<◌, Bool, true, fa
 use Rattle.rmt_wire.specs.Request.{PlainRequest}
 use Rattle.rmt_wire.specs.Request.PlainRequest.{Open, Close, Write, WriteDropped, Read, Op}
 use Rattle.rmt_wire.specs.Reply.{PlainReply}
-use Rattle.tape.specs.Tape.{Tape, TapeRequest, TapeAnswer}
+use Rattle.tape.specs.Tape.{Tape, TapeRequest, TapeAnswer, TapeStep}
 use Rattle.tape.specs.Tape.TapeAnswer.{Done, Gave, Fault}
 use Rattle.tape.specs.Trouble.{DeviceStep}
 use Rattle.tape.specs.declared.fault.TapeFault.TheVariants as fault
 use Rattle.tape.specs.declared.trouble.Trouble.{Trouble}
 use Rattle.tape.specs.declared.trouble.Trouble.TheVariants.{None as NoTrouble, Kept, Lost, Written}
-use Rattle.tape.proofs.Devices.{tape_step}
 use Rattle.drives.specs.declared.fault.DriveFault.{DriveFault}
 use Rattle.drives.specs.declared.fault.DriveFault.TheVariants.{NoSuchDrive, Busy, NoReel, Device, OutOfMemory, NameTaken}
 use Rattle.drives.specs.ListShop.{is_set}
@@ -38,16 +37,22 @@ call-excused capacity trouble t request (Fault fault.EndOrMark) u h = tt
 call-excused capacity trouble t request (Fault fault.BadOperation) u h = tt
 call-excused capacity trouble t request (Fault fault.OutOfMemory) u h = refl
 
-reel-step : (trouble : Trouble) (before : Scene) (request : PlainRequest) (reply : PlainReply) (after : Scene)
+-- a call of a device that is told how it fails is a step of its tape, as `tape::device_steps` says
+abbrev pub DeviceLaw : Type 0
+DeviceLaw =
+    (capacity : ℕ) (trouble : Trouble) (t : Tape) (request : TapeRequest) (answer : TapeAnswer) (u : Tape)
+    → DeviceStep capacity trouble t request answer u → TapeStep capacity t request answer u
+
+reel-step : (law : DeviceLaw) (trouble : Trouble) (before : Scene) (request : PlainRequest) (reply : PlainReply) (after : Scene)
     → TroubledReelStep trouble before request reply after → ReelStep (is_set trouble) true before request reply after
-reel-step trouble before request reply after (drive, access, reel, answer, t, s, h, e, a) = (
+reel-step law trouble before request reply after (drive, access, reel, answer, t, s, h, e, a) = (
   drive,
   access,
   reel,
   answer,
   t,
   s,
-  tape_step reel.capacity trouble reel.tape (tape_request request) answer t h,
+  law reel.capacity trouble reel.tape (tape_request request) answer t h,
   call-excused reel.capacity trouble reel.tape (tape_request request) answer t h,
   e,
   a,
@@ -70,37 +75,37 @@ open-step trouble holders before device None reply after (e, n) = (None, 0, (e, 
 open-step trouble holders before device (Some access) reply after (result, asked, h, q, e, s) =
     (asked, found_in_open result, (result, h, refl, open-excused trouble (holder_of holders asked) result q, e, s))
 
-op-step : (offline : Bool) (trouble : Trouble) (before : Scene) (op count : ℕ) (reply : PlainReply) (after : Scene)
+op-step : (law : DeviceLaw) (offline : Bool) (trouble : Trouble) (before : Scene) (op count : ℕ) (reply : PlainReply) (after : Scene)
     → TroubledOpStep offline trouble before op count reply after → OpStep offline (is_set trouble) true before op count reply after
-op-step true trouble before op count reply after (drive, access, reel, result, s, q, e, m) = (drive, access, reel, result, s, e, m)
-op-step false trouble before op count reply after h = reel-step trouble before (Op op count) reply after h
+op-step law true trouble before op count reply after (drive, access, reel, result, s, q, e, m) = (drive, access, reel, result, s, e, m)
+op-step law false trouble before op count reply after h = reel-step law trouble before (Op op count) reply after h
 
-done-step : (trouble : Trouble) (before : Scene) (request : PlainRequest) (reply : PlainReply) (after : Scene)
+done-step : (law : DeviceLaw) (trouble : Trouble) (before : Scene) (request : PlainRequest) (reply : PlainReply) (after : Scene)
     → TroubledDoneStep trouble before request reply after → DoneStep (is_set trouble) true before request reply after
-done-step trouble before (Open device mode) reply after h = reel-step trouble before (Open device mode) reply after h
-done-step trouble before Close reply after h = h
-done-step trouble before (Write bytes) reply after h = reel-step trouble before (Write bytes) reply after h
-done-step trouble before (WriteDropped count) reply after h = reel-step trouble before (WriteDropped count) reply after h
-done-step trouble before (Read count) reply after h = reel-step trouble before (Read count) reply after h
-done-step trouble before (Op op count) reply after h = op-step (is_offline op) trouble before op count reply after h
+done-step law trouble before (Open device mode) reply after h = reel-step law trouble before (Open device mode) reply after h
+done-step law trouble before Close reply after h = h
+done-step law trouble before (Write bytes) reply after h = reel-step law trouble before (Write bytes) reply after h
+done-step law trouble before (WriteDropped count) reply after h = reel-step law trouble before (WriteDropped count) reply after h
+done-step law trouble before (Read count) reply after h = reel-step law trouble before (Read count) reply after h
+done-step law trouble before (Op op count) reply after h = op-step law (is_offline op) trouble before op count reply after h
 
-step-by : (by : Option Refusal) (trouble : Trouble) (before : Scene) (request : PlainRequest) (reply : PlainReply) (after : Scene)
+step-by : (law : DeviceLaw) (by : Option Refusal) (trouble : Trouble) (before : Scene) (request : PlainRequest) (reply : PlainReply) (after : Scene)
     → MatchOption by (TroubledDoneStep trouble before request reply after) (λ r. (reply ≡ refused r) × (after ≡ before))
     → MatchOption by (DoneStep (is_set trouble) true before request reply after) (λ r. (reply ≡ refused r) × (after ≡ before))
-step-by None trouble before request reply after h = done-step trouble before request reply after h
-step-by (Some r) trouble before request reply after h = h
+step-by law None trouble before request reply after h = done-step law trouble before request reply after h
+step-by law (Some r) trouble before request reply after h = h
 
-pub serve-step : (trouble : Trouble) (holders : List ℕ) (before : Scene) (request : PlainRequest) (reply : PlainReply) (after : Scene)
+pub serve-step : (law : DeviceLaw) (trouble : Trouble) (holders : List ℕ) (before : Scene) (request : PlainRequest) (reply : PlainReply) (after : Scene)
     → TroubledServeStep trouble holders before request reply after
     → (asked : Option ℕ) × (found : ℕ) × ServeStep (is_set trouble) true asked found before request reply after
-serve-step trouble holders before (Open device mode) reply after h =
+serve-step law trouble holders before (Open device mode) reply after h =
     open-step trouble (with_holder (drive_in before.session) 0 holders) (closed before) device (access_of mode) reply after h
-serve-step trouble holders before Close reply after h = (None, 0, step-by (refusal (status_of before.session) Close) trouble before Close reply after h)
-serve-step trouble holders before (Write bytes) reply after h =
-    (None, 0, step-by (refusal (status_of before.session) (Write bytes)) trouble before (Write bytes) reply after h)
-serve-step trouble holders before (WriteDropped count) reply after h =
-    (None, 0, step-by (refusal (status_of before.session) (WriteDropped count)) trouble before (WriteDropped count) reply after h)
-serve-step trouble holders before (Read count) reply after h =
-    (None, 0, step-by (refusal (status_of before.session) (Read count)) trouble before (Read count) reply after h)
-serve-step trouble holders before (Op op count) reply after h =
-    (None, 0, step-by (refusal (status_of before.session) (Op op count)) trouble before (Op op count) reply after h)
+serve-step law trouble holders before Close reply after h = (None, 0, step-by law (refusal (status_of before.session) Close) trouble before Close reply after h)
+serve-step law trouble holders before (Write bytes) reply after h =
+    (None, 0, step-by law (refusal (status_of before.session) (Write bytes)) trouble before (Write bytes) reply after h)
+serve-step law trouble holders before (WriteDropped count) reply after h =
+    (None, 0, step-by law (refusal (status_of before.session) (WriteDropped count)) trouble before (WriteDropped count) reply after h)
+serve-step law trouble holders before (Read count) reply after h =
+    (None, 0, step-by law (refusal (status_of before.session) (Read count)) trouble before (Read count) reply after h)
+serve-step law trouble holders before (Op op count) reply after h =
+    (None, 0, step-by law (refusal (status_of before.session) (Op op count)) trouble before (Op op count) reply after h)

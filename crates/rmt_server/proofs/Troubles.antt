@@ -14,6 +14,7 @@ use Rattle.rmt_server.specs.Opening.{IsClosed}
 use Rattle.rmt_server.specs.Troubling.{troubled, with_trouble}
 use Rattle.rmt_server.specs.Memory.{MemoryState, in_memory}
 use Rattle.rmt_server.specs.TroubledServe.{IsTroubled, IsSetAt, IsSetFor, with_troubles, set_at, set_for, IsEnded}
+use Rattle.rmt_server.proofs.TroubledLying.{LyingLaw}
 use Rattle.rmt_server.proofs.TroubledServing.{closed-lying, closed-held, closed-tells}
 
 reel-set : (trouble : Trouble) (reel : Option TroubledTape) → MatchOption (troubled trouble reel) (Unit {0}) (λ r. r.trouble ≡ trouble)
@@ -76,10 +77,10 @@ troubles-at reel stacks x at = record {
 }
 
 -- what is open is closed while no trouble is set for its reel
-pub ended-so : (stacks : Bool) (old new : MemoryState) (before : Scene) → IsAt in_memory old → Tells in_memory old before → IsTroubled NoTrouble stacks old → IsClosed in_memory old new
+pub ended-so : (law : LyingLaw) (stacks : Bool) (old new : MemoryState) (before : Scene) → IsAt in_memory old → Tells in_memory old before → IsTroubled NoTrouble stacks old → IsClosed in_memory old new
     → IsEnded old before new
-ended-so stacks old new before at tells set c = record {
-  tells = closed-tells NoTrouble old before at tells new c;
-  held = closed-held NoTrouble old before at tells new c;
-  lying = (closed-lying NoTrouble old before at tells stacks new c set).0;
+ended-so law stacks old new before at tells set c = record {
+  tells = closed-tells law NoTrouble old before at tells new c;
+  held = closed-held law NoTrouble old before at tells new c;
+  lying = (closed-lying law NoTrouble old before at tells stacks new c set).0;
 }

@@ -1,6 +1,6 @@
 -- One request of a session over drives and reels in memory, where it is told how the device call fails that it makes:
 -- the serve step with its freedom taken out, and who holds the drives.
-use Rattle.std.specs.Prelude.{◌≡◌, ◌≢◌, ℕ, ◌<◌, Bool, true, false, List, slice_set, slice_index, Option, Some, None, MatchOption, Result, Ok, Err}
+use Rattle.std.specs.Prelude.{◌≡◌, ◌≢◌, ◌⊎◌, ℕ, ◌<◌, Bool, true, false, if◌then◌else◌, List, slice_set, slice_index, Option, Some, None, MatchOption, Result, Ok, Err}
 use Rattle.rmt_wire.specs.Request.{PlainRequest}
 use Rattle.rmt_wire.specs.Request.PlainRequest.{Open, Close, Op}
 use Rattle.rmt_wire.specs.Reply.{PlainReply}
@@ -14,7 +14,7 @@ use Rattle.drives.specs.declared.fault.DriveFault.TheVariants as drive
 use Rattle.drives.specs.ListShop.{is_set, troubled_in}
 use Rattle.drives.specs.Opening.{OpenStep}
 use Rattle.rmt_server.specs.declared.access.Access.{Access}
-use Rattle.rmt_server.specs.declared.refusal.Refusal.TheVariants.{Invalid}
+use Rattle.rmt_server.specs.declared.refusal.Refusal.TheVariants.{InputOutput, Invalid}
 use Rattle.rmt_server.specs.Access.{access_of}
 use Rattle.rmt_server.specs.Refusals.{refused}
 use Rattle.rmt_server.specs.Session.{PlainReel, plain_reel, PlainSession, Scene, scene, status_of, refusal, tape_request, reel_reply, closed, open_reply, session_after, is_offline, move_reply, MovesAs}
@@ -127,13 +127,29 @@ abbrev pub IsSetFor : Trouble → PlainRequest → MemoryState → Type 0
 IsSetFor trouble Close x = IsTroubled NoTrouble false x
 IsSetFor trouble request x = IsSetAt (is_of_stacks request) trouble x
 
--- The request is served so, and no reel that lies on the stacks or in the bin has a trouble afterwards.
+-- the trouble that is set for the open reel then
+abbrev pub set_online : Trouble → PlainRequest → Trouble
+set_online trouble Close = NoTrouble
+set_online trouble request = if is_of_stacks request then NoTrouble else trouble
+
+-- What is left of a trouble that was set: all of it, or nothing where a device call met it, which is answered so.
+abbrev pub IsSpent : Trouble → PlainReply → Trouble → Type 0
+IsSpent set reply left = (left ≡ set) ⊎ ((set ≢ NoTrouble) × (left ≡ NoTrouble) × (reply ≡ refused InputOutput))
+
+-- the same of the stacks' own trouble
+abbrev pub IsNextSpent : Bool → PlainReply → Bool → Type 0
+IsNextSpent set reply left = (left ≡ set) ⊎ ((set ≡ true) × (left ≡ false) × (reply ≡ refused InputOutput))
+
+-- The request is served so. Then no reel that lies on the stacks or in the bin has a trouble, and of the trouble that
+-- was set is left what no device call met.
 pub record IsServedUnder (trouble : Trouble) (old : MemoryState) (before : Scene) (request : PlainRequest) (reply : PlainReply)
     (new : MemoryState) : Type 0 where
   pub after : Scene
   pub tells : Tells in_memory new after
   pub served : TroubledServe trouble old.drives.holds.numbers old.seat.number before request reply after new.drives.holds.numbers
   pub lying : troubled_in new.drives.stacks.shop ≡ 0
+  pub online : MatchOption (reel_of new.opened) (Unit {0}) (λ r. IsSpent (set_online trouble request) reply r.trouble)
+  pub next : IsNextSpent old.drives.stacks.trouble reply new.drives.stacks.trouble
 
 -- this trouble is set for the open reel, if there is one, and this for the stacks
 abbrev pub with_troubles : Trouble → Bool → MemoryState → MemoryState

@@ -21,7 +21,8 @@ ghost use Rattle.rmt_server.specs.Carrying.{IsCarriedOut};
 ghost use Rattle.rmt_server.specs.Memory.{MemoryState, in_memory, scene_seen};
 ghost use Rattle.rmt_server.specs.TroubledServe.{TroubledServe, IsTroubled, with_troubles, set_for, IsSetFor, IsServedUnder, IsEnded};
 
-use drives::{Holds, Stacks};
+use drives::{Holds, Stacks, lying_troubles};
+use tape::device_steps;
 
 /// No two sessions at the drives of one thread have one drive open, with its reel or without it. And what one of them
 /// does leaves the drives those of each other one, as it was: of its seat, and of what it has open.
@@ -97,15 +98,18 @@ pub fn one_scene()
 
 /// One request of a session over drives and reels in memory, where it is told how the device call fails that it makes: the
 /// trouble is set for the stacks before an open and operation 6 of mtio, else for the open reel, and nowhere else. Then the
-/// reply, drives, session and holders are those of `TroubledServe`, and no reel that lies on the stacks or in the bin has a
-/// trouble afterwards.
+/// reply, drives, session and holders are those of `TroubledServe`. No reel that lies on the stacks or in the bin has a
+/// trouble afterwards. What was set for the open reel and for the stacks is still set, or a device call met it: then that
+/// failed, which is answered 5, and none is set.
 ///
 /// It does nothing: its contract is a law of the definitions.
 pub fn troubled_serve()
     ensures { (trouble : Trouble) (old new : MemoryState) (before : Scene) (request : PlainRequest) (reply : PlainReply) →
         IsAt in_memory old → Tells in_memory old before → IsSetFor trouble request old → IsCarriedOut in_memory old request reply new →
         IsServedUnder trouble old before request reply new }
-{}
+{
+    lying_troubles();
+}
 
 /// What `troubled_serve` says of one request is a serve step.
 ///
@@ -114,7 +118,9 @@ pub fn troubled_is_served()
     ensures { (trouble : Trouble) (holders holders' : List ℕ) (k : ℕ) (before after : Scene) (request : PlainRequest) (reply : PlainReply) →
         TroubledServe trouble holders k before request reply after holders' →
         (asked : Option ℕ) × (found : ℕ) × ServeStep (is_set trouble) true asked found before request reply after }
-{}
+{
+    device_steps();
+}
 
 /// Troubles that are set for the open reel and for the stacks, or taken back, leave the drives those of the session, and
 /// what is told of both. While no reel that lies on the stacks or in the bin has a trouble, they are set then as
@@ -138,4 +144,6 @@ pub fn untroubled_end()
     ensures { (stacks : Bool) (old new : MemoryState) (before : Scene) →
         IsAt in_memory old → Tells in_memory old before → IsTroubled NoTrouble stacks old → IsClosed in_memory old new →
         IsEnded old before new }
-{}
+{
+    lying_troubles();
+}

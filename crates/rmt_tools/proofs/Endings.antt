@@ -14,7 +14,11 @@ use Rattle.rmt_server.specs.State.{State, reel_of}
 use Rattle.rmt_server.specs.Carrying.{MayFail, IsAlone}
 use Rattle.rmt_server.specs.Session.{none}
 use Rattle.rmt_server.specs.Stream.{Exchange, EndsAs, NoneFailed}
+use Rattle.drives.specs.Shop.{Shop}
+use Rattle.rmt_server.specs.Session.{scene}
+use Rattle.rmt_server.specs.Session.PlainSession.{Idle}
 use Rattle.rmt_tools.specs.Stdio.{blank_scene, EndsWith, IsServedAlone}
+use Rattle.rmt_tools.specs.Serving.{IsServedNext}
 use Rattle.rmt_server.specs.declared.stream.Served.{Served}
 use Rattle.rmt_server.specs.declared.stream.ServeFault.{ServeFault}
 use Rattle.rmt_server.specs.declared.stream.ServeFault.TheVariants.{Input, Output}
@@ -38,23 +42,32 @@ pub kept_ok : {T E : Type 0} (P : T → Type 0) (result : Result T E) (value : T
 kept_ok P (Ok x) value p e = let same : value ≡ x = cc in subst P (sym same) p
 kept_ok P (Err x) value p e = absurd cc
 
--- no seat holds the drive
-pub none_holds : {S R : Type 0} (s : StacksPromise S R) (r : ReelPromise R) (x : State Holders S View R) → x.drives.holds.numbers ≡ 0 ∷ []
-    → IsAlone (kinds LocalHoldsPromise.ghosts s r) x
-none_holds s r x e d l =
-    let first : d ≡ 0 = (let few : length x.drives.holds.numbers ≡ 1 = ap length e in omega (arith, few)) in
-    (0, (l, ap (λ n. slice_index x.drives.holds.numbers n) first ∙ ap (λ l. slice_index l 0) e), λ y. absurd (omega arith))
-
 -- nothing was read or written
-pub served_none : {R W : Type 0} {remaining : R → Option (List ℕ)} {contents : W → Option (List ℕ)} {capacity : ℕ} {input : Counting R} {output : Counting W} {ending : Option Served}
-    → ending ≡ None → IsServedAlone remaining contents capacity input input output output ending
-served_none {remaining = remaining} {contents} {capacity} {input} {output} e =
-    subst (IsServedAlone remaining contents capacity input input output output) (sym e) record {
+pub unserved : {R W : Type 0} {remaining : R → Option (List ℕ)} {contents : W → Option (List ℕ)} {before after : Shop} {input : Counting R} {output : Counting W} {ending : Option Served}
+    → after ≡ before → ending ≡ None → IsServedNext remaining contents before after input input output output ending
+unserved {remaining = remaining} {contents} {before} {after} {input} {output} same e =
+    subst (IsServedNext remaining contents before after input input output output) (sym e) record {
       read = [];
       done = [];
       rest = [];
-      finish = blank_scene capacity;
+      finish = scene before Idle;
       consumed = Consumes-nil (remaining input.inner);
       ends = inr (inr (record { spelled = refl; written = Appends-nil (contents output.inner) }, refl, refl, refl));
       run = none;
+      left = same;
     }
+
+-- a stream that is served next from an empty reel is served alone
+pub alone : {R W : Type 0} {remaining : R → Option (List ℕ)} {contents : W → Option (List ℕ)} {capacity : ℕ} {after : Shop}
+    {input input' : Counting R} {output output' : Counting W} {ending : Option Served}
+    → IsServedNext remaining contents (blank_scene capacity).shop after input input' output output' ending
+    → IsServedAlone remaining contents capacity input input' output output' ending
+alone served = record {
+  read = served.read;
+  done = served.done;
+  rest = served.rest;
+  finish = served.finish;
+  consumed = served.consumed;
+  ends = served.ends;
+  run = served.run;
+}

@@ -43,3 +43,10 @@ IsPrinted contents text wanted out out' status =
 abbrev pub IsDates : {W : Type 0} → (W → Option (List ℕ)) → List ℕ → Option (List ℕ × ℕ) → Counting W → Counting W → ℕ → Type 0
 IsDates contents file asked out out' status =
     (text : List ℕ) × (wanted : ℕ) × IsAnswer file asked text wanted × IsPrinted contents text wanted out out' status
+
+-- The base date of a name at a level, with nothing printed; or the file is none, and its fault was printed.
+abbrev pub IsBaseDate : {W : Type 0} → (W → Option (List ℕ)) → List ℕ → List ℕ → ℕ → Counting W → Counting W → Option ℕ → Type 0
+IsBaseDate contents file name level out out' (Some base) =
+    ((entries : List DatesEntry) × SpellsDates file entries × (base ≡ base_of entries name level)) × (out' ≡ out)
+IsBaseDate contents file name level out out' None =
+    (fault : DatesFault) × HasDatesFault file fault × ((status : ℕ) × IsPrinted contents (fault_text fault) 1 out out' status)

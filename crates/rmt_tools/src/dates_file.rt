@@ -3,7 +3,7 @@
 ghost use Rattle.std.specs.Prelude.{◌≡◌, ◌⊎◌, ◌+◌, ◌++◌, ◌≤◌, [], length, codes, decimal};
 ghost use Rattle.dumpdates.specs.Text.{written};
 ghost use Rattle.dumpdates.specs.declared.fault.DatesFault.TheVariants.{OutOfMemory};
-ghost use Rattle.rmt_tools.specs.Dates.{IsDates, IsPrinted, fault_text, plain_asked};
+ghost use Rattle.rmt_tools.specs.Dates.{IsBaseDate, IsDates, IsPrinted, fault_text, plain_asked};
 
 use arrayvec::ArrayString;
 use dumpdates::{Dates, DatesFault};
@@ -45,6 +45,26 @@ pub fn dates<W: Write>(
     match asked {
         None => print_text(out, &dates),
         Some((name, level)) => print_base(out, dates.base(name, level)),
+    }
+}
+
+/// The base date of a dump of this name and level in a dumpdates file, whose bytes are given, in seconds since 1970 began,
+/// UTC. None where the file is none; its fault is printed then as `dates` prints it.
+pub fn base_date<W: Write>(
+    alloc: Global,
+    file: &[u8],
+    name: &str,
+    level: u8,
+    out: &mut Counted<W>,
+) -> Option<u64>
+    ensures { IsBaseDate W.contents file.now name.now level out.old out.new result }
+{
+    match Dates::read(alloc, file) {
+        Ok(dates) => Some(dates.base(name, level)),
+        Err(fault) => {
+            print_fault(out, fault);
+            None
+        }
     }
 }
 

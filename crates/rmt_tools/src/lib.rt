@@ -1,15 +1,29 @@
-//! What the programs do, over the crates below: one stream served with a drive in memory, a dumpdates file that is
-//! asked, and the words of `rdump`.
+//! What the programs do, over the crates below: streams served with a drive in memory, dumps that are entered in a
+//! dumpdates file, a dumpdates file that is asked, and the words of both programs.
 #![tactic(auto)]
 
 mod dates_file;
-mod rdump_line;
-mod rmtd_line;
+mod dates_store;
+mod dump_update;
+mod files;
+mod listening;
+mod memory_server;
+mod payload;
 mod stdio;
 #[cfg(test)]
 mod tests;
 
-pub use dates_file::dates;
-pub use rdump_line::{RdumpLine, rdump_words};
-pub use rmtd_line::{LineFault, ServerLine, server_line, server_words};
+pub use dates_file::{base_date, dates};
+pub use dates_store::{DatesStore, UpdateFault, update};
+pub use dump_client::RunFault;
+pub use dump_update::dump_and_update;
+pub use files::{DatesFile, read_or_empty, read_steady, seconds_now};
+pub use listening::serve_connections;
+pub use memory_server::MemoryServer;
+pub use payload::{DumperFault, dumper};
+pub use rmt_peer::{ReadFault, SocketPeer, copy_volume, dump, mt, read_volume};
+pub use rmt_words::{
+    DumpLine, LineFault, MtLine, RdumpLine, ReadLine, ServerLine, rdump_words, server_line,
+    server_words,
+};
 pub use stdio::run_stdio;

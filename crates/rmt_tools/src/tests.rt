@@ -4,6 +4,6 @@ mod dates;
 mod dump;
 mod failing;
 mod link;
+mod listening;
 mod rows;
-mod server_words;
-mod words;
+mod updates;

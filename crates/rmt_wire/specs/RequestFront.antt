@@ -1,11 +1,10 @@
 -- What the bytes of a stream begin with, computed from the front. `RequestParts` says the same of whole texts.
-use Rattle.std.specs.Prelude.{ℕ, ◌≤◌, ◌+◌, ◌-◌, ◌*◌, ◌==◌, ◌&&◌, ◌||◌, Bool, true, false, if◌then◌else◌, nat_lt, nat_le, List, [], ◌∷◌, length, take, drop, Option, Some, None, Result, Ok, Err}
+use Rattle.std.specs.Prelude.{ℕ, ◌≤◌, ◌+◌, ◌==◌, if◌then◌else◌, nat_lt, List, [], ◌∷◌, length, take, drop, Some, None, Ok, Err}
 use Rattle.rmt_wire.specs.Number.{line_feed}
 use Rattle.rmt_wire.specs.Seen.{Seen, after, number_front}
 use Rattle.rmt_wire.specs.Request.{PlainRequest}
 use Rattle.rmt_wire.specs.Limits.{data_limit}
 use Rattle.rmt_wire.specs.Request.PlainRequest.{Open, Close, Write, WriteDropped, Read, Op}
-use Rattle.rmt_wire.specs.declared.fault.WireFault.{WireFault}
 use Rattle.rmt_wire.specs.declared.number.Place.TheVariants as places
 use Rattle.rmt_wire.specs.declared.fault.WireFault.TheVariants.{UnknownCommand, LineTooLong}
 use Rattle.rmt_wire.specs.declared.request.head.Head.{Head}

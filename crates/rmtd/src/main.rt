@@ -3,8 +3,9 @@
 
 use clap::Error;
 use clap::error::ErrorKind;
-use rmt_tools::{ServerLine, run_stdio, server_line};
+use rmt_tools::{MemoryServer, ServerLine, run_stdio, serve_connections, server_line};
 use rmt_wire::Counted;
+use std::net::TcpListener;
 use std::process::ExitCode;
 use std::{env, io};
 
@@ -30,9 +31,15 @@ fn words(rt: &HostRuntime) -> io::Result<Vec<String>> {
 
 /// Serves as the line says, and answers the status.
 fn run(rt: &HostRuntime, line: ServerLine<'_>) -> io::Result<u8> {
-    match line.listen {
-        Some(address) => tell(rt, address, "this server does not listen yet"),
-        None => Ok(serve_stdio(rt, line.capacity)),
+    let Some(address) = line.listen else {
+        return Ok(serve_stdio(rt, line.capacity));
+    };
+    match listen(rt, address, &line) {
+        Ok(status) => Ok(status),
+        Err(error) => {
+            eprintln!(rt; "rmtd: {address}: {error}")?;
+            Ok(FAILED)
+        }
     }
 }
 
@@ -43,17 +50,24 @@ fn serve_stdio(rt: &HostRuntime, capacity: u64) -> u8 {
     run_stdio(rt.alloc(), &mut input, &mut output, capacity)
 }
 
+/// Listens at this address, tells where, and serves as many connections as the line says. Answers the status.
+fn listen(rt: &HostRuntime, address: &str, line: &ServerLine<'_>) -> io::Result<u8> {
+    let listener = TcpListener::bind(rt, address)?;
+    let Some(mut server) = MemoryServer::new(rt.alloc(), line.capacity) else {
+        return Err(io::ErrorKind::OutOfMemory.into());
+    };
+    let place = listener.local_addr()?;
+    println!(rt; "listening on {place}")?;
+    serve_connections(&mut server, &listener, line.connections);
+    Ok(0)
+}
+
 /// Tells why words gave nothing to do, and answers the status. Help and the version go to standard output.
 fn refuse(rt: &HostRuntime, error: Error) -> io::Result<u8> {
     if error.kind() == ErrorKind::OutOfMemory {
-        return tell(rt, "the words", "out of memory");
+        eprintln!(rt; "rmtd: the words: out of memory")?;
+        return Ok(FAILED);
     }
     error.print(rt)?;
     Ok(if error.use_stderr() { FAILED } else { 0 })
-}
-
-/// Tells on standard error what failed, and answers the status.
-fn tell(rt: &HostRuntime, what: &str, why: &str) -> io::Result<u8> {
-    eprintln!(rt; "rmtd: {what}: {why}")?;
-    Ok(FAILED)
 }

@@ -6,6 +6,7 @@
 
 mod entry;
 mod fault;
+mod laws;
 mod list;
 mod op;
 mod record;
@@ -17,6 +18,7 @@ mod troubled;
 
 pub use entry::Entry;
 pub use fault::TapeFault;
+pub use laws::device_steps;
 pub use list::ListReel;
 pub use op::{MTBSF, MTBSR, MTFSF, MTFSR, MTNOP, MTOFFL, MTREW, MTWEOF};
 pub use record::{RECORD_LIMIT, is_record};

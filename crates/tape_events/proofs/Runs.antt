@@ -7,5 +7,5 @@ use Rattle.tape_events.specs.Steps.{Runs, none, one_more}
 
 pub run_on : {first before after : World} {events more : List PlainEvent} → Runs first events before → Runs before more after → Runs first (events ++ more) after
 run_on {first = first} {before = before} {events = events} run none = subst (λ l. Runs first l before) (sym (append-nil events)) run
-run_on {events = events} run (one_more {events = more} event next possible step) =
-    rw (← append_assoc events more (event ∷ [])) (one_more event (run_on run next) possible step)
+run_on {events = events} run (one_more {events = more} event next happens) =
+    rw (← append_assoc events more (event ∷ [])) (one_more event (run_on run next) happens)

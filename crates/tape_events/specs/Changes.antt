@@ -53,7 +53,7 @@ abbrev pub sent_on : Bool → List ℕ → List ℕ → List ℕ
 sent_on true way bytes = way
 sent_on false way bytes = way ++ bytes
 
--- Which end a connection has: it is cut, and what is on the way to the side that is over is lost.
+-- One side is over: the connection is cut, and what is on the way to that side is lost.
 abbrev pub over_there : Link → Link
 over_there l = record l { back = []; cut = true; other = false }
 
@@ -64,7 +64,7 @@ over_here l = record l { toward = []; cut = true }
 abbrev pub left : World → ℕ → World
 left w k = record w { links = changed over_there w.links k }
 
--- so is the client's, and with it its attempt
+-- the client's own connection is over on its side, and with it the attempt
 abbrev pub given_up : World → ℕ → World
 given_up w k = record (left w k) { own = None }
 
@@ -109,7 +109,7 @@ opening k reel = record { connection = k; reel = reel }
 -- A write of an attempt was answered: the first that is accepted is the label's, and others are blocks'; the answer of a device
 -- fault is noted.
 abbrev pub accepted : Dumping → Dumping
-accepted d = if d.label then record d { blocks = d.blocks + 1 } else record d { label = true }
+accepted d = if d.label then record d { blocks = raised d.blocks } else record d { label = true }
 
 abbrev pub noted_error : Dumping → ℕ → Dumping
 noted_error d n = if n == 5 then record d { fault = true } else d
@@ -148,7 +148,7 @@ abbrev pub reel_of : ℕ → List Opening → List ℕ
 reel_of k [] = []
 reel_of k (o ∷ opens) = if o.connection == k then o.reel else reel_of k opens
 
--- the counts that the client has beyond so many, as those of its run, on its connection
+-- a count of the client, told with its run, its connection and the reel of that
 abbrev pub counts_of : World → ℕ → ℕ → VolumeCount → Count
 counts_of w number k c =
     record { run = number; volume = c.volume; first = c.first; count = c.count; reel = reel_of k w.opens; connection = k }

@@ -3,3 +3,4 @@ pub mod Events
 pub mod Changes
 pub mod Rows
 pub mod Steps
+pub mod First

@@ -34,10 +34,10 @@ abbrev pub caller : ℕ → Standing → ReplyHeld → Caller
 caller number at reader = record { number = number; at = at; reader = reader }
 
 -- a new run, the next number, and a client that is ready
-abbrev pub begun : World → PlainRun → List ℕ → World
-begun w run payload = record w {
+abbrev pub begun : World → PlainRun → List ℕ → ReplyHeld → World
+begun w run payload reader = record w {
     begun = w.begun ++ record { run = run; payload = cut_blocks run.blocks run.block_bytes payload } ∷ [];
-    caller = Some (caller (length w.begun + 1) (standing run [] Ready) (reply_held None []));
+    caller = Some (caller (length w.begun + 1) (standing run [] Ready) reader);
     failure = None }
 
 -- an attempt that has done nothing
@@ -74,7 +74,7 @@ asked w k c payload step reader = record w {
     links = changed (sent_link (next_text c payload step)) w.links k;
     caller = Some (caller c.number (standing c.at.run c.at.counts (Waiting step)) reader); failure = None }
 
--- The client sends the next request, on its own connection; or a read of the payload fails. `k` is that connection.
+-- The client sends its next request on its own connection, which is k; or, where that is true, a read of the payload fails.
 abbrev pub Sends : Bool → World → ℕ → Caller → List (List ℕ) → Step → World → Type 0
 Sends true w k c payload step u = (reader : ReplyHeld) × (u ≡ failed_read w k c reader)
 Sends false w k c payload step u =
@@ -123,7 +123,7 @@ SeesEnd None w k u = u ≡ left (calm w) k
 SeesEnd (Some dump) w k u =
     (c : Caller) × (at : Standing) × (reader : ReplyHeld) × (progress : Progress) × (w.caller ≡ Some c)
     × CutAt c.at.stage c.at progress at × HasFedAt at.stage reader []
-    × (u ≡ came_to (record (left (calm w) k) { caller = Some (caller c.number at reader) }) k at progress)
+    × (u ≡ came_to (record (given_up (calm w) k) { caller = Some (caller c.number at reader) }) k at progress)
 
 -- the client forgets its run, and its connection is over
 abbrev pub forgotten_from : World → Option ℕ → World
@@ -140,9 +140,9 @@ abbrev pub recorded : World → Caller → World
 recorded w c = record (calm w) {
     entered = w.entered ++ record { run = c.number } ∷ []; dates = entered w.dates (entry_of c.at.run) }
 
--- One event, and the world after it.
+-- One event, and the world after it. Whether it is possible is said by `Possible`.
 abbrev pub WorldStep : World → PlainEvent → World → Type 0
-WorldStep w (StartRun run payload) u = u ≡ begun w run payload
+WorldStep w (StartRun run payload) u = (reader : ReplyHeld) × (u ≡ begun w run payload reader)
 WorldStep w Connect u = (c : Caller) × (w.caller ≡ Some c) × (c.at.stage ≡ Ready) × (u ≡ connected w c)
 WorldStep w (Send fails) u =
     (c : Caller) × (step : Step) × (k : ℕ) × (b : Begun) × (w.caller ≡ Some c) × (c.at.stage ≡ ToSend step) × (w.own ≡ Some k)
@@ -170,8 +170,12 @@ WorldStep w (Says k bytes) u =
     u ≡ record (calm w) { links = changed (λ l. record l { toward = sent_on l.cut l.toward bytes }) w.links k }
 WorldStep w Enter u = (c : Caller) × (w.caller ≡ Some c) × (u ≡ recorded w c)
 
--- Events one after the other, each possible where it comes.
+-- the event is possible, and this is the world after it
+abbrev pub Happens : World → PlainEvent → World → Type 0
+Happens w event u = Possible w event × WorldStep w event u
+
+-- events one after the other
 pub data Runs (first : World) : List PlainEvent → World → Type 0 where
   none : Runs first [] first
   one_more : {events : List PlainEvent} {before after : World} (event : PlainEvent)
-      → Runs first events before → Possible before event → WorldStep before event after → Runs first (events ++ event ∷ []) after
+      → Runs first events before → Happens before event after → Runs first (events ++ event ∷ []) after

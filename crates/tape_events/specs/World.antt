@@ -80,4 +80,5 @@ numbered xs (suc n) = slice_get xs n
 
 -- the list with this one in its place
 abbrev pub with_numbered : {X : Type 0} → List X → ℕ → X → List X
-with_numbered xs n x = slice_set xs (n - 1) x
+with_numbered xs zero x = xs
+with_numbered xs (suc n) x = slice_set xs n x

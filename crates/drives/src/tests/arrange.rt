@@ -3,12 +3,13 @@
 ghost use Rattle.std.specs.Prelude.{◌≡◌, ◌<◌, IfOk, length};
 
 use super::slow_shop::SlowShop;
-use crate::{ListStacks, ListedReel, Stacks};
+use crate::{ListStacks, ListedReel, Stacks, told_orders};
 use std::alloc::Global;
 use std::test::Fail;
 use tape::Reel;
 
-/// Two drives: the first with the reels a and b, the second with c. The bin has d and e.
+/// Two drives: the first with the reels a and b, the second with c. The bin has d and e, on each of which its own
+/// letter is written.
 fn five_reels(alloc: Global) -> Result<ListStacks, Fail>
     ensures { IfOk result (λ stacks. length stacks.shop.racks ≡ 2) }
 {
@@ -20,17 +21,18 @@ fn five_reels(alloc: Global) -> Result<ListStacks, Fail>
     stacks.add_reel(0, b"a", 100)?;
     stacks.add_reel(0, b"b", 100)?;
     stacks.add_reel(1, b"c", 100)?;
-    move_first(&mut stacks)?;
-    move_first(&mut stacks)?;
+    move_first(&mut stacks, b"d")?;
+    move_first(&mut stacks, b"e")?;
     Ok(stacks)
 }
 
-/// Moves the first reel of the first drive to the bin.
-fn move_first(stacks: &mut ListStacks) -> Result<(), Fail>
+/// Writes the letter on the first reel of the first drive, and moves it to the bin.
+fn move_first(stacks: &mut ListStacks, letter: &[u8; 1]) -> Result<(), Fail>
     requires { length stacks.old.shop.racks ≡ 2 }
     ensures { length stacks.new.shop.racks ≡ 2 }
 {
-    let reel = stacks.latch(0)?;
+    let mut reel = stacks.latch(0)?;
+    reel.write(letter)?;
     match stacks.offline(0, reel) {
         Ok(()) => Ok(()),
         Err(_) => Err(Fail::new("not moved")),
@@ -42,6 +44,20 @@ fn are(reels: &[ListedReel], names: &[u8]) -> bool {
     reels.len() == names.len()
         && reels.iter().zip(names).all(|(reel, name)| reel.name() == [*name].as_slice()
             && reel.reel().is_some())
+}
+
+/// Whether a reel of that letter is found where the plain ones say that it lies there, with what is written on it.
+fn is_found(stacks: &ListStacks, slow: &SlowShop, letter: u8) -> bool {
+    let Some(reel) = stacks.reel(&[letter]) else {
+        return !slow.lies(letter);
+    };
+    let mut into = [0];
+    let entry = reel.entry(0, &mut into);
+    let is_kept = match letter {
+        b'd' | b'e' => entry == Some(1) && into == [letter],
+        _ => entry.is_none(),
+    };
+    is_kept && slow.lies(letter)
 }
 
 /// Up to four letters from a to f, by the digits of a number in base 7, of which 0 is no letter.
@@ -77,7 +93,10 @@ fn check(alloc: Global, letters: &[u8]) -> Result<(), Fail> {
     }
     let alike = are(stacks.stack(0), &slow.first.names)
         && are(stacks.stack(1), &slow.second.names)
-        && are(stacks.bin(), &slow.bin);
+        && are(stacks.bin(), &slow.bin)
+        && b"abcdef"
+            .iter()
+            .all(|letter| is_found(&stacks, &slow, *letter));
     if !alike {
         return Err(Fail::new("other reels"));
     }
@@ -95,6 +114,7 @@ fn every_short_order_leaves_what_plain_lists_say(rt: HostRuntime) -> Result<(), 
 
 #[test]
 fn a_stack_becomes_the_reels_that_are_named(rt: HostRuntime) -> Result<(), Fail> {
+    told_orders();
     let mut stacks = five_reels(rt.alloc())?;
     let names = [b"e".as_slice(), b"b".as_slice()];
     assert!(rt; stacks.can_arrange(0, &names));

@@ -2,7 +2,7 @@
 
 ghost use Rattle.std.specs.Prelude.{◌≡◌, ◌<◌, IfOk, length};
 
-use crate::{DriveFault, ListStacks, ListedReel, Stacks};
+use crate::{DriveFault, ListStacks, ListedReel, Stacks, lying_troubles};
 use std::alloc::Global;
 use std::test::Fail;
 use tape::Reel;
@@ -56,6 +56,7 @@ fn reels_are_added_at_the_end(rt: HostRuntime) -> Result<(), Fail> {
 
 #[test]
 fn a_reel_goes_round(rt: HostRuntime) -> Result<(), Fail> {
+    lying_troubles();
     let mut stacks = two_drives(rt.alloc())?;
     let mut reel = stacks.latch(0)?;
     reel.write(b"abc")?;

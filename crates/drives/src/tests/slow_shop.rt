@@ -21,6 +21,14 @@ pub(crate) struct SlowDrive {
     pub(crate) latched: bool,
 }
 
+impl SlowDrive {
+    /// Whether the reel lies on the stack: the first does not while it is latched.
+    fn lies(&self, name: u8) -> bool {
+        let away = if self.latched { 1 } else { 0 };
+        self.names.iter().skip(away).any(|lying| *lying == name)
+    }
+}
+
 /// Two drives, and the names in the bin.
 #[derive(Drop)]
 pub(crate) struct SlowShop {
@@ -64,6 +72,11 @@ impl SlowShop {
             Round::Latched => drive.latched = true,
         }
         Ok(true)
+    }
+
+    /// Whether the reel lies on a stack or in the bin.
+    pub(crate) fn lies(&self, name: u8) -> bool {
+        self.first.lies(name) || self.second.lies(name) || self.bin.contains(&name)
     }
 
     /// Whether the stack of the first drive can become these reels: no name twice, and each lies there or in the bin.

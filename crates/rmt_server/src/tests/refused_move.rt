@@ -8,11 +8,9 @@ ghost use Rattle.drives.specs.contracts.local.LocalHoldsHolds.TheImpl.{ghosts as
 ghost use Rattle.rmt_server.specs.contracts.tests.full_bin.FullBinStacks.TheImpl.{ghosts as of_stacks};
 
 use super::full_bin::{FullBin, Why};
-use super::session::gives;
-use super::troubled::answer;
+use super::talk::check_talk;
 use crate::Session;
 use drives::{DriveTable, LocalHolds};
-use rmt_wire::Request;
 use std::alloc::Global;
 use std::process::Abort;
 use std::test::Fail;
@@ -37,25 +35,19 @@ fn begin(alloc: Global, why: Why) -> Result<(Drives, Client), Fail>
     }
 }
 
-/// The bin refuses the reel, which is answered with this number. Then it is open at its beginning.
-fn check_refused(rt: &impl Abort, alloc: Global, why: Why, wanted: u32) -> Result<(), Fail> {
+/// The bin refuses the reel, which is answered so. Then it is open at its beginning.
+fn check_refused(rt: &impl Abort, alloc: Global, why: Why, want: &[u8]) -> Result<(), Fail> {
     let (mut drives, mut session) = begin(alloc, why)?;
-    let open = Request::Open {
-        device: b"/dev/st0",
-        mode: 2,
-    };
-    assert_eq!(rt; answer(&mut session, &mut drives, open), Ok(0));
-    let write = Request::Write { bytes: b"abc" };
-    assert_eq!(rt; answer(&mut session, &mut drives, write), Ok(3));
-    let offline = Request::Op { op: 6, count: 1 };
-    assert_eq!(rt; answer(&mut session, &mut drives, offline), Err(wanted));
-    assert!(rt; gives(&mut session, &mut drives, 5, b"abc"));
+    let requests = b"O/dev/st0\n2\nW3\nabcI6\n1\nR5\n";
+    let talked = check_talk(rt, alloc, &mut session, &mut drives, requests, want);
     session.end(&mut drives);
-    Ok(())
+    talked
 }
 
 #[test]
 fn a_refused_move_leaves_the_reel_open(rt: HostRuntime) -> Result<(), Fail> {
-    check_refused(&rt, rt.alloc(), Why::NoMemory, 12)?;
-    check_refused(&rt, rt.alloc(), Why::NameTaken, 5)
+    let no_memory = b"A0\nA3\nE12\nCannot allocate memory\nA3\nabc";
+    check_refused(&rt, rt.alloc(), Why::NoMemory, no_memory)?;
+    let name_taken = b"A0\nA3\nE5\nInput/output error\nA3\nabc";
+    check_refused(&rt, rt.alloc(), Why::NameTaken, name_taken)
 }

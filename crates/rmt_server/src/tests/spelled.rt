@@ -21,6 +21,31 @@ fn line(
     Ok(())
 }
 
+/// Appends an open, with a text after the mode where that is wanted.
+fn spell_open(
+    alloc: Global,
+    device: &[u8],
+    mode: u32,
+    style: usize,
+    into: &mut Vec<u8>,
+) -> Result<(), Fail> {
+    into.extend_from_slice(b"O")?;
+    into.extend_from_slice(device)?;
+    line(alloc, b"\n", style == 1, mode as usize, into)?;
+    if style == 2 {
+        into.truncate(into.len().saturating_sub(1));
+        into.extend_from_slice(b" O_RDWR\n")?;
+    }
+    Ok(())
+}
+
+/// Appends a write.
+fn spell_write(alloc: Global, bytes: &[u8], zeros: bool, into: &mut Vec<u8>) -> Result<(), Fail> {
+    line(alloc, b"W", zeros, bytes.len(), into)?;
+    into.extend_from_slice(bytes)?;
+    Ok(())
+}
+
 /// Appends a request, in one of its spellings: with no more than it takes (0), with leading zeros (1), and with a
 /// text after the mode (2).
 pub(crate) fn spell(
@@ -31,29 +56,15 @@ pub(crate) fn spell(
 ) -> Result<(), Fail> {
     let zeros = style == 1;
     match request {
-        Request::Open { device, mode } => {
-            into.extend_from_slice(b"O")?;
-            into.extend_from_slice(device)?;
-            line(alloc, b"\n", zeros, *mode as usize, into)?;
-            if style == 2 {
-                into.truncate(into.len().saturating_sub(1));
-                into.extend_from_slice(b" O_RDWR\n")?;
-            }
-            Ok(())
-        }
+        Request::Open { device, mode } => spell_open(alloc, device, *mode, style, into),
         Request::Close => {
             into.extend_from_slice(if zeros { b"C0 O\n".as_slice() } else { b"C\n" })?;
             Ok(())
         }
-        Request::Write { bytes } => {
-            line(alloc, b"W", zeros, bytes.len(), into)?;
-            into.extend_from_slice(bytes)?;
-            Ok(())
-        }
+        Request::Write { bytes } => spell_write(alloc, bytes, zeros, into),
         Request::WriteDropped { count } => {
-            line(alloc, b"W", zeros, *count as usize, into)?;
-            into.extend_from_slice(Vec::from_elem(alloc, b'C', *count as usize)?.as_slice())?;
-            Ok(())
+            let bytes = Vec::from_elem(alloc, b'C', *count as usize)?;
+            spell_write(alloc, bytes.as_slice(), zeros, into)
         }
         Request::Read { count } => line(alloc, b"R", zeros, *count as usize, into),
         Request::Op { op, count } => {

@@ -13,11 +13,10 @@ ghost use Rattle.std.specs.Prelude.{None};
 use super::CAPACITY;
 use super::slow::error_text;
 use super::slow_shop::{Event, SlowShop};
-use crate::Session;
+use crate::{Session, more_seats, one_holder, stacks_trouble};
 use drives::{DriveTable, Holds, ListStacks, ListedReel, LocalHolds, LocalSeat, Stacks};
 use rmt_wire::{Reply, Request};
 use std::alloc::Global;
-use std::process::Abort;
 use std::test::Fail;
 
 type Drives = DriveTable<LocalHolds, ListStacks>;
@@ -54,6 +53,7 @@ fn carry(
     ensures another { IsAt (kinds of_holds of_stacks of_reel) (state drives.new another.now) }
     ensures number { session.new.seat.number ≡ session.old.seat.number }
 {
+    one_holder::<ListStacks>();
     number_of(session.carry_out(drives, request))
 }
 
@@ -69,6 +69,7 @@ fn end(drives: &mut Drives, session: &mut Client, other: &Client, another: &Clie
     ensures another { IsAt (kinds of_holds of_stacks of_reel) (state drives.new another.now) }
     ensures number { session.new.seat.number ≡ session.old.seat.number }
 {
+    one_holder::<ListStacks>();
     session.end(drives);
 }
 
@@ -112,6 +113,11 @@ fn answer(
         Event::Close => Request::Close,
         Event::End => {
             end(drives, session, other, another);
+            return 0;
+        }
+        Event::Trouble => {
+            stacks_trouble::<LocalHolds>();
+            drives.stacks.trouble(true);
             return 0;
         }
     };
@@ -193,14 +199,10 @@ impl Three {
 
     /// The number of the seat that holds the drive, or 0. None where there is no such drive, or no seat is left to ask.
     fn holder(&mut self, drive: usize) -> Option<u64> {
+        more_seats::<ListStacks>();
         let drive = self.drives.stacks.drive(device(drive))?;
         let mut seat = self.drives.holds.seat()?;
         Some(self.drives.holds.holder(&mut seat, drive))
-    }
-
-    /// The next latch or move fails.
-    fn trouble(&mut self) {
-        self.drives.stacks.trouble(true);
     }
 
     /// The drive that the session of that number says that it has open with its reel.
@@ -232,24 +234,26 @@ fn has_stack(stacks: &ListStacks, drive: usize, names: &[u8]) -> bool {
     }
 }
 
-/// Has both do one thing, and compares what they answer, what is open then, who holds which drive, and the reels.
-fn step(
-    rt: &impl Abort,
-    three: &mut Three,
-    slow: &mut SlowShop,
-    number: usize,
-    event: Event,
-) -> Result<(), Fail> {
-    let wanted = slow.answer(number, event)?;
-    assert_eq!(rt; three.answer(number, event), wanted);
-    assert_eq!(rt; three.online(number), slow.online(number));
-    assert_eq!(rt; three.holder(0), Some(slow.holder(0)));
-    assert_eq!(rt; three.holder(1), Some(slow.holder(1)));
-    let stacks = &three.drives.stacks;
-    assert!(rt; has_stack(stacks, 0, slow.stack(0)));
-    assert!(rt; has_stack(stacks, 1, slow.stack(1)));
-    assert!(rt; has_names(stacks.bin(), slow.bin()));
-    Ok(())
+/// Whether the stacks and the bin have the reels that the plain ones have.
+fn has_reels(stacks: &ListStacks, slow: &SlowShop) -> bool {
+    has_stack(stacks, 0, slow.stack(0))
+        && has_stack(stacks, 1, slow.stack(1))
+        && has_names(stacks.bin(), slow.bin())
+}
+
+/// Whether both have the same open in the session of that number, the same holders, reels and count of failures.
+fn is_like(three: &mut Three, slow: &SlowShop, number: usize) -> bool {
+    three.online(number) == slow.online(number)
+        && three.holder(0) == Some(slow.holder(0))
+        && three.holder(1) == Some(slow.holder(1))
+        && three.drives.stacks.failures() == slow.failures()
+        && has_reels(&three.drives.stacks, slow)
+}
+
+/// Has both do one thing, and compares what they answer and what is there then.
+fn is_step(three: &mut Three, slow: &mut SlowShop, number: usize, event: Event) -> bool {
+    let answer = slow.answer(number, event);
+    three.answer(number, event) == answer && is_like(three, slow, number)
 }
 
 /// What a session can be asked for in the lists.
@@ -264,33 +268,19 @@ const EVENTS: [Event; 5] = [
 /// How many things there are to do: each event by each session.
 const KINDS: usize = 15;
 
-/// Does so many things, of which the number has one digit each.
-fn run(rt: &impl Abort, alloc: Global, length: usize, list: usize) -> Result<(), Fail> {
-    let mut three = Three::new(alloc)?;
-    let mut slow = SlowShop::new(alloc)?;
+/// Does so many things, of which the number has one digit each, with the plain sessions beside. It tells whether all
+/// was the same.
+fn is_list(three: &mut Three, length: usize, list: usize) -> bool {
+    let mut slow = SlowShop::new();
     let mut rest = list;
     for _ in 0..length {
         let event = EVENTS.get(rest % 5).copied().unwrap_or(Event::End);
-        step(rt, &mut three, &mut slow, 1 + rest / 5 % 3, event)?;
+        if !is_step(three, &mut slow, 1 + rest / 5 % 3, event) {
+            return false;
+        }
         rest /= KINDS;
     }
-    Ok(())
-}
-
-#[test]
-fn every_three_requests_of_three_sessions(rt: HostRuntime) -> Result<(), Fail> {
-    for list in 0..3375 {
-        run(&rt, rt.alloc(), 3, list)?;
-    }
-    Ok(())
-}
-
-#[test]
-fn every_four_requests_of_three_sessions(rt: HostRuntime) -> Result<(), Fail> {
-    for list in 0..50625 {
-        run(&rt, rt.alloc(), 4, list)?;
-    }
-    Ok(())
+    true
 }
 
 /// A row: the session, what it is asked for and answers, and who holds each drive then.
@@ -336,67 +326,121 @@ const AWAY: [Row; 13] = [
     (2, Event::Close, 0, 0, 0),
 ];
 
-/// Does what the rows say, with the plain sessions beside.
-fn check_rows(rt: &impl Abort, alloc: Global, rows: &[Row]) -> Result<(Three, SlowShop), Fail> {
-    let mut three = Three::new(alloc)?;
-    let mut slow = SlowShop::new(alloc)?;
-    for (at, (number, event, wanted, first, second)) in rows.iter().enumerate() {
-        assert_eq!(rt; three.answer(*number, *event), *wanted, "row {at}");
-        assert_eq!(rt; three.holder(0), Some(*first), "row {at}");
-        assert_eq!(rt; three.holder(1), Some(*second), "row {at}");
-        assert_eq!(rt; slow.answer(*number, *event)?, *wanted, "row {at}");
-        assert_eq!(rt; slow.holder(0), *first, "row {at}");
-        assert_eq!(rt; slow.holder(1), *second, "row {at}");
+/// A latch that is told to fail fails once, after what was open is closed.
+const FAILED_LATCH: [Row; 5] = [
+    (2, Event::Open(1), 0, 0, 2),
+    (1, Event::Trouble, 0, 0, 2),
+    (2, Event::Open(0), 5, 0, 0),
+    (2, Event::Open(0), 0, 2, 0),
+    (2, Event::Offline, 1, 2, 0),
+];
+
+/// A move that is told to fail fails once.
+const FAILED_MOVE: [Row; 4] = [
+    (1, Event::Open(0), 0, 1, 0),
+    (1, Event::Trouble, 0, 1, 0),
+    (1, Event::Offline, 5, 1, 0),
+    (1, Event::Offline, 1, 1, 0),
+];
+
+/// The same up to the failure: the reel lies where it was.
+const MET_ONCE: [Row; 3] = [
+    (1, Event::Open(0), 0, 1, 0),
+    (1, Event::Trouble, 0, 1, 0),
+    (1, Event::Offline, 5, 1, 0),
+];
+
+/// Does what the row says, with the plain sessions beside. It tells whether all is as in the row.
+fn is_row(three: &mut Three, slow: &mut SlowShop, row: &Row) -> bool {
+    let (number, event, wanted, first, second) = *row;
+    slow.answer(number, event) == wanted
+        && three.answer(number, event) == wanted
+        && is_like(three, slow, number)
+        && slow.holder(0) == first
+        && slow.holder(1) == second
+}
+
+/// Rows, and the names of the reels that the stacks and the bin have then.
+#[derive(Clone, Copy)]
+struct Table {
+    rows: &'static [Row],
+    names: [&'static [u8]; 3],
+}
+
+/// Does what the rows say. It tells whether all is as in the table.
+fn is_table(three: &mut Three, table: &Table) -> bool {
+    let mut slow = SlowShop::new();
+    for row in table.rows {
+        if !is_row(three, &mut slow, row) {
+            return false;
+        }
     }
-    Ok((three, slow))
+    slow.has_names(table.names)
 }
 
+/// What new sessions do.
+#[derive(Clone, Copy)]
+enum Plan<'a> {
+    /// What the rows say.
+    Table(&'a Table),
+    /// So many things, of which the number has one digit each.
+    List(usize, usize),
+}
+
+/// Does what the plan says. It tells whether all was as it has to be.
+fn is_plan(three: &mut Three, plan: Plan<'_>) -> bool {
+    match plan {
+        Plan::Table(table) => is_table(three, table),
+        Plan::List(length, list) => is_list(three, length, list),
+    }
+}
+
+/// Does the same with new sessions.
+fn is_met(alloc: Global, plan: Plan<'_>) -> Result<bool, Fail> {
+    let mut three = Three::new(alloc)?;
+    Ok(is_plan(&mut three, plan))
+}
+
+const SHARED: [Table; 6] = [
+    Table {
+        rows: &TWO_SESSIONS,
+        names: [b"ab", b"c", b""],
+    },
+    Table {
+        rows: &REFUSED,
+        names: [b"b", b"c", b"a"],
+    },
+    Table {
+        rows: &AWAY,
+        names: [b"b", b"", b"ca"],
+    },
+    Table {
+        rows: &FAILED_LATCH,
+        names: [b"b", b"c", b"a"],
+    },
+    Table {
+        rows: &FAILED_MOVE,
+        names: [b"b", b"c", b"a"],
+    },
+    Table {
+        rows: &MET_ONCE,
+        names: [b"ab", b"c", b""],
+    },
+];
+
 #[test]
-fn the_end_of_a_session_frees_its_drive(rt: HostRuntime) -> Result<(), Fail> {
-    check_rows(&rt, rt.alloc(), &TWO_SESSIONS)?;
+fn drives_are_shared_as_was_written_by_hand(rt: HostRuntime) -> Result<(), Fail> {
+    for table in &SHARED {
+        assert!(rt; is_met(rt.alloc(), Plan::Table(table))?);
+    }
     Ok(())
 }
 
+/// Lists of fewer things are the beginnings of these.
 #[test]
-fn a_refused_open_gives_back_what_was_open(rt: HostRuntime) -> Result<(), Fail> {
-    check_rows(&rt, rt.alloc(), &REFUSED)?;
-    Ok(())
-}
-
-#[test]
-fn reels_go_to_the_bin_in_order(rt: HostRuntime) -> Result<(), Fail> {
-    let (three, slow) = check_rows(&rt, rt.alloc(), &AWAY)?;
-    let stacks = &three.drives.stacks;
-    assert!(rt; has_stack(stacks, 0, b"b"));
-    assert!(rt; has_stack(stacks, 1, b""));
-    assert!(rt; has_names(stacks.bin(), b"ca"));
-    assert_eq!(rt; slow.bin(), b"ca".as_slice());
-    Ok(())
-}
-
-#[test]
-fn a_move_that_is_told_to_fail_fails_once(rt: HostRuntime) -> Result<(), Fail> {
-    let mut three = Three::new(rt.alloc())?;
-    assert_eq!(rt; three.answer(1, Event::Open(0)), 0);
-    three.trouble();
-    assert_eq!(rt; three.answer(1, Event::Offline), 5);
-    assert_eq!(rt; three.online(1), Some(0));
-    assert!(rt; has_stack(&three.drives.stacks, 0, b"ab"));
-    assert_eq!(rt; three.answer(1, Event::Offline), 1);
-    assert_eq!(rt; three.drives.stacks.failures(), 1);
-    assert!(rt; has_stack(&three.drives.stacks, 0, b"b"));
-    assert!(rt; has_names(three.drives.stacks.bin(), b"a"));
-    Ok(())
-}
-
-#[test]
-fn a_latch_that_is_told_to_fail_fails_once(rt: HostRuntime) -> Result<(), Fail> {
-    let mut three = Three::new(rt.alloc())?;
-    assert_eq!(rt; three.answer(2, Event::Open(1)), 0);
-    three.trouble();
-    assert_eq!(rt; three.answer(2, Event::Open(0)), 5);
-    assert_eq!(rt; (three.holder(0), three.holder(1)), (Some(0), Some(0)));
-    assert_eq!(rt; three.answer(2, Event::Open(0)), 0);
-    assert_eq!(rt; three.drives.stacks.failures(), 1);
+fn every_four_requests_of_three_sessions(rt: HostRuntime) -> Result<(), Fail> {
+    for list in 0..50625 {
+        assert!(rt; is_met(rt.alloc(), Plan::List(4, list))?, "list {list}");
+    }
     Ok(())
 }

@@ -1,196 +1,110 @@
 //! What a session answers while the device of its reel fails.
 
-ghost use Rattle.std.specs.Prelude.{IfOk};
-ghost use Rattle.tape.specs.contracts.troubled.TroubledReelReel.TheImpl.{ghosts as of_reel};
-ghost use Rattle.drives.specs.Opening.{kinds};
-ghost use Rattle.rmt_server.specs.State.{state, IsAt};
-ghost use Rattle.drives.specs.contracts.local.LocalHoldsHolds.TheImpl.{ghosts as of_holds};
-ghost use Rattle.drives.specs.contracts.list.ListStacksStacks.TheImpl.{ghosts as of_stacks};
-
-use super::fixture::{Drives, begin};
-use super::session::gives;
-use crate::Session;
-use drives::{DriveTable, Holds, ListStacks, LocalHolds, Stacks};
-use rmt_wire::{Reply, Request};
-use std::alloc::Global;
-use std::process::Abort;
+use super::session::{Step, check_steps};
 use std::test::Fail;
-use tape::{Reel, Trouble};
+use tape::Trouble;
 
-const OPEN: Request<'static> = Request::Open {
-    device: b"/dev/st0",
-    mode: 2,
-};
+/// The records `abc` and `de`, and the place between them.
+const TWO_RECORDS: Step = (
+    None,
+    b"O/dev/st0\n2\nW3\nabcW2\ndeI4\n1\n",
+    b"A0\nA3\nA2\nA1\n",
+    0,
+);
 
-const BACK: Request<'static> = Request::Op { op: 4, count: 1 };
+const FAILED: &[u8] = b"E5\nInput/output error\n";
 
-const REWIND: Request<'static> = Request::Op { op: 5, count: 1 };
-
-/// The number of the answer, which is 0 for data, or that of the error.
-pub(crate) fn answer<H: Holds, S: Stacks>(
-    session: &mut Session<H, S>,
-    drives: &mut DriveTable<H, S>,
-    request: Request<'_>,
-) -> Result<u32, u32>
-    requires { IsAt (kinds H.Holds S.Stacks S.Reel.Reel) (state drives.old session.old) }
-    ensures { IsAt (kinds H.Holds S.Stacks S.Reel.Reel) (state drives.new session.new) }
-{
-    match session.carry_out(drives, request) {
-        Reply::Done { number } => Ok(number),
-        Reply::Data { .. } => Ok(0),
-        Reply::Error { number, .. } => Err(number),
-    }
-}
-
-/// Sets the trouble of the reel that is online.
-fn set(session: &mut Session<LocalHolds, ListStacks>, drives: &Drives, trouble: Trouble)
-    requires { IsAt (kinds of_holds of_stacks of_reel) (state drives.now session.old) }
-    ensures { IsAt (kinds of_holds of_stacks of_reel) (state drives.now session.new) }
-{
-    session.trouble(trouble);
-}
-
-/// A session with the records `abc` and `de`, behind the first of them.
-fn two_records(
-    rt: &impl Abort,
-    alloc: Global,
-) -> Result<(Drives, Session<LocalHolds, ListStacks>), Fail>
-    ensures { IfOk result (λ made. IsAt (kinds of_holds of_stacks of_reel) (state made.0 made.1)) }
-{
-    let (mut drives, mut session) = begin(alloc, 100)?;
-    assert_eq!(rt; answer(&mut session, &mut drives, OPEN), Ok(0));
-    let write = Request::Write { bytes: b"abc" };
-    assert_eq!(rt; answer(&mut session, &mut drives, write), Ok(3));
-    let write = Request::Write { bytes: b"de" };
-    assert_eq!(rt; answer(&mut session, &mut drives, write), Ok(2));
-    assert_eq!(rt; answer(&mut session, &mut drives, BACK), Ok(1));
-    Ok((drives, session))
-}
-
-/// How often the device of the reel has failed.
-fn failures<H: Holds, S: Stacks>(session: &Session<H, S>) -> Option<u64> {
-    let (_, reel) = session.reel()?;
-    Some(reel.failures())
-}
-
-/// A write of `x` behind `abc` meets the trouble. Then the record behind `abc` is the one that is wanted.
-fn check_write(
-    rt: &impl Abort,
-    alloc: Global,
-    trouble: Trouble,
-    wanted: &[u8],
-) -> Result<(), Fail> {
-    let (mut drives, mut session) = two_records(rt, alloc)?;
-    set(&mut session, &drives, trouble);
-    let write = Request::Write { bytes: b"x" };
-    assert_eq!(rt; answer(&mut session, &mut drives, write), Err(5));
-    assert_eq!(rt; failures(&session), Some(1));
-    assert!(rt; gives(&mut session, &mut drives, 9, wanted));
-    assert_eq!(rt; answer(&mut session, &mut drives, REWIND), Ok(1));
-    assert!(rt; gives(&mut session, &mut drives, 9, b"abc"));
-    assert_eq!(rt; answer(&mut session, &mut drives, write), Ok(1));
-    assert_eq!(rt; failures(&session), Some(1));
-    Ok(())
-}
+/// A write of `x` behind `abc` meets the trouble. Then the place is read, the records from the beginning, and `x` is
+/// written behind `abc`.
+const FAILED_WRITES: [(Trouble, &[u8]); 4] = [
+    (Trouble::Kept, b"A2\ndeA1\nA3\nabcA1\n"),
+    (Trouble::Lost, b"A0\nA1\nA3\nabcA1\n"),
+    (Trouble::Written(1), b"A1\nxA1\nA3\nabcA1\n"),
+    (Trouble::Written(0), b"A0\nA1\nA3\nabcA1\n"),
+];
 
 #[test]
 fn a_failed_write_leaves_what_the_trouble_says(rt: HostRuntime) -> Result<(), Fail> {
-    check_write(&rt, rt.alloc(), Trouble::Kept, b"de")?;
-    check_write(&rt, rt.alloc(), Trouble::Lost, b"")?;
-    check_write(&rt, rt.alloc(), Trouble::Written(1), b"x")?;
-    check_write(&rt, rt.alloc(), Trouble::Written(0), b"")?;
+    for (trouble, want) in FAILED_WRITES {
+        let write = (Some(trouble), b"W1\nx".as_slice(), FAILED, 1);
+        let after = (None, b"R9\nI5\n1\nR9\nW1\nx".as_slice(), want, 1);
+        check_steps(&rt, rt.alloc(), &[TWO_RECORDS, write, after])?;
+    }
     Ok(())
 }
 
-/// Three marks over the records meet the trouble. Then so many stand, and nothing behind them.
-fn check_marks(rt: &impl Abort, alloc: Global, written: u32, left: u32) -> Result<(), Fail> {
-    let (mut drives, mut session) = two_records(rt, alloc)?;
-    assert_eq!(rt; answer(&mut session, &mut drives, REWIND), Ok(1));
-    set(&mut session, &drives, Trouble::Written(written));
-    let marks = Request::Op { op: 0, count: 3 };
-    assert_eq!(rt; answer(&mut session, &mut drives, marks), Err(5));
-    let pass = Request::Op { op: 1, count: left };
-    assert_eq!(rt; answer(&mut session, &mut drives, pass), Ok(left));
-    let pass = Request::Op { op: 3, count: 1 };
-    assert_eq!(rt; answer(&mut session, &mut drives, pass), Err(5));
-    let back = Request::Op { op: 2, count: left };
-    assert_eq!(rt; answer(&mut session, &mut drives, back), Ok(left));
-    assert_eq!(rt; answer(&mut session, &mut drives, BACK), Err(5));
-    assert_eq!(rt; failures(&session), Some(1));
-    Ok(())
-}
+/// Three marks over the records meet the trouble. Then as many as it says stand, and nothing behind them.
+const FAILED_MARKS: [(Trouble, &[u8], &[u8]); 2] = [
+    (
+        Trouble::Written(2),
+        b"I1\n2\nI3\n1\nI2\n2\nI4\n1\n",
+        b"A2\nE5\nInput/output error\nA2\nE5\nInput/output error\n",
+    ),
+    (
+        Trouble::Written(9),
+        b"I1\n3\nI3\n1\nI2\n3\nI4\n1\n",
+        b"A3\nE5\nInput/output error\nA3\nE5\nInput/output error\n",
+    ),
+];
 
 #[test]
 fn failed_marks_leave_what_the_trouble_says(rt: HostRuntime) -> Result<(), Fail> {
-    check_marks(&rt, rt.alloc(), 2, 2)?;
-    check_marks(&rt, rt.alloc(), 9, 3)?;
+    let rewind = (None, b"I5\n1\n".as_slice(), b"A1\n".as_slice(), 0);
+    for (trouble, requests, want) in FAILED_MARKS {
+        let marks = (Some(trouble), b"I0\n3\n".as_slice(), FAILED, 1);
+        let after = (None, requests, want, 1);
+        check_steps(&rt, rt.alloc(), &[TWO_RECORDS, rewind, marks, after])?;
+    }
     Ok(())
 }
+
+/// A failed read moves nothing.
+const FAILED_READ: [Step; 4] = [
+    TWO_RECORDS,
+    (None, b"I5\n1\n", b"A1\n", 0),
+    (Some(Trouble::Lost), b"R9\n", FAILED, 1),
+    (None, b"R9\nR9\n", b"A3\nabcA2\nde", 1),
+];
+
+/// Trouble waits over operations with a count of 0.
+const NO_COUNT: [Step; 4] = [
+    TWO_RECORDS,
+    (
+        Some(Trouble::Kept),
+        b"I0\n0\nI1\n0\nI2\n0\nI3\n0\nI4\n0\n",
+        b"A0\nA0\nA0\nA0\nA0\n",
+        0,
+    ),
+    (None, b"I4\n1\n", FAILED, 1),
+    (None, b"I4\n1\n", b"A1\n", 1),
+];
+
+/// Trouble waits over what does not come to the device: nothing, an operation that there is not, marks without room,
+/// and a rewind.
+const NO_CALL: [Step; 4] = [
+    TWO_RECORDS,
+    (
+        Some(Trouble::Kept),
+        b"I7\n0\nI8\n0\nI0\n99\nI5\n1\n",
+        b"A0\nE22\nInvalid argument\nE28\nNo space left on device\nA1\n",
+        0,
+    ),
+    (None, b"I3\n1\n", FAILED, 1),
+    (None, b"R9\n", b"A3\nabc", 1),
+];
+
+/// Without a reel no trouble is set.
+const NO_REEL: [Step; 1] = [(
+    Some(Trouble::Lost),
+    b"O/dev/st0\n2\nW3\nabc",
+    b"A0\nA3\n",
+    0,
+)];
 
 #[test]
-fn a_failed_read_moves_nothing(rt: HostRuntime) -> Result<(), Fail> {
-    let (mut drives, mut session) = two_records(&rt, rt.alloc())?;
-    assert_eq!(rt; answer(&mut session, &mut drives, REWIND), Ok(1));
-    set(&mut session, &drives, Trouble::Lost);
-    let read = Request::Read { count: 9 };
-    assert_eq!(rt; answer(&mut session, &mut drives, read), Err(5));
-    assert!(rt; gives(&mut session, &mut drives, 9, b"abc"));
-    assert!(rt; gives(&mut session, &mut drives, 9, b"de"));
-    Ok(())
-}
-
-/// What an operation with no count is answered.
-fn none<H: Holds, S: Stacks>(
-    session: &mut Session<H, S>,
-    drives: &mut DriveTable<H, S>,
-    op: u32,
-) -> Result<u32, u32>
-    requires { IsAt (kinds H.Holds S.Stacks S.Reel.Reel) (state drives.old session.old) }
-    ensures { IsAt (kinds H.Holds S.Stacks S.Reel.Reel) (state drives.new session.new) }
-{
-    answer(session, drives, Request::Op { op, count: 0 })
-}
-
-#[test]
-fn trouble_waits_over_a_count_of_0(rt: HostRuntime) -> Result<(), Fail> {
-    let (mut drives, mut session) = two_records(&rt, rt.alloc())?;
-    set(&mut session, &drives, Trouble::Kept);
-    assert_eq!(rt; none(&mut session, &mut drives, 0), Ok(0));
-    assert_eq!(rt; none(&mut session, &mut drives, 1), Ok(0));
-    assert_eq!(rt; none(&mut session, &mut drives, 2), Ok(0));
-    assert_eq!(rt; none(&mut session, &mut drives, 3), Ok(0));
-    assert_eq!(rt; none(&mut session, &mut drives, 4), Ok(0));
-    assert_eq!(rt; failures(&session), Some(0));
-    assert_eq!(rt; answer(&mut session, &mut drives, BACK), Err(5));
-    assert_eq!(rt; failures(&session), Some(1));
-    assert_eq!(rt; answer(&mut session, &mut drives, BACK), Ok(1));
-    Ok(())
-}
-
-#[test]
-fn trouble_waits_for_a_device_call(rt: HostRuntime) -> Result<(), Fail> {
-    let (mut drives, mut session) = two_records(&rt, rt.alloc())?;
-    set(&mut session, &drives, Trouble::Kept);
-    assert_eq!(rt; none(&mut session, &mut drives, 7), Ok(0));
-    assert_eq!(rt; none(&mut session, &mut drives, 8), Err(22));
-    let marks = Request::Op { op: 0, count: 99 };
-    assert_eq!(rt; answer(&mut session, &mut drives, marks), Err(28));
-    assert_eq!(rt; answer(&mut session, &mut drives, REWIND), Ok(1));
-    assert_eq!(rt; failures(&session), Some(0));
-    let on = Request::Op { op: 3, count: 1 };
-    assert_eq!(rt; answer(&mut session, &mut drives, on), Err(5));
-    assert_eq!(rt; failures(&session), Some(1));
-    assert!(rt; gives(&mut session, &mut drives, 9, b"abc"));
-    Ok(())
-}
-
-#[test]
-fn without_a_reel_no_trouble_is_set(rt: HostRuntime) -> Result<(), Fail> {
-    let (mut drives, mut session) = begin(rt.alloc(), 100)?;
-    set(&mut session, &drives, Trouble::Lost);
-    assert_eq!(rt; answer(&mut session, &mut drives, OPEN), Ok(0));
-    let write = Request::Write { bytes: b"abc" };
-    assert_eq!(rt; answer(&mut session, &mut drives, write), Ok(3));
-    assert_eq!(rt; failures(&session), Some(0));
-    Ok(())
+fn trouble_is_met_by_a_device_call_alone(rt: HostRuntime) -> Result<(), Fail> {
+    check_steps(&rt, rt.alloc(), &FAILED_READ)?;
+    check_steps(&rt, rt.alloc(), &NO_COUNT)?;
+    check_steps(&rt, rt.alloc(), &NO_CALL)?;
+    check_steps(&rt, rt.alloc(), &NO_REEL)
 }

@@ -1,6 +1,6 @@
 //! A client and the sessions of its connections, with drives in memory between them.
 
-ghost use Rattle.std.specs.Prelude.{◌≡◌, ◌≢◌, ◌≤◌, ◌*◌, IfOk, IsTrue, length};
+ghost use Rattle.std.specs.Prelude.{◌≡◌, ◌≢◌, ◌≤◌, ◌*◌, IfOk, IfSome, IsTrue, length};
 ghost use Rattle.rmt_wire.specs.Lent.{plain_request};
 ghost use Rattle.drives.specs.Holding.{HoldsJust};
 ghost use Rattle.drives.specs.Local.{IsSeatOf};
@@ -14,9 +14,10 @@ ghost use Rattle.std.specs.Prelude.{None};
 
 use drives::{DriveTable, ListStacks, LocalHolds, LocalSeat};
 use dump_client::{Client, ListBlocks, Progress, Run, State};
+use rmt_peer::Peer;
 use rmt_server::{Session, one_holder};
 use rmt_wire::{NUMBER_LIMIT, Request, RequestReader, push_reply};
-use std::alloc::Global;
+use std::alloc::{AllocError, Global};
 use std::mem;
 use std::test::Fail;
 
@@ -64,16 +65,16 @@ fn stacks(alloc: Global, capacity: u64, reels: &[&[u8]]) -> Result<ListStacks, F
 }
 
 /// A session with nothing open, of this seat at these drives.
-fn server(alloc: Global, seat: LocalSeat, drives: &Drives) -> Result<Server, Fail>
+fn server(alloc: Global, seat: LocalSeat, drives: &Drives) -> Option<Server>
     requires own { IsSeatOf drives.now.holds seat }
     requires idle { HoldsJust seat None }
     requires enough { length drives.now.stacks.shop.racks ≤ length drives.now.holds.numbers }
-    ensures at { IfOk result (λ s. IsAt (kinds of_holds of_stacks of_reel) (state drives.now s)) }
-    ensures seat { IfOk result (λ s. s.seat ≡ seat) }
+    ensures at { IfSome result (λ s. IsAt (kinds of_holds of_stacks of_reel) (state drives.now s)) }
+    ensures seat { IfSome result (λ s. s.seat ≡ seat) }
 {
     match Session::new(alloc, seat) {
-        Ok(session) => Ok(session),
-        Err(_) => Err(Fail::new("no session")),
+        Ok(session) => Some(session),
+        Err(_) => None,
     }
 }
 
@@ -94,7 +95,7 @@ fn carry(
     other: &Server,
     request: Request<'_>,
     out: &mut Vec<u8>,
-) -> Result<(), Fail>
+) -> Result<(), AllocError>
     requires at { IsAt (kinds of_holds of_stacks of_reel) (state drives.old session.old) }
     requires other { IsAt (kinds of_holds of_stacks of_reel) (state drives.old other.now) }
     requires apart { other.now.seat.number ≢ session.old.seat.number }
@@ -104,7 +105,7 @@ fn carry(
 {
     one_holder::<ListStacks>();
     if !is_sayable(&request) {
-        return Err(Fail::new("no reply says that count"));
+        return Err(AllocError);
     }
     let reply = session.carry_out(drives, request);
     push_reply(out, &reply)?;
@@ -131,6 +132,7 @@ pub(super) struct Link {
     alloc: Global,
     pub(super) drives: Drives,
     wire: RequestReader,
+    reply: Vec<u8>,
     session: Server,
     stale: Server,
     ghost at: { IsAt (kinds of_holds of_stacks of_reel) (state drives session) },
@@ -147,13 +149,18 @@ impl Link {
         };
         let stacks = stacks(alloc, capacity, reels)?;
         let drives = DriveTable { holds, stacks };
-        let stale = server(alloc, first, &drives)?;
-        let session = server(alloc, second, &drives)?;
+        let Some(stale) = server(alloc, first, &drives) else {
+            return Err(Fail::new("no session"));
+        };
+        let Some(session) = server(alloc, second, &drives) else {
+            return Err(Fail::new("no session"));
+        };
         let wire = RequestReader::new(alloc)?;
         Ok(Link {
             alloc,
             drives,
             wire,
+            reply: Vec::new(alloc),
             session,
             stale,
         })
@@ -163,33 +170,44 @@ impl Link {
     /// the connection before is as it was; that of the one before it has ended.
     pub(super) fn connect(&mut self, dumper: &mut Dumper) -> Result<(), Fail> {
         dumper.start()?;
+        match self.renew() {
+            Some(()) => Ok(()),
+            None => Err(Fail::new("no connection")),
+        }
+    }
+
+    /// A new connection with a session of its own, as `connect` has it.
+    fn renew(&mut self) -> Option<()> {
         self.end_stale();
-        self.wire = RequestReader::new(self.alloc)?;
+        self.wire = RequestReader::new(self.alloc).ok()?;
         let Some(seat) = self.drives.holds.seat() else {
-            return Err(Fail::new("no seat"));
+            return None;
         };
         let session = server(self.alloc, seat, &self.drives)?;
         self.stale = mem::replace(&mut self.session, session);
-        Ok(())
+        Some(())
     }
 
     /// Carries out the one request that these bytes are, and answers the bytes of the reply.
     pub(super) fn serve(&mut self, bytes: &[u8]) -> Result<Vec<u8>, Fail> {
+        match self.reply_to(bytes) {
+            Some(reply) => Ok(reply),
+            None => Err(Fail::new("no reply")),
+        }
+    }
+
+    /// The same; None where there is no room, no request, or no reply.
+    fn reply_to(&mut self, bytes: &[u8]) -> Option<Vec<u8>> {
         let mut reply = Vec::new(self.alloc);
         if self.wire.push(bytes) < bytes.len() {
-            return Err(Fail::new("no room"));
+            return None;
         }
         let Ok(Some(request)) = self.wire.next() else {
-            return Err(Fail::new("no request"));
+            return None;
         };
-        carry(
-            &mut self.drives,
-            &mut self.session,
-            &self.stale,
-            request,
-            &mut reply,
-        )?;
-        Ok(reply)
+        let (drives, session) = (&mut self.drives, &mut self.session);
+        carry(drives, session, &self.stale, request, &mut reply).ok()?;
+        Some(reply)
     }
 
     /// Has the client's next request carried out, and answers the reply, of which the client has heard nothing.
@@ -223,5 +241,35 @@ impl Link {
     /// The session of the connection before ends.
     pub(super) fn end_stale(&mut self) {
         end(&mut self.drives, &mut self.stale, &self.session);
+    }
+}
+
+/// The link as the far end of a connection, of which it tells nothing. Each request comes whole.
+impl Peer for Link {
+    ghost tells = { λ _ _. ⊥ };
+
+    fn connect(&mut self) -> bool {
+        self.end();
+        self.reply.clear();
+        self.renew().is_some()
+    }
+
+    fn send(&mut self, bytes: &[u8]) -> bool {
+        let Some(reply) = self.reply_to(bytes) else {
+            return false;
+        };
+        self.reply = reply;
+        true
+    }
+
+    fn receive(&mut self, into: &mut [u8]) -> usize {
+        let count = into.len().min(self.reply.len());
+        into[..count].copy_from_slice(&self.reply.as_slice()[..count]);
+        self.reply.clear();
+        count
+    }
+
+    fn hang_up(&mut self) {
+        self.end();
     }
 }

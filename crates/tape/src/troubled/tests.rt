@@ -5,7 +5,7 @@ ghost use Rattle.tape.specs.declared.trouble.Trouble.TheVariants.{None};
 
 use super::*;
 use crate::slow::{Call, SlowReel, make_call};
-use crate::{Entry, MTBSF, MTFSF, MTFSR, MTNOP, MTREW};
+use crate::{Entry, MTBSF, MTFSF, MTFSR, MTNOP, MTREW, device_steps};
 use std::alloc::Global;
 use std::process::Abort;
 use std::test::Fail;
@@ -223,6 +223,7 @@ fn counts_failures_up_to_the_greatest(rt: HostRuntime) -> Result<(), Fail> {
 #[test]
 fn a_reel_with_no_trouble_is_one_in_memory(rt: HostRuntime) -> Result<(), Fail> {
     let mut reel = TroubledReel::new(ListReel::new(rt.alloc(), 100));
+    device_steps();
     assert_eq!(&rt; write_untroubled(&mut reel, b"abc"), Ok(()));
     make(&rt, &mut reel, Call::Op(MTWEOF, 1), Ok(b""));
     make(

@@ -1,4 +1,4 @@
-use Rattle.rmt_peer.proofs.Talking.{nothing_said, followed, told_end_alone}
+use Rattle.rmt_peer.proofs.Talking.{nothing_said, followed}
 use Rattle.rmt_peer.proofs.attempt.converse.Goals as goal
 
 pub loop-init : goal.loop-init
@@ -11,9 +11,3 @@ returns-in_default g c =
 pub loop-preserved : goal.loop-preserved
 loop-preserved g c =
     followed g.B.Blocks.holds g.P.Peer.tells c.args.client.now c.loop.client c.exchange.new.client c.args.peer.now c.loop.peer c.exchange.new.peer c.loop.invariant c.exchange.ensures
-
-pub returns : goal.returns
-returns g c =
-    let h = c.ended.ensures in
-    followed g.B.Blocks.holds g.P.Peer.tells c.args.client.now c.loop.client c.ended.new.self c.args.peer.now c.loop.peer c.loop.peer c.loop.invariant
-    (told_end_alone g.B.Blocks.holds g.P.Peer.tells c.loop.client c.ended.new.self c.loop.peer c.ended.result h.moved h.fed h.same_source)

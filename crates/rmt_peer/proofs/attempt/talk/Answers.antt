@@ -1,7 +1,5 @@
-use Rattle.rmt_peer.proofs.Talking.{told_end_alone}
+use Rattle.rmt_peer.proofs.Talking.{nothing_said}
 use Rattle.rmt_peer.proofs.attempt.talk.Goals as goal
 
-pub returns : goal.returns
-returns g c =
-    let h = c.ended.ensures in
-    told_end_alone g.B.Blocks.holds g.P.Peer.tells c.args.client.now c.ended.new.self c.args.peer.now c.ended.result h.moved h.fed h.same_source
+pub returns-in_default : goal.returns-in_default
+returns-in_default g c = nothing_said g.B.Blocks.holds g.P.Peer.tells c.args.client.now c.args.peer.now

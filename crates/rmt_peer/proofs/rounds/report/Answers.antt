@@ -1,6 +1,6 @@
 use Rattle.std.proofs.Common.{ℕ, List, [], Bool, true, false, Some, subst}
 use Rattle.dump_client.specs.Standing.{checkpoint_of}
-use Rattle.rmt_peer.specs.Lines.{Lines, failure_lines}
+use Rattle.rmt_peer.specs.Lines.{failure_lines}
 use Rattle.rmt_peer.specs.Lines.Lines.{none}
 use Rattle.rmt_peer.specs.Print.{IsPrinted}
 use Rattle.rmt_peer.proofs.Printed.{nothing_printed, lines_failed, cut_short, last_alone, round_after}

@@ -10,9 +10,6 @@ pub returns-in-Asking-clause-printed : goal.returns-in-Asking-clause-printed
 returns-in-Asking-clause-printed g c =
     ([], lines_same c.args.client.now.at.counts c.ask.new.client.at.counts c.ask.ensures.same, nothing_printed g.W.Write.contents c.args.out.now)
 
-pub returns-in-ToSend-clause-talks : goal.returns-in-ToSend-clause-talks
-returns-in-ToSend-clause-talks g c = by_itself g.B.Blocks.holds g.P.Peer.tells c.args.client.now c.lose.new.client c.args.peer.now c.lose.ensures.alone
-
 pub returns-in-Finished-clause-talks : goal.returns-in-Finished-clause-talks
 returns-in-Finished-clause-talks g c = nothing_said g.B.Blocks.holds g.P.Peer.tells c.args.client.now c.args.peer.now
 

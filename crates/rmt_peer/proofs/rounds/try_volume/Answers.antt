@@ -1,5 +1,5 @@
-use Rattle.std.proofs.Common.{ℕ, List, [], Bool, true, false, drop, subst}
-use Rattle.rmt_peer.specs.Lines.{Lines, count_lines}
+use Rattle.std.proofs.Common.{ℕ, List, Bool, true, false, drop, subst}
+use Rattle.rmt_peer.specs.Lines.{count_lines}
 use Rattle.rmt_peer.specs.Print.{IsPrinted}
 use Rattle.rmt_peer.proofs.Printed.{lines_since, cut_short, round_after}
 use Rattle.rmt_peer.proofs.rounds.try_volume.Goals as goal

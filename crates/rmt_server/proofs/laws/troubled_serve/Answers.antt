@@ -1,5 +1,12 @@
+use Rattle.rmt_server.proofs.TroubledLying.{LyingLaw}
 use Rattle.rmt_server.proofs.TroubledOpening.{served-so}
 use Rattle.rmt_server.proofs.laws.troubled_serve.Goals as goal
 
 pub returns : goal.returns
-returns c = λ trouble old new before request reply at tells set carried. served-so trouble old before at tells request reply new carried.effect set
+returns c = λ trouble old new before request reply at tells set carried.
+    let law : LyingLaw = record {
+      latched = c.lying_troubles.ensures.latched;
+      laid_back = c.lying_troubles.ensures.laid_back;
+      moved = c.lying_troubles.ensures.moved;
+    } in
+    served-so law trouble old before at tells request reply new carried.effect set

@@ -1,5 +1,12 @@
+use Rattle.rmt_server.proofs.TroubledLying.{LyingLaw}
 use Rattle.rmt_server.proofs.Troubles.{ended-so}
 use Rattle.rmt_server.proofs.laws.untroubled_end.Goals as goal
 
 pub returns : goal.returns
-returns c = ended-so
+returns c =
+    let law : LyingLaw = record {
+      latched = c.lying_troubles.ensures.latched;
+      laid_back = c.lying_troubles.ensures.laid_back;
+      moved = c.lying_troubles.ensures.moved;
+    } in
+    ended-so law

@@ -1,8 +1,6 @@
-use Rattle.drives.specs.contracts.list.ListStacks.{the_view}
-use Rattle.drives.proofs.Arranging.{may_is}
+use Rattle.std.proofs.Common.{map, ◌∙◌}
+use Rattle.drives.proofs.ToldOrder.{may-told}
 use Rattle.drives.proofs.list.ListStacks.can_arrange.Goals as goal
 
-pub returns-then-all_differ : goal.returns-then-all_differ
-returns-then-all_differ c =
-    may_is (the_view c.self.inside) c.args.self.now c.args.drive c.index-rack.result.now (λ n. n.now) c.args.names.now c.is_latched.result c.all_differ.result c.all_there.result
-    c.self.view_is c.requires c.index-rack.ensures c.is_latched.ensures c.if-is_latched.false c.all_differ.ensures c.if-all_differ.true _ _ c.deref.ensures.value c.stack.ensures c.all_there.ensures
+pub returns-clause-told : goal.returns-clause-told
+returns-clause-told c = c.can_put_stack.ensures ∙ may-told c.args.self.now c.args.drive (map (λ n. n.now) c.args.names.now)

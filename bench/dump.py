@@ -1,0 +1,188 @@
+#!/usr/bin/env python3
+"""Measures dumps over the loopback, beside `cat` of the same bytes through a socket pair, in the same run.
+
+    dump.py [RMTD [RDUMP]]
+
+It prints ratios of the least of several times, each with the start of the processes in it: a payload dumped in blocks of two sizes,
+and as much read back from a reel that a client of this file wrote; requests a second of an operation that does nothing, beside a
+plain echo of lines over TCP; the longest time between a request and its reply; and what memory both programs held at most.
+"""
+
+from __future__ import annotations
+
+import argparse
+import os
+import re
+import socket
+import subprocess
+import sys
+import tempfile
+import time
+from contextlib import contextmanager
+from pathlib import Path
+from typing import Callable, Iterator
+
+CRATES = Path(__file__).resolve().parent.parent / "crates"
+
+ROUNDS = 5
+MIB = 1 << 20
+PAYLOAD = 256 * MIB
+ROOM = 320 * MIB
+BLOCKS = (65_536, 10_240)
+OPERATIONS = 20_000
+NO_OPERATION = b"I7\n1\n"
+DONE_ONE = b"A1\n"
+
+
+@contextmanager
+def listening(rmtd: str) -> Iterator[tuple[str, subprocess.Popen[bytes]]]:
+    """A server that listens, and its address."""
+    words = (rmtd, "--listen", "127.0.0.1:0", "--capacity", str(ROOM))
+    with subprocess.Popen(words, stdout=subprocess.PIPE) as server:
+        try:
+            found = re.search(r"listening on (.+)\n", server.stdout.readline().decode())
+            yield found[1], server
+        finally:
+            server.kill()
+
+
+def connected(address: str) -> socket.socket:
+    """A connection that sends at once."""
+    host, port = address.rsplit(":", 1)
+    stream = socket.create_connection((host, int(port)))
+    stream.setsockopt(socket.IPPROTO_TCP, socket.TCP_NODELAY, 1)
+    return stream
+
+
+def timed(act: Callable[[], object]) -> float:
+    """The seconds of an act."""
+    began = time.perf_counter()
+    act()
+    return time.perf_counter() - began
+
+
+def most_memory(process: int) -> float:
+    """The MiB that a process has held at most."""
+    status = Path(f"/proc/{process}/status").read_text()
+    return int(re.search(r"VmHWM:\s+(\d+)", status)[1]) / 1024
+
+
+def through_a_pair(path: Path) -> None:
+    """`cat` into one end of a socket pair, and `cat` out of the other."""
+    near, far = socket.socketpair()
+    with near, far, path.open("rb") as source:
+        with subprocess.Popen(("cat",), stdin=far, stdout=subprocess.DEVNULL) as drain:
+            far.close()
+            subprocess.run(("cat",), stdin=source, stdout=near, check=True)
+            near.close()
+            drain.wait()
+
+
+def dumped(rmtd: str, rdump: str, path: Path, block: int) -> tuple[float, float, float]:
+    """The seconds of a dump, and the MiB that client and server held."""
+    words = (rdump, "dump", "--device", "/dev/st0", "--fs", "/usr", "--level", "0", "--payload", str(path), "--block", str(block))
+    with listening(rmtd) as (address, server):
+        began = time.perf_counter()
+        client = subprocess.Popen((*words, "--dumpdates", "/dev/null", "--to", address), stdout=subprocess.DEVNULL)
+        _, status, used = os.wait4(client.pid, 0)
+        seconds = time.perf_counter() - began
+        if status:
+            raise RuntimeError(f"rdump ended with {status}")
+        return seconds, used.ru_maxrss / 1024, most_memory(server.pid)
+
+
+def write_volume(address: str, path: Path, block: int) -> None:
+    """Writes a volume of the file, and closes without moving the reel."""
+    with connected(address) as stream, stream.makefile("rb") as replies, path.open("rb") as source:
+        stream.sendall(b"O/dev/st0\n2\nW1024\nlabel\n" + bytes(1018))
+        asked = 2
+        while data := source.read(block):
+            stream.sendall(b"W%d\n" % len(data) + data)
+            asked += 1
+            while asked > 64:
+                replies.readline()
+                asked -= 1
+        stream.sendall(b"I0\n1\nC\n")
+        for _ in range(asked + 2):
+            if not replies.readline().startswith(b"A"):
+                raise RuntimeError("the server refused a request")
+
+
+def read_back(rmtd: str, rdump: str, path: Path, block: int) -> float:
+    """The least seconds of reading a volume."""
+    words = (rdump, "read", "--device", "/dev/st0", "--out", "/dev/null")
+    with listening(rmtd) as (address, _):
+        write_volume(address, path, block)
+        run = lambda: subprocess.run((*words, "--to", address), stdout=subprocess.DEVNULL, check=True)
+        return min(timed(run) for _ in range(ROUNDS))
+
+
+def asked(stream: socket.socket, text: bytes, reply: bytes) -> tuple[float, float]:
+    """The seconds of many requests, each after the reply to the one before, and the longest of them."""
+    longest = 0.0
+    began = last = time.perf_counter()
+    for _ in range(OPERATIONS):
+        stream.sendall(text)
+        got = b""
+        while len(got) < len(reply):
+            got += stream.recv(64)
+        now = time.perf_counter()
+        longest, last = max(longest, now - last), now
+    return last - began, longest
+
+
+def echo() -> str:
+    """A server that sends back what it gets, and its address."""
+    listener = socket.create_server(("127.0.0.1", 0))
+
+    def serve() -> None:
+        stream, _ = listener.accept()
+        stream.setsockopt(socket.IPPROTO_TCP, socket.TCP_NODELAY, 1)
+        while piece := stream.recv(65536):
+            stream.sendall(piece)
+
+    if os.fork() == 0:
+        serve()
+        os._exit(0)
+    address = "127.0.0.1:%d" % listener.getsockname()[1]
+    listener.close()
+    return address
+
+
+def operations(rmtd: str) -> None:
+    """Requests a second."""
+    with listening(rmtd) as (address, _), connected(address) as stream:
+        stream.sendall(b"O/dev/st0\n0\n")
+        stream.recv(64)
+        served, longest = min(asked(stream, NO_OPERATION, DONE_ONE) for _ in range(ROUNDS))
+    with connected(echo()) as stream:
+        plain, _ = min(asked(stream, NO_OPERATION, NO_OPERATION) for _ in range(ROUNDS))
+    os.wait()
+    print(f"nop on one connection: {OPERATIONS / served:,.0f} a second, {served / plain:.2f} times the time of a plain echo;", end=" ")
+    print(f"the longest took {longest * 1000:.1f} ms")
+
+
+def main() -> int:
+    parser = argparse.ArgumentParser(description="Measures dumps over the loopback.")
+    parser.add_argument("rmtd", nargs="?", default=str(CRATES / "rmtd/out/rmtd"))
+    parser.add_argument("rdump", nargs="?", default=str(CRATES / "rdump/out/rdump"))
+    programs = parser.parse_args()
+    with tempfile.TemporaryDirectory() as folder:
+        path = Path(folder) / "payload"
+        with path.open("wb") as file:
+            for _ in range(PAYLOAD // MIB):
+                file.write(os.urandom(MIB))
+        floor = min(timed(lambda: through_a_pair(path)) for _ in range(ROUNDS))
+        for block in BLOCKS:
+            rounds = [dumped(programs.rmtd, programs.rdump, path, block) for _ in range(ROUNDS)]
+            seconds = min(it[0] for it in rounds)
+            print(f"256 MiB in blocks of {block:,} bytes: dumped in {seconds / floor:.1f} times the time of cat;", end=" ")
+            print(f"client {rounds[0][1]:.0f} MiB, server {rounds[0][2]:.0f} MiB at most")
+            seconds = read_back(programs.rmtd, programs.rdump, path, block)
+            print(f"256 MiB in blocks of {block:,} bytes: read back in {seconds / floor:.1f} times the time of cat")
+    operations(programs.rmtd)
+    return 0
+
+
+if __name__ == "__main__":
+    sys.exit(main())

@@ -1,0 +1,136 @@
+//! Dumps over a peer that is told what to reply.
+ghost use Rattle.std.specs.Prelude.{◌≡◌, ◌≤◌, ◌*◌, length, IfOk};
+
+use super::fake::{FakePeer, Replies, Short};
+use crate::{dump, print_text};
+use dump_client::{Client, ListBlocks, Run};
+use rmt_wire::Counted;
+use std::alloc::Global;
+use std::process::Abort;
+use std::test::Fail;
+
+const BLOCK_BYTES: usize = 1024;
+
+/// Two blocks, and no room for the third.
+const FULL: Replies<'static> = &[
+    b"A0\n", b"A1\n", b"A1024\n", b"A1024\n", b"A1024\n", b"A0\n", b"A1\n", b"A1\n", b"A0\n",
+];
+
+/// One block, which is the last.
+const LAST: Replies<'static> = &[
+    b"A0\n", b"A1\n", b"A1024\n", b"A1024\n", b"A1\n", b"A1\n", b"A0\n",
+];
+
+/// A drive without a reel.
+const EMPTY: Replies<'static> = &[b"E6\nDevice not configured\n"];
+
+/// So many blocks, of which each byte of block i is i.
+fn payload(alloc: Global, blocks: u32) -> Result<Vec<u8>, Fail>
+    requires { blocks ≤ 3 }
+    ensures { IfOk result (λ bytes. length bytes.items ≡ blocks * 1024) }
+{
+    let mut bytes = Vec::new(alloc);
+    for block in 0..blocks {
+        bytes.extend_from_slice(&[block as u8; BLOCK_BYTES])?;
+    }
+    Ok(bytes)
+}
+
+/// A client that dumps so many blocks of `/usr` to `/dev/st0`.
+fn client(alloc: Global, blocks: u32) -> Result<Client<ListBlocks>, Fail>
+    requires { blocks ≤ 3 }
+{
+    let run = Run::new(
+        b"/dev/st0",
+        "/usr",
+        0,
+        951782400,
+        0,
+        1024,
+        u64::from(blocks),
+    )?;
+    let source = ListBlocks::new(payload(alloc, blocks)?, BLOCK_BYTES, blocks);
+    Ok(Client::new(alloc, run, source)?)
+}
+
+/// A dump of three blocks ends so, and prints that.
+fn check_dump(
+    rt: &impl Abort,
+    alloc: Global,
+    connections: &[Replies<'_>],
+    mut says: &[u8],
+    printed: &[u8],
+    status: u8,
+) -> Result<(), Fail> {
+    let mut client = client(alloc, 3)?;
+    let mut peer = FakePeer::new(alloc, connections);
+    let mut out = Counted::new(Vec::new(alloc));
+    let told = dump(alloc, &mut client, &mut peer, &mut says, &mut out);
+    assert_eq!(rt; out.into_inner().as_slice(), printed);
+    assert_eq!(rt; told, status);
+    Ok(())
+}
+
+#[test]
+fn two_volumes(rt: HostRuntime) -> Result<(), Fail> {
+    let lines =
+        b"volume 1: 2 blocks from 0\nvolume 2: 1 blocks from 2\ndump complete: 2 volumes, 3 blocks\n";
+    check_dump(&rt, rt.alloc(), &[FULL, LAST], b"", lines, 0)
+}
+
+#[test]
+fn an_abandon(rt: HostRuntime) -> Result<(), Fail> {
+    let lines = b"volume 1: 2 blocks from 0\nvolume 2 failed: Refused 6\nretry?\ndump abandoned\n";
+    check_dump(&rt, rt.alloc(), &[FULL, EMPTY], b"", lines, 3)
+}
+
+/// The third connection is made after `yes`, and the fourth cannot be.
+#[test]
+fn a_retry(rt: HostRuntime) -> Result<(), Fail> {
+    let lines =
+        b"volume 1 failed: Refused 6\nretry?\nvolume 1: 2 blocks from 0\nvolume 2 failed: ConnectionEnded\nretry?\ndump abandoned\n";
+    check_dump(&rt, rt.alloc(), &[EMPTY, FULL], b"yes\nno\n", lines, 3)
+}
+
+/// Once a line could not be printed nothing more is printed or sent.
+#[test]
+fn a_fault_in_printing(rt: HostRuntime) -> Result<(), Fail> {
+    let mut client = client(rt.alloc(), 3)?;
+    let mut peer = FakePeer::new(rt.alloc(), &[FULL, LAST]);
+    let mut says: &[u8] = b"";
+    let mut out = Counted::new(Short {
+        taken: Vec::new(rt.alloc()),
+        room: 9,
+    });
+    let told = dump(rt.alloc(), &mut client, &mut peer, &mut says, &mut out);
+    assert_eq!(rt; told, 3);
+    assert_eq!(rt; out.failures(), 1);
+    assert_eq!(rt; out.into_inner().taken.as_slice(), b"volume 1:".as_slice());
+    assert!(rt; peer.sent.ends_with(b"I0\n1\nI6\n1\nC\n"));
+    Ok(())
+}
+
+/// An attempt that is under way, where there is no connection, fails.
+#[test]
+fn an_attempt_that_is_under_way(rt: HostRuntime) -> Result<(), Fail> {
+    let mut client = client(rt.alloc(), 0)?;
+    let mut peer = FakePeer::new(rt.alloc(), &[]);
+    let mut says: &[u8] = b"";
+    let mut out = Counted::new(Vec::new(rt.alloc()));
+    assert!(rt; client.start().is_ok());
+    let told = dump(rt.alloc(), &mut client, &mut peer, &mut says, &mut out);
+    assert_eq!(rt; told, 3);
+    assert_eq!(rt;
+        out.into_inner().as_slice(),
+        b"volume 1 failed: ConnectionEnded\nretry?\ndump abandoned\n".as_slice()
+    );
+    Ok(())
+}
+
+#[test]
+fn a_text(rt: HostRuntime) -> Result<(), Fail> {
+    let mut out = Counted::new(Vec::new(rt.alloc()));
+    assert!(rt; print_text(&mut out, b"retry?\n"));
+    assert_eq!(rt; out.into_inner().as_slice(), b"retry?\n".as_slice());
+    Ok(())
+}

@@ -1,0 +1,120 @@
+//! The files that a dump reads and writes, and the clock.
+
+use crate::DatesStore;
+use std::alloc::Global;
+use std::fs::{self, File};
+use std::io::{self, ErrorKind, Read, Write};
+use std::rt::Files;
+use std::time::{Clock, SystemTime, UNIX_EPOCH};
+
+/// Reads a file whole. None where it is no longer as long as it was when the reading began.
+pub fn read_steady<R: Files<File = File>>(
+    rt: &R,
+    alloc: Global,
+    path: &str,
+) -> io::Result<Option<Vec<u8>>> {
+    let mut file = File::open(rt, path)?;
+    let before = file.metadata()?;
+    let mut bytes = Vec::new(alloc);
+    file.read_to_end(&mut bytes)?;
+    let after = file.metadata()?;
+    if before.is_file() && (before.len() != after.len() || before.len() != bytes.len() as u64) {
+        return Ok(None);
+    }
+    Ok(Some(bytes))
+}
+
+/// Reads a file whole. A file that is missing is empty.
+pub fn read_or_empty<R: Files<File = File>>(
+    rt: &R,
+    alloc: Global,
+    path: &str,
+) -> io::Result<Vec<u8>> {
+    let mut bytes = Vec::new(alloc);
+    match File::open(rt, path) {
+        Ok(mut file) => file.read_to_end(&mut bytes)?,
+        Err(error) if error.kind() == ErrorKind::NotFound => 0,
+        Err(error) => return Err(error),
+    };
+    Ok(bytes)
+}
+
+/// The clock's seconds since 1970 began, UTC. None where it stands before that, or can't be read.
+pub fn seconds_now<R: Clock>(rt: &R) -> Option<u64> {
+    let now = SystemTime::now(rt).ok()?;
+    Some(now.duration_since(UNIX_EPOCH).ok()?.as_secs())
+}
+
+/// A dumpdates file by its path. It tells nothing: what a file holds, no clause says.
+///
+/// Its text is put in place by writing it to a file of the same name with `.new` behind it, which is synced, and then renamed.
+#[derive(Drop)]
+pub struct DatesFile<'a, R: Files<File = File>> {
+    rt: &'a R,
+    alloc: Global,
+    path: &'a str,
+    failure: Option<io::Error>,
+}
+
+impl<'a, R: Files<File = File>> DatesFile<'a, R> {
+    /// The file at this path, which need not be there.
+    pub fn new(rt: &'a R, alloc: Global, path: &'a str) -> Self {
+        DatesFile {
+            rt,
+            alloc,
+            path,
+            failure: None,
+        }
+    }
+
+    /// Why the last call that failed did, if one has.
+    pub fn failure(&self) -> Option<&io::Error> {
+        self.failure.as_ref()
+    }
+
+    /// Writes the text to the file beside, and puts that in place of the file.
+    fn put(&self, text: &[u8]) -> io::Result<()> {
+        let path = self.path;
+        let beside = format!(in self.alloc; "{path}.new")?;
+        let mut file = File::create(self.rt, beside.as_str())?;
+        file.write_all(text)?;
+        file.sync_all()?;
+        fs::rename(self.rt, beside.as_str(), path)
+    }
+
+    /// Has the file's folder remember the new name.
+    fn sync_folder(&self) -> io::Result<()> {
+        let folder = match self.path.rsplit_once('/') {
+            Some(("", _)) => "/",
+            Some((folder, _)) => folder,
+            None => ".",
+        };
+        File::open(self.rt, folder)?.sync_all()
+    }
+}
+
+impl<'a, R: Files<File = File>> DatesStore for DatesFile<'a, R> {
+    ghost gives = { λ _ _ _. Unit {0} };
+
+    ghost takes = { λ _ _ _ _. Unit {0} };
+
+    fn read(&mut self, alloc: Global) -> Option<Vec<u8>> {
+        match read_or_empty(self.rt, alloc, self.path) {
+            Ok(bytes) => Some(bytes),
+            Err(error) => {
+                self.failure = Some(error);
+                None
+            }
+        }
+    }
+
+    /// Once the new file has the name of the old one this is done, whatever comes of the folder's sync.
+    fn replace(&mut self, text: &[u8]) -> bool {
+        if let Err(error) = self.put(text) {
+            self.failure = Some(error);
+            return false;
+        }
+        let _ = self.sync_folder();
+        true
+    }
+}

@@ -1,0 +1,2 @@
+pub mod Rmtd
+pub mod Rdump

@@ -1,0 +1,15 @@
+//! The words of the programs, read by clap: what they ask of `rmtd` (`server_words`) and of `rdump` (`rdump_words`).
+#![tactic(auto)]
+
+mod number;
+mod rdump_line;
+mod rmtd_line;
+mod run_line;
+mod tape_line;
+#[cfg(test)]
+mod tests;
+
+pub use rdump_line::{RdumpLine, rdump_words};
+pub use rmtd_line::{LineFault, ServerLine, server_line, server_words};
+pub use run_line::DumpLine;
+pub use tape_line::{MtLine, ReadLine};

@@ -1,0 +1,20 @@
+ghost use Rattle.std.specs.Prelude.{◌≢◌, ℕ};
+ghost use Rattle.tape.specs.Tape.{Tape, TapeRequest, TapeAnswer, TapeStep};
+ghost use Rattle.tape.specs.Tape.TapeAnswer.{Fault};
+ghost use Rattle.tape.specs.Trouble.{DeviceStep, TroubledTape, TroubledStep, IsTroubledCall};
+ghost use Rattle.tape.specs.declared.fault.TapeFault.TheVariants.{Device};
+ghost use Rattle.tape.specs.declared.trouble.Trouble.{Trouble};
+ghost use Rattle.tape.specs.declared.trouble.Trouble.TheVariants.{None};
+
+/// One call on a tape whose device is told how it fails next is a step of that tape, and with no trouble the device is
+/// not at fault. So each step of a `TroubledReel` is a call as every reel promises it.
+///
+/// It does nothing: its contract is a law of the definitions.
+pub fn device_steps()
+    ensures step { (capacity : ℕ) (trouble : Trouble) (t : Tape) (request : TapeRequest) (answer : TapeAnswer) (u : Tape) →
+        DeviceStep capacity trouble t request answer u → TapeStep capacity t request answer u }
+    ensures untroubled { (capacity : ℕ) (t : Tape) (request : TapeRequest) (answer : TapeAnswer) (u : Tape) →
+        DeviceStep capacity None t request answer u → answer ≢ Fault Device }
+    ensures call { (old new : TroubledTape) (request : TapeRequest) (answer : TapeAnswer) →
+        TroubledStep old new request answer → IsTroubledCall old new request answer }
+{}

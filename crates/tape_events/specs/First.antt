@@ -1,0 +1,39 @@
+-- The world before any event.
+use Rattle.std.specs.Prelude.{◌≡◌, ℕ, IsTrue, List, [], length, map, flat_map, replicate, Option, Some, None}
+use Rattle.std.specs.Int.{IsInRange}
+use Rattle.drives.specs.Shop.{KeptReel, kept_reel, slot, Rack, rack, shop}
+use Rattle.drives.specs.Arranging.{are_distinct}
+use Rattle.rmt_wire.specs.RequestReader.{Unread}
+use Rattle.rmt_server.specs.Hall.{hall, Side}
+use Rattle.tape_events.specs.World.{World}
+use Rattle.tape_events.specs.Changes.{side_of}
+
+-- a drive of the first world: its name, how many bytes each of its reels takes, and their names
+pub record PlainDrive : Type 0 where
+  pub name : List ℕ
+  pub capacity : ℕ
+  pub reels : List (List ℕ)
+
+abbrev pub blank_rack : PlainDrive → Rack KeptReel
+blank_rack d = rack d.name (map (λ name. slot name (Some (kept_reel [] d.capacity))) d.reels)
+
+-- 1 to 64 drives, no two of one name, and no two reels of one name
+abbrev pub AreGoodDrives : List PlainDrive → Type 0
+AreGoodDrives drives =
+    IsInRange 1 64 (length drives) × IsTrue (are_distinct (map (λ d. d.name) drives))
+    × IsTrue (are_distinct (flat_map (λ d. d.reels) drives))
+
+-- nothing has happened: empty reels, no connection, no run
+abbrev pub first_world : List PlainDrive → World
+first_world drives = record {
+    hall = hall (shop (map blank_rack drives) []) (replicate (length drives) 0) [];
+    links = []; begun = []; caller = None; own = None; counts = []; opens = []; entered = []; failure = None; dates = [] }
+
+-- each connection has a server's side, live or over, and each drive a holder, or 0
+pub record IsPaired (w : World) : Type 0 where
+  pub links : length w.hall.sides ≡ length w.links
+  pub holders : length w.hall.holders ≡ length w.hall.shop.racks
+
+-- something is unread by each live side, if only no bytes
+abbrev pub IsReadable : World → Type 0
+IsReadable w = (k : ℕ) (s : Side) → side_of w.hall k ≡ Some s → (bytes : List ℕ) × Unread s.reached bytes

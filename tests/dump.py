@@ -1,0 +1,594 @@
+#!/usr/bin/env python3
+"""Checks the built programs over the loopback: `rmtd --listen`, and `rdump dump`, `read` and `mt` beside it.
+
+    dump.py [RMTD [RDUMP]]
+
+Where more reels are wanted than the one of `rmtd`, or what a client sends is looked at, a tape server of this file takes its place: a plain
+model, that also complains of a client that sends a request before the reply to the one before. What `rdump` and `rmtd` tell on standard
+error is only looked at for the words that name what is at fault.
+"""
+
+from __future__ import annotations
+
+import argparse
+import os
+import re
+import socket
+import subprocess
+import sys
+import tempfile
+import threading
+import time
+from contextlib import contextmanager
+from pathlib import Path
+from typing import Callable, Iterator, NamedTuple
+
+CRATES = Path(__file__).resolve().parent.parent / "crates"
+DEVICE = "/dev/st0"
+DAY = 951_782_400  # Tue Feb 29 00:00:00 2000
+DAY_BEFORE = 951_696_000
+ENTRY = "/usr" + 28 * " " + " 0 Tue Feb 29 00:00:00 2000\n"
+OLDER = "/home" + 27 * " " + " 0 Mon Feb 28 00:00:00 2000\n"
+DONE, FAILED, ABNORMAL = 0, 1, 3
+
+# A program that does not end is killed after this time, so that the checks end.
+GUARD_SECONDS = 60
+
+
+class Ended(NamedTuple):
+    """What a program wrote to standard output and standard error, and its exit status (below 0: a signal)."""
+
+    output: str
+    told: str
+    status: int
+
+
+# The plain model of a tape server.
+
+
+class Reel:
+    """A reel: its name, how many bytes it holds, and its entries, a mark as None."""
+
+    def __init__(self, name: str, capacity: int) -> None:
+        self.name = name
+        self.capacity = capacity
+        self.entries: list[bytes | None] = []
+
+    def used(self, place: int) -> int:
+        """The bytes of the entries before a place."""
+        return sum(4 if it is None else len(it) + 8 for it in self.entries[:place])
+
+
+class Received:
+    """The bytes of a connection, request by request."""
+
+    def __init__(self, stream: socket.socket) -> None:
+        self.stream = stream
+        self.ahead = False
+        self.log: list[bytes] = []
+
+    def take(self, count: int) -> bytes:
+        """So many bytes, fewer at the end."""
+        taken = b""
+        while len(taken) < count:
+            piece = self.stream.recv(count - len(taken))
+            if not piece:
+                break
+            taken += piece
+        return taken
+
+    def line(self) -> bytes:
+        """The bytes up to a line feed, which ends them, or up to the end."""
+        taken = b""
+        while not taken.endswith(b"\n"):
+            byte = self.take(1)
+            if not byte:
+                break
+            taken += byte
+        return taken
+
+    def request(self) -> bytes:
+        """The next request whole, no bytes at the end. Notes whether more came with it."""
+        letter = self.take(1)
+        text = letter
+        if letter in (b"O", b"I"):
+            text += self.line() + self.line()
+        elif letter:
+            text += self.line()
+        if letter == b"W":
+            text += self.take(int(text[1:]))
+        if text:
+            self.stream.setblocking(False)
+            try:
+                self.ahead |= bool(self.stream.recv(1, socket.MSG_PEEK))
+            except BlockingIOError:
+                pass
+            self.stream.setblocking(True)
+            self.log.append(text)
+        return text
+
+
+class Model:
+    """A tape server with one drive, of these reels, one connection after the other. `lost` are requests whose reply is the end instead."""
+
+    def __init__(self, *reels: Reel, lost: tuple[int, ...] = (), said: dict[int, bytes] | None = None) -> None:
+        self.stack = list(reels)
+        self.bin: list[Reel] = []
+        self.logs: list[list[bytes]] = []
+        self.ahead = False
+        self.lost = lost
+        self.said = said or {}
+        self.listener = socket.create_server(("127.0.0.1", 0))
+        self.address = "127.0.0.1:%d" % self.listener.getsockname()[1]
+        self.worker = threading.Thread(target=self.serve, daemon=True)
+        self.worker.start()
+
+    def serve(self) -> None:
+        """Serves until the listener is closed."""
+        while True:
+            try:
+                stream, _ = self.listener.accept()
+            except OSError:
+                return
+            with stream:
+                self.converse(Received(stream))
+
+    def converse(self, received: Received) -> None:
+        """One connection."""
+        self.logs.append(received.log)
+        self.open: Reel | None = None
+        self.place = 0
+        while request := received.request():
+            self.ahead |= received.ahead
+            reply = self.reply(request)
+            number = sum(len(it) for it in self.logs)
+            if number in self.lost:
+                return
+            received.stream.sendall(self.said.get(number, reply))
+
+    def reply(self, request: bytes) -> bytes:
+        """Carries a request out."""
+        letter, words = request[:1], request[1:].split(b"\n")
+        if letter == b"O":
+            self.open, self.place = (self.stack[0] if self.stack else None), 0
+            return b"A0\n" if self.open else b"E6\nDevice not configured\n"
+        if letter == b"C":
+            self.open = None
+            return b"A0\n"
+        if self.open is None:
+            return b"E6\nDevice not configured\n"
+        if letter == b"W":
+            return self.write(request.split(b"\n", 1)[1])
+        return self.operation(int(words[0]), int(words[1]))
+
+    def write(self, data: bytes) -> bytes:
+        if self.open.used(self.place) + len(data) + 12 > self.open.capacity:
+            return b"A0\n"
+        self.open.entries[self.place :] = [data]
+        self.place += 1
+        return b"A%d\n" % len(data)
+
+    def operation(self, op: int, count: int) -> bytes:
+        if op == 0:
+            self.open.entries[self.place :] = [None] * count
+            self.place += count
+        elif op in (5, 6):
+            self.place = 0
+        if op == 6:
+            self.bin.append(self.stack.pop(0))
+            self.open = None
+        return b"A%d\n" % count
+
+    def stop(self) -> None:
+        self.listener.close()
+
+
+# The programs.
+
+
+class Programs:
+    """Both programs, with a folder for their files."""
+
+    def __init__(self, rmtd: str, rdump: str, folder: Path) -> None:
+        self.rmtd = rmtd
+        self.rdump = rdump
+        self.folder = folder
+
+    def run(self, *words: str, said: str = "", stdout: int = subprocess.PIPE, program: str | None = None) -> Ended:
+        """Runs `rdump`, or another program, with these words and this standard input."""
+        ended = subprocess.run(
+            (program or self.rdump, *words),
+            cwd=self.folder,
+            input=said.encode(),
+            stdout=stdout,
+            stderr=subprocess.PIPE,
+            timeout=GUARD_SECONDS,
+            check=False,
+        )
+        return Ended((ended.stdout or b"").decode(), ended.stderr.decode(errors="replace"), ended.returncode)
+
+    def file(self, name: str, text: bytes) -> str:
+        """Makes a file of these bytes."""
+        self.folder.joinpath(name).write_bytes(text)
+        return name
+
+    def text(self, name: str) -> str | None:
+        """What a file holds, None where there is none."""
+        path = self.folder / name
+        return path.read_text() if path.is_file() else None
+
+    def dump(self, address: str, *more: str, said: str = "", stdout: int = subprocess.PIPE, **changed: str | None) -> Ended:
+        """Runs `rdump dump` with the usual words, of which these are changed, or left out at None."""
+        words = {
+            "to": address,
+            "device": DEVICE,
+            "fs": "/usr",
+            "level": "0",
+            "payload": "payload",
+            "block": "1024",
+            "dumpdates": "dumpdates",
+            "date": str(DAY),
+        } | changed
+        listed = [it for name, value in words.items() if value is not None for it in (f"--{name}", value)]
+        return self.run("dump", *listed, *more, said=said, stdout=stdout)
+
+    @contextmanager
+    def listening(self, *words: str, at: str = "127.0.0.1:0") -> Iterator[tuple[str, subprocess.Popen[bytes]]]:
+        """A server that listens, and its address."""
+        with subprocess.Popen((self.rmtd, "--listen", at, *words), stdout=subprocess.PIPE, stderr=subprocess.PIPE) as server:
+            try:
+                line = server.stdout.readline().decode()
+                found = re.fullmatch(r"listening on (.+:\d+)\n", line)
+                if not found:
+                    raise RuntimeError(f"rmtd printed {line!r}")
+                yield found[1], server
+            finally:
+                server.kill()
+
+
+# The checks.
+
+COUNT = [0, 0]
+
+
+def check(name: str, holds: bool, *seen: object) -> None:
+    """Counts a check, and tells of one that failed."""
+    COUNT[not holds] += 1
+    if not holds:
+        print(f"FAILED: {name}", *(f"  {it!r}"[:600] for it in seen), sep="\n")
+
+
+def ends(name: str, got: Ended, output: str, status: int, *faults: str) -> None:
+    """The output and the status are these, and each of these words is told."""
+    told = all(it.lower() in got.told.lower() for it in faults) and bool(got.told) == bool(faults)
+    check(name, (got.output, got.status) == (output, status) and told, got, (output, status, faults))
+
+
+def fails(name: str, got: Ended, *faults: str) -> None:
+    """It did not start: status 1, nothing on standard output, and each of these words is told."""
+    ends(name, got, "", FAILED, *faults)
+
+
+def label(volume: int, first: int, since: int = 0, date: int = DAY) -> bytes:
+    """The label of a volume."""
+    text = f"name /usr\nlevel 0\ndate {date}\nsince {since}\nvolume {volume}\nfirst {first}\n".encode()
+    return text + bytes(1024 - len(text))
+
+
+def requests_of(volume: int, first: int, blocks: list[bytes]) -> list[bytes]:
+    """What an attempt sends."""
+    data = [label(volume, first), *blocks]
+    return [
+        b"O/dev/st0\n2\n",
+        b"I5\n1\n",
+        *(b"W%d\n" % len(it) + it for it in data),
+        b"I0\n1\n",
+        b"I6\n1\n",
+        b"C\n",
+    ]
+
+
+PAYLOAD = bytes(range(256)) * 12
+BLOCKS = [PAYLOAD[at : at + 1024] for at in range(0, 3072, 1024)]
+TWO_VOLUMES = "volume 1: 2 blocks from 0\nvolume 2: 1 blocks from 2\ndump complete: 2 volumes, 3 blocks\n"
+
+
+def dumps(p: Programs) -> None:
+    """Whole dumps."""
+    p.file("payload", PAYLOAD)
+    model = Model(Reel("r1", 3100), Reel("r2", 3100))
+    ends("two reels", p.dump(model.address), TWO_VOLUMES, DONE)
+    check("two reels: what is sent", model.logs == [requests_of(1, 0, BLOCKS), requests_of(2, 2, BLOCKS[2:])], model.logs)
+    check("two reels: each request after a reply", not model.ahead)
+    held = [[label(1, 0), *BLOCKS[:2], None], [label(2, 2), BLOCKS[2], None]]
+    check("two reels: the volumes", [it.entries for it in model.bin] == held)
+    check("two reels: dumpdates", p.text("dumpdates") is None)
+    model.stop()
+    for size in (0, 1, 1024, 10 << 20):
+        p.file("payload", os.urandom(size))
+        blocks = -(-size // 1024)
+        capacity = (blocks + 1) * (1024 + 8) + 4
+        with p.listening("--capacity", str(capacity), "--connections", "1") as (address, server):
+            want = f"volume 1: {blocks} blocks from 0\ndump complete: 1 volumes, {blocks} blocks\n"
+            ends(f"a payload of {size} bytes", p.dump(address), want, DONE)
+            check(f"a payload of {size} bytes: the server ends", server.wait(GUARD_SECONDS) == DONE)
+    p.file("payload", b"x")
+    model = Model(Reel("r1", 4096))
+    p.dump(model.address)
+    check("the last block is padded", model.bin[0].entries[1] == b"x" + bytes(1023))
+    model.stop()
+
+
+def dates(p: Programs) -> None:
+    """The base date, and what becomes of dumpdates."""
+    p.file("payload", b"")
+    whole = "volume 1: 0 blocks from 0\ndump complete: 1 volumes, 0 blocks\n"
+    model = Model(*(Reel(f"r{n}", 4096) for n in range(9)))
+    p.file("dumpdates", f"/usr 0 Mon Feb 28 00:00:00 2000\n".encode())
+    ends("a level 1", p.dump(model.address, level="1"), whole, DONE)
+    check("since is the base date", b"level 1\ndate %d\nsince %d\n" % (DAY, DAY_BEFORE) in model.bin[-1].entries[0])
+    check("no update, no change", p.text("dumpdates") == "/usr 0 Mon Feb 28 00:00:00 2000\n")
+    p.file("dumpdates", OLDER.encode())
+    ends("an update", p.dump(model.address, "--update"), whole, DONE)
+    check("an update: the entry", p.text("dumpdates") == OLDER + ENTRY, p.text("dumpdates"))
+    check("an update: no other file", p.text("dumpdates.new") is None)
+    os.remove(p.folder / "dumpdates")
+    ends("an update of no file", p.dump(model.address, "--update"), whole, DONE)
+    check("an update of no file: the entry", p.text("dumpdates") == ENTRY, p.text("dumpdates"))
+    p.folder.joinpath("dumpdates.new").mkdir()
+    ends("an update that fails", p.dump(model.address, "--update", date=str(DAY_BEFORE)), whole + "dumpdates not updated\n", ABNORMAL, "dumpdates")
+    check("an update that fails: unchanged", p.text("dumpdates") == ENTRY)
+    p.folder.joinpath("dumpdates.new").rmdir()
+    missing = p.dump(model.address, "--update", dumpdates="nowhere/dumpdates")
+    ends("an update in no folder", missing, whole + "dumpdates not updated\n", ABNORMAL, "nowhere/dumpdates")
+    before = int(time.time())
+    ends("the clock's date", p.dump(model.address, date=None), whole, DONE)
+    date = int(re.search(rb"date (\d+)", model.bin[-1].entries[0])[1])
+    check("the clock's date: now", before <= date <= time.time(), date)
+    model.stop()
+    full = os.open("/dev/full", os.O_WRONLY)
+    model = Model(Reel("r1", 4096))
+    got = p.dump(model.address, "--update", stdout=full, date=str(DAY_BEFORE))
+    check("nothing can be printed", got.status == ABNORMAL and p.text("dumpdates") == ENTRY, got)
+    os.close(full)
+    model.stop()
+    os.remove(p.folder / "dumpdates")
+
+
+def retries(p: Programs) -> None:
+    """What the operator answers."""
+    p.file("payload", PAYLOAD)
+    p.file("dumpdates", OLDER.encode())
+    first = "volume 1: 2 blocks from 0\nvolume 2 failed: Refused 6\nretry?\n"
+    again = "volume 2 failed: Refused 6\nretry?\n"
+    for title, said, want in (
+        ("no", "no\n", first + "dump abandoned\n"),
+        ("the end", "", first + "dump abandoned\n"),
+        ("a word that begins with yes", "yes!\n", first + "dump abandoned\n"),
+        ("yes, then no", "yes\nno\n", first + again + "dump abandoned\n"),
+        ("yes without a line feed", "yes", first + again + "dump abandoned\n"),
+    ):
+        with p.listening("--capacity", "3100") as (address, _):
+            ends(f"answered by {title}", p.dump(address, "--update", said=said), want, ABNORMAL)
+    check("no dump is entered", p.text("dumpdates") == OLDER)
+    for title, model, fault in (
+        ("a lost reply to the move", Model(Reel("r1", 3100), Reel("r2", 3100), Reel("r3", 3100), lost=(8,)), "ConnectionEnded"),
+        ("a wrong number", Model(Reel("r1", 3100), Reel("r2", 3100), said={3: b"A1023\n"}), "ShortWrite"),
+        ("no reply by the grammar", Model(Reel("r1", 3100), Reel("r2", 3100), said={2: b"X\n"}), "Botched"),
+        ("an error", Model(Reel("r1", 3100), Reel("r2", 3100), said={2: b"E5\nbroken\n"}), "Refused 5"),
+    ):
+        want = f"volume 1 failed: {fault}\nretry?\n" + TWO_VOLUMES
+        ends(title, p.dump(model.address, said="yes\n"), want, DONE)
+        check(f"{title}: the volumes", [len(it.entries) for it in model.bin[-2:]] == [4, 3])
+        model.stop()
+    killed(p)
+
+
+def killed(p: Programs) -> None:
+    """A server that is killed in mid volume, and started again."""
+    p.file("payload", bytes(8 << 20))
+    with p.listening("--capacity", str(16 << 20)) as (address, server):
+        gate = Gate(address, after=1 << 20, then=server.kill)
+        words = [p.rdump, "dump", "--to", gate.address, "--device", DEVICE, "--fs", "/usr", "--level", "0", "--payload", "payload"]
+        words += ["--block", "65536", "--dumpdates", "dumpdates", "--date", str(DAY)]
+        with subprocess.Popen(words, cwd=p.folder, stdin=subprocess.PIPE, stdout=subprocess.PIPE, stderr=subprocess.PIPE) as client:
+            lines = [client.stdout.readline().decode() for _ in range(2)]
+            check("killed: asked", lines == ["volume 1 failed: ConnectionEnded\n", "retry?\n"], lines)
+            with p.listening("--capacity", str(16 << 20)) as (again, _):
+                gate.forward(again)
+                rest, told = client.communicate(b"yes\n", timeout=GUARD_SECONDS)
+            want = "volume 1: 128 blocks from 0\ndump complete: 1 volumes, 128 blocks\n"
+            check("killed: complete", (rest.decode(), client.returncode, told) == (want, DONE, b""), rest, client.returncode, told)
+
+
+class Gate:
+    """Passes connections on to a server, and does something once so many bytes have passed."""
+
+    def __init__(self, address: str, after: int, then: Callable[[], None]) -> None:
+        self.target = address
+        self.left: int | None = after
+        self.then = then
+        self.listener = socket.create_server(("127.0.0.1", 0))
+        self.address = "127.0.0.1:%d" % self.listener.getsockname()[1]
+        threading.Thread(target=self.accept, daemon=True).start()
+
+    def forward(self, address: str) -> None:
+        """Passes on to this server from now on."""
+        self.target, self.left = address, None
+
+    def accept(self) -> None:
+        while True:
+            near, _ = self.listener.accept()
+            host, port = self.target.rsplit(":", 1)
+            far = socket.create_connection((host, int(port)))
+            for source, target in ((near, far), (far, near)):
+                threading.Thread(target=self.carry, args=(source, target), daemon=True).start()
+
+    def carry(self, source: socket.socket, target: socket.socket) -> None:
+        try:
+            while piece := source.recv(65536):
+                if self.left is not None and (left := self.left - len(piece)) <= 0:
+                    self.left = None
+                    self.then()
+                elif self.left is not None:
+                    self.left = left
+                target.sendall(piece)
+        except OSError:
+            pass
+        for end in (source, target):
+            try:
+                end.shutdown(socket.SHUT_RDWR)
+            except OSError:
+                pass
+
+
+def startup(p: Programs) -> None:
+    """What keeps a dump from starting, in this order: words, payload, dumpdates, the values of the run."""
+    p.file("payload", PAYLOAD)
+    p.file("dumpdates", OLDER.encode())
+    p.file("bad", b"\n\nfoo\n")
+    nowhere = "127.0.0.1:1"
+    for name in ("to", "device", "fs", "level", "payload", "block", "dumpdates"):
+        fails(f"no --{name}", p.dump(nowhere, **{name: None}, **({"payload": "missing"} if name != "payload" else {})), f"--{name}")
+    for name, value in (("level", "x"), ("level", ""), ("block", "-1"), ("date", "1.5"), ("block", "99999999999999999999")):
+        fails(f"--{name} {value}", p.dump(nowhere, **{name: value}, payload="missing"), name)
+    fails("a word too many", p.dump(nowhere, "more", payload="missing"), "more")
+    fails("an unknown word", p.dump(nowhere, "--more", payload="missing"), "--more")
+    fails("no payload", p.dump(nowhere, payload="missing", dumpdates="bad", level="10"), "missing")
+    fails("a payload that is a folder", p.dump(nowhere, payload="."), ".")
+    ends("a bad dumpdates file", p.dump(nowhere, dumpdates="bad", level="10"), "line 3: bad line\n", FAILED, "bad")
+    fails("a dumpdates file that is a folder", p.dump(nowhere, dumpdates=".", level="10"), ".")
+    for name, value, fault in (
+        ("device", "", "device"),
+        ("device", "x" * 256, "device"),
+        ("device", "a\nb", "device"),
+        ("fs", "", "name"),
+        ("fs", "a b", "name"),
+        ("fs", "é", "name"),
+        ("level", "10", "level"),
+        ("date", "253402300800", "date"),
+        ("block", "0", "block"),
+        ("block", "65537", "block"),
+    ):
+        fails(f"--{name} {value[:9]!r}", p.dump(nowhere, **{name: value}), fault)
+    first = p.dump(nowhere, device="", fs="", level="10", date="253402300800", block="0")
+    fails("the first limit that is broken", first, "device")
+    ends("no server", p.dump(nowhere), "volume 1 failed: ConnectionEnded\nretry?\ndump abandoned\n", ABNORMAL)
+    ends("no such host", p.dump("no.such.host.invalid:1"), "volume 1 failed: ConnectionEnded\nretry?\ndump abandoned\n", ABNORMAL)
+    check("nothing is entered", p.text("dumpdates") == OLDER)
+
+
+def servers(p: Programs) -> None:
+    """What keeps a server from starting, and when it ends."""
+    taken = socket.create_server(("127.0.0.1", 0))
+    address = "127.0.0.1:%d" % taken.getsockname()[1]
+    fails("a port that is taken", p.run("--listen", address, program=p.rmtd), address)
+    taken.close()
+    for words, fault in (
+        ((), "--stdio"),
+        (("--stdio", "--listen", "127.0.0.1:0"), "--stdio"),
+        (("--listen",), "--listen"),
+        (("--listen", "127.0.0.1:0", "--connections", "x"), "--connections"),
+        (("--listen", "127.0.0.1:0", "--capacity", "9223372036854775808"), "--capacity"),
+        (("--stdio", "/dev/st0=folder"), "/dev/st0=folder"),
+    ):
+        fails(f"rmtd {' '.join(words)}", p.run(*words, program=p.rmtd), fault)
+    fails("no address", p.run("--listen", "nowhere", program=p.rmtd), "nowhere")
+    ends("no connections", p.run("--listen", "127.0.0.1:0", "--connections", "0", program=p.rmtd)._replace(output=""), "", DONE)
+    with p.listening("--connections", "2") as (address, server):
+        for name in ("the first connection", "the second connection"):
+            ends(name, p.run("mt", "--to", address, "--device", DEVICE, "nop", "1"), "A1\n", DONE)
+        check("it ends after two", server.wait(GUARD_SECONDS) == DONE)
+    for program in (p.rmtd, p.rdump):
+        for word in ("--help", "--version"):
+            got = p.run(word, program=program)
+            check(f"{Path(program).name} {word}", got.status == DONE and bool(got.output) and not got.told, got)
+    cut_connections(p)
+
+
+def cut_connections(p: Programs) -> None:
+    """A drive is free again after a connection that is cut anywhere."""
+    text = b"O/dev/st0\n2\nW5\nhelloI5\n1\n"
+    with p.listening() as (address, _):
+        host, port = address.rsplit(":", 1)
+        for length in range(len(text) + 1):
+            with socket.create_connection((host, int(port))) as stream:
+                stream.sendall(text[:length])
+        ends("after connections that were cut", p.run("mt", "--to", address, "--device", DEVICE, "nop", "1"), "A1\n", DONE)
+
+
+def operations(p: Programs) -> None:
+    """What `rdump mt` prints."""
+
+    def mt(address: str, *words: str, device: str = DEVICE) -> Ended:
+        return p.run("mt", "--to", address, "--device", device, *words)
+
+    error = "E5 Input/output error\n"
+    offline = "E6 Device not configured\n"
+    for rows in (
+        ((("weof", "1"), "A1\n", DONE), (("fsf", "1"), "A1\n", DONE), (("fsf", "2"), error, ABNORMAL)),
+        ((("fsr", "1"), error, ABNORMAL), (("bsr", "1"), error, ABNORMAL), (("bsf", "1"), error, ABNORMAL)),
+        ((("rewind", "7"), "A7\n", DONE), (("nop", "0"), "A0\n", DONE), (("weof", "2147483647"), "E28 No space left on device\n", ABNORMAL)),
+        ((("offline", "1"), "A1\n", DONE), (("nop", "1"), offline, ABNORMAL)),
+    ):
+        with p.listening() as (address, _):
+            for words, output, status in rows:
+                ends(f"mt {' '.join(words)}", mt(address, *words), output, status)
+    with p.listening() as (address, _):
+        ends("mt on another drive", mt(address, "nop", "1", device="/dev/st9"), "E2 No such file or directory\n", ABNORMAL)
+        fails("mt of no operation", mt(address, "eject", "1"), "OP")
+        fails("mt of no count", mt(address, "nop"), "COUNT")
+        fails("mt of a bad count", mt(address, "nop", "2147483648"), "count")
+    got = mt("127.0.0.1:1", "nop", "1")
+    check("mt at no server", got.output == "" and got.status == ABNORMAL and "127.0.0.1:1" in got.told, got)
+
+
+def write_volume(address: str, records: list[bytes | None]) -> None:
+    """Writes records and marks, and closes without moving the reel."""
+    host, port = address.rsplit(":", 1)
+    with socket.create_connection((host, int(port))) as stream, stream.makefile("rb") as replies:
+        for text in (b"O/dev/st0\n2\n", *(b"I0\n1\n" if it is None else b"W%d\n" % len(it) + it for it in records), b"C\n"):
+            stream.sendall(text)
+            reply = replies.readline()
+            if not reply.startswith(b"A"):
+                raise RuntimeError(f"the server answered {reply!r}")
+
+
+def reads(p: Programs) -> None:
+    """Volumes that are read back."""
+    text = label(1, 0).rstrip(b"\0").decode()
+    random = os.urandom(10 << 20)
+    blocks = [random[at : at + 65536] for at in range(0, len(random), 65536)]
+    for title, records in (("three blocks", BLOCKS), ("none", []), ("10 MiB", blocks), ("records of one byte", [b"x"] * 1000)):
+        with p.listening("--capacity", str(16 << 20)) as (address, _):
+            write_volume(address, [label(1, 0), *records, None])
+            for turn in ("first", "second"):
+                got = p.run("read", "--to", address, "--device", DEVICE, "--out", "read")
+                ends(f"a volume of {title}, read the {turn} time", got, text, DONE)
+                check(f"a volume of {title}: the bytes", p.folder.joinpath("read").read_bytes() == b"".join(records))
+    with p.listening() as (address, _):
+        words = ("read", "--to", address, "--device", DEVICE)
+        got = p.run("read", "--to", address, "--device", "/dev/st9", "--out", "read")
+        check("a read of another drive", got.output == "" and got.status == ABNORMAL and bool(got.told), got)
+        fails("a read into a folder that is not there", p.run(*words, "--out", "nowhere/read"), "nowhere/read")
+        write_volume(address, [label(1, 0), *BLOCKS, None])
+        got = p.run(*words, "--out", "/dev/full")
+        check("a read into a full file", got.status == ABNORMAL and bool(got.told), got)
+    got = p.run("read", "--to", "127.0.0.1:1", "--device", DEVICE, "--out", "read")
+    check("a read at no server", got.output == "" and got.status == ABNORMAL and bool(got.told), got)
+
+
+def main() -> int:
+    parser = argparse.ArgumentParser(description="Checks the built programs over the loopback.")
+    parser.add_argument("rmtd", nargs="?", default=str(CRATES / "rmtd/out/rmtd"))
+    parser.add_argument("rdump", nargs="?", default=str(CRATES / "rdump/out/rdump"))
+    asked = parser.parse_args()
+    for part in (dumps, dates, retries, startup, servers, operations, reads):
+        with tempfile.TemporaryDirectory() as folder:
+            part(Programs(os.path.abspath(asked.rmtd), os.path.abspath(asked.rdump), Path(folder)))
+    print(f"{COUNT[0]} passed, {COUNT[1]} failed")
+    return 1 if COUNT[1] else 0
+
+
+if __name__ == "__main__":
+    sys.exit(main())
