@@ -1,5 +1,5 @@
 -- Parts of the world, and how an event changes one.
-use Rattle.std.specs.Prelude.{ℕ, zero, suc, ◌+◌, ◌==◌, Bool, true, false, if◌then◌else◌, List, [], ◌∷◌, ◌++◌, length, map, take, drop, option_and_then, option_map, option_to_list, slice_index_or, Option, Some, None}
+use Rattle.std.specs.Prelude.{ℕ, zero, suc, ◌==◌, Bool, true, false, if◌then◌else◌, List, [], ◌∷◌, ◌++◌, length, map, option_and_then, option_map, Option, Some, None}
 use Rattle.rmt_wire.specs.Counted.{raised}
 use Rattle.rmt_wire.specs.Request.{PlainRequest}
 use Rattle.rmt_wire.specs.Request.PlainRequest.{Open, Write, Op}
@@ -9,15 +9,14 @@ use Rattle.rmt_wire.specs.RequestReader.{held}
 use Rattle.drives.specs.Shop.{Shop, Slot, rack_at}
 use Rattle.rmt_server.specs.Access.{writes}
 use Rattle.rmt_server.specs.Session.{PlainSession, closed_shop}
-use Rattle.rmt_server.specs.Session.PlainSession.{Idle, Offline, Online}
+use Rattle.rmt_server.specs.Session.PlainSession.{Idle, Online}
 use Rattle.rmt_server.specs.TroubledServe.{drive_in, with_holder}
 use Rattle.rmt_server.specs.Hall.{Hall, hall, Side, side}
 use Rattle.dump_client.specs.Standing.{Standing, checkpoint_of}
 use Rattle.dump_client.specs.declared.count.VolumeCount.{VolumeCount}
 use Rattle.dump_client.specs.declared.stage.Progress.{Progress}
 use Rattle.dump_client.specs.declared.stage.Progress.TheVariants.{Failed, Ended}
-use Rattle.dump_client.specs.declared.fault.AttemptFault.{AttemptFault}
-use Rattle.tape_events.specs.World.{World, Link, Dumping, Caller, Count, Opening, numbered, with_numbered}
+use Rattle.tape_events.specs.World.{World, Link, Dumping, Count, Opening, numbered, with_numbered}
 
 -- the list with the member of this number changed, if there is one
 abbrev pub changed_from : {X : Type 0} → (X → X) → List X → ℕ → Option X → List X

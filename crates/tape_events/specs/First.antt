@@ -1,5 +1,5 @@
 -- The world before any event.
-use Rattle.std.specs.Prelude.{◌≡◌, ℕ, IsTrue, List, [], length, map, flat_map, replicate, Option, Some, None}
+use Rattle.std.specs.Prelude.{◌≡◌, ℕ, IsTrue, List, [], length, map, flat_map, replicate, Some, None}
 use Rattle.std.specs.Int.{IsInRange}
 use Rattle.drives.specs.Shop.{KeptReel, kept_reel, slot, Rack, rack, shop}
 use Rattle.drives.specs.Arranging.{are_distinct}
@@ -26,8 +26,17 @@ AreGoodDrives drives =
 -- nothing has happened: empty reels, no connection, no run
 abbrev pub first_world : List PlainDrive → World
 first_world drives = record {
-    hall = hall (shop (map blank_rack drives) []) (replicate (length drives) 0) [];
-    links = []; begun = []; caller = None; own = None; counts = []; opens = []; entered = []; failure = None; dates = [] }
+  hall = hall (shop (map blank_rack drives) []) (replicate (length drives) 0) [];
+  links = [];
+  begun = [];
+  caller = None;
+  own = None;
+  counts = [];
+  opens = [];
+  entered = [];
+  failure = None;
+  dates = [];
+}
 
 -- each connection has a server's side, live or over, and each drive a holder, or 0
 pub record IsPaired (w : World) : Type 0 where

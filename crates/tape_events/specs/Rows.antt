@@ -1,38 +1,22 @@
 -- Which events are possible, and what each does.
-use Rattle.std.specs.Prelude.{◌≡◌, ◌⊎◌, ◌≢◌, ℕ, ◌+◌, ◌*◌, ◌<◌, ◌≤◌, Bool, true, false, IsTrue, List, [], ◌∷◌, ◌++◌, length, take, drop, option_map, option_to_list, slice_index_or, slice_get, Contains, Option, Some, None, Result, Ok, Err}
-use Rattle.rmt_wire.specs.Request.{PlainRequest, request_text}
-use Rattle.rmt_wire.specs.Reply.{PlainReply}
+use Rattle.std.specs.Prelude.{◌≡◌, ◌⊎◌, ◌≢◌, ℕ, ◌+◌, ◌*◌, ◌≤◌, Bool, true, false, IsTrue, List, length, slice_index_or, Contains, Option, Some, None, Result, Ok}
+use Rattle.rmt_wire.specs.Request.{PlainRequest}
 use Rattle.rmt_wire.specs.RequestParts.{Gives}
 use Rattle.rmt_wire.specs.RequestReader.{RequestHeld, Unread, taken_of}
-use Rattle.rmt_wire.specs.ReplyReader.{ReplyHeld, reply_held}
 use Rattle.rmt_wire.specs.Limits.{reader_limit}
 use Rattle.rmt_wire.specs.declared.fault.WireFault.{WireFault}
-use Rattle.tape.specs.declared.trouble.Trouble.{Trouble}
 use Rattle.drives.specs.Shop.{IsDriveNamed}
-use Rattle.drives.specs.Arranging.{are_distinct, is_piled, arranged}
+use Rattle.drives.specs.Arranging.{are_distinct, is_piled}
 use Rattle.std.specs.List.{list_all}
-use Rattle.rmt_server.specs.Session.{PlainSession, scene}
-use Rattle.rmt_server.specs.TroubledServe.{TroubledServe}
-use Rattle.rmt_server.specs.Hall.{Hall, hall, Side, side}
-use Rattle.dumpdates.specs.Entry.{DatesEntry}
-use Rattle.dumpdates.specs.Dates.{entered}
-use Rattle.dump_run.specs.Run.{PlainRun, IsRun}
-use Rattle.dump_run.specs.Blocks.{cut_blocks}
-use Rattle.dump_client.specs.Script.{request_of}
-use Rattle.dump_client.specs.Standing.{Standing, standing, checkpoint_of, FedAt, CutAt, stage_after}
-use Rattle.dump_client.specs.Client.{HasFedAt, unanswered}
+use Rattle.rmt_server.specs.Hall.{Hall, Side}
+use Rattle.dump_run.specs.Run.{IsRun}
 use Rattle.dump_client.specs.declared.step.Step.{Step}
-use Rattle.dump_client.specs.declared.step.Step.TheVariants.{Open, Block}
 use Rattle.dump_client.specs.declared.stage.Stage.{Stage}
-use Rattle.dump_client.specs.declared.stage.Stage.TheVariants.{Ready, ToSend, Waiting, Asking, Finished, Abandoned}
-use Rattle.dump_client.specs.declared.stage.Progress.{Progress}
-use Rattle.dump_client.specs.declared.stage.Progress.TheVariants.{Failed}
-use Rattle.dump_client.specs.declared.stage.Answer.{Answer}
-use Rattle.dump_client.specs.declared.fault.AttemptFault.TheVariants.{SourceFault}
-use Rattle.tape_events.specs.World.{World, Link, Dumping, Begun, Caller, Entered, numbered}
+use Rattle.dump_client.specs.declared.stage.Stage.TheVariants.{Ready, ToSend, Asking, Finished, Abandoned}
+use Rattle.tape_events.specs.World.{World, Link, Caller, Entered}
 use Rattle.tape_events.specs.Events.{PlainEvent}
 use Rattle.tape_events.specs.Events.PlainEvent.{StartRun, Connect, Send, ToServer, Serve, ToClient, Cut, EndAtServer, EndAtClient, ServerRestart, ClientRestart, Respond, Arrange, Stranger, Says, Enter}
-use Rattle.tape_events.specs.Changes.{changed, side_of, link_of, calm, joined, sent_on, left, ended, ended_at, restarted, given_up, opened_reel, opening, answered, noted_sent, counted_from, came_to}
+use Rattle.tape_events.specs.Changes.{side_of, link_of}
 
 -- the client stands so
 abbrev pub StandsIn : World → (Stage → Type 0) → Type 0

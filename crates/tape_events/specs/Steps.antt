@@ -1,5 +1,5 @@
 -- What each event does.
-use Rattle.std.specs.Prelude.{◌≡◌, ◌≢◌, ℕ, ◌+◌, Bool, true, false, List, [], ◌∷◌, ◌++◌, length, take, drop, option_map, option_to_list, Option, Some, None, Result, Ok, Err}
+use Rattle.std.specs.Prelude.{◌≡◌, ℕ, ◌+◌, Bool, true, false, List, [], ◌∷◌, ◌++◌, length, take, drop, option_map, option_to_list, Option, Some, None, Result, Ok, Err}
 use Rattle.rmt_wire.specs.Request.{PlainRequest, request_text}
 use Rattle.rmt_wire.specs.Reply.{PlainReply}
 use Rattle.rmt_wire.specs.RequestParts.{Gives}
@@ -24,7 +24,7 @@ use Rattle.dump_client.specs.declared.step.Step.TheVariants.{Open, Block}
 use Rattle.dump_client.specs.declared.stage.Stage.TheVariants.{Ready, ToSend, Waiting, Asking}
 use Rattle.dump_client.specs.declared.stage.Progress.{Progress}
 use Rattle.dump_client.specs.declared.fault.AttemptFault.TheVariants.{SourceFault}
-use Rattle.tape_events.specs.World.{World, Link, Dumping, Begun, Caller, Entered, numbered, with_numbered}
+use Rattle.tape_events.specs.World.{World, Link, Dumping, Begun, Caller, numbered, with_numbered}
 use Rattle.tape_events.specs.Events.{PlainEvent}
 use Rattle.tape_events.specs.Events.PlainEvent.{StartRun, Connect, Send, ToServer, Serve, ToClient, Cut, EndAtServer, EndAtClient, ServerRestart, ClientRestart, Respond, Arrange, Stranger, Says, Enter}
 use Rattle.tape_events.specs.Rows.{Possible}
@@ -36,20 +36,32 @@ caller number at reader = record { number = number; at = at; reader = reader }
 -- a new run, the next number, and a client that is ready
 abbrev pub begun : World → PlainRun → List ℕ → ReplyHeld → World
 begun w run payload reader = record w {
-    begun = w.begun ++ record { run = run; payload = cut_blocks run.blocks run.block_bytes payload } ∷ [];
-    caller = Some (caller (length w.begun + 1) (standing run [] Ready) reader);
-    failure = None }
+  begun = w.begun ++ record { run = run; payload = cut_blocks run.blocks run.block_bytes payload } ∷ [];
+  caller = Some (caller (length w.begun + 1) (standing run [] Ready) reader);
+  failure = None;
+}
 
 -- an attempt that has done nothing
 abbrev pub fresh : Caller → Dumping
-fresh c = record { run = c.number; volume = (checkpoint_of c.at.counts).0; first = (checkpoint_of c.at.counts).1; sent = 0; carried = 0
-    ; label = false; blocks = 0; mark = false; fault = false }
+fresh c = record {
+  run = c.number;
+  volume = (checkpoint_of c.at.counts).0;
+  first = (checkpoint_of c.at.counts).1;
+  sent = 0;
+  carried = 0;
+  label = false;
+  blocks = 0;
+  mark = false;
+  fault = false;
+}
 
 -- the client starts an attempt, on a connection of its own
 abbrev pub connected : World → Caller → World
 connected w c = record (joined w (Some (fresh c))) {
-    caller = Some (caller c.number (standing c.at.run c.at.counts (ToSend Open)) (reply_held None []));
-    own = Some (length w.links + 1); failure = None }
+  caller = Some (caller c.number (standing c.at.run c.at.counts (ToSend Open)) (reply_held None []));
+  own = Some (length w.links + 1);
+  failure = None;
+}
 
 -- a read of the payload fails in this request
 abbrev pub is_failing : Bool → Step → Bool
@@ -59,8 +71,9 @@ is_failing fails step = false
 -- the attempt fails
 abbrev pub failed_read : World → ℕ → Caller → ReplyHeld → World
 failed_read w k c reader = record (given_up w k) {
-    caller = Some (caller c.number (standing c.at.run c.at.counts Asking) reader);
-    failure = Some ((checkpoint_of c.at.counts).0, SourceFault) }
+  caller = Some (caller c.number (standing c.at.run c.at.counts Asking) reader);
+  failure = Some ((checkpoint_of c.at.counts).0, SourceFault);
+}
 
 abbrev pub sent_link : List ℕ → Link → Link
 sent_link text l = record l { toward = sent_on l.cut l.toward text; dump = option_map noted_sent l.dump }
@@ -71,8 +84,10 @@ next_text c payload step =
 
 abbrev pub asked : World → ℕ → Caller → List (List ℕ) → Step → ReplyHeld → World
 asked w k c payload step reader = record w {
-    links = changed (sent_link (next_text c payload step)) w.links k;
-    caller = Some (caller c.number (standing c.at.run c.at.counts (Waiting step)) reader); failure = None }
+  links = changed (sent_link (next_text c payload step)) w.links k;
+  caller = Some (caller c.number (standing c.at.run c.at.counts (Waiting step)) reader);
+  failure = None;
+}
 
 -- The client sends its next request on its own connection, which is k; or, where that is true, a read of the payload fails.
 abbrev pub Sends : Bool → World → ℕ → Caller → List (List ℕ) → Step → World → Type 0
@@ -83,15 +98,17 @@ Sends false w k c payload step u =
 -- so many bytes are pushed
 abbrev pub reached_by : World → ℕ → ℕ → Side → RequestHeld → World
 reached_by w k n s reached = record (calm w) {
-    hall = hall w.hall.shop w.hall.holders (with_numbered w.hall.sides k (Some (side reached s.session)));
-    links = changed (λ l. record l { toward = drop n l.toward }) w.links k }
+  hall = hall w.hall.shop w.hall.holders (with_numbered w.hall.sides k (Some (side reached s.session)));
+  links = changed (λ l. record l { toward = drop n l.toward }) w.links k;
+}
 
 -- one request is carried out, and its reply is on the way back
 abbrev pub carried : World → ℕ → PlainRequest → PlainReply → RequestHeld → Shop → PlainSession → List ℕ → World
 carried w k request reply reached shop session holders = record (calm w) {
-    hall = hall shop holders (with_numbered w.hall.sides k (Some (side reached session)));
-    links = changed (answered request reply) w.links k;
-    opens = w.opens ++ option_to_list (option_map (opening k) (opened_reel request shop session)) }
+  hall = hall shop holders (with_numbered w.hall.sides k (Some (side reached session)));
+  links = changed (answered request reply) w.links k;
+  opens = w.opens ++ option_to_list (option_map (opening k) (opened_reel request shop session));
+}
 
 -- the server's side finds a request, or a fault, which ends it
 abbrev pub Finds : World → ℕ → Trouble → Side → Result (Option PlainRequest) WireFault → List ℕ → World → Type 0
@@ -106,8 +123,10 @@ Finds w k trouble s (Err fault) rest u = u ≡ ended_at (calm w) k
 abbrev pub heard : World → ℕ → ℕ → Caller → Standing → ReplyHeld → Progress → World
 heard w k n c at reader progress =
     came_to (counted_from (record (calm w) {
-        links = changed (λ l. record l { back = drop n l.back }) w.links k; caller = Some (caller c.number at reader) })
-        c.number k (drop (length c.at.counts) at.counts)) k at progress
+      links = changed (λ l. record l { back = drop n l.back }) w.links k;
+      caller = Some (caller c.number at reader);
+    })
+    c.number k (drop (length c.at.counts) at.counts)) k at progress
 
 -- a stranger drops what reaches it
 abbrev pub Hears : Option Dumping → World → ℕ → ℕ → List ℕ → World → Type 0
@@ -138,7 +157,9 @@ entry_of run = record { name = run.name; level = run.level; date = run.date }
 
 abbrev pub recorded : World → Caller → World
 recorded w c = record (calm w) {
-    entered = w.entered ++ record { run = c.number } ∷ []; dates = entered w.dates (entry_of c.at.run) }
+  entered = w.entered ++ record { run = c.number } ∷ [];
+  dates = entered w.dates (entry_of c.at.run);
+}
 
 -- One event, and the world after it. Whether it is possible is said by `Possible`.
 abbrev pub WorldStep : World → PlainEvent → World → Type 0

@@ -1,5 +1,5 @@
 -- A client, a server, and all that ever passed between them: what the headline speaks of.
-use Rattle.std.specs.Prelude.{ℕ, zero, suc, ◌-◌, Bool, List, [], ◌∷◌, slice_get, slice_set, Option, Some, None}
+use Rattle.std.specs.Prelude.{ℕ, zero, suc, Bool, List, slice_get, slice_set, Option, None}
 use Rattle.rmt_wire.specs.ReplyReader.{ReplyHeld}
 use Rattle.dumpdates.specs.Entry.{DatesEntry}
 use Rattle.dump_run.specs.Run.{PlainRun}
