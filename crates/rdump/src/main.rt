@@ -11,7 +11,7 @@ use rmt_tools::{
 };
 use rmt_wire::Counted;
 use std::fs::{self, File};
-use std::io::{IsTerminal, Write};
+use std::io::{IsTerminal, Stderr, Write};
 use std::process::ExitCode;
 use std::{env, io};
 
@@ -111,7 +111,11 @@ fn run_dump(rt: &HostRuntime, line: &DumpLine<'_>, payload: Vec<u8>, since: u64)
 /// Standard error, where it is a terminal.
 fn terminal(rt: &HostRuntime) -> Option<Stderr> {
     let stderr = rt.stderr();
-    if stderr.is_terminal() { Some(stderr) } else { None }
+    if stderr.is_terminal() {
+        Some(stderr)
+    } else {
+        None
+    }
 }
 
 /// Tells which limit of a run its words break, and answers the status.
@@ -162,7 +166,10 @@ fn operate(rt: &HostRuntime, line: MtLine<'_>) -> io::Result<u8>
     let device = line.device.as_bytes();
     let status = mt(rt.alloc(), &mut peer, device, line.op, line.count, &mut out);
     if answer.is_empty() {
-        eprintln!(rt; "rdump: {}: the connection ended before the answer", line.to)?;
+        eprintln!(rt;
+            "rdump: {}: the connection ended before the answer",
+            line.to
+        )?;
     }
     rt.stdout().write_all(&answer)?;
     Ok(status)
