@@ -35,13 +35,13 @@ test: kit ## the gate: each proof from nothing, then the built programs from out
 	test -x $(PROGRAM) -a -x $(CLIENT) || $(MAKE) build
 	python3 tests/rows.py $(PROGRAM)
 	python3 tests/dates.py $(CLIENT)
-	python3 tests/dumps.py $(PROGRAM) $(CLIENT)
+	python3 tests/dump.py $(PROGRAM) $(CLIENT)
 	@cat $(MINUTES)
 
 bench: build ## long streams through the server, beside cat and GNU rmt; a long dumpdates file, beside cat and wc; both readers fed in pieces
 	python3 bench/stdio.py $(PROGRAM)
 	python3 bench/dates.py $(CLIENT)
-	python3 bench/dumps.py $(PROGRAM) $(CLIENT)
+	python3 bench/dump.py $(PROGRAM) $(CLIENT)
 	cd $(FEED) && rt run -- replies 1 1000
 	python3 bench/feed.py $(FEED)/out/feed
 

@@ -304,9 +304,10 @@ def dumps(p: Programs) -> None:
     check("two reels: the volumes", [it.entries for it in model.bin] == held)
     check("two reels: dumpdates", p.text("dumpdates") is None)
     model.stop()
-    for size, capacity in ((0, 4096), (1, 4096), (1024, 4096), (10 << 20, 16 << 20)):
+    for size in (0, 1, 1024, 10 << 20):
         p.file("payload", os.urandom(size))
         blocks = -(-size // 1024)
+        capacity = (blocks + 1) * (1024 + 8) + 4
         with p.listening("--capacity", str(capacity), "--connections", "1") as (address, server):
             want = f"volume 1: {blocks} blocks from 0\ndump complete: 1 volumes, {blocks} blocks\n"
             ends(f"a payload of {size} bytes", p.dump(address), want, DONE)
@@ -455,7 +456,7 @@ def startup(p: Programs) -> None:
     fails("an unknown word", p.dump(nowhere, "--more", payload="missing"), "--more")
     fails("no payload", p.dump(nowhere, payload="missing", dumpdates="bad", level="10"), "missing")
     fails("a payload that is a folder", p.dump(nowhere, payload="."), ".")
-    ends("a bad dumpdates file", p.dump(nowhere, dumpdates="bad", level="10"), "line 3: bad line\n", FAILED)
+    ends("a bad dumpdates file", p.dump(nowhere, dumpdates="bad", level="10"), "line 3: bad line\n", FAILED, "bad")
     fails("a dumpdates file that is a folder", p.dump(nowhere, dumpdates=".", level="10"), ".")
     for name, value, fault in (
         ("device", "", "device"),
@@ -535,7 +536,7 @@ def operations(p: Programs) -> None:
                 ends(f"mt {' '.join(words)}", mt(address, *words), output, status)
     with p.listening() as (address, _):
         ends("mt on another drive", mt(address, "nop", "1", device="/dev/st9"), "E2 No such file or directory\n", ABNORMAL)
-        fails("mt of no operation", mt(address, "eject", "1"), "eject")
+        fails("mt of no operation", mt(address, "eject", "1"), "OP")
         fails("mt of no count", mt(address, "nop"), "COUNT")
         fails("mt of a bad count", mt(address, "nop", "2147483648"), "count")
     got = mt("127.0.0.1:1", "nop", "1")

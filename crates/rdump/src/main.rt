@@ -93,14 +93,18 @@ fn run_dump(rt: &HostRuntime, line: &DumpLine<'_>, payload: Vec<u8>, since: u64)
     });
     let status = if line.update {
         let mut store = DatesFile::new(rt, rt.alloc(), line.dumpdates);
-        dump_and_update(
+        let status = dump_and_update(
             rt.alloc(),
             &mut client,
             &mut peer,
             &mut operator,
             &mut out,
             &mut store,
-        )
+        );
+        if let Some(error) = store.failure() {
+            eprintln!(rt; "rdump: {}: {error}", line.dumpdates)?;
+        }
+        status
     } else {
         dump(rt.alloc(), &mut client, &mut peer, &mut operator, &mut out)
     };

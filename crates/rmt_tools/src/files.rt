@@ -53,12 +53,23 @@ pub struct DatesFile<'a, R: Files<File = File>> {
     rt: &'a R,
     alloc: Global,
     path: &'a str,
+    failure: Option<io::Error>,
 }
 
 impl<'a, R: Files<File = File>> DatesFile<'a, R> {
     /// The file at this path, which need not be there.
     pub fn new(rt: &'a R, alloc: Global, path: &'a str) -> Self {
-        DatesFile { rt, alloc, path }
+        DatesFile {
+            rt,
+            alloc,
+            path,
+            failure: None,
+        }
+    }
+
+    /// Why the last call that failed did, if one has.
+    pub fn failure(&self) -> Option<&io::Error> {
+        self.failure.as_ref()
     }
 
     /// Writes the text to the file beside, and puts that in place of the file.
@@ -88,15 +99,22 @@ impl<'a, R: Files<File = File>> DatesStore for DatesFile<'a, R> {
     ghost takes = { λ _ _ _ _. Unit {0} };
 
     fn read(&mut self, alloc: Global) -> Option<Vec<u8>> {
-        read_or_empty(self.rt, alloc, self.path).ok()
+        match read_or_empty(self.rt, alloc, self.path) {
+            Ok(bytes) => Some(bytes),
+            Err(error) => {
+                self.failure = Some(error);
+                None
+            }
+        }
     }
 
     /// Once the new file has the name of the old one this is done, whatever comes of the folder's sync.
     fn replace(&mut self, text: &[u8]) -> bool {
-        let done = self.put(text).is_ok();
-        if done {
-            let _ = self.sync_folder();
+        if let Err(error) = self.put(text) {
+            self.failure = Some(error);
+            return false;
         }
-        done
+        let _ = self.sync_folder();
+        true
     }
 }

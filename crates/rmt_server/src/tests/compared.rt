@@ -1,9 +1,15 @@
 //! Sessions and streams against the plain server, over requests by chance.
 
+ghost use Rattle.tape.specs.contracts.troubled.TroubledReelReel.TheImpl.{ghosts as of_reel};
+ghost use Rattle.drives.specs.Opening.{kinds};
+ghost use Rattle.rmt_server.specs.State.{state, IsAt};
+ghost use Rattle.drives.specs.contracts.local.LocalHoldsHolds.TheImpl.{ghosts as of_holds};
+ghost use Rattle.drives.specs.contracts.list.ListStacksStacks.TheImpl.{ghosts as of_stacks};
+
 use super::CAPACITY;
 use super::dice::{Dice, next_request};
-use super::fixture::{begin, status_of};
-use super::pieces::Pieces;
+use super::fixture::{Client, Drives, begin};
+use super::pieces::{Pieces, check_at};
 use super::rows::{LARGEST, LARGEST_ANSWERS, ROWS, with_data};
 use super::slow::{Answer, SlowServer, error_text};
 use super::spelled::{spell, spell_answer};
@@ -40,53 +46,136 @@ fn filler(alloc: Global) -> Result<Vec<u8>, Fail> {
     Ok(bytes)
 }
 
-/// A stream of requests by chance, and what the plain server answers.
-fn stream(alloc: Global, seed: usize, capacity: u64) -> Result<(Vec<u8>, Vec<u8>), Fail> {
-    let filler = filler(alloc)?;
-    let mut dice = Dice::new(seed);
-    let mut server = SlowServer::new(alloc, capacity);
+/// The plain server, and requests by chance.
+#[derive(Drop)]
+struct Chance {
+    dice: Dice,
+    server: SlowServer,
+    filler: Vec<u8>,
+}
+
+impl Chance {
+    fn new(alloc: Global, seed: usize, capacity: u64) -> Result<Chance, Fail> {
+        let filler = filler(alloc)?;
+        Ok(Chance {
+            dice: Dice::new(seed),
+            server: SlowServer::new(alloc, capacity),
+            filler,
+        })
+    }
+
+    /// Appends the next request and what the plain server answers.
+    fn append(
+        &mut self,
+        alloc: Global,
+        requests: &mut Vec<u8>,
+        answers: &mut Vec<u8>,
+    ) -> Result<(), Fail> {
+        let request = next_request(&mut self.dice, self.filler.as_slice());
+        spell(alloc, &request, self.dice.pick(3), requests)?;
+        spell_answer(alloc, &self.server.answer(request)?, answers)
+    }
+}
+
+/// Appends requests by chance, and what the plain server answers.
+fn append_all(
+    alloc: Global,
+    chance: &mut Chance,
+    requests: &mut Vec<u8>,
+    answers: &mut Vec<u8>,
+) -> Result<(), Fail> {
+    for _ in 0..REQUESTS {
+        chance.append(alloc, requests, answers)?;
+    }
+    Ok(())
+}
+
+/// The same with a new plain server.
+fn append_stream(
+    alloc: Global,
+    seed: usize,
+    capacity: u64,
+    requests: &mut Vec<u8>,
+    answers: &mut Vec<u8>,
+) -> Result<(), Fail> {
+    let mut chance = Chance::new(alloc, seed, capacity)?;
+    append_all(alloc, &mut chance, requests, answers)
+}
+
+/// Writes a stream of requests by chance, and what the plain server answers, and has it served.
+fn check_written(
+    rt: &impl Abort,
+    alloc: Global,
+    seed: usize,
+    capacity: u64,
+    requests: &mut Vec<u8>,
+    answers: &mut Vec<u8>,
+) -> Result<(), Fail> {
+    append_stream(alloc, seed, capacity, requests, answers)?;
+    for most in &[usize::MAX, 7, 65549] {
+        let input = Pieces::each(requests.as_slice(), *most);
+        check_at(rt, alloc, capacity, input, answers.as_slice(), 0)?;
+    }
+    Ok(())
+}
+
+/// The same with a new stream.
+fn check_stream(rt: &impl Abort, alloc: Global, seed: usize, capacity: u64) -> Result<(), Fail> {
     let mut requests = Vec::new(alloc);
     let mut answers = Vec::new(alloc);
-    for _ in 0..REQUESTS {
-        let request = next_request(&mut dice, filler.as_slice());
-        spell(alloc, &request, dice.pick(3), &mut requests)?;
-        spell_answer(alloc, &server.answer(request)?, &mut answers)?;
-    }
-    Ok((requests, answers))
+    check_written(rt, alloc, seed, capacity, &mut requests, &mut answers)
 }
 
 #[test]
 fn a_stream_by_chance_is_answered_as_the_plain_server_does(rt: HostRuntime) -> Result<(), Fail> {
-    let alloc = rt.alloc();
     for (seed, capacity) in CAPACITIES.iter().enumerate() {
-        let (requests, answers) = stream(alloc, seed, *capacity)?;
-        for most in [usize::MAX, 7, 65549] {
-            let mut output = Vec::new(alloc);
-            let input = Pieces::each(requests.as_slice(), most);
-            assert_eq!(rt; status_of(alloc, input, &mut output, *capacity)?, 0);
-            assert!(rt;
-                output.as_slice() == answers.as_slice(),
-                "{capacity} {most}"
-            );
-        }
+        check_stream(&rt, rt.alloc(), seed, *capacity)?;
     }
     Ok(())
 }
 
-/// Has a session and the plain server carry out requests by chance.
-fn check_session(rt: &impl Abort, alloc: Global, seed: usize, capacity: u64) -> Result<(), Fail> {
-    let filler = filler(alloc)?;
-    let mut dice = Dice::new(seed);
-    let mut server = SlowServer::new(alloc, capacity);
-    let (mut drives, mut session) = begin(alloc, capacity)?;
+/// Has a session and the plain server carry out a request by chance. It tells whether both answer the same.
+fn is_answered(chance: &mut Chance, drives: &mut Drives, session: &mut Client) -> Result<bool, Fail>
+    requires { IsAt (kinds of_holds of_stacks of_reel) (state drives.old session.old) }
+    ensures { IsAt (kinds of_holds of_stacks of_reel) (state drives.new session.new) }
+{
+    let request = next_request(&mut chance.dice, chance.filler.as_slice());
+    let wanted = chance.server.answer(request)?;
+    let reply = session.carry_out(drives, request);
+    Ok(is_same(&reply, &wanted))
+}
+
+/// Has both carry out requests by chance.
+fn check_answers(
+    rt: &impl Abort,
+    chance: &mut Chance,
+    drives: &mut Drives,
+    session: &mut Client,
+) -> Result<(), Fail>
+    requires { IsAt (kinds of_holds of_stacks of_reel) (state drives.old session.old) }
+{
     for at in 0..REQUESTS {
-        let request = next_request(&mut dice, filler.as_slice());
-        let wanted = server.answer(request)?;
-        let reply = session.carry_out(&mut drives, request);
-        assert!(rt; is_same(&reply, &wanted), "{capacity} {at}");
+        assert!(rt; is_answered(chance, drives, session)?, "request {at}");
     }
-    session.end(&mut drives);
+    session.end(drives);
     Ok(())
+}
+
+/// The same with a new session.
+fn check_beside(
+    rt: &impl Abort,
+    alloc: Global,
+    capacity: u64,
+    chance: &mut Chance,
+) -> Result<(), Fail> {
+    let (mut drives, mut session) = begin(alloc, capacity)?;
+    check_answers(rt, chance, &mut drives, &mut session)
+}
+
+/// The same with a new plain server.
+fn check_session(rt: &impl Abort, alloc: Global, seed: usize, capacity: u64) -> Result<(), Fail> {
+    let mut chance = Chance::new(alloc, seed, capacity)?;
+    check_beside(rt, alloc, capacity, &mut chance)
 }
 
 #[test]
@@ -113,35 +202,34 @@ fn answer_next(
     Ok(taken)
 }
 
-/// Appends what the plain server answers to a stream.
+/// Appends what the plain server answers to a stream. It tells whether they are the answers that are wanted then.
 fn answer_all(
     alloc: Global,
     stream: &[u8],
+    want: &[u8],
     wire: &mut RequestReader,
     server: &mut SlowServer,
     answers: &mut Vec<u8>,
-) -> Result<(), Fail> {
+) -> Result<bool, Fail> {
     let mut at = 0usize;
     for _ in 0..REQUESTS {
         let rest = stream.get(at..).unwrap_or(&[]);
         at = at.saturating_add(answer_next(alloc, rest, wire, server, answers)?);
     }
-    Ok(())
+    Ok(answers.as_slice() == want)
 }
 
-/// What the plain server answers to a stream.
-fn slow_answers(alloc: Global, stream: &[u8]) -> Result<Vec<u8>, Fail> {
+/// Whether the plain server answers so.
+fn is_plain(alloc: Global, stream: &[u8], want: &[u8]) -> Result<bool, Fail> {
     let mut wire = RequestReader::new(alloc)?;
     let mut server = SlowServer::new(alloc, CAPACITY);
     let mut answers = Vec::new(alloc);
-    answer_all(alloc, stream, &mut wire, &mut server, &mut answers)?;
-    Ok(answers)
+    answer_all(alloc, stream, want, &mut wire, &mut server, &mut answers)
 }
 
 /// The plain server has to answer so.
 fn check_plain(rt: &impl Abort, alloc: Global, stream: &[u8], want: &[u8]) -> Result<(), Fail> {
-    let answers = slow_answers(alloc, stream)?;
-    assert!(rt; answers.as_slice() == want);
+    assert!(rt; is_plain(alloc, stream, want)?);
     Ok(())
 }
 

@@ -1,8 +1,9 @@
 //! One drive in memory, and one stream that is served with it.
 
-ghost use Rattle.std.specs.Prelude.{◌≡◌, ◌≤◌, IfOk, length};
+ghost use Rattle.std.specs.Prelude.{◌≡◌, ◌≤◌, IfOk, [], length};
 ghost use Rattle.tape.specs.contracts.troubled.TroubledReelReel.TheImpl.{ghosts as of_reel};
 ghost use Rattle.drives.specs.Opening.{kinds};
+ghost use Rattle.rmt_wire.specs.RequestReader.{Unread};
 ghost use Rattle.rmt_server.specs.State.{state, IsAt};
 ghost use Rattle.drives.specs.contracts.local.LocalHoldsHolds.TheImpl.{ghosts as of_holds};
 ghost use Rattle.drives.specs.contracts.list.ListStacksStacks.TheImpl.{ghosts as of_stacks};
@@ -13,6 +14,7 @@ use rmt_wire::{Counted, RequestReader};
 use std::alloc::Global;
 use std::io::{Read, Write};
 use std::test::Fail;
+use tape::Reel;
 
 /// The drives of these tests.
 pub(crate) type Drives = DriveTable<LocalHolds, ListStacks>;
@@ -20,14 +22,16 @@ pub(crate) type Drives = DriveTable<LocalHolds, ListStacks>;
 /// The sessions of these tests.
 pub(crate) type Client = Session<LocalHolds, ListStacks>;
 
-/// What serving came to, how often each end failed, and the drives afterwards with the first one's holder.
-#[derive(Drop)]
+/// What serving came to, how often each end failed, and afterwards the first drive's holder, and how long the first
+/// record of the reel on its stack is, if one is there, with 8 bytes of it at most.
+#[derive(Clone, Copy)]
 pub(crate) struct Ended {
-    pub(crate) ending: Result<Served, ServeFault>,
-    pub(crate) failed_reads: u64,
-    pub(crate) failed_writes: u64,
-    pub(crate) holder: Option<u64>,
-    pub(crate) drives: Drives,
+    ending: Result<Served, ServeFault>,
+    failed_reads: u64,
+    failed_writes: u64,
+    holder: Option<u64>,
+    length: Option<usize>,
+    record: [u8; 8],
 }
 
 impl Ended {
@@ -37,6 +41,25 @@ impl Ended {
             && self.failed_reads == reads
             && self.failed_writes == writes
             && self.holder == Some(0)
+    }
+
+    /// Whether the first record is so, of which 8 bytes are read at most. A reel without one has an empty one.
+    pub(crate) fn has_record(&self, record: &[u8]) -> bool {
+        match self.length {
+            Some(length) => self.record.get(..length) == Some(record),
+            None => false,
+        }
+    }
+
+    /// How the stream ended, as a number: 0 between two requests, 2 inside one, 3 at bytes that are no request, and 1
+    /// where a stream failed.
+    pub(crate) fn status(&self) -> u8 {
+        match self.ending {
+            Ok(Served::End) => 0,
+            Ok(Served::Truncated) => 2,
+            Ok(Served::Broken(_)) => 3,
+            Err(_) => 1,
+        }
     }
 }
 
@@ -77,20 +100,49 @@ pub(crate) fn serve_once<R: Read + Drop, W: Write + Drop>(
     let mut output = Counted::new(output);
     let mut wire = RequestReader::new(alloc)?;
     let (mut drives, mut session) = begin(alloc, capacity)?;
-    let ending = serve(
+    Ok(end_of(
         &mut input,
         &mut output,
         &mut wire,
         &mut session,
         &mut drives,
-    );
-    Ok(Ended {
+    ))
+}
+
+/// Serves the stream, and looks at the drives then.
+fn end_of<R: Read, W: Write>(
+    input: &mut Counted<R>,
+    output: &mut Counted<W>,
+    wire: &mut RequestReader,
+    session: &mut Client,
+    drives: &mut Drives,
+) -> Ended
+    requires at { IsAt (kinds of_holds of_stacks of_reel) (state drives.old session.old) }
+    requires empty { Unread wire.old [] }
+{
+    let ending = serve(input, output, wire, session, drives);
+    let holder = first_holder(drives);
+    let mut record = [0; 8];
+    let length = first_record(drives, &mut record);
+    Ended {
         ending,
         failed_reads: input.failures(),
         failed_writes: output.failures(),
-        holder: first_holder(&mut drives),
-        drives,
-    })
+        holder,
+        length,
+        record,
+    }
+}
+
+/// The length of the first record of the reel on the stack, of which 8 bytes are read at most. None where no reel is.
+fn first_record(drives: &mut Drives, into: &mut [u8; 8]) -> Option<usize> {
+    let drive = drives.stacks.drive(b"/dev/st0")?;
+    let Ok(mut reel) = drives.stacks.latch(drive) else {
+        return None;
+    };
+    let length = reel.read(into).ok();
+    drives.stacks.unlatch(drive, reel);
+    length
 }
 
 /// The number of the seat that holds the drive, or 0. None where no seat is left to ask.
@@ -100,20 +152,4 @@ pub(crate) fn first_holder(drives: &mut Drives) -> Option<u64>
     let drive = drives.stacks.drive(b"/dev/st0")?;
     let mut seat = drives.holds.seat()?;
     Some(drives.holds.holder(&mut seat, drive))
-}
-
-/// How one stream ended, as a number: 0 between two requests, 2 inside one, 3 at bytes that are no request, and 1
-/// where a stream failed.
-pub(crate) fn status_of<R: Read + Drop, W: Write + Drop>(
-    alloc: Global,
-    input: R,
-    output: W,
-    capacity: u64,
-) -> Result<u8, Fail> {
-    match serve_once(alloc, input, output, capacity)?.ending {
-        Ok(Served::End) => Ok(0),
-        Ok(Served::Truncated) => Ok(2),
-        Ok(Served::Broken(_)) => Ok(3),
-        Err(_) => Ok(1),
-    }
 }

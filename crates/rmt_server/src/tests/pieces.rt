@@ -1,9 +1,9 @@
-//! A reader of given pieces, and what a whole stream is answered with.
+//! A reader of given pieces, a writer of wanted bytes, and what a whole stream is answered with.
 
 use super::CAPACITY;
-use super::fixture::status_of;
+use super::fixture::serve_once;
 use std::alloc::Global;
-use std::io::{self, Read};
+use std::io::{self, ErrorKind, Read, Write};
 use std::process::Abort;
 use std::test::Fail;
 
@@ -54,23 +54,81 @@ impl Read for Pieces<'_> {
     }
 }
 
-/// What is answered to the pieces, and with which status.
+/// It takes so many bytes, at most `most` a call. Then it fails, or takes none. It tells whether they were those that
+/// are wanted.
+#[derive(Clone, Copy)]
+pub(crate) struct Wanted<'a> {
+    rest: &'a [u8],
+    is_other: bool,
+    room: usize,
+    most: usize,
+    fails: bool,
+}
+
+impl<'a> Wanted<'a> {
+    /// It takes all.
+    pub(crate) fn all(bytes: &'a [u8]) -> Self {
+        Wanted::narrow(bytes, usize::MAX, usize::MAX, true)
+    }
+
+    /// It takes `room` bytes, at most `most` a call. Then it fails, or takes none.
+    pub(crate) fn narrow(bytes: &'a [u8], room: usize, most: usize, fails: bool) -> Self {
+        Wanted {
+            rest: bytes,
+            is_other: false,
+            room,
+            most,
+            fails,
+        }
+    }
+
+    /// Whether it took the bytes that are wanted, and no others.
+    pub(crate) fn is_met(&self) -> bool {
+        self.rest.is_empty() && !self.is_other
+    }
+}
+
+impl Write for Wanted<'_> {
+    fn write(&mut self, buf: &[u8]) -> io::Result<usize> {
+        if self.room == 0 && self.fails {
+            return Err(ErrorKind::BrokenPipe.into());
+        }
+        let count = buf.len().min(self.room).min(self.most);
+        self.is_other |= self.rest.get(..count) != Some(&buf[..count]);
+        self.rest = self.rest.get(count..).unwrap_or(&[]);
+        self.room -= count;
+        Ok(count)
+    }
+
+    fn flush(&mut self) -> io::Result<()> {
+        Ok(())
+    }
+}
+
+/// What is answered to the pieces with a reel of that capacity, and with which status.
+pub(crate) fn check_at(
+    rt: &impl Abort,
+    alloc: Global,
+    capacity: u64,
+    input: Pieces<'_>,
+    want: &[u8],
+    status: u8,
+) -> Result<(), Fail> {
+    let mut output = Wanted::all(want);
+    let ended = serve_once(alloc, input, &mut output, capacity)?;
+    assert!(rt; ended.status() == status && output.is_met());
+    Ok(())
+}
+
+/// The same with the capacity of these tests.
 pub(crate) fn check(
     rt: &impl Abort,
     alloc: Global,
     input: Pieces<'_>,
     want: &[u8],
     status: u8,
-    name: &str,
 ) -> Result<(), Fail> {
-    let mut output = Vec::new(alloc);
-    assert_eq!(rt;
-        status_of(alloc, input, &mut output, CAPACITY)?,
-        status,
-        "{name}"
-    );
-    assert_eq!(rt; output.as_slice(), want, "{name}");
-    Ok(())
+    check_at(rt, alloc, CAPACITY, input, want, status)
 }
 
 /// The same in one piece, and a byte a piece.
@@ -81,8 +139,8 @@ pub(crate) fn check_pieces(
     want: &[u8],
     status: u8,
 ) -> Result<(), Fail> {
-    check(rt, alloc, Pieces::whole(bytes), want, status, "whole")?;
-    check(rt, alloc, Pieces::each(bytes, 1), want, status, "by bytes")
+    check(rt, alloc, Pieces::whole(bytes), want, status)?;
+    check(rt, alloc, Pieces::each(bytes, 1), want, status)
 }
 
 /// The same in one piece, a byte a piece, and cut in two at every place.
@@ -95,7 +153,7 @@ pub(crate) fn check_cuts(
 ) -> Result<(), Fail> {
     check_pieces(rt, alloc, bytes, want, status)?;
     for at in 0..bytes.len() {
-        check(rt, alloc, Pieces::cut(bytes, at), want, status, "cut")?;
+        check(rt, alloc, Pieces::cut(bytes, at), want, status)?;
     }
     Ok(())
 }

@@ -115,7 +115,7 @@ const LINE_PLACES: [(usize, usize); 4] = [
 fn check_places(rt: &impl Abort, alloc: Global, bytes: &[u8], want: &[u8]) -> Result<(), Fail> {
     for (from, to) in &LINE_PLACES {
         for at in *from..*to {
-            check(rt, alloc, Pieces::cut(bytes, at), want, 0, "cut")?;
+            check(rt, alloc, Pieces::cut(bytes, at), want, 0)?;
         }
     }
     check_pieces(rt, alloc, bytes, want, 0)

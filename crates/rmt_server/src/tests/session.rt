@@ -1,4 +1,4 @@
-//! Each call of a session once.
+//! A session from its beginning to its end, and the steps between.
 
 ghost use Rattle.tape.specs.contracts.troubled.TroubledReelReel.TheImpl.{ghosts as of_reel};
 ghost use Rattle.drives.specs.Opening.{kinds};
@@ -6,43 +6,89 @@ ghost use Rattle.rmt_server.specs.State.{state, IsAt};
 ghost use Rattle.drives.specs.contracts.local.LocalHoldsHolds.TheImpl.{ghosts as of_holds};
 ghost use Rattle.drives.specs.contracts.list.ListStacksStacks.TheImpl.{ghosts as of_stacks};
 
-use super::CAPACITY;
 use super::fixture::{Client, Drives, begin, first_holder};
 use super::talk::check_talk;
 use std::alloc::Global;
 use std::process::Abort;
 use std::test::Fail;
-use tape::Reel;
+use tape::{Reel, Trouble};
 
-/// Whether the first drive is open with its reel, whose device never failed.
-fn is_online(session: &Client) -> bool {
-    match session.reel() {
-        Some((drive, reel)) => drive == 0 && reel.failures() == 0,
-        None => false,
+/// The trouble that is set for the open reel, if one is, the requests then, what they are answered, and how often the
+/// device of the first drive's reel has failed after them.
+pub(crate) type Step = (Option<Trouble>, &'static [u8], &'static [u8], u64);
+
+/// Sets the trouble of the reel that is online.
+fn set(session: &mut Client, drives: &Drives, trouble: Trouble)
+    requires { IsAt (kinds of_holds of_stacks of_reel) (state drives.now session.old) }
+    ensures { IsAt (kinds of_holds of_stacks of_reel) (state drives.now session.new) }
+{
+    session.trouble(trouble);
+}
+
+/// How often the device of the first drive's reel has failed, if that is online.
+fn failures(session: &Client) -> Option<u64> {
+    let (drive, reel) = session.reel()?;
+    if drive == 0 {
+        Some(reel.failures())
+    } else {
+        None
     }
 }
 
-/// The session opens, writes, reads and ends.
+/// Makes one step.
+fn check_step(
+    rt: &impl Abort,
+    alloc: Global,
+    session: &mut Client,
+    drives: &mut Drives,
+    step: Step,
+) -> Result<(), Fail>
+    requires { IsAt (kinds of_holds of_stacks of_reel) (state drives.old session.old) }
+    ensures { IsAt (kinds of_holds of_stacks of_reel) (state drives.new session.new) }
+{
+    let (trouble, requests, want, failed) = step;
+    if let Some(trouble) = trouble {
+        set(session, drives, trouble);
+    }
+    check_talk(rt, alloc, session, drives, requests, want)?;
+    assert!(rt; failures(session) == Some(failed));
+    Ok(())
+}
+
+/// Makes the steps, and ends the session. Nothing is open before and then.
 fn check_session(
     rt: &impl Abort,
     alloc: Global,
     drives: &mut Drives,
     session: &mut Client,
+    steps: &[Step],
 ) -> Result<(), Fail>
     requires { IsAt (kinds of_holds of_stacks of_reel) (state drives.old session.old) }
 {
     assert!(rt; session.reel().is_none());
-    let requests = b"O/dev/st0\n2\nW3\nabcI5\n7\nR2\n";
-    let want = b"A0\nA3\nA7\nA2\nab";
-    check_talk(rt, alloc, session, drives, requests, want)?;
-    assert!(rt; is_online(session));
+    for step in steps {
+        check_step(rt, alloc, session, drives, *step)?;
+    }
     session.end(drives);
     assert!(rt; session.reel().is_none() && first_holder(drives) == Some(0));
     Ok(())
 }
 
+/// The same with a new session, and a reel of 100 bytes.
+pub(crate) fn check_steps(rt: &impl Abort, alloc: Global, steps: &[Step]) -> Result<(), Fail> {
+    let (mut drives, mut session) = begin(alloc, 100)?;
+    check_session(rt, alloc, &mut drives, &mut session, steps)
+}
+
+/// The session opens, writes, rewinds and reads.
+const READ_BACK: [Step; 1] = [(
+    None,
+    b"O/dev/st0\n2\nW3\nabcI5\n7\nR2\n",
+    b"A0\nA3\nA7\nA2\nab",
+    0,
+)];
+
 #[test]
 fn a_session_from_beginning_to_end(rt: HostRuntime) -> Result<(), Fail> {
-    let (mut drives, mut session) = begin(rt.alloc(), CAPACITY)?;
-    check_session(&rt, rt.alloc(), &mut drives, &mut session)
+    check_steps(&rt, rt.alloc(), &READ_BACK)
 }

@@ -1,8 +1,5 @@
 //! Drives, their stacks, the bin and three sessions, kept plainly in lists of names, to compare sessions with.
 
-use std::alloc::Global;
-use std::test::Fail;
-
 /// What a session is asked for.
 #[derive(Clone, Copy)]
 pub(crate) enum Event {
@@ -30,12 +27,13 @@ const AT_REST: SlowSession = SlowSession {
     online: false,
 };
 
-/// Two drives with their stacks, and a bin. Of each reel its name of one byte is kept; a latched reel stays first on
-/// its stack.
-#[derive(Drop)]
+/// Two drives with their stacks, and the first `binned` bytes of a bin. Of each reel its name of one byte is kept; a
+/// latched reel stays first on its stack.
+#[derive(Clone, Copy)]
 pub(crate) struct SlowShop {
-    stacks: Vec<Vec<u8>>,
-    bin: Vec<u8>,
+    stacks: [&'static [u8]; 2],
+    bin: [u8; 3],
+    binned: usize,
     sessions: [SlowSession; 3],
     trouble: bool,
     failures: u64,
@@ -43,30 +41,28 @@ pub(crate) struct SlowShop {
 
 impl SlowShop {
     /// The reels `a` and `b` lie on the first drive's stack, and `c` on the second one's. Nothing is open.
-    pub(crate) fn new(alloc: Global) -> Result<SlowShop, Fail> {
-        let mut stacks = Vec::new(alloc);
-        stacks.push(Vec::from_slice(alloc, b"ab")?)?;
-        stacks.push(Vec::from_slice(alloc, b"c")?)?;
-        Ok(SlowShop {
-            stacks,
-            bin: Vec::new(alloc),
+    pub(crate) fn new() -> SlowShop {
+        SlowShop {
+            stacks: [b"ab", b"c"],
+            bin: [0; 3],
+            binned: 0,
             sessions: [AT_REST; 3],
             trouble: false,
             failures: 0,
-        })
+        }
     }
 
     /// The names on the drive's stack.
-    pub(crate) fn stack(&self, drive: usize) -> &[u8] {
+    pub(crate) fn stack(&self, drive: usize) -> &'static [u8] {
         match self.stacks.get(drive) {
-            Some(stack) => stack.as_slice(),
+            Some(stack) => stack,
             None => &[],
         }
     }
 
     /// The names in the bin.
     pub(crate) fn bin(&self) -> &[u8] {
-        self.bin.as_slice()
+        self.bin.get(..self.binned).unwrap_or(&[])
     }
 
     /// Whether the stacks and the bin have these names.
@@ -97,22 +93,22 @@ impl SlowShop {
     }
 
     /// What the session of that number answers: the number of a reply that it was done, or the one that errno has.
-    pub(crate) fn answer(&mut self, number: usize, event: Event) -> Result<u32, Fail> {
+    pub(crate) fn answer(&mut self, number: usize, event: Event) -> u32 {
         match event {
-            Event::Open(drive) => Ok(self.open(number, drive)),
+            Event::Open(drive) => self.open(number, drive),
             Event::OpenForNone => {
                 self.close(number);
-                Ok(22)
+                22
             }
             Event::Offline => self.offline(number),
-            Event::Close => Ok(self.close(number)),
+            Event::Close => self.close(number),
             Event::End => {
                 self.close(number);
-                Ok(0)
+                0
             }
             Event::Trouble => {
                 self.trouble = true;
-                Ok(0)
+                0
             }
         }
     }
@@ -162,28 +158,39 @@ impl SlowShop {
         0
     }
 
-    fn offline(&mut self, number: usize) -> Result<u32, Fail> {
+    fn offline(&mut self, number: usize) -> u32 {
         let session = self.session(number);
         let Some(drive) = session.open else {
-            return Ok(9);
+            return 9;
         };
         if !session.online {
-            return Ok(6);
+            return 6;
         }
         if self.fails() {
-            return Ok(5);
+            return 5;
         }
-        if let Some(stack) = self.stacks.get_mut(drive) {
-            if !stack.is_empty() {
-                self.bin.push(stack.remove(0))?;
-            }
-        }
+        self.move_to_bin(drive);
         let session = SlowSession {
             online: false,
             ..session
         };
         self.put(number, session);
-        Ok(1)
+        1
+    }
+
+    /// The first reel of the drive's stack goes to the bin.
+    fn move_to_bin(&mut self, drive: usize) {
+        let [first, rest @ ..] = self.stack(drive) else {
+            return;
+        };
+        if let Some(stack) = self.stacks.get_mut(drive) {
+            *stack = rest;
+        }
+        let binned = self.binned;
+        if let Some(place) = self.bin.get_mut(binned) {
+            *place = *first;
+            self.binned = binned.saturating_add(1);
+        }
     }
 
     fn close(&mut self, number: usize) -> u32 {

@@ -6,9 +6,10 @@ ghost use Rattle.drives.specs.Opening.{kinds};
 ghost use Rattle.rmt_server.specs.State.{state, IsAt};
 ghost use Rattle.rmt_server.specs.Replies.{IsSayable};
 
+use super::pieces::Wanted;
 use crate::Session;
 use drives::{DriveTable, Holds, Stacks};
-use rmt_wire::{NUMBER_LIMIT, Request, RequestReader, push_reply};
+use rmt_wire::{Counted, NUMBER_LIMIT, Request, RequestReader, write_reply};
 use std::alloc::Global;
 use std::process::Abort;
 use std::test::Fail;
@@ -26,12 +27,12 @@ fn is_sayable(request: &Request<'_>) -> bool
     }
 }
 
-/// Has the session carry out the reader's next request, if there is one, and appends the reply.
+/// Has the session carry out the reader's next request, if there is one, and writes the reply.
 fn answer_next<H: Holds, S: Stacks>(
     wire: &mut RequestReader,
     session: &mut Session<H, S>,
     drives: &mut DriveTable<H, S>,
-    replies: &mut Vec<u8>,
+    replies: &mut Counted<Wanted<'_>>,
 ) -> Result<(), Fail>
     requires { IsAt (kinds H.Holds S.Stacks S.Reel.Reel) (state drives.old session.old) }
     ensures { IsAt (kinds H.Holds S.Stacks S.Reel.Reel) (state drives.new session.new) }
@@ -43,32 +44,34 @@ fn answer_next<H: Holds, S: Stacks>(
         return Err(Fail::new("no reply says that count"));
     }
     let reply = session.carry_out(drives, request);
-    push_reply(replies, &reply)?;
-    Ok(())
-}
-
-/// What the session answers to the requests that these bytes are.
-fn talk<H: Holds, S: Stacks>(
-    alloc: Global,
-    session: &mut Session<H, S>,
-    drives: &mut DriveTable<H, S>,
-    requests: &[u8],
-) -> Result<Vec<u8>, Fail>
-    requires { IsAt (kinds H.Holds S.Stacks S.Reel.Reel) (state drives.old session.old) }
-    ensures { IsAt (kinds H.Holds S.Stacks S.Reel.Reel) (state drives.new session.new) }
-{
-    let mut wire = RequestReader::new(alloc)?;
-    let mut replies = Vec::new(alloc);
-    if wire.push(requests) < requests.len() {
-        return Err(Fail::new("no room"));
+    match write_reply(replies, &reply) {
+        Ok(()) => Ok(()),
+        Err(_) => Err(Fail::new("no room for the reply")),
     }
-    for _ in 0..REQUESTS {
-        answer_next(&mut wire, session, drives, &mut replies)?;
-    }
-    Ok(replies)
 }
 
 /// Has the session carry out the requests that these bytes are, which it has to answer with those.
+fn talk<H: Holds, S: Stacks>(
+    rt: &impl Abort,
+    wire: &mut RequestReader,
+    session: &mut Session<H, S>,
+    drives: &mut DriveTable<H, S>,
+    requests: &[u8],
+    want: &[u8],
+) -> Result<(), Fail>
+    requires { IsAt (kinds H.Holds S.Stacks S.Reel.Reel) (state drives.old session.old) }
+    ensures { IsAt (kinds H.Holds S.Stacks S.Reel.Reel) (state drives.new session.new) }
+{
+    let mut replies = Counted::new(Wanted::all(want));
+    assert!(rt; wire.push(requests) == requests.len());
+    for _ in 0..REQUESTS {
+        answer_next(wire, session, drives, &mut replies)?;
+    }
+    assert!(rt; replies.into_inner().is_met());
+    Ok(())
+}
+
+/// The same with a new reader.
 pub(crate) fn check_talk<H: Holds, S: Stacks>(
     rt: &impl Abort,
     alloc: Global,
@@ -80,7 +83,6 @@ pub(crate) fn check_talk<H: Holds, S: Stacks>(
     requires { IsAt (kinds H.Holds S.Stacks S.Reel.Reel) (state drives.old session.old) }
     ensures { IsAt (kinds H.Holds S.Stacks S.Reel.Reel) (state drives.new session.new) }
 {
-    let replies = talk(alloc, session, drives, requests)?;
-    assert_eq!(rt; replies.as_slice(), want);
-    Ok(())
+    let mut wire = RequestReader::new(alloc)?;
+    talk(rt, &mut wire, session, drives, requests, want)
 }

@@ -17,7 +17,6 @@ use crate::{Session, more_seats, one_holder, stacks_trouble};
 use drives::{DriveTable, Holds, ListStacks, ListedReel, LocalHolds, LocalSeat, Stacks};
 use rmt_wire::{Reply, Request};
 use std::alloc::Global;
-use std::process::Abort;
 use std::test::Fail;
 
 type Drives = DriveTable<LocalHolds, ListStacks>;
@@ -251,18 +250,10 @@ fn is_like(three: &mut Three, slow: &SlowShop, number: usize) -> bool {
         && has_reels(&three.drives.stacks, slow)
 }
 
-/// Has both do one thing, and compares what they answer and what is there then. It gives the answer.
-fn step(
-    rt: &impl Abort,
-    three: &mut Three,
-    slow: &mut SlowShop,
-    number: usize,
-    event: Event,
-) -> Result<u32, Fail> {
-    let answer = slow.answer(number, event)?;
-    assert_eq!(rt; three.answer(number, event), answer);
-    assert!(rt; is_like(three, slow, number));
-    Ok(answer)
+/// Has both do one thing, and compares what they answer and what is there then.
+fn is_step(three: &mut Three, slow: &mut SlowShop, number: usize, event: Event) -> bool {
+    let answer = slow.answer(number, event);
+    three.answer(number, event) == answer && is_like(three, slow, number)
 }
 
 /// What a session can be asked for in the lists.
@@ -277,44 +268,19 @@ const EVENTS: [Event; 5] = [
 /// How many things there are to do: each event by each session.
 const KINDS: usize = 15;
 
-/// Does so many things, of which the number has one digit each, with the plain sessions beside.
-fn do_list(
-    rt: &impl Abort,
-    three: &mut Three,
-    slow: &mut SlowShop,
-    length: usize,
-    list: usize,
-) -> Result<(), Fail> {
+/// Does so many things, of which the number has one digit each, with the plain sessions beside. It tells whether all
+/// was the same.
+fn is_list(three: &mut Three, length: usize, list: usize) -> bool {
+    let mut slow = SlowShop::new();
     let mut rest = list;
     for _ in 0..length {
         let event = EVENTS.get(rest % 5).copied().unwrap_or(Event::End);
-        let _ = step(rt, three, slow, 1 + rest / 5 % 3, event)?;
+        if !is_step(three, &mut slow, 1 + rest / 5 % 3, event) {
+            return false;
+        }
         rest /= KINDS;
     }
-    Ok(())
-}
-
-/// Does the same with new sessions.
-fn run(rt: &impl Abort, alloc: Global, length: usize, list: usize) -> Result<(), Fail> {
-    let mut slow = SlowShop::new(alloc)?;
-    let mut three = Three::new(alloc)?;
-    do_list(rt, &mut three, &mut slow, length, list)
-}
-
-#[test]
-fn every_three_requests_of_three_sessions(rt: HostRuntime) -> Result<(), Fail> {
-    for list in 0..3375 {
-        run(&rt, rt.alloc(), 3, list)?;
-    }
-    Ok(())
-}
-
-#[test]
-fn every_four_requests_of_three_sessions(rt: HostRuntime) -> Result<(), Fail> {
-    for list in 0..50625 {
-        run(&rt, rt.alloc(), 4, list)?;
-    }
-    Ok(())
+    true
 }
 
 /// A row: the session, what it is asked for and answers, and who holds each drive then.
@@ -377,55 +343,104 @@ const FAILED_MOVE: [Row; 4] = [
     (1, Event::Offline, 1, 1, 0),
 ];
 
-/// Does what the row of that number says, with the plain sessions beside.
-fn check_row(
-    rt: &impl Abort,
-    three: &mut Three,
-    slow: &mut SlowShop,
-    at: usize,
-    row: Row,
-) -> Result<(), Fail> {
-    let (number, event, wanted, first, second) = row;
-    let answer = step(rt, three, slow, number, event)?;
-    let is_wanted = answer == wanted && slow.holder(0) == first && slow.holder(1) == second;
-    assert!(rt; is_wanted, "row {at}");
-    Ok(())
+/// The same up to the failure: the reel lies where it was.
+const MET_ONCE: [Row; 3] = [
+    (1, Event::Open(0), 0, 1, 0),
+    (1, Event::Trouble, 0, 1, 0),
+    (1, Event::Offline, 5, 1, 0),
+];
+
+/// Does what the row says, with the plain sessions beside. It tells whether all is as in the row.
+fn is_row(three: &mut Three, slow: &mut SlowShop, row: &Row) -> bool {
+    let (number, event, wanted, first, second) = *row;
+    slow.answer(number, event) == wanted
+        && three.answer(number, event) == wanted
+        && is_like(three, slow, number)
+        && slow.holder(0) == first
+        && slow.holder(1) == second
 }
 
-/// Does what the rows say. Then the stacks and the bin have reels of these names.
-fn do_rows(
-    rt: &impl Abort,
-    three: &mut Three,
-    slow: &mut SlowShop,
-    rows: &[Row],
-    names: [&[u8]; 3],
-) -> Result<(), Fail> {
-    for (at, row) in rows.iter().enumerate() {
-        check_row(rt, three, slow, at, *row)?;
+/// Rows, and the names of the reels that the stacks and the bin have then.
+#[derive(Clone, Copy)]
+struct Table {
+    rows: &'static [Row],
+    names: [&'static [u8]; 3],
+}
+
+/// Does what the rows say. It tells whether all is as in the table.
+fn is_table(three: &mut Three, table: &Table) -> bool {
+    let mut slow = SlowShop::new();
+    for row in table.rows {
+        if !is_row(three, &mut slow, row) {
+            return false;
+        }
     }
-    assert!(rt; slow.has_names(names));
-    Ok(())
+    slow.has_names(table.names)
+}
+
+/// What new sessions do.
+#[derive(Clone, Copy)]
+enum Plan<'a> {
+    /// What the rows say.
+    Table(&'a Table),
+    /// So many things, of which the number has one digit each.
+    List(usize, usize),
+}
+
+/// Does what the plan says. It tells whether all was as it has to be.
+fn is_plan(three: &mut Three, plan: Plan<'_>) -> bool {
+    match plan {
+        Plan::Table(table) => is_table(three, table),
+        Plan::List(length, list) => is_list(three, length, list),
+    }
 }
 
 /// Does the same with new sessions.
-fn check_rows(rt: &impl Abort, alloc: Global, rows: &[Row], names: [&[u8]; 3]) -> Result<(), Fail> {
-    let mut slow = SlowShop::new(alloc)?;
+fn is_met(alloc: Global, plan: Plan<'_>) -> Result<bool, Fail> {
     let mut three = Three::new(alloc)?;
-    do_rows(rt, &mut three, &mut slow, rows, names)
+    Ok(is_plan(&mut three, plan))
 }
+
+const SHARED: [Table; 6] = [
+    Table {
+        rows: &TWO_SESSIONS,
+        names: [b"ab", b"c", b""],
+    },
+    Table {
+        rows: &REFUSED,
+        names: [b"b", b"c", b"a"],
+    },
+    Table {
+        rows: &AWAY,
+        names: [b"b", b"", b"ca"],
+    },
+    Table {
+        rows: &FAILED_LATCH,
+        names: [b"b", b"c", b"a"],
+    },
+    Table {
+        rows: &FAILED_MOVE,
+        names: [b"b", b"c", b"a"],
+    },
+    Table {
+        rows: &MET_ONCE,
+        names: [b"ab", b"c", b""],
+    },
+];
 
 #[test]
 fn drives_are_shared_as_was_written_by_hand(rt: HostRuntime) -> Result<(), Fail> {
-    let alloc = rt.alloc();
-    check_rows(&rt, alloc, &TWO_SESSIONS, [b"ab", b"c", b""])?;
-    check_rows(&rt, alloc, &REFUSED, [b"b", b"c", b"a"])?;
-    check_rows(&rt, alloc, &AWAY, [b"b", b"", b"ca"])
+    for table in &SHARED {
+        assert!(rt; is_met(rt.alloc(), Plan::Table(table))?);
+    }
+    Ok(())
 }
 
+/// Lists of fewer things are the beginnings of these.
 #[test]
-fn a_latch_or_a_move_that_is_told_to_fail_fails_once(rt: HostRuntime) -> Result<(), Fail> {
-    let alloc = rt.alloc();
-    check_rows(&rt, alloc, &FAILED_LATCH, [b"b", b"c", b"a"])?;
-    check_rows(&rt, alloc, &FAILED_MOVE[..3], [b"ab", b"c", b""])?;
-    check_rows(&rt, alloc, &FAILED_MOVE, [b"b", b"c", b"a"])
+fn every_four_requests_of_three_sessions(rt: HostRuntime) -> Result<(), Fail> {
+    for list in 0..50625 {
+        assert!(rt; is_met(rt.alloc(), Plan::List(4, list))?, "list {list}");
+    }
+    Ok(())
 }

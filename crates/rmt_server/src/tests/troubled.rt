@@ -1,21 +1,8 @@
 //! What a session answers while the device of its reel fails.
 
-ghost use Rattle.tape.specs.contracts.troubled.TroubledReelReel.TheImpl.{ghosts as of_reel};
-ghost use Rattle.drives.specs.Opening.{kinds};
-ghost use Rattle.rmt_server.specs.State.{state, IsAt};
-ghost use Rattle.drives.specs.contracts.local.LocalHoldsHolds.TheImpl.{ghosts as of_holds};
-ghost use Rattle.drives.specs.contracts.list.ListStacksStacks.TheImpl.{ghosts as of_stacks};
-
-use super::fixture::{Client, Drives, begin};
-use super::talk::check_talk;
-use std::alloc::Global;
-use std::process::Abort;
+use super::session::{Step, check_steps};
 use std::test::Fail;
-use tape::{Reel, Trouble};
-
-/// The trouble that is set for the open reel, if one is, the requests then, what they are answered, and how often the
-/// reel's device has failed after them.
-type Step = (Option<Trouble>, &'static [u8], &'static [u8], u64);
+use tape::Trouble;
 
 /// The records `abc` and `de`, and the place between them.
 const TWO_RECORDS: Step = (
@@ -26,49 +13,6 @@ const TWO_RECORDS: Step = (
 );
 
 const FAILED: &[u8] = b"E5\nInput/output error\n";
-
-/// Sets the trouble of the reel that is online.
-fn set(session: &mut Client, drives: &Drives, trouble: Trouble)
-    requires { IsAt (kinds of_holds of_stacks of_reel) (state drives.now session.old) }
-    ensures { IsAt (kinds of_holds of_stacks of_reel) (state drives.now session.new) }
-{
-    session.trouble(trouble);
-}
-
-/// How often the device of the reel has failed.
-fn failures(session: &Client) -> Option<u64> {
-    let (_, reel) = session.reel()?;
-    Some(reel.failures())
-}
-
-/// Makes one step.
-fn check_step(
-    rt: &impl Abort,
-    alloc: Global,
-    session: &mut Client,
-    drives: &mut Drives,
-    step: Step,
-) -> Result<(), Fail>
-    requires { IsAt (kinds of_holds of_stacks of_reel) (state drives.old session.old) }
-    ensures { IsAt (kinds of_holds of_stacks of_reel) (state drives.new session.new) }
-{
-    let (trouble, requests, want, failed) = step;
-    if let Some(trouble) = trouble {
-        set(session, drives, trouble);
-    }
-    check_talk(rt, alloc, session, drives, requests, want)?;
-    assert_eq!(rt; failures(session), Some(failed));
-    Ok(())
-}
-
-/// Makes the steps, with a reel of 100 bytes.
-fn check_steps(rt: &impl Abort, alloc: Global, steps: &[Step]) -> Result<(), Fail> {
-    let (mut drives, mut session) = begin(alloc, 100)?;
-    for step in steps {
-        check_step(rt, alloc, &mut session, &mut drives, *step)?;
-    }
-    Ok(())
-}
 
 /// A write of `x` behind `abc` meets the trouble. Then the place is read, the records from the beginning, and `x` is
 /// written behind `abc`.

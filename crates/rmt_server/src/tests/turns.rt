@@ -1,10 +1,13 @@
 //! A client that sends its next request only once the one before is answered.
 
 use super::CAPACITY;
-use super::fixture::status_of;
+use super::fixture::serve_once;
+use super::pieces::Wanted;
 use super::script::{READ_BACK, READ_BACK_ANSWERS, answered_of};
+use std::alloc::Global;
 use std::cell::Cell;
 use std::io::{self, ErrorKind, Read, Write};
+use std::process::Abort;
 use std::test::Fail;
 
 /// It gives `READ_BACK`, at most `most` bytes a call and never bytes of two requests. It fails where the answers to
@@ -42,18 +45,19 @@ impl Read for Asking<'_> {
     }
 }
 
-/// It keeps what was written, and says how much.
+/// It says how much was written.
 #[derive(Drop)]
 struct Answers<'a> {
     answered: &'a Cell<usize>,
-    taken: &'a mut Vec<u8>,
+    taken: &'a mut Wanted<'static>,
 }
 
 impl Write for Answers<'_> {
     fn write(&mut self, buf: &[u8]) -> io::Result<usize> {
-        self.taken.extend_from_slice(buf)?;
-        self.answered.set(self.taken.len());
-        Ok(buf.len())
+        let count = self.taken.write(buf)?;
+        let before = self.answered.get();
+        self.answered.set(before.saturating_add(count));
+        Ok(count)
     }
 
     fn flush(&mut self) -> io::Result<()> {
@@ -61,25 +65,29 @@ impl Write for Answers<'_> {
     }
 }
 
+/// The client gives at most `most` bytes a call.
+fn check_turns(rt: &impl Abort, alloc: Global, most: usize) -> Result<(), Fail> {
+    let answered = Cell::new(0usize);
+    let mut taken = Wanted::all(READ_BACK_ANSWERS);
+    let input = Asking {
+        answered: &answered,
+        given: 0,
+        next: 0,
+        at: 0,
+        most,
+        is_early: false,
+    };
+    let output = Answers {
+        answered: &answered,
+        taken: &mut taken,
+    };
+    let ended = serve_once(alloc, input, output, CAPACITY)?;
+    assert!(rt; ended.status() == 0 && taken.is_met());
+    Ok(())
+}
+
 #[test]
 fn each_request_is_answered_before_the_next_is_read(rt: HostRuntime) -> Result<(), Fail> {
-    for most in [usize::MAX, 1] {
-        let answered = Cell::new(0usize);
-        let mut taken = Vec::new(rt.alloc());
-        let input = Asking {
-            answered: &answered,
-            given: 0,
-            next: 0,
-            at: 0,
-            most,
-            is_early: false,
-        };
-        let output = Answers {
-            answered: &answered,
-            taken: &mut taken,
-        };
-        assert_eq!(rt; status_of(rt.alloc(), input, output, CAPACITY)?, 0);
-        assert_eq!(rt; taken.as_slice(), READ_BACK_ANSWERS);
-    }
-    Ok(())
+    check_turns(&rt, rt.alloc(), usize::MAX)?;
+    check_turns(&rt, rt.alloc(), 1)
 }
