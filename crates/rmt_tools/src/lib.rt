@@ -9,6 +9,7 @@ mod files;
 mod listening;
 mod memory_server;
 mod payload;
+mod progress;
 mod stdio;
 #[cfg(test)]
 mod tests;
@@ -21,6 +22,7 @@ pub use files::{DatesFile, read_or_empty, read_steady, seconds_now};
 pub use listening::serve_connections;
 pub use memory_server::MemoryServer;
 pub use payload::{DumperFault, dumper};
+pub use progress::{Clearing, Gauge, ProgressLine, Shown};
 pub use rmt_peer::{ReadFault, SocketPeer, copy_volume, dump, mt, read_volume};
 pub use rmt_words::{
     DumpLine, LineFault, MtLine, RdumpLine, ReadLine, ServerLine, rdump_words, server_line,
