@@ -5,5 +5,6 @@ mod dump;
 mod failing;
 mod link;
 mod listening;
+mod memory_peer;
 mod rows;
 mod updates;
