@@ -48,7 +48,7 @@ impl Log {
     pub(super) fn connect(&mut self) -> bool
         ensures { Logs IsLogOf self.old self.new (where_so result (Connected ∷ [])) }
     {
-        self.settle() && self.passed.push(Passed::Connected).is_ok()
+        self.settle() && push_connected(&mut self.passed)
     }
 
     /// These bytes were sent. Answers whether that could be logged.
@@ -86,6 +86,13 @@ fn push_ends(passed: &mut Vec<Passed>, ends: u64) -> bool
         return false;
     };
     passed.resize(all, Passed::Ended).is_ok()
+}
+
+/// Appends that a connection was made. Answers whether memory was had.
+fn push_connected(passed: &mut Vec<Passed>) -> bool
+    ensures { passed.new.items ≡ passed.old.items ++ where_so result (Connected ∷ []) }
+{
+    passed.push(Passed::Connected).is_ok()
 }
 
 /// Appends that these bytes were sent. Answers whether memory was had.
