@@ -1,8 +1,9 @@
 -- The log that a peer in memory keeps.
-use Rattle.std.proofs.Common.{◌≡◌, ℕ, ◌+◌, ◌-◌, ◌^◌, ◌<◌, min, Bool, true, false, List, [], ◌∷◌, ◌++◌, replicate, refl, sym, ap, subst, ◌∙◌, append-nil, append_assoc, arith}
+use Rattle.std.proofs.Common.{◌≡◌, ℕ, ◌+◌, ◌-◌, ◌^◌, ◌<◌, ◌≤◌, min, Bool, true, false, List, [], ◌∷◌, ◌++◌, replicate, map, take, length, length-take, refl, sym, ap, subst, ◌∙◌, append-nil, append_assoc, arith}
 use Rattle.std.proofs.lemmas.List.{replicate_more}
+use Rattle.rmt_peer.specs.Peer.{Logs, given}
 use Rattle.rmt_peer.specs.declared.peer.Passed.{Passed}
-use Rattle.rmt_peer.specs.declared.peer.Passed.TheVariants.{Ended}
+use Rattle.rmt_peer.specs.declared.peer.Passed.TheVariants.{Given, Ended}
 use Rattle.rmt_tools.specs.Telling.{KeptLog, kept_log, IsLogOf, where_so}
 
 -- one end more
@@ -32,3 +33,44 @@ logged kept passed ends after more view none all log h =
 pub refused : (kept : KeptLog) (result : Bool) (more : List Passed) → result ≡ false
     → (log : List Passed) → IsLogOf kept (log ++ []) → IsLogOf kept (log ++ where_so result more)
 refused kept result more e log h = subst (λ r. IsLogOf kept (log ++ where_so r more)) (sym e) h
+
+module _ (old between new : KeptLog) (passed : List Passed) where
+  -- what passes after nothing did
+  pub after_none : Logs IsLogOf old between [] → Logs IsLogOf between new passed → Logs IsLogOf old new passed
+  after_none none some log h = some log (subst (IsLogOf between) (append-nil log) (none log h))
+
+  -- the log is seen in another place
+  pub from_seen : between ≡ old → Logs IsLogOf between new passed → Logs IsLogOf old new passed
+  from_seen e logs = subst (λ k. Logs IsLogOf k new passed) e logs
+
+module _ (old new : KeptLog) (result : Bool) (passed : List Passed) where
+  -- nothing passes where a call was refused
+  pub none_where : result ≡ false → Logs IsLogOf old new (where_so result passed) → Logs IsLogOf old new []
+  none_where e logs = subst (λ r. Logs IsLogOf old new (where_so r passed)) e logs
+
+  pub all_where : result ≡ true → Logs IsLogOf old new (where_so result passed) → Logs IsLogOf old new passed
+  all_where e logs = subst (λ r. Logs IsLogOf old new (where_so r passed)) e logs
+
+-- into room that there is none is given at the end, and else what is given
+into_room : (room : List ℕ) → 0 < length room → given room [] ≡ Ended ∷ []
+into_room [] some = absurd (omega (arith, some))
+into_room (r ∷ room) some = refl
+
+some_bytes : (r : ℕ) (room bytes : List ℕ) → 0 < length bytes → given (r ∷ room) bytes ≡ map Given bytes
+some_bytes r room [] some = absurd (omega (arith, some))
+some_bytes r room (b ∷ bytes) some = refl
+
+some_given : (room : List ℕ) (n : ℕ) → n ≤ length room → (n ≡ 0 → ⊥) → given room (take n room) ≡ map Given (take n room)
+some_given [] n within some = absurd (some (omega (arith, within)))
+some_given (r ∷ room) n within some = some_bytes r room (take n (r ∷ room)) (omega (arith, length-take n (r ∷ room)))
+
+module _ (old new : KeptLog) (room : List ℕ) where
+  pub end_given : 0 < length room → Logs IsLogOf old new (Ended ∷ []) → Logs IsLogOf old new (given room [])
+  end_given some logs = subst (Logs IsLogOf old new) (sym (into_room room some)) logs
+
+  pub bytes_given : (n : ℕ) → n ≤ length room → (n ≡ 0 → ⊥) → Logs IsLogOf old new (map Given (take n room)) → Logs IsLogOf old new (given room (take n room))
+  bytes_given n within some logs = subst (Logs IsLogOf old new) (sym (some_given room n within some)) logs
+
+-- one call after another
+pub after_some : (old between new : KeptLog) (one two : List Passed) → Logs IsLogOf old between one → Logs IsLogOf between new two → Logs IsLogOf old new (one ++ two)
+after_some old between new one two first more log h = subst (IsLogOf new) (append_assoc log one two) (more (log ++ one) (first log h))

@@ -95,7 +95,10 @@ impl MemoryPeer {
         ensures { Logs IsLogOf self.old.log self.new.log (where_so result (Connected ∷ [])) }
     {
         self.close();
-        self.is_open = self.far.renew().is_some() && self.log.connect();
+        if self.far.renew().is_none() {
+            return false;
+        }
+        self.is_open = self.log.connect();
         self.is_open
     }
 }
@@ -104,6 +107,7 @@ impl MemoryPeer {
 fn take_front(bytes: &mut Vec<u8>, into: &mut [u8]) -> usize
     ensures count { result ≡ min (length bytes.old.items) (length into.old) }
     ensures within { result ≤ length into.new }
+    ensures room { length into.new ≡ length into.old }
     ensures taken { take result into.new ≡ take result bytes.old.items }
     ensures rest { bytes.new.items ≡ drop result bytes.old.items }
 {
@@ -133,20 +137,20 @@ impl Peer for MemoryPeer {
     /// Answers false where there is no connection or it was ended by bytes that are no request, and where memory for the
     /// log or for a reply is refused.
     fn send(&mut self, bytes: &[u8]) -> bool {
-        if !self.is_open || !self.log.send(bytes) {
+        if !self.is_open {
             self.cut();
             return false;
         }
-        match self.far.serve(bytes, &mut self.back) {
-            Ok(goes_on) => {
-                self.is_open = goes_on;
-                true
-            }
-            Err(_) => {
-                self.cut();
-                false
-            }
+        if !self.log.send(bytes) {
+            self.cut();
+            return false;
         }
+        let Ok(goes_on) = self.far.serve(bytes, &mut self.back) else {
+            self.cut();
+            return false;
+        };
+        self.is_open = goes_on;
+        true
     }
 
     /// It gives what waits, and the end where nothing does, or where memory for the log is refused.
@@ -155,7 +159,11 @@ impl Peer for MemoryPeer {
             return 0;
         }
         let count = take_front(&mut self.back, into);
-        if count == 0 || !self.log.give(&into[..count]) {
+        if count == 0 {
+            self.cut();
+            return 0;
+        }
+        if !self.log.give(&into[..count]) {
             self.cut();
             return 0;
         }

@@ -109,7 +109,7 @@ fn take_in(
 {
     let mut rest = bytes;
     while !rest.is_empty() {
-        let count = wire.push(rest);
+        let count = wire.push(rest).min(rest.len());
         if count == 0 || !carry_all(wire, session, drives, back)? {
             return Ok(false);
         }
