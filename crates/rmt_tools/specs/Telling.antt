@@ -4,7 +4,7 @@ use Rattle.tape.specs.Trouble.{TroubledTape}
 use Rattle.drives.specs.declared.table.DriveTable.{DriveTable}
 use Rattle.drives.specs.declared.view.View.{View}
 use Rattle.drives.specs.ListShop.{ListShop}
-use Rattle.drives.specs.Local.{Holders, holders}
+use Rattle.drives.specs.Local.{Holders}
 use Rattle.rmt_server.specs.declared.session.desk.Desk.{Desk}
 use Rattle.rmt_server.specs.Memory.{MemoryState, in_memory}
 use Rattle.rmt_server.specs.Opening.{IsClosed}
@@ -49,10 +49,10 @@ IsMadeWith given drives session = (drives.stacks ≡ given.stacks) × (drives.ho
 abbrev pub IsMadeOf : Drives → MemoryPeerHeld → Type 0
 IsMadeOf given p = IsMadeWith given p.drives p.session
 
--- the reels, once what is open was closed
-abbrev pub IsAfterEnd : Drives → Seated → ListShop → Type 0
-IsAfterEnd drives session stacks = (after : MemoryState) × IsClosed in_memory (state drives session) after × (stacks ≡ after.drives.stacks)
+-- the drives, once what is open was closed
+abbrev pub IsAfterEnd : Drives → Seated → Drives → Type 0
+IsAfterEnd drives session left = (after : MemoryState) × IsClosed in_memory (state drives session) after × (left ≡ after.drives)
 
 -- the same of a peer
-abbrev pub IsTakenApart : MemoryPeerHeld → ListShop → Type 0
-IsTakenApart p stacks = IsAfterEnd p.drives p.session stacks
+abbrev pub IsTakenApart : MemoryPeerHeld → Drives → Type 0
+IsTakenApart p left = IsAfterEnd p.drives p.session left

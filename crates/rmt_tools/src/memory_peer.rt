@@ -65,12 +65,13 @@ impl MemoryPeer {
         &self.far.drives.stacks
     }
 
-    /// The reels, once the session has ended.
-    pub fn into_stacks(self) -> ListStacks
-        ensures { IsTakenApart self result }
+    /// The drives, once the session has ended. Another peer can be made of them.
+    pub fn into_drives(self) -> DriveTable<LocalHolds, ListStacks>
+        ensures apart { IsTakenApart self result }
+        ensures enough { length result.stacks.shop.racks ≤ length result.holds.numbers }
     {
         let MemoryPeer { far, .. } = self;
-        far.into_stacks()
+        far.into_drives()
     }
 
     /// Ends the session, and drops what is on the way back.

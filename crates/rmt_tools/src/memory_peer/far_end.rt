@@ -84,14 +84,14 @@ impl FarEnd {
         self.session.end(&mut self.drives);
     }
 
-    /// The reels, once the session has ended.
-    pub(super) fn into_stacks(mut self) -> ListStacks
-        ensures { IsAfterEnd self.drives self.session result }
+    /// The drives, once the session has ended.
+    pub(super) fn into_drives(mut self) -> Drives
+        ensures apart { IsAfterEnd self.drives self.session result }
+        ensures enough { length result.stacks.shop.racks ≤ length result.holds.numbers }
     {
         self.end();
         let FarEnd { drives, .. } = self;
-        let DriveTable { stacks, .. } = drives;
-        stacks
+        drives
     }
 }
 

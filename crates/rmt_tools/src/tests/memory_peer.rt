@@ -1,7 +1,7 @@
 //! Dumps, volumes that are read back, and operations, over drives in memory.
-ghost use Rattle.std.specs.Prelude.{◌≡◌, ◌≤◌, IfOk, length};
+ghost use Rattle.std.specs.Prelude.{◌≤◌, length};
 
-use super::link::dumper;
+use super::link::{dumper, stacks};
 use crate::{MemoryPeer, dump, mt, read_volume};
 use drives::{DriveTable, ListStacks, LocalHolds, Stacks};
 use rmt_peer::Peer;
@@ -17,26 +17,24 @@ const DEVICE: &[u8] = b"/dev/st0";
 
 const LABEL: &[u8] = b"name /usr\nlevel 0\ndate 951782400\nsince 0\nvolume 1\nfirst 0\n";
 
-/// The drive with these empty reels.
-fn stacks(alloc: Global, reels: &[&[u8]]) -> Result<ListStacks, Fail>
-    ensures { IfOk result (λ stacks. length stacks.shop.racks ≡ 1) }
+/// A peer with these drives.
+fn peer_with(
+    alloc: Global,
+    drives: DriveTable<LocalHolds, ListStacks>,
+) -> Result<MemoryPeer, Fail>
+    requires { length drives.stacks.shop.racks ≤ length drives.holds.numbers }
 {
-    let mut stacks = ListStacks::new(alloc);
-    let drive = stacks.add_drive(DEVICE)?;
-    for reel in reels {
-        stacks.add_reel(drive, reel, CAPACITY)?;
-    }
-    Ok(stacks)
-}
-
-/// A peer with that drive.
-fn peer(alloc: Global, reels: &[&[u8]]) -> Result<MemoryPeer, Fail> {
-    let holds = LocalHolds::new(alloc, 1)?;
-    let stacks = stacks(alloc, reels)?;
-    match MemoryPeer::new(alloc, DriveTable { holds, stacks }) {
+    match MemoryPeer::new(alloc, drives) {
         Some(peer) => Ok(peer),
         None => Err(Fail::new("no peer")),
     }
+}
+
+/// A peer with the drive `/dev/st0` and these reels, which are empty and have this capacity in bytes.
+pub(super) fn peer(alloc: Global, capacity: u64, reels: &[&[u8]]) -> Result<MemoryPeer, Fail> {
+    let holds = LocalHolds::new(alloc, 1)?;
+    let stacks = stacks(alloc, capacity, reels)?;
+    peer_with(alloc, DriveTable { holds, stacks })
 }
 
 /// A dump of three blocks to these reels prints that, and has this status. The operator says nothing.
@@ -48,7 +46,7 @@ fn check_dump(
     status: u8,
 ) -> Result<MemoryPeer, Fail> {
     let mut client = dumper(alloc, 3)?;
-    let mut peer = peer(alloc, reels)?;
+    let mut peer = peer(alloc, CAPACITY, reels)?;
     let mut says: &[u8] = b"";
     let mut out = Counted::new(Vec::new(alloc));
     let told = dump(alloc, &mut client, &mut peer, &mut says, &mut out);
@@ -65,21 +63,17 @@ fn two_volumes(rt: HostRuntime) -> Result<(), Fail> {
     Ok(())
 }
 
-/// The peer with the reels that lay in the bin back on the drive.
+/// The peer with these reels arranged back on its drive.
 fn laid_back(alloc: Global, peer: MemoryPeer, names: &[&[u8]]) -> Result<MemoryPeer, Fail> {
-    let mut stacks = peer.into_stacks();
-    let Some(drive) = stacks.drive(DEVICE) else {
+    let mut drives = peer.into_drives();
+    let Some(drive) = drives.stacks.drive(DEVICE) else {
         return Err(Fail::new("no drive"));
     };
-    if !stacks.can_arrange(drive, names) {
+    if !drives.stacks.can_arrange(drive, names) {
         return Err(Fail::new("not to be arranged"));
     }
-    stacks.arrange(drive, names)?;
-    let holds = LocalHolds::new(alloc, 1)?;
-    match MemoryPeer::new(alloc, DriveTable { holds, stacks }) {
-        Some(peer) => Ok(peer),
-        None => Err(Fail::new("no peer")),
-    }
+    drives.stacks.arrange(drive, names)?;
+    peer_with(alloc, drives)
 }
 
 #[test]
@@ -120,11 +114,11 @@ fn check_mt(
 
 #[test]
 fn operations(rt: HostRuntime) -> Result<(), Fail> {
-    let mut marked = peer(rt.alloc(), &[b"r1"])?;
+    let mut marked = peer(rt.alloc(), CAPACITY, &[b"r1"])?;
     check_mt(&rt, rt.alloc(), &mut marked, 0, b"A1\n", 0)?;
-    let mut blank = peer(rt.alloc(), &[b"r1"])?;
+    let mut blank = peer(rt.alloc(), CAPACITY, &[b"r1"])?;
     check_mt(&rt, rt.alloc(), &mut blank, 3, b"E5 Input/output error\n", 3)?;
-    let mut moved = peer(rt.alloc(), &[b"r1"])?;
+    let mut moved = peer(rt.alloc(), CAPACITY, &[b"r1"])?;
     check_mt(&rt, rt.alloc(), &mut moved, 6, b"A1\n", 0)?;
     check_mt(&rt, rt.alloc(), &mut moved, 7, b"E6 Device not configured\n", 3)
 }
@@ -132,7 +126,7 @@ fn operations(rt: HostRuntime) -> Result<(), Fail> {
 /// Three requests that come in pieces are answered; bytes that are no request end the session behind that.
 #[test]
 fn pieces(rt: HostRuntime) -> Result<(), Fail> {
-    let mut peer = peer(rt.alloc(), &[b"r1"])?;
+    let mut peer = peer(rt.alloc(), CAPACITY, &[b"r1"])?;
     let mut room = [0; 4];
     assert!(rt; !peer.send(b"C\n"));
     assert!(rt; peer.connect());
@@ -152,7 +146,7 @@ fn pieces(rt: HostRuntime) -> Result<(), Fail> {
 /// Where nothing is on the way back the connection is found ended, and the drive is free again.
 #[test]
 fn an_end(rt: HostRuntime) -> Result<(), Fail> {
-    let mut peer = peer(rt.alloc(), &[b"r1"])?;
+    let mut peer = peer(rt.alloc(), CAPACITY, &[b"r1"])?;
     let mut room = [0; 9];
     for _ in 0..2 {
         assert!(rt; peer.connect());
