@@ -1,6 +1,6 @@
 //! Dumps over a peer in memory, and what is entered in dumpdates then.
 
-use super::link::Link;
+use super::memory_peer::peer;
 use super::progress::Seen;
 use crate::{
     DatesStore, DumpLine, DumperFault, Shown, UpdateFault, base_date, dump, dump_and_update,
@@ -103,7 +103,7 @@ fn check_dump(
     status: u8,
     dates: &[u8],
 ) -> Result<(), Fail> {
-    let mut link = Link::new(alloc, THREE_RECORDS, reels)?;
+    let mut peer = peer(alloc, THREE_RECORDS, reels)?;
     let mut client = three_blocks(alloc)?;
     let mut store = file_of(alloc, OLD, true, true)?;
     let mut operator = b"".as_slice();
@@ -112,7 +112,7 @@ fn check_dump(
     let got = dump_and_update(
         alloc,
         &mut client,
-        &mut link,
+        &mut peer,
         &mut operator,
         &mut out,
         &mut store,
@@ -136,17 +136,17 @@ fn two_reels_and_one(rt: HostRuntime) -> Result<(), Fail> {
 #[test]
 fn a_dump_without_dumpdates(rt: HostRuntime) -> Result<(), Fail> {
     let alloc = rt.alloc();
-    let mut link = Link::new(alloc, THREE_RECORDS, &[b"r1".as_slice()])?;
+    let mut peer = peer(alloc, THREE_RECORDS, &[b"r1".as_slice()])?;
     let mut client = three_blocks(alloc)?;
     let mut operator = b"no\n".as_slice();
     let mut printed = Vec::new(alloc);
     let mut out = Counted::new(&mut printed);
     assert_eq!(&rt;
-        dump(alloc, &mut client, &mut link, &mut operator, &mut out),
+        dump(alloc, &mut client, &mut peer, &mut operator, &mut out),
         3
     );
     assert!(&rt; printed.as_slice().starts_with(FIRST));
-    link.hang_up();
+    peer.hang_up();
     Ok(())
 }
 

@@ -1,0 +1,161 @@
+//! Dumps, volumes that are read back, and operations, over drives in memory.
+ghost use Rattle.std.specs.Prelude.{◌≤◌, length};
+
+use super::link::{dumper, stacks};
+use crate::{MemoryPeer, dump, mt, read_volume};
+use drives::{DriveTable, ListStacks, LocalHolds, Stacks};
+use rmt_peer::Peer;
+use rmt_wire::Counted;
+use std::alloc::Global;
+use std::process::Abort;
+use std::test::Fail;
+
+/// A label and two blocks of 1,024 bytes with the mark fill a reel of this capacity exactly.
+const CAPACITY: u64 = 3100;
+
+const DEVICE: &[u8] = b"/dev/st0";
+
+const LABEL: &[u8] = b"name /usr\nlevel 0\ndate 951782400\nsince 0\nvolume 1\nfirst 0\n";
+
+/// A peer with these drives.
+fn peer_with(
+    alloc: Global,
+    drives: DriveTable<LocalHolds, ListStacks>,
+) -> Result<MemoryPeer, Fail>
+    requires { length drives.stacks.shop.racks ≤ length drives.holds.numbers }
+{
+    match MemoryPeer::new(alloc, drives) {
+        Some(peer) => Ok(peer),
+        None => Err(Fail::new("no peer")),
+    }
+}
+
+/// A peer with the drive `/dev/st0` and these reels, which are empty and have this capacity in bytes.
+pub(super) fn peer(alloc: Global, capacity: u64, reels: &[&[u8]]) -> Result<MemoryPeer, Fail> {
+    let holds = LocalHolds::new(alloc, 1)?;
+    let stacks = stacks(alloc, capacity, reels)?;
+    peer_with(alloc, DriveTable { holds, stacks })
+}
+
+/// A dump of three blocks to these reels prints that, and has this status. The operator says nothing.
+fn check_dump(
+    rt: &impl Abort,
+    alloc: Global,
+    reels: &[&[u8]],
+    printed: &[u8],
+    status: u8,
+) -> Result<MemoryPeer, Fail> {
+    let mut client = dumper(alloc, 3)?;
+    let mut peer = peer(alloc, CAPACITY, reels)?;
+    let mut says: &[u8] = b"";
+    let mut out = Counted::new(Vec::new(alloc));
+    let told = dump(alloc, &mut client, &mut peer, &mut says, &mut out);
+    assert_eq!(rt; out.into_inner().as_slice(), printed);
+    assert_eq!(rt; told, status);
+    Ok(peer)
+}
+
+#[test]
+fn two_volumes(rt: HostRuntime) -> Result<(), Fail> {
+    let lines =
+        b"volume 1: 2 blocks from 0\nvolume 2: 1 blocks from 2\ndump complete: 2 volumes, 3 blocks\n";
+    check_dump(&rt, rt.alloc(), &[b"r1", b"r2"], lines, 0)?;
+    Ok(())
+}
+
+/// The peer with these reels arranged back on its drive.
+fn laid_back(alloc: Global, peer: MemoryPeer, names: &[&[u8]]) -> Result<MemoryPeer, Fail> {
+    let mut drives = peer.into_drives();
+    let Some(drive) = drives.stacks.drive(DEVICE) else {
+        return Err(Fail::new("no drive"));
+    };
+    if !drives.stacks.can_arrange(drive, names) {
+        return Err(Fail::new("not to be arranged"));
+    }
+    drives.stacks.arrange(drive, names)?;
+    peer_with(alloc, drives)
+}
+
+#[test]
+fn a_volume_is_read_back(rt: HostRuntime) -> Result<(), Fail> {
+    let lines =
+        b"volume 1: 2 blocks from 0\nvolume 2 failed: Refused 6\nretry?\ndump abandoned\n";
+    let written = check_dump(&rt, rt.alloc(), &[b"r1"], lines, 3)?;
+    assert!(rt; written.stacks().bin().len() == 1);
+    let mut peer = laid_back(rt.alloc(), written, &[b"r1"])?;
+    let mut file = Counted::new(Vec::new(rt.alloc()));
+    let mut out = Counted::new(Vec::new(rt.alloc()));
+    let status = read_volume(rt.alloc(), &mut peer, DEVICE, &mut file, &mut out);
+    assert_eq!(rt; status, 0);
+    assert_eq!(rt; out.into_inner().as_slice(), LABEL);
+    let file = file.into_inner();
+    assert_eq!(rt; file.len(), 2048);
+    assert!(rt; file.as_slice()[..1024].iter().all(|b| *b == 0));
+    assert!(rt; file.as_slice()[1024..].iter().all(|b| *b == 1));
+    Ok(())
+}
+
+/// An operation of count 1 prints that, and has this status.
+fn check_mt(
+    rt: &impl Abort,
+    alloc: Global,
+    peer: &mut MemoryPeer,
+    op: u32,
+    printed: &[u8],
+    status: u8,
+) -> Result<(), Fail>
+    requires { op ≤ 2147483647 }
+{
+    let mut out = Counted::new(Vec::new(alloc));
+    assert_eq!(rt; mt(alloc, peer, DEVICE, op, 1, &mut out), status);
+    assert_eq!(rt; out.into_inner().as_slice(), printed);
+    Ok(())
+}
+
+#[test]
+fn operations(rt: HostRuntime) -> Result<(), Fail> {
+    let mut marked = peer(rt.alloc(), CAPACITY, &[b"r1"])?;
+    check_mt(&rt, rt.alloc(), &mut marked, 0, b"A1\n", 0)?;
+    let mut blank = peer(rt.alloc(), CAPACITY, &[b"r1"])?;
+    check_mt(&rt, rt.alloc(), &mut blank, 3, b"E5 Input/output error\n", 3)?;
+    let mut moved = peer(rt.alloc(), CAPACITY, &[b"r1"])?;
+    check_mt(&rt, rt.alloc(), &mut moved, 6, b"A1\n", 0)?;
+    check_mt(&rt, rt.alloc(), &mut moved, 7, b"E6 Device not configured\n", 3)
+}
+
+/// Three requests that come in pieces are answered; bytes that are no request end the session behind that.
+#[test]
+fn pieces(rt: HostRuntime) -> Result<(), Fail> {
+    let mut peer = peer(rt.alloc(), CAPACITY, &[b"r1"])?;
+    let mut room = [0; 4];
+    assert!(rt; !peer.send(b"C\n"));
+    assert!(rt; peer.connect());
+    assert!(rt; peer.send(b"O/dev"));
+    assert!(rt; peer.send(b"/st0\n2\nW3\nabcI5\n1\nS\n"));
+    assert!(rt; peer.receive(&mut []) == 0);
+    assert_eq!(rt; peer.receive(&mut room), 4);
+    assert_eq!(rt; room.as_slice(), b"A0\nA".as_slice());
+    assert_eq!(rt; peer.receive(&mut room), 4);
+    assert_eq!(rt; room.as_slice(), b"3\nA1".as_slice());
+    assert_eq!(rt; peer.receive(&mut room), 1);
+    assert_eq!(rt; peer.receive(&mut room), 0);
+    assert!(rt; !peer.send(b"C\n"));
+    Ok(())
+}
+
+/// Where nothing is on the way back the connection is found ended, and the drive is free again.
+#[test]
+fn an_end(rt: HostRuntime) -> Result<(), Fail> {
+    let mut peer = peer(rt.alloc(), CAPACITY, &[b"r1"])?;
+    let mut room = [0; 9];
+    for _ in 0..2 {
+        assert!(rt; peer.connect());
+        assert!(rt; peer.send(b"O/dev/st0\n2\n"));
+        assert_eq!(rt; peer.receive(&mut room), 3);
+        assert_eq!(rt; peer.receive(&mut room), 0);
+        assert!(rt; !peer.send(b"C\n"));
+    }
+    peer.hang_up();
+    assert!(rt; peer.stacks().reel(b"r1").is_some());
+    Ok(())
+}
