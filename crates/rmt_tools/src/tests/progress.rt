@@ -120,8 +120,9 @@ fn a_line_below_progress(rt: HostRuntime) -> Result<(), Fail> {
         terminal: Some(Vec::new(alloc)),
     };
     out.write_all(b"retry?\n")?;
-    assert_eq!(&rt; out.lines.as_slice(), b"retry?\n".as_slice());
-    let Some(terminal) = out.terminal else {
+    let Clearing { lines, terminal } = out;
+    assert_eq!(&rt; lines.as_slice(), b"retry?\n".as_slice());
+    let Some(terminal) = terminal else {
         return Err(Fail::new("no terminal"));
     };
     assert_eq!(&rt; terminal.as_slice(), CLEARED);
