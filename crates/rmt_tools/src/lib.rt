@@ -25,6 +25,7 @@ pub use memory_server::MemoryServer;
 pub use payload::{DumperFault, dumper};
 pub use rmt_peer::{ReadFault, SocketPeer, copy_volume, dump, mt, read_volume};
 pub use rmt_words::{
-    DumpLine, LineFault, MtLine, RdumpLine, ReadLine, ServerLine, rdump_words, server_line, server_words,
+    DumpLine, LineFault, MtLine, RdumpLine, ReadLine, ServerLine, rdump_words, server_line,
+    server_words,
 };
 pub use stdio::run_stdio;

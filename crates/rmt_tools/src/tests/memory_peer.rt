@@ -18,10 +18,7 @@ const DEVICE: &[u8] = b"/dev/st0";
 const LABEL: &[u8] = b"name /usr\nlevel 0\ndate 951782400\nsince 0\nvolume 1\nfirst 0\n";
 
 /// A peer with these drives.
-fn peer_with(
-    alloc: Global,
-    drives: DriveTable<LocalHolds, ListStacks>,
-) -> Result<MemoryPeer, Fail>
+fn peer_with(alloc: Global, drives: DriveTable<LocalHolds, ListStacks>) -> Result<MemoryPeer, Fail>
     requires { length drives.stacks.shop.racks ≤ length drives.holds.numbers }
 {
     match MemoryPeer::new(alloc, drives) {
@@ -78,8 +75,7 @@ fn laid_back(alloc: Global, peer: MemoryPeer, names: &[&[u8]]) -> Result<MemoryP
 
 #[test]
 fn a_volume_is_read_back(rt: HostRuntime) -> Result<(), Fail> {
-    let lines =
-        b"volume 1: 2 blocks from 0\nvolume 2 failed: Refused 6\nretry?\ndump abandoned\n";
+    let lines = b"volume 1: 2 blocks from 0\nvolume 2 failed: Refused 6\nretry?\ndump abandoned\n";
     let written = check_dump(&rt, rt.alloc(), &[b"r1"], lines, 3)?;
     assert!(rt; written.stacks().bin().len() == 1);
     let mut peer = laid_back(rt.alloc(), written, &[b"r1"])?;
@@ -117,10 +113,24 @@ fn operations(rt: HostRuntime) -> Result<(), Fail> {
     let mut marked = peer(rt.alloc(), CAPACITY, &[b"r1"])?;
     check_mt(&rt, rt.alloc(), &mut marked, 0, b"A1\n", 0)?;
     let mut blank = peer(rt.alloc(), CAPACITY, &[b"r1"])?;
-    check_mt(&rt, rt.alloc(), &mut blank, 3, b"E5 Input/output error\n", 3)?;
+    check_mt(
+        &rt,
+        rt.alloc(),
+        &mut blank,
+        3,
+        b"E5 Input/output error\n",
+        3,
+    )?;
     let mut moved = peer(rt.alloc(), CAPACITY, &[b"r1"])?;
     check_mt(&rt, rt.alloc(), &mut moved, 6, b"A1\n", 0)?;
-    check_mt(&rt, rt.alloc(), &mut moved, 7, b"E6 Device not configured\n", 3)
+    check_mt(
+        &rt,
+        rt.alloc(),
+        &mut moved,
+        7,
+        b"E6 Device not configured\n",
+        3,
+    )
 }
 
 /// Three requests that come in pieces are answered; bytes that are no request end the session behind that.
