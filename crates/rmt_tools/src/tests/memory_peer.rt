@@ -92,80 +92,78 @@ fn a_volume_is_read_back(rt: HostRuntime) -> Result<(), Fail> {
 }
 
 /// An operation of count 1 prints that, and has this status.
-fn check_mt(
-    rt: &impl Abort,
-    alloc: Global,
-    peer: &mut MemoryPeer,
-    op: u32,
-    printed: &[u8],
-    status: u8,
-) -> Result<(), Fail>
-    requires { op ≤ 2147483647 }
-{
-    let mut out = Counted::new(Vec::new(alloc));
-    assert_eq!(rt; mt(alloc, peer, DEVICE, op, 1, &mut out), status);
-    assert_eq!(rt; out.into_inner().as_slice(), printed);
-    Ok(())
+fn is_answered(alloc: Global, peer: &mut MemoryPeer, op: u8, printed: &[u8], status: u8) -> bool {
+    let mut text = Vec::new(alloc);
+    let mut out = Counted::new(&mut text);
+    let told = mt(alloc, peer, DEVICE, u32::from(op), 1, &mut out);
+    told == status && text.as_slice() == printed
+}
+
+/// Operations, each with what it prints and its status.
+type Operations<'a> = &'a [(u8, &'a [u8], u8)];
+
+/// These operations are answered so, one after the other.
+fn are_answered(alloc: Global, peer: &mut MemoryPeer, rows: Operations<'_>) -> bool {
+    for (op, printed, status) in rows {
+        if !is_answered(alloc, peer, *op, printed, *status) {
+            return false;
+        }
+    }
+    true
+}
+
+/// These operations are answered so on a drive with one empty reel.
+fn check_operations(alloc: Global, rows: Operations<'_>) -> Result<bool, Fail> {
+    let mut peer = peer(alloc, CAPACITY, &[b"r1"])?;
+    Ok(are_answered(alloc, &mut peer, rows))
 }
 
 #[test]
 fn operations(rt: HostRuntime) -> Result<(), Fail> {
-    let mut marked = peer(rt.alloc(), CAPACITY, &[b"r1"])?;
-    check_mt(&rt, rt.alloc(), &mut marked, 0, b"A1\n", 0)?;
-    let mut blank = peer(rt.alloc(), CAPACITY, &[b"r1"])?;
-    check_mt(
-        &rt,
-        rt.alloc(),
-        &mut blank,
-        3,
-        b"E5 Input/output error\n",
-        3,
-    )?;
-    let mut moved = peer(rt.alloc(), CAPACITY, &[b"r1"])?;
-    check_mt(&rt, rt.alloc(), &mut moved, 6, b"A1\n", 0)?;
-    check_mt(
-        &rt,
-        rt.alloc(),
-        &mut moved,
-        7,
-        b"E6 Device not configured\n",
-        3,
-    )
-}
-
-/// Three requests that come in pieces are answered; bytes that are no request end the session behind that.
-#[test]
-fn pieces(rt: HostRuntime) -> Result<(), Fail> {
-    let mut peer = peer(rt.alloc(), CAPACITY, &[b"r1"])?;
-    let mut room = [0; 4];
-    assert!(rt; !peer.send(b"C\n"));
-    assert!(rt; peer.connect());
-    assert!(rt; peer.send(b"O/dev"));
-    assert!(rt; peer.send(b"/st0\n2\nW3\nabcI5\n1\nS\n"));
-    assert!(rt; peer.receive(&mut []) == 0);
-    assert_eq!(rt; peer.receive(&mut room), 4);
-    assert_eq!(rt; room.as_slice(), b"A0\nA".as_slice());
-    assert_eq!(rt; peer.receive(&mut room), 4);
-    assert_eq!(rt; room.as_slice(), b"3\nA1".as_slice());
-    assert_eq!(rt; peer.receive(&mut room), 1);
-    assert_eq!(rt; peer.receive(&mut room), 0);
-    assert!(rt; !peer.send(b"C\n"));
+    let alloc = rt.alloc();
+    assert!(&rt; check_operations(alloc, &[(0, b"A1\n", 0)])?);
+    assert!(&rt; check_operations(alloc, &[(3, b"E5 Input/output error\n", 3)])?);
+    let moved: Operations<'_> = &[(6, b"A1\n", 0), (7, b"E6 Device not configured\n", 3)];
+    assert!(&rt; check_operations(alloc, moved)?);
     Ok(())
 }
 
-/// Where nothing is on the way back the connection is found ended, and the drive is free again.
+/// The next bytes, up to four, are these.
+fn gives(peer: &mut MemoryPeer, wanted: &[u8]) -> bool {
+    let mut room = [0; 4];
+    let count = peer.receive(&mut room);
+    room.get(..count) == Some(wanted)
+}
+
+/// Three requests that come in pieces are answered; bytes that are no request end the session after that.
+fn takes_pieces(peer: &mut MemoryPeer) -> bool {
+    let sent = peer.connect() && peer.send(b"O/dev") && peer.send(b"/st0\n2\nW3\nabcI5\n1\nS\n");
+    sent && peer.receive(&mut []) == 0 && gives(peer, b"A0\nA") && gives(peer, b"3\nA1")
+}
+
+#[test]
+fn pieces(rt: HostRuntime) -> Result<(), Fail> {
+    let mut peer = peer(rt.alloc(), CAPACITY, &[b"r1"])?;
+    let early = peer.send(b"C\n");
+    let taken = takes_pieces(&mut peer);
+    let last = gives(&mut peer, b"\n") && gives(&mut peer, b"");
+    let late = peer.send(b"C\n");
+    assert!(&rt; !early && taken && last && !late);
+    Ok(())
+}
+
+/// Where nothing is on the way back the connection is found ended.
+fn ends(peer: &mut MemoryPeer) -> bool {
+    let opened = peer.connect() && peer.send(b"O/dev/st0\n2\n") && gives(peer, b"A0\n");
+    opened && gives(peer, b"") && !peer.send(b"C\n")
+}
+
+/// The drive is free again after such an end.
 #[test]
 fn an_end(rt: HostRuntime) -> Result<(), Fail> {
     let mut peer = peer(rt.alloc(), CAPACITY, &[b"r1"])?;
-    let mut room = [0; 9];
-    for _ in 0..2 {
-        assert!(rt; peer.connect());
-        assert!(rt; peer.send(b"O/dev/st0\n2\n"));
-        assert_eq!(rt; peer.receive(&mut room), 3);
-        assert_eq!(rt; peer.receive(&mut room), 0);
-        assert!(rt; !peer.send(b"C\n"));
-    }
+    let ended = ends(&mut peer) && ends(&mut peer);
     peer.hang_up();
-    assert!(rt; peer.stacks().reel(b"r1").is_some());
+    assert!(&rt; ended && peer.stacks().reel(b"r1").is_some());
     Ok(())
 }
