@@ -38,7 +38,7 @@ test: kit ## the gate: each proof from nothing, then the built programs from out
 	python3 tests/dump.py $(PROGRAM) $(CLIENT)
 	@cat $(MINUTES)
 
-bench: build ## long streams through the server, beside cat and GNU rmt; a long dumpdates file, beside cat and wc; both readers fed in pieces
+bench: build ## long streams through the server, beside cat and GNU rmt; a long dumpdates file, beside cat and wc; dumps and reads over the loopback, beside cat; both readers fed in pieces
 	python3 bench/stdio.py $(PROGRAM)
 	python3 bench/dates.py $(CLIENT)
 	python3 bench/dump.py $(PROGRAM) $(CLIENT)

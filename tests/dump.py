@@ -12,6 +12,7 @@ from __future__ import annotations
 
 import argparse
 import os
+import pty
 import re
 import socket
 import subprocess
@@ -194,18 +195,20 @@ class Programs:
         self.rdump = rdump
         self.folder = folder
 
-    def run(self, *words: str, said: str = "", stdout: int = subprocess.PIPE, program: str | None = None) -> Ended:
+    def run(
+        self, *words: str, said: str = "", stdout: int = subprocess.PIPE, stderr: int = subprocess.PIPE, program: str | None = None
+    ) -> Ended:
         """Runs `rdump`, or another program, with these words and this standard input."""
         ended = subprocess.run(
             (program or self.rdump, *words),
             cwd=self.folder,
             input=said.encode(),
             stdout=stdout,
-            stderr=subprocess.PIPE,
+            stderr=stderr,
             timeout=GUARD_SECONDS,
             check=False,
         )
-        return Ended((ended.stdout or b"").decode(), ended.stderr.decode(errors="replace"), ended.returncode)
+        return Ended((ended.stdout or b"").decode(), (ended.stderr or b"").decode(errors="replace"), ended.returncode)
 
     def file(self, name: str, text: bytes) -> str:
         """Makes a file of these bytes."""
@@ -217,7 +220,9 @@ class Programs:
         path = self.folder / name
         return path.read_text() if path.is_file() else None
 
-    def dump(self, address: str, *more: str, said: str = "", stdout: int = subprocess.PIPE, **changed: str | None) -> Ended:
+    def dump(
+        self, address: str, *more: str, said: str = "", stdout: int = subprocess.PIPE, stderr: int = subprocess.PIPE, **changed: str | None
+    ) -> Ended:
         """Runs `rdump dump` with the usual words, of which these are changed, or left out at None."""
         words = {
             "to": address,
@@ -230,7 +235,7 @@ class Programs:
             "date": str(DAY),
         } | changed
         listed = [it for name, value in words.items() if value is not None for it in (f"--{name}", value)]
-        return self.run("dump", *listed, *more, said=said, stdout=stdout)
+        return self.run("dump", *listed, *more, said=said, stdout=stdout, stderr=stderr)
 
     @contextmanager
     def listening(self, *words: str, at: str = "127.0.0.1:0") -> Iterator[tuple[str, subprocess.Popen[bytes]]]:
@@ -316,6 +321,41 @@ def dumps(p: Programs) -> None:
     model = Model(Reel("r1", 4096))
     p.dump(model.address)
     check("the last block is padded", model.bin[0].entries[1] == b"x" + bytes(1023))
+    model.stop()
+
+
+CLEAR = "\r\x1b[K"
+
+
+def all_of(near: int) -> bytes:
+    """What was written to a pseudo-terminal that nobody has open, by its near end."""
+    taken = b""
+    try:
+        while piece := os.read(near, 4096):
+            taken += piece
+    except OSError:
+        pass
+    return taken
+
+
+def progress(p: Programs) -> None:
+    """What is shown of a dump on standard error, where that is a terminal."""
+    p.file("payload", PAYLOAD)
+    for title, both in (("a terminal", False), ("one terminal for both outputs", True)):
+        model = Model(Reel("r1", 3100), Reel("r2", 3100))
+        near, terminal = pty.openpty()
+        ended = p.dump(model.address, stdout=terminal if both else subprocess.PIPE, stderr=terminal)
+        os.close(terminal)
+        shown = all_of(near).decode()
+        os.close(near)
+        model.stop()
+        check(f"{title}: the dump", (ended.output, ended.status) == ("" if both else TWO_VOLUMES, DONE), ended)
+        lines = [CLEAR + it if both else CLEAR for it in TWO_VOLUMES.replace("\n", "\r\n").splitlines(keepends=True)]
+        later = r"(\rvolume [12], block [123] of 3, \d+ [KM]iB/s\x1b\[K)*"
+        wanted = re.escape("\rvolume 1, block 1 of 3, 0 KiB/s\x1b[K") + later + later.join(re.escape(it) for it in lines)
+        check(f"{title}: what it shows", re.fullmatch(wanted, shown) is not None, shown, wanted)
+    model = Model(Reel("r1", 3100), Reel("r2", 3100))
+    ends("no terminal, nothing shown", p.dump(model.address), TWO_VOLUMES, DONE)
     model.stop()
 
 
@@ -583,7 +623,7 @@ def main() -> int:
     parser.add_argument("rmtd", nargs="?", default=str(CRATES / "rmtd/out/rmtd"))
     parser.add_argument("rdump", nargs="?", default=str(CRATES / "rdump/out/rdump"))
     asked = parser.parse_args()
-    for part in (dumps, dates, retries, startup, servers, operations, reads):
+    for part in (dumps, progress, dates, retries, startup, servers, operations, reads):
         with tempfile.TemporaryDirectory() as folder:
             part(Programs(os.path.abspath(asked.rmtd), os.path.abspath(asked.rdump), Path(folder)))
     print(f"{COUNT[0]} passed, {COUNT[1]} failed")

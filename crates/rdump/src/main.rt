@@ -5,13 +5,13 @@ ghost use Rattle.rmt_words.specs.Rdump.{IsMtLine, IsReadLine};
 
 use clap::error::ErrorKind;
 use rmt_tools::{
-    DatesFile, DumpLine, DumperFault, MtLine, RdumpLine, ReadFault, ReadLine, RunFault, SocketPeer,
-    base_date, copy_volume, dates, dump, dump_and_update, dumper, mt, rdump_words, read_or_empty,
-    read_steady, seconds_now,
+    Clearing, DatesFile, DumpLine, DumperFault, MtLine, ProgressLine, RdumpLine, ReadFault,
+    ReadLine, RunFault, SocketPeer, base_date, copy_volume, dates, dump, dump_and_update, dumper,
+    mt, rdump_words, read_or_empty, read_steady, seconds_now,
 };
 use rmt_wire::Counted;
 use std::fs::{self, File};
-use std::io::Write;
+use std::io::{IsTerminal, Stderr, Write};
 use std::process::ExitCode;
 use std::{env, io};
 
@@ -79,14 +79,18 @@ fn run_dump(rt: &HostRuntime, line: &DumpLine<'_>, payload: Vec<u8>, since: u64)
     let Some(date) = line.date.or(seconds_now(rt)) else {
         return say(rt, "the clock", "it tells no date");
     };
-    let mut client = match dumper(rt.alloc(), line, date, since, payload) {
+    let gauge = terminal(rt).map(|it| ProgressLine::new(rt, it));
+    let mut client = match dumper(rt.alloc(), line, date, since, payload, gauge) {
         Ok(client) => client,
         Err(DumperFault::Run(fault)) => return refuse_run(rt, fault),
         Err(DumperFault::OutOfMemory) => return tell(rt, "", io::ErrorKind::OutOfMemory.into()),
     };
     let mut peer = SocketPeer::new(rt, line.to);
     let mut operator = rt.stdin();
-    let mut out = Counted::new(rt.stdout());
+    let mut out = Counted::new(Clearing {
+        lines: rt.stdout(),
+        terminal: terminal(rt),
+    });
     let status = if line.update {
         let mut store = DatesFile::new(rt, rt.alloc(), line.dumpdates);
         let status = dump_and_update(
@@ -106,6 +110,16 @@ fn run_dump(rt: &HostRuntime, line: &DumpLine<'_>, payload: Vec<u8>, since: u64)
     };
     tell_failed(rt, &out)?;
     Ok(status)
+}
+
+/// Standard error, where it is a terminal.
+fn terminal(rt: &HostRuntime) -> Option<Stderr> {
+    let stderr = rt.stderr();
+    if stderr.is_terminal() {
+        Some(stderr)
+    } else {
+        None
+    }
 }
 
 /// Tells which limit of a run its words break, and answers the status.

@@ -3,3 +3,4 @@ pub mod Serving
 pub mod Dates
 pub mod Payload
 pub mod Updating
+pub mod Telling

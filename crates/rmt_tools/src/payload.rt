@@ -5,7 +5,7 @@ ghost use Rattle.dump_client.specs.Standing.{standing};
 ghost use Rattle.dump_client.specs.declared.stage.Stage.TheVariants as stages;
 ghost use Rattle.rmt_tools.specs.Payload.{blocks_for, line_run, padded, payload_source, IsRefusedRun};
 
-use crate::DumpLine;
+use crate::{DumpLine, Gauge, Shown};
 use dump_client::{Client, ListBlocks, Run, RunFault};
 use rmt_wire::DATA_LIMIT;
 use std::alloc::{AllocError, Global};
@@ -42,18 +42,20 @@ impl From<AllocError> for DumperFault {
 }
 
 /// The client of the run that the words say, of this date and building on a dump of the date `since`, both in seconds since
-/// 1970 began, UTC. It dumps the payload in blocks of the size of the words, the last padded with zero bytes.
+/// 1970 began, UTC. It dumps the payload in blocks of the size of the words, the last padded with zero bytes. The gauge
+/// is told how many they are, and shows each that is read.
 ///
 /// Answers `Run` with the first limit of a run that is broken, and `OutOfMemory` where memory is refused.
-pub fn dumper(
+pub fn dumper<G: Gauge + Drop>(
     alloc: Global,
     line: &DumpLine<'_>,
     date: u64,
     since: u64,
     mut payload: Vec<u8>,
-) -> Result<Client<ListBlocks>, DumperFault>
+    mut gauge: G,
+) -> Result<Client<Shown<ListBlocks, G>>, DumperFault>
     ensures at { IfOk result (λ c. c.at ≡ standing (line_run line.now date since (length payload.items)) [] stages.Ready) }
-    ensures source { IfOk result (λ c. c.source ≡ payload_source line.now.block payload.items) }
+    ensures source { IfOk result (λ c. c.source.source ≡ payload_source line.now.block payload.items) }
     ensures refused { IfErr result (IsRefusedRun (line_run line.now date since (length payload.items))) }
 {
     let blocks = block_count(payload.len(), line.block);
@@ -61,7 +63,11 @@ pub fn dumper(
     let run = Run::new(device, line.fs, line.level, date, since, line.block, blocks)?;
     let (block_bytes, blocks) = (run.block_bytes(), run.blocks());
     pad(&mut payload, block_bytes, blocks)?;
-    let source = ListBlocks::new(payload, block_bytes, blocks);
+    gauge.begin(blocks);
+    let source = Shown {
+        source: ListBlocks::new(payload, block_bytes, blocks),
+        gauge,
+    };
     Ok(Client::new(alloc, run, source)?)
 }
 

@@ -5,5 +5,7 @@ mod dump;
 mod failing;
 mod link;
 mod listening;
+mod memory_peer;
+mod progress;
 mod rows;
 mod updates;

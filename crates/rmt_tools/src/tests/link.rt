@@ -14,7 +14,6 @@ ghost use Rattle.std.specs.Prelude.{None};
 
 use drives::{DriveTable, ListStacks, LocalHolds, LocalSeat};
 use dump_client::{Client, ListBlocks, Progress, Run, State};
-use rmt_peer::Peer;
 use rmt_server::{Session, one_holder};
 use rmt_wire::{NUMBER_LIMIT, Request, RequestReader, push_reply};
 use std::alloc::{AllocError, Global};
@@ -53,7 +52,7 @@ pub(super) fn dumper(alloc: Global, blocks: u32) -> Result<Dumper, Fail>
 }
 
 /// The drive `/dev/st0` with these reels, which are empty and have this capacity in bytes.
-fn stacks(alloc: Global, capacity: u64, reels: &[&[u8]]) -> Result<ListStacks, Fail>
+pub(super) fn stacks(alloc: Global, capacity: u64, reels: &[&[u8]]) -> Result<ListStacks, Fail>
     ensures { IfOk result (λ stacks. length stacks.shop.racks ≡ 1) }
 {
     let mut stacks = ListStacks::new(alloc);
@@ -132,7 +131,6 @@ pub(super) struct Link {
     alloc: Global,
     pub(super) drives: Drives,
     wire: RequestReader,
-    reply: Vec<u8>,
     session: Server,
     stale: Server,
     ghost at: { IsAt (kinds of_holds of_stacks of_reel) (state drives session) },
@@ -160,7 +158,6 @@ impl Link {
             alloc,
             drives,
             wire,
-            reply: Vec::new(alloc),
             session,
             stale,
         })
@@ -241,35 +238,5 @@ impl Link {
     /// The session of the connection before ends.
     pub(super) fn end_stale(&mut self) {
         end(&mut self.drives, &mut self.stale, &self.session);
-    }
-}
-
-/// The link as the far end of a connection, of which it tells nothing. Each request comes whole.
-impl Peer for Link {
-    ghost tells = { λ _ _. ⊥ };
-
-    fn connect(&mut self) -> bool {
-        self.end();
-        self.reply.clear();
-        self.renew().is_some()
-    }
-
-    fn send(&mut self, bytes: &[u8]) -> bool {
-        let Some(reply) = self.reply_to(bytes) else {
-            return false;
-        };
-        self.reply = reply;
-        true
-    }
-
-    fn receive(&mut self, into: &mut [u8]) -> usize {
-        let count = into.len().min(self.reply.len());
-        into[..count].copy_from_slice(&self.reply.as_slice()[..count]);
-        self.reply.clear();
-        count
-    }
-
-    fn hang_up(&mut self) {
-        self.end();
     }
 }

@@ -1,9 +1,10 @@
 //! Dumps over a peer in memory, and what is entered in dumpdates then.
 
-use super::link::Link;
+use super::memory_peer::peer;
+use super::progress::Seen;
 use crate::{
-    DatesStore, DumpLine, DumperFault, UpdateFault, base_date, dump, dump_and_update, dumper,
-    update,
+    DatesStore, DumpLine, DumperFault, Shown, UpdateFault, base_date, dump, dump_and_update,
+    dumper, update,
 };
 use dump_client::{Client, ListBlocks, RunFault};
 use dumpdates::Entry;
@@ -44,9 +45,16 @@ fn line(block: u64) -> DumpLine<'static> {
 }
 
 /// The client of a dump of 2,500 bytes, which are three blocks of 1,024.
-fn three_blocks(alloc: Global) -> Result<Client<ListBlocks>, Fail> {
+fn three_blocks(alloc: Global) -> Result<Client<Shown<ListBlocks, Seen>>, Fail> {
     let payload = Vec::from_elem(alloc, b'p', 2500)?;
-    match dumper(alloc, &line(1024), 951868800, 951782400, payload) {
+    match dumper(
+        alloc,
+        &line(1024),
+        951868800,
+        951782400,
+        payload,
+        Seen::new(),
+    ) {
         Ok(client) => Ok(client),
         Err(_) => Err(Fail::new("no client")),
     }
@@ -95,7 +103,7 @@ fn check_dump(
     status: u8,
     dates: &[u8],
 ) -> Result<(), Fail> {
-    let mut link = Link::new(alloc, THREE_RECORDS, reels)?;
+    let mut peer = peer(alloc, THREE_RECORDS, reels)?;
     let mut client = three_blocks(alloc)?;
     let mut store = file_of(alloc, OLD, true, true)?;
     let mut operator = b"".as_slice();
@@ -104,7 +112,7 @@ fn check_dump(
     let got = dump_and_update(
         alloc,
         &mut client,
-        &mut link,
+        &mut peer,
         &mut operator,
         &mut out,
         &mut store,
@@ -128,17 +136,17 @@ fn two_reels_and_one(rt: HostRuntime) -> Result<(), Fail> {
 #[test]
 fn a_dump_without_dumpdates(rt: HostRuntime) -> Result<(), Fail> {
     let alloc = rt.alloc();
-    let mut link = Link::new(alloc, THREE_RECORDS, &[b"r1".as_slice()])?;
+    let mut peer = peer(alloc, THREE_RECORDS, &[b"r1".as_slice()])?;
     let mut client = three_blocks(alloc)?;
     let mut operator = b"no\n".as_slice();
     let mut printed = Vec::new(alloc);
     let mut out = Counted::new(&mut printed);
     assert_eq!(&rt;
-        dump(alloc, &mut client, &mut link, &mut operator, &mut out),
+        dump(alloc, &mut client, &mut peer, &mut operator, &mut out),
         3
     );
     assert!(&rt; printed.as_slice().starts_with(FIRST));
-    link.hang_up();
+    peer.hang_up();
     Ok(())
 }
 
@@ -181,7 +189,7 @@ fn blocks_that_no_run_has(rt: HostRuntime) -> Result<(), Fail> {
     let alloc = rt.alloc();
     for block in [0, 65537] {
         let payload = Vec::from_elem(alloc, b'p', 3)?;
-        let refused = dumper(alloc, &line(block), 0, 0, payload).err();
+        let refused = dumper(alloc, &line(block), 0, 0, payload, Seen::new()).err();
         assert_eq!(&rt; refused, Some(DumperFault::Run(RunFault::BadBlockSize)));
     }
     Ok(())
