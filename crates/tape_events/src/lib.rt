@@ -4,5 +4,7 @@
 #![tactic(auto)]
 
 mod laws;
+#[cfg(test)]
+mod tests;
 
 pub use laws::one_run;
