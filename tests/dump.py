@@ -181,6 +181,9 @@ class Model:
         return b"A%d\n" % count
 
     def stop(self) -> None:
+        """Ends the worker before its listener is closed, since another one may get the same descriptor."""
+        self.listener.shutdown(socket.SHUT_RDWR)
+        self.worker.join()
         self.listener.close()
 
 
