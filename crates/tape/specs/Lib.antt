@@ -3,3 +3,5 @@ pub mod Call
 pub mod Failures
 pub mod List
 pub mod Trouble
+pub mod Medium
+pub mod RecordFile

@@ -6,8 +6,10 @@
 
 mod entry;
 mod fault;
+mod file_reel;
 mod laws;
 mod list;
+mod medium;
 mod op;
 mod record;
 mod reel;
@@ -18,8 +20,10 @@ mod troubled;
 
 pub use entry::Entry;
 pub use fault::TapeFault;
+pub use file_reel::FileReel;
 pub use laws::device_steps;
 pub use list::ListReel;
+pub use medium::{Medium, MediumFailed};
 pub use op::{MTBSF, MTBSR, MTFSF, MTFSR, MTNOP, MTOFFL, MTREW, MTWEOF};
 pub use record::{RECORD_LIMIT, is_record};
 pub use reel::Reel;

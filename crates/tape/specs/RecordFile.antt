@@ -1,0 +1,74 @@
+-- A record file: a reel's entries as bytes (the format is this project's own).
+use Rattle.std.specs.Prelude.{◌≡◌, ◌≢◌, ◌⊎◌, ℕ, ◌+◌, ◌*◌, ◌<◌, ◌≤◌, List, ◌++◌, length, flat_map, refl}
+use Rattle.std.specs.Coded.{Coded, code_by, coded×, coded_ℕ}
+use Rattle.std.specs.Int.{w32, to_le_bytes}
+use Rattle.std.specs.List.{All}
+use Rattle.tape.specs.Tape.{PlainEntry, Tape, TapeRequest, TapeAnswer, IsTapeEntry, entries_of}
+use Rattle.tape.specs.Tape.PlainEntry.{Record, Mark}
+use Rattle.tape.specs.Tape.TapeRequest.{Write, WriteMarks}
+use Rattle.tape.specs.Tape.TapeAnswer.{Fault}
+use Rattle.tape.specs.Medium.{MediumKind}
+use Rattle.tape.specs.declared.fault.TapeFault.TheVariants.{Device}
+
+-- a length as it stands in the file: 4 bytes, little-endian
+unfoldable pub length_bytes : ℕ → List ℕ
+length_bytes n = to_le_bytes w32 n
+
+-- the image of an entry: a record's bytes between its length and its length, and a mark as a length of 0
+abbrev pub image_of : PlainEntry → List ℕ
+image_of (Record bytes) = length_bytes (length bytes) ++ (bytes ++ length_bytes (length bytes))
+image_of Mark = length_bytes 0
+
+-- the images of the entries, joined
+abbrev pub images_of : List PlainEntry → List ℕ
+images_of entries = flat_map image_of entries
+
+-- no beginning of these bytes is the image of an entry
+abbrev pub IsTail : List ℕ → Type 0
+IsTail tail = (entry : PlainEntry) (rest : List ℕ) → IsTapeEntry entry → tail ≢ image_of entry ++ rest
+
+-- The bytes spell these entries: their images, and then a tail, which is ignored.
+pub record SpellsReel (bytes : List ℕ) (entries : List PlainEntry) : Type 0 where
+  pub tail : List ℕ
+  pub whole : bytes ≡ images_of entries ++ tail
+  pub is_tail : IsTail tail
+  pub lawful : All IsTapeEntry entries
+
+-- The bytes spell the entries of this tape, and its place is at this offset.
+pub record IsFile (bytes : List ℕ) (offset : ℕ) (t : Tape) : Type 0 where
+  pub spelled : SpellsReel bytes (entries_of t)
+  pub offset_is : offset ≡ length (images_of t.before)
+
+-- what a reel on a medium is: the medium, the offset of its place in bytes, and how many bytes the reel takes
+pub record FileTape (M : Type 0) : Type 0 where
+  pub medium : M
+  pub offset : ℕ
+  pub capacity : ℕ
+
+-- it is stored as the tuple of its fields
+abbrev pub file_tape_code : {M : Type 0} → Coded M → Coded (FileTape M)
+file_tape_code {M} code =
+    code_by
+    (M × (ℕ × ℕ))
+    (coded× code (coded× coded_ℕ coded_ℕ))
+    (λ r. (r.medium, (r.offset, r.capacity)))
+    (λ p. record { medium = p.0; offset = p.1.0; capacity = p.1.1 })
+    (λ _. refl)
+
+-- where the medium tells its bytes, the reel tells the tape that they spell
+abbrev pub HoldsTape : {M : Type 0} → (M → List ℕ → Type 0) → FileTape M → Tape → Type 0
+HoldsTape holds r t = (bytes : List ℕ) × holds r.medium bytes × IsFile bytes r.offset t
+
+-- how many bytes a call is to add to its medium
+abbrev pub image_added : TapeRequest → ℕ
+image_added (Write bytes) = length bytes + 8
+image_added (WriteMarks count) = 4 * count
+image_added _ = 0
+
+-- What a call of a reel on such a medium promises beside what every reel promises: the device is at fault only where the
+-- medium can fail, or its room is short of what was to be written; no call makes the medium able to fail, and the room
+-- is used up by what is written alone.
+pub record IsFileCall {M : Type 0} (m : MediumKind M) (old new : FileTape M) (request : TapeRequest) (answer : TapeAnswer) : Type 0 where
+  pub cause : answer ≡ Fault Device → m.can_fail old.medium ⊎ (m.spare old.medium < image_added request)
+  pub quiet : m.can_fail new.medium → m.can_fail old.medium
+  pub room : m.spare old.medium ≤ m.spare new.medium + image_added request
