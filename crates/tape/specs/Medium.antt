@@ -35,6 +35,12 @@ abbrev pub bytes_added : MediumCall → ℕ
 bytes_added (Append bytes result) = length bytes
 bytes_added _ = 0
 
+-- the call reads alone
+abbrev pub IsReading : MediumCall → Type 0
+IsReading (Len result) = Unit {0}
+IsReading (ReadAt at given result) = Unit {0}
+IsReading _ = ⊥
+
 -- a read gives no more than its buffer takes
 abbrev pub CanRead : MediumCall → Type 0
 CanRead (ReadAt at given result) = IfOk result (λ n. n ≤ length given)
@@ -55,6 +61,8 @@ medium_kind holds failures can_fail spare = record { holds = holds; failures = f
 pub record IsMediumCall {S : Type 0} (m : MediumKind S) (old : S) (call : MediumCall) (new : S) : Type 0 where
   -- where the medium tells, it is a step of its bytes
   pub step : Steps m.holds old new (MediumStep call)
+  -- a call that reads leaves what is told, and tells nothing new
+  pub kept : IsReading call → (bytes : List ℕ) → m.holds new bytes → m.holds old bytes
   -- and whether it tells or not, no more is read than was asked
   pub can : CanRead call
   -- a call that failed is counted, and nothing else is

@@ -56,6 +56,9 @@ pub trait Medium {
     fn failures(&self) -> u64
         ensures { result ≡ failures self.now };
 
+    /// It tells one list of bytes at most.
+    ghost single: { (medium : Self) (bytes others : List ℕ) → holds medium bytes → holds medium others → bytes ≡ others };
+
     /// It tells fewer bytes than a `u64` counts.
     ghost bounded: { (medium : Self) (bytes : List ℕ) → holds medium bytes → length bytes < 2 ^ 63 };
 }
