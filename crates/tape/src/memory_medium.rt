@@ -54,7 +54,7 @@ impl MemoryMedium {
     pub fn bytes(&self) -> &[u8]
         ensures { IsMemory self.now result.now }
     {
-        &self.bytes
+        self.bytes.as_slice()
     }
 
     /// The bytes, of which it makes no copy.
