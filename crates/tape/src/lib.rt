@@ -21,7 +21,7 @@ mod troubled;
 pub use entry::Entry;
 pub use fault::TapeFault;
 pub use file_reel::FileReel;
-pub use laws::device_steps;
+pub use laws::{device_steps, one_spelling};
 pub use list::ListReel;
 pub use medium::{Medium, MediumFailed};
 pub use op::{MTBSF, MTBSR, MTFSF, MTFSR, MTNOP, MTOFFL, MTREW, MTWEOF};
