@@ -1,5 +1,3 @@
-pub mod Stdio
-pub mod Serving
 pub mod Dates
 pub mod Payload
 pub mod Updating

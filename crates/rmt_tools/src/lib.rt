@@ -6,12 +6,9 @@ mod dates_file;
 mod dates_store;
 mod dump_update;
 mod files;
-mod listening;
 mod memory_peer;
-mod memory_server;
 mod payload;
 mod progress;
-mod stdio;
 #[cfg(test)]
 mod tests;
 
@@ -20,14 +17,12 @@ pub use dates_store::{DatesStore, UpdateFault, update};
 pub use dump_client::RunFault;
 pub use dump_update::dump_and_update;
 pub use files::{DatesFile, read_or_empty, read_steady, seconds_now};
-pub use listening::serve_connections;
 pub use memory_peer::MemoryPeer;
-pub use memory_server::MemoryServer;
 pub use payload::{DumperFault, dumper};
 pub use progress::{Clearing, Gauge, ProgressLine, Shown};
 pub use rmt_peer::{Passed, Peer, ReadFault, SocketPeer, copy_volume, dump, mt, read_volume};
+pub use rmt_serve::{MemoryServer, run_stdio, serve_connections};
 pub use rmt_words::{
     DumpLine, LineFault, MtLine, RdumpLine, ReadLine, ServerLine, rdump_words, server_line,
     server_words,
 };
-pub use stdio::run_stdio;

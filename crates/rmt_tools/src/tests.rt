@@ -2,10 +2,7 @@
 
 mod dates;
 mod dump;
-mod failing;
 mod link;
-mod listening;
 mod memory_peer;
 mod progress;
-mod rows;
 mod updates;

@@ -12,7 +12,7 @@ use Rattle.rmt_server.specs.declared.stream.Served.{Served}
 use Rattle.rmt_server.specs.Session.{Scene, scene, closed, ServeRun}
 use Rattle.rmt_server.specs.Session.PlainSession.{Idle}
 use Rattle.rmt_server.specs.Stream.{Exchange}
-use Rattle.rmt_tools.specs.Stdio.{EndsWith}
+use Rattle.rmt_serve.specs.Stdio.{EndsWith}
 
 -- no seat holds a drive
 abbrev pub AllFree : Holders → Type 0

@@ -17,8 +17,8 @@ use Rattle.rmt_server.specs.Stream.{Exchange, EndsAs, NoneFailed}
 use Rattle.drives.specs.Shop.{Shop}
 use Rattle.rmt_server.specs.Session.{scene}
 use Rattle.rmt_server.specs.Session.PlainSession.{Idle}
-use Rattle.rmt_tools.specs.Stdio.{blank_scene, EndsWith, IsServedAlone}
-use Rattle.rmt_tools.specs.Serving.{IsServedNext}
+use Rattle.rmt_serve.specs.Stdio.{blank_scene, EndsWith, IsServedAlone}
+use Rattle.rmt_serve.specs.Serving.{IsServedNext}
 use Rattle.rmt_server.specs.declared.stream.Served.{Served}
 use Rattle.rmt_server.specs.declared.stream.ServeFault.{ServeFault}
 use Rattle.rmt_server.specs.declared.stream.ServeFault.TheVariants.{Input, Output}

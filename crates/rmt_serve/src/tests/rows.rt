@@ -1,6 +1,8 @@
 //! Conversations with the drive in memory, and the status that each ends with.
 
-use crate::run_stdio;
+use crate::{TapeServer, run_stdio};
+use drives::ListStacks;
+use rmt_server::Served;
 use rmt_wire::Counted;
 use std::alloc::Global;
 use std::process::Abort;
@@ -100,4 +102,28 @@ fn the_greatest_record_and_one_byte_more(rt: HostRuntime) -> Result<(), Fail> {
     let want = b"A0\nA65536\nE22\nInvalid argument\nE22\nInvalid argument\nA9\n".as_slice();
     check(&rt, rt.alloc(), CAPACITY, bytes.as_slice(), want, 0);
     Ok(())
+}
+
+/// Whether a drive of these stacks takes a record in one stream, and gives it back in the next.
+fn keeps_a_record(server: &mut TapeServer<ListStacks>, taken: &mut Vec<u8>) -> bool {
+    let mut first = Counted::new(b"O/dev/st0\n2\nW3\nabc".as_slice());
+    let mut next = Counted::new(b"O/dev/st0\n0\nR9\nC\n".as_slice());
+    let mut output = Counted::new(taken);
+    server.serve(&mut first, &mut output) == Some(Served::End)
+        && server.serve(&mut next, &mut output) == Some(Served::End)
+}
+
+#[test]
+fn drives_serve_one_stream_after_the_other(rt: HostRuntime) {
+    let mut stacks = ListStacks::new(rt.alloc());
+    let Ok(drive) = stacks.add_drive(b"/dev/st0") else {
+        panic!(rt; "there is memory");
+    };
+    let ready = stacks.add_reel(drive, b"r1", 1024).is_ok();
+    let Some(mut server) = TapeServer::new(rt.alloc(), 1, stacks) else {
+        panic!(rt; "there is memory");
+    };
+    let mut taken = Vec::new(rt.alloc());
+    assert!(rt; ready && keeps_a_record(&mut server, &mut taken));
+    assert_eq!(rt; taken.as_slice(), b"A0\nA3\nA0\nA3\nabcA0\n".as_slice());
 }

@@ -1,7 +1,7 @@
 use Rattle.std.proofs.Common.{rules, refl}
-use Rattle.rmt_tools.specs.Serving.{IsServedNext}
-use Rattle.rmt_tools.proofs.Endings.{alone, unserved}
-use Rattle.rmt_tools.proofs.stdio.serve_alone.Goals as goal
+use Rattle.rmt_serve.specs.Serving.{IsServedNext}
+use Rattle.rmt_serve.proofs.Endings.{alone, unserved}
+use Rattle.rmt_serve.proofs.stdio.serve_alone.Goals as goal
 
 pub returns-in_err-server : goal.returns-in_err-server
 returns-in_err-server g c = alone (unserved refl (search rules))

@@ -1,5 +1,6 @@
 //! Serving one stream with one drive in memory, as `rmtd --stdio` does.
-ghost use Rattle.rmt_tools.specs.Stdio.{IsServedAlone, IsStdio};
+ghost use Rattle.std.specs.Prelude.{◌≡◌};
+ghost use Rattle.rmt_serve.specs.Stdio.{IsServedAlone, IsStdio, exit_status};
 
 use crate::MemoryServer;
 use rmt_server::Served;
@@ -37,7 +38,15 @@ pub fn run_stdio<R: Read, W: Write>(
 ) -> u8
     ensures { IsStdio R.remaining W.contents capacity input.old input.new output.old output.new result }
 {
-    match serve_alone(alloc, input, output, capacity) {
+    exit_status(serve_alone(alloc, input, output, capacity))
+}
+
+/// The exit status of `rmtd --stdio`, by how its stream ended: 0 between two requests, 2 inside one, 3 at bytes that are no
+/// request, and 1 where a stream failed, or where memory was refused before the first request was read.
+pub fn exit_status(ending: Option<Served>) -> u8
+    ensures { result ≡ exit_status ending }
+{
+    match ending {
         Some(Served::End) => 0,
         None => FAILED,
         Some(Served::Truncated) => 2,

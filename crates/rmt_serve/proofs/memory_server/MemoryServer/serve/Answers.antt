@@ -7,10 +7,10 @@ use Rattle.drives.specs.declared.view.View.{View}
 use Rattle.drives.specs.Local.{Holders, holders}
 use Rattle.drives.specs.ListShop.{ListShop}
 use Rattle.tape.specs.Trouble.{TroubledTape}
-use Rattle.rmt_tools.specs.Serving.{IsAtRest, IsServedNext}
-use Rattle.rmt_tools.proofs.Endings.{unserved, ends_with}
-use Rattle.rmt_tools.proofs.Resting.{seated_rest, served_from_rest}
-use Rattle.rmt_tools.proofs.memory_server.MemoryServer.serve.Goals as goal
+use Rattle.rmt_serve.specs.Serving.{IsAtRest, IsServedNext}
+use Rattle.rmt_serve.proofs.Endings.{unserved, ends_with}
+use Rattle.rmt_serve.proofs.Resting.{seated_rest, served_from_rest}
+use Rattle.rmt_serve.proofs.memory_server.MemoryServer.serve.Goals as goal
 
 pub returns-in_err-wire : goal.returns-in_err-wire
 returns-in_err-wire g c = unserved refl (search rules)

@@ -1,8 +1,8 @@
 //! A drive in memory that serves one stream after the other.
 ghost use Rattle.std.specs.Prelude.{◌≡◌, IfSome, length};
 ghost use Rattle.drives.specs.ListShop.{IsShop, StacksCanFail};
-ghost use Rattle.rmt_tools.specs.Stdio.{blank_scene};
-ghost use Rattle.rmt_tools.specs.Serving.{IsServedNext};
+ghost use Rattle.rmt_serve.specs.Stdio.{blank_scene};
+ghost use Rattle.rmt_serve.specs.Serving.{IsServedNext};
 
 use drives::{DriveTable, ListStacks, LocalHolds};
 use rmt_server::{Served, Session, serve};
@@ -29,7 +29,7 @@ pub struct MemoryServer {
 impl Model for MemoryServer {
     ghost use Rattle.drives.specs.Shop.{Shop};
     ghost use Rattle.drives.specs.ListShop.{shop_of};
-    ghost use Rattle.rmt_tools.specs.Serving.{IsAtRest};
+    ghost use Rattle.rmt_serve.specs.Serving.{IsAtRest};
 
     ghost Value = { Shop };
 

@@ -1,7 +1,7 @@
 use Rattle.std.proofs.Common.{sym, subst}
-use Rattle.rmt_tools.specs.Serving.{ServedInTurn}
-use Rattle.rmt_tools.specs.Serving.ServedInTurn.{none, one_more}
-use Rattle.rmt_tools.proofs.listening.serve_stream.Goals as goal
+use Rattle.rmt_serve.specs.Serving.{ServedInTurn}
+use Rattle.rmt_serve.specs.Serving.ServedInTurn.{none, one_more}
+use Rattle.rmt_serve.proofs.listening.serve_stream.Goals as goal
 
 pub returns : goal.returns
 returns c =

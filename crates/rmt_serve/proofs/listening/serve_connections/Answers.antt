@@ -1,7 +1,7 @@
-use Rattle.rmt_tools.specs.Serving.ServedInTurn.{none}
-use Rattle.rmt_tools.proofs.Resting.{in_turn}
-use Rattle.rmt_tools.proofs.listening.serve_connections.Goals as goal
-use Rattle.rmt_tools.proofs.listening.serve_connections.Goals.{in-Ok, in_default}
+use Rattle.rmt_serve.specs.Serving.ServedInTurn.{none}
+use Rattle.rmt_serve.proofs.Resting.{in_turn}
+use Rattle.rmt_serve.proofs.listening.serve_connections.Goals as goal
+use Rattle.rmt_serve.proofs.listening.serve_connections.Goals.{in-Ok, in_default}
 
 pub loop-init : goal.loop-init
 loop-init c = none

@@ -1,0 +1,3 @@
+pub mod Stdio
+pub mod Serving
+pub mod Generic
