@@ -2,29 +2,23 @@
 //! dumpdates file, a dumpdates file that is asked, and the words of both programs.
 #![tactic(auto)]
 
-mod dates_file;
-mod dates_store;
 mod dump_update;
-mod files;
 mod listening;
 mod memory_peer;
 mod memory_server;
-mod payload;
-mod progress;
 mod stdio;
 #[cfg(test)]
 mod tests;
 
-pub use dates_file::{base_date, dates};
-pub use dates_store::{DatesStore, UpdateFault, update};
 pub use dump_client::RunFault;
+pub use dump_files::{
+    Clearing, DatesFile, DatesStore, DumperFault, Gauge, ProgressLine, Shown, UpdateFault, base_date, dates, dumper,
+    read_or_empty, read_steady, seconds_now, update,
+};
 pub use dump_update::dump_and_update;
-pub use files::{DatesFile, read_or_empty, read_steady, seconds_now};
 pub use listening::serve_connections;
 pub use memory_peer::MemoryPeer;
 pub use memory_server::MemoryServer;
-pub use payload::{DumperFault, dumper};
-pub use progress::{Clearing, Gauge, ProgressLine, Shown};
 pub use rmt_peer::{Passed, Peer, ReadFault, SocketPeer, copy_volume, dump, mt, read_volume};
 pub use rmt_words::{
     DumpLine, LineFault, MtLine, RdumpLine, ReadLine, ServerLine, rdump_words, server_line,
