@@ -11,8 +11,9 @@ use Rattle.dump_client.specs.declared.count.VolumeCount.{VolumeCount}
 use Rattle.dump_client.specs.declared.stage.Stage.{Stage}
 use Rattle.dump_client.specs.declared.stage.Stage.TheVariants.{Finished}
 use Rattle.rmt_peer.specs.Lines.{IsDumped, IsLast}
-use Rattle.rmt_tools.specs.declared.dates_store.UpdateFault.{UpdateFault}
-use Rattle.rmt_tools.specs.Updating.{entry_of, IsUpdated, IsTold, IsEntered}
+use Rattle.dump_files.specs.Updating.{IsUpdated}
+use Rattle.dump_files.specs.declared.dates_store.UpdateFault.{UpdateFault}
+use Rattle.rmt_tools.specs.Updating.{entry_of, IsTold, IsEntered}
 
 -- a dump that ended with 0 is finished
 finished_at : (whole : Bool) (at : Standing) (last : List ℕ) → IsLast whole at last 0 → at.stage ≡ Finished

@@ -1,4 +1,2 @@
-pub mod Dates
-pub mod Payload
 pub mod Updating
 pub mod Telling

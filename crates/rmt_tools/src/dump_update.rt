@@ -2,8 +2,8 @@
 ghost use Rattle.std.specs.Prelude.{◌≡◌};
 ghost use Rattle.rmt_tools.specs.Updating.{IsEntered, IsTold};
 
-use crate::dates_store::{DatesStore, UpdateFault, update};
 use dump_client::{Blocks, Client};
+use dump_files::{DatesStore, UpdateFault, update};
 use rmt_peer::{Peer, dump, print_text};
 use rmt_wire::Counted;
 use std::alloc::Global;

@@ -1,8 +1,6 @@
-//! Whole streams, files and words against what was written by hand.
+//! Whole streams and dumps against what was written by hand.
 
-mod dates;
 mod dump;
 mod link;
 mod memory_peer;
-mod progress;
 mod updates;

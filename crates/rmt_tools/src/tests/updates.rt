@@ -1,13 +1,8 @@
 //! Dumps over a peer in memory, and what is entered in dumpdates then.
 
 use super::memory_peer::peer;
-use super::progress::Seen;
-use crate::{
-    DatesStore, DumpLine, DumperFault, Shown, UpdateFault, base_date, dump, dump_and_update,
-    dumper, update,
-};
-use dump_client::{Client, ListBlocks, RunFault};
-use dumpdates::Entry;
+use crate::{DatesStore, DumpLine, Gauge, Shown, dump, dump_and_update, dumper};
+use dump_client::{Client, ListBlocks};
 use rmt_peer::Peer;
 use rmt_wire::Counted;
 use std::alloc::Global;
@@ -44,17 +39,20 @@ fn line(block: u64) -> DumpLine<'static> {
     }
 }
 
+/// Shows nothing.
+#[derive(Drop)]
+struct Unseen;
+
+impl Gauge for Unseen {
+    fn begin(&mut self, _: u32) {}
+
+    fn show(&mut self, _: u32, _: usize) {}
+}
+
 /// The client of a dump of 2,500 bytes, which are three blocks of 1,024.
-fn three_blocks(alloc: Global) -> Result<Client<Shown<ListBlocks, Seen>>, Fail> {
+fn three_blocks(alloc: Global) -> Result<Client<Shown<ListBlocks, Unseen>>, Fail> {
     let payload = Vec::from_elem(alloc, b'p', 2500)?;
-    match dumper(
-        alloc,
-        &line(1024),
-        951868800,
-        951782400,
-        payload,
-        Seen::new(),
-    ) {
+    match dumper(alloc, &line(1024), 951868800, 951782400, payload, Unseen) {
         Ok(client) => Ok(client),
         Err(_) => Err(Fail::new("no client")),
     }
@@ -147,50 +145,5 @@ fn a_dump_without_dumpdates(rt: HostRuntime) -> Result<(), Fail> {
     );
     assert!(&rt; printed.as_slice().starts_with(FIRST));
     peer.hang_up();
-    Ok(())
-}
-
-#[test]
-fn a_dump_that_cannot_be_entered(rt: HostRuntime) -> Result<(), Fail> {
-    let alloc = rt.alloc();
-    let Some(entry) = Entry::new("/usr", 1, 951868800) else {
-        return Err(Fail::new("no entry"));
-    };
-    let mut store = file_of(alloc, OLD, true, true)?;
-    assert_eq!(&rt; update(alloc, &mut store, entry), Ok(()));
-    assert_eq!(&rt; update(alloc, &mut store, entry), Ok(()));
-    assert_eq!(&rt; store.text.as_slice(), ENTERED);
-    let mut store = file_of(alloc, OLD, false, true)?;
-    assert_eq!(&rt; update(alloc, &mut store, entry), Err(UpdateFault::Unread));
-    let mut store = file_of(alloc, OLD, true, false)?;
-    assert_eq!(&rt;
-        update(alloc, &mut store, entry),
-        Err(UpdateFault::Unwritten)
-    );
-    let mut store = file_of(alloc, b"\n/usr", true, true)?;
-    let bad = UpdateFault::Dates(dumpdates::DatesFault::BadLine(2));
-    assert_eq!(&rt; update(alloc, &mut store, entry), Err(bad));
-    assert_eq!(&rt; store.text.as_slice(), b"\n/usr".as_slice());
-    Ok(())
-}
-
-#[test]
-fn a_base_date_and_a_bad_file(rt: HostRuntime) {
-    let alloc = rt.alloc();
-    let mut printed = Vec::new(alloc);
-    let mut out = Counted::new(&mut printed);
-    assert_eq!(&rt; base_date(alloc, OLD, "/usr", 2, &mut out), Some(951782400));
-    assert_eq!(&rt; base_date(alloc, b"\n/usr", "/usr", 2, &mut out), None);
-    assert_eq!(&rt; printed.as_slice(), b"line 2: bad line\n".as_slice());
-}
-
-#[test]
-fn blocks_that_no_run_has(rt: HostRuntime) -> Result<(), Fail> {
-    let alloc = rt.alloc();
-    for block in [0, 65537] {
-        let payload = Vec::from_elem(alloc, b'p', 3)?;
-        let refused = dumper(alloc, &line(block), 0, 0, payload, Seen::new()).err();
-        assert_eq!(&rt; refused, Some(DumperFault::Run(RunFault::BadBlockSize)));
-    }
     Ok(())
 }

@@ -2,7 +2,7 @@ use Rattle.std.proofs.Common.{rules, ◌≡◌, ◌≤◌, ◌<◌, ◌+◌, ◌
 use Rattle.std.specs.Int.{div_ceil}
 use Rattle.std.proofs.lemmas.List.{take-replicate}
 use Rattle.std.proofs.lemmas.Grind.{div_ceil_times}
-use Rattle.rmt_tools.proofs.payload.pad.Goals as goal
+use Rattle.dump_files.proofs.payload.pad.Goals as goal
 
 -- the zero bytes that are wanted are among those that there are
 zeros_there : (told len size blocks : ℕ) → told ≡ len → 1 ≤ size → size ≤ 65536 → blocks ≡ div_ceil len size

@@ -1,4 +1,4 @@
-use Rattle.rmt_tools.proofs.dates_file.print_fault.Goals as goal
+use Rattle.dump_files.proofs.dates_file.print_fault.Goals as goal
 
 pub returns-in-BadLine : goal.returns-in-BadLine
 returns-in-BadLine g c = rw c.in-BadLine.is c.print_at_line.ensures

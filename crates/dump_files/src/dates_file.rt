@@ -3,7 +3,7 @@
 ghost use Rattle.std.specs.Prelude.{◌≡◌, ◌⊎◌, ◌+◌, ◌++◌, ◌≤◌, [], length, codes, decimal};
 ghost use Rattle.dumpdates.specs.Text.{written};
 ghost use Rattle.dumpdates.specs.declared.fault.DatesFault.TheVariants.{OutOfMemory};
-ghost use Rattle.rmt_tools.specs.Dates.{IsBaseDate, IsDates, IsPrinted, fault_text, plain_asked};
+ghost use Rattle.dump_files.specs.Dates.{IsBaseDate, IsDates, IsPrinted, fault_text, plain_asked};
 
 use arrayvec::ArrayString;
 use dumpdates::{Dates, DatesFault};

@@ -1,9 +1,9 @@
 use Rattle.std.proofs.Common.{refl, inl, inr}
 use Rattle.dumpdates.specs.Text.{written}
 use Rattle.dumpdates.specs.declared.fault.DatesFault.TheVariants.{OutOfMemory}
-use Rattle.rmt_tools.specs.Dates.{fault_text}
-use Rattle.rmt_tools.proofs.Reached.{memory_wanted}
-use Rattle.rmt_tools.proofs.dates_file.dates.Goals as goal
+use Rattle.dump_files.specs.Dates.{fault_text}
+use Rattle.dump_files.proofs.Reached.{memory_wanted}
+use Rattle.dump_files.proofs.dates_file.dates.Goals as goal
 
 pub returns-in-None : goal.returns-in-None
 returns-in-None g c =

@@ -6,7 +6,7 @@ ghost use Rattle.dumpdates.specs.Lines.{HasDatesFault, SpellsDates};
 ghost use Rattle.dumpdates.specs.Stored.{plain_entry};
 ghost use Rattle.dumpdates.specs.Text.{written};
 ghost use Rattle.dumpdates.specs.declared.fault.DatesFault.TheVariants.{OutOfMemory};
-ghost use Rattle.rmt_tools.specs.Updating.{IsUpdated};
+ghost use Rattle.dump_files.specs.Updating.{IsUpdated};
 
 use dumpdates::{Dates, DatesFault, Entry};
 use std::alloc::Global;

@@ -3,11 +3,12 @@ ghost use Rattle.std.specs.Prelude.{◌≡◌, [], ◌≤◌, ◌*◌, ◌-◌, 
 ghost use Rattle.std.specs.Int.{div_ceil};
 ghost use Rattle.dump_client.specs.Standing.{standing};
 ghost use Rattle.dump_client.specs.declared.stage.Stage.TheVariants as stages;
-ghost use Rattle.rmt_tools.specs.Payload.{blocks_for, line_run, padded, payload_source, IsRefusedRun};
+ghost use Rattle.dump_files.specs.Payload.{blocks_for, line_run, padded, payload_source, IsRefusedRun};
 
-use crate::{DumpLine, Gauge, Shown};
+use crate::{Gauge, Shown};
 use dump_client::{Client, ListBlocks, Run, RunFault};
 use rmt_wire::DATA_LIMIT;
+use rmt_words::DumpLine;
 use std::alloc::{AllocError, Global};
 
 /// Why there is no client.
@@ -21,7 +22,7 @@ pub enum DumperFault {
 
 impl From<RunFault> for DumperFault {
     ghost use Rattle.std.specs.Prelude.{◌≡◌};
-    ghost use Rattle.rmt_tools.specs.declared.payload.DumperFault.TheVariants as faults;
+    ghost use Rattle.dump_files.specs.declared.payload.DumperFault.TheVariants as faults;
 
     ghost from_gives = { λ fault e. e ≡ faults.Run fault };
 
@@ -32,7 +33,7 @@ impl From<RunFault> for DumperFault {
 
 impl From<AllocError> for DumperFault {
     ghost use Rattle.std.specs.Prelude.{◌≡◌};
-    ghost use Rattle.rmt_tools.specs.declared.payload.DumperFault.TheVariants as faults;
+    ghost use Rattle.dump_files.specs.declared.payload.DumperFault.TheVariants as faults;
 
     ghost from_gives = { λ _ e. e ≡ faults.OutOfMemory };
 

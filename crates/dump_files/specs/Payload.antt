@@ -4,8 +4,8 @@ use Rattle.std.specs.Int.{div_ceil}
 use Rattle.dump_run.specs.Blocks.{Listed, listed, cut_blocks}
 use Rattle.dump_run.specs.Run.{PlainRun, plain_run, IsFirstBroken}
 use Rattle.rmt_words.specs.declared.run_line.DumpLine.{DumpLine}
-use Rattle.rmt_tools.specs.declared.payload.DumperFault.{DumperFault}
-use Rattle.rmt_tools.specs.declared.payload.DumperFault.TheVariants.{Run, OutOfMemory}
+use Rattle.dump_files.specs.declared.payload.DumperFault.{DumperFault}
+use Rattle.dump_files.specs.declared.payload.DumperFault.TheVariants.{Run, OutOfMemory}
 
 -- how many blocks of this size so many bytes take; none of no size
 abbrev pub blocks_for : ℕ → ℕ → ℕ

@@ -1,0 +1,6 @@
+//! Files, words and shows against what was written by hand.
+
+mod dates;
+mod failing;
+mod progress;
+mod updates;
