@@ -1,7 +1,7 @@
 //! The words `DEVICE=DIR` of `rmtd`.
 
 ghost use Rattle.std.specs.Prelude.{◌≡◌, ◌≢◌, ◌↔◌, map, option_map, IfOk, IsTrue, MatchOption, MatchResult};
-ghost use Rattle.std.specs.List.{list_any, AllPairs};
+ghost use Rattle.std.specs.List.{list_any, All, AllPairs};
 ghost use Rattle.std.specs.Str.{bytes_eq};
 ghost use Rattle.rmt_words.specs.Drive.{plain_drive, split_of, IsDrive, KeepsDriveRules};
 
@@ -69,13 +69,27 @@ pub(crate) fn check_drives<'a>(words: &[&'a str], bin: Option<&str>) -> Result<(
     if words.len() > DRIVES {
         return Err(Wrong::TooMany(words[DRIVES]));
     }
-    if let Some(word) = words.iter().find(|word| !is_drive(word)) {
+    if let Some(word) = not_drive(words) {
         return Err(Wrong::Drive(word));
     }
     match named_again(words) {
         Some(word) => Err(Wrong::Again(word)),
         None => Ok(()),
     }
+}
+
+/// The first of the words that names no drive.
+fn not_drive<'a>(words: &[&'a str]) -> Option<&'a str>
+    ensures { MatchOption result
+        (All IsDrive (map split_of (map (λ s. s.now) words.now)))
+        (λ _. ¬ (All IsDrive (map split_of (map (λ s. s.now) words.now)))) }
+{
+    for word in words {
+        if !is_drive(word) {
+            return Some(word);
+        }
+    }
+    None
 }
 
 /// The first of the words whose device one before it has.
