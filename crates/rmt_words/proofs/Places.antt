@@ -1,5 +1,5 @@
 -- Words at their places, and the drives that they say.
-use Rattle.std.proofs.Common.{◌≡◌, ◌≢◌, ℕ, ◌+◌, ◌<◌, ◌≤◌, ◌||◌, Bool, true, false, Bor, List, [], ◌∷◌, ◌++◌, length, take, map, refl, sym, ap, ◌∙◌, subst, arith, zero, suc, get_or, absurd}
+use Rattle.std.proofs.Common.{◌≡◌, ◌≢◌, ℕ, ◌+◌, ◌<◌, ◌≤◌, ◌||◌, Bool, true, false, Bor, List, [], ◌∷◌, ◌++◌, length, take, map, refl, sym, ap, ◌∙◌, subst, arith, zero, suc, get_or}
 use Rattle.std.specs.List.{All, AllPairs, list_any}
 use Rattle.std.specs.Str.{bytes_eq}
 use Rattle.std.proofs.Math.Seq.{take-suc}
@@ -19,7 +19,7 @@ abbrev pub said : List (Bor (List ℕ)) → List PlainDrive
 said xs = map split_of (map (λ s. s.now) xs)
 
 length-said : (xs : List (Bor (List ℕ))) → length (said xs) ≡ length xs
-length-said xs = length-map split_of (map (λ s. s.now) xs) ∙ length-map (λ (s : Bor (List ℕ)). s.now) xs
+length-said xs = length-map (map (λ (s : Bor (List ℕ)). s.now) xs) split_of ∙ length-map xs (λ (s : Bor (List ℕ)). s.now)
 
 take-said : (i : ℕ) (xs : List (Bor (List ℕ))) → take i (said xs) ≡ said (take i xs)
 take-said i xs = take-map split_of i (map (λ s. s.now) xs) ∙ ap (map split_of) (take-map (λ (s : Bor (List ℕ)). s.now) i xs)
@@ -29,7 +29,7 @@ within xs i l = subst (λ n. i < n) (sym (length-said xs)) l
 
 said_at : (xs : List (Bor (List ℕ))) (i : ℕ) (d : Bor (List ℕ)) (z : PlainDrive) → i < length xs → get_or (said xs) i z ≡ split_of (get_or xs i d).now
 said_at xs i d z l =
-    get_or-map split_of (map (λ s. s.now) xs) i d.now z (subst (λ n. i < n) (sym (length-map (λ (s : Bor (List ℕ)). s.now) xs)) l)
+    get_or-map split_of (map (λ s. s.now) xs) i d.now z (subst (λ n. i < n) (sym (length-map xs (λ (s : Bor (List ℕ)). s.now))) l)
     ∙ ap split_of (get_or-map (λ (s : Bor (List ℕ)). s.now) xs i d d.now l)
 
 -- the drives up to a place, with the one at it
@@ -82,11 +82,11 @@ apart_no xs i d y found l e h some apart =
     let has : list_any q (take i (said xs)) ≡ true = ap (list_any q) (take-said i xs) ∙ any_said q (take i xs) ∙ sym h ∙ some in
     let there = Any-from_list_any q (take i (said xs)) has in
     let k = there.0 in
-    let z = there.1.0 in
+    let z = there.1 in
     let n = length-take i (said xs) in
-    let m = there.1.1.0 in
+    let m = there.2 in
     let below : k < i = omega (arith, n, m) in
-    let at_k : get_or (said xs) k z ≡ z = sym (get_or-take i (said xs) k z below) ∙ there.1.1.1.0 in
+    let at_k : get_or (said xs) k z ≡ z = sym (get_or-take i (said xs) k z below) ∙ there.3 in
     let at_i : get_or (said xs) i z ≡ y = said_at xs i d z l ∙ sym e in
     apart k i z below (within xs i l)
-    (ap (λ w. w.device) at_k ∙ (bytes_eq-Decides z.device y.device).0 there.1.1.1.1 ∙ sym (ap (λ w. w.device) at_i))
+    (ap (λ w. w.device) at_k ∙ (bytes_eq-Decides z.device y.device).0 there.4 ∙ sym (ap (λ w. w.device) at_i))

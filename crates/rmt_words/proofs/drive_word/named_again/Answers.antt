@@ -1,4 +1,4 @@
-use Rattle.std.proofs.Common.{arith, subst}
+use Rattle.std.proofs.Common.{◌≢◌, arith, subst}
 use Rattle.std.specs.List.{AllPairs}
 use Rattle.rmt_words.specs.Drive.{plain_drive}
 use Rattle.rmt_words.proofs.Places.{all_said, apart_no, apart_yet}
@@ -16,4 +16,4 @@ loop-place-preserved c =
 pub returns : goal.returns
 returns c =
     let past = c.loop-place-test.false in
-    subst (λ ys. AllPairs _ ys) (all_said c.args.words.now c.loop-place.place (omega (arith, past))) c.loop-place.invariant
+    subst (λ ys. AllPairs (λ d e. d.device ≢ e.device) ys) (all_said c.args.words.now c.loop-place.place (omega (arith, past))) c.loop-place.invariant
