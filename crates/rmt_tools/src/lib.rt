@@ -27,7 +27,7 @@ pub use payload::{DumperFault, dumper};
 pub use progress::{Clearing, Gauge, ProgressLine, Shown};
 pub use rmt_peer::{Passed, Peer, ReadFault, SocketPeer, copy_volume, dump, mt, read_volume};
 pub use rmt_words::{
-    DumpLine, LineFault, MtLine, RdumpLine, ReadLine, ServerLine, rdump_words, server_line,
-    server_words,
+    DriveWord, DumpLine, LineFault, MtLine, RdumpLine, ReadLine, ServerLine, rdump_words,
+    server_line, server_words,
 };
 pub use stdio::run_stdio;

@@ -68,7 +68,7 @@ apart_yet xs i d y found l e h none before =
     let q : PlainDrive → Bool = λ z. bytes_eq z.device y.device in
     let lacks : list_any q (said (take i xs)) ≡ false = any_said q (take i xs) ∙ sym h ∙ none in
     let differs : (k : ℕ) (z : PlainDrive) → k < length (said (take i xs)) → (get_or (said (take i xs)) k z).device ≢ y.device =
-        λ k z m same. let clash : true ≡ false = sym (list_any_at q (said (take i xs)) k z m ((bytes_eq-Decides (get_or (said (take i xs)) k z).device y.device).1 same)) ∙ lacks in absurd cc in
+    λ k z m same. let clash : true ≡ false = sym (list_any_at q (said (take i xs)) k z m ((bytes_eq-Decides (get_or (said (take i xs)) k z).device y.device).1 same)) ∙ lacks in absurd cc in
     subst (λ ys. AllPairs (λ d e. d.device ≢ e.device) ys)
     (ap (λ z. said (take i xs) ++ z ∷ []) e ∙ sym (next xs i d l))
     (all_pairs_push (λ d e. d.device ≢ e.device) (said (take i xs)) y before differs)

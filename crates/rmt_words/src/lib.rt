@@ -7,9 +7,9 @@ mod rdump_line;
 mod rmtd_line;
 mod run_line;
 mod tape_line;
-mod wrong;
 #[cfg(test)]
 mod tests;
+mod wrong;
 
 pub use drive_word::DriveWord;
 pub use rdump_line::{RdumpLine, rdump_words};

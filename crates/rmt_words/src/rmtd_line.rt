@@ -195,9 +195,19 @@ fn command<'a>(alloc: Global) -> Result<Command<'a>, AllocError>
     let rmtd = named(alloc)
         .arg(flag(alloc, "stdio", "Serve standard input and standard output"))?
         .arg(valued(alloc, "listen", "ADDRESS", "Listen at this host and port"))?
-        .arg(valued(alloc, "capacity", "BYTES", "What a reel holds [default: 1048576]"))?
+        .arg(valued(
+            alloc,
+            "capacity",
+            "BYTES",
+            "What a reel holds [default: 1048576]",
+        ))?
         .arg(valued(alloc, "connections", "N", "End after so many connections"))?
-        .arg(valued(alloc, "bin", "DIR", "The folder of the reels that are taken away"))?
+        .arg(valued(
+            alloc,
+            "bin",
+            "DIR",
+            "The folder of the reels that are taken away",
+        ))?
         .arg(repeated(
             alloc,
             "drive",

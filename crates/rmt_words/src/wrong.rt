@@ -37,7 +37,9 @@ impl Wrong<'_> {
 impl fmt::Display for Wrong<'_> {
     fn fmt<W: fmt::Write>(&self, f: &mut fmt::Formatter<W>) -> fmt::Result {
         match self {
-            Wrong::Ways => f.write_str("one of --stdio and --listen <ADDRESS> is given, and not both"),
+            Wrong::Ways => f.write_str(
+                "one of --stdio and --listen <ADDRESS> is given, and not both",
+            ),
             Wrong::Capacity => f.write_str(
                 "invalid value for '--capacity <BYTES>': a number is 0 to 9223372036854775807 in digits",
             ),

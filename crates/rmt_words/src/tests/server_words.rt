@@ -69,7 +69,14 @@ fn words_of_no_use(rt: HostRuntime) {
 
 #[test]
 fn drives_in_folders(rt: HostRuntime) -> Result<(), Fail> {
-    let words = ["rmtd", "/dev/st0=/srv/a=b", "--stdio", "--bin", "/bin", "st1=c"];
+    let words = [
+        "rmtd",
+        "/dev/st0=/srv/a=b",
+        "--stdio",
+        "--bin",
+        "/bin",
+        "st1=c",
+    ];
     let line = line(rt.alloc(), &words)?;
     assert!(rt; line.bin == Some("/bin"));
     let wanted = [("/dev/st0", "/srv/a=b"), ("st1", "c")];
