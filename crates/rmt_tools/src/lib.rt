@@ -19,6 +19,6 @@ pub use rmt_serve::{
     MemoryServer, TapeServer, exit_status, run_stdio, serve_connections, serve_in_turn,
 };
 pub use rmt_words::{
-    DumpLine, LineFault, MtLine, RdumpLine, ReadLine, ServerLine, rdump_words, server_line,
-    server_words,
+    DriveWord, DumpLine, LineFault, MtLine, RdumpLine, ReadLine, ServerLine, rdump_words,
+    server_line, server_words,
 };

@@ -1,2 +1,3 @@
+pub mod Drive
 pub mod Rmtd
 pub mod Rdump

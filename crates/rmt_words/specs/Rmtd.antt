@@ -1,10 +1,11 @@
 -- The words of `rmtd`, as clap reads them.
-use Rattle.std.specs.Prelude.{◌≡◌, ◌≤◌, ◌⊎◌, ℕ, ◌&&◌, ◌||◌, Bool, true, false, not, is_some, List, [], Option, Some, None, MatchOption, codes, option_map}
+use Rattle.std.specs.Prelude.{◌≡◌, ◌≤◌, ◌⊎◌, ℕ, ◌&&◌, ◌||◌, Bool, true, false, not, is_some, List, [], Option, Some, None, MatchOption, codes, map, option_map, unwrap_or}
 use Rattle.std.specs.Option.{option_map_or}
 use Rattle.std.specs.Str.{bytes_eq}
 use Rattle.std.specs.Str.Parse.{IsNumeral, digits_value}
-use Rattle.clap.specs.Words.{App, Row, Rule, Text, Kinds, fault_of, first_of, matches_of, new_app, new_rule, with_rule}
-use Rattle.clap.specs.declared.builder.action.ArgAction.TheVariants.{Set, SetTrue}
+use Rattle.clap.specs.Words.{App, Row, Rule, Text, Kinds, all_of, fault_of, first_of, matches_of, new_app, new_rule, with_rule}
+use Rattle.clap.specs.declared.builder.action.ArgAction.TheVariants.{Set, SetTrue, Append}
+use Rattle.rmt_words.specs.Drive.{PlainDrive, KeepsDriveRules, plain_drive, split_of}
 use Rattle.rmt_words.specs.declared.rmtd_line.ServerLine.{ServerLine}
 
 -- `--NAME`, which takes no value
@@ -15,15 +16,20 @@ flag_rule name = record (new_rule name) { long = Some name; action = Some SetTru
 abbrev pub option_rule : Text → Rule
 option_rule name = record (new_rule name) { long = Some name; value_names = 1; action = Some Set }
 
+-- each word that is no option
+abbrev pub words_rule : Text → Rule
+words_rule name = record (new_rule name) { value_names = 1; action = Some Append }
+
 -- a command that knows its version, as clap's own `--version` prints it
 abbrev pub with_version : App → App
 with_version app = record app { top = record app.top { has_version = true } }
 
 -- the command `rmtd`
 unfoldable pub app : App
-app = with_rule (with_rule (with_rule (with_rule (with_version (new_app (codes "rmtd")))
+app = with_rule (with_rule (with_rule (with_rule (with_rule (with_rule (with_version (new_app (codes "rmtd")))
     (flag_rule (codes "stdio"))) (option_rule (codes "listen")))
-    (option_rule (codes "capacity"))) (option_rule (codes "connections"))
+    (option_rule (codes "capacity"))) (option_rule (codes "connections")))
+    (option_rule (codes "bin"))) (words_rule (codes "drive"))
 
 -- clap's matches of the words
 unfoldable pub matches_in : List Text → List Row
@@ -39,6 +45,17 @@ has_stdio rows = option_map_or (λ t. bytes_eq t (codes "true")) (first_of (code
 
 abbrev pub address_in : List Row → Option Text
 address_in rows = first_of (codes "listen") rows
+
+abbrev pub bin_in : List Row → Option Text
+bin_in rows = first_of (codes "bin") rows
+
+-- the words that are no options
+abbrev pub words_in : List Row → List Text
+words_in rows = unwrap_or (all_of (codes "drive") rows) []
+
+-- each of them, split at its first `=`
+abbrev pub drives_in : List Row → List PlainDrive
+drives_in rows = map split_of (words_in rows)
 
 -- just one of --stdio and --listen
 abbrev pub is_one_way : Bool → Bool → Bool
@@ -78,6 +95,7 @@ pub record KeepsRules (rows : List Row) : Type 0 where
   pub one_way : is_one_way (has_stdio rows) (is_some (address_in rows)) ≡ true
   pub capacity : IsNumberIfGiven (first_of (codes "capacity") rows)
   pub connections : IsNumberIfGiven (first_of (codes "connections") rows)
+  pub drives : KeepsDriveRules (bin_in rows) (drives_in rows)
 
 -- the line says what these matches say, and keeps the rules
 pub record IsLineIn (rows : List Row) (line : ServerLine) : Type 0 where
@@ -85,7 +103,10 @@ pub record IsLineIn (rows : List Row) (line : ServerLine) : Type 0 where
   pub listen : option_map (λ s. s.now) line.listen ≡ address_in rows
   pub capacity : ReadsCapacity (first_of (codes "capacity") rows) line.capacity
   pub connections : ReadsConnections (first_of (codes "connections") rows) line.connections
+  pub bin : option_map (λ s. s.now) line.bin ≡ bin_in rows
+  pub drives : map plain_drive line.drives.items ≡ drives_in rows
   pub one_way : is_one_way (has_stdio rows) (is_some (address_in rows)) ≡ true
+  pub drive_rules : KeepsDriveRules (bin_in rows) (drives_in rows)
 
 -- clap takes the words, and the line says what its matches of them say
 pub record IsLineOf (words : List Text) (line : ServerLine) : Type 0 where

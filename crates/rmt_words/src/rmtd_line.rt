@@ -2,9 +2,12 @@
 
 ghost use Rattle.std.specs.Prelude.{◌≡◌, map, codes, false, [], IfOk, IfErr, IsErrOf, MatchOption, MatchResult, option_map};
 ghost use Rattle.clap.specs.Words.{app_of, first_of, found_of, kind_of, new_app, rows_of, rule_of};
-ghost use Rattle.rmt_words.specs.Rmtd.{app, faults_in, flag_rule, has_stdio, matches_in, option_rule, with_version, IsLineIn, IsLineOf, IsRefused, KeepsRules, ReadsCapacity, ReadsConnections, SaysNumber, IsNumberIfGiven};
+ghost use Rattle.rmt_words.specs.Drive.{plain_drive, split_of};
+ghost use Rattle.rmt_words.specs.Rmtd.{app, words_in, words_rule, faults_in, flag_rule, has_stdio, matches_in, option_rule, with_version, IsLineIn, IsLineOf, IsRefused, KeepsRules, ReadsCapacity, ReadsConnections, SaysNumber, IsNumberIfGiven};
 
+use crate::drive_word::{DriveWord, check_drives, drives_of};
 use crate::number::number_of;
+use crate::wrong::Wrong;
 use clap::error::ErrorKind;
 use clap::{Arg, ArgAction, ArgMatches, Command, Error};
 use std::alloc::{AllocError, Global};
@@ -13,7 +16,7 @@ use std::alloc::{AllocError, Global};
 const USUAL_CAPACITY: u64 = 1_048_576;
 
 /// What the words ask of `rmtd`: to serve its standard input, or to listen at an address.
-#[derive(Clone, Copy, Debug)]
+#[derive(Debug, Drop)]
 pub struct ServerLine<'a> {
     /// Whether to serve standard input and standard output.
     pub stdio: bool,
@@ -23,6 +26,11 @@ pub struct ServerLine<'a> {
     pub capacity: u64,
     /// After how many connections to end.
     pub connections: Option<u64>,
+    /// The folder of the bin, which is given where there is a drive.
+    pub bin: Option<&'a str>,
+    /// The drives whose stacks are folders, in the order of their words: at most 64, with distinct devices. With none
+    /// there is one drive in memory.
+    pub drives: Vec<DriveWord<'a>>,
 }
 
 /// Why there is no line.
@@ -34,40 +42,13 @@ pub enum LineFault {
     OutOfMemory,
 }
 
-/// What is wrong with words that clap takes.
-#[derive(Clone, Copy, Debug, PartialEq, Eq)]
-enum Wrong {
-    Ways,
-    Capacity,
-    Connections,
-}
-
-impl Wrong {
-    fn kind(self) -> ErrorKind {
-        match self {
-            Wrong::Ways => ErrorKind::ArgumentConflict,
-            Wrong::Capacity | Wrong::Connections => ErrorKind::ValueValidation,
-        }
-    }
-
-    fn text(self) -> &'static str {
-        match self {
-            Wrong::Ways => "one of --stdio and --listen <ADDRESS> is given, and not both",
-            Wrong::Capacity => {
-                "invalid value for '--capacity <BYTES>': a number is 0 to 9223372036854775807 in digits"
-            }
-            Wrong::Connections => {
-                "invalid value for '--connections <N>': a number is 0 to 9223372036854775807 in digits"
-            }
-        }
-    }
-}
-
 /// Reads the words of `rmtd`, of which the first is the name of the program itself:
-/// `--stdio` or `--listen ADDRESS`, with `[--capacity BYTES] [--connections N]`.
+/// `--stdio` or `--listen ADDRESS`, with `[--capacity BYTES] [--connections N] [--bin DIR] [DEVICE=DIR]...`.
 ///
 /// Just one of `--stdio` and `--listen` is given. A number is 0 to 9223372036854775807, in digits. Without
-/// `--capacity` it is 1048576 bytes.
+/// `--capacity` it is 1048576 bytes. A word `DEVICE=DIR` is a drive: the device ends before the first `=` and is 1 to
+/// 255 bytes of one line, and the rest is a folder, not empty. There are at most 64, no two of one device, and
+/// `--bin` is given where there is one.
 pub fn server_words<'a>(alloc: Global, words: &'a [&'a str]) -> Result<ServerLine<'a>, LineFault>
     ensures line { IfOk result (IsLineOf (map (λ s. s.now) words.entry.now)) }
     ensures refused { IsErrOf result LineFault.BadWords → IsRefused (map (λ s. s.now) words.entry.now) }
@@ -86,9 +67,11 @@ pub fn server_line<'a>(alloc: Global, words: &'a [&'a str]) -> Result<ServerLine
 {
     let mut rmtd = command(alloc)?;
     let matches = matched(&mut rmtd, words)?;
-    match line_in(&matches) {
+    let given = drive_words(alloc, &matches)?;
+    let drives = drives_of(alloc, given.as_slice())?;
+    match line_in(&matches, given.as_slice(), drives) {
         Ok(line) => Ok(line),
-        Err(wrong) => Err(refusal(&mut rmtd, wrong)),
+        Err(wrong) => Err(refusal(alloc, &mut rmtd, wrong)?),
     }
 }
 
@@ -103,11 +86,9 @@ fn matched<'a>(rmtd: &mut Command<'a>, words: &'a [&'a str]) -> Result<ArgMatche
 }
 
 /// What a user is told of words that clap takes and that break a rule.
-fn refusal(rmtd: &mut Command<'_>, wrong: Wrong) -> Error {
-    match rmtd.error(wrong.kind(), wrong.text()) {
-        Ok(error) => error,
-        Err(refused) => Error::from(refused),
-    }
+fn refusal(alloc: Global, rmtd: &mut Command<'_>, wrong: Wrong<'_>) -> Result<Error, AllocError> {
+    let text = format!(in alloc; "{wrong}")?;
+    rmtd.error(wrong.kind(), text.as_str())
 }
 
 /// What an error is to a caller that wants no text.
@@ -120,8 +101,14 @@ fn fault_from(error: &Error) -> LineFault
     }
 }
 
-/// The line that clap's matches say.
-fn line_in<'a>(matches: &ArgMatches<'a>) -> Result<ServerLine<'a>, Wrong>
+/// The line that clap's matches say, of which these words are no options and say these drives.
+fn line_in<'a>(
+    matches: &ArgMatches<'a>,
+    given: &[&'a str],
+    drives: Vec<DriveWord<'a>>,
+) -> Result<ServerLine<'a>, Wrong<'a>>
+    requires given { map (λ s. s.now) given.now ≡ words_in (rows_of (found_of matches.now)) }
+    requires drives { map plain_drive drives.items ≡ map split_of (map (λ s. s.now) given.now) }
     ensures { MatchResult result (IsLineIn (rows_of (found_of matches.now))) (λ _. ¬ (KeepsRules (rows_of (found_of matches.now)))) }
 {
     let stdio = stdio_of(matches);
@@ -135,11 +122,17 @@ fn line_in<'a>(matches: &ArgMatches<'a>) -> Result<ServerLine<'a>, Wrong>
     let Ok(connections) = connections_of(text_of(matches, "connections")) else {
         return Err(Wrong::Connections);
     };
+    let bin = text_of(matches, "bin");
+    if let Err(wrong) = check_drives(given, bin) {
+        return Err(wrong);
+    }
     Ok(ServerLine {
         stdio,
         listen,
         capacity,
         connections,
+        bin,
+        drives,
     })
 }
 
@@ -160,6 +153,16 @@ fn text_of<'a>(matches: &ArgMatches<'a>, id: &str) -> Option<&'a str>
     matches.get_str(id)
 }
 
+/// The words that are no options, in order.
+fn drive_words<'a>(alloc: Global, matches: &ArgMatches<'a>) -> Result<Vec<&'a str>, AllocError>
+    ensures { IfOk result (λ v. map (λ s. s.now) v.items ≡ words_in (rows_of (found_of matches.now))) }
+{
+    match matches.get_strs("drive") {
+        Some(given) => Vec::from_slice(alloc, given),
+        None => Ok(Vec::new(alloc)),
+    }
+}
+
 /// The capacity that a text says, if one is given.
 fn capacity_of(text: Option<&str>) -> Option<u64>
     ensures { MatchOption result (¬ (IsNumberIfGiven (option_map (λ s. s.now) text.entry)))
@@ -172,7 +175,7 @@ fn capacity_of(text: Option<&str>) -> Option<u64>
 }
 
 /// The number of connections that a text says, if one is given.
-fn connections_of(text: Option<&str>) -> Result<Option<u64>, Wrong>
+fn connections_of(text: Option<&str>) -> Result<Option<u64>, Wrong<'static>>
     ensures { MatchResult result (ReadsConnections (option_map (λ s. s.now) text.entry))
         (λ _. ¬ (IsNumberIfGiven (option_map (λ s. s.now) text.entry))) }
 {
@@ -196,9 +199,21 @@ fn command<'a>(alloc: Global) -> Result<Command<'a>, AllocError>
             alloc,
             "capacity",
             "BYTES",
-            "What the reel in memory holds [default: 1048576]",
+            "What a reel holds [default: 1048576]",
         ))?
-        .arg(valued(alloc, "connections", "N", "End after so many connections"))?;
+        .arg(valued(alloc, "connections", "N", "End after so many connections"))?
+        .arg(valued(
+            alloc,
+            "bin",
+            "DIR",
+            "The folder of the reels that are taken away",
+        ))?
+        .arg(repeated(
+            alloc,
+            "drive",
+            "DEVICE=DIR",
+            "A drive and the folder of its reels [default: /dev/st0 in memory]",
+        ))?;
     Ok(rmtd)
 }
 
@@ -231,5 +246,16 @@ fn valued<'a>(alloc: Global, name: &'a str, value: &'a str, help: &'a str) -> Ar
         .long(name)
         .value_name(value)
         .action(ArgAction::Set)
+        .help(help)
+}
+
+/// A word that is no option, as often as it is given.
+fn repeated<'a>(alloc: Global, id: &'a str, value: &'a str, help: &'a str) -> Arg<'a>
+    ensures rule { rule_of result ≡ words_rule id.entry.now }
+    ensures local { result.global ≡ false }
+{
+    Arg::new(alloc, id)
+        .value_name(value)
+        .action(ArgAction::Append)
         .help(help)
 }

@@ -89,7 +89,7 @@ fn device_in<'a>(matches: &ArgMatches<'a>) -> Result<&'a str, WordFault>
 }
 
 /// Whether the bytes are a device: 1 to 255 of them, and none a line feed.
-fn is_device(device: &[u8]) -> bool
+pub(crate) fn is_device(device: &[u8]) -> bool
     ensures { IsTrue result ↔ IsDevice device.now }
 {
     !device.is_empty() && device.len() <= LINE_LIMIT && device.iter().all(|b| *b != b'\n')

@@ -18,7 +18,7 @@ fn main(rt: HostRuntime) -> io::Result<ExitCode> {
     let lent = words.iter().map(|word| word.as_str());
     let lent: Vec<&str> = lent.collect(rt.alloc())?;
     let status = match server_line(rt.alloc(), lent.as_slice()) {
-        Ok(line) => run(&rt, line)?,
+        Ok(line) => run(&rt, &line)?,
         Err(error) => refuse(&rt, error)?,
     };
     Ok(ExitCode::from(status))
@@ -30,11 +30,11 @@ fn words(rt: &HostRuntime) -> io::Result<Vec<String>> {
 }
 
 /// Serves as the line says, and answers the status.
-fn run(rt: &HostRuntime, line: ServerLine<'_>) -> io::Result<u8> {
+fn run(rt: &HostRuntime, line: &ServerLine<'_>) -> io::Result<u8> {
     let Some(address) = line.listen else {
         return Ok(serve_stdio(rt, line.capacity));
     };
-    match listen(rt, address, &line) {
+    match listen(rt, address, line) {
         Ok(status) => Ok(status),
         Err(error) => {
             eprintln!(rt; "rmtd: {address}: {error}")?;

@@ -62,9 +62,47 @@ fn neither_or_both(rt: HostRuntime) {
 
 #[test]
 fn words_of_no_use(rt: HostRuntime) {
-    check_refused(&rt, rt.alloc(), &["rmtd", "--stdio", "/dev/st0=/srv"]);
-    check_refused(&rt, rt.alloc(), &["rmtd", "--stdio", "--bin", "/srv"]);
+    check_refused(&rt, rt.alloc(), &["rmtd", "--stdio", "--bin"]);
     check_refused(&rt, rt.alloc(), &["rmtd", "--listen"]);
+    check_refused(&rt, rt.alloc(), &["rmtd", "--stdio", "--drive", "x=/srv"]);
+}
+
+#[test]
+fn drives_in_folders(rt: HostRuntime) -> Result<(), Fail> {
+    let words = [
+        "rmtd",
+        "/dev/st0=/srv/a=b",
+        "--stdio",
+        "--bin",
+        "/bin",
+        "st1=c",
+    ];
+    let line = line(rt.alloc(), &words)?;
+    assert!(rt; line.bin == Some("/bin"));
+    let wanted = [("/dev/st0", "/srv/a=b"), ("st1", "c")];
+    assert_eq!(rt; line.drives.len(), 2);
+    for (drive, (device, folder)) in line.drives.iter().zip(wanted) {
+        assert_eq!(rt; drive.device, device);
+        assert_eq!(rt; drive.folder, folder);
+    }
+    Ok(())
+}
+
+#[test]
+fn a_bin_alone(rt: HostRuntime) -> Result<(), Fail> {
+    let line = line(rt.alloc(), &["rmtd", "--stdio", "--bin", "/srv"])?;
+    assert!(rt; line.bin == Some("/srv") && line.drives.is_empty());
+    Ok(())
+}
+
+#[test]
+fn drives_that_are_none(rt: HostRuntime) {
+    check_refused(&rt, rt.alloc(), &["rmtd", "--stdio", "st0=/srv"]);
+    for word in ["st0", "=/srv", "st0=", "=", "", "s\nt=/srv"] {
+        check_refused(&rt, rt.alloc(), &["rmtd", "--stdio", "--bin", "/bin", word]);
+    }
+    let twice = ["rmtd", "--stdio", "--bin", "/bin", "a=x", "b=y", "a=z"];
+    check_refused(&rt, rt.alloc(), &twice);
 }
 
 #[test]

@@ -1,0 +1,58 @@
+//! What is wrong with words that clap takes.
+
+use clap::error::ErrorKind;
+use std::fmt;
+
+/// Which rule the words of `rmtd` break. Its `Display` is the text for the user.
+#[derive(Clone, Copy, Debug, PartialEq, Eq)]
+pub(crate) enum Wrong<'a> {
+    /// Neither or both of `--stdio` and `--listen` are given.
+    Ways,
+    /// The capacity is no number.
+    Capacity,
+    /// The connections are no number.
+    Connections,
+    /// This word names a drive, and no bin is given.
+    NoBin(&'a str),
+    /// This word names one drive too many.
+    TooMany(&'a str),
+    /// This word names no drive.
+    Drive(&'a str),
+    /// This word names a drive again.
+    Again(&'a str),
+}
+
+impl Wrong<'_> {
+    /// The kind of clap's error.
+    pub(crate) fn kind(self) -> ErrorKind {
+        match self {
+            Wrong::Ways | Wrong::Again(_) => ErrorKind::ArgumentConflict,
+            Wrong::Capacity | Wrong::Connections | Wrong::Drive(_) => ErrorKind::ValueValidation,
+            Wrong::NoBin(_) => ErrorKind::MissingRequiredArgument,
+            Wrong::TooMany(_) => ErrorKind::TooManyValues,
+        }
+    }
+}
+
+impl fmt::Display for Wrong<'_> {
+    fn fmt<W: fmt::Write>(&self, f: &mut fmt::Formatter<W>) -> fmt::Result {
+        match self {
+            Wrong::Ways => f.write_str(
+                "one of --stdio and --listen <ADDRESS> is given, and not both",
+            ),
+            Wrong::Capacity => f.write_str(
+                "invalid value for '--capacity <BYTES>': a number is 0 to 9223372036854775807 in digits",
+            ),
+            Wrong::Connections => f.write_str(
+                "invalid value for '--connections <N>': a number is 0 to 9223372036854775807 in digits",
+            ),
+            Wrong::NoBin(word) => write!(f, "the drive '{word}' is given, and --bin <DIR> is not"),
+            Wrong::TooMany(word) => write!(f, "unexpected drive '{word}': there are at most 64"),
+            Wrong::Drive(word) => write!(
+                f,
+                "invalid drive '{word}': it is DEVICE=DIR, with a device of 1 to 255 bytes of one line, and a folder"
+            ),
+            Wrong::Again(word) => write!(f, "invalid drive '{word}': its device is named before"),
+        }
+    }
+}
