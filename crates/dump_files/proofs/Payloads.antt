@@ -11,7 +11,7 @@ use Rattle.tape.specs.Medium.MediumCall.{ReadAt}
 use Rattle.tape.specs.declared.medium.MediumFailed.{MediumFailed}
 use Rattle.dump_run.specs.Blocks.{HasBlock, GivesBlock}
 use Rattle.dump_run.specs.declared.blocks.SourceFailed.{SourceFailed}
-use Rattle.dump_run.specs.Run.{PlainRun}
+use Rattle.dump_run.specs.Run.{PlainRun, plain_run}
 use Rattle.dump_client.specs.Client.{IsPayload}
 use Rattle.dump_run.proofs.Cut.{block_at, length_cut, size_cut}
 use Rattle.dump_files.specs.Payload.{FiledPayload, HasBlocks, IsPayloadRead, begin_of, blocks_for, padded, payload_blocks}
@@ -155,11 +155,14 @@ gives_block {old = old} {block = block} {into = into} {given = given} (Ok x) rea
 gives_block (Err failed) read blocks held there = tt
 
 -- the blocks of a payload are those of a run that has its size and as many as it takes
-pub is_payload : {M : Type 0} (holds : M → List ℕ → Type 0) (p : FiledPayload M) (run : PlainRun) → run.block_bytes ≡ p.size → run.blocks ≡ blocks_for p.size p.len
-    → (blocks : List (List ℕ)) → HasBlocks holds p blocks → IsPayload run blocks
-is_payload holds p run size count blocks (bytes, held, len, e) =
-    let many : run.blocks ≡ blocks_for p.size (length bytes) = count ∙ ap (blocks_for p.size) (sym len) in
+pub is_payload : {M : Type 0} (holds : M → List ℕ → Type 0) (p : FiledPayload M) (run : PlainRun)
+    {device name : List ℕ} {level date since size blocks long : ℕ} → run ≡ plain_run device name level date since size blocks
+    → blocks ≡ blocks_for size long → long ≡ p.len → p.size ≡ size
+    → (payload : List (List ℕ)) → HasBlocks holds p payload → IsPayload run payload
+is_payload holds p run {long = long} is takes all same payload (bytes, held, len, e) =
+    let many : run.blocks ≡ blocks_for p.size (length bytes) =
+    ap (λ r. r.blocks) is ∙ takes ∙ ap (λ n. blocks_for n long) (sym same) ∙ ap (blocks_for p.size) (all ∙ sym len) in
     (
       ap length e ∙ length_blocks p.size bytes ∙ sym many,
-      λ n h. ap (λ bs. length (get_or bs n [])) e ∙ size_blocks p.size bytes n (subst (λ k. n < k) many h) ∙ sym size,
+      λ n h. ap (λ bs. length (get_or bs n [])) e ∙ size_blocks p.size bytes n (subst (λ k. n < k) many h) ∙ same ∙ sym (ap (λ r. r.block_bytes) is),
     )

@@ -1,6 +1,6 @@
 //! Payloads on a medium in memory, block by block, and the clients that dump them.
 
-ghost use Rattle.std.specs.Prelude.{◌≡◌, IfOk};
+ghost use Rattle.std.specs.Prelude.{◌≡◌, IfSome};
 
 use super::progress::Seen;
 use crate::{DumperFault, PayloadFile, Shown, dumper};
@@ -8,7 +8,7 @@ use dump_client::{Blocks, Client, RunFault};
 use rmt_words::DumpLine;
 use std::alloc::Global;
 use std::test::Fail;
-use tape::{MediumFailed, MemoryMedium};
+use tape::MemoryMedium;
 
 type Payload = PayloadFile<MemoryMedium>;
 
@@ -33,14 +33,11 @@ fn line(block: u64) -> DumpLine<'static>
 }
 
 /// These bytes in blocks of so many.
-fn payload(alloc: Global, bytes: &[u8], block_bytes: u64) -> Result<Payload, Fail>
-    ensures { IfOk result (λ p. p.size ≡ block_bytes) }
+fn payload(alloc: Global, bytes: &[u8], block_bytes: u64) -> Option<Payload>
+    ensures { IfSome result (λ p. p.size ≡ block_bytes) }
 {
-    let medium = MemoryMedium::from_bytes(Vec::from_slice(alloc, bytes)?);
-    match PayloadFile::open(medium, block_bytes) {
-        Ok(payload) => Ok(payload),
-        Err(MediumFailed) => Err(Fail::new("no payload")),
-    }
+    let medium = MemoryMedium::from_bytes(Vec::from_slice(alloc, bytes).ok()?);
+    PayloadFile::open(medium, block_bytes).ok()
 }
 
 /// The client of a dump of these bytes in blocks of so many.
@@ -49,7 +46,7 @@ fn client(
     bytes: &[u8],
     block_bytes: u64,
 ) -> Result<Client<Shown<Payload, Seen>>, DumperFault> {
-    let Ok(payload) = payload(alloc, bytes, block_bytes) else {
+    let Some(payload) = payload(alloc, bytes, block_bytes) else {
         return Err(DumperFault::OutOfMemory);
     };
     dumper(alloc, &line(block_bytes), 951868800, 951782400, payload, Seen::new())
@@ -80,7 +77,9 @@ fn a_block_and_a_padded_one(rt: HostRuntime) -> Result<(), Fail> {
 
 #[test]
 fn a_length_and_no_failures(rt: HostRuntime) -> Result<(), Fail> {
-    let payload = payload(rt.alloc(), b"abcdef", 4)?;
+    let Some(payload) = payload(rt.alloc(), b"abcdef", 4) else {
+        return Err(Fail::new("no payload"));
+    };
     assert_eq!(&rt; (payload.len(), payload.failures()), (6, 0));
     Ok(())
 }

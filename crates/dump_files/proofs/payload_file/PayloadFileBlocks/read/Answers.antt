@@ -1,4 +1,4 @@
-use Rattle.std.proofs.Common.{rules, ◌≡◌, ◌*◌, ◌-◌, length, min, Ok, ap, ◌∙◌, arith}
+use Rattle.std.proofs.Common.{rules, ◌≡◌, ◌*◌, ◌-◌, length, min, Ok, ap, ◌∙◌}
 use Rattle.dump_files.proofs.Payloads.{read_whole, same_blocks, gives_block}
 use Rattle.dump_files.proofs.payload_file.PayloadFileBlocks.read.Goals as goal
 
