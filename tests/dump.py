@@ -110,15 +110,23 @@ class Received:
 
 
 class Model:
-    """A tape server with one drive, of these reels, one connection after the other. `lost` are requests whose reply is the end instead."""
+    """A tape server with one drive, of these reels, one connection after the other. `lost` are requests whose reply is the end instead,
+    `said` are other replies, and `acts` is what is done before a reply, each by the number of the request, counted from 1."""
 
-    def __init__(self, *reels: Reel, lost: tuple[int, ...] = (), said: dict[int, bytes] | None = None) -> None:
+    def __init__(
+        self,
+        *reels: Reel,
+        lost: tuple[int, ...] = (),
+        said: dict[int, bytes] | None = None,
+        acts: dict[int, Callable[[], object]] | None = None,
+    ) -> None:
         self.stack = list(reels)
         self.bin: list[Reel] = []
         self.logs: list[list[bytes]] = []
         self.ahead = False
         self.lost = lost
         self.said = said or {}
+        self.acts = acts or {}
         self.listener = socket.create_server(("127.0.0.1", 0))
         self.address = "127.0.0.1:%d" % self.listener.getsockname()[1]
         self.worker = threading.Thread(target=self.serve, daemon=True)
@@ -143,6 +151,8 @@ class Model:
             self.ahead |= received.ahead
             reply = self.reply(request)
             number = sum(len(it) for it in self.logs)
+            if number in self.acts:
+                self.acts[number]()
             if number in self.lost:
                 return
             received.stream.sendall(self.said.get(number, reply))
@@ -325,6 +335,65 @@ def dumps(p: Programs) -> None:
     p.dump(model.address)
     check("the last block is padded", model.bin[0].entries[1] == b"x" + bytes(1023))
     model.stop()
+
+
+def payloads(p: Programs) -> None:
+    """Payloads that become shorter or longer while they are dumped, and one that is no plain file."""
+    payload = p.folder / "payload"
+    failed = "volume 1 failed: SourceFault\nretry?\n"
+    whole = "volume 1: 3 blocks from 0\ndump complete: 1 volumes, 3 blocks\n"
+    for title, act, output, status in (
+        ("a payload cut short", lambda: os.truncate(payload, 2047), failed + "dump abandoned\n", ABNORMAL),
+        ("a payload cut to a block", lambda: os.truncate(payload, 1024), failed + "dump abandoned\n", ABNORMAL),
+        ("a payload that grows", lambda: os.truncate(payload, 9999), whole, DONE),
+    ):
+        p.file("payload", PAYLOAD)
+        # The fourth request is the first block.
+        model = Model(Reel("r1", 4200), acts={4: act})
+        ends(title, p.dump(model.address), output, status)
+        sent = [it for it in model.logs[0] if it.startswith(b"W")][1:]
+        blocks = BLOCKS if status == DONE else BLOCKS[:1]
+        check(f"{title}: the blocks", sent == [b"W1024\n" + it for it in blocks], sent)
+        model.stop()
+    p.file("payload", PAYLOAD)
+    model = Model(Reel("r1", 4200), acts={4: lambda: os.truncate(payload, 1024), 5: lambda: p.file("payload", PAYLOAD)})
+    ends("a payload that is there again", p.dump(model.address, said="yes\n"), failed + whole, DONE)
+    check("a payload that is there again: the volume", model.bin[0].entries == [label(1, 0), *BLOCKS, None])
+    model.stop()
+    model = Model(Reel("r1", 4200))
+    ends("a pipe", p.dump(model.address, payload="/dev/stdin", said="x" * 2049), whole, DONE)
+    padded = b"x" + bytes(1023)
+    check("a pipe: the volume", model.bin[0].entries == [label(1, 0), b"x" * 1024, b"x" * 1024, padded, None])
+    model.stop()
+    fails("a plain file without a length", p.dump("127.0.0.1:1", payload="/proc/version"), "/proc/version", "length")
+
+
+def peak(p: Programs, size: int) -> int:
+    """The greatest resident memory of a dump of so many bytes, in KiB, as the system tells it before the last request is answered."""
+    p.file("payload", bytes(size))
+    blocks = -(-size // 65536)
+    seen: list[int] = []
+
+    def look() -> None:
+        text = Path(f"/proc/{client.pid}/status").read_text()
+        seen.append(int(re.search(r"VmHWM:\s+(\d+) kB", text)[1]))
+
+    # An open, a rewind, the label and the blocks are followed by the mark, the move to the bin and the close.
+    model = Model(Reel("r1", size + 8 * blocks + 65536), acts={blocks + 6: look})
+    words = ["--to", model.address, "--device", DEVICE, "--fs", "/usr", "--level", "0", "--payload", "payload", "--block", "65536"]
+    with subprocess.Popen((p.rdump, "dump", *words, "--dumpdates", "none"), cwd=p.folder, stdin=subprocess.DEVNULL, stdout=subprocess.PIPE) as client:
+        printed = client.communicate(timeout=GUARD_SECONDS)[0].decode()
+    wanted = f"volume 1: {blocks} blocks from 0\ndump complete: 1 volumes, {blocks} blocks\n"
+    check(f"a payload of {size} bytes in large blocks", (printed, client.returncode) == (wanted, DONE), printed, client.returncode)
+    model.stop()
+    return seen[0] if seen else 0
+
+
+def memory(p: Programs) -> None:
+    """A plain file is not kept in memory while it is dumped."""
+    small, large = peak(p, 65536), peak(p, 64 << 20)
+    check("a dump of 64 MiB takes no more memory", 0 < large < small + 4096, small, large)
+    os.remove(p.folder / "payload")
 
 
 CLEAR = "\r\x1b[K"
@@ -626,7 +695,7 @@ def main() -> int:
     parser.add_argument("rmtd", nargs="?", default=str(CRATES / "rmtd/out/rmtd"))
     parser.add_argument("rdump", nargs="?", default=str(CRATES / "rdump/out/rdump"))
     asked = parser.parse_args()
-    for part in (dumps, progress, dates, retries, startup, servers, operations, reads):
+    for part in (dumps, payloads, memory, progress, dates, retries, startup, servers, operations, reads):
         with tempfile.TemporaryDirectory() as folder:
             part(Programs(os.path.abspath(asked.rmtd), os.path.abspath(asked.rdump), Path(folder)))
     print(f"{COUNT[0]} passed, {COUNT[1]} failed")

@@ -7,13 +7,9 @@ use std::io::{self, ErrorKind, Read, Write};
 use std::rt::Files;
 use std::time::{Clock, SystemTime, UNIX_EPOCH};
 
-/// Reads a file whole. None where it is no longer as long as it was when the reading began.
-pub fn read_steady<R: Files<File = File>>(
-    rt: &R,
-    alloc: Global,
-    path: &str,
-) -> io::Result<Option<Vec<u8>>> {
-    let mut file = File::open(rt, path)?;
+/// Reads a file whole, from where it stands. None where it is a plain file and is no longer as long as it was when the
+/// reading began.
+pub fn read_steady(alloc: Global, mut file: File) -> io::Result<Option<Vec<u8>>> {
     let before = file.metadata()?;
     let mut bytes = Vec::new(alloc);
     file.read_to_end(&mut bytes)?;

@@ -9,6 +9,7 @@ mod dates_file;
 mod dates_store;
 mod files;
 mod payload;
+mod payload_file;
 mod progress;
 #[cfg(test)]
 mod tests;
@@ -17,4 +18,5 @@ pub use dates_file::{base_date, dates};
 pub use dates_store::{DatesStore, UpdateFault, update};
 pub use files::{DatesFile, read_or_empty, read_steady, seconds_now};
 pub use payload::{DumperFault, dumper};
+pub use payload_file::PayloadFile;
 pub use progress::{Clearing, Gauge, ProgressLine, Shown};

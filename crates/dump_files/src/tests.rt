@@ -2,5 +2,6 @@
 
 mod dates;
 mod failing;
+mod payload;
 mod progress;
 mod updates;

@@ -1,19 +1,21 @@
 //! The dump client.
 #![tactic(auto)]
 
+ghost use Rattle.std.specs.Prelude.{◌≡◌};
 ghost use Rattle.rmt_words.specs.Rdump.{IsMtLine, IsReadLine};
 
 use clap::error::ErrorKind;
 use rmt_tools::{
-    Clearing, DatesFile, DumpLine, DumperFault, MtLine, ProgressLine, RdumpLine, ReadFault,
-    ReadLine, RunFault, SocketPeer, base_date, copy_volume, dates, dump, dump_and_update, dumper,
-    mt, rdump_words, read_or_empty, read_steady, seconds_now,
+    Clearing, DatesFile, DumpLine, DumperFault, MtLine, PayloadFile, ProgressLine, RdumpLine,
+    ReadFault, ReadLine, RunFault, SocketPeer, base_date, copy_volume, dates, dump,
+    dump_and_update, dumper, mt, rdump_words, read_or_empty, read_steady, seconds_now,
 };
 use rmt_wire::Counted;
 use std::fs::{self, File};
 use std::io::{IsTerminal, Stderr, Write};
 use std::process::ExitCode;
 use std::{env, io};
+use tape::{FileMedium, Medium, MediumFailed, MemoryMedium};
 
 /// What the program ends with where its words are wrong, a file can't be read, or memory is refused.
 const FAILED: u8 = 1;
@@ -55,12 +57,32 @@ fn refuse(rt: &HostRuntime, error: clap::Error) -> io::Result<u8> {
     Ok(if error.use_stderr() { FAILED } else { 0 })
 }
 
-/// Reads the payload and the dumpdates file, dumps, and answers the status.
+/// Opens the payload, dumps it, and answers the status. A plain file is read block by block while it is dumped. Any other
+/// file, as a pipe, and one that says that it has no bytes is read whole before that.
 fn start_dump(rt: &HostRuntime, line: &DumpLine<'_>) -> io::Result<u8> {
-    let payload = match read_steady(rt, rt.alloc(), line.payload) {
-        Ok(Some(payload)) => payload,
-        Ok(None) => return say(rt, line.payload, "its length changed while it was read"),
+    let file = match File::open(rt, line.payload) {
+        Ok(file) => file,
         Err(error) => return tell(rt, line.payload, error),
+    };
+    let found = match file.metadata() {
+        Ok(found) => found,
+        Err(error) => return tell(rt, line.payload, error),
+    };
+    if found.is_file() && found.len() > 0 {
+        return dump_medium(rt, line, FileMedium::new(file));
+    }
+    match read_steady(rt.alloc(), file) {
+        Ok(Some(bytes)) => dump_medium(rt, line, MemoryMedium::from_bytes(bytes)),
+        Ok(None) => say(rt, line.payload, "its length changed while it was read"),
+        Err(error) => tell(rt, line.payload, error),
+    }
+}
+
+/// Reads the dumpdates file, dumps the payload that lies on this medium, and answers the status.
+fn dump_medium<M: Medium + Drop>(rt: &HostRuntime, line: &DumpLine<'_>, medium: M) -> io::Result<u8> {
+    let payload = match PayloadFile::open(medium, line.block) {
+        Ok(payload) => payload,
+        Err(MediumFailed) => return say(rt, line.payload, "its length could not be read"),
     };
     let file = match read_or_empty(rt, rt.alloc(), line.dumpdates) {
         Ok(file) => file,
@@ -75,7 +97,14 @@ fn start_dump(rt: &HostRuntime, line: &DumpLine<'_>) -> io::Result<u8> {
 }
 
 /// Dumps a payload that builds on a dump of the date `since`, and answers the status.
-fn run_dump(rt: &HostRuntime, line: &DumpLine<'_>, payload: Vec<u8>, since: u64) -> io::Result<u8> {
+fn run_dump<M: Medium + Drop>(
+    rt: &HostRuntime,
+    line: &DumpLine<'_>,
+    payload: PayloadFile<M>,
+    since: u64,
+) -> io::Result<u8>
+    requires { payload.size ≡ line.now.block }
+{
     let Some(date) = line.date.or(seconds_now(rt)) else {
         return say(rt, "the clock", "it tells no date");
     };

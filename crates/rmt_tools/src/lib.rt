@@ -9,8 +9,8 @@ mod tests;
 
 pub use dump_client::RunFault;
 pub use dump_files::{
-    Clearing, DatesFile, DatesStore, DumperFault, Gauge, ProgressLine, Shown, UpdateFault,
-    base_date, dates, dumper, read_or_empty, read_steady, seconds_now, update,
+    Clearing, DatesFile, DatesStore, DumperFault, Gauge, PayloadFile, ProgressLine, Shown,
+    UpdateFault, base_date, dates, dumper, read_or_empty, read_steady, seconds_now, update,
 };
 pub use dump_update::dump_and_update;
 pub use memory_peer::MemoryPeer;

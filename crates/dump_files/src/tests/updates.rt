@@ -1,11 +1,8 @@
-//! Clients of the words of a dump, and what is entered in dumpdates.
+//! What is entered in dumpdates, and a base date.
 
-use super::progress::Seen;
-use crate::{DatesStore, DumperFault, UpdateFault, base_date, dumper, update};
-use dump_client::RunFault;
+use crate::{DatesStore, UpdateFault, base_date, update};
 use dumpdates::Entry;
 use rmt_wire::Counted;
-use rmt_words::DumpLine;
 use std::alloc::Global;
 use std::test::Fail;
 
@@ -18,21 +15,6 @@ const ENTERED: &[u8] = b"/usr                             0 Tue Feb 29 00:00:00 
 /usr                             1 Wed Mar  1 00:00:00 2000
 /home                            0 Thu Jan  1 00:00:00 1970
 ";
-
-/// The words of a dump of `/usr` at level 1, in blocks of this size.
-fn line(block: u64) -> DumpLine<'static> {
-    DumpLine {
-        to: "nowhere:1",
-        device: "/dev/st0",
-        fs: "/usr",
-        level: 1,
-        payload: "payload",
-        block,
-        dumpdates: "dumpdates",
-        date: None,
-        update: true,
-    }
-}
 
 /// A file in memory, which can be told not to be read or not to be replaced.
 #[derive(Drop)]
@@ -100,15 +82,4 @@ fn a_base_date_and_a_bad_file(rt: HostRuntime) {
     assert_eq!(&rt; base_date(alloc, OLD, "/usr", 2, &mut out), Some(951782400));
     assert_eq!(&rt; base_date(alloc, b"\n/usr", "/usr", 2, &mut out), None);
     assert_eq!(&rt; printed.as_slice(), b"line 2: bad line\n".as_slice());
-}
-
-#[test]
-fn blocks_that_no_run_has(rt: HostRuntime) -> Result<(), Fail> {
-    let alloc = rt.alloc();
-    for block in [0, 65537] {
-        let payload = Vec::from_elem(alloc, b'p', 3)?;
-        let refused = dumper(alloc, &line(block), 0, 0, payload, Seen::new()).err();
-        assert_eq!(&rt; refused, Some(DumperFault::Run(RunFault::BadBlockSize)));
-    }
-    Ok(())
 }

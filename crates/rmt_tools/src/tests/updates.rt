@@ -1,13 +1,17 @@
 //! Dumps over a peer in memory, and what is entered in dumpdates then.
+ghost use Rattle.std.specs.Prelude.{◌≡◌};
 
 use super::memory_peer::peer;
-use crate::{DatesStore, DumpLine, Gauge, Shown, dump, dump_and_update, dumper};
-use dump_client::{Client, ListBlocks};
+use crate::{
+    DatesStore, DumpLine, Gauge, PayloadFile, Shown, dump, dump_and_update, dumper,
+};
+use dump_client::Client;
 use rmt_peer::Peer;
 use rmt_wire::Counted;
 use std::alloc::Global;
 use std::process::Abort;
 use std::test::Fail;
+use tape::MemoryMedium;
 
 /// A label and two blocks of 1,024 bytes with the mark fill a reel of this capacity exactly.
 const THREE_RECORDS: u64 = 3100;
@@ -24,15 +28,17 @@ const ENTERED: &[u8] = b"/usr                             0 Tue Feb 29 00:00:00 
 /home                            0 Thu Jan  1 00:00:00 1970
 ";
 
-/// The words of a dump of `/usr` at level 1, in blocks of this size.
-fn line(block: u64) -> DumpLine<'static> {
+/// The words of a dump of `/usr` at level 1, in blocks of 1,024 bytes.
+fn line() -> DumpLine<'static>
+    ensures { result.block ≡ 1024 }
+{
     DumpLine {
         to: "nowhere:1",
         device: "/dev/st0",
         fs: "/usr",
         level: 1,
         payload: "payload",
-        block,
+        block: 1024,
         dumpdates: "dumpdates",
         date: None,
         update: true,
@@ -50,9 +56,14 @@ impl Gauge for Unseen {
 }
 
 /// The client of a dump of 2,500 bytes, which are three blocks of 1,024.
-fn three_blocks(alloc: Global) -> Result<Client<Shown<ListBlocks, Unseen>>, Fail> {
-    let payload = Vec::from_elem(alloc, b'p', 2500)?;
-    match dumper(alloc, &line(1024), 951868800, 951782400, payload, Unseen) {
+fn three_blocks(
+    alloc: Global,
+) -> Result<Client<Shown<PayloadFile<MemoryMedium>, Unseen>>, Fail> {
+    let medium = MemoryMedium::from_bytes(Vec::from_elem(alloc, b'p', 2500)?);
+    let Ok(payload) = PayloadFile::open(medium, 1024) else {
+        return Err(Fail::new("no payload"));
+    };
+    match dumper(alloc, &line(), 951868800, 951782400, payload, Unseen) {
         Ok(client) => Ok(client),
         Err(_) => Err(Fail::new("no client")),
     }
