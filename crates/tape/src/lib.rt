@@ -6,10 +6,12 @@
 
 mod entry;
 mod fault;
+mod file_medium;
 mod file_reel;
 mod laws;
 mod list;
 mod medium;
+mod memory_medium;
 mod op;
 mod record;
 mod reel;
@@ -20,10 +22,12 @@ mod troubled;
 
 pub use entry::Entry;
 pub use fault::TapeFault;
+pub use file_medium::FileMedium;
 pub use file_reel::FileReel;
 pub use laws::device_steps;
 pub use list::ListReel;
 pub use medium::{Medium, MediumFailed};
+pub use memory_medium::MemoryMedium;
 pub use op::{MTBSF, MTBSR, MTFSF, MTFSR, MTNOP, MTOFFL, MTREW, MTWEOF};
 pub use record::{RECORD_LIMIT, is_record};
 pub use reel::Reel;
