@@ -4,3 +4,5 @@ pub mod Standing
 pub mod Spacing
 pub mod Devices
 pub mod Leaving
+pub mod Spelling
+pub mod Places

@@ -1,9 +1,9 @@
 -- A record file: a reel's entries as bytes (the format is this project's own).
-use Rattle.std.specs.Prelude.{◌≡◌, ◌≢◌, ◌⊎◌, ℕ, ◌+◌, ◌*◌, ◌<◌, ◌≤◌, List, ◌++◌, length, flat_map, refl}
+use Rattle.std.specs.Prelude.{◌≡◌, ◌≢◌, ◌⊎◌, ◌&&◌, ◌==◌, if◌then◌else◌, ℕ, zero, suc, ◌+◌, ◌*◌, ◌<◌, ◌≤◌, List, [], ◌∷◌, ◌++◌, length, take, drop, flat_map, nat_eq, nat_le, Option, Some, None, refl}
 use Rattle.std.specs.Coded.{Coded, code_by, coded×, coded_ℕ}
-use Rattle.std.specs.Int.{w32, to_le_bytes}
-use Rattle.std.specs.List.{All}
-use Rattle.tape.specs.Tape.{PlainEntry, Tape, TapeRequest, TapeAnswer, IsTapeEntry, entries_of}
+use Rattle.std.specs.Int.{w32, to_le_bytes, from_le_bytes}
+use Rattle.std.specs.List.{All, starts_with}
+use Rattle.tape.specs.Tape.{PlainEntry, Tape, TapeRequest, TapeAnswer, IsTapeEntry, entries_of, record_limit, tape}
 use Rattle.tape.specs.Tape.PlainEntry.{Record, Mark}
 use Rattle.tape.specs.Tape.TapeRequest.{Write, WriteMarks}
 use Rattle.tape.specs.Tape.TapeAnswer.{Fault}
@@ -38,6 +38,26 @@ pub record SpellsReel (bytes : List ℕ) (entries : List PlainEntry) : Type 0 wh
 pub record IsFile (bytes : List ℕ) (offset : ℕ) (t : Tape) : Type 0 where
   pub spelled : SpellsReel bytes (entries_of t)
   pub offset_is : offset ≡ length (images_of t.before)
+
+-- the entry that begins the bytes, where one does: the one of the length that stands first, if its image stands there
+unfoldable pub first_in : List ℕ → Option PlainEntry
+first_in bytes =
+    let n = from_le_bytes w32 (take 4 bytes) in
+    let entry = if n == 0 then Mark else Record (take n (drop 4 bytes)) in
+    if nat_le n record_limit && starts_with nat_eq bytes (image_of entry) then Some entry else None
+
+-- the entries whose images begin the bytes, one after the other, and so many at most
+unfoldable pub entries_within : ℕ → List ℕ → List PlainEntry
+entries_within zero bytes = []
+entries_within (suc most) bytes = elim (first_in bytes) [ None ↦ [] | Some entry ↦ entry ∷ entries_within most (drop (length (image_of entry)) bytes) ]
+
+-- the entries that the bytes spell: of so many bytes there are no more than so many
+abbrev pub entries_in : List ℕ → List PlainEntry
+entries_in bytes = entries_within (length bytes) bytes
+
+-- the tape that the bytes spell, its place at this offset
+abbrev pub tape_in : ℕ → List ℕ → Tape
+tape_in offset bytes = tape (entries_in (take offset bytes)) (entries_in (drop offset bytes))
 
 -- what a reel on a medium is: the medium, the offset of its place in bytes, and how many bytes the reel takes
 pub record FileTape (M : Type 0) : Type 0 where

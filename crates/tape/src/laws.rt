@@ -1,6 +1,7 @@
-ghost use Rattle.std.specs.Prelude.{◌≢◌, ℕ};
-ghost use Rattle.tape.specs.Tape.{Tape, TapeRequest, TapeAnswer, TapeStep};
+ghost use Rattle.std.specs.Prelude.{◌≡◌, ◌≢◌, ◌↔◌, ℕ, List};
+ghost use Rattle.tape.specs.Tape.{PlainEntry, Tape, TapeRequest, TapeAnswer, TapeStep};
 ghost use Rattle.tape.specs.Tape.TapeAnswer.{Fault};
+ghost use Rattle.tape.specs.RecordFile.{SpellsReel, IsFile, entries_in, tape_in};
 ghost use Rattle.tape.specs.Trouble.{DeviceStep, TroubledTape, TroubledStep, IsTroubledCall};
 ghost use Rattle.tape.specs.declared.fault.TapeFault.TheVariants.{Device};
 ghost use Rattle.tape.specs.declared.trouble.Trouble.{Trouble};
@@ -17,4 +18,12 @@ pub fn device_steps()
         DeviceStep capacity None t request answer u → answer ≢ Fault Device }
     ensures call { (old new : TroubledTape) (request : TapeRequest) (answer : TapeAnswer) →
         TroubledStep old new request answer → IsTroubledCall old new request answer }
+{}
+
+/// Each list of bytes spells one list of entries, and at an offset it has one tape at most.
+///
+/// It does nothing: its contract is a law of the definitions.
+pub fn one_spelling()
+    ensures entries { (bytes : List ℕ) (entries : List PlainEntry) → SpellsReel bytes entries ↔ (entries ≡ entries_in bytes) }
+    ensures tape { (bytes : List ℕ) (offset : ℕ) (t : Tape) → IsFile bytes offset t → t ≡ tape_in offset bytes }
 {}

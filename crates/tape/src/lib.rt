@@ -24,7 +24,7 @@ pub use entry::Entry;
 pub use fault::TapeFault;
 pub use file_medium::FileMedium;
 pub use file_reel::FileReel;
-pub use laws::device_steps;
+pub use laws::{device_steps, one_spelling};
 pub use list::ListReel;
 pub use medium::{Medium, MediumFailed};
 pub use memory_medium::MemoryMedium;
