@@ -8,4 +8,3 @@ pub mod ToldOrder
 mod Calls
 mod Lying
 mod Refused
-mod Folders

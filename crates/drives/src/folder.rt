@@ -2,14 +2,17 @@ ghost use Rattle.std.specs.Prelude.{◌≡◌, ◌≤◌, ◌<◌, ◌↔◌, �
 ghost use Rattle.std.specs.IoError.{error_kind, raw_os_error};
 ghost use Rattle.drives.specs.Arranging.{are_distinct};
 ghost use Rattle.drives.specs.declared.fault.DriveFault.TheVariants.{Device, OutOfMemory};
+ghost use Rattle.drives.specs.Shop.{Shop, IsDriveNamed};
 ghost use Rattle.drives.specs.Folders.{folder_shop, folder_row, row_at, with_latched, after_fault, IsFolderOf, IsRowNamed, IsRefused, IsFileTaken, IsFolderMove};
 
 mod listing;
 mod look;
 mod moving;
 mod rack;
+#[cfg(test)]
+mod tests;
 
-use crate::DriveFault;
+use crate::{DriveFault, Stacks};
 use look::look_at;
 use moving::Moved;
 use rack::FolderRack;
@@ -18,6 +21,7 @@ use std::fs::File;
 use std::io::{self, ErrorKind};
 use std::marker::Model;
 use std::rt::Files;
+use tape::{FileMedium, FileReel};
 
 /// The name of a drive, and the folder of its stack.
 #[derive(Clone, Copy)]
@@ -132,6 +136,15 @@ impl<R: Files<File = File> + AllocGlobal + Clone + Drop> FolderStacks<R> {
         }
     }
 
+    /// Notes that no reel is latched.
+    fn lay_first(&mut self, drive: usize)
+        requires { drive < length self.old.rows }
+        ensures { self.new ≡ with_latched self.old drive false }
+    {
+        let rack = &mut self.racks[drive];
+        rack.note(None);
+    }
+
     /// Moves the file of the latched reel to the bin, as `Stacks::offline` does, where it could be synced.
     fn move_first(&mut self, drive: usize, synced: io::Result<()>) -> Result<(), DriveFault>
         requires { drive < length self.old.rows }
@@ -171,4 +184,70 @@ impl<R: Files<File = File> + AllocGlobal + Clone + Drop> FolderStacks<R> {
         self.failures = self.failures.saturating_add(1);
         DriveFault::Device
     }
+}
+
+impl<R: Files<File = File> + AllocGlobal + Clone + Drop> Stacks for FolderStacks<R> {
+    ghost use Rattle.drives.specs.Folders.{IsFolderCall};
+
+    type Reel = FileReel<FileMedium>;
+
+    ghost holds = { λ _ _. ⊥ };
+
+    ghost drives = { λ s. length s.rows };
+
+    ghost failures = { λ s. s.failures };
+
+    ghost can_fail = { λ _. Unit {0} };
+
+    ghost makes = { λ old new call. IsFolderCall old new call };
+
+    fn drive(&self, name: &[u8]) -> Option<usize>
+        ensures below { IfSome result (λ d. d < length self.now.rows) }
+        ensures named { (s : Shop) → ⊥ → IsDriveNamed name.now s result }
+        ensures found { IsRowNamed name.now self.now result }
+    {
+        self.number_of(name)
+    }
+
+    /// Lists the folder of the stack, and opens and locks its first plain file, to read and to write.
+    ///
+    /// Answers `Device` also where a name in the folder is not UTF-8, where another handle has the file's lock, and where
+    /// the path leads to another file than was listed.
+    fn latch(&mut self, drive: usize) -> Result<FileReel<FileMedium>, DriveFault> {
+        let file = self.open_first(drive)?;
+        Ok(FileReel::open(FileMedium::new(file), self.capacity))
+    }
+
+    /// Lets the file go, with its lock. Where none is latched it does nothing else.
+    fn unlatch(&mut self, drive: usize, reel: FileReel<FileMedium>) {
+        self.lay_first(drive);
+        drop(reel);
+    }
+
+    /// Syncs the file, renames it under the lock of the bin's folder, and syncs both folders: only then is it done. What
+    /// fails after the rename changes nothing of that. It takes no memory, and never answers `OutOfMemory`.
+    ///
+    /// Answers `Device` also where none is latched, where others have the lock of the bin's folder at 1,000 turns, and where
+    /// another file than was latched has its name.
+    fn offline(
+        &mut self,
+        drive: usize,
+        reel: FileReel<FileMedium>,
+    ) -> Result<(), (FileReel<FileMedium>, DriveFault)> {
+        let synced = reel.medium().sync();
+        match self.move_first(drive, synced) {
+            Ok(()) => Ok(()),
+            Err(fault) => Err((reel, fault)),
+        }
+    }
+
+    fn failures(&self) -> u64 {
+        self.failures
+    }
+
+    ghost single = { λ _ _ _ told _. absurd told };
+
+    ghost once = { λ _ _ told. absurd told };
+
+    ghost sized = { λ _ _ told. absurd told };
 }
