@@ -1,6 +1,6 @@
-ghost use Rattle.std.specs.Prelude.{◌≡◌, ◌≤◌, ◌<◌, ◌↔◌, ℕ, false, IfOk, IfSome, IsTrue, None, map, length};
+ghost use Rattle.std.specs.Prelude.{◌≡◌, ◌≢◌, ◌≤◌, ◌<◌, ◌↔◌, false, IfOk, IfSome, IsErr, IsErrAnd, None, map, length};
 ghost use Rattle.std.specs.IoError.{error_kind, raw_os_error};
-ghost use Rattle.drives.specs.Arranging.{are_distinct};
+ghost use Rattle.std.specs.List.{AllPairs};
 ghost use Rattle.drives.specs.declared.fault.DriveFault.TheVariants.{Device, OutOfMemory};
 ghost use Rattle.drives.specs.Shop.{Shop, IsDriveNamed};
 ghost use Rattle.drives.specs.Folders.{folder_shop, folder_row, row_at, with_latched, after_fault, IsFolderOf, IsRowNamed, IsRefused, IsFileTaken, IsFolderMove};
@@ -75,8 +75,9 @@ impl<R: Files<File = File> + AllocGlobal + Clone + Drop> FolderStacks<R> {
     ) -> Result<FolderStacks<R>, AllocError>
         requires some { 1 ≤ length drives.now }
         requires few { length drives.now ≤ 64 }
-        requires distinct { IsTrue (are_distinct (map (λ d. d.name.now) drives.now)) }
-        ensures { IfOk result (λ opened. opened ≡ folder_shop (map (λ d. folder_row d.name.now d.folder.now false) drives.now) bin.now capacity 0) }
+        requires distinct { AllPairs (λ d e. d.name.now ≢ e.name.now) drives.now }
+        ensures drives { IfOk result (λ opened. opened ≡ folder_shop (map (λ d. folder_row d.name.now d.folder.now false) drives.now) bin.now capacity 0) }
+        ensures count { IfOk result (λ opened. length opened.rows ≡ length drives.now) }
     {
         let mut racks = Vec::new(rt.alloc());
         for drive in drives {
@@ -148,7 +149,8 @@ impl<R: Files<File = File> + AllocGlobal + Clone + Drop> FolderStacks<R> {
     /// Moves the file of the latched reel to the bin, as `Stacks::offline` does, where it could be synced.
     fn move_first(&mut self, drive: usize, synced: io::Result<()>) -> Result<(), DriveFault>
         requires { drive < length self.old.rows }
-        ensures { IsFolderMove self.old drive result self.new }
+        ensures moved { IsFolderMove self.old drive result self.new }
+        ensures unsynced { IsErr synced → IsErrAnd result (λ fault. fault ≡ Device) }
     {
         if synced.is_err() {
             return Err(self.fail());

@@ -3,7 +3,7 @@
 use std::alloc::{Allocator, Global};
 use std::fs::{File, Metadata, OpenOptions};
 use std::io::{self, ErrorKind};
-use std::rt::{Alloc, Files};
+use std::rt::Files;
 
 /// It is the system's runtime, but for listings and renames.
 #[derive(Clone, Copy)]
