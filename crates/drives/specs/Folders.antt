@@ -1,5 +1,5 @@
 -- Drives in folders: what is known of them beside what lies in the folders, and what a call of them does.
-use Rattle.std.specs.Prelude.{◌≡◌, ◌≢◌, ◌⊎◌, ℕ, ◌<◌, Bool, true, false, List, [], length, slice_set, slice_index_or, map, Option, Some, None, Result, Ok, Err, IfOk}
+use Rattle.std.specs.Prelude.{◌≡◌, ◌≢◌, ◌⊎◌, ℕ, ◌<◌, Bool, true, false, List, [], length, slice_set, slice_index_or, map, Option, Some, None, Result, Ok, Err}
 use Rattle.std.specs.List.{Contains}
 use Rattle.tape.specs.Failures.{raised}
 use Rattle.tape.specs.RecordFile.{FileTape}
@@ -54,16 +54,13 @@ IsRefused old Device new = new ≡ after_fault old
 IsRefused old OutOfMemory new = new ≡ old
 IsRefused old _ new = ⊥
 
--- The file of a reel was opened where none was latched. It is not only where one is latched or none was found, for want of
--- memory, which change nothing, and where the device failed, which is counted.
-abbrev pub IsFileTaken : {F : Type 0} → FolderShop → ℕ → Result F DriveFault → FolderShop → Type 0
-IsFileTaken old d (Ok file) new = ((row_at old d).latched ≡ false) × (new ≡ with_latched old d true)
-IsFileTaken old d (Err NoReel) new = new ≡ old
-IsFileTaken old d (Err fault) new = ((row_at old d).latched ≡ false) × IsRefused old fault new
-
--- A latch: the reel stands at its beginning and takes so many bytes as the drives' reels take.
+-- A reel was latched where none was, at its beginning and with the capacity. It is not only where one is latched or none
+-- was found, for want of memory, which change nothing, and where the device failed, which is counted.
 abbrev pub IsFolderLatch : {M : Type 0} → FolderShop → ℕ → Result (FileTape M) DriveFault → FolderShop → Type 0
-IsFolderLatch old d result new = IsFileTaken old d result new × IfOk result (λ reel. (reel.offset ≡ 0) × (reel.capacity ≡ old.capacity))
+IsFolderLatch old d (Ok reel) new =
+    ((row_at old d).latched ≡ false) × (reel.offset ≡ 0) × (reel.capacity ≡ old.capacity) × (new ≡ with_latched old d true)
+IsFolderLatch old d (Err NoReel) new = new ≡ old
+IsFolderLatch old d (Err fault) new = ((row_at old d).latched ≡ false) × IsRefused old fault new
 
 -- The latched reel was moved. It is not only where its name is taken, which changes nothing, and where the device failed,
 -- which is counted.

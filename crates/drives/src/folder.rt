@@ -3,7 +3,7 @@ ghost use Rattle.std.specs.IoError.{error_kind, raw_os_error};
 ghost use Rattle.std.specs.List.{AllPairs};
 ghost use Rattle.drives.specs.declared.fault.DriveFault.TheVariants.{Device, OutOfMemory};
 ghost use Rattle.drives.specs.Shop.{Shop, IsDriveNamed};
-ghost use Rattle.drives.specs.Folders.{folder_shop, folder_row, row_at, with_latched, after_fault, IsFolderOf, IsRowNamed, IsRefused, IsFileTaken, IsFolderMove};
+ghost use Rattle.drives.specs.Folders.{folder_shop, folder_row, after_fault, IsFolderOf, IsRowNamed, IsRefused, IsFolderMove};
 
 mod listing;
 mod look;
@@ -113,39 +113,6 @@ impl<R: Files<File = File> + AllocGlobal + Clone + Drop> FolderStacks<R> {
         }
     }
 
-    /// The first drive of that name.
-    fn number_of(&self, name: &[u8]) -> Option<usize>
-        ensures { IsRowNamed name.now self.now result }
-    {
-        self.racks.iter().position(|rack| rack.is_named(name))
-    }
-
-    /// Opens the file of the reel that a latch takes, as `Stacks::latch` does, and notes that it is latched.
-    fn open_first(&mut self, drive: usize) -> Result<File, DriveFault>
-        requires { drive < length self.old.rows }
-        ensures { IsFileTaken self.old drive result self.new }
-    {
-        let rack = &self.racks[drive];
-        match rack.find(&self.rt, self.bin.as_str()) {
-            Ok(Some((file, latched))) => {
-                let rack = &mut self.racks[drive];
-                rack.note(Some(latched));
-                Ok(file)
-            }
-            Ok(None) => Err(DriveFault::NoReel),
-            Err(error) => Err(self.refuse(error)),
-        }
-    }
-
-    /// Notes that no reel is latched.
-    fn lay_first(&mut self, drive: usize)
-        requires { drive < length self.old.rows }
-        ensures { self.new ≡ with_latched self.old drive false }
-    {
-        let rack = &mut self.racks[drive];
-        rack.note(None);
-    }
-
     /// Moves the file of the latched reel to the bin, as `Stacks::offline` does, where it could be synced.
     fn move_first(&mut self, drive: usize, synced: io::Result<()>) -> Result<(), DriveFault>
         requires { drive < length self.old.rows }
@@ -208,7 +175,7 @@ impl<R: Files<File = File> + AllocGlobal + Clone + Drop> Stacks for FolderStacks
         ensures named { (s : Shop) → ⊥ → IsDriveNamed name.now s result }
         ensures found { IsRowNamed name.now self.now result }
     {
-        self.number_of(name)
+        self.racks.iter().position(|rack| rack.is_named(name))
     }
 
     /// Lists the folder of the stack, and opens and locks its first plain file, to read and to write.
@@ -216,14 +183,22 @@ impl<R: Files<File = File> + AllocGlobal + Clone + Drop> Stacks for FolderStacks
     /// Answers `Device` also where a name in the folder is not UTF-8, where another handle has the file's lock, and where
     /// the path leads to another file than was listed.
     fn latch(&mut self, drive: usize) -> Result<FileReel<FileMedium>, DriveFault> {
-        let file = self.open_first(drive)?;
-        Ok(FileReel::open(FileMedium::new(file), self.capacity))
+        let rack = &self.racks[drive];
+        match rack.find(&self.rt, self.bin.as_str()) {
+            Ok(Some((file, latched))) => {
+                let rack = &mut self.racks[drive];
+                rack.note(Some(latched));
+                Ok(FileReel::open(FileMedium::new(file), self.capacity))
+            }
+            Ok(None) => Err(DriveFault::NoReel),
+            Err(error) => Err(self.refuse(error)),
+        }
     }
 
     /// Lets the file go, with its lock. Where none is latched it does nothing else.
     fn unlatch(&mut self, drive: usize, reel: FileReel<FileMedium>) {
-        self.lay_first(drive);
         drop(reel);
+        self.racks[drive].note(None);
     }
 
     /// Syncs the file, renames it under the lock of the bin's folder, and syncs both folders: only then is it done. What

@@ -66,6 +66,7 @@ pub(super) fn move_file<R: Files<File = File>>(
         return Err(io::Error::from(ErrorKind::StaleNetworkFileHandle));
     }
     fs::rename(rt, file.from.as_str(), file.to.as_str())?;
+    // Others need not wait for the syncs.
     let _ = bin.unlock();
     let _ = stack.sync_all();
     let _ = bin.sync_all();

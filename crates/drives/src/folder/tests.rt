@@ -174,10 +174,7 @@ fn what_another_has_locked_is_a_failure(rt: HostRuntime) -> io::Result<()> {
 }
 
 /// While a reel is latched another open of the same folders cannot have it, and it is had once it was laid back.
-fn is_had_once(
-    one: &mut FolderStacks<HostRuntime>,
-    other: &mut FolderStacks<HostRuntime>,
-) -> bool
+fn is_had_once(one: &mut FolderStacks<HostRuntime>, other: &mut FolderStacks<HostRuntime>) -> bool
     requires one { length one.old.rows ≡ 2 }
     requires other { length other.old.rows ≡ 2 }
 {

@@ -4,9 +4,8 @@ ghost use Rattle.std.specs.Prelude.{◌≡◌, IfOk, length};
 
 use super::super::{FolderDrive, FolderStacks};
 use std::fs::{self, File};
-use std::io;
-use std::process;
 use std::rt::Files;
+use std::{io, process};
 
 /// A folder with the stacks `st0` and `st1` and the folder `bin`.
 #[derive(Drop)]
