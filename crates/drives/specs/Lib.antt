@@ -6,3 +6,4 @@ pub mod Stacking
 pub mod Opening
 pub mod ListShop
 pub mod Arranging
+pub mod Folders

@@ -5,6 +5,7 @@
 #![tactic(auto)]
 
 mod fault;
+mod folder;
 mod holds;
 mod laws;
 mod list;
@@ -20,6 +21,7 @@ mod tests;
 mod view;
 
 pub use fault::DriveFault;
+pub use folder::{FolderDrive, FolderFault, FolderStacks};
 pub use holds::Holds;
 pub use laws::{lying_troubles, told_orders};
 pub use list::ListStacks;

@@ -27,6 +27,13 @@ impl<M: Medium> Model for FileReel<M> {
 }
 
 impl<M: Medium> FileReel<M> {
+    /// The medium that the reel lies on.
+    pub fn medium(&self) -> &M
+        ensures { result.now ≡ self.now.medium }
+    {
+        &self.medium
+    }
+
     /// The reel that lies on this medium, at its beginning, and takes so many bytes. It makes no call of the medium.
     ///
     /// What the medium has beyond the last whole entry is ignored, until the next write cuts it off. Entries beyond the
@@ -35,6 +42,7 @@ impl<M: Medium> FileReel<M> {
         ensures told { (bytes : List ℕ) (entries : List PlainEntry) → M.holds medium bytes → SpellsReel bytes entries → HoldsTape M.holds result (tape [] entries) }
         ensures medium { result.medium ≡ medium }
         ensures capacity { result.capacity ≡ capacity }
+        ensures offset { result.offset ≡ 0 }
     {
         FileReel {
             medium,

@@ -1,0 +1,77 @@
+-- Drives in folders: what is known of them beside what lies in the folders, and what a call of them does.
+use Rattle.std.specs.Prelude.{◌≡◌, ◌≢◌, ◌⊎◌, ℕ, ◌<◌, Bool, true, false, List, [], length, slice_set, slice_index_or, map, Option, Some, None, Result, Ok, Err}
+use Rattle.std.specs.List.{Contains}
+use Rattle.tape.specs.Failures.{raised}
+use Rattle.tape.specs.RecordFile.{FileTape}
+use Rattle.drives.specs.Calls.{StacksCall}
+use Rattle.drives.specs.Calls.StacksCall.{Latch, LayBack, Move}
+use Rattle.drives.specs.declared.fault.DriveFault.{DriveFault}
+use Rattle.drives.specs.declared.fault.DriveFault.TheVariants.{NoReel, Device, OutOfMemory, NameTaken}
+
+-- a drive: its name, the folder of its stack, and whether a reel is latched
+pub record FolderRow : Type 0 where
+  pub name : List ℕ
+  pub folder : List ℕ
+  pub latched : Bool
+
+abbrev pub folder_row : List ℕ → List ℕ → Bool → FolderRow
+folder_row name folder latched = record { name = name; folder = folder; latched = latched }
+
+-- the drives, the bin's folder, how many bytes each reel takes, and how often the device has failed
+pub record FolderShop : Type 0 where
+  pub rows : List FolderRow
+  pub bin : List ℕ
+  pub capacity : ℕ
+  pub failures : ℕ
+
+abbrev pub folder_shop : List FolderRow → List ℕ → ℕ → ℕ → FolderShop
+folder_shop rows bin capacity failures = record { rows = rows; bin = bin; capacity = capacity; failures = failures }
+
+-- the drive d
+abbrev pub row_at : FolderShop → ℕ → FolderRow
+row_at s d = slice_index_or s.rows d (folder_row [] [] false)
+
+-- a reel is latched at drive d, or none is
+abbrev pub with_latched : FolderShop → ℕ → Bool → FolderShop
+with_latched s d latched = record s { rows = slice_set s.rows d (folder_row (row_at s d).name (row_at s d).folder latched) }
+
+-- the device failed once more
+abbrev pub after_fault : FolderShop → FolderShop
+after_fault s = record s { failures = raised s.failures }
+
+-- one of its folders: that of a stack, or the bin's
+abbrev pub IsFolderOf : FolderShop → List ℕ → Type 0
+IsFolderOf s folder = Contains (map (λ r. r.folder) s.rows) folder ⊎ (folder ≡ s.bin)
+
+-- the first drive of that name, or that there is none
+abbrev pub IsRowNamed : List ℕ → FolderShop → Option ℕ → Type 0
+IsRowNamed name s None = (k : ℕ) → k < length s.rows → (row_at s k).name ≢ name
+IsRowNamed name s (Some d) = (d < length s.rows) × ((row_at s d).name ≡ name) × ((k : ℕ) → k < d → (row_at s k).name ≢ name)
+
+-- The device failed, which is counted, or a growth was refused, and nothing changed.
+abbrev pub IsRefused : FolderShop → DriveFault → FolderShop → Type 0
+IsRefused old Device new = new ≡ after_fault old
+IsRefused old OutOfMemory new = new ≡ old
+IsRefused old _ new = ⊥
+
+-- A reel was latched where none was, at its beginning and with the capacity. It is not only where one is latched or none
+-- was found, for want of memory, which change nothing, and where the device failed, which is counted.
+abbrev pub IsFolderLatch : {M : Type 0} → FolderShop → ℕ → Result (FileTape M) DriveFault → FolderShop → Type 0
+IsFolderLatch old d (Ok reel) new =
+    ((row_at old d).latched ≡ false) × (reel.offset ≡ 0) × (reel.capacity ≡ old.capacity) × (new ≡ with_latched old d true)
+IsFolderLatch old d (Err NoReel) new = new ≡ old
+IsFolderLatch old d (Err fault) new = ((row_at old d).latched ≡ false) × IsRefused old fault new
+
+-- The latched reel was moved. It is not only where its name is taken, which changes nothing, and where the device failed,
+-- which is counted.
+abbrev pub IsFolderMove : {U : Type 0} → FolderShop → ℕ → Result U DriveFault → FolderShop → Type 0
+IsFolderMove old d (Ok done) new = ((row_at old d).latched ≡ true) × (new ≡ with_latched old d false)
+IsFolderMove old d (Err Device) new = new ≡ after_fault old
+IsFolderMove old d (Err NameTaken) new = ((row_at old d).latched ≡ true) × (new ≡ old)
+IsFolderMove old d (Err _) new = ⊥
+
+-- what a call of stacks in folders leaves
+abbrev pub IsFolderCall : {M : Type 0} → FolderShop → FolderShop → StacksCall (FileTape M) → Type 0
+IsFolderCall old new (Latch d result) = IsFolderLatch old d result new
+IsFolderCall old new (LayBack d reel) = new ≡ with_latched old d false
+IsFolderCall old new (Move d reel result) = IsFolderMove old d result new

@@ -1,0 +1,230 @@
+ghost use Rattle.std.specs.Prelude.{◌≡◌, ◌≢◌, ◌≤◌, ◌<◌, ◌↔◌, false, IfOk, IfSome, IsErr, IsErrAnd, None, map, length};
+ghost use Rattle.std.specs.IoError.{error_kind, raw_os_error};
+ghost use Rattle.std.specs.List.{AllPairs};
+ghost use Rattle.drives.specs.declared.fault.DriveFault.TheVariants.{Device, OutOfMemory};
+ghost use Rattle.drives.specs.Shop.{Shop, IsDriveNamed};
+ghost use Rattle.drives.specs.Folders.{folder_shop, folder_row, after_fault, IsFolderOf, IsRowNamed, IsRefused, IsFolderMove};
+
+mod listing;
+mod look;
+mod moving;
+mod rack;
+#[cfg(test)]
+mod tests;
+
+use crate::{DriveFault, Stacks};
+use look::look_at;
+use moving::Moved;
+use rack::FolderRack;
+use std::alloc::AllocError;
+use std::fs::File;
+use std::io::{self, ErrorKind};
+use std::marker::Model;
+use std::rt::Files;
+use tape::{FileMedium, FileReel};
+
+/// The name of a drive, and the folder of its stack.
+#[derive(Clone, Copy)]
+pub struct FolderDrive<'a> {
+    /// The name of the drive.
+    pub name: &'a str,
+    /// The path of the folder that has its reels as files.
+    pub folder: &'a str,
+}
+
+/// A folder that cannot be used.
+#[derive(Clone, Copy)]
+pub struct FolderFault<'a> {
+    /// The path of the folder, as it was given.
+    pub folder: &'a str,
+    /// Why it cannot be used.
+    pub reason: io::Error,
+}
+
+/// Drives whose reels are record files in folders, and a folder as the bin.
+///
+/// A stack is the plain files of its folder in the order of the bytes of their names; folders and links in it are no reels.
+/// The folder is listed anew at each latch. The file of a latched reel has the system's advisory lock. All folders have to
+/// lie on one file system, since a move is one rename. They tell nothing of what lies in the folders.
+#[derive(Drop)]
+pub struct FolderStacks<R: Files<File = File> + AllocGlobal + Clone + Drop> {
+    rt: R,
+    racks: Vec<FolderRack>,
+    bin: String,
+    capacity: u64,
+    failures: u64,
+}
+
+impl<R: Files<File = File> + AllocGlobal + Clone + Drop> Model for FolderStacks<R> {
+    ghost use Rattle.std.specs.Prelude.{string_bytes};
+    ghost use Rattle.drives.specs.Folders.{FolderShop, folder_shop};
+
+    ghost Value = { FolderShop };
+
+    ghost view = { λ s. folder_shop s.racks.items (string_bytes s.bin) s.capacity s.failures };
+}
+
+impl<R: Files<File = File> + AllocGlobal + Clone + Drop> FolderStacks<R> {
+    /// These drives, from 1 to 64 of them with a name each, and the folder of the bin. Each reel takes so many bytes. It
+    /// reads no folder. It fails only where memory is refused.
+    pub fn open(
+        rt: R,
+        drives: &[FolderDrive<'_>],
+        bin: &str,
+        capacity: u64,
+    ) -> Result<FolderStacks<R>, AllocError>
+        requires some { 1 ≤ length drives.now }
+        requires few { length drives.now ≤ 64 }
+        requires distinct { AllPairs (λ d e. d.name.now ≢ e.name.now) drives.now }
+        ensures drives { IfOk result (λ opened. opened ≡ folder_shop (map (λ d. folder_row d.name.now d.folder.now false) drives.now) bin.now capacity 0) }
+        ensures count { IfOk result (λ opened. length opened.rows ≡ length drives.now) }
+    {
+        let mut racks = Vec::new(rt.alloc());
+        for drive in drives {
+            racks.push(FolderRack::new(rt.alloc(), drive)?)?;
+        }
+        let bin = String::from_str(rt.alloc(), bin)?;
+        Ok(FolderStacks {
+            rt,
+            racks,
+            bin,
+            capacity,
+            failures: 0,
+        })
+    }
+
+    /// Looks at the folders, and names the first that is missing, is no folder, may not be read, or in which nobody may
+    /// write by its permissions: those of the stacks in the drives' order, and then the bin's. It changes nothing there.
+    ///
+    /// The reason has the kind `OutOfMemory` and no code of the system where memory is refused.
+    pub fn find_fault(&self) -> Option<FolderFault<'_>>
+        ensures { IfSome result (λ fault. IsFolderOf self.now fault.folder.now) }
+    {
+        for rack in &self.racks {
+            let folder = rack.folder();
+            if let Err(reason) = look_at(&self.rt, folder) {
+                return Some(FolderFault { folder, reason });
+            }
+        }
+        let folder = self.bin.as_str();
+        match look_at(&self.rt, folder) {
+            Ok(()) => None,
+            Err(reason) => Some(FolderFault { folder, reason }),
+        }
+    }
+
+    /// Moves the file of the latched reel to the bin, as `Stacks::offline` does, where it could be synced.
+    fn move_first(&mut self, drive: usize, synced: io::Result<()>) -> Result<(), DriveFault>
+        requires { drive < length self.old.rows }
+        ensures moved { IsFolderMove self.old drive result self.new }
+        ensures unsynced { IsErr synced → IsErrAnd result (λ fault. fault ≡ Device) }
+    {
+        if synced.is_err() {
+            return Err(self.fail());
+        }
+        let rack = &mut self.racks[drive];
+        match rack.move_to(&self.rt, self.bin.as_str()) {
+            Ok(Moved::Done) => {
+                rack.note(None);
+                Ok(())
+            }
+            Ok(Moved::NameTaken) => Err(DriveFault::NameTaken),
+            Err(_) => Err(self.fail()),
+        }
+    }
+
+    /// Why a reel could not be latched. A failure is counted, but for a growth that was refused.
+    fn refuse(&mut self, error: io::Error) -> DriveFault
+        ensures refused { IsRefused self.old result self.new }
+        ensures memory { result ≡ OutOfMemory ↔ (error_kind error ≡ ErrorKind.OutOfMemory) × (raw_os_error error ≡ None) }
+    {
+        if error.kind() == ErrorKind::OutOfMemory && error.raw_os_error().is_none() {
+            DriveFault::OutOfMemory
+        } else {
+            self.fail()
+        }
+    }
+
+    /// Counts a failure of the device.
+    fn fail(&mut self) -> DriveFault
+        ensures fault { result ≡ Device }
+        ensures counted { self.new ≡ after_fault self.old }
+    {
+        self.failures = self.failures.saturating_add(1);
+        DriveFault::Device
+    }
+}
+
+impl<R: Files<File = File> + AllocGlobal + Clone + Drop> Stacks for FolderStacks<R> {
+    ghost use Rattle.drives.specs.Folders.{IsFolderCall};
+
+    type Reel = FileReel<FileMedium>;
+
+    ghost holds = { λ _ _. ⊥ };
+
+    ghost drives = { λ s. length s.rows };
+
+    ghost failures = { λ s. s.failures };
+
+    ghost can_fail = { λ _. Unit {0} };
+
+    ghost makes = { λ old new call. IsFolderCall old new call };
+
+    fn drive(&self, name: &[u8]) -> Option<usize>
+        ensures below { IfSome result (λ d. d < length self.now.rows) }
+        ensures named { (s : Shop) → ⊥ → IsDriveNamed name.now s result }
+        ensures found { IsRowNamed name.now self.now result }
+    {
+        self.racks.iter().position(|rack| rack.is_named(name))
+    }
+
+    /// Lists the folder of the stack, and opens and locks its first plain file, to read and to write.
+    ///
+    /// Answers `Device` also where a name in the folder is not UTF-8, where another handle has the file's lock, and where
+    /// the path leads to another file than was listed.
+    fn latch(&mut self, drive: usize) -> Result<FileReel<FileMedium>, DriveFault> {
+        let rack = &self.racks[drive];
+        match rack.find(&self.rt, self.bin.as_str()) {
+            Ok(Some((file, latched))) => {
+                let rack = &mut self.racks[drive];
+                rack.note(Some(latched));
+                Ok(FileReel::open(FileMedium::new(file), self.capacity))
+            }
+            Ok(None) => Err(DriveFault::NoReel),
+            Err(error) => Err(self.refuse(error)),
+        }
+    }
+
+    /// Lets the file go, with its lock. Where none is latched it does nothing else.
+    fn unlatch(&mut self, drive: usize, reel: FileReel<FileMedium>) {
+        drop(reel);
+        self.racks[drive].note(None);
+    }
+
+    /// Syncs the file, renames it under the lock of the bin's folder, and syncs both folders: only then is it done. What
+    /// fails after the rename changes nothing of that. It takes no memory, and never answers `OutOfMemory`.
+    ///
+    /// Answers `Device` also where none is latched, where others have the lock of the bin's folder at 1,000 turns, and where
+    /// another file than was latched has its name.
+    fn offline(
+        &mut self,
+        drive: usize,
+        reel: FileReel<FileMedium>,
+    ) -> Result<(), (FileReel<FileMedium>, DriveFault)> {
+        let synced = reel.medium().sync();
+        match self.move_first(drive, synced) {
+            Ok(()) => Ok(()),
+            Err(fault) => Err((reel, fault)),
+        }
+    }
+
+    fn failures(&self) -> u64 {
+        self.failures
+    }
+
+    ghost single = { λ _ _ _ told _. absurd told };
+
+    ghost once = { λ _ _ told. absurd told };
+
+    ghost sized = { λ _ _ told. absurd told };
+}
