@@ -3,6 +3,7 @@
 #![tactic(auto)]
 
 mod dump_update;
+mod folders;
 mod memory_peer;
 #[cfg(test)]
 mod tests;
@@ -13,6 +14,7 @@ pub use dump_files::{
     UpdateFault, base_date, dates, dumper, read_or_empty, read_steady, seconds_now, update,
 };
 pub use dump_update::dump_and_update;
+pub use folders::folder_stacks;
 pub use memory_peer::MemoryPeer;
 pub use rmt_peer::{Passed, Peer, ReadFault, SocketPeer, copy_volume, dump, mt, read_volume};
 pub use rmt_serve::{
