@@ -1,6 +1,5 @@
 ghost use Rattle.std.specs.Prelude.{◌≡◌, ◌≢◌, ◌≤◌, ◌<◌, ◌↔◌, false, IfOk, IfSome, IsErr, IsErrAnd, None, map, length};
 ghost use Rattle.std.specs.IoError.{error_kind, raw_os_error};
-ghost use Rattle.std.specs.List.{AllPairs};
 ghost use Rattle.drives.specs.declared.fault.DriveFault.TheVariants.{Device, OutOfMemory};
 ghost use Rattle.drives.specs.Shop.{Shop, IsDriveNamed};
 ghost use Rattle.drives.specs.Folders.{folder_shop, folder_row, after_fault, IsFolderOf, IsRowNamed, IsRefused, IsFolderMove};
@@ -66,7 +65,7 @@ impl<R: Files<File = File> + AllocGlobal + Clone + Drop> Model for FolderStacks<
 
 impl<R: Files<File = File> + AllocGlobal + Clone + Drop> FolderStacks<R> {
     /// These drives, from 1 to 64 of them with a name each, and the folder of the bin. Each reel takes so many bytes. It
-    /// reads no folder. It fails only where memory is refused.
+    /// reads no folder. It fails only where memory is refused. Of drives with one name the first is found.
     pub fn open(
         rt: R,
         drives: &[FolderDrive<'_>],
@@ -75,7 +74,6 @@ impl<R: Files<File = File> + AllocGlobal + Clone + Drop> FolderStacks<R> {
     ) -> Result<FolderStacks<R>, AllocError>
         requires some { 1 ≤ length drives.now }
         requires few { length drives.now ≤ 64 }
-        requires distinct { AllPairs (λ d e. d.name.now ≢ e.name.now) drives.now }
         ensures drives { IfOk result (λ opened. opened ≡ folder_shop (map (λ d. folder_row d.name.now d.folder.now false) drives.now) bin.now capacity 0) }
         ensures count { IfOk result (λ opened. length opened.rows ≡ length drives.now) }
     {
