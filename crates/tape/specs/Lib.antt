@@ -5,3 +5,4 @@ pub mod List
 pub mod Trouble
 pub mod Medium
 pub mod RecordFile
+pub mod FileSteps
