@@ -6,3 +6,9 @@ pub mod Devices
 pub mod Leaving
 pub mod Spelling
 pub mod Places
+pub mod MediumRuns
+pub mod Images
+pub mod Writing
+pub mod Putting
+pub mod ReelCalls
+pub mod Walks

@@ -31,7 +31,7 @@ pub record IsReelRun {M : Type 0} (m : MediumKind M) (does : Tape → Tape → T
 -- the length that the bytes begin with, where they have room for one
 abbrev pub BeginsWith : List ℕ → Option ℕ → Type 0
 BeginsWith bytes None = length bytes < 4
-BeginsWith bytes (Some n) = (rest : List ℕ) × (bytes ≡ length_bytes n ++ rest)
+BeginsWith bytes (Some n) = (n < 2 ^ 32) × ((rest : List ℕ) × (bytes ≡ length_bytes n ++ rest))
 
 -- the room of an entry of this length
 abbrev pub size_by_length : ℕ → ℕ

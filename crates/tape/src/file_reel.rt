@@ -1,4 +1,4 @@
-ghost use Rattle.std.specs.Prelude.{◌≡◌, ◌+◌, ◌*◌, ◌≤◌, ◌↔◌, List, ℕ, IfOk, IfErr, IsErr, IsTrue, [], ◌∷◌, length, replicate, false};
+ghost use Rattle.std.specs.Prelude.{◌≡◌, ◌+◌, ◌*◌, ◌^◌, ◌<◌, ◌≤◌, ◌↔◌, List, ℕ, IfOk, IfErr, IsErr, IsTrue, [], ◌∷◌, length, replicate, false};
 ghost use Rattle.tape.specs.Tape.{PlainEntry, IsRecord, tape, done_answer, given_answer, op_request};
 ghost use Rattle.tape.specs.Tape.PlainEntry.{Record, Mark};
 ghost use Rattle.tape.specs.Tape.TapeRequest.{WriteMarks};
@@ -56,7 +56,8 @@ impl<M: Medium> FileReel<M> {
 
     /// Whether so many bytes have their room from the place on.
     pub(crate) fn has_room(&self, size: u64) -> bool
-        ensures { IsTrue result ↔ (self.now.offset + size ≤ self.now.capacity) }
+        ensures answer { IsTrue result ↔ (self.now.offset + size ≤ self.now.capacity) }
+        ensures bound { self.now.capacity < 2 ^ 64 }
     {
         self.offset <= self.capacity && size <= self.capacity - self.offset
     }
@@ -84,7 +85,7 @@ impl<M: Medium> FileReel<M> {
     /// Answers `Device`. The place is the same then, and from it on stands what stood, nothing, or the record.
     pub(crate) fn put_record(&mut self, bytes: &[u8]) -> Result<(), TapeFault>
         requires record_is { IsRecord bytes.now }
-        requires room { self.old.offset + (length bytes.now + 8) ≤ self.old.capacity }
+        requires room { self.old.offset + (length bytes.now + 8) < 2 ^ 64 }
         ensures run { IsReelRun (medium_kind M.holds M.failures M.can_fail M.spare) (Puts (Record bytes.now ∷ []) result)
             (length bytes.now + 8) (IsErr result) self.old self.new }
         ensures device { IfErr result (λ fault. fault ≡ Device) }
@@ -98,7 +99,7 @@ impl<M: Medium> FileReel<M> {
     ///
     /// Answers `Device`. The place is the same then, and from it on stands what stood, or the first of the marks.
     pub(crate) fn put_marks(&mut self, count: u32) -> Result<(), TapeFault>
-        requires { self.old.offset + 4 * count ≤ self.old.capacity }
+        requires { self.old.offset + 4 * count < 2 ^ 64 }
         ensures run { IsReelRun (medium_kind M.holds M.failures M.can_fail M.spare) (Puts (replicate count Mark) result)
             (4 * count) (IsErr result) self.old self.new }
         ensures device { IfErr result (λ fault. fault ≡ Device) }

@@ -3,7 +3,7 @@ ghost use Rattle.tape.specs.Tape.{Tape, IsRecord};
 ghost use Rattle.tape.specs.Tape.PlainEntry.{Record, Mark};
 ghost use Rattle.tape.specs.Medium.{MediumStep, medium_kind};
 ghost use Rattle.tape.specs.Medium.MediumCall.{Append};
-ghost use Rattle.tape.specs.RecordFile.{IsFile, image_of};
+ghost use Rattle.tape.specs.RecordFile.{IsFile, image_of, length_bytes};
 ghost use Rattle.tape.specs.FileSteps.{IsRun, BeginsWith, IsWritten, ahead, first_length, size_by_length};
 ghost use Rattle.tape.specs.declared.file_reel.walk.Way.TheVariants.{Forward, Back};
 
@@ -30,6 +30,13 @@ pub(super) fn size_of(length: u32) -> u64
     }
 }
 
+/// The length that these bytes are.
+fn length_in(bytes: [u8; 4]) -> u32
+    ensures { length_bytes result ≡ bytes }
+{
+    u32::from_le_bytes(bytes)
+}
+
 /// The length that stands from an offset on, where 4 bytes are there.
 fn length_at<M: Medium>(medium: &mut M, at: u64) -> Result<Option<u32>, MediumFailed>
     ensures { IsRun (medium_kind M.holds M.failures M.can_fail M.spare)
@@ -40,7 +47,7 @@ fn length_at<M: Medium>(medium: &mut M, at: u64) -> Result<Option<u32>, MediumFa
     if count < bytes.len() {
         return Ok(None);
     }
-    Ok(Some(u32::from_le_bytes(bytes)))
+    Ok(Some(length_in(bytes)))
 }
 
 /// The length of the entry that stands from an offset on, 0 for a mark. No length where none stands there whole: that
@@ -63,8 +70,10 @@ pub(super) fn next_length<M: Medium>(medium: &mut M, at: u64) -> Result<Option<u
     if length > LENGTH_LIMIT {
         return Ok(None);
     }
-    let behind = length_at(medium, at + MARK_SIZE + u64::from(length))?;
-    if behind != Some(length) {
+    let Some(behind) = length_at(medium, at + MARK_SIZE + u64::from(length))? else {
+        return Ok(None);
+    };
+    if behind != length {
         return Ok(None);
     }
     Ok(Some(length))
