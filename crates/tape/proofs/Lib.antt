@@ -11,4 +11,7 @@ pub mod Images
 pub mod Writing
 pub mod Putting
 pub mod ReelCalls
+pub mod Passing
+pub mod Before
+pub mod Taking
 pub mod Walks

@@ -2,16 +2,16 @@
 use Rattle.std.proofs.Common.{◌≡◌, ◌⊎◌, ◌↔◌, IsTrue, Bool, true, ℕ, ◌+◌, ◌*◌, ◌<◌, ◌≤◌, List, [], ◌∷◌, ◌++◌, length, take, replicate, min, false, Result, Ok, Err, IsErr, IfErr, inl, inr, refl, sym, ap, subst, ◌∙◌, arith}
 use Rattle.std.proofs.lemmas.List.{length-replicate, take-replicate, take_min, take_all}
 use Rattle.std.proofs.lemmas.Bool.{cases_lt}
-use Rattle.tape.specs.Tape.{PlainEntry, Tape, TapeRequest, TapeAnswer, TapeStep, offset_of, tape, done_answer}
+use Rattle.tape.specs.Tape.{PlainEntry, Tape, TapeRequest, TapeAnswer, TapeStep, offset_of, tape, entries_of, done_answer}
 use Rattle.tape.specs.Tape.PlainEntry.{Record, Mark}
-use Rattle.tape.specs.Tape.TapeRequest.{Write, WriteMarks}
+use Rattle.tape.specs.Tape.TapeRequest.{Write, WriteMarks, Read, Rewind, Nothing, Unknown}
 use Rattle.tape.specs.Tape.TapeAnswer.{Done, Fault}
 use Rattle.tape.specs.Call.{IsCall, CanAnswer}
 use Rattle.tape.specs.Medium.{MediumKind}
 use Rattle.tape.specs.RecordFile.{IsFile, FileTape, HoldsTape, IsFileCall, image_added}
 use Rattle.tape.specs.FileSteps.{IsRun, IsReelRun, Puts}
 use Rattle.tape.specs.declared.fault.TapeFault.{TapeFault}
-use Rattle.tape.specs.declared.fault.TapeFault.TheVariants.{Device, Full, OutOfMemory}
+use Rattle.tape.specs.declared.fault.TapeFault.TheVariants.{Device, Full, BadOperation, OutOfMemory}
 use Rattle.tape.proofs.Devices.{left_of_one, first_marks}
 use Rattle.tape.proofs.Writing.{offset_at}
 
@@ -111,3 +111,19 @@ no_room need most r answer is = elim (cases_lt most need) [ inl short ↦ short 
 
 pub the_room : (need most : ℕ) (r : Bool) → (IsTrue r ↔ (need ≤ most)) → r ≡ true → need ≤ most
 the_room need most r answer is = answer.0 is
+
+pub rewind_call : {M : Type 0} (m : MediumKind M) (old : FileTape M) → FileCall m old (record old { offset = 0 }) Rewind Done
+rewind_call {M} m old =
+    let new : FileTape M = record old { offset = 0 } in
+    let run : IsReelRun m (λ t u. u ≡ tape [] (entries_of t)) 0 ⊥ old new = record {
+      step = λ t h. (tape [] (entries_of t), (h.0, h.1, record { spelled = h.2.spelled; offset_is = refl }), refl);
+      calls = (reel_none m old).calls;
+      same_capacity = refl;
+    } in
+    file_call old new Rewind Done run (λ is. cc) (λ f. absurd f) refl (λ is. cc) (omega arith) (λ file t u f is. is)
+
+pub nothing_call : {M : Type 0} (m : MediumKind M) (here : FileTape M) → FileCall m here here Nothing Done
+nothing_call m here = file_call here here Nothing Done (reel_none m here) (λ is. cc) (λ f. absurd f) refl (λ is. cc) (omega arith) (λ file t u f is. is)
+
+pub unknown_call : {M : Type 0} (m : MediumKind M) (here : FileTape M) → FileCall m here here Unknown (Fault BadOperation)
+unknown_call m here = file_call here here Unknown (Fault BadOperation) (reel_none m here) (λ is. cc) (λ f. absurd f) refl (λ is. cc) (omega arith) (λ file t u f is. is)
