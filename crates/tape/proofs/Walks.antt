@@ -1,4 +1,3 @@
--- FOR YOU, who work on the file reel: walk_files, walk_records, pass_next, pass_last are proved (answers in proofs/file_reel/walk), space_files and space_records need none; last_length is being done beside you now. Yours: put, write, read, op. (Delete this line.)
 -- A walk along a record file: where it stands in between, one entry further, and where it ends.
 use Rattle.std.proofs.Common.{◌≡◌, ℕ, zero, suc, ◌+◌, ◌-◌, ◌<◌, ◌≤◌, Bool, true, false, List, [], ◌∷◌, ◌++◌, length, reverse, take, drop, Option, Some, None, MatchOption, IfSome, refl, sym, ap, subst, ◌∙◌, arith}
 use Rattle.std.specs.Prelude.{if◌then◌else◌}

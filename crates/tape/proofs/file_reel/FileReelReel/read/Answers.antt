@@ -30,10 +30,30 @@ returns-then-length-eq0-clause-call g c =
     (m.0, subst P (sym s.0) m.1, m.2)))
 
 pub returns-in_err-copied-clause-call : goal.returns-in_err-copied-clause-call
-returns-in_err-copied-clause-call g c = ?
+returns-in_err-copied-clause-call g c =
+    let K = medium_kind g.M.Medium.holds g.M.Medium.failures g.M.Medium.can_fail g.M.Medium.spare in
+    let p = err_from_is_err_and c.from_residual-in_err-copied.result c.from_residual-in_err-copied.ensures.1 in
+    let run : IsRun K (λ x z. z ≡ x) 0 (Unit {0}) c.self.inside.medium c.read_at.new.self
+    = run_then c.in_ok-length.ensures.run (run_call c.in_err-copied.ensures.call) (λ f. cc) (λ f. tt) (λ f. refl) (omega arith) (λ x y z held s r. r.0 ∙ s.0) in
+    rw (← c.self.view_is, p.1, p.2) (failed_read _ _ (length c.args.into.now) run tt refl refl (λ x y s. s))
 
 pub returns-then-copied-count-clause-call : goal.returns-then-copied-count-clause-call
-returns-then-copied-count-clause-call g c = ?
+returns-then-copied-count-clause-call g c =
+    let K = medium_kind g.M.Medium.holds g.M.Medium.failures g.M.Medium.can_fail g.M.Medium.spare in
+    let at = c.self.inside.offset in
+    let n = c.in-Some.length in
+    let count = c.min-count.result in
+    let want = length c.args.into.now in
+    let given = c.read_at.new.into in
+    let size : length given ≡ count = omega (arith, c.read_at.auto.into, length-take count c.args.into.now) in
+    let run : IsRun K (λ x z. (z ≡ x) × ((t : Tape) → IsFile x at t → Some n ≡ first_length t.after) × IsReadAt (at + 4) given c.in_ok-copied.copied x) 0 ⊥
+        c.self.inside.medium c.read_at.new.self
+    = run_then c.in_ok-length.ensures.run (run_call c.in_ok-copied.ensures.call) (λ f. cc) (λ f. cc) (λ f. absurd f) (omega arith)
+        (λ x y z held s r.
+        let P : List ℕ → Type 0 = λ l. IsReadAt (at + 4) given c.in_ok-copied.copied l in
+        (r.0 ∙ s.0, λ t f. sym c.in-Some.is ∙ s.1 t f, subst P s.0 r.1)) in
+    rw (← c.self.view_is) (gave_call _ _ want [] run (λ f. f) (omega arith) refl
+    (λ x y t f s. absurd (read_enough x at n c.in_ok-copied.copied count want given t f (s.1 t f) c.min-count.ensures size (omega arith) s.2)))
 
 pub returns-clause-call : goal.returns-clause-call
 returns-clause-call g c =
