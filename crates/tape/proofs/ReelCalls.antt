@@ -2,16 +2,20 @@
 use Rattle.std.proofs.Common.{◌≡◌, ◌⊎◌, ◌↔◌, IsTrue, Bool, true, ℕ, ◌+◌, ◌*◌, ◌<◌, ◌≤◌, List, [], ◌∷◌, ◌++◌, length, take, replicate, min, false, Result, Ok, Err, IsErr, IfErr, inl, inr, refl, sym, ap, subst, ◌∙◌, arith}
 use Rattle.std.proofs.lemmas.List.{length-replicate, take-replicate, take_min, take_all}
 use Rattle.std.proofs.lemmas.Bool.{cases_lt}
-use Rattle.tape.specs.Tape.{PlainEntry, Tape, TapeRequest, TapeAnswer, TapeStep, offset_of, tape, entries_of, done_answer}
+use Rattle.std.specs.Prelude.{◌-◌, MatchResult}
+use Rattle.tape.specs.Tape.{PlainEntry, Tape, TapeRequest, TapeAnswer, TapeStep, SpaceStep, stands_at, records_met, passed_for_records, offset_of, tape, entries_of, done_answer}
 use Rattle.tape.specs.Tape.PlainEntry.{Record, Mark}
-use Rattle.tape.specs.Tape.TapeRequest.{Write, WriteMarks, Read, Rewind, Nothing, Unknown}
+use Rattle.tape.specs.Tape.TapeRequest.{Write, WriteMarks, Read, ForwardRecords, BackRecords, Rewind, Nothing, Unknown}
 use Rattle.tape.specs.Tape.TapeAnswer.{Done, Fault}
-use Rattle.tape.specs.Call.{IsCall, CanAnswer}
+use Rattle.tape.specs.Call.{IsCall, CanAnswer, CanSpace}
 use Rattle.tape.specs.Medium.{MediumKind}
 use Rattle.tape.specs.RecordFile.{IsFile, FileTape, HoldsTape, IsFileCall, image_added}
-use Rattle.tape.specs.FileSteps.{IsRun, IsReelRun, Puts}
+use Rattle.tape.specs.FileSteps.{IsRun, IsReelRun, IsWalked, Puts, ahead, moved, records_request}
+use Rattle.tape.specs.declared.file_reel.walk.Way.{Way}
+use Rattle.tape.specs.declared.file_reel.walk.Way.TheVariants.{Forward, Back}
+use Rattle.tape.proofs.MediumRuns.{run_as}
 use Rattle.tape.specs.declared.fault.TapeFault.{TapeFault}
-use Rattle.tape.specs.declared.fault.TapeFault.TheVariants.{Device, Full, BadOperation, OutOfMemory}
+use Rattle.tape.specs.declared.fault.TapeFault.TheVariants.{Device, Full, EndOrMark, BadOperation, OutOfMemory}
 use Rattle.tape.proofs.Devices.{left_of_one, first_marks}
 use Rattle.tape.proofs.Writing.{offset_at}
 
@@ -127,3 +131,46 @@ nothing_call m here = file_call here here Nothing Done (reel_none m here) (λ is
 
 pub unknown_call : {M : Type 0} (m : MediumKind M) (here : FileTape M) → FileCall m here here Unknown (Fault BadOperation)
 unknown_call m here = file_call here here Unknown (Fault BadOperation) (reel_none m here) (λ is. cc) (λ f. absurd f) refl (λ is. cc) (omega arith) (λ file t u f is. is)
+
+-- ---- spacing
+
+-- where a walk along the file ended
+abbrev Walked : {M : Type 0} → Way → ℕ → ℕ → ℕ → (Tape → ℕ) → (Tape → ℕ) → FileTape M → List ℕ → List ℕ → Type 0
+Walked way count at left met far old x y = (y ≡ x) × ((t : Tape) → IsFile x old.offset t → IsWalked way count (met t) (far t) x t at left)
+
+walked_run : {M : Type 0} {m : MediumKind M} {F : Type 0} (way : Way) (count at left : ℕ) (met far : Tape → ℕ) (old : FileTape M) (b : M)
+    → IsRun m (Walked way count at left met far old) 0 F old.medium b → (F → ⊥)
+    → IsReelRun m (λ t u. (u ≡ stands_at (moved way (far t) t) t) × (left ≡ count - met t)) 0 ⊥ old (record { medium = b; offset = at; capacity = old.capacity })
+walked_run way count at left met far old b r never = record {
+  step = λ t h.
+      let s = r.step h.0 h.1 in
+      let w = s.2.1 t h.2 in
+      (w.to, (s.0, s.1, subst (λ l. IsFile l at w.to) (sym s.2.0) w.file), (w.place, w.left_is));
+  calls = run_as r never (λ f. absurd f) (omega arith) (λ x y held f. tt);
+  same_capacity = refl;
+}
+
+space_by : {M : Type 0} {m : MediumKind M} {F : Type 0} (way : Way) (count at left : ℕ) (met far : Tape → ℕ) (request : TapeRequest) (old : FileTape M) (b : M) (r : Result Unit TapeFault)
+    → IsRun m (Walked way count at left met far old) 0 F old.medium b → (F → ⊥) → left ≤ count
+    → MatchResult r (λ _. left ≡ 0) (λ fault. (fault ≡ EndOrMark) × (0 < left))
+    → ((answer : TapeAnswer) (t u : Tape) → SpaceStep count (met t) (moved way (far t) t) t answer u → TapeStep old.capacity t request answer u)
+    → ((answer : TapeAnswer) → CanSpace count answer → CanAnswer request answer)
+    → FileCall m old (record { medium = b; offset = at; capacity = old.capacity }) request (done_answer r)
+space_by way count at left met far request old b (Ok x) run never within none step can =
+    file_call old (record { medium = b; offset = at; capacity = old.capacity }) request Done (walked_run way count at left met far old b run never)
+    (λ is. cc) (λ f. absurd f) (can Done (inl refl)) (λ is. cc) (omega arith)
+    (λ file t u f d. step Done t u (let e = d.1 in omega arith, d.0))
+space_by {m = m} way count at left met far request old b (Err fault) run never within (is, some) step can =
+    subst (λ k. FileCall m old (record { medium = b; offset = at; capacity = old.capacity }) request (Fault k)) (sym is)
+    (file_call old (record { medium = b; offset = at; capacity = old.capacity }) request (Fault EndOrMark) (walked_run way count at left met far old b run never)
+    (λ e. cc) (λ f. absurd f) (can (Fault EndOrMark) (inr (omega arith, inl refl))) (λ e. cc) (omega arith)
+    (λ file t u f d. step (Fault EndOrMark) t u (let e = d.1 in omega arith, d.0)))
+
+pub records_spaced : {M : Type 0} {m : MediumKind M} {F : Type 0} (way : Way) (count at left : ℕ) (old : FileTape M) (b : M) (r : Result Unit TapeFault)
+    → IsRun m (Walked way count at left (λ t. records_met (ahead way t)) (λ t. passed_for_records count (ahead way t)) old) 0 F old.medium b → (F → ⊥) → left ≤ count
+    → MatchResult r (λ _. left ≡ 0) (λ fault. (fault ≡ EndOrMark) × (0 < left))
+    → FileCall m old (record { medium = b; offset = at; capacity = old.capacity }) (records_request way count) (done_answer r)
+records_spaced Forward count at left old b r run never within answered =
+    space_by Forward count at left _ _ (ForwardRecords count) old b r run never within answered (λ answer t u s. s) (λ answer c. c)
+records_spaced Back count at left old b r run never within answered =
+    space_by Back count at left _ _ (BackRecords count) old b r run never within answered (λ answer t u s. s) (λ answer c. c)
