@@ -14,7 +14,7 @@ use Rattle.tape.specs.declared.trouble.Trouble.TheVariants.{None, Kept, Lost, Wr
 use Rattle.tape.proofs.Calls.{can_of}
 
 -- of one record nothing is left or all
-left_of_one : (count : ℕ) (e : PlainEntry) → (take count (e ∷ []) ≡ []) ⊎ (take count (e ∷ []) ≡ e ∷ [])
+pub left_of_one : (count : ℕ) (e : PlainEntry) → (take count (e ∷ []) ≡ []) ⊎ (take count (e ∷ []) ≡ e ∷ [])
 left_of_one zero e = inl refl
 left_of_one (suc count) e = inr (take_all (suc count) (e ∷ []) (omega arith))
 
@@ -28,7 +28,7 @@ record_cut_short (Written count) t u e set is =
     (ap (λ (v : Tape). v.before) is, elim (left_of_one count e) [ inl none ↦ inr (inl (after ∙ none)) | inr all ↦ inr (inr (after ∙ all)) ])
 
 -- the first of so many marks are the lesser number of marks
-first_marks : (some count : ℕ) → take some (replicate count Mark) ≡ replicate (min some count) Mark
+pub first_marks : (some count : ℕ) → take some (replicate count Mark) ≡ replicate (min some count) Mark
 first_marks some count =
     let long = length-replicate count Mark in
     sym (take_min some (replicate count Mark)) ∙ ap (λ n. take (min some n) (replicate count Mark)) long

@@ -6,3 +6,12 @@ pub mod Devices
 pub mod Leaving
 pub mod Spelling
 pub mod Places
+pub mod MediumRuns
+pub mod Images
+pub mod Writing
+pub mod Putting
+pub mod ReelCalls
+pub mod Passing
+pub mod Before
+pub mod Taking
+pub mod Walks

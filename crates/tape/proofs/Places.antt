@@ -8,10 +8,10 @@ use Rattle.tape.specs.Tape.{PlainEntry, Tape, IsTapeEntry, tape}
 use Rattle.tape.specs.RecordFile.{image_of, images_of, IsTail, SpellsReel, IsFile, tape_in}
 use Rattle.tape.proofs.Spelling.{spells_in, tail_short}
 
-All-front : (P : PlainEntry → Type 0) (xs ys : List PlainEntry) → All P (xs ++ ys) → All P xs
+pub All-front : (P : PlainEntry → Type 0) (xs ys : List PlainEntry) → All P (xs ++ ys) → All P xs
 All-front P xs ys all = subst (All P) (take_at xs ys (length xs) refl) (All-take P (length xs) (xs ++ ys) all)
 
-All-back : (P : PlainEntry → Type 0) (xs ys : List PlainEntry) → All P (xs ++ ys) → All P ys
+pub All-back : (P : PlainEntry → Type 0) (xs ys : List PlainEntry) → All P (xs ++ ys) → All P ys
 All-back P xs ys all = subst (All P) (drop_at xs ys (length xs) refl) (All-drop P (length xs) (xs ++ ys) all)
 
 -- a file, cut at the place

@@ -28,7 +28,7 @@ standing_next entries place offset capacity size e standing within is sized =
     }
 
 -- a read at an entry
-passes_at : (e : PlainEntry) (rest : List PlainEntry) (t u : Tape) (count : ℕ) (bytes : List ℕ) → bytes ≡ take count (bytes_of e)
+pub passes_at : (e : PlainEntry) (rest : List PlainEntry) (t u : Tape) (count : ℕ) (bytes : List ℕ) → bytes ≡ take count (bytes_of e)
     → u ≡ tape (t.before ++ e ∷ []) rest → Passes count (e ∷ rest) t bytes u
 passes_at (Record written) rest t u count bytes copied is = (copied, is)
 passes_at Mark rest t u count bytes copied is = let none : take count (bytes_of Mark) ≡ [] = take_all count [] (omega arith) in (copied ∙ none, is)

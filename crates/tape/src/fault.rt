@@ -1,6 +1,7 @@
 #[cfg(test)]
 mod tests;
 
+use crate::MediumFailed;
 use std::alloc::AllocError;
 use thiserror::Error;
 
@@ -41,5 +42,16 @@ impl From<AllocError> for TapeFault {
 
     fn from(_: AllocError) -> TapeFault {
         TapeFault::OutOfMemory
+    }
+}
+
+impl From<MediumFailed> for TapeFault {
+    ghost use Rattle.std.specs.Prelude.{◌≡◌};
+    ghost use Rattle.tape.specs.declared.fault.TapeFault.TheVariants.{Device};
+
+    ghost from_gives = { λ _ e. e ≡ Device };
+
+    fn from(_: MediumFailed) -> TapeFault {
+        TapeFault::Device
     }
 }

@@ -1,10 +1,21 @@
-ghost use Rattle.std.specs.Prelude.{◌≡◌, ◌≤◌, List, ℕ, IfOk, [], length};
-ghost use Rattle.tape.specs.Tape.{PlainEntry, tape};
+ghost use Rattle.std.specs.Prelude.{◌≡◌, ◌+◌, ◌*◌, ◌^◌, ◌<◌, ◌≤◌, ◌↔◌, List, ℕ, IfOk, IfErr, IsErr, IsTrue, [], ◌∷◌, length, replicate, false};
+ghost use Rattle.tape.specs.Tape.{PlainEntry, IsRecord, tape, done_answer, given_answer, op_request};
+ghost use Rattle.tape.specs.Tape.PlainEntry.{Record, Mark};
+ghost use Rattle.tape.specs.Tape.TapeRequest.{WriteMarks};
+ghost use Rattle.tape.specs.Call.{IsCall};
 ghost use Rattle.tape.specs.Medium.{medium_kind};
 ghost use Rattle.tape.specs.RecordFile.{FileTape, SpellsReel, HoldsTape, IsFileCall};
+ghost use Rattle.tape.specs.FileSteps.{IsReelRun, Puts, files_request, records_request};
+ghost use Rattle.tape.specs.declared.fault.TapeFault.TheVariants.{Device};
 
-use crate::Medium;
+mod image;
+mod walk;
+
+use crate::entry::{MARK_SIZE, RECORD_FRAME};
+use crate::{MTBSF, MTBSR, MTFSF, MTFSR, MTNOP, MTREW, MTWEOF, Medium, Reel, TapeFault};
+use image::{next_length, put_marks, put_record, size_of};
 use std::marker::Model;
+use walk::{Way, walk_files, walk_records};
 
 /// A reel whose entries lie on a medium, as a record file.
 ///
@@ -49,5 +60,163 @@ impl<M: Medium> FileReel<M> {
             offset: 0,
             capacity,
         }
+    }
+
+    /// Whether so many bytes have their room from the place on.
+    pub(crate) fn has_room(&self, size: u64) -> bool
+        ensures answer { IsTrue result ↔ (self.now.offset + size ≤ self.now.capacity) }
+        ensures bound { self.now.capacity < 2 ^ 64 }
+    {
+        self.offset <= self.capacity && size <= self.capacity - self.offset
+    }
+
+    /// Goes to an offset, which is to be that of a place.
+    pub(crate) fn stand_at(&mut self, offset: u64)
+        ensures { self.new ≡ record self.old { offset = offset } }
+    {
+        self.offset = offset;
+    }
+
+    /// Cuts off what stands from the place on.
+    ///
+    /// Answers `Device`. The entries are the same then, or cut.
+    pub(crate) fn cut(&mut self) -> Result<(), TapeFault>
+        ensures run { IsReelRun (medium_kind M.holds M.failures M.can_fail M.spare) (Puts [] result) 0 (IsErr result) self.old self.new }
+        ensures device { IfErr result (λ fault. fault ≡ Device) }
+    {
+        self.medium.cut(self.offset)?;
+        Ok(())
+    }
+
+    /// Puts a record at the place, with nothing behind it, and goes behind it.
+    ///
+    /// Answers `Device`. The place is the same then, and from it on stands what stood, nothing, or the record.
+    pub(crate) fn put_record(&mut self, bytes: &[u8]) -> Result<(), TapeFault>
+        requires record_is { IsRecord bytes.now }
+        requires room { self.old.offset + (length bytes.now + 8) < 2 ^ 64 }
+        ensures run { IsReelRun (medium_kind M.holds M.failures M.can_fail M.spare) (Puts (Record bytes.now ∷ []) result)
+            (length bytes.now + 8) (IsErr result) self.old self.new }
+        ensures device { IfErr result (λ fault. fault ≡ Device) }
+    {
+        put_record(&mut self.medium, self.offset, bytes)?;
+        self.offset += bytes.len() as u64 + RECORD_FRAME;
+        Ok(())
+    }
+
+    /// Puts so many marks at the place, with nothing behind them, and goes behind them.
+    ///
+    /// Answers `Device`. The place is the same then, and from it on stands what stood, or the first of the marks.
+    pub(crate) fn put_marks(&mut self, count: u32) -> Result<(), TapeFault>
+        requires { self.old.offset + 4 * count < 2 ^ 64 }
+        ensures run { IsReelRun (medium_kind M.holds M.failures M.can_fail M.spare) (Puts (replicate count Mark) result)
+            (4 * count) (IsErr result) self.old self.new }
+        ensures device { IfErr result (λ fault. fault ≡ Device) }
+    {
+        put_marks(&mut self.medium, self.offset, count)?;
+        self.offset += u64::from(count) * MARK_SIZE;
+        Ok(())
+    }
+
+    /// Writes so many marks at the place.
+    fn write_marks(&mut self, count: u32) -> Result<(), TapeFault>
+        ensures { IsCall (HoldsTape M.holds) (λ r. r.capacity) (λ r. M.failures r.medium) (λ _. Unit {0})
+            (λ old new request answer. IsFileCall (medium_kind M.holds M.failures M.can_fail M.spare) old new request answer)
+            false self.old self.new (WriteMarks count) (done_answer result) }
+    {
+        if count == 0 {
+            return Ok(());
+        }
+        if !self.has_room(u64::from(count) * MARK_SIZE) {
+            return Err(TapeFault::Full);
+        }
+        self.put_marks(count)
+    }
+
+    /// Goes past so many marks on the way, or as far as it goes.
+    fn space_files(&mut self, way: Way, count: u32) -> Result<(), TapeFault>
+        ensures { IsCall (HoldsTape M.holds) (λ r. r.capacity) (λ r. M.failures r.medium) (λ _. Unit {0})
+            (λ old new request answer. IsFileCall (medium_kind M.holds M.failures M.can_fail M.spare) old new request answer)
+            false self.old self.new (files_request way count) (done_answer result) }
+    {
+        let walked = walk_files(&mut self.medium, way, self.offset, count)?;
+        self.offset = walked.at;
+        walked.answer()
+    }
+
+    /// Goes past so many records on the way, or past the first mark, or as far as it goes.
+    fn space_records(&mut self, way: Way, count: u32) -> Result<(), TapeFault>
+        ensures { IsCall (HoldsTape M.holds) (λ r. r.capacity) (λ r. M.failures r.medium) (λ _. Unit {0})
+            (λ old new request answer. IsFileCall (medium_kind M.holds M.failures M.can_fail M.spare) old new request answer)
+            false self.old self.new (records_request way count) (done_answer result) }
+    {
+        let walked = walk_records(&mut self.medium, way, self.offset, count)?;
+        self.offset = walked.at;
+        walked.answer()
+    }
+}
+
+impl<M: Medium> Reel for FileReel<M> {
+    ghost holds = { HoldsTape M.holds };
+
+    ghost capacity = { λ r. r.capacity };
+
+    ghost failures = { λ r. M.failures r.medium };
+
+    ghost can_fail = { λ _. Unit {0} };
+
+    ghost makes = { λ old new request answer. IsFileCall (medium_kind M.holds M.failures M.can_fail M.spare) old new request answer };
+
+    ghost GROWS = { false };
+
+    const GROWS: bool = false;
+
+    fn write(&mut self, bytes: &[u8]) -> Result<(), TapeFault> {
+        if !self.has_room(bytes.len() as u64 + RECORD_FRAME + MARK_SIZE) {
+            return Err(TapeFault::Full);
+        }
+        self.put_record(bytes)
+    }
+
+    fn read(&mut self, into: &mut [u8]) -> Result<usize, TapeFault> {
+        let Some(length) = next_length(&mut self.medium, self.offset)? else {
+            return Ok(0);
+        };
+        if length == 0 {
+            self.offset += MARK_SIZE;
+            return Ok(0);
+        }
+        let count = into.len().min(length as usize);
+        let copied = self
+            .medium
+            .read_at(self.offset + MARK_SIZE, &mut into[..count])?;
+        if copied < count {
+            return Ok(0);
+        }
+        self.offset += size_of(length);
+        Ok(count)
+    }
+
+    fn op(&mut self, op: u32, count: u32) -> Result<(), TapeFault> {
+        match op {
+            MTWEOF => self.write_marks(count),
+            MTFSF => self.space_files(Way::Forward, count),
+            MTBSF => self.space_files(Way::Back, count),
+            MTFSR => self.space_records(Way::Forward, count),
+            MTBSR => self.space_records(Way::Back, count),
+            MTREW => {
+                self.rewind();
+                Ok(())
+            }
+            MTNOP => Ok(()),
+            _ => Err(TapeFault::BadOperation),
+        }
+    }
+
+    fn rewind(&mut self) {
+        self.offset = 0;
+    }
+
+    fn failures(&self) -> u64 {
+        self.medium.failures()
     }
 }

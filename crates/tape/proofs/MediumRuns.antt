@@ -1,0 +1,56 @@
+-- Calls of a medium in a row.
+use Rattle.std.proofs.Common.{◌≡◌, ◌⊎◌, ℕ, ◌+◌, ◌<◌, ◌≤◌, List, length, Result, Ok, Err, inl, inr, refl, ◌∙◌, arith}
+use Rattle.tape.specs.Failures.{HasRisen, Steps}
+use Rattle.tape.specs.Medium.{MediumCall, MediumStep, HasFailed, bytes_added, MediumKind, IsMediumCall}
+use Rattle.tape.specs.FileSteps.{IsRun}
+
+pub run_call : {S : Type 0} {m : MediumKind S} {old new : S} {call : MediumCall} → IsMediumCall m old call new
+    → IsRun m (MediumStep call) (bytes_added call) (HasFailed call) old new
+run_call c = record { step = c.step; failed = c.failed; same = c.same; counted = c.counted; able = c.able; quiet = c.quiet; room = c.room }
+
+-- what a run does, said otherwise
+pub run_as : {S : Type 0} {m : MediumKind S} {old new : S} {first does : List ℕ → List ℕ → Type 0} {less added : ℕ} {fails F : Type 0}
+    → IsRun m first less fails old new → (fails → F) → (F → fails) → less ≤ added
+    → ((x y : List ℕ) → m.holds old x → first x y → does x y) → IsRun m does added F old new
+run_as r to from fits weaker = record {
+  step = λ x held. let s = r.step x held in (s.0, s.1, weaker x s.0 held s.2);
+  failed = λ f. r.failed (from f);
+  same = elim r.same [ inl e ↦ inl e | inr f ↦ inr (to f) ];
+  counted = r.counted;
+  able = λ f. elim (r.able (from f)) [ inl e ↦ inl e | inr l ↦ inr (omega arith) ];
+  quiet = r.quiet;
+  room = let k = r.room in omega arith;
+}
+
+-- no call
+pub run_none : {S : Type 0} {m : MediumKind S} {here : S} {does : List ℕ → List ℕ → Type 0} {added : ℕ} {fails : Type 0}
+    → (fails → ⊥) → ((x : List ℕ) → m.holds here x → does x x) → IsRun m does added fails here here
+run_none not same = record {
+  step = λ x held. (x, held, same x held);
+  failed = λ f. absurd (not f);
+  same = inl refl;
+  counted = omega arith;
+  able = λ f. absurd (not f);
+  quiet = λ x. x;
+  room = omega arith;
+}
+
+-- one run and then another
+pub run_then : {S : Type 0} {m : MediumKind S} {a b c : S} {first next does : List ℕ → List ℕ → Type 0} {less more added : ℕ} {fails F G : Type 0}
+    → IsRun m first less fails a b → IsRun m next more F b c → (fails → ⊥) → (F → G) → (G → F) → less + more ≤ added
+    → ((x y z : List ℕ) → m.holds a x → first x y → next y z → does x z) → IsRun m does added G a c
+run_then r q not to from fits both = record {
+  step = λ x held.
+      let s = r.step x held in
+      let u = q.step s.0 s.1 in
+      (u.0, u.1, both x s.0 u.0 held s.2 u.2);
+  failed = λ f.
+      let risen = q.failed (from f) in
+      let kept = r.counted in
+      omega arith;
+  same = elim r.same [ inl e ↦ elim q.same [ inl k ↦ inl (k ∙ e) | inr f ↦ inr (to f) ] | inr f ↦ absurd (not f) ];
+  counted = let k = r.counted in let l = q.counted in omega arith;
+  able = λ f. elim (q.able (from f)) [ inl e ↦ inl (r.quiet e) | inr l ↦ (let k = r.room in inr (omega arith)) ];
+  quiet = λ x. r.quiet (q.quiet x);
+  room = let k = r.room in let l = q.room in omega arith;
+}

@@ -1,0 +1,37 @@
+-- From bytes that were written to the tape of a reel.
+use Rattle.std.proofs.Common.{◌≡◌, ℕ, ◌+◌, ◌≤◌, List, [], ◌++◌, length, Result, Ok, Err, IsErr, refl, sym, subst, arith}
+use Rattle.std.specs.List.{All}
+use Rattle.tape.specs.Tape.{PlainEntry, IsTapeEntry, tape}
+use Rattle.tape.specs.Medium.{MediumKind}
+use Rattle.tape.specs.RecordFile.{images_of, IsFile, FileTape}
+use Rattle.tape.specs.FileSteps.{IsRun, IsReelRun, IsWritten, Puts}
+use Rattle.tape.specs.declared.medium.MediumFailed.{MediumFailed}
+use Rattle.tape.specs.declared.fault.TapeFault.{TapeFault}
+use Rattle.tape.proofs.MediumRuns.{run_as}
+use Rattle.tape.proofs.Writing.{written_whole, written_part}
+
+pub puts_whole : {M : Type 0} {m : MediumKind M} (old new : FileTape M) (written : List PlainEntry) (image : List ℕ) (added : ℕ) (u v : Unit {0})
+    → All IsTapeEntry written → image ≡ images_of written → new.offset ≡ old.offset + length image → new.capacity ≡ old.capacity
+    → IsRun m (IsWritten old.offset image (Ok u)) added (IsErr {E = MediumFailed} (Ok u)) old.medium new.medium
+    → IsReelRun m (Puts written (Ok v)) added (IsErr {E = TapeFault} (Ok v)) old new
+puts_whole old new written image added u v lawful image_is offset_is same run = record {
+  step = λ t h.
+      let s = run.step h.0 h.1 in
+      (tape (t.before ++ written) [], (s.0, s.1, written_whole h.0 s.0 image old.offset new.offset t written h.2 lawful image_is offset_is s.2), refl);
+  calls = run_as run (λ f. f) (λ f. f) (omega arith) (λ x y held step. tt);
+  same_capacity = same;
+}
+
+pub puts_part : {M : Type 0} {m : MediumKind M} (old new : FileTape M) (written : List PlainEntry) (image : List ℕ) (added : ℕ) (e : MediumFailed) (d : TapeFault)
+    → All IsTapeEntry written → image ≡ images_of written → new.offset ≡ old.offset → new.capacity ≡ old.capacity
+    → IsRun m (IsWritten old.offset image (Err e)) added (IsErr {T = Unit {0}} (Err e)) old.medium new.medium
+    → IsReelRun m (Puts written (Err d)) added (IsErr {T = Unit {0}} (Err d)) old new
+puts_part old new written image added e d lawful image_is offset_is same run = record {
+  step = λ t h.
+      let s = run.step h.0 h.1 in
+      let p = written_part h.0 s.0 image old.offset e t written h.2 lawful image_is s.2 in
+      let P : ℕ → Type 0 = λ k. IsFile s.0 k p.0 in
+      (p.0, (s.0, s.1, subst P (sym offset_is) p.1), p.2);
+  calls = run_as run (λ f. f) (λ f. f) (omega arith) (λ x y held step. tt);
+  same_capacity = same;
+}

@@ -1,0 +1,176 @@
+-- From a run of a reel on a medium to a call of a reel.
+use Rattle.std.proofs.Common.{◌≡◌, ◌⊎◌, ◌↔◌, IsTrue, Bool, true, ℕ, ◌+◌, ◌*◌, ◌<◌, ◌≤◌, List, [], ◌∷◌, ◌++◌, length, take, replicate, min, false, Result, Ok, Err, IsErr, IfErr, inl, inr, refl, sym, ap, subst, ◌∙◌, arith}
+use Rattle.std.proofs.lemmas.List.{length-replicate, take-replicate, take_min, take_all}
+use Rattle.std.proofs.lemmas.Bool.{cases_lt}
+use Rattle.std.specs.Prelude.{◌-◌, MatchResult}
+use Rattle.tape.specs.Tape.{PlainEntry, Tape, TapeRequest, TapeAnswer, TapeStep, SpaceStep, stands_at, records_met, passed_for_records, offset_of, tape, entries_of, done_answer}
+use Rattle.tape.specs.Tape.PlainEntry.{Record, Mark}
+use Rattle.tape.specs.Tape.TapeRequest.{Write, WriteMarks, Read, ForwardRecords, BackRecords, Rewind, Nothing, Unknown}
+use Rattle.tape.specs.Tape.TapeAnswer.{Done, Fault}
+use Rattle.tape.specs.Call.{IsCall, CanAnswer, CanSpace}
+use Rattle.tape.specs.Medium.{MediumKind}
+use Rattle.tape.specs.RecordFile.{IsFile, FileTape, HoldsTape, IsFileCall, image_added}
+use Rattle.tape.specs.FileSteps.{IsRun, IsReelRun, IsWalked, Puts, ahead, moved, records_request}
+use Rattle.tape.specs.declared.file_reel.walk.Way.{Way}
+use Rattle.tape.specs.declared.file_reel.walk.Way.TheVariants.{Forward, Back}
+use Rattle.tape.proofs.MediumRuns.{run_as}
+use Rattle.tape.specs.declared.fault.TapeFault.{TapeFault}
+use Rattle.tape.specs.declared.fault.TapeFault.TheVariants.{Device, Full, EndOrMark, BadOperation, OutOfMemory}
+use Rattle.tape.proofs.Devices.{left_of_one, first_marks}
+use Rattle.tape.proofs.Writing.{offset_at}
+
+-- a call of a reel on a medium
+abbrev pub FileCall : {M : Type 0} → MediumKind M → FileTape M → FileTape M → TapeRequest → TapeAnswer → Type 0
+FileCall {M} m old new request answer =
+    IsCall (HoldsTape m.holds) (λ r. r.capacity) (λ r. m.failures r.medium) (λ _. Unit {0}) (λ old new request answer. IsFileCall m old new request answer) false old new request answer
+
+pub file_call : {M : Type 0} {m : MediumKind M} {does : Tape → Tape → Type 0} {added : ℕ} {fails : Type 0} (old new : FileTape M) (request : TapeRequest) (answer : TapeAnswer)
+    → IsReelRun m does added fails old new → (answer ≡ Fault Device → fails) → (fails → answer ≡ Fault Device) → CanAnswer request answer
+    → (answer ≡ Fault OutOfMemory → ⊥) → added ≤ image_added request
+    → ((bytes : List ℕ) (t u : Tape) → IsFile bytes old.offset t → does t u → TapeStep old.capacity t request answer u)
+    → FileCall m old new request answer
+file_call old new request answer r to from can memory fits step = record {
+  step = λ t h. let s = r.step t h in (s.0, s.1, step h.0 t s.0 h.2 s.2);
+  can = can;
+  device = λ is. r.calls.failed (to is);
+  failed = elim r.calls.same [ inl e ↦ inl e | inr f ↦ inr (from f) ];
+  able = λ _. tt;
+  quiet = λ _. tt;
+  memory = λ is. absurd (memory is);
+  counted = r.calls.counted;
+  same_capacity = r.same_capacity;
+  made = record {
+    cause = λ is. elim (r.calls.able (to is)) [ inl e ↦ inl e | inr l ↦ inr (omega arith) ];
+    quiet = r.calls.quiet;
+    room = let k = r.calls.room in omega arith;
+  };
+}
+
+-- no call of the medium
+pub reel_none : {M : Type 0} (m : MediumKind M) (here : FileTape M) → IsReelRun m (λ t u. u ≡ t) 0 ⊥ here here
+reel_none m here = record {
+  step = λ t h. (t, h, refl);
+  calls = record {
+    step = λ x held. (x, held, tt);
+    failed = λ f. absurd f;
+    same = inl refl;
+    counted = omega arith;
+    able = λ f. absurd f;
+    quiet = λ x. x;
+    room = omega arith;
+  };
+  same_capacity = refl;
+}
+
+pub write_call : {M : Type 0} {m : MediumKind M} (old new : FileTape M) (bytes : List ℕ) (r : Result Unit TapeFault) → IfErr r (λ fault. fault ≡ Device)
+    → old.offset + (length bytes + 8 + 4) ≤ old.capacity → IsReelRun m (Puts (Record bytes ∷ []) r) (length bytes + 8) (IsErr r) old new
+    → FileCall m old new (Write bytes) (done_answer r)
+write_call old new bytes (Ok x) device room run =
+    file_call old new (Write bytes) Done run (λ is. cc) (λ f. cc) (inl refl) (λ is. cc) (omega arith)
+    (λ file t u f put. (omega (arith, offset_at file old.offset t f), put))
+write_call old new bytes (Err fault) device room run =
+    let is : fault ≡ Device = device in
+    file_call old new (Write bytes) (Fault fault) run (λ _. refl) (λ _. ap Fault is) (inr (inr (inl (ap Fault is)))) (λ out. cc) (omega arith)
+    (λ file t u f put. let P : TapeFault → Type 0 = λ k. TapeStep old.capacity t (Write bytes) (Fault k) u in
+    subst P (sym is) (omega (arith, offset_at file old.offset t f), (put.0, elim put.1 [
+      | inl same ↦ inl same
+      | inr some ↦ elim (left_of_one some.0 (Record bytes)) [ inl none ↦ inr (inl (some.1 ∙ none)) | inr all ↦ inr (inr (some.1 ∙ all)) ]
+    ])))
+
+pub full_call : {M : Type 0} (m : MediumKind M) (here : FileTape M) (bytes : List ℕ) → here.capacity < here.offset + (length bytes + 8 + 4)
+    → FileCall m here here (Write bytes) (Fault Full)
+full_call m here bytes short =
+    file_call here here (Write bytes) (Fault Full) (reel_none m here) (λ is. cc) (λ f. absurd f) (inr (inl refl)) (λ is. cc) (omega arith)
+    (λ file t u f same. (omega (arith, offset_at file here.offset t f), same))
+
+pub marks_call : {M : Type 0} {m : MediumKind M} (old new : FileTape M) (count : ℕ) (r : Result Unit TapeFault) → IfErr r (λ fault. fault ≡ Device)
+    → 0 < count → old.offset + 4 * count ≤ old.capacity → IsReelRun m (Puts (replicate count Mark) r) (4 * count) (IsErr r) old new
+    → FileCall m old new (WriteMarks count) (done_answer r)
+marks_call old new count (Ok x) device some room run =
+    file_call old new (WriteMarks count) Done run (λ is. cc) (λ f. cc) (inl refl) (λ is. cc) (omega arith)
+    (λ file t u f put. inr (some, omega (arith, offset_at file old.offset t f), put))
+marks_call old new count (Err fault) device some room run =
+    let is : fault ≡ Device = device in
+    file_call old new (WriteMarks count) (Fault fault) run (λ _. refl) (λ _. ap Fault is) (inr (some, inr (inl (ap Fault is)))) (λ out. cc) (omega arith)
+    (λ file t u f put. let P : TapeFault → Type 0 = λ k. TapeStep old.capacity t (WriteMarks count) (Fault k) u in
+    subst P (sym is) (some, omega (arith, offset_at file old.offset t f), elim put.1 [
+      | inl same ↦ (0, omega arith, (put.0, inl same))
+      | inr part ↦ (min part.0 count, omega arith, (put.0, inr (inr (part.1 ∙ first_marks part.0 count))))
+    ]))
+
+pub full_marks : {M : Type 0} (m : MediumKind M) (here : FileTape M) (count : ℕ) → 0 < count → here.capacity < here.offset + 4 * count
+    → FileCall m here here (WriteMarks count) (Fault Full)
+full_marks m here count some short =
+    file_call here here (WriteMarks count) (Fault Full) (reel_none m here) (λ is. cc) (λ f. absurd f) (inr (some, inl refl)) (λ is. cc) (omega arith)
+    (λ file t u f same. (some, omega (arith, offset_at file here.offset t f), same))
+
+pub no_marks : {M : Type 0} (m : MediumKind M) (here : FileTape M) (count : ℕ) → count ≡ 0 → FileCall m here here (WriteMarks count) Done
+no_marks m here count none =
+    file_call here here (WriteMarks count) Done (reel_none m here) (λ is. cc) (λ f. absurd f) (inl refl) (λ is. cc) (omega arith)
+    (λ file t u f same. inl (none, same))
+
+-- a room that is not there
+pub no_room : (need most : ℕ) (r : Bool) → (IsTrue r ↔ (need ≤ most)) → r ≡ false → most < need
+no_room need most r answer is = elim (cases_lt most need) [ inl short ↦ short | inr fits ↦ (let yes : r ≡ true = answer.1 fits in cc) ]
+
+pub the_room : (need most : ℕ) (r : Bool) → (IsTrue r ↔ (need ≤ most)) → r ≡ true → need ≤ most
+the_room need most r answer is = answer.0 is
+
+pub rewind_call : {M : Type 0} (m : MediumKind M) (old : FileTape M) → FileCall m old (record old { offset = 0 }) Rewind Done
+rewind_call {M} m old =
+    let new : FileTape M = record old { offset = 0 } in
+    let run : IsReelRun m (λ t u. u ≡ tape [] (entries_of t)) 0 ⊥ old new = record {
+      step = λ t h. (tape [] (entries_of t), (h.0, h.1, record { spelled = h.2.spelled; offset_is = refl }), refl);
+      calls = (reel_none m old).calls;
+      same_capacity = refl;
+    } in
+    file_call old new Rewind Done run (λ is. cc) (λ f. absurd f) refl (λ is. cc) (omega arith) (λ file t u f is. is)
+
+pub nothing_call : {M : Type 0} (m : MediumKind M) (here : FileTape M) → FileCall m here here Nothing Done
+nothing_call m here = file_call here here Nothing Done (reel_none m here) (λ is. cc) (λ f. absurd f) refl (λ is. cc) (omega arith) (λ file t u f is. is)
+
+pub unknown_call : {M : Type 0} (m : MediumKind M) (here : FileTape M) → FileCall m here here Unknown (Fault BadOperation)
+unknown_call m here = file_call here here Unknown (Fault BadOperation) (reel_none m here) (λ is. cc) (λ f. absurd f) refl (λ is. cc) (omega arith) (λ file t u f is. is)
+
+-- ---- spacing
+
+-- where a walk along the file ended
+abbrev Walked : {M : Type 0} → Way → ℕ → ℕ → ℕ → (Tape → ℕ) → (Tape → ℕ) → FileTape M → List ℕ → List ℕ → Type 0
+Walked way count at left met far old x y = (y ≡ x) × ((t : Tape) → IsFile x old.offset t → IsWalked way count (met t) (far t) x t at left)
+
+walked_run : {M : Type 0} {m : MediumKind M} {F : Type 0} (way : Way) (count at left : ℕ) (met far : Tape → ℕ) (old : FileTape M) (b : M)
+    → IsRun m (Walked way count at left met far old) 0 F old.medium b → (F → ⊥)
+    → IsReelRun m (λ t u. (u ≡ stands_at (moved way (far t) t) t) × (left ≡ count - met t)) 0 ⊥ old (record { medium = b; offset = at; capacity = old.capacity })
+walked_run way count at left met far old b r never = record {
+  step = λ t h.
+      let s = r.step h.0 h.1 in
+      let w = s.2.1 t h.2 in
+      (w.to, (s.0, s.1, subst (λ l. IsFile l at w.to) (sym s.2.0) w.file), (w.place, w.left_is));
+  calls = run_as r never (λ f. absurd f) (omega arith) (λ x y held f. tt);
+  same_capacity = refl;
+}
+
+space_by : {M : Type 0} {m : MediumKind M} {F : Type 0} (way : Way) (count at left : ℕ) (met far : Tape → ℕ) (request : TapeRequest) (old : FileTape M) (b : M) (r : Result Unit TapeFault)
+    → IsRun m (Walked way count at left met far old) 0 F old.medium b → (F → ⊥) → left ≤ count
+    → MatchResult r (λ _. left ≡ 0) (λ fault. (fault ≡ EndOrMark) × (0 < left))
+    → ((answer : TapeAnswer) (t u : Tape) → SpaceStep count (met t) (moved way (far t) t) t answer u → TapeStep old.capacity t request answer u)
+    → ((answer : TapeAnswer) → CanSpace count answer → CanAnswer request answer)
+    → FileCall m old (record { medium = b; offset = at; capacity = old.capacity }) request (done_answer r)
+space_by way count at left met far request old b (Ok x) run never within none step can =
+    file_call old (record { medium = b; offset = at; capacity = old.capacity }) request Done (walked_run way count at left met far old b run never)
+    (λ is. cc) (λ f. absurd f) (can Done (inl refl)) (λ is. cc) (omega arith)
+    (λ file t u f d. step Done t u (let e = d.1 in omega arith, d.0))
+space_by {m = m} way count at left met far request old b (Err fault) run never within (is, some) step can =
+    subst (λ k. FileCall m old (record { medium = b; offset = at; capacity = old.capacity }) request (Fault k)) (sym is)
+    (file_call old (record { medium = b; offset = at; capacity = old.capacity }) request (Fault EndOrMark) (walked_run way count at left met far old b run never)
+    (λ e. cc) (λ f. absurd f) (can (Fault EndOrMark) (inr (omega arith, inl refl))) (λ e. cc) (omega arith)
+    (λ file t u f d. step (Fault EndOrMark) t u (let e = d.1 in omega arith, d.0)))
+
+pub records_spaced : {M : Type 0} {m : MediumKind M} {F : Type 0} (way : Way) (count at left : ℕ) (old : FileTape M) (b : M) (r : Result Unit TapeFault)
+    → IsRun m (Walked way count at left (λ t. records_met (ahead way t)) (λ t. passed_for_records count (ahead way t)) old) 0 F old.medium b → (F → ⊥) → left ≤ count
+    → MatchResult r (λ _. left ≡ 0) (λ fault. (fault ≡ EndOrMark) × (0 < left))
+    → FileCall m old (record { medium = b; offset = at; capacity = old.capacity }) (records_request way count) (done_answer r)
+records_spaced Forward count at left old b r run never within answered =
+    space_by Forward count at left _ _ (ForwardRecords count) old b r run never within answered (λ answer t u s. s) (λ answer c. c)
+records_spaced Back count at left old b r run never within answered =
+    space_by Back count at left _ _ (BackRecords count) old b r run never within answered (λ answer t u s. s) (λ answer c. c)

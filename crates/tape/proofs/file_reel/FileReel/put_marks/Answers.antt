@@ -1,0 +1,22 @@
+use Rattle.std.proofs.Common.{◌≡◌, ◌+◌, ◌*◌, ℕ, replicate, refl, arith}
+use Rattle.std.proofs.lemmas.List.{length-replicate}
+use Rattle.std.proofs.lemmas.List.Elements.{All-replicate}
+use Rattle.std.proofs.lemmas.Result.{err_from_is_err_and}
+use Rattle.tape.specs.Tape.{IsTapeEntry}
+use Rattle.tape.specs.Tape.PlainEntry.{Mark}
+use Rattle.tape.proofs.Writing.{marks_image}
+use Rattle.tape.proofs.Putting.{puts_whole, puts_part}
+use Rattle.tape.proofs.file_reel.FileReel.put_marks.Goals as goal
+
+pub returns-in_err-put_marks-clause-run : goal.returns-in_err-put_marks-clause-run
+returns-in_err-put_marks-clause-run g c =
+    let count = c.args.count in
+    let p = err_from_is_err_and c.from_residual.result c.from_residual.ensures.1 in
+    rw (← c.self.view_is, p.1) (puts_part _ _ (replicate count Mark) (replicate (4 * count) 0) (4 * count) c.in_err-put_marks.field-0.0 p.0
+    (All-replicate IsTapeEntry count Mark tt) (marks_image count) refl refl c.in_err-put_marks.ensures)
+
+pub returns-clause-run : goal.returns-clause-run
+returns-clause-run g c =
+    let count = c.args.count in
+    rw (← c.self.view_is) (puts_whole _ _ (replicate count Mark) (replicate (4 * count) 0) (4 * count) c.in_ok-put_marks.field-0 tt
+    (All-replicate IsTapeEntry count Mark tt) (marks_image count) (omega (arith, length-replicate {A = ℕ} (4 * count) 0)) refl c.in_ok-put_marks.ensures)

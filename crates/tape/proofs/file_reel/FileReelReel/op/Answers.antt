@@ -1,0 +1,34 @@
+use Rattle.std.proofs.Common.{◌≡◌, arith}
+use Rattle.std.proofs.lemmas.Bool.Decides.{nat_tests}
+use Rattle.tape.specs.Tape.{op_request}
+use Rattle.tape.specs.Tape.TapeRequest.{Unknown}
+use Rattle.tape.specs.Medium.{medium_kind}
+use Rattle.tape.proofs.ReelCalls.{nothing_call, unknown_call}
+use Rattle.tape.proofs.file_reel.FileReelReel.op.Goals as goal
+
+pub returns-in-0 : goal.returns-in-0
+returns-in-0 g c = rw c.in-0.is c.write_marks.ensures
+
+pub returns-in-1 : goal.returns-in-1
+returns-in-1 g c = rw c.in-1.is c.space_files.ensures
+
+pub returns-in-2 : goal.returns-in-2
+returns-in-2 g c = rw c.in-2.is c.space_files-in-2.ensures
+
+pub returns-in-3 : goal.returns-in-3
+returns-in-3 g c = rw c.in-3.is c.space_records.ensures
+
+pub returns-in-4 : goal.returns-in-4
+returns-in-4 g c = rw c.in-4.is c.space_records-in-4.ensures
+
+pub returns-in-5 : goal.returns-in-5
+returns-in-5 g c = rw c.in-5.is c.rewind.ensures
+
+pub returns-in-7 : goal.returns-in-7
+returns-in-7 g c = rw c.in-7.is (nothing_call (medium_kind g.M.Medium.holds g.M.Medium.failures g.M.Medium.can_fail g.M.Medium.spare) c.args.self.now)
+
+pub returns-in_default : goal.returns-in_default
+returns-in_default g c =
+    let h = c.in_default in
+    let e : op_request c.args.op c.args.count ≡ Unknown = grind (arith, nat_tests) in
+    rw e (unknown_call (medium_kind g.M.Medium.holds g.M.Medium.failures g.M.Medium.can_fail g.M.Medium.spare) c.args.self.now)

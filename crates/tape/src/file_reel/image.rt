@@ -1,0 +1,154 @@
+ghost use Rattle.std.specs.Prelude.{◌≡◌, ◌+◌, ◌*◌, ◌<◌, ◌≤◌, ◌^◌, IfOk, OnSome, IfSome, IsErr, length, drop, replicate, OnOk};
+ghost use Rattle.tape.specs.Tape.{Tape, IsRecord};
+ghost use Rattle.tape.specs.Tape.PlainEntry.{Record, Mark};
+ghost use Rattle.tape.specs.Medium.{MediumStep, medium_kind};
+ghost use Rattle.tape.specs.Medium.MediumCall.{Append};
+ghost use Rattle.tape.specs.RecordFile.{IsFile, image_of, length_bytes};
+ghost use Rattle.tape.specs.FileSteps.{IsRun, BeginsWith, IsWritten, ahead, first_length, size_by_length};
+ghost use Rattle.tape.specs.declared.file_reel.walk.Way.TheVariants.{Forward, Back};
+
+use crate::entry::{MARK_SIZE, RECORD_FRAME};
+use crate::{Medium, MediumFailed};
+
+/// No medium that tells its bytes has so many.
+const OFFSET_LIMIT: u64 = 1 << 63;
+
+/// The greatest length of a record, as it stands in a file.
+const LENGTH_LIMIT: u32 = 65536;
+
+/// How many zero bytes are written at once.
+const ROW: usize = 4096;
+
+/// How many bytes an entry of this length takes. A length of 0 is a mark's.
+pub(super) fn size_of(length: u32) -> u64
+    ensures { result ≡ size_by_length length }
+{
+    if length == 0 {
+        MARK_SIZE
+    } else {
+        u64::from(length) + RECORD_FRAME
+    }
+}
+
+/// The length that these bytes are.
+fn length_in(bytes: [u8; 4]) -> u32
+    ensures { length_bytes result ≡ bytes }
+{
+    u32::from_le_bytes(bytes)
+}
+
+/// The length that stands from an offset on, where 4 bytes are there.
+fn length_at<M: Medium>(medium: &mut M, at: u64) -> Result<Option<u32>, MediumFailed>
+    ensures { IsRun (medium_kind M.holds M.failures M.can_fail M.spare)
+        (λ old new. (new ≡ old) × IfOk result (BeginsWith (drop at old))) 0 (IsErr result) medium.old medium.new }
+{
+    let mut bytes = [0u8; 4];
+    let count = medium.read_at(at, &mut bytes)?;
+    if count < bytes.len() {
+        return Ok(None);
+    }
+    Ok(Some(length_in(bytes)))
+}
+
+/// The length of the entry that stands from an offset on, 0 for a mark. No length where none stands there whole: that
+/// is the end.
+pub(super) fn next_length<M: Medium>(medium: &mut M, at: u64) -> Result<Option<u32>, MediumFailed>
+    ensures run { IsRun (medium_kind M.holds M.failures M.can_fail M.spare)
+        (λ old new. (new ≡ old) × IfOk result (λ length. (t : Tape) → IsFile old at t → length ≡ first_length (ahead Forward t)))
+        0 (IsErr result) medium.old medium.new }
+    ensures limit { IfOk result (λ length. IfSome length (λ n. (n ≤ 65536) × (at < 2 ^ 63))) }
+{
+    if at >= OFFSET_LIMIT {
+        return Ok(None);
+    }
+    let Some(length) = length_at(medium, at)? else {
+        return Ok(None);
+    };
+    if length == 0 {
+        return Ok(Some(0));
+    }
+    if length > LENGTH_LIMIT {
+        return Ok(None);
+    }
+    let Some(behind) = length_at(medium, at + MARK_SIZE + u64::from(length))? else {
+        return Ok(None);
+    };
+    if behind != length {
+        return Ok(None);
+    }
+    Ok(Some(length))
+}
+
+/// The length of the entry that ends at an offset, 0 for a mark. No length where none does: that is the beginning.
+pub(super) fn last_length<M: Medium>(medium: &mut M, at: u64) -> Result<Option<u32>, MediumFailed>
+    ensures run { IsRun (medium_kind M.holds M.failures M.can_fail M.spare)
+        (λ old new. (new ≡ old) × IfOk result (λ length. (t : Tape) → IsFile old at t → length ≡ first_length (ahead Back t)))
+        0 (IsErr result) medium.old medium.new }
+    ensures limit { IfOk result (λ length. IfSome length (λ n. (n ≤ 65536) × (size_by_length n ≤ at))) }
+{
+    if at < MARK_SIZE {
+        return Ok(None);
+    }
+    let Some(length) = length_at(medium, at - MARK_SIZE)? else {
+        return Ok(None);
+    };
+    if length > LENGTH_LIMIT || size_of(length) > at {
+        return Ok(None);
+    }
+    Ok(Some(length))
+}
+
+/// Adds the image of a record: its length, its bytes, and its length again.
+fn append_record<M: Medium>(medium: &mut M, bytes: &[u8]) -> Result<(), MediumFailed>
+    requires { IsRecord bytes.now }
+    ensures { IsRun (medium_kind M.holds M.failures M.can_fail M.spare)
+        (MediumStep (Append (image_of (Record bytes.now)) result)) (length bytes.now + 8) (IsErr result) medium.old medium.new }
+{
+    let length = (bytes.len() as u32).to_le_bytes();
+    medium.append(&length)?;
+    medium.append(bytes)?;
+    medium.append(&length)
+}
+
+/// Adds so many zero bytes, a row of them at a time.
+fn append_zeros<M: Medium>(medium: &mut M, row: &[u8], count: u64) -> Result<(), MediumFailed>
+    requires zeros { row.now ≡ replicate (length row.now) 0 }
+    requires some { 0 < length row.now }
+    ensures { IsRun (medium_kind M.holds M.failures M.can_fail M.spare)
+        (MediumStep (Append (replicate count 0) result)) count (IsErr result) medium.old medium.new }
+{
+    let mut done: u64 = 0;
+    while done < count {
+        let size = (count - done).min(row.len() as u64);
+        medium.append(&row[..size as usize])?;
+        done += size;
+    }
+    Ok(())
+}
+
+/// Puts a record at an offset, with nothing behind it.
+///
+/// Answers `MediumFailed`. The bytes are the same then, or from the offset on stand the first bytes of its image.
+pub(super) fn put_record<M: Medium>(
+    medium: &mut M,
+    at: u64,
+    bytes: &[u8],
+) -> Result<(), MediumFailed>
+    requires { IsRecord bytes.now }
+    ensures { IsRun (medium_kind M.holds M.failures M.can_fail M.spare)
+        (IsWritten at (image_of (Record bytes.now)) result) (length bytes.now + 8) (IsErr result) medium.old medium.new }
+{
+    medium.cut(at)?;
+    append_record(medium, bytes)
+}
+
+/// Puts so many marks at an offset, with nothing behind them.
+///
+/// Answers `MediumFailed`. The bytes are the same then, or from the offset on stand the first bytes of their images.
+pub(super) fn put_marks<M: Medium>(medium: &mut M, at: u64, count: u32) -> Result<(), MediumFailed>
+    ensures { IsRun (medium_kind M.holds M.failures M.can_fail M.spare)
+        (IsWritten at (replicate (4 * count) 0) result) (4 * count) (IsErr result) medium.old medium.new }
+{
+    medium.cut(at)?;
+    append_zeros(medium, &[0; ROW], u64::from(count) * MARK_SIZE)
+}

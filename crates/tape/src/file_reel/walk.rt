@@ -1,0 +1,156 @@
+ghost use Rattle.std.specs.Prelude.{◌≡◌, ◌<◌, ◌≤◌, IfOk, IfSome, IfNone, IsErr, MatchOption, MatchResult, []};
+ghost use Rattle.tape.specs.Tape.{Tape, marks_met, records_met, passed_for_marks, passed_for_records};
+ghost use Rattle.tape.specs.Medium.{medium_kind};
+ghost use Rattle.tape.specs.RecordFile.{IsFile};
+ghost use Rattle.tape.specs.FileSteps.{IsRun, IsPassed, IsWalked, ahead, way_left};
+ghost use Rattle.tape.specs.declared.fault.TapeFault.TheVariants.{EndOrMark};
+ghost use Rattle.tape.specs.declared.file_reel.walk.Way.TheVariants.{Forward, Back};
+
+use super::image::{last_length, next_length, size_of};
+use crate::{Medium, MediumFailed, TapeFault};
+
+/// A way along a reel.
+#[derive(Clone, Copy)]
+pub(super) enum Way {
+    /// To the end.
+    Forward,
+    /// To the beginning.
+    Back,
+}
+
+/// An entry that was passed.
+#[derive(Drop)]
+struct Passed {
+    /// The offset on its other side.
+    at: u64,
+    /// Whether it is a mark.
+    is_mark: bool,
+}
+
+/// Where a walk ended.
+#[derive(Drop)]
+pub(super) struct Walked {
+    /// The offset that it came to.
+    pub(super) at: u64,
+    /// How many of the count were not met.
+    left: u32,
+}
+
+impl Walked {
+    /// Answers `EndOrMark` where the walk ended before its count was reached.
+    pub(super) fn answer(&self) -> Result<(), TapeFault>
+        ensures { MatchResult result (λ _. self.now.left ≡ 0) (λ fault. (fault ≡ EndOrMark) × (0 < self.now.left)) }
+    {
+        if self.left > 0 {
+            return Err(TapeFault::EndOrMark);
+        }
+        Ok(())
+    }
+}
+
+/// Passes the entry behind an offset. None is there at the end.
+fn pass_next<M: Medium>(medium: &mut M, at: u64) -> Result<Option<Passed>, MediumFailed>
+    ensures run { IsRun (medium_kind M.holds M.failures M.can_fail M.spare)
+        (λ old new. (new ≡ old) × IfOk result (λ passed. (t : Tape) → IsFile old at t →
+        MatchOption passed (ahead Forward t ≡ []) (λ p. (u : Tape) × IsFile old p.at u × IsPassed Forward t p.is_mark u)))
+        0 (IsErr result) medium.old medium.new }
+    ensures nearer { IfOk result (λ passed. IfSome passed (λ p. way_left Forward p.at < way_left Forward at)) }
+{
+    let Some(length) = next_length(medium, at)? else {
+        return Ok(None);
+    };
+    Ok(Some(Passed {
+        at: at + size_of(length),
+        is_mark: length == 0,
+    }))
+}
+
+/// Passes the entry before an offset. None is there at the beginning.
+fn pass_last<M: Medium>(medium: &mut M, at: u64) -> Result<Option<Passed>, MediumFailed>
+    ensures run { IsRun (medium_kind M.holds M.failures M.can_fail M.spare)
+        (λ old new. (new ≡ old) × IfOk result (λ passed. (t : Tape) → IsFile old at t →
+        MatchOption passed (ahead Back t ≡ []) (λ p. (u : Tape) × IsFile old p.at u × IsPassed Back t p.is_mark u)))
+        0 (IsErr result) medium.old medium.new }
+    ensures nearer { IfOk result (λ passed. IfSome passed (λ p. way_left Back p.at < way_left Back at)) }
+{
+    let Some(length) = last_length(medium, at)? else {
+        return Ok(None);
+    };
+    Ok(Some(Passed {
+        at: at - size_of(length),
+        is_mark: length == 0,
+    }))
+}
+
+/// Passes the entry that is next on the way from an offset. None is there at the end, and at the beginning.
+fn pass<M: Medium>(medium: &mut M, way: Way, at: u64) -> Result<Option<Passed>, MediumFailed>
+    ensures run { IsRun (medium_kind M.holds M.failures M.can_fail M.spare)
+        (λ old new. (new ≡ old) × IfOk result (λ passed. (t : Tape) → IsFile old at t →
+        MatchOption passed (ahead way t ≡ []) (λ p. (u : Tape) × IsFile old p.at u × IsPassed way t p.is_mark u)))
+        0 (IsErr result) medium.old medium.new }
+    ensures nearer { IfOk result (λ passed. IfSome passed (λ p. way_left way p.at < way_left way at)) }
+{
+    match way {
+        Way::Forward => pass_next(medium, at),
+        Way::Back => pass_last(medium, at),
+    }
+}
+
+/// Walks past so many marks, or as far as there are entries.
+///
+/// Answers `MediumFailed`. A count of 0 calls nothing.
+pub(super) fn walk_files<M: Medium>(
+    medium: &mut M,
+    way: Way,
+    offset: u64,
+    count: u32,
+) -> Result<Walked, MediumFailed>
+    ensures run { IsRun (medium_kind M.holds M.failures M.can_fail M.spare)
+        (λ old new. (new ≡ old) × IfOk result (λ walked. (t : Tape) → IsFile old offset t →
+        IsWalked way count (marks_met (ahead way t)) (passed_for_marks count (ahead way t)) old t walked.at walked.left))
+        0 (IsErr result) medium.old medium.new }
+    ensures within { MatchResult result (λ walked. walked.left ≤ count) (λ _. 0 < count) }
+{
+    let mut at = offset;
+    let mut left = count;
+    while left > 0 {
+        let Some(passed) = pass(medium, way, at)? else {
+            return Ok(Walked { at, left });
+        };
+        at = passed.at;
+        if passed.is_mark {
+            left -= 1;
+        }
+    }
+    Ok(Walked { at, left })
+}
+
+/// Walks past so many records, or as far as past the first mark, or as far as there are entries.
+///
+/// Answers `MediumFailed`. A count of 0 calls nothing.
+pub(super) fn walk_records<M: Medium>(
+    medium: &mut M,
+    way: Way,
+    offset: u64,
+    count: u32,
+) -> Result<Walked, MediumFailed>
+    ensures run { IsRun (medium_kind M.holds M.failures M.can_fail M.spare)
+        (λ old new. (new ≡ old) × IfOk result (λ walked. (t : Tape) → IsFile old offset t →
+        IsWalked way count (records_met (ahead way t)) (passed_for_records count (ahead way t)) old t walked.at walked.left))
+        0 (IsErr result) medium.old medium.new }
+    ensures within { MatchResult result (λ walked. walked.left ≤ count) (λ _. 0 < count) }
+{
+    let mut at = offset;
+    let mut left = count;
+    while left > 0 {
+        let Some(passed) = pass(medium, way, at)? else {
+            return Ok(Walked { at, left });
+        };
+        at = passed.at;
+        if passed.is_mark {
+            return Ok(Walked { at, left });
+        }
+        left -= 1;
+    }
+    Ok(Walked { at, left })
+}
