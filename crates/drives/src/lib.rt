@@ -1,7 +1,7 @@
 //! Drives: who holds which, and the reels that lie on their stacks and in the bin.
 //!
 //! `DriveTable` joins `Holds` (each drive has one holder at most) with `Stacks` (each reel lies in one place).
-//! `LocalHolds` and `ListStacks` are those of one thread, in memory.
+//! `LocalHolds` and `ListStacks` are those of one thread, in memory. The reels of `FolderStacks` are record files in folders.
 #![tactic(auto)]
 
 mod fault;

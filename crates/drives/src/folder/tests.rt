@@ -228,8 +228,10 @@ fn another_file_is_not_moved(rt: HostRuntime) -> io::Result<()> {
 fn a_name_that_is_no_text_is_a_failure(rt: HostRuntime) -> io::Result<()> {
     let place = Place::new(rt, "text")?;
     place.put("st0/r", "")?;
-    let names = b"r\0\xff\0";
-    let mut stacks = place.open(FakeRuntime { rt, names })?;
+    let mut stacks = place.open(FakeRuntime {
+        rt,
+        lists_no_text: true,
+    })?;
     let refused = matches!(stacks.latch(0), Err(DriveFault::Device)) && stacks.failures() == 1;
     place.remove()?;
     assert!(rt; refused);
@@ -240,7 +242,10 @@ fn a_name_that_is_no_text_is_a_failure(rt: HostRuntime) -> io::Result<()> {
 fn a_rename_that_fails_is_a_failure(rt: HostRuntime) -> io::Result<()> {
     let place = Place::new(rt, "rename")?;
     place.put("st0/r", "")?;
-    let mut stacks = place.open(FakeRuntime { rt, names: b"r\0" })?;
+    let mut stacks = place.open(FakeRuntime {
+        rt,
+        lists_no_text: false,
+    })?;
     let refused = move_first(&mut stacks, 0) == Err(DriveFault::Device) && stacks.failures() == 1;
     let kept = place.has("st0/r")? && !place.has("bin/r")?;
     place.remove()?;

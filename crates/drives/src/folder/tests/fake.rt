@@ -1,16 +1,45 @@
-//! A runtime whose folders have the names that it is given, and in which no file can be renamed.
+//! A runtime whose folders all list the reel `r`, and in which no file can be renamed.
 
 use std::alloc::{Allocator, Global};
 use std::fs::{File, Metadata, OpenOptions};
-use std::io::{self, ErrorKind};
+use std::io::{self, ErrorKind, Read};
 use std::rt::Files;
 
 /// It is the system's runtime, but for listings and renames.
 #[derive(Clone, Copy)]
 pub(super) struct FakeRuntime {
     pub(super) rt: HostRuntime,
-    /// What each folder lists: names, each ended by a NUL.
-    pub(super) names: &'static [u8],
+    /// Whether each folder lists another name too, which is not UTF-8.
+    pub(super) lists_no_text: bool,
+}
+
+/// The names that a folder lists, each ended by a NUL.
+#[derive(Drop)]
+pub(super) struct FakeNames {
+    has_no_text: bool,
+    is_read: bool,
+}
+
+impl FakeNames {
+    fn names(&self) -> &[u8] {
+        if self.is_read {
+            b""
+        } else if self.has_no_text {
+            b"r\0\xff\0"
+        } else {
+            b"r\0"
+        }
+    }
+}
+
+impl Read for FakeNames {
+    fn read(&mut self, buf: &mut [u8]) -> io::Result<usize> {
+        let names = self.names();
+        let count = names.len().min(buf.len());
+        buf[..count].copy_from_slice(&names[..count]);
+        self.is_read = true;
+        Ok(count)
+    }
 }
 
 impl Alloc for FakeRuntime {
@@ -24,14 +53,17 @@ impl Alloc for FakeRuntime {
 impl Files for FakeRuntime {
     type File = File;
 
-    type Dir = &'static [u8];
+    type Dir = FakeNames;
 
     fn open_file(&self, how: &OpenOptions, path: &str) -> io::Result<File> {
         self.rt.open_file(how, path)
     }
 
-    fn open_dir(&self, _path: &str) -> io::Result<&'static [u8]> {
-        Ok(self.names)
+    fn open_dir(&self, _path: &str) -> io::Result<FakeNames> {
+        Ok(FakeNames {
+            has_no_text: self.lists_no_text,
+            is_read: false,
+        })
     }
 
     fn metadata(&self, path: &str) -> io::Result<Metadata> {
