@@ -6,3 +6,4 @@ pub mod Devices
 pub mod Leaving
 pub mod Spelling
 pub mod Places
+pub mod Scanning

@@ -6,3 +6,4 @@ pub mod Trouble
 pub mod Medium
 pub mod RecordFile
 pub mod Media
+pub mod Scan
