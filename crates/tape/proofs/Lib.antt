@@ -15,3 +15,4 @@ pub mod Passing
 pub mod Before
 pub mod Taking
 pub mod Walks
+pub mod Scanning

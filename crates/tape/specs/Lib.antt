@@ -7,3 +7,4 @@ pub mod Medium
 pub mod RecordFile
 pub mod Media
 pub mod FileSteps
+pub mod Scan

@@ -15,6 +15,7 @@ mod memory_medium;
 mod op;
 mod record;
 mod reel;
+mod scan;
 #[cfg(test)]
 mod slow;
 mod trouble;
@@ -31,5 +32,6 @@ pub use memory_medium::MemoryMedium;
 pub use op::{MTBSF, MTBSR, MTFSF, MTFSR, MTNOP, MTOFFL, MTREW, MTWEOF};
 pub use record::{RECORD_LIMIT, is_record};
 pub use reel::Reel;
+pub use scan::read_entries;
 pub use trouble::Trouble;
 pub use troubled::TroubledReel;

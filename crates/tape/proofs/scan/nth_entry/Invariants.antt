@@ -1,0 +1,7 @@
+use Rattle.std.proofs.Common.{◌≡◌, ℕ, ◌+◌}
+use Rattle.std.specs.List.{slice_get}
+use Rattle.tape.specs.RecordFile.{entries_in}
+use Rattle.tape.proofs.scan.nth_entry.Given as goal
+
+abbrev pub invariant-loop : goal.invariant-loop
+invariant-loop l = (k : ℕ) → slice_get (entries_in l.file) (l.counter + k) ≡ slice_get (entries_in l.rest) k
