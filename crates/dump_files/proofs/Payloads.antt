@@ -120,8 +120,8 @@ pub same_blocks : {M : Type 0} {m : MediumKind M} {old new : FiledPayload M} {bl
     → IsPayloadRead m old block into result new given → (blocks : List (List ℕ)) → HasBlocks m.holds old blocks ↔ HasBlocks m.holds new blocks
 same_blocks read blocks = (
   λ (bytes, held, len, e).
-    let step = read.call.step bytes held in
-    (step.0, step.1, ap length step.2.0 ∙ len ∙ sym read.same.0, e ∙ ap (λ n. payload_blocks n bytes) (sym read.same.1) ∙ ap (payload_blocks _) (sym step.2.0)),
+      let step = read.call.step bytes held in
+      (step.0, step.1, ap length step.2.0 ∙ len ∙ sym read.same.0, e ∙ ap (λ n. payload_blocks n bytes) (sym read.same.1) ∙ ap (payload_blocks _) (sym step.2.0)),
   λ (bytes, held, len, e). (bytes, read.call.kept tt bytes held, len ∙ read.same.0, e ∙ ap (λ n. payload_blocks n bytes) read.same.1),
 )
 
@@ -161,8 +161,7 @@ pub is_payload : {M : Type 0} (holds : M → List ℕ → Type 0) (p : FiledPayl
     → (payload : List (List ℕ)) → HasBlocks holds p payload → IsPayload run payload
 is_payload holds p run {long = long} is takes all same payload (bytes, held, len, e) =
     let many : run.blocks ≡ blocks_for p.size (length bytes) =
-    ap (λ r. r.blocks) is ∙ takes ∙ ap (λ n. blocks_for n long) (sym same) ∙ ap (blocks_for p.size) (all ∙ sym len) in
-    (
+    ap (λ r. r.blocks) is ∙ takes ∙ ap (λ n. blocks_for n long) (sym same) ∙ ap (blocks_for p.size) (all ∙ sym len) in (
       ap length e ∙ length_blocks p.size bytes ∙ sym many,
       λ n h. ap (λ bs. length (get_or bs n [])) e ∙ size_blocks p.size bytes n (subst (λ k. n < k) many h) ∙ same ∙ sym (ap (λ r. r.block_bytes) is),
     )

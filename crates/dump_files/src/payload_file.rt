@@ -71,7 +71,9 @@ impl<M: Medium> Blocks for PayloadFile<M> {
     ghost reads = { IsPayloadRead (medium_kind M.holds M.failures M.can_fail M.spare) };
 
     fn read(&mut self, block: u32, into: &mut [u8]) -> Result<(), SourceFailed> {
-        let at = u64::from(block).saturating_mul(self.block_bytes).min(self.len);
+        let at = u64::from(block)
+            .saturating_mul(self.block_bytes)
+            .min(self.len);
         let count = (self.len - at).min(into.len() as u64) as usize;
         match self.medium.read_at(at, &mut into[..count]) {
             Ok(n) if n == count => {

@@ -79,7 +79,11 @@ fn start_dump(rt: &HostRuntime, line: &DumpLine<'_>) -> io::Result<u8> {
 }
 
 /// Reads the dumpdates file, dumps the payload that lies on this medium, and answers the status.
-fn dump_medium<M: Medium + Drop>(rt: &HostRuntime, line: &DumpLine<'_>, medium: M) -> io::Result<u8> {
+fn dump_medium<M: Medium + Drop>(
+    rt: &HostRuntime,
+    line: &DumpLine<'_>,
+    medium: M,
+) -> io::Result<u8> {
     let payload = match PayloadFile::open(medium, line.block) {
         Ok(payload) => payload,
         Err(MediumFailed) => return say(rt, line.payload, "its length could not be read"),

@@ -1,8 +1,7 @@
 -- When a dump is entered in a dumpdates file.
-use Rattle.std.proofs.Common.{◌≡◌, ◌<◌, ◌⊎◌, ℕ, zero, suc, Bool, true, false, List, Option, Some, Result, refl, subst, inl, inr, arith}
+use Rattle.std.proofs.Common.{◌≡◌, ◌<◌, ℕ, zero, suc, Bool, true, false, List, Option, Some, Result, refl, subst, inl, inr, arith}
 use Rattle.rmt_wire.specs.Counted.{Counting}
 use Rattle.dumpdates.specs.declared.entry.Entry.{Entry}
-use Rattle.dumpdates.specs.Entry.{DatesEntry}
 use Rattle.dumpdates.specs.Stored.{plain_entry}
 use Rattle.dump_run.specs.Run.{PlainRun}
 use Rattle.dump_client.specs.Client.{TellsEntry}

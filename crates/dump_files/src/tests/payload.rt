@@ -49,7 +49,14 @@ fn client(
     let Some(payload) = payload(alloc, bytes, block_bytes) else {
         return Err(DumperFault::OutOfMemory);
     };
-    dumper(alloc, &line(block_bytes), 951868800, 951782400, payload, Seen::new())
+    dumper(
+        alloc,
+        &line(block_bytes),
+        951868800,
+        951782400,
+        payload,
+        Seen::new(),
+    )
 }
 
 /// What a client sends from its first block on.

@@ -2,9 +2,7 @@
 ghost use Rattle.std.specs.Prelude.{◌≡◌};
 
 use super::memory_peer::peer;
-use crate::{
-    DatesStore, DumpLine, Gauge, PayloadFile, Shown, dump, dump_and_update, dumper,
-};
+use crate::{DatesStore, DumpLine, Gauge, PayloadFile, Shown, dump, dump_and_update, dumper};
 use dump_client::Client;
 use rmt_peer::Peer;
 use rmt_wire::Counted;
@@ -56,9 +54,7 @@ impl Gauge for Unseen {
 }
 
 /// The client of a dump of 2,500 bytes, which are three blocks of 1,024.
-fn three_blocks(
-    alloc: Global,
-) -> Result<Client<Shown<PayloadFile<MemoryMedium>, Unseen>>, Fail> {
+fn three_blocks(alloc: Global) -> Result<Client<Shown<PayloadFile<MemoryMedium>, Unseen>>, Fail> {
     let medium = MemoryMedium::from_bytes(Vec::from_elem(alloc, b'p', 2500)?);
     let Ok(payload) = PayloadFile::open(medium, 1024) else {
         return Err(Fail::new("no payload"));

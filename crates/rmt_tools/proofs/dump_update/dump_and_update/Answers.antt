@@ -1,4 +1,4 @@
-use Rattle.std.proofs.Common.{rules, arith, refl}
+use Rattle.std.proofs.Common.{arith}
 use Rattle.rmt_tools.proofs.Entering.{left_alone, entered_after}
 use Rattle.rmt_tools.proofs.dump_update.dump_and_update.Goals as goal
 
