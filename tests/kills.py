@@ -23,12 +23,12 @@ import time
 from pathlib import Path
 from typing import NamedTuple
 
+from checks import COUNT, check, ended
 from model_rmtd import Entry, images
 
 CRATES = Path(__file__).resolve().parent.parent / "crates"
 DEVICE = "/dev/st0"
 GUARD_SECONDS = 60
-MOST_FAILURES = 10
 
 BLOCK = 64
 BLOCKS = 40
@@ -38,16 +38,6 @@ CAPACITY = 1024 + 8 + A_VOLUME * (BLOCK + 8) + 4
 VOLUMES = 3
 REELS = 9
 MOVE = b"I6\n1\n"
-
-COUNT = [0, 0]
-
-
-def check(name: str, holds: bool, *seen: object) -> bool:
-    """Counts a check, and tells of one that failed."""
-    COUNT[not holds] += 1
-    if not holds:
-        print(f"FAILED: {name}", *(f"  {it!r}"[:600] for it in seen), sep="\n", flush=True)
-    return holds
 
 
 class Moment(NamedTuple):
@@ -281,21 +271,21 @@ class Dump:
         found = [re.fullmatch(r"volume (\d+): (\d+) blocks from (\d+)", it) for it in self.lines]
         return [(int(it[1]), int(it[3]), int(it[2])) for it in found if it]
 
-    def reels_hold(self) -> bool:
-        """Whether each volume that was counted is in the bin, to the byte, nothing else is there than whole volumes, and no name is gone or stands twice."""
+    def reels_hold(self) -> None:
+        """Each volume that was counted is in the bin, to the byte, only whole volumes are there, and no name is gone or stands twice."""
         stack = [it.name for it in self.served.stack.iterdir()]
         bin = {it.name: it.read_bytes() for it in self.served.bin.iterdir()}
-        good = check(f"{self.title}: each name stands once", sorted([*stack, *bin]) == self.served.names, stack, sorted(bin))
+        check(f"{self.title}: each name stands once", sorted([*stack, *bin]) == self.served.names, stack, sorted(bin))
         there = {self.volumes.get(it) for it in bin.values()}
         counted = self.counted()
-        good &= check(f"{self.title}: each counted volume is in the bin", len(bin) >= len(counted) and there >= {*counted}, there, counted)
-        return good & check(f"{self.title}: no part of a volume is in the bin", None not in there, {name: len(it) for name, it in bin.items()})
+        check(f"{self.title}: each counted volume is in the bin", len(bin) >= len(counted) and there >= {*counted}, there, counted)
+        check(f"{self.title}: no part of a volume is in the bin", None not in there, {name: len(it) for name, it in bin.items()})
 
-    def holds(self) -> bool:
-        """Whether the dump ended well, and every reel is what it has to be."""
+    def holds(self) -> None:
+        """The dump ended well, and every reel is what it has to be."""
         end = f"dump complete: {VOLUMES} volumes, {BLOCKS} blocks"
-        good = check(f"{self.title}: the counts", self.counted() == [*WHOLE] and self.lines[-1] == end, self.lines)
-        return good & self.reels_hold()
+        check(f"{self.title}: the counts", self.counted() == [*WHOLE] and self.lines[-1:] == [end], self.lines)
+        self.reels_hold()
 
 
 def main() -> int:
@@ -309,10 +299,10 @@ def main() -> int:
     source = random.Random(asked.seed)
     payload = source.randbytes(BLOCK * BLOCKS)
     names = [f"r{number}" for number in range(1, REELS + 1)]
-    kills = spare = failures = 0
+    kills = spare = 0
     seconds = move_seconds = 0.0
     passed = 0
-    while kills < asked.kills and failures < MOST_FAILURES:
+    while kills < asked.kills and not COUNT[1]:
         with tempfile.TemporaryDirectory() as folder:
             served = Served(rmtd, Path(folder), names)
             gate = Gate(served)
@@ -331,13 +321,12 @@ def main() -> int:
                 served.kill()
             kills += served.kills
             spare += len([*served.bin.iterdir()]) - VOLUMES
-            good = check(f"{title}: the status", status == 0, status, dump.lines)
-            failures += not (good and dump.holds())
-    if failures:
+            check(f"{title}: the status", status == 0, status, dump.lines)
+            dump.holds()
+    if COUNT[1]:
         print(f"The seed is {asked.seed}.")
     print(f"{kills} times killed; {spare} reels in the bin that were whole and not counted")
-    print(f"{COUNT[0]} passed, {COUNT[1]} failed")
-    return 1 if COUNT[1] else 0
+    return ended()
 
 
 if __name__ == "__main__":

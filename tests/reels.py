@@ -23,9 +23,10 @@ import time
 from pathlib import Path
 from typing import Iterable, Iterator, NamedTuple
 
+from checks import COUNT, check, ended
 from conversations import CONVERSATIONS, WRITTEN_AND_READ_BACK, Conversation, beginnings
 from forms import Ended, in_lock_step, in_one_piece, one_byte_a_piece
-from model_rmtd import CAPACITY, Entry, Files, answers, entries_of, image, images
+from model_rmtd import Entry, Files, answers, entries_of, image, images
 
 CRATES = Path(__file__).resolve().parent.parent / "crates"
 DEVICE = "/dev/st0"
@@ -33,20 +34,7 @@ NAME = "r1"
 
 # A server that answers nothing for so long has failed.
 GUARD_SECONDS = 20
-MOST_FAILURES = 10
 SEED = 14
-
-COUNT = [0, 0]
-
-
-def check(name: str, holds: bool, *seen: object) -> bool:
-    """Counts a check, and tells of one that failed."""
-    COUNT[not holds] += 1
-    if not holds:
-        print(f"FAILED: {name}", *(f"  {it!r}"[:600] for it in seen), sep="\n", flush=True)
-    if COUNT[1] >= MOST_FAILURES:
-        sys.exit(f"Too many checks failed: the others were not made.\n{COUNT[0]} passed, {COUNT[1]} failed")
-    return holds
 
 
 # Worked conversations, with the reel in a folder.
@@ -429,8 +417,7 @@ def main() -> int:
     worked(rmtd)
     dumped(rmtd, rdump)
     foreign(rmtd)
-    print(f"{COUNT[0]} passed, {COUNT[1]} failed")
-    return 1 if COUNT[1] else 0
+    return ended()
 
 
 if __name__ == "__main__":
