@@ -523,6 +523,8 @@ def main() -> int:
     parser.add_argument("--bin", metavar="DIR")
     parser.add_argument("drives", nargs="*", metavar="DEVICE=DIR")
     words = parser.parse_args()
+    if sys.argv.count("--bin") > 1:
+        refuse("--bin is given twice")
     drives = drives_of(words)
     if words.listen:
         return listen(drives, words.listen, words.connections)

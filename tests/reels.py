@@ -112,6 +112,30 @@ def worked(program: str) -> None:
         conversation_holds(program, it, "in one piece")
 
 
+def bad_words(program: str) -> None:
+    """Words that break a rule, over folders that are there and empty: nothing is answered, though the input has requests."""
+    with tempfile.TemporaryDirectory() as folder:
+        shop = Shop(Path(folder), {})
+        drive, bin = f"{DEVICE}={shop.stack}", ("--bin", str(shop.bin))
+        for title, words in (
+            ("no bin", (drive,)),
+            ("a bin without a folder", (drive, "--bin")),
+            ("a bin of no name", ("--bin", "", drive)),
+            ("two bins", (*bin, *bin, drive)),
+            ("a drive without a folder", (*bin, DEVICE)),
+            ("a drive with a folder of no name", (*bin, f"{DEVICE}=")),
+            ("a drive of no name", (*bin, f"={shop.stack}")),
+            ("a drive named twice", (*bin, drive, drive)),
+            ("65 drives", (*bin, *(f"/dev/st{number}={shop.stack}" for number in range(65)))),
+        ):
+            for way in (("--stdio",), ("--listen", "127.0.0.1:0", "--connections", "0")):
+                got = subprocess.run((program, *way, *words), input=b"I7\n1\n", capture_output=True, check=False, timeout=GUARD_SECONDS)
+                check(f"{way[0]} with {title}", (got.returncode, got.stdout, bool(got.stderr)) == (1, b"", True), got)
+        words = (program, "--stdio", *bin, *(f"/dev/st{number}={shop.stack}" for number in range(64)))
+        got = subprocess.run(words, input=b"O/dev/st63\n2\n", capture_output=True, check=False, timeout=GUARD_SECONDS)
+        check("64 drives", (got.returncode, got.stdout) == (0, b"E6\nDevice not configured\n"), got)
+
+
 # A dump over the loopback, into a folder.
 
 
@@ -415,6 +439,7 @@ def main() -> int:
     asked = parser.parse_args()
     rmtd, rdump = os.path.abspath(asked.rmtd), os.path.abspath(asked.rdump)
     worked(rmtd)
+    bad_words(rmtd)
     dumped(rmtd, rdump)
     foreign(rmtd)
     return ended()
