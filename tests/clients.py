@@ -13,6 +13,7 @@ import argparse
 import fcntl
 import os
 import pwd
+import re
 import resource
 import shutil
 import stat
@@ -278,8 +279,9 @@ def dump(program: str) -> None:
 class Talk:
     """A server that runs, spoken to in lock step."""
 
-    def __init__(self, shop: Site, **how: Any) -> None:
-        self.process = subprocess.Popen(shop.words, stdin=subprocess.PIPE, stdout=subprocess.PIPE, bufsize=0, restore_signals=False, **how)
+    def __init__(self, shop: Site, through: tuple[str, ...] = (), **how: Any) -> None:
+        words = [*through, *shop.words]
+        self.process = subprocess.Popen(words, stdin=subprocess.PIPE, stdout=subprocess.PIPE, bufsize=0, restore_signals=False, **how)
         self.guard = threading.Timer(GUARD_SECONDS, self.process.kill)
         self.guard.start()
 
@@ -319,9 +321,9 @@ class Talk:
 
 
 @contextmanager
-def talking(shop: Site, **how: Any) -> Iterator[Talk]:
-    """A server, and the talk with it."""
-    talk = Talk(shop, **how)
+def talking(shop: Site, through: tuple[str, ...] = (), **how: Any) -> Iterator[Talk]:
+    """A server, started through another program where that is given, and the talk with it."""
+    talk = Talk(shop, through, **how)
     try:
         yield talk
     finally:
@@ -405,18 +407,92 @@ def taken(program: str) -> None:
     ):
         with site(program) as shop:
             reel = shop.reel("r1", b"newer", None)
+            data = data_of(reel)
             there = shop.bin / "r1"
             make(there)
-            before = there.lstat()
+            before = seen(there)
             with talking(shop) as talk:
                 title = f"the bin has {title} of that name"
                 talk.asks(title, (opened(), DONE), (b"I3\n1\n", DONE_ONE), (OFFLINE, IO_ERROR), (b"R9\n", b"A5\nnewer"))
-                after = there.lstat()
-                same = (before.st_ino, before.st_mode, before.st_size) == (after.st_ino, after.st_mode, after.st_size)
-                check(f"{title}: both stand as they were", same and reel.read_bytes() == images([b"newer", None]))
+                check(f"{title}: both stand as they were", (seen(there), data_of(reel)) == (before, data), seen(there), before)
                 there.rename(shop.folder / "away")
                 talk.asks(f"{title} no more", (OFFLINE, DONE_ONE), (NOTHING, NO_REEL))
-                check(f"{title} no more: the reel is moved", there.read_bytes() == images([b"newer", None]) and not [*shop.stack.iterdir()])
+                check(f"{title} no more: the reel is moved", data_of(there) == data and not [*shop.stack.iterdir()])
+
+
+def seen(path: Path) -> tuple[int, int, int] | None:
+    """Which file stands there, of which kind and size; None where there is none."""
+    try:
+        found = path.lstat()
+    except FileNotFoundError:
+        return None
+    return found.st_ino, found.st_mode, found.st_size
+
+
+def data_of(path: Path) -> bytes | None:
+    """What a file holds, None where there is none."""
+    return path.read_bytes() if path.is_file() else None
+
+
+# What the system is asked for.
+
+SYNCS = "fsync,fdatasync"
+MOVES = "rename,renameat,renameat2"
+
+
+def traced() -> bool:
+    """Whether calls of the system can be told here, and made to fail."""
+    if absent("strace"):
+        return False
+    words = ["strace", "-f", "-y", "-o", os.devnull, "-e", f"inject={SYNCS}:error=EIO:when=1", "true"]
+    if subprocess.run(words, capture_output=True, check=False).returncode == 0:
+        return True
+    print("skipped: strace may not be used")
+    return False
+
+
+def on_the_disk(program: str) -> None:
+    """A reel that is said to be moved is on the disk: the calls of the system in order, and what is answered where one of them fails."""
+    if not traced():
+        return
+    data = images([b"data"])
+    with site(program) as shop:
+        shop.reel("r1")
+        log = shop.folder / "calls"
+        with talking(shop, ("strace", "-f", "-y", "-o", str(log), "-e", f"trace={SYNCS},{MOVES},write")) as talk:
+            talk.asks("a move that is traced", (opened(), DONE), (write(b"data"), b"A4\n"), (b"I6\n3\n", b"A3\n"))
+            talk.end()
+        calls = list(steps(log.read_text(errors="replace")))
+        wanted = ["sync r1", "move", "sync bin", "sync st0", "reply"]
+        check("a move that is traced: the order", [*calls[:2], *sorted(calls[2:4]), *calls[4:]] == wanted, calls, wanted)
+    for title, fault, fails in (
+        ("the sync of the reel", f"{SYNCS}:error=EIO:when=1", True),
+        ("the sync of one folder", f"{SYNCS}:error=EIO:when=2", False),
+        ("the sync of the other folder", f"{SYNCS}:error=EIO:when=3", False),
+        ("the syncs of both folders", f"{SYNCS}:error=EIO:when=2+", False),
+        ("the move", f"{MOVES}:error=EIO:when=1", True),
+    ):
+        with site(program) as shop:
+            reel = shop.reel("r1")
+            with talking(shop, ("strace", "-f", "-o", os.devnull, "-e", f"inject={fault}")) as talk:
+                talk.asks(f"{title} fails, before", (opened(), DONE), (write(b"data"), b"A4\n"))
+                if fails:
+                    talk.asks(f"{title} fails", (OFFLINE, IO_ERROR), (b"R4\n", b"A4\ndata"))
+                    check(f"{title} fails: the reel stands where it was", data_of(reel) == data and not [*shop.bin.iterdir()])
+                talk.asks(f"{title} fails, then", (OFFLINE, DONE_ONE), (NOTHING, NO_REEL), (CLOSE, DONE), (opened(), NO_REEL))
+                check(f"{title} fails: the reel is moved then", data_of(shop.bin / "r1") == data and not [*shop.stack.iterdir()])
+                talk.end()
+
+
+def steps(log: str) -> Iterator[str]:
+    """What of a move the calls of the system were: each sync with its file, the rename, the reply."""
+    for line in log.splitlines():
+        if found := re.search(r"f(?:data)?sync\(\d+<([^>]*)>\) += 0", line):
+            yield f"sync {Path(found[1]).name}"
+        elif re.search(r"\brename(?:at2?)?\(.*\) += 0", line):
+            yield "move"
+        elif 'write(1<' in line and '"A3\\n"' in line:
+            yield "reply"
 
 
 # Folders and files that fail, for a user who is not root.
@@ -568,8 +644,11 @@ def main() -> int:
     parser = argparse.ArgumentParser(description="Checks the built server over folders with those who use it.")
     parser.add_argument("rmtd", nargs="?", default=str(CRATES / "rmtd/out/rmtd"))
     program = os.path.abspath(parser.parse_args().rmtd)
-    for part in (tar, volumes, cpio, dump, two_servers, names, faults, full, starts):
-        part(program)
+    for part in (tar, volumes, cpio, dump, two_servers, names, on_the_disk, faults, full, starts):
+        try:
+            part(program)
+        except (OSError, ValueError) as fault:
+            check(f"{part.__name__}: it comes to its end", False, fault)
     return ended()
 
 

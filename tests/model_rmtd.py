@@ -16,6 +16,7 @@ import os
 import socket
 import stat
 import sys
+from contextlib import suppress
 from pathlib import Path
 from typing import IO, Iterator, NamedTuple, NoReturn
 
@@ -194,7 +195,7 @@ class Drives:
             raise
 
     def offline(self, device: bytes, reel: FileTape) -> None:
-        """Moves a reel to the bin, once it is on the disk, where no reel of that name lies there."""
+        """Moves a reel to the bin, once it is on the disk, where no reel of that name lies there. What is moved is not moved back."""
         os.fsync(reel.file.fileno())
         bin = os.open(self.bin, os.O_RDONLY | os.O_DIRECTORY)
         stack = os.open(self.folders[device], os.O_RDONLY | os.O_DIRECTORY)
@@ -203,8 +204,9 @@ class Drives:
             if os.path.lexists(self.bin / reel.name):
                 raise FileExistsError(reel.name)
             os.rename(self.folders[device] / reel.name, self.bin / reel.name)
-            os.fsync(bin)
-            os.fsync(stack)
+            for folder in (bin, stack):
+                with suppress(OSError):
+                    os.fsync(folder)
         finally:
             os.close(stack)
             os.close(bin)
