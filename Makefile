@@ -36,10 +36,14 @@ test: kit ## the gate: each proof from nothing, then the built programs from out
 	python3 tests/rows.py $(PROGRAM)
 	python3 tests/dates.py $(CLIENT)
 	python3 tests/dump.py $(PROGRAM) $(CLIENT)
+	python3 tests/reels.py $(PROGRAM) $(CLIENT)
+	python3 tests/clients.py $(PROGRAM)
+	python3 tests/kills.py $(PROGRAM) $(CLIENT)
 	@cat $(MINUTES)
 
-bench: build ## long streams through the server, beside cat and GNU rmt; a long dumpdates file, beside cat and wc; dumps and reads over the loopback, beside cat; both readers fed in pieces
+bench: build ## long streams through the server, also over a folder, beside cat and GNU rmt; a long dumpdates file, beside cat and wc; dumps and reads over the loopback, beside cat; both readers fed in pieces
 	python3 bench/stdio.py $(PROGRAM)
+	python3 bench/reels.py $(PROGRAM)
 	python3 bench/dates.py $(CLIENT)
 	python3 bench/dump.py $(PROGRAM) $(CLIENT)
 	cd $(FEED) && rt run -- replies 1 1000

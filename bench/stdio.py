@@ -271,11 +271,13 @@ def resident_along(words: Words, source: Path) -> list[int]:
 
 def gnu_rmt() -> Words | None:
     """GNU's server of the same protocol, where this machine has it: other servers of that name are left out."""
-    found = shutil.which("rmt", path=os.pathsep.join((os.environ.get("PATH", os.defpath), "/usr/sbin")))
-    if not found:
-        return None
-    told = subprocess.run((found, "--version"), stdin=subprocess.DEVNULL, capture_output=True, check=False)
-    return (found,) if b"GNU" in told.stdout else None
+    path = os.pathsep.join((os.environ.get("PATH", os.defpath), "/usr/sbin"))
+    for found in (shutil.which(it, path=path) for it in ("rmt-tar", "rmt")):
+        if found:
+            told = subprocess.run((found, "--version"), stdin=subprocess.DEVNULL, capture_output=True, check=False)
+            if b"GNU" in told.stdout:
+                return (found,)
+    return None
 
 
 def measure_streams(server: Words, rmt: Words | None) -> bool:

@@ -1,0 +1,335 @@
+#!/usr/bin/env python3
+"""Measures the server over a folder drive, beside `cat` and GNU rmt on the same bytes in the same run.
+
+    reels.py [PROGRAM] [--mib N]
+
+It prints ratios of the least of several times, each with the start of a process in it: 256 MiB written to a file, and read back; spacing
+over many records beside over half of them; one operation at the end of a reel of 1 GiB beside one at its beginning. Then what memory the
+server held at most, and, where `strace` is there, how many calls of the system an append takes. All bytes stand in files in the temporary
+folder, up to 1 GiB of them at once.
+"""
+
+from __future__ import annotations
+
+import argparse
+import os
+import re
+import shutil
+import subprocess
+import sys
+import tempfile
+from collections import Counter
+from pathlib import Path
+from typing import Callable, Iterable, NamedTuple, Sequence
+
+from stdio import BUILT, Words, gnu_rmt, kilobytes, seconds_of, from_file
+
+ROUNDS = 5
+MIB = 1 << 20
+SIZES = (65_536, 10_240)
+# What is wanted at most, beside `cat`, of each of these sizes.
+WANTED = {65_536: 1.2, 10_240: 1.6}
+CAPACITY = 1 << 40
+
+RECORDS = 100_000
+RECORD = 100
+GREAT_RECORDS = 16_384
+GREAT_RECORD = 65_536
+# How often a long way is spaced, and how often one operation is done.
+LONG_WAYS = 10
+SHORT_WAYS = 50_000
+CALLS = 1_000
+
+Streams = dict[str, Path]
+
+
+class Run(NamedTuple):
+    """What is made ready, and the program that is timed then, with the stream that it is given."""
+
+    ready: Callable[[], object]
+    words: Words
+    source: Path
+
+
+def nothing() -> None:
+    """Makes nothing ready."""
+
+
+def least(runs: Sequence[Run]) -> list[float]:
+    """The least time of each run. They take turns, so that what else the machine does falls on all of them."""
+    rounds = []
+    for _ in range(ROUNDS):
+        times = []
+        for run in runs:
+            run.ready()
+            times.append(seconds_of(from_file, run.words, run.source))
+        rounds.append(times)
+    return [min(times) for times in zip(*rounds)]
+
+
+class Drive:
+    """A folder drive with one reel, and other files beside it."""
+
+    def __init__(self, program: str, folder: Path) -> None:
+        self.folder = folder
+        stack, bin = folder / "st0", folder / "bin"
+        stack.mkdir()
+        bin.mkdir()
+        self.reel = stack / "r1"
+        self.words = (program, "--stdio", "--bin", str(bin), "--capacity", str(CAPACITY), f"/dev/st0={stack}")
+        self.wipe()
+
+    def wipe(self) -> None:
+        """An empty reel."""
+        self.reel.unlink(missing_ok=True)
+        self.reel.touch()
+
+    def stream(self, name: str, mode: int, requests: Iterable[bytes], device: str = "/dev/st0") -> Path:
+        """Makes a file of an open and these requests."""
+        path = self.folder / name
+        with path.open("wb") as stream:
+            stream.write(b"O%s\n%d\n" % (device.encode(), mode))
+            stream.writelines(requests)
+        return path
+
+
+def operation(number: int, count: int) -> bytes:
+    return b"I%d\n%d\n" % (number, count)
+
+
+def length(size: int) -> bytes:
+    return size.to_bytes(4, "little")
+
+
+# Bytes written and read back.
+
+
+def answered(drive: Drive, source: Path, reply: bytes, count: int) -> bool:
+    """Whether the server answers the open and then so often so, so that the times are those of the work meant."""
+    with source.open("rb") as stream, subprocess.Popen(drive.words, stdin=stream, stdout=subprocess.PIPE) as process:
+        good = process.stdout.read(3) == b"A0\n"
+        good &= all(process.stdout.read(len(reply)) == reply for _ in range(count)) and not process.stdout.read(1)
+    return good and process.returncode == 0
+
+
+def bytes_through(drive: Drive, rmt: Words | None, size: int, total: int) -> bool:
+    """Prints the lines of writes and reads of one size; answers whether the server's answers were right."""
+    data = bytes(range(256)) * (size // 256)
+    count = total // size
+    plain = drive.folder / "plain"
+    writes = drive.stream("writes", 2, (b"W%d\n%s" % (size, data) for _ in range(count)))
+    reads = drive.stream("reads", 0, (b"R%d\n" % size for _ in range(count)))
+    if not answered(drive, writes, b"A%d\n" % size, count) or drive.reel.stat().st_size != count * (size + 8):
+        return False
+    if not answered(drive, reads, b"A%d\n%s" % (size, data), count):
+        return False
+    runs = [Run(drive.wipe, drive.words, writes), Run(lambda: plain.unlink(missing_ok=True), ("sh", "-c", f"exec cat > {plain}"), writes)]
+    if rmt:
+        to_file = drive.stream("to_file", 577, (b"W%d\n%s" % (size, data) for _ in range(count)), str(plain))
+        runs.append(Run(lambda: plain.unlink(missing_ok=True), rmt, to_file))
+    table_line(f"{total // MIB} MiB written by {size:,} bytes", least(runs), WANTED[size])
+    drive.folder.joinpath("to_file").unlink(missing_ok=True)
+    plain.write_bytes(data * count)
+    runs = [Run(nothing, drive.words, reads), Run(nothing, ("cat", str(plain)), reads)]
+    if rmt:
+        from_it = drive.stream("from_file", 0, (b"R%d\n" % size for _ in range(count)), str(plain))
+        runs.append(Run(nothing, rmt, from_it))
+    with subprocess.Popen(drive.words, stdin=writes.open("rb"), stdout=subprocess.DEVNULL) as process:
+        process.wait()
+    table_line(f"{total // MIB} MiB read by {size:,} bytes", least(runs), WANTED[size])
+    plain.unlink()
+    writes.unlink()
+    return True
+
+
+def table_line(title: str, times: list[float], wanted: float) -> None:
+    ours, cat, *others = times
+    beside_rmt = f"{ours / others[0]:.2f}" if others else "-"
+    print(f"{title:<38}{ours / cat:>10.2f}{wanted:>12.1f}{beside_rmt:>14}", flush=True)
+
+
+# Spacing.
+
+
+def write_records(path: Path, count: int, halves: bool = False) -> None:
+    """A reel of so many records, with a mark behind each half of them where it is asked for."""
+    record = length(RECORD) + b"r" * RECORD + length(RECORD)
+    half = record * (count // 2) + (bytes(4) if halves else b"")
+    path.write_bytes(half + half)
+
+
+def write_great(path: Path) -> None:
+    """A reel of 1 GiB, with no bytes on the disk but those of the lengths."""
+    with path.open("wb") as reel:
+        for number in range(GREAT_RECORDS):
+            reel.seek(number * (GREAT_RECORD + 8))
+            reel.write(length(GREAT_RECORD))
+            reel.seek(GREAT_RECORD, os.SEEK_CUR)
+            reel.write(length(GREAT_RECORD))
+
+
+def spacings(drive: Drive) -> bool:
+    """Prints what spacing over all takes beside spacing over half; answers whether the server's answers were right."""
+    print("\nSpacing over 100,000 records of 100 bytes beside over half of them, without what a count of 0 takes.")
+    for title, forward, back, all_of, halves in (
+        ("by records, forward", 3, 0, RECORDS, False),
+        ("by records, back", 3, 4, RECORDS, False),
+        ("by marks, forward", 1, 0, 2, True),
+        ("by marks, back", 1, 2, 2, True),
+    ):
+        write_records(drive.reel, RECORDS, halves)
+        streams = []
+        for name, count in (("all", all_of), ("half", all_of // 2), ("none", 0)):
+            there = operation(forward, count)
+            away = operation(back, count) if back else b""
+            streams.append(drive.stream(name, 0, [there, away, operation(5, count)] * LONG_WAYS))
+            replies = b"A%d\n" % count * (3 if back else 2)
+            if not answered(drive, streams[-1], replies, LONG_WAYS):
+                return False
+        whole, half, none = least([Run(nothing, drive.words, it) for it in streams])
+        passed = LONG_WAYS * RECORDS * (2 if back else 1)
+        print(f"{title:<38}{(whole - none) / (half - none):>10.2f}{(whole - none) / passed * 1e9:>12.0f} ns a record", flush=True)
+    print("About 2 says that the time grows with the records that are passed, and no faster.")
+    return True
+
+
+def at_the_end(drive: Drive) -> bool:
+    """Prints what an operation takes at the end of a great reel beside at its beginning; answers whether the answers were right."""
+    print("\nOne operation at the end of a reel of 1 GiB beside at its beginning, without what it takes to come there.")
+    for title, requests, replies in (
+        ("back over a record, and forward", (operation(4, 1), operation(3, 1)), b"A1\nA1\n"),
+        ("back over a record, and a read", (operation(4, 1), b"R1\n"), b"A1\nA1\n\0"),
+        ("back over a record, and a write", (operation(4, 1), b"W1\nx"), b"A1\nA1\n"),
+    ):
+        cuts = requests[1].startswith(b"W")
+        times = []
+        for place in (GREAT_RECORDS, 1):
+            write_great(drive.reel)
+            if cuts and place == 1:
+                os.truncate(drive.reel, GREAT_RECORD + 8)
+            there = operation(3, place)
+            many = drive.stream("many", 2, [there, *requests * SHORT_WAYS])
+            none = drive.stream("none", 2, [there, *([] if cuts else [operation(7, 0)])])
+            arrived = least([Run(nothing, drive.words, none)])[0]
+            if not answered(drive, drive.stream("few", 2, [there, *requests * 9]), b"A%d\n%s" % (place, replies * 9), 1):
+                return False
+            times.append(least([Run(nothing, drive.words, many)])[0] - arrived)
+        print(f"{title:<38}{times[0] / times[1]:>10.2f}{times[0] / SHORT_WAYS * 1e9:>12.0f} ns for both", flush=True)
+    drive.wipe()
+    return True
+
+
+# Memory, and calls of the system.
+
+
+def ask(process: subprocess.Popen[bytes], requests: bytes, replies: int) -> None:
+    """Sends requests, and waits for as many bytes as their replies have."""
+    process.stdin.write(requests)
+    process.stdin.flush()
+    if len(process.stdout.read(replies)) != replies:
+        raise RuntimeError("the server ended early")
+
+
+def memory(drive: Drive) -> None:
+    """Prints what memory the server held at most along a session over a reel of 1 GiB."""
+    write_great(drive.reel)
+    print(f"\n{'most memory of the server, KiB':<38}")
+    there = b"A%d\n" % GREAT_RECORDS
+    steps = (
+        ("after the open", b"O/dev/st0\n2\n", 3),
+        ("after a read of 65,536 bytes", b"R65536\n", 7 + GREAT_RECORD),
+        ("after spacing over 1 GiB", operation(5, 0) + operation(3, GREAT_RECORDS), 3 + len(there)),
+        ("and back", operation(4, GREAT_RECORDS), len(there)),
+        ("after 1,000 reads of 65,536 bytes", b"R65536\n" * 1_000, 1_000 * (7 + GREAT_RECORD)),
+        ("after 1,000 writes of 65,536 bytes", (b"W65536\n" + bytes(GREAT_RECORD)) * 1_000, 7_000),
+        ("after 100,000 marks", operation(0, 100_000), 8),
+        ("and back over them", operation(2, 100_000), 8),
+    )
+    with subprocess.Popen(drive.words, stdin=subprocess.PIPE, stdout=subprocess.PIPE) as process:
+        try:
+            for title, requests, replies in steps:
+                ask(process, requests, replies)
+                print(f"  {title:<36}{kilobytes(process, 'VmHWM'):>10}", flush=True)
+        finally:
+            process.kill()
+    drive.wipe()
+
+
+def calls_of(drive: Drive, source: Path) -> Counter[str]:
+    """How often each call of the system was made on the reel."""
+    log = drive.folder / "calls"
+    subprocess.run(("strace", "-f", "-y", "-o", str(log), *drive.words), stdin=source.open("rb"), stdout=subprocess.DEVNULL, check=True)
+    mine = re.compile(rf"^\d+ +(\w+)\(\d+<{re.escape(str(drive.reel))}>")
+    return Counter(found[1] for line in log.read_text(errors="replace").splitlines() if (found := mine.match(line)))
+
+
+def traced() -> bool:
+    """Whether calls of the system can be told here."""
+    if not shutil.which("strace"):
+        return False
+    return subprocess.run(("strace", "-f", "-o", "/dev/null", "true"), capture_output=True, check=False).returncode == 0
+
+
+def calls(drive: Drive) -> None:
+    """Prints which calls of the system one operation makes on the reel, and how many."""
+    if not traced():
+        print("\nskipped: strace is not on this machine, or may not be used, so calls of the system are not counted")
+        return
+    print("\nCalls of the system on the reel")
+    mark, rewind = operation(0, 1), operation(5, 1)
+    for title, ready, requests in (
+        ("an append of 10,240 bytes", False, b"W10240\n" + bytes(10_240)),
+        ("an append of 65,536 bytes", False, b"W65536\n" + bytes(65_536)),
+        ("a mark", False, mark),
+        ("10 marks", False, operation(0, 10)),
+        ("a read of 100 bytes", True, b"R100\n"),
+        ("forward over a record", True, operation(3, 1)),
+        ("forward over a record, one of many", True, None),
+        ("a write in place of the last record", True, operation(4, 1) + b"W100\n" + bytes(100)),
+        ("back over a record, and forward", True, operation(3, 1) + operation(4, 1)),
+    ):
+        counts = []
+        for times in (CALLS, 2 * CALLS):
+            drive.wipe()
+            if ready:
+                write_records(drive.reel, 2 * CALLS)
+            many = [operation(3, times)] if requests is None else [requests] * times
+            if requests and requests.startswith(b"I4"):
+                many.insert(0, operation(3, 2 * CALLS))
+            counts.append(calls_of(drive, drive.stream("calls_in", 2, many)))
+        more = counts[1] - counts[0]
+        told = ", ".join(f"{count / CALLS:g} {name}" for name, count in sorted(more.items()) if count)
+        print(f"  {title:<36}  {told or 'none'}", flush=True)
+    print("Wanted of an append: a call for each part of the image at most, and no read.")
+    drive.wipe()
+
+
+def main() -> int:
+    """Measures the server, and ends with 0 where its answers were right."""
+    parser = argparse.ArgumentParser(description="Ratios of one run of the tape server over a folder.")
+    parser.add_argument("program", nargs="?", type=Path, default=BUILT, help="the built rmtd")
+    parser.add_argument("--mib", type=int, default=256, help="how much is written and read back")
+    words = parser.parse_args()
+    program = words.program.resolve()
+    if not program.is_file():
+        parser.error(f"there is no program {program}: make build builds it")
+    rmt = gnu_rmt()
+    print(f"Ratios of this run, of the least of {ROUNDS} times each.")
+    print("" if rmt else "skipped: GNU rmt is not on this machine\n")
+    good = True
+    with tempfile.TemporaryDirectory(prefix="rmtd-bench-") as folder:
+        drive = Drive(str(program), Path(folder))
+        print(f"{'time of the server over a folder':<38}{'to cat':>10}{'wanted':>12}{'to GNU rmt':>14}")
+        for size in SIZES:
+            good = good and bytes_through(drive, rmt, size, words.mib * MIB)
+        good = good and spacings(drive) and at_the_end(drive)
+        if good:
+            memory(drive)
+            calls(drive)
+        else:
+            print("The server's answers are not as expected.")
+    return 0 if good else 1
+
+
+if __name__ == "__main__":
+    sys.exit(main())
