@@ -126,13 +126,15 @@ class Gate:
         self.timer = threading.Timer(seconds, self.kill)
         self.timer.start()
 
-    def kill(self) -> None:
-        """Kills the server, where it was not killed at this moment before."""
+    def kill(self) -> bool:
+        """Kills the server, where it was not killed at this moment before; whether it did."""
         with self.killing:
-            if not self.killed:
-                self.killed = True
-                self.served.kills += 1
-                self.served.kill()
+            if self.killed:
+                return False
+            self.killed = True
+            self.served.kills += 1
+            self.served.kill()
+            return True
 
     def settle(self) -> None:
         """Returns once no timer is left."""
@@ -200,8 +202,7 @@ class Gate:
         if move:
             self.longest_move = max(self.longest_move, time.perf_counter() - self.asked)
             self.asked = 0.0
-            if self.here("before the reply"):
-                self.kill()
+            if self.here("before the reply") and self.kill():
                 return
         client.sendall(piece)
         if move and self.here("after the reply"):
