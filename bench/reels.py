@@ -134,8 +134,6 @@ def bytes_through(drive: Drive, rmt: Words | None, size: int, total: int) -> boo
     if rmt:
         from_it = drive.stream("from_file", 0, (b"R%d\n" % size for _ in range(count)), str(plain))
         runs.append(Run(nothing, rmt, from_it))
-    with subprocess.Popen(drive.words, stdin=writes.open("rb"), stdout=subprocess.DEVNULL) as process:
-        process.wait()
     table_line(f"{total // MIB} MiB read by {size:,} bytes", least(runs), WANTED[size])
     plain.unlink()
     writes.unlink()
@@ -258,7 +256,7 @@ def memory(drive: Drive) -> None:
 def calls_of(drive: Drive, source: Path) -> Counter[str]:
     """How often each call of the system was made on the reel."""
     log = drive.folder / "calls"
-    subprocess.run(("strace", "-f", "-y", "-o", str(log), *drive.words), stdin=source.open("rb"), stdout=subprocess.DEVNULL, check=True)
+    from_file(("strace", "-f", "-y", "-o", str(log), *drive.words), source)
     mine = re.compile(rf"^\d+ +(\w+)\(\d+<{re.escape(str(drive.reel))}>")
     return Counter(found[1] for line in log.read_text(errors="replace").splitlines() if (found := mine.match(line)))
 

@@ -4,8 +4,8 @@
     kills.py [RMTD [RDUMP]] [--seed N] [--kills N]
 
 The client connects to a gate of this file, which passes its bytes on to the server that runs. The moments are behind a number of bytes
-either way, after some time, and around the move of a reel to the bin: before the request for it has passed, within the move, and before
-and after its reply has passed. The seed is printed where a check failed.
+either way, after some time, and around the move of a reel to the bin: before the request for it has passed, within the move, when its
+reply has come, which is lost then, and when that has passed. The seed is printed where a check failed.
 """
 
 from __future__ import annotations
@@ -48,7 +48,7 @@ class Moment(NamedTuple):
     later: float
 
 
-# Of a move: before its request has passed on, behind it, before its reply has passed on, behind it.
+# Of a move: before its request has passed on, behind it, when its reply has come, and when that has passed on.
 AROUND_A_MOVE = ("before the request", "in the move", "before the reply", "after the reply")
 
 
@@ -126,13 +126,15 @@ class Gate:
         self.timer = threading.Timer(seconds, self.kill)
         self.timer.start()
 
-    def kill(self) -> None:
-        """Kills the server, where it was not killed at this moment before."""
+    def kill(self) -> bool:
+        """Kills the server, where it was not killed at this moment before; whether it did."""
         with self.killing:
-            if not self.killed:
-                self.killed = True
-                self.served.kills += 1
-                self.served.kill()
+            if self.killed:
+                return False
+            self.killed = True
+            self.served.kills += 1
+            self.served.kill()
+            return True
 
     def settle(self) -> None:
         """Returns once no timer is left."""
@@ -195,13 +197,13 @@ class Gate:
         self.count(piece)
 
     def reply(self, piece: bytes, client: socket.socket) -> None:
-        """Passes on what the server answered."""
+        """Passes on what the server answered. The reply before which it is killed is lost."""
         move = self.asked > 0.0
         if move:
             self.longest_move = max(self.longest_move, time.perf_counter() - self.asked)
             self.asked = 0.0
-            if self.here("before the reply"):
-                self.kill()
+            if self.here("before the reply") and self.kill():
+                return
         client.sendall(piece)
         if move and self.here("after the reply"):
             self.kill()

@@ -42,7 +42,6 @@ BAD_WORDS = (
     ("--stdio", "--capacity", "9223372036854775808"),
     ("--stdio", "--capacity", "+1"),
     ("--stdio", "--connections", "two"),
-    ("--stdio", "--bin", "bin"),
     ("--stdio", "/dev/st0=stack"),
 )
 
