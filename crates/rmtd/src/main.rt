@@ -60,7 +60,7 @@ fn serve_folders(rt: &HostRuntime, line: &ServerLine<'_>, bin: &str) -> io::Resu
     requires rules { KeepsDriveRules (Some bin.now) (map plain_drive line.now.drives.items) }
 {
     let drives = line.drives.as_slice();
-    let stacks = folder_stacks(rt.clone(), drives, bin, line.capacity)?;
+    let stacks = folder_stacks(*rt, drives, bin, line.capacity)?;
     if let Some(fault) = stacks.find_fault() {
         return say(rt, fault.folder, fault.reason);
     }
