@@ -101,7 +101,7 @@ behind_of Mark rest n some is = absurd (omega arith)
 behind_of (Record bytes) rest n some is =
     let whole : image_of (Record bytes) ++ rest ≡ (length_bytes (length bytes) ++ bytes) ++ (length_bytes (length bytes) ++ rest)
     = image_parts (Record bytes) rest ∙ ap (λ l. length_bytes (length bytes) ++ l) (append_assoc bytes (length_bytes (length bytes)) rest)
-        ∙ sym (append_assoc (length_bytes (length bytes)) bytes (length_bytes (length bytes) ++ rest)) in
+    ∙ sym (append_assoc (length_bytes (length bytes)) bytes (length_bytes (length bytes) ++ rest)) in
     let long : length (length_bytes (length bytes) ++ bytes) ≡ 4 + n = omega (arith, length-append (length_bytes (length bytes)) bytes, length-length_bytes (length bytes)) in
     ap (drop (4 + n)) whole ∙ drop_at (length_bytes (length bytes) ++ bytes) (length_bytes (length bytes) ++ rest) (4 + n) long
     ∙ ap (λ k. length_bytes k ++ rest) is
@@ -127,7 +127,7 @@ record_there bytes at n to t f some small to_is begins ends =
     let one : to ≡ at + (4 + n) = omega arith in
     let two : drop to bytes ≡ drop n rest
     = ap (λ k. drop k bytes) one ∙ sym (drop-drop (4 + n) at bytes) ∙ sym (drop-drop n 4 (drop at bytes))
-        ∙ ap (λ l. drop n (drop 4 l)) begins.1.1 ∙ ap (drop n) (drop_at (length_bytes n) rest 4 (length-length_bytes n)) in
+    ∙ ap (λ l. drop n (drop 4 l)) begins.1.1 ∙ ap (drop n) (drop_at (length_bytes n) rest 4 (length-length_bytes n)) in
     let behind : drop n rest ≡ length_bytes n ++ ends.1.0 = sym two ∙ ends.1.1 in
     let long : n ≤ length rest = omega (arith, ap length behind, length-drop n rest, length-append (length_bytes n) ends.1.0, length-length_bytes n) in
     let size : length written ≡ n = omega (arith, length-take n rest) in
@@ -136,6 +136,6 @@ record_there bytes at n to t f some small to_is begins ends =
     let first : P n = begins.1.1 ∙ ap (λ l. length_bytes n ++ l) (sym (take-append-drop n rest) ∙ ap (λ l. written ++ l) behind) in
     let image : drop at bytes ≡ image_of (Record written) ++ ends.1.0
     = subst P (sym size) first
-        ∙ ap (λ l. length_bytes (length written) ++ l) (sym (append_assoc written (length_bytes (length written)) ends.1.0))
-        ∙ sym (append_assoc (length_bytes (length written)) (written ++ length_bytes (length written)) ends.1.0) in
+    ∙ ap (λ l. length_bytes (length written) ++ l) (sym (append_assoc written (length_bytes (length written)) ends.1.0))
+    ∙ sym (append_assoc (length_bytes (length written)) (written ++ length_bytes (length written)) ends.1.0) in
     ap Some (sym size) ∙ file_first bytes at t (Record written) ends.1.0 f lawful image

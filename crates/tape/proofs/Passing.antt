@@ -36,19 +36,20 @@ next_by bytes at n before [] f is = absurd cc
 next_by bytes at n before (e ∷ es) f is =
     let long : n ≡ length (bytes_of e) = cc in
     let lawful = All-head IsTapeEntry e es (All-back IsTapeEntry before (e ∷ es) f.spelled.lawful) in
-    let whole : (before ++ e ∷ []) ++ es ≡ before ++ (e ∷ es) = append_assoc before (e ∷ []) es in
-    (tape (before ++ e ∷ []) es,
-    record {
-      spelled = subst (SpellsReel bytes) (sym whole) f.spelled;
-      offset_is = omega (arith, f.offset_is, images_on before e, size_is e n lawful long);
-    },
-    record {
-      entry = e;
-      mark = mark_is e n lawful long;
-      way_is = refl;
-      same = whole;
-      place = λ count. omega (arith, length-append before (e ∷ []));
-    })
+    let whole : (before ++ e ∷ []) ++ es ≡ before ++ (e ∷ es) = append_assoc before (e ∷ []) es in (
+      tape (before ++ e ∷ []) es,
+      record {
+        spelled = subst (SpellsReel bytes) (sym whole) f.spelled;
+        offset_is = omega (arith, f.offset_is, images_on before e, size_is e n lawful long);
+      },
+      record {
+        entry = e;
+        mark = mark_is e n lawful long;
+        way_is = refl;
+        same = whole;
+        place = λ count. omega (arith, length-append before (e ∷ []));
+      },
+    )
 
 pub next_passed : (bytes : List ℕ) (at n : ℕ) (t : Tape) → IsFile bytes at t → Some n ≡ first_length (ahead Forward t)
     → (u : Tape) × IsFile bytes (at + size_by_length n) u × IsPassed Forward t (nat_eq n 0) u
@@ -64,19 +65,20 @@ last_by bytes at n before after (e ∷ es) turned f is =
     let whole : reverse es ++ (e ∷ after) ≡ before ++ after = sym (append_assoc (reverse es) (e ∷ []) after) ∙ ap (λ l. l ++ after) (sym split) in
     let spelled = subst (SpellsReel bytes) (sym whole) f.spelled in
     let lawful = All-head IsTapeEntry e after (All-back IsTapeEntry (reverse es) (e ∷ after) spelled.lawful) in
-    let here : at ≡ length (images_of (reverse es ++ e ∷ [])) = f.offset_is ∙ ap (λ l. length (images_of l)) split in
-    (tape (reverse es) (e ∷ after),
-    record {
-      spelled = spelled;
-      offset_is = omega (arith, here, images_on (reverse es) e, size_is e n lawful long);
-    },
-    record {
-      entry = e;
-      mark = mark_is e n lawful long;
-      way_is = sym turned ∙ ap (λ l. e ∷ l) (sym (reverse-reverse es));
-      same = whole;
-      place = λ count. omega (arith, ap length split, length-append (reverse es) (e ∷ []));
-    })
+    let here : at ≡ length (images_of (reverse es ++ e ∷ [])) = f.offset_is ∙ ap (λ l. length (images_of l)) split in (
+      tape (reverse es) (e ∷ after),
+      record {
+        spelled = spelled;
+        offset_is = omega (arith, here, images_on (reverse es) e, size_is e n lawful long);
+      },
+      record {
+        entry = e;
+        mark = mark_is e n lawful long;
+        way_is = sym turned ∙ ap (λ l. e ∷ l) (sym (reverse-reverse es));
+        same = whole;
+        place = λ count. omega (arith, ap length split, length-append (reverse es) (e ∷ []));
+      },
+    )
 
 pub last_passed : (bytes : List ℕ) (at n : ℕ) (t : Tape) → IsFile bytes at t → Some n ≡ first_length (ahead Back t)
     → (u : Tape) × IsFile bytes (at - size_by_length n) u × IsPassed Back t (nat_eq n 0) u

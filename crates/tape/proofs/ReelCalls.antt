@@ -72,10 +72,16 @@ write_call old new bytes (Err fault) device room run =
     let is : fault ≡ Device = device in
     file_call old new (Write bytes) (Fault fault) run (λ _. refl) (λ _. ap Fault is) (inr (inr (inl (ap Fault is)))) (λ out. cc) (omega arith)
     (λ file t u f put. let P : TapeFault → Type 0 = λ k. TapeStep old.capacity t (Write bytes) (Fault k) u in
-    subst P (sym is) (omega (arith, offset_at file old.offset t f), (put.0, elim put.1 [
-      | inl same ↦ inl same
-      | inr some ↦ elim (left_of_one some.0 (Record bytes)) [ inl none ↦ inr (inl (some.1 ∙ none)) | inr all ↦ inr (inr (some.1 ∙ all)) ]
-    ])))
+    subst P (sym is) (
+      omega (arith, offset_at file old.offset t f),
+      (
+        put.0,
+        elim put.1 [
+          | inl same ↦ inl same
+          | inr some ↦ elim (left_of_one some.0 (Record bytes)) [ inl none ↦ inr (inl (some.1 ∙ none)) | inr all ↦ inr (inr (some.1 ∙ all)) ]
+        ],
+      ),
+    ))
 
 pub full_call : {M : Type 0} (m : MediumKind M) (here : FileTape M) (bytes : List ℕ) → here.capacity < here.offset + (length bytes + 8 + 4)
     → FileCall m here here (Write bytes) (Fault Full)
@@ -93,10 +99,14 @@ marks_call old new count (Err fault) device some room run =
     let is : fault ≡ Device = device in
     file_call old new (WriteMarks count) (Fault fault) run (λ _. refl) (λ _. ap Fault is) (inr (some, inr (inl (ap Fault is)))) (λ out. cc) (omega arith)
     (λ file t u f put. let P : TapeFault → Type 0 = λ k. TapeStep old.capacity t (WriteMarks count) (Fault k) u in
-    subst P (sym is) (some, omega (arith, offset_at file old.offset t f), elim put.1 [
-      | inl same ↦ (0, omega arith, (put.0, inl same))
-      | inr part ↦ (min part.0 count, omega arith, (put.0, inr (inr (part.1 ∙ first_marks part.0 count))))
-    ]))
+    subst P (sym is) (
+      some,
+      omega (arith, offset_at file old.offset t f),
+      elim put.1 [
+        | inl same ↦ (0, omega arith, (put.0, inl same))
+        | inr part ↦ (min part.0 count, omega arith, (put.0, inr (inr (part.1 ∙ first_marks part.0 count))))
+      ],
+    ))
 
 pub full_marks : {M : Type 0} (m : MediumKind M) (here : FileTape M) (count : ℕ) → 0 < count → here.capacity < here.offset + 4 * count
     → FileCall m here here (WriteMarks count) (Fault Full)

@@ -72,10 +72,12 @@ mark_passes x at n want t f is zero_is =
     (p.0, p.1, passes_of want t p.0 _ [] p.2 (mark_empty p.2.entry want p.2.mark))
 
 after_four : (e : PlainEntry) (rest : List ℕ) → (more : List ℕ) × (drop 4 (image_of e ++ rest) ≡ bytes_of e ++ more)
-after_four (Record bytes) rest =
-    (length_bytes (length bytes) ++ rest, ap (drop 4) (image_parts (Record bytes) rest)
-        ∙ drop_at (length_bytes (length bytes)) (body_of (Record bytes) ++ rest) 4 (length-length_bytes (length bytes))
-        ∙ append_assoc bytes (length_bytes (length bytes)) rest)
+after_four (Record bytes) rest = (
+  length_bytes (length bytes) ++ rest,
+  ap (drop 4) (image_parts (Record bytes) rest)
+      ∙ drop_at (length_bytes (length bytes)) (body_of (Record bytes) ++ rest) 4 (length-length_bytes (length bytes))
+      ∙ append_assoc bytes (length_bytes (length bytes)) rest,
+)
 after_four Mark rest = (rest, drop_at (length_bytes 0) rest 4 (length-length_bytes 0))
 
 -- behind the leading length stand the record's bytes

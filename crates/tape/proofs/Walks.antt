@@ -101,11 +101,14 @@ pub goes_on : {S : Type 0} {m : MediumKind S} {a b c : S} {way : Way} {count off
     → IsRun m (Goes way count offset passed.at left' met far) 0 ⊥ a c
 goes_on {way = way} {at = at} {passed = passed} met far r q not is counts =
     run_then r q (λ f. f) not (λ f. absurd f) (omega arith)
-    (λ x y z held f n. (n.0 ∙ f.0, λ t file.
-        let w = f.1 t file in
-        let g = subst (λ o. MatchOption o (ahead way w.to ≡ []) (λ p. (u : Tape) × IsFile y p.at u × IsPassed way w.to p.is_mark u)) is (n.1 w.to (same_file f.0 w.file)) in
-        let k = counts w.to g.0 g.2 in
-        walks_on w g.0 (same_file (sym f.0) g.1) g.2 k.passed k.left_is))
+    (λ x y z held f n. (
+      n.0 ∙ f.0,
+      λ t file.
+          let w = f.1 t file in
+          let g = subst (λ o. MatchOption o (ahead way w.to ≡ []) (λ p. (u : Tape) × IsFile y p.at u × IsPassed way w.to p.is_mark u)) is (n.1 w.to (same_file f.0 w.file)) in
+          let k = counts w.to g.0 g.2 in
+          walks_on w g.0 (same_file (sym f.0) g.1) g.2 k.passed k.left_is,
+    ))
 
 -- the walk ends where it stands, with nothing left to pass
 pub goes_end : {S : Type 0} {m : MediumKind S} {a b : S} {way : Way} {count offset at left : ℕ} {G : Type 0} (met : Tape → ℕ) (far : ℕ → Tape → ℕ)
@@ -121,12 +124,15 @@ pub goes_out : {S : Type 0} {m : MediumKind S} {a b c : S} {way : Way} {count of
     → IsRun m (Ends way count offset at left met far) 0 G a c
 goes_out {way = way} {left = left} met far r q to from is none =
     run_then r q (λ f. f) to from (omega arith)
-    (λ x y z held f n. (n.0 ∙ f.0, λ t file.
-        let w = f.1 t file in
-        let g = subst (λ o. MatchOption o (ahead way w.to ≡ []) (λ p. (u : Tape) × IsFile y p.at u × IsPassed way w.to p.is_mark u)) is (n.1 w.to (same_file f.0 w.file)) in
-        let k = none w.to g in
-        let e = k.1 in
-        walks_end w k.0 (omega arith)))
+    (λ x y z held f n. (
+      n.0 ∙ f.0,
+      λ t file.
+          let w = f.1 t file in
+          let g = subst (λ o. MatchOption o (ahead way w.to ≡ []) (λ p. (u : Tape) × IsFile y p.at u × IsPassed way w.to p.is_mark u)) is (n.1 w.to (same_file f.0 w.file)) in
+          let k = none w.to g in
+          let e = k.1 in
+          walks_end w k.0 (omega arith),
+    ))
 
 -- or where the medium failed
 pub goes_wrong : {S : Type 0} {m : MediumKind S} {a b c : S} {way : Way} {count offset at left : ℕ} {next : List ℕ → List ℕ → Type 0} {F G : Type 0} (met : Tape → ℕ) (far : ℕ → Tape → ℕ)
@@ -211,8 +217,11 @@ pub goes_stop : {S : Type 0} {m : MediumKind S} {a b c : S} {way : Way} {count o
     → IsRun m (Ends way count offset passed.at left met far) 0 G a c
 goes_stop {way = way} {left = left} {passed = passed} met far r q to from is counts =
     run_then r q (λ f. f) to from (omega arith)
-    (λ x y z held f n. (n.0 ∙ f.0, λ t file.
-        let w = f.1 t file in
-        let g = subst (λ o. MatchOption o (ahead way w.to ≡ []) (λ p. (u : Tape) × IsFile y p.at u × IsPassed way w.to p.is_mark u)) is (n.1 w.to (same_file f.0 w.file)) in
-        let k = counts w.to g.0 g.2 in
-        walks_end {met_on = λ _. 0} {passed_on = λ _. 0} (walks_on w g.0 (same_file (sym f.0) g.1) g.2 k.passed k.left_is) refl (omega arith)))
+    (λ x y z held f n. (
+      n.0 ∙ f.0,
+      λ t file.
+          let w = f.1 t file in
+          let g = subst (λ o. MatchOption o (ahead way w.to ≡ []) (λ p. (u : Tape) × IsFile y p.at u × IsPassed way w.to p.is_mark u)) is (n.1 w.to (same_file f.0 w.file)) in
+          let k = counts w.to g.0 g.2 in
+          walks_end {met_on = λ _. 0} {passed_on = λ _. 0} (walks_on w g.0 (same_file (sym f.0) g.1) g.2 k.passed k.left_is) refl (omega arith),
+    ))

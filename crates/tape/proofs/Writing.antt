@@ -78,6 +78,7 @@ torn (e ∷ es) n lawful = elim (cases_lt n (length (image_of e))) [
       = ap (λ k. take k (image_of e ++ images_of es)) size ∙ beyond (n - length (image_of e)) (image_of e) (images_of es) in
       (suc others.0, more_spells (take n (image_of e ++ images_of es)) (take (n - length (image_of e)) (images_of es)) e (take others.0 es) (All-head IsTapeEntry e es lawful) all others.1)
 ]
+
 -- the entries before the place and others behind it
 put_file : (x y part : List ℕ) (at : ℕ) (t : Tape) (after : List PlainEntry) → IsFile x at t → y ≡ take at x ++ part → SpellsReel part after → IsFile y at (tape t.before after)
 put_file x y part at t after f is s =
@@ -147,10 +148,12 @@ zeros_part x y z row done size count e d zeros fits within first next =
     let least : some ≤ size = omega arith in
     let part : take next.0 (take size row) ≡ replicate some 0
     = ap (take next.0) (zeros_of size row zeros fits) ∙ sym (take_min next.0 (replicate size 0))
-        ∙ ap (λ k. take (min next.0 k) (replicate size 0)) (length-replicate size 0) ∙ take-replicate some size 0 least in
-    let all : take (done + some) (replicate count 0) ≡ replicate (done + some) 0 = take-replicate (done + some) count 0 (omega arith) in
-    (done + some, next.1 ∙ ap (λ l. y ++ l) part ∙ ap (λ l. l ++ replicate some 0) first ∙ append_assoc x (replicate done 0) (replicate some 0)
-        ∙ ap (λ l. x ++ l) (replicate-append-replicate done some 0 ∙ sym all))
+    ∙ ap (λ k. take (min next.0 k) (replicate size 0)) (length-replicate size 0) ∙ take-replicate some size 0 least in
+    let all : take (done + some) (replicate count 0) ≡ replicate (done + some) 0 = take-replicate (done + some) count 0 (omega arith) in (
+      done + some,
+      next.1 ∙ ap (λ l. y ++ l) part ∙ ap (λ l. l ++ replicate some 0) first ∙ append_assoc x (replicate done 0) (replicate some 0)
+          ∙ ap (λ l. x ++ l) (replicate-append-replicate done some 0 ∙ sym all),
+    )
 
 -- ---- lengths of images
 

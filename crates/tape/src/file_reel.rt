@@ -9,6 +9,8 @@ ghost use Rattle.tape.specs.FileSteps.{IsReelRun, Puts, files_request, records_r
 ghost use Rattle.tape.specs.declared.fault.TapeFault.TheVariants.{Device};
 
 mod image;
+#[cfg(test)]
+mod tests;
 mod walk;
 
 use crate::entry::{MARK_SIZE, RECORD_FRAME};

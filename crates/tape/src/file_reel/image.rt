@@ -8,13 +8,13 @@ ghost use Rattle.tape.specs.FileSteps.{IsRun, BeginsWith, IsWritten, ahead, firs
 ghost use Rattle.tape.specs.declared.file_reel.walk.Way.TheVariants.{Forward, Back};
 
 use crate::entry::{MARK_SIZE, RECORD_FRAME};
-use crate::{Medium, MediumFailed};
+use crate::{Medium, MediumFailed, RECORD_LIMIT};
 
 /// No medium that tells its bytes has so many.
 const OFFSET_LIMIT: u64 = 1 << 63;
 
 /// The greatest length of a record, as it stands in a file.
-const LENGTH_LIMIT: u32 = 65536;
+const LENGTH_LIMIT: u32 = RECORD_LIMIT as u32;
 
 /// How many zero bytes are written at once.
 const ROW: usize = 4096;

@@ -47,11 +47,11 @@ returns-then-copied-count-clause-call g c =
     let given = c.read_at.new.into in
     let size : length given ≡ count = omega (arith, c.read_at.auto.into, length-take count c.args.into.now) in
     let run : IsRun K (λ x z. (z ≡ x) × ((t : Tape) → IsFile x at t → Some n ≡ first_length t.after) × IsReadAt (at + 4) given c.in_ok-copied.copied x) 0 ⊥
-        c.self.inside.medium c.read_at.new.self
+    c.self.inside.medium c.read_at.new.self
     = run_then c.in_ok-length.ensures.run (run_call c.in_ok-copied.ensures.call) (λ f. cc) (λ f. cc) (λ f. absurd f) (omega arith)
-        (λ x y z held s r.
-        let P : List ℕ → Type 0 = λ l. IsReadAt (at + 4) given c.in_ok-copied.copied l in
-        (r.0 ∙ s.0, λ t f. sym c.in-Some.is ∙ s.1 t f, subst P s.0 r.1)) in
+    (λ x y z held s r.
+    let P : List ℕ → Type 0 = λ l. IsReadAt (at + 4) given c.in_ok-copied.copied l in
+    (r.0 ∙ s.0, λ t f. sym c.in-Some.is ∙ s.1 t f, subst P s.0 r.1)) in
     rw (← c.self.view_is) (gave_call _ _ want [] run (λ f. f) (omega arith) refl
     (λ x y t f s. absurd (read_enough x at n c.in_ok-copied.copied count want given t f (s.1 t f) c.min-count.ensures size (omega arith) s.2)))
 
@@ -65,11 +65,11 @@ returns-clause-call g c =
     let given = c.read_at.new.into in
     let size : length given ≡ count = omega (arith, c.read_at.auto.into, length-take count c.args.into.now) in
     let run : IsRun K (λ x z. (z ≡ x) × ((t : Tape) → IsFile x at t → Some n ≡ first_length t.after) × IsReadAt (at + 4) given c.in_ok-copied.copied x) 0 ⊥
-        c.self.inside.medium c.read_at.new.self
+    c.self.inside.medium c.read_at.new.self
     = run_then c.in_ok-length.ensures.run (run_call c.in_ok-copied.ensures.call) (λ f. cc) (λ f. cc) (λ f. absurd f) (omega arith)
-        (λ x y z held s r.
-        let P : List ℕ → Type 0 = λ l. IsReadAt (at + 4) given c.in_ok-copied.copied l in
-        (r.0 ∙ s.0, λ t f. sym c.in-Some.is ∙ s.1 t f, subst P s.0 r.1)) in
+    (λ x y z held s r.
+    let P : List ℕ → Type 0 = λ l. IsReadAt (at + 4) given c.in_ok-copied.copied l in
+    (r.0 ∙ s.0, λ t f. sym c.in-Some.is ∙ s.1 t f, subst P s.0 r.1)) in
     rw (← c.self.view_is) (gave_call _ _ want (take count (given ++ drop count c.args.into.now)) run (λ f. f) (omega (arith, length-take count (given ++ drop count c.args.into.now))) refl
     (λ x y t f s.
     let w = read_whole x at n c.in_ok-copied.copied count want given (drop count c.args.into.now) t f (s.1 t f) c.min-count.ensures size (omega arith) s.2 in

@@ -38,6 +38,6 @@ returns g c =
     let r = c.append-3.result in
     let rest : IsRun K (MediumStep (Append (bytes ++ n) r)) (length bytes + 4) (IsErr r) c.append.new.self c.append-3.new.self
     = run_then (run_call c.in_ok-append-2.ensures) (run_call c.append-3.ensures) (λ f. cc) (λ f. f) (λ f. f) (omega (arith, ap length q))
-        (λ x y z held first next. append_append bytes n r tt x y z first (subst (λ (l : List ℕ). MediumStep (Append l r) y z) q next)) in
+    (λ x y z held first next. append_append bytes n r tt x y z first (subst (λ (l : List ℕ). MediumStep (Append l r) y z) q next)) in
     run_then (run_call c.in_ok-append.ensures) rest (λ f. cc) (λ f. f) (λ f. f) (omega (arith, ap length q))
     (λ x y z held first next. append_append n (bytes ++ n) r tt x y z (subst (λ (l : List ℕ). MediumStep (Append l (Ok tt)) x y) q first) next)

@@ -16,15 +16,18 @@ returns-in_default-clause-run g c =
 pub returns-then-length-gt-LENGTH_LIMIT-clause-run : goal.returns-then-length-gt-LENGTH_LIMIT-clause-run
 returns-then-length-gt-LENGTH_LIMIT-clause-run g c =
     run_as c.in_ok-length.ensures (λ f. f) (λ f. f) (omega arith)
-    (λ x y held step. (step.0, λ t file.
-    let four : 4 ≤ c.args.at = omega arith in
-    let fits = last_fits x c.args.at c.in-Some.length t file four (subst (BeginsWith (drop (c.args.at - 4) x)) c.in-Some.is step.1) in
-    let short : c.in-Some.length ≤ 65536 = fits.0 in
-    let within : size_by_length c.in-Some.length ≤ c.args.at = fits.1 in
-    absurd (elim c.then-length-gt-LENGTH_LIMIT.branch [
-      | then-length-gt-LENGTH_LIMIT-via-then-length-gt-LENGTH_LIMIT w ↦ omega arith
-      | then-length-gt-LENGTH_LIMIT-via-else-length-gt-LENGTH_LIMIT+then-size_of-at w ↦ omega arith
-    ])))
+    (λ x y held step. (
+      step.0,
+      λ t file.
+          let four : 4 ≤ c.args.at = omega arith in
+          let fits = last_fits x c.args.at c.in-Some.length t file four (subst (BeginsWith (drop (c.args.at - 4) x)) c.in-Some.is step.1) in
+          let short : c.in-Some.length ≤ 65536 = fits.0 in
+          let within : size_by_length c.in-Some.length ≤ c.args.at = fits.1 in
+          absurd (elim c.then-length-gt-LENGTH_LIMIT.branch [
+            | then-length-gt-LENGTH_LIMIT-via-then-length-gt-LENGTH_LIMIT w ↦ omega arith
+            | then-length-gt-LENGTH_LIMIT-via-else-length-gt-LENGTH_LIMIT+then-size_of-at w ↦ omega arith
+          ]),
+    ))
 
 pub returns-clause-run : goal.returns-clause-run
 returns-clause-run g c =

@@ -16,6 +16,9 @@ returns-in_default-clause-run g c =
 pub returns-clause-run : goal.returns-clause-run
 returns-clause-run g c =
     run_as c.in_ok-length.ensures.run (λ f. f) (λ f. f) (omega arith)
-    (λ x y held step. (step.0, λ t file.
-    let P : ℕ → Type 0 = λ k. (u : Tape) × IsFile x (c.args.at + k) u × IsPassed Forward t (c.in-Some.length == 0) u in
-    subst P (sym c.size_of.ensures) (next_passed x c.args.at c.in-Some.length t file (sym c.in-Some.is ∙ step.1 t file))))
+    (λ x y held step. (
+      step.0,
+      λ t file.
+          let P : ℕ → Type 0 = λ k. (u : Tape) × IsFile x (c.args.at + k) u × IsPassed Forward t (c.in-Some.length == 0) u in
+          subst P (sym c.size_of.ensures) (next_passed x c.args.at c.in-Some.length t file (sym c.in-Some.is ∙ step.1 t file)),
+    ))
