@@ -64,10 +64,7 @@ pub fn serve_in_turn<S: Stacks + Drop>(
 }
 
 /// Serves one connection at these drives.
-fn serve_next<S: Stacks + Drop>(
-    server: &mut TapeServer<S>,
-    stream: &TcpStream,
-) -> Option<Served>
+fn serve_next<S: Stacks + Drop>(server: &mut TapeServer<S>, stream: &TcpStream) -> Option<Served>
     ensures { ServedFrom (kinds of_holds S.Stacks S.Reel.Reel) server.old server.new }
 {
     let mut requests = Counted::new(stream);

@@ -7,8 +7,8 @@ ghost use Rattle.rmt_words.specs.Drive.{KeepsDriveRules, plain_drive};
 use clap::Error;
 use clap::error::ErrorKind;
 use rmt_tools::{
-    MemoryServer, ServerLine, TapeServer, exit_status, folder_stacks, run_stdio,
-    serve_connections, serve_in_turn, server_line,
+    MemoryServer, ServerLine, TapeServer, exit_status, folder_stacks, run_stdio, serve_connections,
+    serve_in_turn, server_line,
 };
 use rmt_wire::Counted;
 use std::net::TcpListener;
