@@ -1,0 +1,109 @@
+//! One server.
+ghost use Rattle.std.specs.Prelude.{◌≡◌, ◌<◌, ◌≤◌, false, true, [], IfOk, MatchResult, length, replicate};
+ghost use Rattle.drives.specs.ListShop.{IsShop, shop_of, troubled_in};
+ghost use Rattle.rmt_server.specs.Hall.{hall};
+ghost use Rattle.tape_host.specs.Halls.{hosted, joined, IsHolder, IsHeldOnce};
+
+use crate::side::{Next, Side};
+use drives::{DriveTable, ListStacks, LocalHolds};
+use rmt_server::more_seats;
+use std::alloc::{AllocError, Global};
+use std::marker::Model;
+use std::mem;
+
+/// One server: its drives, whose reels are in memory, and the sides of all its connections.
+///
+/// Contracts see the hall: drives and reels, the holder of each drive, and the server's side of each connection while it is
+/// live. They see whether the side of the next connection is made.
+#[derive(Drop)]
+pub struct Host {
+    alloc: Global,
+    drives: DriveTable<LocalHolds, ListStacks>,
+    sides: Vec<Option<Side>>,
+    next: Next,
+}
+
+impl Model for Host {
+    ghost use Rattle.std.specs.Prelude.{◌<◌, true, ◌≡◌, vec_len, vec_capacity};
+    ghost use Rattle.tape_host.specs.Halls.{Hosted, hosted};
+    ghost use Rattle.tape_host.specs.Hosting.{hall_of, is_whole, IsHosting};
+
+    ghost Value = { Hosted };
+
+    ghost view = { λ h. hosted (hall_of h.drives h.sides.items) (is_whole h.next) };
+
+    ghost invariant = { λ h. IsHosting h.drives h.sides.items h.next × (is_whole h.next ≡ true → vec_len h.sides < vec_capacity h.sides) };
+}
+
+impl Host {
+    /// A server with these drives, from 1 to 64, and no connection. No trouble is set in them. It fails only where memory is
+    /// refused.
+    pub fn new(alloc: Global, drives: usize, stacks: ListStacks) -> Result<Host, AllocError>
+        requires some { 1 ≤ drives }
+        requires few { drives ≤ 64 }
+        requires all { length stacks.shop.racks ≡ drives }
+        requires told { IsShop stacks (shop_of stacks) }
+        requires quiet { stacks.trouble ≡ false }
+        requires lying { troubled_in stacks.shop ≡ 0 }
+        ensures hall { IfOk result (λ h. h ≡ hosted (hall (shop_of stacks) (replicate drives 0) []) false) }
+    {
+        let holds = LocalHolds::new(alloc, drives)?;
+        let drives = DriveTable { holds, stacks };
+        Ok(Host {
+            alloc,
+            drives,
+            sides: Vec::new(alloc),
+            next: Next::Nothing,
+        })
+    }
+
+    /// Makes the server's side of the next connection, unless it is made, and keeps it until `admit`. Where memory is refused
+    /// nothing has changed that is seen.
+    pub fn prepare(&mut self) -> Result<(), AllocError>
+        ensures { MatchResult result (λ _. self.new ≡ hosted self.old.hall true) (λ _. self.new ≡ self.old) }
+    {
+        self.sit();
+        self.furnish()
+    }
+
+    /// Gives the next connection a seat, unless it has one or no number is left.
+    fn sit(&mut self)
+        ensures { self.new ≡ self.old }
+    {
+        if self.next.is_nothing() {
+            if let Some(seat) = self.drives.holds.seat() {
+                more_seats::<ListStacks>();
+                self.next = Next::Seat(seat);
+            }
+        }
+    }
+
+    /// Makes the next side out of its seat.
+    fn furnish(&mut self) -> Result<(), AllocError>
+        ensures { MatchResult result (λ _. self.new ≡ hosted self.old.hall true) (λ _. self.new ≡ self.old) }
+    {
+        self.sides.reserve(1)?;
+        let (next, result) = mem::replace(&mut self.next, Next::Nothing).made(self.alloc);
+        self.next = next;
+        result
+    }
+
+    /// The next connection is there: the server's side of it, which was prepared, is live.
+    pub fn admit(&mut self)
+        requires { self.old.ready ≡ true }
+        ensures { self.new ≡ hosted (joined self.old.hall) false }
+    {
+        if let Next::Whole(side) = mem::replace(&mut self.next, Next::Nothing) {
+            self.sides.push_reserved(Some(side));
+        }
+    }
+
+    /// The number of the connection that has this drive open, or 0. Drives are numbered from 0.
+    pub fn holder(&self, drive: usize) -> u64
+        requires { drive < length self.now.hall.holders }
+        ensures holder { IsHolder self.now.hall drive result }
+        ensures once { IsHeldOnce self.now.hall }
+    {
+        self.drives.holds.number_at(drive)
+    }
+}
