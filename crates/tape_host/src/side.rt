@@ -1,6 +1,8 @@
 //! The server's side of one connection.
-ghost use Rattle.std.specs.Prelude.{◌≡◌, true, None, MatchResult};
+ghost use Rattle.std.specs.Prelude.{◌≡◌, ◌≤◌, true, Some, None, MatchResult, length, vec_capacity};
+ghost use Rattle.std.specs.Option.{option_copied};
 ghost use Rattle.drives.specs.Holding.{HoldsJust};
+ghost use Rattle.tape_host.specs.Halls.{side_at, with_side_at};
 ghost use Rattle.tape_host.specs.Hosting.{is_nothing, is_whole, IsIdle, IsFresh, IsMade};
 
 use drives::{ListStacks, LocalHolds, LocalSeat};
@@ -80,4 +82,37 @@ impl Side {
             Err(refused) => Err(refused),
         }
     }
+}
+
+/// The side of a connection, if it is live. Connections are numbered from 1.
+pub(crate) fn find_side(sides: &[Option<Side>], connection: usize) -> Option<&Side>
+    ensures { option_copied result ≡ side_at sides.now connection }
+{
+    let place = connection.checked_sub(1)?;
+    let side = sides.get(place)?;
+    side.as_ref()
+}
+
+/// Takes the side of a connection out, if it is live.
+pub(crate) fn take_side(sides: &mut Vec<Option<Side>>, connection: usize) -> Option<Side>
+    ensures taken { result ≡ side_at sides.old.items connection }
+    ensures left { sides.new.items ≡ with_side_at sides.old.items connection None }
+    ensures room { vec_capacity sides.new ≡ vec_capacity sides.old }
+{
+    if connection == 0 || sides.len() < connection {
+        return None;
+    }
+    let side = &mut sides[connection - 1];
+    side.take()
+}
+
+/// Puts the side of a connection in, whose place is there.
+pub(crate) fn put_side(sides: &mut Vec<Option<Side>>, connection: usize, side: Side)
+    requires first { 1 ≤ connection }
+    requires last { connection ≤ length sides.old.items }
+    ensures put { sides.new.items ≡ with_side_at sides.old.items connection (Some side) }
+    ensures room { vec_capacity sides.new ≡ vec_capacity sides.old }
+{
+    let place = &mut sides[connection - 1];
+    *place = Some(side);
 }
