@@ -73,7 +73,7 @@ is-number n a e = grind (arith, nat_tests)
 
 module _ {drives : MemoryDrives} {sides : List (Option RealSide)} {next : Next} (h : IsHosting drives sides next) where
   -- the holder of a drive is the number of the side that has it open
-  holds_open : (d k : ℕ) (s : RealSide) → IsLive drives k s → IsHeldBy drives.holds d k → drive_of s.session.opened ≡ Some d
+  pub holds_open : (d k : ℕ) (s : RealSide) → IsLive drives k s → IsHeldBy drives.holds d k → drive_of s.session.opened ≡ Some d
   holds_open d k s live (l, e) = (live.at.held d).0 (live.at.own.agrees d l ∙ is-number (slice_index drives.holds.numbers d) s.session.seat.number (e ∙ sym live.number))
 
   open_holds : (d k : ℕ) (s : RealSide) → IsLive drives k s → drive_of s.session.opened ≡ Some d → IsHeldBy drives.holds d k

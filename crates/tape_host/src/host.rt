@@ -1,15 +1,20 @@
 //! One server.
-ghost use Rattle.std.specs.Prelude.{◌≡◌, ◌<◌, ◌≤◌, false, true, [], IfOk, MatchResult, length, replicate};
-ghost use Rattle.drives.specs.ListShop.{IsShop, shop_of, troubled_in};
+ghost use Rattle.std.specs.Prelude.{◌≡◌, ◌<◌, ◌≤◌, false, true, [], IfOk, MatchResult, length, map, replicate};
+ghost use Rattle.std.specs.Option.{option_copied, option_map};
+ghost use Rattle.drives.specs.Shop.{rack_at, slots_in};
+ghost use Rattle.drives.specs.ListShop.{IsShop, shop_of, at_rest, rest_slot, troubled_in};
+ghost use Rattle.drives.specs.Arranging.{reel_named};
+ghost use Rattle.rmt_server.specs.Memory.{session_seen};
 ghost use Rattle.rmt_server.specs.Hall.{hall};
-ghost use Rattle.tape_host.specs.Halls.{hosted, joined, IsHolder, IsHeldOnce};
+ghost use Rattle.tape_host.specs.Halls.{hosted, side_at, joined, ended, IsHolder, IsHeldOnce};
 
-use crate::side::{Next, Side};
-use drives::{DriveTable, ListStacks, LocalHolds};
-use rmt_server::more_seats;
+use crate::side::{Next, Side, find_side, take_side};
+use drives::{DriveTable, ListStacks, ListedReel, LocalHolds};
+use rmt_server::{Session, more_seats, one_holder, one_scene, untroubled_end};
 use std::alloc::{AllocError, Global};
 use std::marker::Model;
 use std::mem;
+use tape::TroubledReel;
 
 /// One server: its drives, whose reels are in memory, and the sides of all its connections.
 ///
@@ -105,5 +110,48 @@ impl Host {
         ensures once { IsHeldOnce self.now.hall }
     {
         self.drives.holds.number_at(drive)
+    }
+
+    /// Ends the server's side of a connection: what it has open is closed, and the side is no longer live. Where it is not live
+    /// nothing is done. Connections are numbered from 1.
+    pub fn end(&mut self, connection: usize)
+        ensures { self.new ≡ hosted (ended self.old.hall connection) self.old.ready }
+    {
+        one_holder::<ListStacks>();
+        one_scene();
+        untroubled_end();
+        if let Some(mut side) = take_side(&mut self.sides, connection) {
+            side.session.end(&mut self.drives);
+        }
+    }
+
+    /// The session of a connection, while the server's side is live.
+    pub fn session(&self, connection: usize) -> Option<&Session<LocalHolds, ListStacks>>
+        ensures { option_map (λ s. session_seen s.opened) (option_copied result) ≡ option_map (λ s. s.session) (side_at self.now.hall.sides connection) }
+    {
+        let side = find_side(&self.sides, connection)?;
+        Some(&side.session)
+    }
+
+    /// The reels of the drive's stack in order, first the one that is latched or would be latched next.
+    pub fn stack(&self, drive: usize) -> &[ListedReel]
+        requires { drive < length self.now.hall.shop.racks }
+        ensures { map rest_slot result.now ≡ (rack_at self.now.hall.shop drive).stack }
+    {
+        self.drives.stacks.stack(drive)
+    }
+
+    /// The reels of the bin, in the order in which they were moved there.
+    pub fn bin(&self) -> &[ListedReel]
+        ensures { map rest_slot result.now ≡ self.now.hall.shop.bin }
+    {
+        self.drives.stacks.bin()
+    }
+
+    /// The reel of that name, on a stack or in the bin. None while it is latched, and where there is none.
+    pub fn reel(&self, name: &[u8]) -> Option<&TroubledReel>
+        ensures { option_map at_rest (option_copied result) ≡ reel_named name.now (slots_in self.now.hall.shop) }
+    {
+        self.drives.stacks.reel(name)
     }
 }
