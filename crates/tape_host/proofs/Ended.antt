@@ -21,7 +21,7 @@ use Rattle.tape_host.specs.declared.side.Next.{Next}
 use Rattle.tape_host.specs.declared.side.Next.TheVariants.{Nothing, Seat, Whole}
 use Rattle.tape_host.specs.Halls.{side_at, with_side_at, ended_from, ended}
 use Rattle.tape_host.specs.Hosting.{MemoryDrives, MemoryDesk, idle_desk, seen, hall_of, IsCalm, IsLive, IsIdleAt, IsWaiting, IsHosting}
-use Rattle.tape_host.proofs.Hosted.{side_map, holds_open}
+use Rattle.tape_host.proofs.Hosted.{false_unless, side_map, holds_open}
 
 -- what the laws of sessions say
 abbrev pub OthersStay : Type 0
@@ -96,10 +96,6 @@ still_held (Some drive) d m n e x = elim (eq_or_ne d drive) [
 calm_reel : (reel : Option TroubledTape) → MatchOption reel (Unit {0}) (λ r. r.trouble ≡ NoTrouble) → ReelCanFail of_reel reel → ⊥
 calm_reel None calm f = f
 calm_reel (Some r) calm f = f calm
-
-false_unless : (b : Bool) → (b ≡ true → ⊥) → b ≡ false
-false_unless true h = absurd (h refl)
-false_unless false h = refl
 
 module _ (others : OthersStay) {drives drives' : MemoryDrives} {k : ℕ} {one after : MemoryDesk} (number : one.seat.number ≡ k)
     (at : IsAt in_memory (state drives one)) (at' : IsAt in_memory (state drives' after))

@@ -9,7 +9,7 @@ use Rattle.tape.specs.Trouble.{TroubledTape}
 use Rattle.drives.specs.declared.view.View.{View}
 use Rattle.drives.specs.Holding.{newcomer, HoldsJust}
 use Rattle.drives.specs.Local.{Holders, holders, IsSeatOf, IsHeldBy}
-use Rattle.drives.specs.ListShop.{ListShop, shop_of, IsShop, troubled_in}
+use Rattle.drives.specs.ListShop.{ListShop, shop_of, IsShop, troubled_in, StacksCanFail}
 use Rattle.rmt_server.specs.declared.access.Access.{Access}
 use Rattle.rmt_server.specs.declared.session.desk.Opened.{Opened}
 use Rattle.rmt_server.specs.Session.PlainSession.{Idle}
@@ -28,10 +28,18 @@ none_live : {S : Type 0} (k : ℕ) (s : S) → side_at [] k ≡ Some s → ⊥
 none_live zero s e = absurd cc
 none_live (suc i) s e = absurd cc
 
+pub false_unless : (b : Bool) → (b ≡ true → ⊥) → b ≡ false
+false_unless true h = absurd (h refl)
+false_unless false h = refl
+
+none_unless : (n : ℕ) → (0 < n → ⊥) → n ≡ 0
+none_unless zero h = refl
+none_unless (suc n) h = absurd (h (omega arith))
+
 -- drives that no seat holds, and no connection
 pub first_hosting : (drives : MemoryDrives) (n : ℕ) → drives.holds ≡ holders (replicate n 0) 0 → length drives.stacks.shop.racks ≡ n
-    → IsShop drives.stacks (shop_of drives.stacks) → drives.stacks.trouble ≡ false → troubled_in drives.stacks.shop ≡ 0 → IsHosting drives [] Nothing
-first_hosting drives n e all told quiet lying =
+    → IsShop drives.stacks (shop_of drives.stacks) → (StacksCanFail drives.stacks → ⊥) → IsHosting drives [] Nothing
+first_hosting drives n e all told quiet =
     let numbers : drives.holds.numbers ≡ replicate n 0 = ap (λ h. h.numbers) e in
     let same : length drives.holds.numbers ≡ n = ap length numbers ∙ length-replicate n 0 in
     record {
@@ -42,8 +50,8 @@ first_hosting drives n e all told quiet lying =
       waiting = ap (λ h. h.last) e;
       told = told;
       paired = same ∙ sym all;
-      quiet = quiet;
-      lying = lying;
+      quiet = false_unless drives.stacks.trouble (λ t. quiet (inl t));
+      lying = none_unless (troubled_in drives.stacks.shop) (λ x. quiet (inr x));
     }
 
 seen_with : (drive : ℕ) (access : Access) (reel : Option TroubledTape) → drive_in (session_with drive access reel) ≡ Some drive

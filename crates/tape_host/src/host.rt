@@ -2,13 +2,13 @@
 ghost use Rattle.std.specs.Prelude.{◌≡◌, ◌<◌, ◌≤◌, false, true, [], IfOk, MatchResult, length, map, replicate};
 ghost use Rattle.std.specs.Option.{option_copied, option_map};
 ghost use Rattle.drives.specs.Shop.{rack_at, slots_in};
-ghost use Rattle.drives.specs.ListShop.{IsShop, shop_of, at_rest, rest_slot, troubled_in};
+ghost use Rattle.drives.specs.ListShop.{IsShop, shop_of, at_rest, rest_slot, StacksCanFail};
 ghost use Rattle.drives.specs.Arranging.{reel_named};
 ghost use Rattle.rmt_server.specs.Memory.{session_seen};
 ghost use Rattle.rmt_server.specs.Hall.{hall};
-ghost use Rattle.tape_host.specs.Halls.{hosted, side_at, joined, ended, IsHolder, IsHeldOnce};
+ghost use Rattle.tape_host.specs.Halls.{hosted, side_at, joined, ended, all_ended, HasRoom, IsPushed, IsHolder, IsHeldOnce};
 
-use crate::side::{Next, Side, find_side, take_side};
+use crate::side::{Next, Side, find_side, put_side, take_side};
 use drives::{DriveTable, ListStacks, ListedReel, LocalHolds};
 use rmt_server::{Session, more_seats, one_holder, one_scene, untroubled_end};
 use std::alloc::{AllocError, Global};
@@ -48,8 +48,7 @@ impl Host {
         requires few { drives ≤ 64 }
         requires all { length stacks.shop.racks ≡ drives }
         requires told { IsShop stacks (shop_of stacks) }
-        requires quiet { stacks.trouble ≡ false }
-        requires lying { troubled_in stacks.shop ≡ 0 }
+        requires quiet { StacksCanFail stacks → ⊥ }
         ensures hall { IfOk result (λ h. h ≡ hosted (hall (shop_of stacks) (replicate drives 0) []) false) }
     {
         let holds = LocalHolds::new(alloc, drives)?;
@@ -112,6 +111,27 @@ impl Host {
         self.drives.holds.number_at(drive)
     }
 
+    /// How many bytes `push` takes now for this connection. None where the server's side is not live.
+    pub fn room(&self, connection: usize) -> Option<usize>
+        ensures { HasRoom (side_at self.now.hall.sides connection) result }
+    {
+        let side = find_side(&self.sides, connection)?;
+        Some(side.reader.room())
+    }
+
+    /// Takes as many bytes of what a connection sends as its reader has room for, and answers how many: none where the server's
+    /// side is not live.
+    pub fn push(&mut self, connection: usize, bytes: &[u8]) -> usize
+        ensures { IsPushed self.old connection bytes.now (side_at self.old.hall.sides connection) result self.new }
+    {
+        let Some(mut side) = take_side(&mut self.sides, connection) else {
+            return 0;
+        };
+        let count = side.reader.push(bytes);
+        put_side(&mut self.sides, connection, side);
+        count
+    }
+
     /// Ends the server's side of a connection: what it has open is closed, and the side is no longer live. Where it is not live
     /// nothing is done. Connections are numbered from 1.
     pub fn end(&mut self, connection: usize)
@@ -122,6 +142,15 @@ impl Host {
         untroubled_end();
         if let Some(mut side) = take_side(&mut self.sides, connection) {
             side.session.end(&mut self.drives);
+        }
+    }
+
+    /// Ends the server's sides of all connections, as `end` does.
+    pub fn restart(&mut self)
+        ensures { self.new ≡ hosted (all_ended self.old.hall (length self.old.hall.sides)) self.old.ready }
+    {
+        for place in 0..self.sides.len() {
+            self.end(place + 1);
         }
     }
 
