@@ -32,7 +32,7 @@ pub false_unless : (b : Bool) → (b ≡ true → ⊥) → b ≡ false
 false_unless true h = absurd (h refl)
 false_unless false h = refl
 
-none_unless : (n : ℕ) → (0 < n → ⊥) → n ≡ 0
+pub none_unless : (n : ℕ) → (0 < n → ⊥) → n ≡ 0
 none_unless zero h = refl
 none_unless (suc n) h = absurd (h (omega arith))
 

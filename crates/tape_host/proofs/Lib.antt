@@ -1,3 +1,4 @@
 pub mod Ended
 pub mod Hosted
 pub mod Pushed
+pub mod Restacked

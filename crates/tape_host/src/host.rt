@@ -1,16 +1,17 @@
 //! One server.
-ghost use Rattle.std.specs.Prelude.{◌≡◌, ◌<◌, ◌≤◌, false, true, [], IfOk, MatchResult, length, map, replicate};
+ghost use Rattle.std.specs.Prelude.{◌≡◌, ◌<◌, ◌≤◌, false, true, [], IfOk, IfErr, IsTrue, MatchResult, length, map, replicate};
 ghost use Rattle.std.specs.Option.{option_copied, option_map};
+ghost use Rattle.drives.specs.declared.fault.DriveFault.TheVariants.{OutOfMemory};
 ghost use Rattle.drives.specs.Shop.{rack_at, slots_in};
 ghost use Rattle.drives.specs.ListShop.{IsShop, shop_of, at_rest, rest_slot, StacksCanFail};
-ghost use Rattle.drives.specs.Arranging.{reel_named};
+ghost use Rattle.drives.specs.Arranging.{reel_named, may_arrange};
 ghost use Rattle.rmt_server.specs.Memory.{session_seen};
 ghost use Rattle.rmt_server.specs.Hall.{hall};
-ghost use Rattle.tape_host.specs.Halls.{hosted, side_at, joined, ended, all_ended, HasRoom, IsPushed, IsHolder, IsHeldOnce};
+ghost use Rattle.tape_host.specs.Halls.{hosted, side_at, joined, ended, all_ended, restacked, HasRoom, IsPushed, IsHolder, IsHeldOnce};
 
 use crate::side::{Next, Side, find_side, put_side, take_side};
-use drives::{DriveTable, ListStacks, ListedReel, LocalHolds};
-use rmt_server::{Session, more_seats, one_holder, one_scene, untroubled_end};
+use drives::{DriveFault, DriveTable, ListStacks, ListedReel, LocalHolds, told_orders};
+use rmt_server::{Session, more_seats, one_holder, one_scene, open_is_held, still_at, untroubled_end};
 use std::alloc::{AllocError, Global};
 use std::marker::Model;
 use std::mem;
@@ -182,5 +183,33 @@ impl Host {
         ensures { option_map at_rest (option_copied result) ≡ reel_named name.now (slots_in self.now.hall.shop) }
     {
         self.drives.stacks.reel(name)
+    }
+
+    /// Whether `arrange` can be asked for these names: no reel of the drive is latched, no name stands twice, and each is the
+    /// name of a reel of its stack or of the bin.
+    pub fn can_arrange(&self, drive: usize, names: &[&[u8]]) -> bool
+        requires { drive < length self.now.hall.shop.racks }
+        ensures { result ≡ may_arrange self.now.hall.shop drive (map (λ n. n.now) names.now) }
+    {
+        self.drives.stacks.can_arrange(drive, names)
+    }
+
+    /// An operator's act at a drive that has no holder: its stack becomes the reels of these names, in that order. Reels of the
+    /// bin leave it, and the stack's others go to the bin's end, in their order. Each reel stays as it is.
+    ///
+    /// Answers `OutOfMemory`. Nothing has changed then.
+    pub fn arrange(&mut self, drive: usize, names: &[&[u8]]) -> Result<(), DriveFault>
+        requires free { IsHolder self.old.hall drive 0 }
+        requires drive { drive < length self.old.hall.shop.racks }
+        requires may { IsTrue (may_arrange self.old.hall.shop drive (map (λ n. n.now) names.now)) }
+        ensures arranged { MatchResult result
+            (λ _. self.new ≡ hosted (restacked self.old.hall drive (map (λ n. n.now) names.now)) self.old.ready)
+            (λ _. self.new ≡ self.old) }
+        ensures fault { IfErr result (λ fault. fault ≡ OutOfMemory) }
+    {
+        told_orders();
+        open_is_held::<ListStacks>();
+        still_at::<LocalHolds, ListStacks>();
+        self.drives.stacks.arrange(drive, names)
     }
 }
