@@ -1,26 +1,25 @@
 -- What the end of one side leaves of a host.
-use Rattle.std.proofs.Common.{◌≡◌, ◌≢◌, ◌⊎◌, ℕ, zero, suc, ◌+◌, ◌<◌, ◌≤◌, ◌==◌, Bool, true, false, List, [], ◌∷◌, length, map, slice_set, slice_index, slice_index_or, option_map, Option, Some, None, MatchOption, refl, sym, ap, subst, ◌∙◌, inl, inr, arith}
-use Rattle.std.proofs.lemmas.List.{length-map, get_or_past, get_or-set_same, get_or-set_other, length-set, map-set, set-get_or}
-use Rattle.std.proofs.lemmas.Bool.Decides.{nat_tests}
+use Rattle.std.proofs.Common.{◌≡◌, ◌≢◌, ◌⊎◌, ℕ, zero, suc, ◌+◌, ◌<◌, ◌≤◌, Bool, false, List, length, map, slice_index, option_map, Option, Some, None, MatchOption, refl, sym, ap, subst, ◌∙◌, inl, inr, arith}
+use Rattle.std.proofs.lemmas.List.{get_or_past, get_or-set_same, get_or-set_other, length-set, map-set, set-get_or}
 use Rattle.std.proofs.lemmas.Grind.{common_steps}
 use Rattle.tape.specs.Trouble.{TroubledTape}
 use Rattle.tape.specs.declared.trouble.Trouble.TheVariants.{None as NoTrouble}
 use Rattle.tape.specs.contracts.troubled.TroubledReelReel.TheImpl.{ghosts as of_reel}
 use Rattle.drives.specs.Local.{IsHeldBy}
-use Rattle.drives.specs.ListShop.{ListShop, shop_of, IsShop, troubled_in}
+use Rattle.drives.specs.ListShop.{shop_of, IsShop}
 use Rattle.drives.specs.Shop.{Shop, EachReelOnce}
 use Rattle.drives.specs.Stacking.{ReelCanFail}
-use Rattle.rmt_server.specs.Session.{Scene, closed, closed_shop}
+use Rattle.rmt_server.specs.Session.{Scene}
 use Rattle.rmt_server.specs.State.{state, drive_of, reel_of, IsAt, Tells, SessionCanFail, KeepsDrives}
 use Rattle.rmt_server.specs.Opening.{word_after_close, IsClosed}
-use Rattle.rmt_server.specs.Memory.{MemoryState, in_memory, session_seen, scene_seen}
-use Rattle.rmt_server.specs.TroubledServe.{IsTroubled, IsEnded, drive_in, with_holder}
-use Rattle.rmt_server.specs.Hall.{Hall, hall, Side, side}
+use Rattle.rmt_server.specs.Memory.{MemoryState, in_memory, scene_seen}
+use Rattle.rmt_server.specs.TroubledServe.{IsTroubled, IsEnded}
+use Rattle.rmt_server.specs.Hall.{hall, Side}
 use Rattle.tape_host.specs.declared.side.Side.{Side as RealSide}
 use Rattle.tape_host.specs.declared.side.Next.{Next}
 use Rattle.tape_host.specs.declared.side.Next.TheVariants.{Nothing, Seat, Whole}
 use Rattle.tape_host.specs.Halls.{side_at, with_side_at, ended_from, ended}
-use Rattle.tape_host.specs.Hosting.{MemoryDrives, MemoryDesk, idle_desk, seen, hall_of, IsCalm, IsLive, IsIdleAt, IsWaiting, IsHosting}
+use Rattle.tape_host.specs.Hosting.{MemoryDrives, MemoryDesk, idle_desk, seen, hall_of, IsLive, IsIdleAt, IsWaiting, IsHosting}
 use Rattle.tape_host.proofs.Hosted.{false_unless, side_map, holds_open}
 
 -- what the laws of sessions say

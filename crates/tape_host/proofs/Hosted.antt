@@ -1,6 +1,6 @@
 -- How a host's drives stay those of its sides.
-use Rattle.std.proofs.Common.{◌≡◌, ◌≢◌, ◌⊎◌, ℕ, zero, suc, ◌+◌, ◌<◌, ◌≤◌, ◌==◌, Bool, true, false, IsTrue, List, [], ◌∷◌, ◌++◌, length, map, replicate, slice_set, slice_index, slice_index_or, option_map, Option, Some, None, refl, sym, ap, subst, ◌∙◌, inl, inr, arith}
-use Rattle.std.proofs.lemmas.List.{length-map, length-replicate, get_or-replicate, get_or_past, get_or-set_same, get_or-set_other, get_or_append_left, length-append, length-set, map-append, nil_from_length}
+use Rattle.std.proofs.Common.{◌≡◌, ◌⊎◌, ℕ, zero, suc, ◌+◌, ◌<◌, ◌≤◌, ◌==◌, Bool, true, false, List, [], ◌∷◌, ◌++◌, length, map, replicate, slice_index, slice_index_or, option_map, Option, Some, None, refl, sym, ap, subst, ◌∙◌, inl, inr, arith}
+use Rattle.std.proofs.lemmas.List.{length-replicate, get_or-replicate, length-append, map-append, nil_from_length}
 use Rattle.std.proofs.lemmas.Option.{same_Some}
 use Rattle.std.proofs.lemmas.Bool.Decides.{nat_tests}
 use Rattle.std.proofs.lemmas.Grind.{common_steps}
@@ -9,18 +9,18 @@ use Rattle.tape.specs.Trouble.{TroubledTape}
 use Rattle.drives.specs.declared.view.View.{View}
 use Rattle.drives.specs.Holding.{newcomer, HoldsJust}
 use Rattle.drives.specs.Local.{Holders, holders, IsSeatOf, IsHeldBy}
-use Rattle.drives.specs.ListShop.{ListShop, shop_of, IsShop, troubled_in, StacksCanFail}
+use Rattle.drives.specs.ListShop.{shop_of, IsShop, troubled_in, StacksCanFail}
 use Rattle.rmt_server.specs.declared.access.Access.{Access}
 use Rattle.rmt_server.specs.declared.session.desk.Opened.{Opened}
 use Rattle.rmt_server.specs.Session.PlainSession.{Idle}
 use Rattle.rmt_server.specs.State.{state, drive_of, IsAt}
 use Rattle.rmt_server.specs.Memory.{in_memory, session_seen, session_with}
 use Rattle.rmt_server.specs.TroubledServe.{drive_in}
-use Rattle.rmt_server.specs.Hall.{Hall, hall, Side, side}
+use Rattle.rmt_server.specs.Hall.{hall, side}
 use Rattle.tape_host.specs.declared.side.Side.{Side as RealSide}
 use Rattle.tape_host.specs.declared.side.Next.{Next}
 use Rattle.tape_host.specs.declared.side.Next.TheVariants.{Nothing, Seat, Whole}
-use Rattle.tape_host.specs.Halls.{side_at, with_side_at, drive_open_by, drive_open, IsHolder, IsHeldOnce, joined}
+use Rattle.tape_host.specs.Halls.{side_at, drive_open_by, IsHeldOnce, joined}
 use Rattle.tape_host.specs.Hosting.{MemoryDrives, MemoryDesk, seen, hall_of, is_nothing, IsIdle, IsMade, IsCalm, IsLive, IsIdleAt, IsWaiting, IsHosting}
 
 -- without connections no side is live
@@ -96,10 +96,10 @@ module _ {drives : MemoryDrives} {sides : List (Option RealSide)} {next : Next} 
   -- one holder
   pub held_once : IsHeldOnce (hall_of drives sides)
   held_once d k x = (
-      λ holder. (
-          let found = h.held d k holder x in
-          ap drive_open_by (side_map seen sides k ∙ ap (option_map seen) found.1) ∙ seen_drive found.0.session.opened ∙ holds_open d k found.0 (h.live k found.0 found.1) holder),
-      λ o. open_back d k (side_at sides k) refl (ap drive_open_by (sym (side_map seen sides k)) ∙ o),
+    λ holder. (
+        let found = h.held d k holder x in
+        ap drive_open_by (side_map seen sides k ∙ ap (option_map seen) found.1) ∙ seen_drive found.0.session.opened ∙ holds_open d k found.0 (h.live k found.0 found.1) holder),
+    λ o. open_back d k (side_at sides k) refl (ap drive_open_by (sym (side_map seen sides k)) ∙ o),
   )
 
 -- what the law of more seats says
@@ -125,17 +125,20 @@ seated_hosting more drives sides h seat new e number own idle =
         calm = l.calm;
       });
       held = h.held;
-      waiting = (ap (λ n. n + 1) h.waiting, record {
-        at = record {
-          own = mine;
-          enough = omega (arith, h.paired);
-          held = idle;
-          below = λ d x. absurd cc;
-          latched = λ d x. absurd cc;
-        };
-        number = ap (λ (v : View). v.number) number ∙ ap (λ n. n + 1) h.waiting;
-        idle = refl;
-      });
+      waiting = (
+        ap (λ n. n + 1) h.waiting,
+        record {
+          at = record {
+            own = mine;
+            enough = omega (arith, h.paired);
+            held = idle;
+            below = λ d x. absurd cc;
+            latched = λ d x. absurd cc;
+          };
+          number = ap (λ (v : View). v.number) number ∙ ap (λ n. n + 1) h.waiting;
+          idle = refl;
+        },
+      );
       told = h.told;
       paired = h.paired;
       quiet = h.quiet;

@@ -1,15 +1,15 @@
 -- What a piece that one side takes in leaves of a host.
-use Rattle.std.proofs.Common.{◌≡◌, ◌≢◌, ◌⊎◌, ℕ, zero, suc, ◌<◌, ◌≤◌, Bool, List, ◌++◌, length, map, take, option_map, Option, Some, None, refl, sym, ap, subst, ◌∙◌, inl, inr, arith}
+use Rattle.std.proofs.Common.{◌≡◌, ◌≢◌, ◌⊎◌, ℕ, zero, suc, ◌<◌, Bool, List, map, option_map, Option, Some, None, refl, sym, ap, subst, ◌∙◌, inl, inr, arith}
 use Rattle.std.proofs.lemmas.List.{set-set}
 use Rattle.std.proofs.lemmas.Option.{same_Some}
 use Rattle.rmt_wire.specs.RequestReader.{RequestHeld, Unread}
 use Rattle.drives.specs.Local.{IsHeldBy}
 use Rattle.drives.specs.ListShop.{shop_of}
-use Rattle.rmt_server.specs.Hall.{hall, Side}
+use Rattle.rmt_server.specs.Hall.{hall}
 use Rattle.tape_host.specs.declared.side.Side.{Side as RealSide}
 use Rattle.tape_host.specs.declared.side.Next.{Next}
-use Rattle.tape_host.specs.Halls.{Hosted, hosted, side_at, with_side_at, with_reached, HasRoom, TakesIn, IsPushed}
-use Rattle.tape_host.specs.Hosting.{MemoryDrives, MemoryDesk, seen, hall_of, IsLive, IsWaiting, IsHosting}
+use Rattle.tape_host.specs.Halls.{Hosted, hosted, side_at, with_side_at, TakesIn, IsPushed}
+use Rattle.tape_host.specs.Hosting.{MemoryDrives, seen, hall_of, IsLive, IsWaiting, IsHosting}
 use Rattle.tape_host.proofs.Hosted.{side_map}
 use Rattle.tape_host.proofs.Ended.{side_within, side_other, side_same, length_with, map_with}
 

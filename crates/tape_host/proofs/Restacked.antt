@@ -1,7 +1,7 @@
 -- What an operator's order leaves of a host.
-use Rattle.std.proofs.Common.{◌≡◌, ◌≢◌, ℕ, ◌+◌, ◌<◌, Bool, true, false, List, length, map, option_map, Option, Some, None, Result, Ok, Err, MatchResult, IfErr, refl, sym, ap, subst, ◌∙◌, inl, inr, arith}
+use Rattle.std.proofs.Common.{◌≡◌, ◌≢◌, ℕ, ◌+◌, Bool, false, List, length, map, option_map, Option, Some, Result, Ok, Err, MatchResult, refl, sym, ap, ◌∙◌, inl, inr, arith}
 use Rattle.drives.specs.declared.fault.DriveFault.{DriveFault}
-use Rattle.drives.specs.Arranging.{arranged, IsArranged}
+use Rattle.drives.specs.Arranging.{arranged}
 use Rattle.drives.specs.Local.{IsSeatOf, IsHeldBy}
 use Rattle.drives.specs.ListShop.{ListShop, shop_of, IsShop, troubled_in, StacksCanFail}
 use Rattle.drives.specs.Stacking.{HasLatched}
@@ -12,7 +12,7 @@ use Rattle.tape_host.specs.declared.side.Side.{Side as RealSide}
 use Rattle.tape_host.specs.declared.side.Next.{Next}
 use Rattle.tape_host.specs.declared.side.Next.TheVariants.{Nothing, Seat, Whole}
 use Rattle.tape_host.specs.Halls.{hosted, restacked}
-use Rattle.tape_host.specs.Hosting.{MemoryDrives, MemoryDesk, idle_desk, seen, hall_of, IsLive, IsIdleAt, IsWaiting, IsHosting}
+use Rattle.tape_host.specs.Hosting.{MemoryDrives, MemoryDesk, idle_desk, seen, hall_of, IsIdleAt, IsWaiting, IsHosting}
 use Rattle.tape_host.proofs.Hosted.{false_unless, none_unless}
 
 -- what the laws of sessions say
@@ -64,6 +64,6 @@ module _ (free : LeavesFree) (elsewhere : StaysElsewhere) {drives : MemoryDrives
 pub restacked_seen : {U : Type 0} (drives : MemoryDrives) (stacks : ListShop) (sides : List (Option RealSide)) (ready : Bool) (d : ℕ) (names : List (List ℕ)) (result : Result U DriveFault)
     → MatchResult result (λ _. shop_of stacks ≡ arranged (shop_of drives.stacks) d names) (λ _. shop_of stacks ≡ shop_of drives.stacks)
     → MatchResult result (λ _. hosted (hall_of (record { holds = drives.holds; stacks = stacks }) sides) ready ≡ hosted (restacked (hall_of drives sides) d names) ready)
-        (λ _. hosted (hall_of (record { holds = drives.holds; stacks = stacks }) sides) ready ≡ hosted (hall_of drives sides) ready)
+    (λ _. hosted (hall_of (record { holds = drives.holds; stacks = stacks }) sides) ready ≡ hosted (hall_of drives sides) ready)
 restacked_seen drives stacks sides ready d names (Ok x) e = ap (λ s. hosted (hall s drives.holds.numbers (map (option_map seen) sides)) ready) e
 restacked_seen drives stacks sides ready d names (Err why) e = ap (λ s. hosted (hall s drives.holds.numbers (map (option_map seen) sides)) ready) e

@@ -11,7 +11,9 @@ ghost use Rattle.tape_host.specs.Halls.{hosted, side_at, joined, ended, all_ende
 
 use crate::side::{Next, Side, find_side, put_side, take_side};
 use drives::{DriveFault, DriveTable, ListStacks, ListedReel, LocalHolds, told_orders};
-use rmt_server::{Session, more_seats, one_holder, one_scene, open_is_held, still_at, untroubled_end};
+use rmt_server::{
+    Session, more_seats, one_holder, one_scene, open_is_held, still_at, untroubled_end,
+};
 use std::alloc::{AllocError, Global};
 use std::marker::Model;
 use std::mem;

@@ -40,14 +40,7 @@ fn rooms(host: &mut Host) -> Result<[Option<usize>; 6], Fail> {
 }
 
 /// 65,548 bytes is the room of a reader to which nothing was pushed.
-const ROOMS: [Option<usize>; 6] = [
-    None,
-    Some(65548),
-    Some(65543),
-    None,
-    Some(65548),
-    Some(5),
-];
+const ROOMS: [Option<usize>; 6] = [None, Some(65548), Some(65543), None, Some(65548), Some(5)];
 
 #[test]
 fn ended_sides_take_nothing(rt: HostRuntime) -> Result<(), Fail> {

@@ -7,10 +7,9 @@ use Rattle.tape_host.proofs.host.Host.admit.Goals as goal
 
 pub invariant_of-self : goal.invariant_of-self
 invariant_of-self c =
-    let before = subst (IsHosting c.self.inside.drives c.self.inside.sides.items) (sym c.replace.ensures.value ∙ c.in-Whole.is) c.self.invariant.0 in
-    (
+    let before = subst (IsHosting c.self.inside.drives c.self.inside.sides.items) (sym c.replace.ensures.value ∙ c.in-Whole.is) c.self.invariant.0 in (
       subst (λ n. IsHosting c.self.inside.drives c.push_reserved.new.self.items n) (sym c.replace.ensures.after)
-      (subst (λ xs. IsHosting c.self.inside.drives xs Nothing) (sym c.push_reserved.ensures.items) (joined_hosting before)),
+          (subst (λ xs. IsHosting c.self.inside.drives xs Nothing) (sym c.push_reserved.ensures.items) (joined_hosting before)),
       λ whole. let bad = sym (ap is_whole c.replace.ensures.after) ∙ whole in absurd cc,
     )
 

@@ -6,10 +6,10 @@ use Rattle.tape_host.proofs.host.Host.arrange.Goals as goal
 
 pub invariant_of-self : goal.invariant_of-self
 invariant_of-self c = (
-    restacked_hosting c.open_is_held.ensures.free c.still_at.ensures.elsewhere c.self.invariant.0 c.args.drive
-    (subst (λ (v : Hosted). IsHolder v.hall c.args.drive 0) (sym c.self.view_is) c.requires.free) c.arrange.new.self
-    c.arrange.ensures.same_drives c.arrange.ensures.elsewhere c.arrange.ensures.told c.arrange.ensures.quiet,
-    c.self.invariant.1,
+  restacked_hosting c.open_is_held.ensures.free c.still_at.ensures.elsewhere c.self.invariant.0 c.args.drive
+      (subst (λ (v : Hosted). IsHolder v.hall c.args.drive 0) (sym c.self.view_is) c.requires.free) c.arrange.new.self
+      c.arrange.ensures.same_drives c.arrange.ensures.elsewhere c.arrange.ensures.told c.arrange.ensures.quiet,
+  c.self.invariant.1,
 )
 
 pub returns-clause-arranged : goal.returns-clause-arranged

@@ -11,14 +11,23 @@ invariant_of-self-2 c =
     let k = c.args.connection in
     let is = sym c.take_side.ensures.taken ∙ c.in-Some.is in
     let read = with_reader c.in-Some.side c.push-count.new.self in
-    let readable = (c.self.invariant.0.live k c.in-Some.side is).readable in
-    (
+    let readable = (c.self.invariant.0.live k c.in-Some.side is).readable in (
       subst (λ xs. IsHosting c.self.inside.drives xs c.self.inside.next)
-      (sym (c.put_side.ensures.put ∙ ap (λ xs. with_side_at xs k (Some read)) c.take_side.ensures.left ∙ put_back sides k None (Some read)))
-      (pushed_hosting c.self.invariant.0 k c.in-Some.side is c.push-count.new.self
-      (readable.0 ++ take c.push-count.result c.args.bytes.now, c.push-count.ensures.unread readable.0 readable.1)),
-      λ whole. omega (arith, c.put_side.new.sides.ok.0, ap length c.put_side.ensures.put, length_with c.take_side.new.sides.items k (Some read),
-      ap length c.take_side.ensures.left, length_with sides k None, c.self.inside.sides.ok.0, c.put_side.ensures.room, c.take_side.ensures.room, c.self.invariant.1 whole),
+          (sym (c.put_side.ensures.put ∙ ap (λ xs. with_side_at xs k (Some read)) c.take_side.ensures.left ∙ put_back sides k None (Some read)))
+          (pushed_hosting c.self.invariant.0 k c.in-Some.side is c.push-count.new.self
+          (readable.0 ++ take c.push-count.result c.args.bytes.now, c.push-count.ensures.unread readable.0 readable.1)),
+      λ whole. omega (
+        arith,
+        c.put_side.new.sides.ok.0,
+        ap length c.put_side.ensures.put,
+        length_with c.take_side.new.sides.items k (Some read),
+        ap length c.take_side.ensures.left,
+        length_with sides k None,
+        c.self.inside.sides.ok.0,
+        c.put_side.ensures.room,
+        c.take_side.ensures.room,
+        c.self.invariant.1 whole,
+      ),
     )
 
 pub returns : goal.returns
