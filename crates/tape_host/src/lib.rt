@@ -6,7 +6,5 @@
 
 mod host;
 mod side;
-#[cfg(test)]
-mod tests;
 
 pub use host::Host;
