@@ -1,0 +1,169 @@
+-- What the end of one side leaves of a host.
+use Rattle.std.proofs.Common.{◌≡◌, ◌≢◌, ◌⊎◌, ℕ, zero, suc, ◌+◌, ◌<◌, ◌≤◌, Bool, false, List, length, map, slice_index, option_map, Option, Some, None, MatchOption, refl, sym, ap, subst, ◌∙◌, inl, inr, arith}
+use Rattle.std.proofs.lemmas.List.{get_or_past, get_or-set_same, get_or-set_other, length-set, map-set, set-get_or}
+use Rattle.std.proofs.lemmas.Grind.{common_steps}
+use Rattle.tape.specs.Trouble.{TroubledTape}
+use Rattle.tape.specs.declared.trouble.Trouble.TheVariants.{None as NoTrouble}
+use Rattle.tape.specs.contracts.troubled.TroubledReelReel.TheImpl.{ghosts as of_reel}
+use Rattle.drives.specs.Local.{IsHeldBy}
+use Rattle.drives.specs.ListShop.{shop_of, IsShop}
+use Rattle.drives.specs.Shop.{Shop, EachReelOnce}
+use Rattle.drives.specs.Stacking.{ReelCanFail}
+use Rattle.rmt_server.specs.Session.{Scene}
+use Rattle.rmt_server.specs.State.{state, drive_of, reel_of, IsAt, Tells, SessionCanFail, KeepsDrives}
+use Rattle.rmt_server.specs.Opening.{word_after_close, IsClosed}
+use Rattle.rmt_server.specs.Memory.{MemoryState, in_memory, scene_seen}
+use Rattle.rmt_server.specs.TroubledServe.{IsTroubled, IsEnded}
+use Rattle.rmt_server.specs.Hall.{hall, Side}
+use Rattle.tape_host.specs.declared.side.Side.{Side as RealSide}
+use Rattle.tape_host.specs.declared.side.Next.{Next}
+use Rattle.tape_host.specs.declared.side.Next.TheVariants.{Nothing, Seat, Whole}
+use Rattle.tape_host.specs.Halls.{side_at, with_side_at, ended_from, ended}
+use Rattle.tape_host.specs.Hosting.{MemoryDrives, MemoryDesk, idle_desk, seen, hall_of, IsLive, IsIdleAt, IsWaiting, IsHosting}
+use Rattle.tape_host.proofs.Hosted.{false_unless, side_map, holds_open}
+
+-- what the laws of sessions say
+abbrev pub OthersStay : Type 0
+OthersStay = (old new : MemoryDrives) (one after other : MemoryDesk) → IsAt in_memory (state old one) → IsAt in_memory (state old other)
+    → other.seat.number ≢ one.seat.number → IsAt in_memory (state new after) → KeepsDrives in_memory (state old one) (state new after)
+    → IsAt in_memory (state new other)
+
+abbrev pub TellsScene : Type 0
+TellsScene = (x : MemoryState) → IsShop x.drives.stacks (shop_of x.drives.stacks) → Tells in_memory x (scene_seen x)
+
+abbrev pub EndsUntroubled : Type 0
+EndsUntroubled = (stacks : Bool) (old new : MemoryState) (before : Scene) → IsAt in_memory old → Tells in_memory old before
+    → IsTroubled NoTrouble stacks old → IsClosed in_memory old new → IsEnded old before new
+
+eq_or_ne : (m n : ℕ) → (m ≡ n) ⊎ (m ≢ n)
+eq_or_ne m n = grind arith
+
+le_or_lt : (m n : ℕ) → (m ≤ n) ⊎ (n < m)
+le_or_lt m n = grind arith
+
+some_is : (a b : ℕ) → Some a ≡ Some b → a ≡ b
+some_is a b o = cc
+
+hall_is : {x y : Shop} {a b : List ℕ} {m n : List (Option Side)} → x ≡ y → a ≡ b → m ≡ n → hall x a m ≡ hall y b n
+hall_is {x} {y} {a} {b} {m} {n} e f g = ap (λ z. hall z a m) e ∙ ap (λ z. hall y z m) f ∙ ap (λ z. hall y b z) g
+
+-- sides at places
+pub side_within : {S : Type 0} (sides : List (Option S)) (k : ℕ) (s : S) → side_at sides k ≡ Some s → (1 ≤ k) × (k ≤ length sides)
+side_within sides zero s e = absurd cc
+side_within sides (suc i) s e = elim (le_or_lt (length sides) i) [
+  | inl past ↦ (let none = get_or_past sides i None past in absurd cc)
+  | inr l ↦ (omega arith, omega (arith, l))
+]
+
+pub side_other : {S : Type 0} (sides : List (Option S)) (k n : ℕ) (x : Option S) → n ≢ k → side_at (with_side_at sides k x) n ≡ side_at sides n
+side_other sides zero n x apart = refl
+side_other sides (suc i) zero x apart = refl
+side_other sides (suc i) (suc j) x apart = get_or-set_other sides i j x None (λ same. apart (ap suc same))
+
+pub side_same : {S : Type 0} (sides : List (Option S)) (k : ℕ) (x : Option S) → 1 ≤ k → k ≤ length sides → side_at (with_side_at sides k x) k ≡ x
+side_same sides zero x first last = absurd (omega arith)
+side_same sides (suc i) x first last = get_or-set_same sides i x None (omega arith)
+
+pub length_with : {S : Type 0} (sides : List (Option S)) (k : ℕ) (x : Option S) → length (with_side_at sides k x) ≡ length sides
+length_with sides zero x = refl
+length_with sides (suc i) x = length-set sides i x
+
+pub map_with : {A B : Type 0} (f : A → B) (sides : List (Option A)) (k : ℕ) (x : Option A)
+    → map (option_map f) (with_side_at sides k x) ≡ with_side_at (map (option_map f) sides) k (option_map f x)
+map_with f sides zero x = refl
+map_with f sides (suc i) x = map-set (option_map f) sides i x
+
+pub with_own : {S : Type 0} (sides : List (Option S)) (k : ℕ) → with_side_at sides k (side_at sides k) ≡ sides
+with_own sides zero = refl
+with_own sides (suc i) = set-get_or sides i None
+
+pub with_none : {S : Type 0} (sides : List (Option S)) (k : ℕ) → side_at sides k ≡ None → with_side_at sides k None ≡ sides
+with_none sides k e = subst (λ x. with_side_at sides k x ≡ sides) e (with_own sides k)
+
+-- a side that is not live has no end
+pub ended_none : (drives : MemoryDrives) (sides : List (Option RealSide)) (k : ℕ) → side_at sides k ≡ None → hall_of drives sides ≡ ended (hall_of drives sides) k
+ended_none drives sides k e = ap (ended_from (hall_of drives sides) k) (sym (side_map seen sides k ∙ ap (option_map seen) e))
+
+-- who held a drive that is held after a close
+still_held : (drive : Option ℕ) (d m n : ℕ) → word_after_close drive d m ≡ n → 0 < n → (m ≡ n) × (drive ≢ Some d)
+still_held None d m n e x = (e, λ o. absurd cc)
+still_held (Some drive) d m n e x = elim (eq_or_ne d drive) [
+  | inl same ↦ absurd (grind (arith, common_steps))
+  | inr other ↦ (grind (arith, common_steps), λ o. other (sym (some_is drive d o)))
+]
+
+calm_reel : (reel : Option TroubledTape) → MatchOption reel (Unit {0}) (λ r. r.trouble ≡ NoTrouble) → ReelCanFail of_reel reel → ⊥
+calm_reel None calm f = f
+calm_reel (Some r) calm f = f calm
+
+module _ (others : OthersStay) {drives drives' : MemoryDrives} {k : ℕ} {one after : MemoryDesk} (number : one.seat.number ≡ k)
+    (at : IsAt in_memory (state drives one)) (at' : IsAt in_memory (state drives' after))
+    (kept : KeepsDrives in_memory (state drives one) (state drives' after)) where
+  pub desk_stays : (n : ℕ) (desk : MemoryDesk) → n ≢ k → desk.seat.number ≡ n → IsAt in_memory (state drives desk) → IsAt in_memory (state drives' desk)
+  desk_stays n desk apart e a = others drives drives' one after desk at a (λ same. apart (sym e ∙ same ∙ number)) at' kept
+
+  pub live_stays : (n : ℕ) (s : RealSide) → n ≢ k → IsLive drives n s → IsLive drives' n s
+  live_stays n s apart l = record {
+    at = desk_stays n s.session apart l.number l.at;
+    number = l.number;
+    readable = l.readable;
+    calm = l.calm;
+  }
+
+  idle_stays : (n : ℕ) (desk : MemoryDesk) → n ≢ k → IsIdleAt drives n desk → IsIdleAt drives' n desk
+  idle_stays n desk apart i = record { at = desk_stays n desk apart i.number i.at; number = i.number; idle = i.idle }
+
+  pub waiting_stays : (n : ℕ) (next : Next) → k ≤ n → drives'.holds.last ≡ drives.holds.last → IsWaiting drives n next → IsWaiting drives' n next
+  waiting_stays n Nothing within same w = same ∙ w
+  waiting_stays n (Seat seat) within same w = (same ∙ w.0, idle_stays (n + 1) (idle_desk seat) (λ e. absurd (omega (arith, e, within))) w.1)
+  waiting_stays n (Whole s) within same w = (same ∙ w.0, idle_stays (n + 1) s.session (λ e. absurd (omega (arith, e, within))) w.1, w.2)
+
+module _ (others : OthersStay) (scene : TellsScene) (ends : EndsUntroubled) {drives : MemoryDrives} {sides : List (Option RealSide)}
+    {next : Next} (h : IsHosting drives sides next) (k : ℕ) (s : RealSide) (is : side_at sides k ≡ Some s) (drives' : MemoryDrives) (after : MemoryDesk)
+    (c : IsClosed in_memory (state drives s.session) (state drives' after)) where
+  live : IsLive drives k s
+  live = h.live k s is
+
+  calm_before : SessionCanFail in_memory (state drives s.session) → ⊥
+  calm_before (inl (inl f)) = let q = h.quiet in absurd cc
+  calm_before (inl (inr f)) = absurd (omega (arith, f, h.lying))
+  calm_before (inr f) = calm_reel (reel_of s.session.opened) live.calm f
+
+  left : IsEnded (state drives s.session) (scene_seen (state drives s.session)) (state drives' after)
+  left = ends false (state drives s.session) (state drives' after) (scene_seen (state drives s.session)) live.at (scene (state drives s.session) h.told)
+      record { online = live.calm; next = h.quiet; lying = h.lying } c
+
+  ended_live : (n : ℕ) (x : RealSide) → side_at (with_side_at sides k None) n ≡ Some x → IsLive drives' n x
+  ended_live n x e = elim (eq_or_ne n k) [
+    | inl same ↦ (
+        let within = side_within sides k s is in
+        let none = side_same sides k None within.0 within.1 in
+        let found = subst (λ m. side_at (with_side_at sides k None) m ≡ Some x) same e in absurd cc)
+    | inr apart ↦ live_stays others live.number live.at c.at c.kept n x apart (h.live n x (sym (side_other sides k n None apart) ∙ e))
+  ]
+
+  ended_held : (d n : ℕ) → IsHeldBy drives'.holds d n → 0 < n → (x : RealSide) × (side_at (with_side_at sides k None) n ≡ Some x)
+  ended_held d n holder x =
+      let l : d < length drives.holds.numbers = subst (λ m. d < m) c.kept.same_holds holder.0 in
+      let word = c.told d (slice_index drives.holds.numbers d) (l, refl) in
+      let was = still_held (drive_of s.session.opened) d (slice_index drives.holds.numbers d) n (sym word.1 ∙ holder.1) x in
+      let found = h.held d n (l, was.0) x in
+      let apart : n ≢ k = λ same. was.1 (holds_open h d k s live (l, was.0 ∙ same)) in
+      (found.0, side_other sides k n None apart ∙ found.1)
+
+  pub ended_hosting : IsHosting drives' (with_side_at sides k None) next
+  ended_hosting = record {
+    live = ended_live;
+    held = ended_held;
+    waiting = subst (λ n. IsWaiting drives' n next) (sym (length_with sides k None))
+        (waiting_stays others live.number live.at c.at c.kept (length sides) next (side_within sides k s is).1 c.same_seats h.waiting);
+    told = (refl, subst EachReelOnce left.tells.shop.0 left.tells.shop.1);
+    paired = c.kept.same_holds ∙ h.paired ∙ sym c.kept.same_stacks;
+    quiet = false_unless drives'.stacks.trouble (λ t. calm_before (c.quiet (inl (inl t))));
+    lying = left.lying;
+  }
+
+  pub ended_hall : hall_of drives' (with_side_at sides k None) ≡ ended (hall_of drives sides) k
+  ended_hall =
+      hall_is (sym left.tells.shop.0) left.held (map_with seen sides k None)
+      ∙ ap (ended_from (hall_of drives sides) k) (sym (side_map seen sides k ∙ ap (option_map seen) is))

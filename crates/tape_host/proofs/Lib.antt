@@ -1,0 +1,4 @@
+pub mod Ended
+pub mod Hosted
+pub mod Pushed
+pub mod Restacked

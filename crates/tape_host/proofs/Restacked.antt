@@ -1,0 +1,69 @@
+-- What an operator's order leaves of a host.
+use Rattle.std.proofs.Common.{◌≡◌, ◌≢◌, ℕ, ◌+◌, Bool, false, List, length, map, option_map, Option, Some, Result, Ok, Err, MatchResult, refl, sym, ap, ◌∙◌, inl, inr, arith}
+use Rattle.drives.specs.declared.fault.DriveFault.{DriveFault}
+use Rattle.drives.specs.Arranging.{arranged}
+use Rattle.drives.specs.Local.{IsSeatOf, IsHeldBy}
+use Rattle.drives.specs.ListShop.{ListShop, shop_of, IsShop, troubled_in, StacksCanFail}
+use Rattle.drives.specs.Stacking.{HasLatched}
+use Rattle.rmt_server.specs.State.{state, drive_of, IsAt}
+use Rattle.rmt_server.specs.Memory.{in_memory}
+use Rattle.rmt_server.specs.Hall.{hall}
+use Rattle.tape_host.specs.declared.side.Side.{Side as RealSide}
+use Rattle.tape_host.specs.declared.side.Next.{Next}
+use Rattle.tape_host.specs.declared.side.Next.TheVariants.{Nothing, Seat, Whole}
+use Rattle.tape_host.specs.Halls.{hosted, restacked}
+use Rattle.tape_host.specs.Hosting.{MemoryDrives, MemoryDesk, idle_desk, seen, hall_of, IsIdleAt, IsWaiting, IsHosting}
+use Rattle.tape_host.proofs.Hosted.{false_unless, none_unless}
+
+-- what the laws of sessions say
+abbrev pub LeavesFree : Type 0
+LeavesFree = (drives : MemoryDrives) (desk : MemoryDesk) (d : ℕ) → IsAt in_memory (state drives desk) → IsHeldBy drives.holds d 0 → drive_of desk.opened ≢ Some d
+
+abbrev pub StaysElsewhere : Type 0
+StaysElsewhere = (old new : MemoryDrives) (desk : MemoryDesk) (d : ℕ) → IsAt in_memory (state old desk) → drive_of desk.opened ≢ Some d
+    → IsSeatOf new.holds desk.seat → length new.holds.numbers ≡ length old.holds.numbers
+    → length new.stacks.shop.racks ≡ length old.stacks.shop.racks
+    → ((e : ℕ) → e ≢ d → HasLatched IsShop old.stacks e → HasLatched IsShop new.stacks e) → IsAt in_memory (state new desk)
+
+cannot : (stacks : ListShop) → stacks.trouble ≡ false → troubled_in stacks.shop ≡ 0 → StacksCanFail stacks → ⊥
+cannot stacks quiet lying (inl f) = absurd cc
+cannot stacks quiet lying (inr f) = absurd (omega (arith, f, lying))
+
+module _ (free : LeavesFree) (elsewhere : StaysElsewhere) {drives : MemoryDrives} {sides : List (Option RealSide)} {next : Next}
+    (h : IsHosting drives sides next) (d : ℕ) (none : IsHeldBy drives.holds d 0) (stacks : ListShop)
+    (same : length stacks.shop.racks ≡ length drives.stacks.shop.racks)
+    (others : (e : ℕ) → e ≢ d → HasLatched IsShop drives.stacks e → HasLatched IsShop stacks e) where
+  abbrev after : MemoryDrives
+  after = record { holds = drives.holds; stacks = stacks }
+
+  desk_stays : (desk : MemoryDesk) → IsAt in_memory (state drives desk) → IsAt in_memory (state after desk)
+  desk_stays desk at = elsewhere drives after desk d at (free drives desk d at none) at.own refl same others
+
+  idle_stays : (n : ℕ) (desk : MemoryDesk) → IsIdleAt drives n desk → IsIdleAt after n desk
+  idle_stays n desk i = record { at = desk_stays desk i.at; number = i.number; idle = i.idle }
+
+  waiting_stays : (n : ℕ) (x : Next) → IsWaiting drives n x → IsWaiting after n x
+  waiting_stays n Nothing w = w
+  waiting_stays n (Seat seat) w = (w.0, idle_stays (n + 1) (idle_desk seat) w.1)
+  waiting_stays n (Whole s) w = (w.0, idle_stays (n + 1) s.session w.1, w.2)
+
+  pub restacked_hosting : IsShop stacks (shop_of stacks) → (StacksCanFail stacks → StacksCanFail drives.stacks) → IsHosting after sides next
+  restacked_hosting told quiet =
+      let calm : StacksCanFail drives.stacks → ⊥ = cannot drives.stacks h.quiet h.lying in
+      record {
+        live = λ k s e. (let l = h.live k s e in record { at = desk_stays s.session l.at; number = l.number; readable = l.readable; calm = l.calm });
+        held = h.held;
+        waiting = waiting_stays (length sides) next h.waiting;
+        told = told;
+        paired = h.paired ∙ sym same;
+        quiet = false_unless stacks.trouble (λ t. calm (quiet (inl t)));
+        lying = none_unless (troubled_in stacks.shop) (λ x. calm (quiet (inr x)));
+      }
+
+-- the order is seen, or nothing where it was refused
+pub restacked_seen : {U : Type 0} (drives : MemoryDrives) (stacks : ListShop) (sides : List (Option RealSide)) (ready : Bool) (d : ℕ) (names : List (List ℕ)) (result : Result U DriveFault)
+    → MatchResult result (λ _. shop_of stacks ≡ arranged (shop_of drives.stacks) d names) (λ _. shop_of stacks ≡ shop_of drives.stacks)
+    → MatchResult result (λ _. hosted (hall_of (record { holds = drives.holds; stacks = stacks }) sides) ready ≡ hosted (restacked (hall_of drives sides) d names) ready)
+    (λ _. hosted (hall_of (record { holds = drives.holds; stacks = stacks }) sides) ready ≡ hosted (hall_of drives sides) ready)
+restacked_seen drives stacks sides ready d names (Ok x) e = ap (λ s. hosted (hall s drives.holds.numbers (map (option_map seen) sides)) ready) e
+restacked_seen drives stacks sides ready d names (Err why) e = ap (λ s. hosted (hall s drives.holds.numbers (map (option_map seen) sides)) ready) e

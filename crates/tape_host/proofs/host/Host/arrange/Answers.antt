@@ -1,0 +1,22 @@
+use Rattle.std.proofs.Common.{◌≡◌, map, MatchResult, sym, subst}
+use Rattle.tape_host.specs.Halls.{Hosted, hosted, restacked, IsHolder}
+use Rattle.tape_host.specs.Hosting.{hall_of, is_whole}
+use Rattle.tape_host.proofs.Restacked.{restacked_hosting, restacked_seen}
+use Rattle.tape_host.proofs.host.Host.arrange.Goals as goal
+
+pub invariant_of-self : goal.invariant_of-self
+invariant_of-self c = (
+  restacked_hosting c.open_is_held.ensures.free c.still_at.ensures.elsewhere c.self.invariant.0 c.args.drive
+      (subst (λ (v : Hosted). IsHolder v.hall c.args.drive 0) (sym c.self.view_is) c.requires.free) c.arrange.new.self
+      c.arrange.ensures.same_drives c.arrange.ensures.elsewhere c.arrange.ensures.told c.arrange.ensures.quiet,
+  c.self.invariant.1,
+)
+
+pub returns-clause-arranged : goal.returns-clause-arranged
+returns-clause-arranged c =
+    let drives = c.self.inside.drives in
+    let names = map (λ n. n.now) c.args.names.now in
+    let ready = is_whole c.self.inside.next in
+    let new = hosted (hall_of (record { holds = drives.holds; stacks = c.arrange.new.self }) c.self.inside.sides.items) ready in
+    subst (λ (v : Hosted). MatchResult c.arrange.result (λ _. new ≡ hosted (restacked v.hall c.args.drive names) v.ready) (λ _. new ≡ v)) c.self.view_is
+    (restacked_seen drives c.arrange.new.self c.self.inside.sides.items ready c.args.drive names c.arrange.result c.arrange.ensures.told_order)

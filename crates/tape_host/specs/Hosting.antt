@@ -1,0 +1,96 @@
+-- What a host has in memory, and what ties its drives to the sessions of its connections.
+use Rattle.std.specs.Prelude.{◌≡◌, ◌⊎◌, ℕ, ◌+◌, ◌<◌, Bool, true, false, List, [], length, map, option_map, Option, Some, None, MatchOption}
+use Rattle.rmt_wire.specs.RequestReader.{Unread}
+use Rattle.tape.specs.Trouble.{TroubledTape}
+use Rattle.tape.specs.declared.trouble.Trouble.TheVariants.{None as NoTrouble}
+use Rattle.drives.specs.declared.table.DriveTable.{DriveTable}
+use Rattle.drives.specs.declared.view.View.{View}
+use Rattle.drives.specs.Holding.{HoldsJust}
+use Rattle.drives.specs.Local.{Holders, IsHeldBy}
+use Rattle.drives.specs.ListShop.{ListShop, shop_of, IsShop, troubled_in}
+use Rattle.rmt_server.specs.declared.session.desk.Opened.{Opened}
+use Rattle.rmt_server.specs.declared.session.desk.Desk.{Desk}
+use Rattle.rmt_server.specs.State.{state, reel_of, IsAt}
+use Rattle.rmt_server.specs.Memory.{in_memory, session_seen}
+use Rattle.rmt_server.specs.Hall.{Hall, hall, Side, side}
+use Rattle.tape_host.specs.declared.side.Side.{Side as RealSide}
+use Rattle.tape_host.specs.declared.side.Next.{Next}
+use Rattle.tape_host.specs.declared.side.Next.TheVariants.{Nothing, Seat, Whole}
+use Rattle.tape_host.specs.Halls.{side_at}
+
+abbrev pub MemoryDrives : Type 0
+MemoryDrives = DriveTable Holders ListShop View TroubledTape
+
+-- a seat and what it has open
+abbrev pub MemoryDesk : Type 0
+MemoryDesk = Desk View TroubledTape
+
+-- a seat that has nothing open
+abbrev pub idle_desk : View → MemoryDesk
+idle_desk seat = record { seat = seat; opened = None }
+
+-- what a side is seen as
+abbrev pub seen : RealSide → Side
+seen s = side s.reader (session_seen s.session.opened)
+
+abbrev pub hall_of : MemoryDrives → List (Option RealSide) → Hall
+hall_of drives sides = hall (shop_of drives.stacks) drives.holds.numbers (map (option_map seen) sides)
+
+abbrev pub is_nothing : Next → Bool
+is_nothing Nothing = true
+is_nothing (Seat seat) = false
+is_nothing (Whole s) = false
+
+abbrev pub is_whole : Next → Bool
+is_whole Nothing = false
+is_whole (Seat seat) = false
+is_whole (Whole s) = true
+
+-- where there is a seat alone, it holds no drive
+abbrev pub IsIdle : Next → Type 0
+IsIdle Nothing = Unit {0}
+IsIdle (Seat seat) = HoldsJust seat None
+IsIdle (Whole s) = Unit {0}
+
+-- a side of this seat, which has read nothing and has nothing open
+pub record IsFresh (seat : View) (s : RealSide) : Type 0 where
+  pub session : s.session ≡ idle_desk seat
+  pub reader : Unread s.reader []
+
+-- a seat became a side, and all else stays
+abbrev pub IsMade : Next → Next → Type 0
+IsMade (Seat seat) next = (next ≡ Seat seat) ⊎ ((s : RealSide) × (next ≡ Whole s) × IsFresh seat s)
+IsMade old next = next ≡ old
+
+-- no trouble is set for the open reel
+abbrev pub IsCalm : Option (Opened TroubledTape) → Type 0
+IsCalm opened = MatchOption (reel_of opened) (Unit {0}) (λ r. r.trouble ≡ NoTrouble)
+
+-- The drives are those of a side, whose seat has its connection's number. For its open reel no trouble is set.
+pub record IsLive (drives : MemoryDrives) (k : ℕ) (s : RealSide) : Type 0 where
+  pub at : IsAt in_memory (state drives s.session)
+  pub number : s.session.seat.number ≡ k
+  pub readable : (bytes : List ℕ) × Unread s.reader bytes
+  pub calm : IsCalm s.session.opened
+
+-- the drives are those of a seat of this number, which has nothing open
+pub record IsIdleAt (drives : MemoryDrives) (k : ℕ) (desk : MemoryDesk) : Type 0 where
+  pub at : IsAt in_memory (state drives desk)
+  pub number : desk.seat.number ≡ k
+  pub idle : desk.opened ≡ None
+
+-- behind n connections there is nothing yet of the next one, or its seat, which has the next number, or all of it
+abbrev pub IsWaiting : MemoryDrives → ℕ → Next → Type 0
+IsWaiting drives n Nothing = drives.holds.last ≡ n
+IsWaiting drives n (Seat seat) = (drives.holds.last ≡ n + 1) × IsIdleAt drives (n + 1) (idle_desk seat)
+IsWaiting drives n (Whole s) = (drives.holds.last ≡ n + 1) × IsIdleAt drives (n + 1) s.session × Unread s.reader []
+
+-- Each drive is held by a live side or by none. No trouble is set, for the stacks or for a reel.
+pub record IsHosting (drives : MemoryDrives) (sides : List (Option RealSide)) (next : Next) : Type 0 where
+  pub live : (k : ℕ) (s : RealSide) → side_at sides k ≡ Some s → IsLive drives k s
+  pub held : (d n : ℕ) → IsHeldBy drives.holds d n → 0 < n → (s : RealSide) × (side_at sides n ≡ Some s)
+  pub waiting : IsWaiting drives (length sides) next
+  pub told : IsShop drives.stacks (shop_of drives.stacks)
+  pub paired : length drives.holds.numbers ≡ length drives.stacks.shop.racks
+  pub quiet : drives.stacks.trouble ≡ false
+  pub lying : troubled_in drives.stacks.shop ≡ 0

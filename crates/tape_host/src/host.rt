@@ -1,0 +1,217 @@
+//! One server.
+ghost use Rattle.std.specs.Prelude.{◌≡◌, ◌<◌, ◌≤◌, false, true, [], IfOk, IfErr, IsTrue, MatchResult, length, map, replicate};
+ghost use Rattle.std.specs.Option.{option_copied, option_map};
+ghost use Rattle.drives.specs.declared.fault.DriveFault.TheVariants.{OutOfMemory};
+ghost use Rattle.drives.specs.Shop.{rack_at, slots_in};
+ghost use Rattle.drives.specs.ListShop.{IsShop, shop_of, at_rest, rest_slot, StacksCanFail};
+ghost use Rattle.drives.specs.Arranging.{reel_named, may_arrange};
+ghost use Rattle.rmt_server.specs.Memory.{session_seen};
+ghost use Rattle.rmt_server.specs.Hall.{hall};
+ghost use Rattle.tape_host.specs.Halls.{hosted, side_at, joined, ended, all_ended, restacked, HasRoom, IsPushed, IsHolder, IsHeldOnce};
+
+use crate::side::{Next, Side, find_side, put_side, take_side};
+use drives::{DriveFault, DriveTable, ListStacks, ListedReel, LocalHolds, told_orders};
+use rmt_server::{
+    Session, more_seats, one_holder, one_scene, open_is_held, still_at, untroubled_end,
+};
+use std::alloc::{AllocError, Global};
+use std::marker::Model;
+use std::mem;
+use tape::TroubledReel;
+
+/// One server: its drives, whose reels are in memory, and the sides of all its connections.
+///
+/// Contracts see the hall: drives and reels, the holder of each drive, and the server's side of each connection while it is
+/// live. They see whether the side of the next connection is made.
+#[derive(Drop)]
+pub struct Host {
+    alloc: Global,
+    drives: DriveTable<LocalHolds, ListStacks>,
+    sides: Vec<Option<Side>>,
+    next: Next,
+}
+
+impl Model for Host {
+    ghost use Rattle.std.specs.Prelude.{◌<◌, true, ◌≡◌, vec_len, vec_capacity};
+    ghost use Rattle.tape_host.specs.Halls.{Hosted, hosted};
+    ghost use Rattle.tape_host.specs.Hosting.{hall_of, is_whole, IsHosting};
+
+    ghost Value = { Hosted };
+
+    ghost view = { λ h. hosted (hall_of h.drives h.sides.items) (is_whole h.next) };
+
+    ghost invariant = { λ h. IsHosting h.drives h.sides.items h.next × (is_whole h.next ≡ true → vec_len h.sides < vec_capacity h.sides) };
+}
+
+impl Host {
+    /// A server with these drives, from 1 to 64, and no connection. No trouble is set in them. It fails only where memory is
+    /// refused.
+    pub fn new(alloc: Global, drives: usize, stacks: ListStacks) -> Result<Host, AllocError>
+        requires some { 1 ≤ drives }
+        requires few { drives ≤ 64 }
+        requires all { length stacks.shop.racks ≡ drives }
+        requires told { IsShop stacks (shop_of stacks) }
+        requires quiet { StacksCanFail stacks → ⊥ }
+        ensures hall { IfOk result (λ h. h ≡ hosted (hall (shop_of stacks) (replicate drives 0) []) false) }
+    {
+        let holds = LocalHolds::new(alloc, drives)?;
+        let drives = DriveTable { holds, stacks };
+        Ok(Host {
+            alloc,
+            drives,
+            sides: Vec::new(alloc),
+            next: Next::Nothing,
+        })
+    }
+
+    /// Makes the server's side of the next connection, unless it is made, and keeps it until `admit`. Where memory is refused
+    /// nothing has changed that is seen.
+    pub fn prepare(&mut self) -> Result<(), AllocError>
+        ensures { MatchResult result (λ _. self.new ≡ hosted self.old.hall true) (λ _. self.new ≡ self.old) }
+    {
+        self.sit();
+        self.furnish()
+    }
+
+    /// Gives the next connection a seat, unless it has one or no number is left.
+    fn sit(&mut self)
+        ensures { self.new ≡ self.old }
+    {
+        if self.next.is_nothing() {
+            if let Some(seat) = self.drives.holds.seat() {
+                more_seats::<ListStacks>();
+                self.next = Next::Seat(seat);
+            }
+        }
+    }
+
+    /// Makes the next side out of its seat.
+    fn furnish(&mut self) -> Result<(), AllocError>
+        ensures { MatchResult result (λ _. self.new ≡ hosted self.old.hall true) (λ _. self.new ≡ self.old) }
+    {
+        self.sides.reserve(1)?;
+        let (next, result) = mem::replace(&mut self.next, Next::Nothing).made(self.alloc);
+        self.next = next;
+        result
+    }
+
+    /// The next connection is there: the server's side of it, which was prepared, is live.
+    pub fn admit(&mut self)
+        requires { self.old.ready ≡ true }
+        ensures { self.new ≡ hosted (joined self.old.hall) false }
+    {
+        if let Next::Whole(side) = mem::replace(&mut self.next, Next::Nothing) {
+            self.sides.push_reserved(Some(side));
+        }
+    }
+
+    /// The number of the connection that has this drive open, or 0. Drives are numbered from 0.
+    pub fn holder(&self, drive: usize) -> u64
+        requires { drive < length self.now.hall.holders }
+        ensures holder { IsHolder self.now.hall drive result }
+        ensures once { IsHeldOnce self.now.hall }
+    {
+        self.drives.holds.number_at(drive)
+    }
+
+    /// How many bytes `push` takes now for this connection. None where the server's side is not live.
+    pub fn room(&self, connection: usize) -> Option<usize>
+        ensures { HasRoom (side_at self.now.hall.sides connection) result }
+    {
+        let side = find_side(&self.sides, connection)?;
+        Some(side.reader.room())
+    }
+
+    /// Takes as many bytes of what a connection sends as its reader has room for, and answers how many: none where the server's
+    /// side is not live.
+    pub fn push(&mut self, connection: usize, bytes: &[u8]) -> usize
+        ensures { IsPushed self.old connection bytes.now (side_at self.old.hall.sides connection) result self.new }
+    {
+        let Some(mut side) = take_side(&mut self.sides, connection) else {
+            return 0;
+        };
+        let count = side.reader.push(bytes);
+        put_side(&mut self.sides, connection, side);
+        count
+    }
+
+    /// Ends the server's side of a connection: what it has open is closed, and the side is no longer live. Where it is not live
+    /// nothing is done. Connections are numbered from 1.
+    pub fn end(&mut self, connection: usize)
+        ensures { self.new ≡ hosted (ended self.old.hall connection) self.old.ready }
+    {
+        one_holder::<ListStacks>();
+        one_scene();
+        untroubled_end();
+        if let Some(mut side) = take_side(&mut self.sides, connection) {
+            side.session.end(&mut self.drives);
+        }
+    }
+
+    /// Ends the server's sides of all connections, as `end` does.
+    pub fn restart(&mut self)
+        ensures { self.new ≡ hosted (all_ended self.old.hall (length self.old.hall.sides)) self.old.ready }
+    {
+        for place in 0..self.sides.len() {
+            self.end(place + 1);
+        }
+    }
+
+    /// The session of a connection, while the server's side is live.
+    pub fn session(&self, connection: usize) -> Option<&Session<LocalHolds, ListStacks>>
+        ensures { option_map (λ s. session_seen s.opened) (option_copied result) ≡ option_map (λ s. s.session) (side_at self.now.hall.sides connection) }
+    {
+        let side = find_side(&self.sides, connection)?;
+        Some(&side.session)
+    }
+
+    /// The reels of the drive's stack in order, first the one that is latched or would be latched next.
+    pub fn stack(&self, drive: usize) -> &[ListedReel]
+        requires { drive < length self.now.hall.shop.racks }
+        ensures { map rest_slot result.now ≡ (rack_at self.now.hall.shop drive).stack }
+    {
+        self.drives.stacks.stack(drive)
+    }
+
+    /// The reels of the bin, in the order in which they were moved there.
+    pub fn bin(&self) -> &[ListedReel]
+        ensures { map rest_slot result.now ≡ self.now.hall.shop.bin }
+    {
+        self.drives.stacks.bin()
+    }
+
+    /// The reel of that name, on a stack or in the bin. None while it is latched, and where there is none.
+    pub fn reel(&self, name: &[u8]) -> Option<&TroubledReel>
+        ensures { option_map at_rest (option_copied result) ≡ reel_named name.now (slots_in self.now.hall.shop) }
+    {
+        self.drives.stacks.reel(name)
+    }
+
+    /// Whether `arrange` can be asked for these names: no reel of the drive is latched, no name stands twice, and each is the
+    /// name of a reel of its stack or of the bin.
+    pub fn can_arrange(&self, drive: usize, names: &[&[u8]]) -> bool
+        requires { drive < length self.now.hall.shop.racks }
+        ensures { result ≡ may_arrange self.now.hall.shop drive (map (λ n. n.now) names.now) }
+    {
+        self.drives.stacks.can_arrange(drive, names)
+    }
+
+    /// An operator's act at a drive that has no holder: its stack becomes the reels of these names, in that order. Reels of the
+    /// bin leave it, and the stack's others go to the bin's end, in their order. Each reel stays as it is.
+    ///
+    /// Answers `OutOfMemory`. Nothing has changed then.
+    pub fn arrange(&mut self, drive: usize, names: &[&[u8]]) -> Result<(), DriveFault>
+        requires free { IsHolder self.old.hall drive 0 }
+        requires drive { drive < length self.old.hall.shop.racks }
+        requires may { IsTrue (may_arrange self.old.hall.shop drive (map (λ n. n.now) names.now)) }
+        ensures arranged { MatchResult result
+            (λ _. self.new ≡ hosted (restacked self.old.hall drive (map (λ n. n.now) names.now)) self.old.ready)
+            (λ _. self.new ≡ self.old) }
+        ensures fault { IfErr result (λ fault. fault ≡ OutOfMemory) }
+    {
+        told_orders();
+        open_is_held::<ListStacks>();
+        still_at::<LocalHolds, ListStacks>();
+        self.drives.stacks.arrange(drive, names)
+    }
+}

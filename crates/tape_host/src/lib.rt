@@ -1,0 +1,10 @@
+//! One tape server with the sessions of all its connections.
+//!
+//! `Host` has the drives, with reels in memory, and of each connection a reader of requests and a session. Connections are
+//! numbered from 1 in the order in which they are admitted, and a session's seat has the number of its connection.
+#![tactic(auto)]
+
+mod host;
+mod side;
+
+pub use host::Host;

@@ -1,0 +1,118 @@
+//! The server's side of one connection.
+ghost use Rattle.std.specs.Prelude.{◌≡◌, ◌≤◌, true, Some, None, MatchResult, length, vec_capacity};
+ghost use Rattle.std.specs.Option.{option_copied};
+ghost use Rattle.drives.specs.Holding.{HoldsJust};
+ghost use Rattle.tape_host.specs.Halls.{side_at, with_side_at};
+ghost use Rattle.tape_host.specs.Hosting.{is_nothing, is_whole, IsIdle, IsFresh, IsMade};
+
+use drives::{ListStacks, LocalHolds, LocalSeat};
+use rmt_server::Session;
+use rmt_wire::RequestReader;
+use std::alloc::{AllocError, Global};
+
+/// The server's side of one connection: what it reads, and what it has open.
+#[derive(Drop)]
+pub(crate) struct Side {
+    pub(crate) reader: RequestReader,
+    pub(crate) session: Session<LocalHolds, ListStacks>,
+}
+
+/// What there is of the next connection's side.
+#[derive(Drop)]
+pub(crate) enum Next {
+    /// Nothing.
+    Nothing,
+    /// Its seat.
+    Seat(LocalSeat),
+    /// All of it.
+    Whole(Side),
+}
+
+impl Next {
+    /// Whether nothing of it is there.
+    pub(crate) fn is_nothing(&self) -> bool
+        ensures { result ≡ is_nothing self.now }
+    {
+        match self {
+            Next::Nothing => true,
+            Next::Seat(_) | Next::Whole(_) => false,
+        }
+    }
+
+    /// Makes the rest of the side where its seat is there. It stays as it is where memory is refused. Without a seat it is
+    /// refused.
+    pub(crate) fn made(self, alloc: Global) -> (Next, Result<(), AllocError>)
+        requires { IsIdle self }
+        ensures made { IsMade self result.0 }
+        ensures outcome { MatchResult result.1 (λ _. is_whole result.0 ≡ true) (λ _. result.0 ≡ self) }
+    {
+        match self {
+            Next::Nothing => (Next::Nothing, Err(AllocError)),
+            Next::Seat(seat) => match Side::new(alloc, seat) {
+                Ok(side) => (Next::Whole(side), Ok(())),
+                Err((seat, error)) => (Next::Seat(seat), Err(error)),
+            },
+            Next::Whole(side) => (Next::Whole(side), Ok(())),
+        }
+    }
+
+    /// Whether all of it is there.
+    pub(crate) fn is_whole(&self) -> bool
+        ensures { result ≡ is_whole self.now }
+    {
+        match self {
+            Next::Nothing | Next::Seat(_) => false,
+            Next::Whole(_) => true,
+        }
+    }
+}
+
+impl Side {
+    /// A side of this seat, which has read nothing and has nothing open. Hands the seat back where memory is refused.
+    pub(crate) fn new(alloc: Global, seat: LocalSeat) -> Result<Side, (LocalSeat, AllocError)>
+        requires { HoldsJust seat None }
+        ensures { MatchResult result (λ s. IsFresh seat s) (λ refused. refused.0 ≡ seat) }
+    {
+        let reader = match RequestReader::new(alloc) {
+            Ok(reader) => reader,
+            Err(error) => return Err((seat, error)),
+        };
+        match Session::new(alloc, seat) {
+            Ok(session) => Ok(Side { reader, session }),
+            Err(refused) => Err(refused),
+        }
+    }
+}
+
+/// The side of a connection, if it is live. Connections are numbered from 1.
+pub(crate) fn find_side(sides: &[Option<Side>], connection: usize) -> Option<&Side>
+    ensures { option_copied result ≡ side_at sides.now connection }
+{
+    let place = connection.checked_sub(1)?;
+    let side = sides.get(place)?;
+    side.as_ref()
+}
+
+/// Takes the side of a connection out, if it is live.
+pub(crate) fn take_side(sides: &mut Vec<Option<Side>>, connection: usize) -> Option<Side>
+    ensures taken { result ≡ side_at sides.old.items connection }
+    ensures left { sides.new.items ≡ with_side_at sides.old.items connection None }
+    ensures room { vec_capacity sides.new ≡ vec_capacity sides.old }
+{
+    if connection == 0 || sides.len() < connection {
+        return None;
+    }
+    let side = &mut sides[connection - 1];
+    side.take()
+}
+
+/// Puts the side of a connection in, whose place is there.
+pub(crate) fn put_side(sides: &mut Vec<Option<Side>>, connection: usize, side: Side)
+    requires first { 1 ≤ connection }
+    requires last { connection ≤ length sides.old.items }
+    ensures put { sides.new.items ≡ with_side_at sides.old.items connection (Some side) }
+    ensures room { vec_capacity sides.new ≡ vec_capacity sides.old }
+{
+    let place = &mut sides[connection - 1];
+    *place = Some(side);
+}
