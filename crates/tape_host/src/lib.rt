@@ -6,5 +6,7 @@
 
 mod host;
 mod side;
+#[cfg(test)]
+mod tests;
 
 pub use host::Host;
