@@ -222,7 +222,7 @@ fn named<'a>(alloc: Global) -> Command<'a>
     ensures { app_of result ≡ with_version (new_app (codes "rmtd")) }
 {
     Command::new(alloc, "rmtd")
-        .about("Tape server for the remote magtape protocol of rmt(8), with a drive in memory")
+        .about("Tape server for the remote magtape protocol of rmt(8)")
         .version("0.1.0")
 }
 
