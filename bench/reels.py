@@ -1,5 +1,5 @@
 #!/usr/bin/env python3
-"""Measures the server over a folder drive, beside `cat` and GNU rmt on the same bytes in the same run.
+"""Measures the server over a folder drive, beside `cat`, GNU rmt and a floor on the same bytes in the same run.
 
     reels.py [PROGRAM] [--mib N]
 
@@ -7,6 +7,9 @@ It prints ratios of the least of several times, each with the start of a process
 over many records beside over half of them; one operation at the end of a reel of 1 GiB beside one at its beginning. Then what memory the
 server held at most, and, where `strace` is there, how many calls of the system an append takes. All bytes stand in files in the temporary
 folder, up to 1 GiB of them at once.
+
+The floor is `floor.c`, which carries requests out one at a time with few calls of the system, and trusts its input. It is built where there
+is a C compiler.
 """
 
 from __future__ import annotations
@@ -23,6 +26,8 @@ from pathlib import Path
 from typing import Callable, Iterable, NamedTuple, Sequence
 
 from stdio import BUILT, Words, gnu_rmt, kilobytes, seconds_of, from_file
+
+FLOOR = Path(__file__).resolve().parent / "floor.c"
 
 ROUNDS = 5
 MIB = 1 << 20
@@ -104,46 +109,114 @@ def length(size: int) -> bytes:
 # Bytes written and read back.
 
 
-def answered(drive: Drive, source: Path, reply: bytes, count: int) -> bool:
-    """Whether the server answers the open and then so often so, so that the times are those of the work meant."""
-    with source.open("rb") as stream, subprocess.Popen(drive.words, stdin=stream, stdout=subprocess.PIPE) as process:
+def answered(words: Words, source: Path, reply: bytes, count: int) -> bool:
+    """Whether a server answers the open and then so often so, so that the times are those of the work meant."""
+    with source.open("rb") as stream, subprocess.Popen(words, stdin=stream, stdout=subprocess.PIPE) as process:
         good = process.stdout.read(3) == b"A0\n"
         good &= all(process.stdout.read(len(reply)) == reply for _ in range(count)) and not process.stdout.read(1)
     return good and process.returncode == 0
 
 
-def bytes_through(drive: Drive, rmt: Words | None, size: int, total: int) -> bool:
-    """Prints the lines of writes and reads of one size; answers whether the server's answers were right."""
-    data = bytes(range(256)) * (size // 256)
-    count = total // size
+def floor_words(folder: Path) -> Words | None:
+    """Builds the floor, and gives how it is called. None where no C compiler builds it."""
+    compiler = shutil.which("cc")
+    if not compiler:
+        return None
+    program = str(folder / "floor")
+    built = subprocess.run((compiler, "-O2", "-o", program, str(FLOOR)), check=False)
+    return (program,) if built.returncode == 0 else None
+
+
+class Others(NamedTuple):
+    """What the server is measured beside, where it is there: GNU rmt, and the floor."""
+
+    rmt: Words | None
+    floor: Words | None
+
+    def floor_to(self, drive: Drive, what: str, size: int) -> Words | None:
+        """How the floor is called to write or to read records of this size."""
+        return (*self.floor, what, str(drive.reel), str(size)) if self.floor else None
+
+
+class Load(NamedTuple):
+    """Records of one size, with the stream that writes them and the one that reads them."""
+
+    size: int
+    count: int
+    data: bytes
+    writes: Path
+    reads: Path
+
+    def stream_of_writes(self, drive: Drive, name: str, mode: int, device: str) -> Path:
+        return drive.stream(name, mode, (b"W%d\n%s" % (self.size, self.data) for _ in range(self.count)), device)
+
+    def stream_of_reads(self, drive: Drive, name: str, device: str) -> Path:
+        return drive.stream(name, 0, (b"R%d\n" % self.size for _ in range(self.count)), device)
+
+    def passes(self, drive: Drive, writer: Words, reader: Words) -> bool:
+        """Whether these write the records to an empty reel, and read them back."""
+        reply = b"A%d\n" % self.size
+        drive.wipe()
+        written = answered(writer, self.writes, reply, self.count)
+        whole = drive.reel.stat().st_size == self.count * (self.size + 8)
+        return written and whole and answered(reader, self.reads, reply + self.data, self.count)
+
+
+def load_of(drive: Drive, size: int, total: int) -> Load:
+    """So many bytes in records of one size."""
+    load = Load(size, total // size, bytes(range(256)) * (size // 256), drive.folder / "writes", drive.folder / "reads")
+    load.stream_of_writes(drive, "writes", 2, "/dev/st0")
+    load.stream_of_reads(drive, "reads", "/dev/st0")
+    return load
+
+
+def time_writes(drive: Drive, others: Others, load: Load) -> None:
+    """Prints the line of the writes."""
     plain = drive.folder / "plain"
-    writes = drive.stream("writes", 2, (b"W%d\n%s" % (size, data) for _ in range(count)))
-    reads = drive.stream("reads", 0, (b"R%d\n" % size for _ in range(count)))
-    if not answered(drive, writes, b"A%d\n" % size, count) or drive.reel.stat().st_size != count * (size + 8):
-        return False
-    if not answered(drive, reads, b"A%d\n%s" % (size, data), count):
-        return False
-    runs = [Run(drive.wipe, drive.words, writes), Run(lambda: plain.unlink(missing_ok=True), ("sh", "-c", f"exec cat > {plain}"), writes)]
-    if rmt:
-        to_file = drive.stream("to_file", 577, (b"W%d\n%s" % (size, data) for _ in range(count)), str(plain))
-        runs.append(Run(lambda: plain.unlink(missing_ok=True), rmt, to_file))
-    table_line(f"{total // MIB} MiB written by {size:,} bytes", least(runs), WANTED[size])
+    remove = lambda: plain.unlink(missing_ok=True)
+    runs = {"ours": Run(drive.wipe, drive.words, load.writes), "cat": Run(remove, ("sh", "-c", f"exec cat > {plain}"), load.writes)}
+    if others.rmt:
+        runs["rmt"] = Run(remove, others.rmt, load.stream_of_writes(drive, "to_file", 577, str(plain)))
+    if floor := others.floor_to(drive, "write", load.size):
+        runs["floor"] = Run(drive.wipe, floor, load.writes)
+    table_line(f"{round(load.size * load.count / MIB)} MiB written by {load.size:,} bytes", runs, WANTED[load.size])
     drive.folder.joinpath("to_file").unlink(missing_ok=True)
-    plain.write_bytes(data * count)
-    runs = [Run(nothing, drive.words, reads), Run(nothing, ("cat", str(plain)), reads)]
-    if rmt:
-        from_it = drive.stream("from_file", 0, (b"R%d\n" % size for _ in range(count)), str(plain))
-        runs.append(Run(nothing, rmt, from_it))
-    table_line(f"{total // MIB} MiB read by {size:,} bytes", least(runs), WANTED[size])
+    remove()
+
+
+def time_reads(drive: Drive, others: Others, load: Load) -> None:
+    """Prints the line of the reads."""
+    plain = drive.folder / "plain"
+    plain.write_bytes(load.data * load.count)
+    runs = {"ours": Run(nothing, drive.words, load.reads), "cat": Run(nothing, ("cat", str(plain)), load.reads)}
+    if others.rmt:
+        runs["rmt"] = Run(nothing, others.rmt, load.stream_of_reads(drive, "from_file", str(plain)))
+    if floor := others.floor_to(drive, "read", load.size):
+        runs["floor"] = Run(nothing, floor, load.reads)
+    table_line(f"{round(load.size * load.count / MIB)} MiB read by {load.size:,} bytes", runs, WANTED[load.size])
     plain.unlink()
-    writes.unlink()
+
+
+def bytes_through(drive: Drive, others: Others, size: int, total: int) -> bool:
+    """Prints the lines of writes and reads of one size; answers whether the answers were right."""
+    load = load_of(drive, size, total)
+    writer, reader = others.floor_to(drive, "write", size), others.floor_to(drive, "read", size)
+    if writer and reader and not load.passes(drive, writer, reader):
+        print("The floor's answers are not as expected.")
+        return False
+    if not load.passes(drive, drive.words, drive.words):
+        return False
+    time_writes(drive, others, load)
+    time_reads(drive, others, load)
+    load.writes.unlink()
     return True
 
 
-def table_line(title: str, times: list[float], wanted: float) -> None:
-    ours, cat, *others = times
-    beside_rmt = f"{ours / others[0]:.2f}" if others else "-"
-    print(f"{title:<38}{ours / cat:>10.2f}{wanted:>12.1f}{beside_rmt:>14}", flush=True)
+def table_line(title: str, runs: dict[str, Run], wanted: float) -> None:
+    """Prints what the server takes beside the others."""
+    times = dict(zip(runs, least(list(runs.values()))))
+    beside = {name: f"{times['ours'] / time:.2f}" for name, time in times.items()}
+    print(f"{title:<38}{beside['cat']:>10}{wanted:>12.1f}{beside.get('rmt', '-'):>14}{beside.get('floor', '-'):>12}", flush=True)
 
 
 # Spacing.
@@ -182,7 +255,7 @@ def spacings(drive: Drive) -> bool:
             away = operation(back, count) if back else b""
             streams.append(drive.stream(name, 0, [there, away, operation(5, count)] * LONG_WAYS))
             replies = b"A%d\n" % count * (3 if back else 2)
-            if not answered(drive, streams[-1], replies, LONG_WAYS):
+            if not answered(drive.words, streams[-1], replies, LONG_WAYS):
                 return False
         whole, half, none = least([Run(nothing, drive.words, it) for it in streams])
         passed = LONG_WAYS * RECORDS * (2 if back else 1)
@@ -209,7 +282,7 @@ def at_the_end(drive: Drive) -> bool:
             many = drive.stream("many", 2, [there, *requests * SHORT_WAYS])
             none = drive.stream("none", 2, [there, *([] if cuts else [operation(7, 0)])])
             arrived = least([Run(nothing, drive.words, none)])[0]
-            if not answered(drive, drive.stream("few", 2, [there, *requests * 9]), b"A%d\n%s" % (place, replies * 9), 1):
+            if not answered(drive.words, drive.stream("few", 2, [there, *requests * 9]), b"A%d\n%s" % (place, replies * 9), 1):
                 return False
             times.append(least([Run(nothing, drive.words, many)])[0] - arrived)
         print(f"{title:<38}{times[0] / times[1]:>10.2f}{times[0] / SHORT_WAYS * 1e9:>12.0f} ns for both", flush=True)
@@ -298,7 +371,7 @@ def calls(drive: Drive) -> None:
         more = counts[1] - counts[0]
         told = ", ".join(f"{count / CALLS:g} {name}" for name, count in sorted(more.items()) if count)
         print(f"  {title:<36}  {told or 'none'}", flush=True)
-    print("Wanted of an append: a call for each part of the image at most, and no read.")
+    print("Wanted of an append: one call, and no read.")
     drive.wipe()
 
 
@@ -313,19 +386,22 @@ def main() -> int:
         parser.error(f"there is no program {program}: make build builds it")
     rmt = gnu_rmt()
     print(f"Ratios of this run, of the least of {ROUNDS} times each.")
-    print("" if rmt else "skipped: GNU rmt is not on this machine\n")
+    if not rmt:
+        print("\nskipped: GNU rmt is not on this machine")
     good = True
     with tempfile.TemporaryDirectory(prefix="rmtd-bench-") as folder:
         drive = Drive(str(program), Path(folder))
-        print(f"{'time of the server over a folder':<38}{'to cat':>10}{'wanted':>12}{'to GNU rmt':>14}")
+        others = Others(rmt, floor_words(drive.folder))
+        print("" if others.floor else "skipped: there is no C compiler on this machine, and so no floor\n")
+        print(f"{'time of the server over a folder':<38}{'to cat':>10}{'wanted':>12}{'to GNU rmt':>14}{'to floor':>12}")
         for size in SIZES:
-            good = good and bytes_through(drive, rmt, size, words.mib * MIB)
+            good = good and bytes_through(drive, others, size, words.mib * MIB)
         good = good and spacings(drive) and at_the_end(drive)
         if good:
             memory(drive)
             calls(drive)
         else:
-            print("The server's answers are not as expected.")
+            print("Some answers are not as expected.")
     return 0 if good else 1
 
 

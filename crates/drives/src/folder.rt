@@ -176,7 +176,7 @@ impl<R: Files<File = File> + AllocGlobal + Clone + Drop> Stacks for FolderStacks
         self.racks.iter().position(|rack| rack.is_named(name))
     }
 
-    /// Lists the folder of the stack, and opens and locks its first plain file, to read and to write.
+    /// Lists the folder of the stack, and opens and locks its first plain file, to read and to append.
     ///
     /// Answers `Device` also where a name in the folder is not UTF-8, where another handle has the file's lock, and where
     /// the path leads to another file than was listed.

@@ -1,13 +1,12 @@
 -- A call of a reel in memory, from its step.
-use Rattle.std.proofs.Common.{◌≡◌, ℕ, ◌<◌, ◌≤◌, List, [], ◌∷◌, inl, inr, length, refl, ap, subst, arith, Result, Ok, Err}
+use Rattle.std.proofs.Common.{◌≡◌, ℕ, ◌<◌, ◌≤◌, List, [], ◌∷◌, inl, inr, length, refl, ap, subst, arith}
 use Rattle.std.proofs.lemmas.List.{length-take}
-use Rattle.tape.specs.Tape.{PlainEntry, Tape, TapeRequest, TapeAnswer, Passes, SpaceStep, TapeStep, done_answer}
+use Rattle.tape.specs.Tape.{PlainEntry, Tape, TapeRequest, TapeAnswer, Passes, SpaceStep, TapeStep}
 use Rattle.tape.specs.Tape.PlainEntry.{Record, Mark}
 use Rattle.tape.specs.Tape.TapeRequest.{Write, Read, WriteMarks, ForwardFiles, BackFiles, ForwardRecords, BackRecords, Rewind, Nothing, Unknown}
 use Rattle.tape.specs.Tape.TapeAnswer.{Done, Gave, Fault}
 use Rattle.tape.specs.Call.{CanAnswer, CanSpace}
 use Rattle.tape.specs.List.{ListTape, IsListCall}
-use Rattle.tape.specs.declared.fault.TapeFault.{TapeFault}
 use Rattle.tape.specs.declared.fault.TapeFault.TheVariants.{Device, Full, EndOrMark, BadOperation, OutOfMemory}
 
 -- a read gives at most what was asked
@@ -82,8 +81,3 @@ list_call old new request answer step same sound = record {
   same_capacity = same;
   made = tt;
 }
-
--- a result that is not the device's fault is no such answer
-pub no_device : (result : Result Unit TapeFault) → (result ≡ Err Device → ⊥) → done_answer result ≡ Fault Device → ⊥
-no_device (Ok x) sound is = cc
-no_device (Err fault) sound is = let same : fault ≡ Device = cc in sound (ap Err same)

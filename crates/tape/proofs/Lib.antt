@@ -1,9 +1,7 @@
 pub mod Calls
 pub mod Entries
-pub mod Standing
 pub mod Spacing
 pub mod Devices
-pub mod Leaving
 pub mod Spelling
 pub mod Places
 pub mod MediumRuns
@@ -16,3 +14,4 @@ pub mod Before
 pub mod Taking
 pub mod Walks
 pub mod Scanning
+pub mod Held

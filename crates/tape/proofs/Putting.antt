@@ -1,7 +1,9 @@
 -- From bytes that were written to the tape of a reel.
-use Rattle.std.proofs.Common.{◌≡◌, ℕ, ◌+◌, ◌≤◌, List, [], ◌++◌, length, Result, Ok, Err, IsErr, refl, sym, subst, arith}
+use Rattle.std.proofs.Common.{◌≡◌, ℕ, ◌+◌, List, [], ◌∷◌, ◌++◌, length, Ok, Err, IsErr, refl, sym, subst, arith}
+use Rattle.std.proofs.lemmas.List.Elements.{All-cons, All-nil}
 use Rattle.std.specs.List.{All}
-use Rattle.tape.specs.Tape.{PlainEntry, IsTapeEntry, tape}
+use Rattle.tape.specs.Tape.{PlainEntry, IsRecord, IsTapeEntry, tape}
+use Rattle.tape.specs.Tape.PlainEntry.{Record}
 use Rattle.tape.specs.Medium.{MediumKind}
 use Rattle.tape.specs.RecordFile.{images_of, IsFile, FileTape}
 use Rattle.tape.specs.FileSteps.{IsRun, IsReelRun, IsWritten, Puts}
@@ -35,3 +37,7 @@ puts_part old new written image added e d lawful image_is offset_is same run = r
   calls = run_as run (λ f. f) (λ f. f) (omega arith) (λ x y held step. tt);
   same_capacity = same;
 }
+
+-- one record of a lawful length
+pub one_record : (bytes : List ℕ) → IsRecord bytes → All IsTapeEntry (Record bytes ∷ [])
+one_record bytes lawful = All-cons IsTapeEntry (Record bytes) [] lawful (All-nil IsTapeEntry)

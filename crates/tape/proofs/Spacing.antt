@@ -1,64 +1,8 @@
 -- One entry further on the way of a walk, and what spacing makes of a walk's end.
-use Rattle.std.proofs.Common.{◌≡◌, ℕ, zero, suc, ◌+◌, ◌-◌, ◌<◌, ◌≤◌, List, [], ◌∷◌, ◌++◌, length, get_or, reverse, take, drop, refl, sym, ap, subst, ◌∙◌, arith}
-use Rattle.std.proofs.lemmas.List.{length-map, take_more, drop_more, reverse-append}
-use Rattle.std.proofs.lemmas.List.Sums.{sum_by_more, sum_by-cons}
-use Rattle.tape.specs.Tape.{PlainEntry, size_of, mark_count, marks_met, records_met, passed_for_marks, passed_for_records}
+use Rattle.std.proofs.Common.{◌≡◌, ℕ, zero, suc, ◌+◌, ◌-◌, ◌<◌, List, [], ◌∷◌, refl, sym, ap, subst, arith}
+use Rattle.std.proofs.lemmas.List.Sums.{sum_by-cons}
+use Rattle.tape.specs.Tape.{PlainEntry, mark_count, marks_met, records_met, passed_for_marks, passed_for_records}
 use Rattle.tape.specs.Tape.PlainEntry.{Record, Mark}
-use Rattle.tape.specs.List.{IsStanding, plain_of, plain_entries}
-use Rattle.tape.specs.declared.entry.Entry.{Entry}
-use Rattle.tape.proofs.Entries.{plain_at}
-use Rattle.tape.proofs.Standing.{next_fits, standing_next}
-
--- the way on from a place: past this entry, which has its room
-pub record IsNext (entries : List PlainEntry) (at offset size capacity : ℕ) (e : PlainEntry) : Type 0 where
-  pub fits : offset + size ≤ capacity
-  pub standing : IsStanding entries (at + 1) (offset + size) capacity
-  pub way : drop at entries ≡ e ∷ drop (at + 1) entries
-
-pub next_of : (entries : List Entry) (at offset size capacity : ℕ) (e : Entry) → IsStanding (plain_entries entries) at offset capacity
-    → at < length entries → e ≡ get_or entries at e → size ≡ size_of (plain_of e)
-    → IsNext (plain_entries entries) at offset size capacity (plain_of e)
-next_of entries at offset size capacity e standing inner found sized =
-    let within : at < length (plain_entries entries) = omega (arith, length-map entries plain_of) in
-    let is = plain_at entries at e inner found in
-    record {
-      fits = next_fits (plain_entries entries) at offset capacity size (plain_of e) standing within is sized;
-      standing = standing_next (plain_entries entries) at offset capacity size (plain_of e) standing within is sized;
-      way = drop_more (plain_entries entries) at (plain_of e) within ∙ ap (λ x. x ∷ drop (at + 1) (plain_entries entries)) (sym is);
-    }
-
--- the way back from a place: to the place of this entry
-pub record IsBefore (entries : List PlainEntry) (at to offset size capacity : ℕ) (e : PlainEntry) : Type 0 where
-  pub fits : size ≤ offset
-  pub standing : IsStanding entries to (offset - size) capacity
-  pub way : reverse (take at entries) ≡ e ∷ reverse (take to entries)
-
-before_at : (entries : List PlainEntry) (to offset size capacity : ℕ) (e : PlainEntry) → IsStanding entries (to + 1) offset capacity
-    → e ≡ get_or entries to e → size ≡ size_of e → IsBefore entries (to + 1) to offset size capacity e
-before_at entries to offset size capacity e standing is sized =
-    let within : to < length entries = omega (arith, standing.within) in
-    let more = sum_by_more size_of entries to e within in
-    let same = ap size_of is in
-    let fits : size ≤ offset = omega (arith, standing.offset_is, more, same) in
-    let behind : take (to + 1) entries ≡ take to entries ++ e ∷ [] = take_more entries to e within ∙ ap (λ x. take to entries ++ x ∷ []) (sym is) in
-    record {
-      fits = fits;
-      standing = record {
-        within = omega arith;
-        offset_is = omega (arith, standing.offset_is, more, same);
-        fits = standing.fits;
-        records = standing.records;
-      };
-      way = ap reverse behind ∙ reverse-append (take to entries) (e ∷ []);
-    }
-
-pub before_of : (entries : List Entry) (at to offset size capacity : ℕ) (e : Entry) → at ≡ to + 1 → IsStanding (plain_entries entries) at offset capacity
-    → to < length entries → e ≡ get_or entries to e → size ≡ size_of (plain_of e)
-    → IsBefore (plain_entries entries) at to offset size capacity (plain_of e)
-before_of entries at to offset size capacity e one standing inner found sized =
-    let P : ℕ → Type 0 = λ x. IsStanding (plain_entries entries) x offset capacity in
-    let Q : ℕ → Type 0 = λ x. IsBefore (plain_entries entries) x to offset size capacity (plain_of e) in
-    subst Q (sym one) (before_at (plain_entries entries) to offset size capacity (plain_of e) (subst P one standing) (plain_at entries to e inner found) sized)
 
 -- a mark on the way to marks
 pub record IsCounted (now later : ℕ) (met_now met_later left left_later : ℕ) : Type 0 where

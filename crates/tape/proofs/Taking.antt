@@ -1,7 +1,7 @@
 -- A record that is read at the place.
-use Rattle.std.proofs.Common.{◌≡◌, ◌==◌, if◌then◌else◌, Bool, nat_eq, ℕ, ◌+◌, ◌-◌, ◌<◌, ◌≤◌, min, List, [], ◌∷◌, ◌++◌, length, take, drop, Option, Some, None, Result, Ok, Err, inl, inr, refl, sym, ap, subst, ◌∙◌, append_assoc, length-append, length-take, length-drop, drop-drop, arith}
+use Rattle.std.proofs.Common.{◌≡◌, Bool, ℕ, ◌+◌, ◌<◌, ◌≤◌, min, List, [], ◌∷◌, ◌++◌, length, take, drop, Some, inl, inr, refl, sym, ap, subst, ◌∙◌, append_assoc, length-append, length-drop, drop-drop, arith}
 use Rattle.std.proofs.lemmas.List.{take_at, drop_at, take_all, take_min, append_cancel_right, take-append-le}
-use Rattle.tape.specs.Tape.{PlainEntry, Tape, TapeAnswer, IsTapeEntry, Passes, tape, entries_of, mark_count}
+use Rattle.tape.specs.Tape.{PlainEntry, Tape, Passes, tape, mark_count}
 use Rattle.tape.specs.Tape.PlainEntry.{Record, Mark}
 use Rattle.tape.specs.Tape.TapeRequest.{Read}
 use Rattle.tape.specs.Tape.TapeAnswer.{Gave, Fault}
@@ -11,9 +11,8 @@ use Rattle.tape.specs.RecordFile.{length_bytes, image_of, images_of, IsFile, Fil
 use Rattle.tape.specs.FileSteps.{IsRun, IsReelRun, IsPassed, first_length, size_by_length}
 use Rattle.tape.specs.declared.fault.TapeFault.TheVariants.{Device}
 use Rattle.tape.specs.declared.file_reel.walk.Way.TheVariants.{Forward}
-use Rattle.tape.proofs.Spelling.{length-length_bytes, length_of, body_of, image_parts}
+use Rattle.tape.proofs.Spelling.{length-length_bytes, body_of, image_parts}
 use Rattle.tape.proofs.Places.{parted, back_is}
-use Rattle.tape.proofs.Standing.{passes_at}
 use Rattle.tape.proofs.MediumRuns.{run_as}
 use Rattle.tape.proofs.ReelCalls.{FileCall, file_call}
 use Rattle.tape.proofs.Passing.{next_passed}
@@ -50,6 +49,12 @@ failed_read {M} {m} old new count run failed here same step =
 
 pub end_passes : (way : List PlainEntry) (count : ℕ) (t : Tape) → way ≡ [] → Passes count way t [] t
 end_passes way count t is = let P : List PlainEntry → Type 0 = λ w. Passes count w t [] t in subst P (sym is) (refl, refl)
+
+-- a read at an entry
+passes_at : (e : PlainEntry) (rest : List PlainEntry) (t u : Tape) (count : ℕ) (bytes : List ℕ) → bytes ≡ take count (bytes_of e)
+    → u ≡ tape (t.before ++ e ∷ []) rest → Passes count (e ∷ rest) t bytes u
+passes_at (Record written) rest t u count bytes copied is = (copied, is)
+passes_at Mark rest t u count bytes copied is = let none : take count (bytes_of Mark) ≡ [] = take_all count [] (omega arith) in (copied ∙ none, is)
 
 -- a read passes the entry that was passed
 pub passes_of : (count : ℕ) (t u : Tape) (m : Bool) (bytes : List ℕ) (p : IsPassed Forward t m u) → bytes ≡ take count (bytes_of p.entry) → Passes count t.after t bytes u

@@ -18,7 +18,7 @@ use Rattle.tape.specs.declared.fault.TapeFault.{TapeFault}
 use Rattle.tape.proofs.Spelling.{length-length_bytes, image_size, first_image, tail_spells, tail_short, more_spells}
 use Rattle.tape.proofs.Places.{IsParted, parted, joined, front_is}
 
--- ---- appends in a row
+-- ---- bytes that were added
 
 -- some of more than there are is all of it
 beyond : (n : ℕ) (a b : List ℕ) → take (length a + n) (a ++ b) ≡ a ++ take n b
@@ -26,21 +26,6 @@ beyond n [] b = ap (λ k. take k b) (omega arith)
 beyond n (x ∷ a) b =
     let more : suc (length a) + n ≡ suc (length a + n) = omega arith in
     ap (λ k. take k (x ∷ (a ++ b))) more ∙ ap (λ l. x ∷ l) (beyond n a b)
-
-some_of : (n : ℕ) (a b : List ℕ) → take n a ≡ take (min n (length a)) (a ++ b)
-some_of n a b =
-    let least : min n (length a) ≤ length a = omega arith in
-    let same : take (min n (length a)) (a ++ b) ≡ take (min n (length a)) a = take-append-le (min n (length a)) a b least in
-    sym (take_min n a) ∙ sym same
-
-pub append_append : (a b : List ℕ) (r : Result Unit MediumFailed) (u : Unit {0}) (x y z : List ℕ) → MediumStep (Append a (Ok u)) x y → MediumStep (Append b r) y z
-    → MediumStep (Append (a ++ b) r) x z
-append_append a b (Ok v) u x y z first next = next ∙ ap (λ l. l ++ b) first ∙ append_assoc x a b
-append_append a b (Err e) u x y z first next =
-    (length a + next.0, next.1 ∙ ap (λ l. l ++ take next.0 b) first ∙ append_assoc x a (take next.0 b) ∙ ap (λ l. x ++ l) (sym (beyond next.0 a b)))
-
-pub append_failed : (a b : List ℕ) (e d : MediumFailed) (x y : List ℕ) → MediumStep (Append a (Err e)) x y → MediumStep (Append (a ++ b) (Err d)) x y
-append_failed a b e d x y step = (min step.0 (length a), step.1 ∙ ap (λ l. x ++ l) (some_of step.0 a b))
 
 -- ---- a cut and an append
 

@@ -1,5 +1,5 @@
 -- A device that is told how its next call fails: which calls come to it, and what a failed one leaves.
-use Rattle.std.specs.Prelude.{◌≡◌, ◌≢◌, ◌⊎◌, ℕ, ◌+◌, ◌*◌, ◌<◌, ◌≤◌, List, [], ◌∷◌, length, take, replicate, true, Option, MatchOption}
+use Rattle.std.specs.Prelude.{◌≡◌, ◌≢◌, ◌⊎◌, ℕ, ◌+◌, ◌*◌, ◌<◌, ◌≤◌, List, [], ◌∷◌, ◌++◌, length, take, replicate, true, Option, MatchOption}
 use Rattle.tape.specs.Failures.{raised}
 use Rattle.tape.specs.Tape.{PlainEntry, Tape, TapeRequest, TapeAnswer, TapeStep, tape, offset_of}
 use Rattle.tape.specs.Tape.PlainEntry.{Record, Mark}
@@ -31,6 +31,12 @@ left_by None stood written = written
 left_by Kept stood written = stood
 left_by Lost stood written = []
 left_by (Written count) stood written = take count written
+
+-- The tape after a write of these entries that met this trouble: its place is behind them where there was none, and
+-- else it is the same.
+abbrev pub put_by : Trouble → List PlainEntry → Tape → Tape
+put_by None written t = tape (t.before ++ written) []
+put_by trouble written t = tape t.before (left_by trouble t.after written)
 
 -- What stands from the place on after a call that met this trouble: only writes change it.
 abbrev pub left_after : Trouble → TapeRequest → List PlainEntry → List PlainEntry

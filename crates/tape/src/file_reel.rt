@@ -1,4 +1,4 @@
-ghost use Rattle.std.specs.Prelude.{◌≡◌, ◌+◌, ◌*◌, ◌^◌, ◌<◌, ◌≤◌, ◌↔◌, List, ℕ, IfOk, IfErr, IsErr, IsTrue, [], ◌∷◌, length, replicate, false};
+ghost use Rattle.std.specs.Prelude.{◌≡◌, ◌+◌, ◌*◌, ◌^◌, ◌<◌, ◌≤◌, ◌↔◌, List, ℕ, IfOk, IfErr, IsErr, IsTrue, MatchResult, [], ◌∷◌, length, replicate, false};
 ghost use Rattle.tape.specs.Tape.{PlainEntry, IsRecord, tape, done_answer, given_answer, op_request};
 ghost use Rattle.tape.specs.Tape.PlainEntry.{Record, Mark};
 ghost use Rattle.tape.specs.Tape.TapeRequest.{WriteMarks};
@@ -6,7 +6,7 @@ ghost use Rattle.tape.specs.Call.{IsCall};
 ghost use Rattle.tape.specs.Medium.{medium_kind};
 ghost use Rattle.tape.specs.RecordFile.{FileTape, SpellsReel, HoldsTape, IsFileCall};
 ghost use Rattle.tape.specs.FileSteps.{IsReelRun, Puts, files_request, records_request};
-ghost use Rattle.tape.specs.declared.fault.TapeFault.TheVariants.{Device};
+ghost use Rattle.tape.specs.declared.fault.TapeFault.TheVariants.{Device, OutOfMemory};
 
 mod image;
 #[cfg(test)]
@@ -14,7 +14,9 @@ mod tests;
 mod walk;
 
 use crate::entry::{MARK_SIZE, RECORD_FRAME};
-use crate::{MTBSF, MTBSR, MTFSF, MTFSR, MTNOP, MTREW, MTWEOF, Medium, Reel, TapeFault};
+use crate::{
+    MTBSF, MTBSR, MTFSF, MTFSR, MTNOP, MTREW, MTWEOF, Medium, MemoryMedium, Reel, TapeFault,
+};
 use image::{next_length, put_marks, put_record, size_of};
 use std::marker::Model;
 use walk::{Way, walk_files, walk_records};
@@ -62,6 +64,13 @@ impl<M: Medium> FileReel<M> {
             offset: 0,
             capacity,
         }
+    }
+
+    /// The offset of its place, in bytes.
+    pub(crate) fn offset(&self) -> u64
+        ensures { result ≡ self.now.offset }
+    {
+        self.offset
     }
 
     /// Whether so many bytes have their room from the place on.
@@ -154,6 +163,21 @@ impl<M: Medium> FileReel<M> {
         let walked = walk_records(&mut self.medium, way, self.offset, count)?;
         self.offset = walked.at;
         walked.answer()
+    }
+}
+
+impl FileReel<MemoryMedium> {
+    /// Makes room in memory for so many bytes more. The bytes and the place are the same.
+    ///
+    /// Answers `OutOfMemory`, and nothing changed then.
+    pub(crate) fn reserve(&mut self, count: u64) -> Result<(), TapeFault>
+        ensures room { MatchResult result (λ _. count ≤ self.new.medium.spare) (λ fault. (fault ≡ OutOfMemory) × (self.new ≡ self.old)) }
+        ensures bytes { self.new.medium.bytes ≡ self.old.medium.bytes }
+        ensures offset { self.new.offset ≡ self.old.offset }
+        ensures capacity { self.new.capacity ≡ self.old.capacity }
+    {
+        self.medium.reserve(count as usize)?;
+        Ok(())
     }
 }
 

@@ -1,6 +1,6 @@
 ghost use Rattle.std.specs.Prelude.{◌≡◌, ◌≢◌, ◌≤◌, ◌↔◌, IfOk, [], length, true};
 ghost use Rattle.std.specs.List.{All};
-ghost use Rattle.tape.specs.Tape.{IsRecord, IsTapeEntry, entries_of, ForwardFilesStep, BackFilesStep, ForwardRecordsStep, BackRecordsStep, TapeStep, op_request, done_answer, given_answer, tape};
+ghost use Rattle.tape.specs.Tape.{IsRecord, IsTapeEntry, entries_of, TapeStep, op_request, done_answer, given_answer, tape};
 ghost use Rattle.tape.specs.Tape.TapeRequest.{Write, Read, WriteMarks, Rewind};
 ghost use Rattle.tape.specs.Tape.TapeAnswer.{Done};
 ghost use Rattle.tape.specs.Tape.PlainEntry.{Mark};
@@ -8,38 +8,33 @@ ghost use Rattle.tape.specs.List.{IsListCall, IsTape, entry_at, told_length, tol
 ghost use Rattle.tape.specs.Trouble.{DeviceStep};
 ghost use Rattle.tape.specs.declared.fault.TapeFault.TheVariants.{Device};
 
-mod entries;
-mod space;
+mod device;
 #[cfg(test)]
 mod tests;
 
 use crate::entry::{MARK_SIZE, RECORD_FRAME};
-use crate::{Entry, MTBSF, MTBSR, MTFSF, MTFSR, MTNOP, MTREW, MTWEOF, Reel, TapeFault, Trouble};
-use entries::{put_marks, put_record};
-use space::{back_files, back_records, forward_files, forward_records};
+use crate::scan::nth_entry;
+use crate::{FileReel, MTWEOF, MemoryMedium, Reel, TapeFault, Trouble};
+use device::{put_marks, put_record};
 use std::alloc::Global;
 use std::marker::Model;
 
-/// A reel in memory, seen as its tape and its capacity in bytes.
+/// A reel in memory, seen as its tape and its capacity in bytes. Its entries lie in memory as a record file.
 ///
 /// It always tells its tape, and no device of it fails: no call answers `Device`.
 #[derive(Drop)]
 pub struct ListReel {
-    alloc: Global,
-    entries: Vec<Entry>,
-    place: usize,
-    offset: u64,
-    capacity: u64,
+    reel: FileReel<MemoryMedium>,
 }
 
 impl Model for ListReel {
-    ghost use Rattle.tape.specs.List.{IsStanding, ListTape, plain_entries, tape_at};
+    ghost use Rattle.tape.specs.List.{IsSeen, ListTape, seen};
 
     ghost Value = { ListTape };
 
-    ghost view = { λ r. record { tape = tape_at r.place (plain_entries r.entries.items); capacity = r.capacity } };
+    ghost view = { λ r. seen r.reel };
 
-    ghost invariant = { λ r. IsStanding (plain_entries r.entries.items) r.place r.offset r.capacity };
+    ghost invariant = { λ r. IsSeen r.reel };
 }
 
 impl ListReel {
@@ -49,11 +44,7 @@ impl ListReel {
         ensures capacity { result.capacity ≡ capacity }
     {
         ListReel {
-            alloc,
-            entries: Vec::new(alloc),
-            place: 0,
-            offset: 0,
-            capacity,
+            reel: FileReel::open(MemoryMedium::new(alloc), capacity),
         }
     }
 
@@ -67,9 +58,9 @@ impl ListReel {
         ensures mark { (result ≡ Some 0) ↔ (entry_at i self.now.tape ≡ Some Mark) }
         ensures records { All IsTapeEntry (entries_of self.now.tape) }
     {
-        let entry = self.entries.get(i)?;
-        entry.read_into(into);
-        Some(entry.len())
+        let bytes = nth_entry(self.reel.medium().bytes(), i)?;
+        copy_front(bytes, into);
+        Some(bytes.len())
     }
 
     /// Writes a record at the place, by a device that fails as `trouble` says.
@@ -81,14 +72,11 @@ impl ListReel {
         ensures capacity { self.new.capacity ≡ self.old.capacity }
     {
         let size = bytes.len() as u64 + RECORD_FRAME;
-        if self.capacity - self.offset < size + MARK_SIZE {
+        if !self.reel.has_room(size + MARK_SIZE) {
             return Err(TapeFault::Full);
         }
-        let copy = Vec::from_slice(self.alloc, bytes)?;
-        put_record(&mut self.entries, self.place, copy, trouble)?;
-        self.place = self.entries.len();
-        self.offset += size;
-        Ok(())
+        self.reel.reserve(size)?;
+        put_record(&mut self.reel, bytes, trouble)
     }
 
     /// Writes so many marks at the place, by a device that fails as `trouble` says.
@@ -102,69 +90,11 @@ impl ListReel {
             return Ok(());
         }
         let size = u64::from(count) * MARK_SIZE;
-        if self.capacity - self.offset < size {
+        if !self.reel.has_room(size) {
             return Err(TapeFault::Full);
         }
-        put_marks(&mut self.entries, self.place, count as usize, trouble)?;
-        self.place = self.entries.len();
-        self.offset += size;
-        Ok(())
-    }
-
-    /// Goes behind the last of so many marks ahead.
-    ///
-    /// Answers `EndOrMark` where there are fewer. The place is the end then.
-    fn forward_files(&mut self, count: u32) -> Result<(), TapeFault>
-        ensures step { ForwardFilesStep count self.old.tape (done_answer result) self.new.tape }
-        ensures device { result ≢ Err Device }
-        ensures capacity { self.new.capacity ≡ self.old.capacity }
-    {
-        let spaced = forward_files(&self.entries, self.place, self.offset, count);
-        self.place = spaced.place;
-        self.offset = spaced.offset;
-        spaced.answer()
-    }
-
-    /// Goes before the last of so many marks, counted back.
-    ///
-    /// Answers `EndOrMark` where there are fewer. The place is the beginning then.
-    fn back_files(&mut self, count: u32) -> Result<(), TapeFault>
-        ensures step { BackFilesStep count self.old.tape (done_answer result) self.new.tape }
-        ensures device { result ≢ Err Device }
-        ensures capacity { self.new.capacity ≡ self.old.capacity }
-    {
-        let spaced = back_files(&self.entries, self.place, self.offset, count);
-        self.place = spaced.place;
-        self.offset = spaced.offset;
-        spaced.answer()
-    }
-
-    /// Goes forward over so many records.
-    ///
-    /// Answers `EndOrMark` where a mark or the end is met first. The place is behind that mark, or the end, then.
-    fn forward_records(&mut self, count: u32) -> Result<(), TapeFault>
-        ensures step { ForwardRecordsStep count self.old.tape (done_answer result) self.new.tape }
-        ensures device { result ≢ Err Device }
-        ensures capacity { self.new.capacity ≡ self.old.capacity }
-    {
-        let spaced = forward_records(&self.entries, self.place, self.offset, count);
-        self.place = spaced.place;
-        self.offset = spaced.offset;
-        spaced.answer()
-    }
-
-    /// Goes back over so many records.
-    ///
-    /// Answers `EndOrMark` where a mark or the beginning is met first. The place is before that mark, or the beginning, then.
-    fn back_records(&mut self, count: u32) -> Result<(), TapeFault>
-        ensures step { BackRecordsStep count self.old.tape (done_answer result) self.new.tape }
-        ensures device { result ≢ Err Device }
-        ensures capacity { self.new.capacity ≡ self.old.capacity }
-    {
-        let spaced = back_records(&self.entries, self.place, self.offset, count);
-        self.place = spaced.place;
-        self.offset = spaced.offset;
-        spaced.answer()
+        self.reel.reserve(size)?;
+        put_marks(&mut self.reel, count, trouble)
     }
 }
 
@@ -198,14 +128,7 @@ impl Reel for ListReel {
         ensures step { TapeStep self.old.capacity self.old.tape (Read (length into.old)) (given_answer result into.new) self.new.tape }
         ensures device { result ≢ Err Device }
     {
-        if self.place == self.entries.len() {
-            return Ok(0);
-        }
-        let entry = &self.entries[self.place];
-        let copied = entry.read_into(into);
-        self.offset += entry.size();
-        self.place += 1;
-        Ok(copied)
+        self.reel.read(into)
     }
 
     fn op(&mut self, op: u32, count: u32) -> Result<(), TapeFault>
@@ -213,30 +136,28 @@ impl Reel for ListReel {
         ensures step { TapeStep self.old.capacity self.old.tape (op_request op count) (done_answer result) self.new.tape }
         ensures device { result ≢ Err Device }
     {
-        match op {
-            MTWEOF => self.write_marks(count, Trouble::None),
-            MTFSF => self.forward_files(count),
-            MTBSF => self.back_files(count),
-            MTFSR => self.forward_records(count),
-            MTBSR => self.back_records(count),
-            MTREW => {
-                self.rewind();
-                Ok(())
-            }
-            MTNOP => Ok(()),
-            _ => Err(TapeFault::BadOperation),
+        if op == MTWEOF {
+            return self.write_marks(count, Trouble::None);
         }
+        self.reel.op(op, count)
     }
 
     fn rewind(&mut self)
         ensures call { IsListCall self.old self.new Rewind Done }
         ensures step { TapeStep self.old.capacity self.old.tape Rewind Done self.new.tape }
     {
-        self.place = 0;
-        self.offset = 0;
+        self.reel.rewind();
     }
 
     fn failures(&self) -> u64 {
         0
     }
+}
+
+/// Copies the first of the bytes, as many as `into` takes.
+fn copy_front(bytes: &[u8], into: &mut [u8])
+    ensures { into.new ≡ with_front bytes.now into.old }
+{
+    let count = bytes.len().min(into.len());
+    into[..count].copy_from_slice(&bytes[..count]);
 }

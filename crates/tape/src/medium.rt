@@ -1,4 +1,4 @@
-ghost use Rattle.std.specs.Prelude.{◌≡◌, ◌<◌, ◌^◌, ℕ, List, length};
+ghost use Rattle.std.specs.Prelude.{◌≡◌, ◌++◌, ◌<◌, ◌^◌, ℕ, List, length};
 ghost use Rattle.tape.specs.Medium.{IsMediumCall, medium_kind};
 ghost use Rattle.tape.specs.Medium.MediumCall.{Len, ReadAt, Append, Cut};
 
@@ -45,6 +45,12 @@ pub trait Medium {
     /// Answers `MediumFailed`. The first of the bytes may stand at the end then, or all of them.
     fn append(&mut self, bytes: &[u8]) -> Result<(), MediumFailed>
         ensures { IsMediumCall (medium_kind holds failures can_fail spare) self.old (Append bytes.now result) self.new };
+
+    /// Adds these bytes at the end, with the frame before them and the frame behind them.
+    ///
+    /// Answers `MediumFailed`. The first of what is added may stand at the end then, or all of it.
+    fn append_framed(&mut self, frame: &[u8], bytes: &[u8]) -> Result<(), MediumFailed>
+        ensures { IsMediumCall (medium_kind holds failures can_fail spare) self.old (Append (frame.now ++ (bytes.now ++ frame.now)) result) self.new };
 
     /// Leaves the first `len` bytes, or all where there are fewer.
     ///

@@ -1,4 +1,4 @@
-ghost use Rattle.std.specs.Prelude.{◌≡◌, ◌↔◌, ◌≤◌, ◌<◌, ◌^◌, IsErr, OnErr, MatchResult, [], length, take};
+ghost use Rattle.std.specs.Prelude.{◌≡◌, ◌↔◌, ◌+◌, ◌++◌, ◌≤◌, ◌<◌, ◌^◌, IsErr, OnErr, MatchResult, [], length, take};
 ghost use Rattle.tape.specs.Failures.{raised};
 ghost use Rattle.tape.specs.Medium.{IsMediumCall, IsReadAt};
 ghost use Rattle.tape.specs.Medium.MediumCall.{Len, ReadAt, Append, Cut};
@@ -78,6 +78,24 @@ impl MemoryMedium {
     {
         self.bytes.reserve(count)
     }
+
+    /// Adds bytes that have their room.
+    fn add(&mut self, bytes: &[u8])
+        requires { length bytes.now ≤ self.old.spare }
+        ensures bytes { self.new.bytes ≡ self.old.bytes ++ bytes.now }
+        ensures room { self.old.spare ≤ self.new.spare + length bytes.now }
+        ensures failures { self.new.failures ≡ self.old.failures }
+    {
+        let _ = self.bytes.extend_from_slice(bytes);
+    }
+
+    /// Counts a failure.
+    fn fail(&mut self) -> MediumFailed
+        ensures { self.new ≡ record self.old { failures = raised self.old.failures } }
+    {
+        self.failures = self.failures.saturating_add(1);
+        MediumFailed
+    }
 }
 
 impl Medium for MemoryMedium {
@@ -120,8 +138,23 @@ impl Medium for MemoryMedium {
         if bytes.len() <= room && self.bytes.extend_from_slice(bytes).is_ok() {
             return Ok(());
         }
-        self.failures = self.failures.saturating_add(1);
-        Err(MediumFailed)
+        Err(self.fail())
+    }
+
+    /// Fails where all of it is more than the room that is left. It adds nothing then.
+    fn append_framed(&mut self, frame: &[u8], bytes: &[u8]) -> Result<(), MediumFailed>
+        ensures call { IsMediumCall memory_kind self.old (Append (frame.now ++ (bytes.now ++ frame.now)) result) self.new }
+        ensures short { IsErr result ↔ (self.old.spare < length (frame.now ++ (bytes.now ++ frame.now))) }
+        ensures none { OnErr result (self.new ≡ record self.old { failures = raised self.old.failures }) }
+    {
+        let room = self.bytes.capacity() - self.bytes.len();
+        if bytes.len() > room || frame.len() > (room - bytes.len()) / 2 {
+            return Err(self.fail());
+        }
+        self.add(frame);
+        self.add(bytes);
+        self.add(frame);
+        Ok(())
     }
 
     /// It never fails. The room of what it cuts off is there again.

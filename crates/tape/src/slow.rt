@@ -2,8 +2,9 @@
 
 ghost use Rattle.std.specs.Prelude.{◌≤◌};
 
+use crate::scan::nth_entry;
 use crate::{
-    Entry, MTBSF, MTBSR, MTFSF, MTFSR, MTNOP, MTREW, MTWEOF, Reel, TapeFault, Trouble, is_record,
+    MTBSF, MTBSR, MTFSF, MTFSR, MTNOP, MTREW, MTWEOF, Reel, TapeFault, Trouble, is_record,
 };
 use std::alloc::Global;
 
@@ -159,19 +160,18 @@ impl SlowReel {
         self.place
     }
 
-    /// Whether these are its entries.
-    pub(crate) fn has(&self, entries: &[Entry]) -> bool {
-        for (entry, slow) in entries.iter().zip(self.entries.iter()) {
-            let same = match (entry, slow) {
-                (Entry::Record(bytes), Some(slow_bytes)) => bytes == slow_bytes,
-                (Entry::Mark, None) => true,
-                _ => false,
+    /// Whether its entries are those of the record file.
+    pub(crate) fn has(&self, file: &[u8]) -> bool {
+        for (at, entry) in self.entries.iter().enumerate() {
+            let bytes = match entry {
+                Some(bytes) => bytes.as_slice(),
+                None => &[],
             };
-            if !same {
+            if nth_entry(file, at) != Some(bytes) {
                 return false;
             }
         }
-        entries.len() == self.entries.len()
+        nth_entry(file, self.entries.len()).is_none()
     }
 
     /// The first mark at or after the place.

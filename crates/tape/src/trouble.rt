@@ -24,7 +24,7 @@ pub enum Trouble {
 
 impl Trouble {
     /// How many of so many entries that are written stand afterwards; no number where what stood before stands.
-    pub(crate) fn left(self, count: usize) -> Option<usize>
+    pub(crate) fn left(self, count: u32) -> Option<u32>
         ensures within { IfSome result (λ n. n ≤ count) }
         ensures left { IsTroubleLeft self count result }
     {
@@ -32,7 +32,7 @@ impl Trouble {
             Trouble::None => Some(count),
             Trouble::Kept => None,
             Trouble::Lost => Some(0),
-            Trouble::Written(written) => Some(count.min(written as usize)),
+            Trouble::Written(written) => Some(count.min(written)),
         }
     }
 

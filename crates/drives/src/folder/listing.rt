@@ -44,7 +44,7 @@ pub(super) fn is_same(one: &Metadata, other: &Metadata) -> bool {
     one.is_file() && other.is_file() && one.dev() == other.dev() && one.ino() == other.ino()
 }
 
-/// Opens the file that was listed, to read and to write, and takes its advisory lock, which goes with the handle.
+/// Opens the file that was listed, to read and to append, and takes its advisory lock, which goes with the handle.
 ///
 /// Answers an error also where another handle has the lock, and where the path leads to another file than was listed: when
 /// it was opened, or now that it is locked.
@@ -53,7 +53,7 @@ pub(super) fn open_listed<R: Files<File = File>>(
     path: &str,
     listed: &Metadata,
 ) -> io::Result<File> {
-    let file = OpenOptions::new().read(true).write(true).open(rt, path)?;
+    let file = OpenOptions::new().read(true).append(true).open(rt, path)?;
     let opened = file.metadata()?;
     file.try_lock()?;
     let locked = fs::symlink_metadata(rt, path)?;

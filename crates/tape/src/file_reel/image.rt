@@ -105,9 +105,7 @@ fn append_record<M: Medium>(medium: &mut M, bytes: &[u8]) -> Result<(), MediumFa
         (MediumStep (Append (image_of (Record bytes.now)) result)) (length bytes.now + 8) (IsErr result) medium.old medium.new }
 {
     let length = (bytes.len() as u32).to_le_bytes();
-    medium.append(&length)?;
-    medium.append(bytes)?;
-    medium.append(&length)
+    medium.append_framed(&length, bytes)
 }
 
 /// Adds so many zero bytes, a row of them at a time.

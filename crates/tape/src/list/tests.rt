@@ -4,6 +4,7 @@ ghost use Rattle.tape.specs.declared.fault.TapeFault.TheVariants.{Device};
 
 use super::*;
 use crate::slow::{Call, SlowReel, make_call};
+use crate::{MTBSF, MTBSR, MTFSF, MTFSR, MTNOP, MTREW};
 use std::process::Abort;
 use std::test::Fail;
 
@@ -11,10 +12,23 @@ use std::test::Fail;
 const RECORDS: [&[u8]; 5] = [b"a", b"bb", b"ccc", b"dddd", b"eeeee"];
 
 impl ListReel {
-    /// The entries, the place and its offset.
-    pub(crate) fn parts(&self) -> (&[Entry], usize, u64) {
-        (&self.entries, self.place, self.offset)
+    /// The record file that it is, the number of its place, and the offset of that.
+    pub(crate) fn parts(&self) -> (&[u8], usize, u64) {
+        let file = self.reel.medium().bytes();
+        let offset = self.reel.offset();
+        let before = file.get(..offset as usize).unwrap_or(file);
+        (file, count_entries(before), offset)
     }
+}
+
+/// How many entries a record file has.
+fn count_entries(file: &[u8]) -> usize {
+    for at in 0..file.len() {
+        if nth_entry(file, at).is_none() {
+            return at;
+        }
+    }
+    file.len()
 }
 
 /// What a caller learns of a write that knows the reel to be in memory.
@@ -188,8 +202,9 @@ fn make_both(rt: &impl Abort, reel: &mut ListReel, slow: &mut SlowReel, call: Ca
         slow.call(call, &mut slow_into),
         "{call:?}"
     );
-    assert_eq!(rt; reel.place, slow.place(), "place after {call:?}");
-    assert_eq!(rt; reel.offset, slow.offset(), "offset after {call:?}");
+    let (_, place, offset) = reel.parts();
+    assert_eq!(rt; place, slow.place(), "place after {call:?}");
+    assert_eq!(rt; offset, slow.offset(), "offset after {call:?}");
 }
 
 /// Writes so many entries on both reels, goes to the place, and makes the call there. Each binary digit of `shape`
@@ -219,7 +234,8 @@ fn compare_from(
     }
     make_both(rt, &mut reel, &mut slow, call);
     make_both(rt, &mut reel, &mut slow, Call::Read(8));
-    assert_eq!(rt; reel.entries.len(), length, "entries after {call:?}");
+    let (file, _, _) = reel.parts();
+    assert_eq!(rt; count_entries(file), length, "entries after {call:?}");
 }
 
 /// Compares every spacing by up to six, from each place of the list.

@@ -44,3 +44,16 @@ fn stands_on_given_bytes(rt: HostRuntime) -> Result<(), Fail> {
     assert_eq!(&rt; medium.failures(), 0);
     Ok(())
 }
+
+#[test]
+fn frames_what_has_its_room(rt: HostRuntime) -> Result<(), Fail> {
+    let mut medium = MemoryMedium::new(rt.alloc());
+    assert_eq!(&rt; medium.append_framed(b"()", b""), Err(MediumFailed));
+    medium.reserve(7)?;
+    assert_eq!(&rt; medium.append_framed(b"()", b"abc"), Ok(()));
+    assert_eq!(&rt; medium.append_framed(b"()", &[0; 1000]), Err(MediumFailed));
+    assert_eq!(&rt; medium.append_framed(&[0; 1000], b""), Err(MediumFailed));
+    assert_eq!(&rt; medium.failures(), 3);
+    assert_eq!(&rt; medium.into_bytes().as_slice(), b"()abc()".as_slice());
+    Ok(())
+}

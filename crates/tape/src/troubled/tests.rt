@@ -4,8 +4,9 @@ ghost use Rattle.tape.specs.declared.fault.TapeFault.TheVariants.{Device};
 ghost use Rattle.tape.specs.declared.trouble.Trouble.TheVariants.{None};
 
 use super::*;
+use crate::scan::nth_entry;
 use crate::slow::{Call, SlowReel, make_call};
-use crate::{Entry, MTBSF, MTFSF, MTFSR, MTNOP, MTREW, device_steps};
+use crate::{MTBSF, MTFSF, MTFSR, MTNOP, MTREW, device_steps};
 use std::alloc::Global;
 use std::process::Abort;
 use std::test::Fail;
@@ -45,18 +46,14 @@ fn make(rt: &impl Abort, reel: &mut TroubledReel, request: Call, wanted: Result<
     assert_eq!(rt; make_call(reel, request, &mut into), wanted, "{request:?}");
 }
 
-/// Whether these are the entries; one of no bytes is a mark.
-fn has(entries: &[Entry], wanted: &[&[u8]]) -> bool {
-    for (entry, bytes) in entries.iter().zip(wanted.iter()) {
-        let same = match entry {
-            Entry::Record(held) => held.as_slice() == *bytes,
-            Entry::Mark => bytes.is_empty(),
-        };
-        if !same {
+/// Whether these are the entries of a record file; one of no bytes is a mark.
+fn has(file: &[u8], wanted: &[&[u8]]) -> bool {
+    for (at, bytes) in wanted.iter().enumerate() {
+        if nth_entry(file, at) != Some(*bytes) {
             return false;
         }
     }
-    entries.len() == wanted.len()
+    nth_entry(file, wanted.len()).is_none()
 }
 
 /// Makes the call at the place of a reel of the records `abc` and `de`, with the trouble set. The device has to be at
@@ -77,12 +74,9 @@ fn leaves(
     make(rt, &mut reel, request, Err(TapeFault::Device));
     assert_eq!(rt; reel.next_trouble(), Trouble::None);
     assert_eq!(rt; reel.failures(), 1);
-    let (entries, at, _) = reel.reel.parts();
+    let (file, at, _) = reel.reel.parts();
     assert_eq!(rt; at, place as usize, "place after {request:?}, {trouble:?}");
-    assert!(rt;
-        has(entries, wanted),
-        "entries after {request:?}, {trouble:?}"
-    );
+    assert!(rt; has(file, wanted), "entries after {request:?}, {trouble:?}");
 }
 
 #[test]
@@ -246,10 +240,10 @@ fn make_both(rt: &impl Abort, reel: &mut TroubledReel, slow: &mut SlowReel, call
         slow.call(call, &mut slow_into),
         "{call:?}"
     );
-    let (entries, place, offset) = reel.reel.parts();
+    let (file, place, offset) = reel.reel.parts();
     assert_eq!(rt; place, slow.place(), "place after {call:?}");
     assert_eq!(rt; offset, slow.offset(), "offset after {call:?}");
-    assert!(rt; slow.has(entries), "entries after {call:?}");
+    assert!(rt; slow.has(file), "entries after {call:?}");
     assert_eq!(rt;
         (reel.trouble, reel.failures),
         slow.troubles(),

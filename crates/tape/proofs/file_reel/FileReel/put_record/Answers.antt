@@ -1,10 +1,9 @@
-use Rattle.std.proofs.Common.{◌≡◌, ◌+◌, ◌≤◌, [], ◌∷◌, length, refl, sym, append-nil, arith}
+use Rattle.std.proofs.Common.{◌+◌, [], ◌∷◌, length, refl, sym, append-nil, arith}
 use Rattle.std.proofs.lemmas.Result.{err_from_is_err_and}
 use Rattle.tape.specs.Tape.PlainEntry.{Record}
 use Rattle.tape.specs.RecordFile.{image_of}
-use Rattle.tape.proofs.Leaving.{one_record}
 use Rattle.tape.proofs.Writing.{image_length}
-use Rattle.tape.proofs.Putting.{puts_whole, puts_part}
+use Rattle.tape.proofs.Putting.{puts_whole, puts_part, one_record}
 use Rattle.tape.proofs.file_reel.FileReel.put_record.Goals as goal
 
 pub returns-in_err-put_record-clause-run : goal.returns-in_err-put_record-clause-run

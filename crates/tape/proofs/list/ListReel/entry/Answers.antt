@@ -1,23 +1,44 @@
-use Rattle.std.proofs.Common.{◌≡◌, refl, sym, ap, ◌∙◌, Some}
-use Rattle.std.specs.List.{slice_get}
-use Rattle.std.proofs.lemmas.List.{take-append-drop}
-use Rattle.std.proofs.lemmas.Option.{slice_get-map, slice_get_read}
-use Rattle.std.specs.Option.{option_map}
-use Rattle.tape.specs.Tape.{entries_of}
-use Rattle.tape.specs.List.{ListTape, plain_of, plain_entries, told_length}
-use Rattle.tape.proofs.Entries.{mark_told}
+use Rattle.std.proofs.Common.{List, ℕ, length, sym, ap, ◌∙◌, Some}
+use Rattle.tape.specs.List.{told_length, told_bytes, with_front}
+use Rattle.tape.specs.Media.{MemoryBytes}
+use Rattle.tape.proofs.Entries.{none_copied}
+use Rattle.tape.proofs.Held.{entry_seen, mark_seen}
 use Rattle.tape.proofs.list.ListReel.entry.Goals as goal
+
+pub returns-in_err-bytes-clause-told : goal.returns-in_err-bytes-clause-told
+returns-in_err-bytes-clause-told c =
+    let file = c.bytes.ensures.0 ∙ ap (λ (m : MemoryBytes). m.bytes) c.medium.ensures in
+    let none = entry_seen c.self.inside.reel c.bytes.result.now c.args.i c.self.invariant file ∙ c.in_err-bytes.ensures in
+    rw (c.from_residual.ensures, ← c.self.view_is) (sym (ap told_length none))
+
+pub returns-in_err-bytes-clause-copied : goal.returns-in_err-bytes-clause-copied
+returns-in_err-bytes-clause-copied c =
+    let file = c.bytes.ensures.0 ∙ ap (λ (m : MemoryBytes). m.bytes) c.medium.ensures in
+    let none = entry_seen c.self.inside.reel c.bytes.result.now c.args.i c.self.invariant file ∙ c.in_err-bytes.ensures in
+    rw (← c.self.view_is) (none_copied c.args.into.now ∙ ap (λ e. with_front (told_bytes e) c.args.into.now) (sym none))
+
+pub returns-in_err-bytes-clause-mark : goal.returns-in_err-bytes-clause-mark
+returns-in_err-bytes-clause-mark c =
+    let file = c.bytes.ensures.0 ∙ ap (λ (m : MemoryBytes). m.bytes) c.medium.ensures in
+    let none = entry_seen c.self.inside.reel c.bytes.result.now c.args.i c.self.invariant file ∙ c.in_err-bytes.ensures in
+    rw (c.from_residual.ensures, ← c.self.view_is) (λ zero. cc, λ mark. cc)
+
+pub returns-clause-told : goal.returns-clause-told
+returns-clause-told c =
+    let file = c.bytes.ensures.0 ∙ ap (λ (m : MemoryBytes). m.bytes) c.medium.ensures in
+    let at = entry_seen c.self.inside.reel c.bytes.result.now c.args.i c.self.invariant file ∙ c.in_ok-bytes.ensures.at in
+    rw (← c.self.view_is) (sym (ap told_length at ∙ ap (λ (b : List ℕ). Some (length b)) (sym c.in_ok-bytes.ensures.bytes_is)))
+
+pub returns-clause-copied : goal.returns-clause-copied
+returns-clause-copied c =
+    let file = c.bytes.ensures.0 ∙ ap (λ (m : MemoryBytes). m.bytes) c.medium.ensures in
+    let at = entry_seen c.self.inside.reel c.bytes.result.now c.args.i c.self.invariant file ∙ c.in_ok-bytes.ensures.at in
+    rw (← c.self.view_is) (c.copy_front.ensures ∙ ap (λ b. with_front b c.args.into.now) (c.in_ok-bytes.ensures.bytes_is ∙ sym (ap told_bytes at)))
 
 pub returns-clause-mark : goal.returns-clause-mark
 returns-clause-mark c =
-    let held = plain_entries c.self.inside.entries.items in
-    let is : entries_of c.args.self.now.tape ≡ held
-    = ap (λ (r : ListTape). entries_of r.tape) (sym c.self.view_is) ∙ take-append-drop c.self.inside.place held in
-    let lookup = c.in_ok-entry.ensures.lookup in
-    let found : slice_get c.self.inside.entries.items c.args.i ≡ Some c.in_ok-entry.entry.now
-    = ap (λ es. slice_get es c.args.i) (sym c.deref.ensures.value) ∙ slice_get_read c.deref.result.now _ c.args.i _ refl lookup.3.0 lookup.1 in
-    let at : slice_get held c.args.i ≡ Some (plain_of c.in_ok-entry.entry.now)
-    = slice_get-map plain_of c.self.inside.entries.items c.args.i ∙ ap (option_map plain_of) found in
-    let told : told_length (slice_get held c.args.i) ≡ Some c.len.result = ap told_length at ∙ ap Some (sym c.len.ensures) in
-    let law = mark_told held c.args.i c.self.invariant.records in
-    (λ zero. ap (λ e. slice_get e c.args.i) is ∙ law.0 (told ∙ zero), λ mark. sym told ∙ law.1 (ap (λ e. slice_get e c.args.i) (sym is) ∙ mark))
+    let file = c.bytes.ensures.0 ∙ ap (λ (m : MemoryBytes). m.bytes) c.medium.ensures in
+    let at = entry_seen c.self.inside.reel c.bytes.result.now c.args.i c.self.invariant file ∙ c.in_ok-bytes.ensures.at in
+    let told = ap told_length at ∙ ap (λ (b : List ℕ). Some (length b)) (sym c.in_ok-bytes.ensures.bytes_is) in
+    let law = mark_seen c.self.inside.reel c.args.i c.self.invariant in
+    rw (← c.self.view_is) (λ zero. law.0 (told ∙ zero), λ mark. sym told ∙ law.1 mark)

@@ -1,15 +1,16 @@
-use Rattle.tape.proofs.Calls.{list_call}
-use Rattle.tape.proofs.Devices.{tape_step, untroubled}
-use Rattle.tape.specs.Tape.{done_answer}
-use Rattle.tape.specs.Tape.TapeRequest.{WriteMarks}
-use Rattle.tape.specs.declared.trouble.Trouble.TheVariants.{None}
+use Rattle.tape.specs.Tape.{op_request, done_answer}
+use Rattle.tape.proofs.Held.{seen_kept, seen_tape, seen_call, op_adds}
 use Rattle.tape.proofs.list.ListReelReel.op.Goals as goal
 
-pub returns-in-0-clause-call : goal.returns-in-0-clause-call
-returns-in-0-clause-call c =
-    let old = c.args.self.now in
-    let new = c.write_marks.new.self in
-    let asked = WriteMarks c.args.count in
-    let answer = done_answer c.write_marks.result in
-    let step = c.write_marks.ensures.step in
-    rw c.in-0.is (list_call old new asked answer (tape_step old.capacity None old.tape asked answer new.tape step) c.write_marks.ensures.capacity (untroubled old.capacity old.tape asked answer new.tape step))
+pub invariant_of-self : goal.invariant_of-self
+invariant_of-self c = seen_kept c.self.inside.reel c.op.new.self (op_request c.args.op c.args.count) (done_answer c.op.result) c.self.invariant c.op.ensures
+
+pub returns-clause-call : goal.returns-clause-call
+returns-clause-call c =
+    rw (← c.self.view_is)
+    (seen_call c.self.inside.reel c.op.new.self (op_request c.args.op c.args.count) (done_answer c.op.result) c.self.invariant c.op.ensures
+    (op_adds c.args.op c.args.count c.if-op-eq-MTWEOF.false))
+
+pub returns-clause-step : goal.returns-clause-step
+returns-clause-step c =
+    rw (← c.self.view_is) (seen_tape c.self.inside.reel c.op.new.self (op_request c.args.op c.args.count) (done_answer c.op.result) c.self.invariant c.op.ensures)
