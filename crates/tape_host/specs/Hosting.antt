@@ -1,7 +1,10 @@
 -- What a host has in memory, and what ties its drives to the sessions of its connections.
 use Rattle.std.specs.Prelude.{◌≡◌, ◌⊎◌, ℕ, ◌+◌, ◌<◌, Bool, true, false, List, [], length, map, option_map, Option, Some, None, MatchOption}
-use Rattle.rmt_wire.specs.RequestReader.{Unread}
+use Rattle.rmt_wire.specs.Request.{PlainRequest}
+use Rattle.rmt_wire.specs.Reply.{PlainReply, reply_text}
+use Rattle.rmt_wire.specs.RequestReader.{RequestHeld, Unread}
 use Rattle.tape.specs.Trouble.{TroubledTape}
+use Rattle.tape.specs.declared.trouble.Trouble.{Trouble}
 use Rattle.tape.specs.declared.trouble.Trouble.TheVariants.{None as NoTrouble}
 use Rattle.drives.specs.declared.table.DriveTable.{DriveTable}
 use Rattle.drives.specs.declared.view.View.{View}
@@ -10,13 +13,17 @@ use Rattle.drives.specs.Local.{Holders, IsHeldBy}
 use Rattle.drives.specs.ListShop.{ListShop, shop_of, IsShop, troubled_in}
 use Rattle.rmt_server.specs.declared.session.desk.Opened.{Opened}
 use Rattle.rmt_server.specs.declared.session.desk.Desk.{Desk}
-use Rattle.rmt_server.specs.State.{state, reel_of, IsAt}
-use Rattle.rmt_server.specs.Memory.{in_memory, session_seen}
+use Rattle.rmt_server.specs.State.{state, reel_of, IsAt, KeepsDrives}
+use Rattle.rmt_server.specs.Memory.{MemoryState, in_memory, session_seen, scene_seen}
+use Rattle.rmt_server.specs.TroubledServe.{TroubledServe, IsTroubled}
 use Rattle.rmt_server.specs.Hall.{Hall, hall, Side, side}
 use Rattle.tape_host.specs.declared.side.Side.{Side as RealSide}
 use Rattle.tape_host.specs.declared.side.Next.{Next}
 use Rattle.tape_host.specs.declared.side.Next.TheVariants.{Nothing, Seat, Whole}
+use Rattle.tape_host.specs.declared.turn.Turn.{Turn}
+use Rattle.tape_host.specs.declared.turn.Turn.TheVariants as turns
 use Rattle.tape_host.specs.Halls.{side_at}
+use Rattle.tape_host.specs.Turns.{carried_of, sent_back, GivesNothing, GivesFault, GivesRequest}
 
 abbrev pub MemoryDrives : Type 0
 MemoryDrives = DriveTable Holders ListShop View TroubledTape
@@ -94,3 +101,26 @@ pub record IsHosting (drives : MemoryDrives) (sides : List (Option RealSide)) (n
   pub paired : length drives.holds.numbers ≡ length drives.stacks.shop.racks
   pub quiet : drives.stacks.trouble ≡ false
   pub lying : troubled_in drives.stacks.shop ≡ 0
+
+-- The drives are those of a session for which no trouble is set, and each reel stands once.
+pub record IsCalmAt (x : MemoryState) : Type 0 where
+  pub at : IsAt in_memory x
+  pub told : IsShop x.drives.stacks (shop_of x.drives.stacks)
+  pub calm : IsTroubled NoTrouble false x
+
+-- One request was carried out. It leaves the drives those of other sessions.
+pub record IsCarried (trouble : Trouble) (old : MemoryState) (request : PlainRequest) (reply : PlainReply) (new : MemoryState) : Type 0 where
+  pub served : TroubledServe trouble old.drives.holds.numbers old.seat.number (scene_seen old) request reply (scene_seen new) new.drives.holds.numbers
+  pub calm : IsCalmAt new
+  pub kept : KeepsDrives in_memory old new
+  pub same_seats : new.drives.holds.last ≡ old.drives.holds.last
+
+-- One turn of a session: of its reader, drives and session, and of what is on the way back.
+abbrev pub TurnsSession : Trouble → Bool → RequestHeld → MemoryState → List ℕ → Turn → RequestHeld → MemoryState → List ℕ → Type 0
+TurnsSession trouble lost reader old back turns.Nothing reader' new back' =
+    GivesNothing reader × (reader' ≡ reader) × (new ≡ old) × (back' ≡ back)
+TurnsSession trouble lost reader old back (turns.Carried carried) reader' new back' =
+    (request : PlainRequest) × (reply : PlainReply) × GivesRequest reader request reader' × IsCarried trouble old request reply new
+    × (carried ≡ carried_of request reply) × (back' ≡ sent_back lost back (reply_text reply))
+TurnsSession trouble lost reader old back (turns.Broken fault) reader' new back' =
+    GivesFault reader fault × (reader' ≡ reader) × (new ≡ old) × (back' ≡ back)

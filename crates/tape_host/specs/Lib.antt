@@ -1,2 +1,3 @@
 pub mod Halls
 pub mod Hosting
+pub mod Turns

@@ -1,23 +1,27 @@
 //! One server.
-ghost use Rattle.std.specs.Prelude.{◌≡◌, ◌<◌, ◌≤◌, false, true, [], IfOk, IfErr, IsTrue, MatchResult, length, map, replicate};
+ghost use Rattle.std.specs.Prelude.{◌≡◌, ◌+◌, ◌<◌, ◌≤◌, false, true, [], IfOk, IfErr, IfSome, IsTrue, MatchResult, length, map, replicate, vec_len, vec_capacity};
 ghost use Rattle.std.specs.Option.{option_copied, option_map};
 ghost use Rattle.drives.specs.declared.fault.DriveFault.TheVariants.{OutOfMemory};
-ghost use Rattle.drives.specs.Shop.{rack_at, slots_in};
+ghost use Rattle.drives.specs.Shop.{IsDriveNamed, rack_at, slots_in};
 ghost use Rattle.drives.specs.ListShop.{IsShop, shop_of, at_rest, rest_slot, StacksCanFail};
 ghost use Rattle.drives.specs.Arranging.{reel_named, may_arrange};
 ghost use Rattle.rmt_server.specs.Memory.{session_seen};
 ghost use Rattle.rmt_server.specs.Hall.{hall};
 ghost use Rattle.tape_host.specs.Halls.{hosted, side_at, joined, ended, all_ended, restacked, HasRoom, IsPushed, IsHolder, IsHeldOnce};
+ghost use Rattle.tape_host.specs.Turns.{TurnsAt, ServesAt};
 
+use crate::serving::take_turn;
 use crate::side::{Next, Side, find_side, put_side, take_side};
-use drives::{DriveFault, DriveTable, ListStacks, ListedReel, LocalHolds, told_orders};
+use crate::turn::Turn;
+use drives::{DriveFault, DriveTable, ListStacks, ListedReel, LocalHolds, Stacks, told_orders};
 use rmt_server::{
     Session, more_seats, one_holder, one_scene, open_is_held, still_at, untroubled_end,
 };
+use rmt_wire::READER_LIMIT;
 use std::alloc::{AllocError, Global};
 use std::marker::Model;
 use std::mem;
-use tape::TroubledReel;
+use tape::{Trouble, TroubledReel};
 
 /// One server: its drives, whose reels are in memory, and the sides of all its connections.
 ///
@@ -135,6 +139,51 @@ impl Host {
         count
     }
 
+    /// One turn of the server's side of a connection: it carries out one request of what was pushed. The device call that the
+    /// request makes, if it makes one, fails as the trouble says, and no other does. The reply goes to the end of `back`, which
+    /// has spare room for `READER_LIMIT` bytes; where it is lost `back` stays as it is. Bytes that are no request end the
+    /// side, as `end` does.
+    ///
+    /// Nothing is done where the side is not live, and where what was pushed is the beginning of a request.
+    pub fn serve(
+        &mut self,
+        connection: usize,
+        trouble: Trouble,
+        back: &mut Vec<u8>,
+        lost: bool,
+    ) -> Turn
+        requires room { vec_len back.old + READER_LIMIT ≤ vec_capacity back.old }
+        ensures { ServesAt trouble lost self.old connection back.old.items result self.new back.new.items }
+    {
+        let turn = self.turn(connection, trouble, back, lost);
+        if let Turn::Broken(_) = turn {
+            self.end(connection);
+        }
+        turn
+    }
+
+    /// One turn of the server's side of a connection, as `serve` takes it; but a fault does not end the side.
+    fn turn(&mut self, connection: usize, trouble: Trouble, back: &mut Vec<u8>, lost: bool) -> Turn
+        requires room { vec_len back.old + READER_LIMIT ≤ vec_capacity back.old }
+        ensures { TurnsAt self.old trouble lost self.old connection (side_at self.old.hall.sides connection) back.old.items result
+            self.new back.new.items }
+    {
+        one_holder::<ListStacks>();
+        let Some(mut side) = take_side(&mut self.sides, connection) else {
+            return Turn::Nothing;
+        };
+        let turn = take_turn(
+            &mut side.reader,
+            &mut side.session,
+            &mut self.drives,
+            trouble,
+            back,
+            lost,
+        );
+        put_side(&mut self.sides, connection, side);
+        turn
+    }
+
     /// Ends the server's side of a connection: what it has open is closed, and the side is no longer live. Where it is not live
     /// nothing is done. Connections are numbered from 1.
     pub fn end(&mut self, connection: usize)
@@ -157,12 +206,20 @@ impl Host {
         }
     }
 
+    /// The first drive of that name.
+    pub fn drive(&self, name: &[u8]) -> Option<usize>
+        ensures { IsDriveNamed name.now self.now.hall.shop result }
+    {
+        self.drives.stacks.drive(name)
+    }
+
     /// The session of a connection, while the server's side is live.
     pub fn session(&self, connection: usize) -> Option<&Session<LocalHolds, ListStacks>>
-        ensures { option_map (λ s. session_seen s.opened) (option_copied result) ≡ option_map (λ s. s.session) (side_at self.now.hall.sides connection) }
+        ensures seen { option_map (λ s. session_seen s.opened) (option_copied result) ≡ option_map (λ s. s.session) (side_at self.now.hall.sides connection) }
+        ensures number { IfSome (option_copied result) (λ s. s.seat.number ≡ connection) }
     {
-        let side = find_side(&self.sides, connection)?;
-        Some(&side.session)
+        let live = find_side(&self.sides, connection)?;
+        Some(&live.session)
     }
 
     /// The reels of the drive's stack in order, first the one that is latched or would be latched next.

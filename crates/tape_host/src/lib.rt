@@ -1,12 +1,16 @@
 //! One tape server with the sessions of all its connections.
 //!
 //! `Host` has the drives, with reels in memory, and of each connection a reader of requests and a session. Connections are
-//! numbered from 1 in the order in which they are admitted, and a session's seat has the number of its connection.
+//! numbered from 1 in the order in which they are admitted, and a session's seat has the number of its connection. A turn
+//! carries out one request of one connection.
 #![tactic(auto)]
 
 mod host;
+mod serving;
 mod side;
 #[cfg(test)]
 mod tests;
+mod turn;
 
 pub use host::Host;
+pub use turn::{Answered, Asked, Carried, Turn};

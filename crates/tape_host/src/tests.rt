@@ -1,12 +1,14 @@
-//! Connections of one server, which say what no request is.
+//! Connections of one server: what they have room for, and one conversation.
 
 ghost use Rattle.std.specs.Prelude.{◌≡◌, IfOk, length};
 ghost use Rattle.drives.specs.ListShop.{IsShop, shop_of, StacksCanFail};
 
-use crate::Host;
+use crate::{Answered, Asked, Carried, Host, Turn};
 use drives::ListStacks;
+use rmt_wire::{READER_LIMIT, WireFault};
 use std::alloc::Global;
 use std::test::Fail;
+use tape::Trouble;
 
 /// The drive `/dev/st0` with one reel.
 fn one_reel(alloc: Global) -> Result<ListStacks, Fail>
@@ -53,5 +55,93 @@ const ROOMS: [Option<usize>; 6] = [None, Some(65548), Some(65543), None, Some(65
 fn ended_sides_take_nothing(rt: HostRuntime) -> Result<(), Fail> {
     let mut host = Host::new(rt.alloc(), 1, one_reel(rt.alloc())?)?;
     assert!(rt; rooms(&mut host)? == ROOMS);
+    Ok(())
+}
+
+/// Bytes that are pushed, how the device call of the request fails, whether its reply is lost, and what was asked and answered.
+type Row<'a> = (&'a [u8], Trouble, bool, Asked, Answered);
+
+/// A record is written, a second one meets a device failure, and the reply to marks behind the first is lost. Then the record is
+/// read back.
+const ROWS: [Row<'_>; 6] = [
+    (
+        b"O/dev/st0\n2\n",
+        Trouble::None,
+        false,
+        Asked::Open { writes: true },
+        Answered::Number(0),
+    ),
+    (
+        b"W5\nhello",
+        Trouble::None,
+        false,
+        Asked::Write,
+        Answered::Number(5),
+    ),
+    (
+        b"W1\nx",
+        Trouble::Kept,
+        false,
+        Asked::Write,
+        Answered::Error(5),
+    ),
+    (
+        b"I0\n1\n",
+        Trouble::None,
+        true,
+        Asked::Marks,
+        Answered::Number(1),
+    ),
+    (
+        b"I5\n1\n",
+        Trouble::Lost,
+        false,
+        Asked::Other,
+        Answered::Number(1),
+    ),
+    (b"R9\n", Trouble::None, false, Asked::Other, Answered::Data),
+];
+
+const REPLIES: &[u8] = b"A0\nA5\nE5\nInput/output error\nA1\nA5\nhello";
+
+/// Whether each turn of connection 1 carries out its request, and the replies are those.
+fn rows_are_met(host: &mut Host, back: &mut Vec<u8>) -> Result<bool, Fail> {
+    let mut met = true;
+    for (bytes, trouble, lost, asked, answered) in ROWS {
+        back.reserve(READER_LIMIT)?;
+        host.push(1, bytes);
+        let turn = host.serve(1, trouble, back, lost);
+        met = met && turn == Turn::Carried(Carried { asked, answered });
+    }
+    Ok(met && back.as_slice() == REPLIES)
+}
+
+/// The beginning of a read, a byte in it that is no digit, and a request behind it.
+const ENDING: [(&[u8], Turn); 3] = [
+    (b"R9", Turn::Nothing),
+    (b"x", Turn::Broken(WireFault::BadNumber)),
+    (b"C\n", Turn::Nothing),
+];
+
+/// Whether each turn of connection 1 comes to what is wanted.
+fn ending_is_met(host: &mut Host, back: &mut Vec<u8>) -> Result<bool, Fail> {
+    let mut met = true;
+    for (bytes, turn) in ENDING {
+        back.reserve(READER_LIMIT)?;
+        host.push(1, bytes);
+        met = met && host.serve(1, Trouble::None, back, false) == turn;
+    }
+    Ok(met)
+}
+
+#[test]
+fn a_turn_answers_one_request(rt: HostRuntime) -> Result<(), Fail> {
+    let mut host = Host::new(rt.alloc(), 1, one_reel(rt.alloc())?)?;
+    host.prepare()?;
+    host.admit();
+    let mut back = Vec::new(rt.alloc());
+    assert!(rt; rows_are_met(&mut host, &mut back)?);
+    assert!(rt; ending_is_met(&mut host, &mut back)?);
+    assert!(rt; host.room(1).is_none() && host.drive(b"/dev/st0") == Some(0));
     Ok(())
 }

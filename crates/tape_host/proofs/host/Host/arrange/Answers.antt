@@ -1,8 +1,15 @@
-use Rattle.std.proofs.Common.{◌≡◌, map, MatchResult, sym, subst}
+use Rattle.std.proofs.Common.{◌≡◌, map, IsTrue, MatchResult, sym, subst}
+use Rattle.drives.specs.Arranging.{may_arrange}
 use Rattle.tape_host.specs.Halls.{Hosted, hosted, restacked, IsHolder}
 use Rattle.tape_host.specs.Hosting.{hall_of, is_whole}
 use Rattle.tape_host.proofs.Restacked.{restacked_hosting, restacked_seen}
 use Rattle.tape_host.proofs.host.Host.arrange.Goals as goal
+
+pub arrange-requires-clause-may : goal.arrange-requires-clause-may
+arrange-requires-clause-may c =
+    let names = map (λ n. n.now) c.args.names.now in
+    subst IsTrue (sym (c.told_orders.ensures c.self.inside.drives.stacks c.args.drive names))
+    (subst (λ (v : Hosted). IsTrue (may_arrange v.hall.shop c.args.drive names)) (sym c.self.view_is) c.requires.may)
 
 pub invariant_of-self : goal.invariant_of-self
 invariant_of-self c = (

@@ -1,0 +1,67 @@
+-- One request under a trouble that is set before it and taken back after it.
+use Rattle.std.proofs.Common.{◌≡◌, Bool, false, Option, Some, None, refl, sym, subst, ◌∙◌}
+use Rattle.rmt_wire.specs.Request.{PlainRequest}
+use Rattle.rmt_wire.specs.Reply.{PlainReply}
+use Rattle.tape.specs.Trouble.{TroubledTape}
+use Rattle.tape.specs.declared.trouble.Trouble.{Trouble}
+use Rattle.tape.specs.declared.trouble.Trouble.TheVariants.{None as NoTrouble}
+use Rattle.drives.specs.ListShop.{troubled_in}
+use Rattle.drives.specs.Shop.{EachReelOnce}
+use Rattle.rmt_server.specs.declared.session.desk.Opened.{Opened}
+use Rattle.rmt_server.specs.Session.{Scene}
+use Rattle.rmt_server.specs.State.{drive_of, IsAt, Tells, KeepsDrives}
+use Rattle.rmt_server.specs.Carrying.{IsCarriedOut}
+use Rattle.rmt_server.specs.Troubling.{with_trouble}
+use Rattle.rmt_server.specs.Memory.{MemoryState, in_memory, scene_seen}
+use Rattle.rmt_server.specs.TroubledServe.{TroubledServe, IsTroubled, IsSetFor, set_for, with_troubles, IsServedUnder}
+use Rattle.tape_host.specs.Hosting.{IsCalmAt, IsCarried}
+use Rattle.tape_host.proofs.Ended.{TellsScene}
+
+-- what the laws of sessions say
+pub record Laws : Type 0 where
+  pub at : (reel : Trouble) (stacks : Bool) (x : MemoryState) → IsAt in_memory x → IsAt in_memory (with_troubles reel stacks x)
+  pub told : (reel : Trouble) (stacks : Bool) (x : MemoryState) (v : Scene) → Tells in_memory x v → Tells in_memory (with_troubles reel stacks x) v
+  pub set : (reel : Trouble) (stacks : Bool) (x : MemoryState) → troubled_in x.drives.stacks.shop ≡ 0 → IsTroubled reel stacks (with_troubles reel stacks x)
+  pub request : (trouble : Trouble) (request : PlainRequest) (x : MemoryState) → troubled_in x.drives.stacks.shop ≡ 0 → IsSetFor trouble request (set_for trouble request x)
+  pub scene : TellsScene
+  pub one : (x : MemoryState) (v : Scene) → Tells in_memory x v → v ≡ scene_seen x
+  pub serves : (trouble : Trouble) (old new : MemoryState) (before : Scene) (request : PlainRequest) (reply : PlainReply) → IsAt in_memory old → Tells in_memory old before
+      → IsSetFor trouble request old → IsCarriedOut in_memory old request reply new → IsServedUnder trouble old before request reply new
+
+same_drive : (trouble : Trouble) (opened : Option (Opened TroubledTape)) → drive_of (with_trouble trouble opened) ≡ drive_of opened
+same_drive trouble None = refl
+same_drive trouble (Some device) = refl
+
+module _ (laws : Laws) (trouble : Trouble) (request : PlainRequest) (reply : PlainReply) (reel : Trouble) (stacks : Bool) (old middle : MemoryState)
+    (placed : set_for trouble request old ≡ with_troubles reel stacks old) (calm : IsCalmAt old)
+    (carried : IsCarriedOut in_memory (with_troubles reel stacks old) request reply middle) where
+  under : IsServedUnder trouble (with_troubles reel stacks old) (scene_seen old) request reply middle
+  under = laws.serves trouble (with_troubles reel stacks old) middle (scene_seen old) request reply (laws.at reel stacks old calm.at)
+      (laws.told reel stacks old (scene_seen old) (laws.scene old calm.told))
+      (subst (IsSetFor trouble request) placed (laws.request trouble request old calm.calm.lying)) carried
+
+  tells : Tells in_memory (with_troubles NoTrouble false middle) under.after
+  tells = laws.told NoTrouble false middle under.after under.tells
+
+  kept : KeepsDrives in_memory old (with_troubles NoTrouble false middle)
+  kept = record {
+    number = carried.kept.number;
+    others = carried.kept.others;
+    same_holds = carried.kept.same_holds;
+    same_stacks = carried.kept.same_stacks;
+    counted = carried.kept.counted;
+    elsewhere = λ d a b l. carried.kept.elsewhere d (λ e. a (sym (same_drive reel old.opened) ∙ e)) (λ e. b (same_drive NoTrouble middle.opened ∙ e)) l;
+  }
+
+  pub carried_so : IsCarried trouble old request reply (with_troubles NoTrouble false middle)
+  carried_so = record {
+    served = subst (λ v. TroubledServe trouble old.drives.holds.numbers old.seat.number (scene_seen old) request reply v middle.drives.holds.numbers)
+        (laws.one (with_troubles NoTrouble false middle) under.after tells) under.served;
+    calm = record {
+      at = laws.at NoTrouble false middle carried.at;
+      told = (refl, subst EachReelOnce tells.shop.0 tells.shop.1);
+      calm = laws.set NoTrouble false middle under.lying;
+    };
+    kept = kept;
+    same_seats = carried.same_seats;
+  }

@@ -1,0 +1,172 @@
+-- What one turn of a session leaves of a host.
+use Rattle.std.proofs.Common.{◌≡◌, ◌≢◌, ◌⊎◌, ℕ, ◌<◌, Bool, List, length, map, slice_set, slice_index, option_map, Option, Some, None, refl, sym, ap, subst, ◌∙◌, inl, inr, arith}
+use Rattle.std.proofs.lemmas.List.{get_or-set_same, get_or-set_other, length-set}
+use Rattle.std.proofs.lemmas.Option.{same_Some}
+use Rattle.rmt_wire.specs.Request.{PlainRequest}
+use Rattle.rmt_wire.specs.Reply.{PlainReply}
+use Rattle.rmt_wire.specs.RequestReader.{RequestHeld, Unread}
+use Rattle.tape.specs.declared.trouble.Trouble.{Trouble}
+use Rattle.drives.specs.Local.{IsHeldBy}
+use Rattle.drives.specs.ListShop.{shop_of}
+use Rattle.rmt_server.specs.State.{state}
+use Rattle.rmt_server.specs.Memory.{MemoryState, session_seen, scene_seen}
+use Rattle.rmt_server.specs.TroubledServe.{drive_in, with_holder, TroubledServe}
+use Rattle.rmt_server.specs.Hall.{hall}
+use Rattle.tape_host.specs.declared.side.Side.{Side as RealSide}
+use Rattle.tape_host.specs.declared.side.Next.{Next}
+use Rattle.tape_host.specs.declared.turn.Turn.{Turn}
+use Rattle.tape_host.specs.declared.turn.Turn.TheVariants as turns
+use Rattle.tape_host.specs.Halls.{Hosted, hosted, side_at, with_side_at}
+use Rattle.tape_host.specs.Turns.{TurnsAt}
+use Rattle.tape_host.specs.Hosting.{MemoryDrives, seen, hall_of, IsLive, IsWaiting, IsHosting, IsCalmAt, IsCarried, TurnsSession}
+use Rattle.tape_host.proofs.Hosted.{side_map}
+use Rattle.tape_host.proofs.Ended.{OthersStay, side_within, side_other, side_same, length_with, map_with, with_own, live_stays, waiting_stays}
+
+eq_or_ne : (m n : ℕ) → (m ≡ n) ⊎ (m ≢ n)
+eq_or_ne m n = grind arith
+
+-- who holds a drive once one drive has this holder
+holder_set : (drive : Option ℕ) (m d n : ℕ) (holders : List ℕ) → d < length holders → slice_index (with_holder drive m holders) d ≡ n → (n ≡ m) ⊎ (slice_index holders d ≡ n)
+holder_set None m d n holders l e = inr e
+holder_set (Some drive) m d n holders l e = elim (eq_or_ne d drive) [
+  | inl same ↦ inl (sym e ∙ ap (slice_index (slice_set holders drive m)) same ∙ get_or-set_same holders drive m 0 (subst (λ x. x < length holders) same l))
+  | inr other ↦ inr (sym (get_or-set_other holders drive d m 0 other) ∙ e)
+]
+
+length_held : (drive : Option ℕ) (n : ℕ) (holders : List ℕ) → length (with_holder drive n holders) ≡ length holders
+length_held None n holders = refl
+length_held (Some drive) n holders = length-set holders drive n
+
+-- who held a drive before it that has a holder after a turn of side k
+holder_after : (before after : Option ℕ) (k d n : ℕ) (holders : List ℕ) → d < length holders → slice_index (with_holder after k (with_holder before 0 holders)) d ≡ n → 0 < n
+    → (n ≡ k) ⊎ (slice_index holders d ≡ n)
+holder_after before after k d n holders l e x =
+    elim (holder_set after k d n (with_holder before 0 holders) (subst (λ m. d < m) (sym (length_held before 0 holders)) l) e) [
+      | inl mine ↦ inl mine
+      | inr was ↦ elim (holder_set before 0 d n holders l was) [
+        | inl none ↦ absurd (omega (arith, none, x))
+        | inr first ↦ inr first
+      ]
+    ]
+
+pub calm_at : (drives : MemoryDrives) (sides : List (Option RealSide)) (next : Next) (k : ℕ) (s : RealSide) → IsHosting drives sides next → side_at sides k ≡ Some s
+    → IsCalmAt (state drives s.session)
+calm_at drives sides next k s h is = let l = h.live k s is in record { at = l.at; told = h.told; calm = record { online = l.calm; next = h.quiet; lying = h.lying } }
+
+module _ (others : OthersStay) {drives drives' : MemoryDrives} {sides : List (Option RealSide)} {next : Next} (h : IsHosting drives sides next) (k : ℕ)
+    (s after : RealSide) (is : side_at sides k ≡ Some s) (readable : (bytes : List ℕ) × Unread after.reader bytes) (trouble : Trouble)
+    (request : PlainRequest) (reply : PlainReply) (c : IsCarried trouble (state drives s.session) request reply (state drives' after.session)) where
+  live : IsLive drives k s
+  live = h.live k s is
+
+  here : side_at (with_side_at sides k (Some after)) k ≡ Some after
+  here = let within = side_within sides k s is in side_same sides k (Some after) within.0 within.1
+
+  after_live : IsLive drives' k after
+  after_live = record { at = c.calm.at; number = c.kept.number ∙ live.number; readable = readable; calm = c.calm.calm.online }
+
+  carried_live : (n : ℕ) (x : RealSide) → side_at (with_side_at sides k (Some after)) n ≡ Some x → IsLive drives' n x
+  carried_live n x e = elim (eq_or_ne n k) [
+    | inl same ↦ (
+        let found = subst (λ m. side_at (with_side_at sides k (Some after)) m ≡ Some x) same e in
+        subst (λ m. IsLive drives' m x) (sym same) (subst (IsLive drives' k) (same_Some after x (sym here ∙ found)) after_live))
+    | inr apart ↦ live_stays others live.number live.at c.calm.at c.kept n x apart (h.live n x (sym (side_other sides k n (Some after) apart) ∙ e))
+  ]
+
+  -- a side stays at its place
+  still_there : (n : ℕ) → (x : RealSide) × (side_at sides n ≡ Some x) → (x : RealSide) × (side_at (with_side_at sides k (Some after)) n ≡ Some x)
+  still_there n found = elim (eq_or_ne n k) [
+    | inl same ↦ (after, ap (side_at (with_side_at sides k (Some after))) same ∙ here)
+    | inr apart ↦ (found.0, side_other sides k n (Some after) apart ∙ found.1)
+  ]
+
+  carried_held : (d n : ℕ) → IsHeldBy drives'.holds d n → 0 < n → (x : RealSide) × (side_at (with_side_at sides k (Some after)) n ≡ Some x)
+  carried_held d n holder x =
+      let l : d < length drives.holds.numbers = subst (λ m. d < m) c.kept.same_holds holder.0 in
+      elim (holder_after (drive_in (session_seen s.session.opened)) (drive_in (session_seen after.session.opened)) s.session.seat.number d n drives.holds.numbers l
+      (ap (λ l. slice_index l d) (sym c.served.held) ∙ holder.1) x) [
+        | inl mine ↦ (after, ap (side_at (with_side_at sides k (Some after))) (mine ∙ live.number) ∙ here)
+        | inr was ↦ still_there n (h.held d n (l, was) x)
+      ]
+
+  pub carried_hosting : IsHosting drives' (with_side_at sides k (Some after)) next
+  carried_hosting = record {
+    live = carried_live;
+    held = carried_held;
+    waiting = subst (λ n. IsWaiting drives' n next) (sym (length_with sides k (Some after)))
+        (waiting_stays others live.number live.at c.calm.at c.kept (length sides) next (side_within sides k s is).1 c.same_seats h.waiting);
+    told = c.calm.told;
+    paired = c.kept.same_holds ∙ h.paired ∙ sym c.kept.same_stacks;
+    quiet = c.calm.calm.next;
+    lying = c.calm.calm.lying;
+  }
+
+-- a side of this reader and this session
+abbrev side_from : RequestHeld → MemoryState → RealSide
+side_from reader x = record { reader = reader; session = record { seat = x.seat; opened = x.opened } }
+
+module _ (drives drives' : MemoryDrives) (sides : List (Option RealSide)) (k : ℕ) (s after : RealSide) (is : side_at sides k ≡ Some s)
+    (reader : after.reader ≡ s.reader) (same : state drives' after.session ≡ state drives s.session) where
+  same_side : after ≡ s
+  same_side = ap (λ r. side_from r (state drives' after.session)) reader ∙ ap (side_from s.reader) same
+
+  same_sides : with_side_at sides k (Some after) ≡ sides
+  same_sides = ap (λ x. with_side_at sides k (Some x)) same_side ∙ ap (with_side_at sides k) (sym is) ∙ with_own sides k
+
+  same_drives : drives' ≡ drives
+  same_drives = ap (λ (x : MemoryState). x.drives) same
+
+  -- nothing was done
+  pub same_hosting : (next : Next) → IsHosting drives sides next → IsHosting drives' (with_side_at sides k (Some after)) next
+  same_hosting next h = subst (λ d. IsHosting d (with_side_at sides k (Some after)) next) (sym same_drives) (subst (λ xs. IsHosting drives xs next) (sym same_sides) h)
+
+  pub same_hall : hall_of drives' (with_side_at sides k (Some after)) ≡ hall_of drives sides
+  same_hall = ap (λ d. hall_of d (with_side_at sides k (Some after))) same_drives ∙ ap (hall_of drives) same_sides
+
+module _ (others : OthersStay) {drives : MemoryDrives} (drives' : MemoryDrives) {sides : List (Option RealSide)} {next : Next} (h : IsHosting drives sides next) (k : ℕ)
+    (s after : RealSide) (is : side_at sides k ≡ Some s) (trouble : Trouble) (lost : Bool) (back back' : List ℕ) where
+  pub turned_hosting : (turn : Turn) → TurnsSession trouble lost s.reader (state drives s.session) back turn after.reader (state drives' after.session) back'
+      → IsHosting drives' (with_side_at sides k (Some after)) next
+  turned_hosting turns.Nothing t = same_hosting drives drives' sides k s after is t.1 t.2 next h
+  turned_hosting (turns.Carried carried) t = carried_hosting others h k s after is (t.2.1, t.2.4) trouble t.0 t.1 t.3
+  turned_hosting (turns.Broken fault) t = same_hosting drives drives' sides k s after is t.1 t.2 next h
+
+  turned_from : (turn : Turn) (ready : Bool) → TurnsSession trouble lost s.reader (state drives s.session) back turn after.reader (state drives' after.session) back'
+      → TurnsAt (hosted (hall_of drives sides) ready) trouble lost (hosted (hall_of drives sides) ready) k (Some (seen s)) back turn
+      (hosted (hall_of drives' (with_side_at sides k (Some after))) ready) back'
+  turned_from turns.Nothing ready t = (t.0, ap (λ x. hosted x ready) (same_hall drives drives' sides k s after is t.1 t.2), t.3)
+  turned_from (turns.Carried carried) ready t = (
+    t.0,
+    t.1,
+    record {
+      reached = after.reader;
+      shop = shop_of drives'.stacks;
+      session = session_seen after.session.opened;
+      holders = drives'.holds.numbers;
+      given = t.2;
+      served = subst (λ n. TroubledServe trouble drives.holds.numbers n (scene_seen (state drives s.session)) t.0 t.1 (scene_seen (state drives' after.session)) drives'.holds.numbers)
+          (h.live k s is).number t.3.served;
+      after = ap (hall (shop_of drives'.stacks) drives'.holds.numbers) (map_with seen sides k (Some after));
+    },
+    refl,
+    t.4,
+    t.5,
+  )
+  turned_from (turns.Broken fault) ready t = (t.0, ap (λ x. hosted x ready) (same_hall drives drives' sides k s after is t.1 t.2), t.3)
+
+  -- it is seen as a turn
+  pub turned_seen : (turn : Turn) (ready : Bool) (new : Hosted) → TurnsSession trouble lost s.reader (state drives s.session) back turn after.reader (state drives' after.session) back'
+      → new ≡ hosted (hall_of drives' (with_side_at sides k (Some after))) ready
+      → TurnsAt (hosted (hall_of drives sides) ready) trouble lost (hosted (hall_of drives sides) ready) k (side_at (map (option_map seen) sides) k) back turn new back'
+  turned_seen turn ready new t e =
+      let old = hosted (hall_of drives sides) ready in
+      subst (λ o. TurnsAt old trouble lost old k o back turn new back') (sym (side_map seen sides k ∙ ap (option_map seen) is))
+      (subst (λ v. TurnsAt old trouble lost old k (Some (seen s)) back turn v back') (sym e) (turned_from turn ready t))
+
+-- a side that is not live takes no turn
+pub turned_none : (drives : MemoryDrives) (sides : List (Option RealSide)) (ready : Bool) (k : ℕ) (trouble : Trouble) (lost : Bool) (back : List ℕ) (new : Hosted)
+    → side_at sides k ≡ None → new ≡ hosted (hall_of drives sides) ready
+    → TurnsAt (hosted (hall_of drives sides) ready) trouble lost (hosted (hall_of drives sides) ready) k (side_at (map (option_map seen) sides) k) back turns.Nothing new back
+turned_none drives sides ready k trouble lost back new is e =
+    let old = hosted (hall_of drives sides) ready in
+    subst (λ o. TurnsAt old trouble lost old k o back turns.Nothing new back) (sym (side_map seen sides k ∙ ap (option_map seen) is)) (refl, e, refl)

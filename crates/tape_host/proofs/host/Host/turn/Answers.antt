@@ -1,0 +1,49 @@
+use Rattle.std.proofs.Common.{Some, None, length, sym, ap, subst, ◌∙◌, arith}
+use Rattle.tape_host.specs.declared.side.Side.{Side as RealSide}
+use Rattle.tape_host.specs.Halls.{Hosted, hosted, side_at, with_side_at}
+use Rattle.tape_host.specs.Turns.{TurnsAt}
+use Rattle.tape_host.specs.Hosting.{hall_of, is_whole, IsHosting}
+use Rattle.tape_host.proofs.Ended.{length_with}
+use Rattle.tape_host.proofs.Pushed.{put_back}
+use Rattle.tape_host.proofs.Turned.{turned_hosting, turned_seen}
+use Rattle.tape_host.proofs.host.Host.turn.Goals as goal
+
+pub invariant_of-self-2 : goal.invariant_of-self-2
+invariant_of-self-2 c =
+    let sides = c.self.inside.sides.items in
+    let k = c.args.connection in
+    let is = sym c.take_side.ensures.taken ∙ c.in-Some.is in
+    let after : RealSide = record { reader = c.take_turn-turn.new.reader; session = c.take_turn-turn.new.session } in (
+      subst (λ xs. IsHosting c.take_turn-turn.new.drives xs c.self.inside.next)
+          (sym (c.put_side.ensures.put ∙ ap (λ xs. with_side_at xs k (Some after)) c.take_side.ensures.left ∙ put_back sides k None (Some after)))
+          (turned_hosting c.one_holder.ensures.others c.take_turn-turn.new.drives c.self.invariant.0 k c.in-Some.side after is c.args.trouble c.args.lost
+          c.args.back.now.items c.take_turn-turn.new.back.items c.take_turn-turn.result c.take_turn-turn.ensures),
+      λ whole. omega (
+        arith,
+        c.put_side.new.sides.ok.0,
+        ap length c.put_side.ensures.put,
+        length_with c.take_side.new.sides.items k (Some after),
+        ap length c.take_side.ensures.left,
+        length_with sides k None,
+        c.self.inside.sides.ok.0,
+        c.put_side.ensures.room,
+        c.take_side.ensures.room,
+        c.self.invariant.1 whole,
+      ),
+    )
+
+pub returns : goal.returns
+returns c =
+    let drives = c.self.inside.drives in
+    let sides = c.self.inside.sides.items in
+    let ready = is_whole c.self.inside.next in
+    let k = c.args.connection in
+    let back = c.args.back.now.items in
+    let is = sym c.take_side.ensures.taken ∙ c.in-Some.is in
+    let after : RealSide = record { reader = c.take_turn-turn.new.reader; session = c.take_turn-turn.new.session } in
+    let new = hosted (hall_of c.take_turn-turn.new.drives c.put_side.new.sides.items) ready in
+    subst (λ (v : Hosted). TurnsAt v c.args.trouble c.args.lost v k (side_at v.hall.sides k) back c.take_turn-turn.result new c.take_turn-turn.new.back.items) c.self.view_is
+    (turned_seen c.one_holder.ensures.others c.take_turn-turn.new.drives c.self.invariant.0 k c.in-Some.side after is c.args.trouble c.args.lost
+    back c.take_turn-turn.new.back.items c.take_turn-turn.result ready new c.take_turn-turn.ensures
+    (ap (λ xs. hosted (hall_of c.take_turn-turn.new.drives xs) ready)
+    (c.put_side.ensures.put ∙ ap (λ xs. with_side_at xs k (Some after)) c.take_side.ensures.left ∙ put_back sides k None (Some after))))

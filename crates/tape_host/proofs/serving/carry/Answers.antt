@@ -1,0 +1,31 @@
+use Rattle.std.proofs.Common.{sym, subst}
+use Rattle.rmt_wire.specs.Lent.{plain_request, plain_reply}
+use Rattle.rmt_server.specs.State.{state}
+use Rattle.rmt_server.specs.Carrying.{IsCarriedOut}
+use Rattle.rmt_server.specs.Memory.{in_memory}
+use Rattle.tape_host.specs.Hosting.{IsCarried}
+use Rattle.tape_host.proofs.Carrying.{Laws, carried_so}
+use Rattle.tape_host.proofs.serving.carry.Goals as goal
+
+pub returns : goal.returns
+returns c =
+    let old = state c.args.drives.now c.args.session.now in
+    let middle = state c.carry_out.new.drives c.carry_out.follows.lender-at-none in
+    let request = plain_request c.args.request in
+    let reply = plain_reply c.carry_out.result in
+    let laws : Laws = record {
+      at = c.troubles_set.ensures.at;
+      told = c.troubles_set.ensures.told;
+      set = c.troubles_set.ensures.set;
+      request = c.troubles_set.ensures.request;
+      scene = c.one_scene.ensures.told;
+      one = c.one_scene.ensures.one;
+      serves = c.troubled_serve.ensures;
+    } in
+    let carried = subst (λ x. IsCarriedOut in_memory x request reply middle) c.set_troubles.ensures c.carry_out.follows.holds-at-none in (
+      reply,
+      subst (IsCarried c.args.trouble old request reply) (sym c.clear_troubles.ensures)
+          (carried_so laws c.args.trouble request reply c.place-reel.result.0 c.place-reel.result.1 old middle (c.place-reel.ensures old) c.requires.calm carried),
+      c.new-carried.ensures,
+      c.send_back.ensures,
+    )

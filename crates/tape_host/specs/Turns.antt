@@ -1,0 +1,96 @@
+-- One turn of a connection: one request of what was pushed there, with its reply.
+use Rattle.std.specs.Prelude.{◌≡◌, ℕ, ◌==◌, Bool, true, false, if◌then◌else◌, List, ◌++◌, Option, Some, None, Result, Ok, Err}
+use Rattle.rmt_wire.specs.Request.{PlainRequest}
+use Rattle.rmt_wire.specs.Request.PlainRequest.{Open, Write, Op}
+use Rattle.rmt_wire.specs.Reply.{PlainReply, reply_text}
+use Rattle.rmt_wire.specs.Reply.PlainReply.{Done, Data, Error}
+use Rattle.rmt_wire.specs.RequestParts.{Gives}
+use Rattle.rmt_wire.specs.RequestReader.{RequestHeld, Unread}
+use Rattle.rmt_wire.specs.declared.fault.WireFault.{WireFault}
+use Rattle.tape.specs.declared.trouble.Trouble.{Trouble}
+use Rattle.drives.specs.Shop.{Shop}
+use Rattle.rmt_server.specs.declared.access.Access.{Access}
+use Rattle.rmt_server.specs.Access.{access_of, writes}
+use Rattle.rmt_server.specs.Session.{PlainSession, scene}
+use Rattle.rmt_server.specs.TroubledServe.{TroubledServe}
+use Rattle.rmt_server.specs.Hall.{Hall, hall, Side, side}
+use Rattle.tape_host.specs.declared.turn.Asked.{Asked}
+use Rattle.tape_host.specs.declared.turn.Asked.TheVariants as asked
+use Rattle.tape_host.specs.declared.turn.Answered.{Answered}
+use Rattle.tape_host.specs.declared.turn.Answered.TheVariants as answered
+use Rattle.tape_host.specs.declared.turn.Carried.{Carried}
+use Rattle.tape_host.specs.declared.turn.Turn.{Turn}
+use Rattle.tape_host.specs.declared.turn.Turn.TheVariants as turns
+use Rattle.tape_host.specs.Halls.{Hosted, hosted, side_at, with_side_at, ended}
+
+-- whether this access, if it is one, lets a client write
+abbrev pub writes_for : Option Access → Bool
+writes_for None = false
+writes_for (Some access) = writes access
+
+-- what was asked: an open says whether its mode lets a client write, and mtio's operation 0 writes marks
+abbrev pub asked_of : PlainRequest → Asked
+asked_of (Open device mode) = asked.Open (writes_for (access_of mode))
+asked_of (Write bytes) = asked.Write
+asked_of (Op op count) = if op == 0 then asked.Marks else asked.Other
+asked_of request = asked.Other
+
+-- what was answered
+abbrev pub answered_of : PlainReply → Answered
+answered_of (Done n) = answered.Number n
+answered_of (Data bytes) = answered.Data
+answered_of (Error n text) = answered.Error n
+
+abbrev pub carried_of : PlainRequest → PlainReply → Carried
+carried_of request reply = record { asked = asked_of request; answered = answered_of reply }
+
+-- a reply goes to the end of what is on the way back, unless it is lost
+abbrev pub sent_back : Bool → List ℕ → List ℕ → List ℕ
+sent_back true back text = back
+sent_back false back text = back ++ text
+
+-- what is unread gives neither a request nor a fault
+abbrev pub GivesNothing : RequestHeld → Type 0
+GivesNothing reached =
+    (bytes rest : List ℕ) (found : Result (Option PlainRequest) WireFault) → Unread reached bytes → Gives bytes found rest → found ≡ Ok None
+
+-- what is unread gives this fault
+abbrev pub GivesFault : RequestHeld → WireFault → Type 0
+GivesFault reached fault = (bytes rest : List ℕ) × Unread reached bytes × Gives bytes (Err fault) rest
+
+-- what is unread begins with this request, and once that is given the reader has reached this
+abbrev pub GivesRequest : RequestHeld → PlainRequest → RequestHeld → Type 0
+GivesRequest reached request after =
+    (bytes rest : List ℕ) × Unread reached bytes × Gives bytes (Ok (Some request)) rest × Unread after rest
+
+-- The side of connection k carries out this request with this reply. The device call that the request makes fails as the
+-- trouble says.
+pub record Carries (trouble : Trouble) (old : Hall) (k : ℕ) (s : Side) (request : PlainRequest) (reply : PlainReply) (new : Hall) : Type 0 where
+  pub reached : RequestHeld
+  pub shop : Shop
+  pub session : PlainSession
+  pub holders : List ℕ
+  pub given : GivesRequest s.reached request reached
+  pub served : TroubledServe trouble old.holders k (scene old.shop s.session) request reply (scene shop session) holders
+  pub after : new ≡ hall shop holders (with_side_at old.sides k (Some (side reached session)))
+
+-- What came of a turn of the live side of connection k, with what is on the way back before and after it. At a fault this
+-- is left.
+abbrev pub TurnsSide : Hosted → Trouble → Bool → Hosted → ℕ → Side → List ℕ → Turn → Hosted → List ℕ → Type 0
+TurnsSide left trouble lost old k s back turns.Nothing new back' = GivesNothing s.reached × (new ≡ old) × (back' ≡ back)
+TurnsSide left trouble lost old k s back (turns.Carried carried) new back' =
+    (request : PlainRequest) × (reply : PlainReply)
+    × Carries trouble old.hall k s request reply new.hall × (new.ready ≡ old.ready)
+    × (carried ≡ carried_of request reply) × (back' ≡ sent_back lost back (reply_text reply))
+TurnsSide left trouble lost old k s back (turns.Broken fault) new back' =
+    GivesFault s.reached fault × (new ≡ left) × (back' ≡ back)
+
+-- the same where the side may not be live
+abbrev pub TurnsAt : Hosted → Trouble → Bool → Hosted → ℕ → Option Side → List ℕ → Turn → Hosted → List ℕ → Type 0
+TurnsAt left trouble lost old k None back turn new back' = (turn ≡ turns.Nothing) × (new ≡ old) × (back' ≡ back)
+TurnsAt left trouble lost old k (Some s) back turn new back' = TurnsSide left trouble lost old k s back turn new back'
+
+-- One turn of connection k: a fault ends its side.
+abbrev pub ServesAt : Trouble → Bool → Hosted → ℕ → List ℕ → Turn → Hosted → List ℕ → Type 0
+ServesAt trouble lost old k back turn new back' =
+    TurnsAt (hosted (ended old.hall k) old.ready) trouble lost old k (side_at old.hall.sides k) back turn new back'

@@ -1,0 +1,122 @@
+//! One turn of a session: one request of what was pushed, under a trouble.
+ghost use Rattle.std.specs.Prelude.{◌≡◌, ℕ, ◌+◌, ◌≤◌, Bool, List, length, vec_len, vec_capacity, false};
+ghost use Rattle.rmt_wire.specs.Lent.{plain_request, plain_reply};
+ghost use Rattle.rmt_wire.specs.Reply.{PlainReply, ReplyHasSpelling, reply_text};
+ghost use Rattle.rmt_wire.specs.RequestReader.{Unread};
+ghost use Rattle.rmt_wire.specs.Limits.{reader_limit};
+ghost use Rattle.tape.specs.declared.trouble.Trouble.TheVariants.{None as NoTrouble};
+ghost use Rattle.rmt_server.specs.State.{state};
+ghost use Rattle.rmt_server.specs.Replies.{IsSayable};
+ghost use Rattle.rmt_server.specs.Memory.{MemoryState};
+ghost use Rattle.rmt_server.specs.TroubledServe.{with_troubles, set_for};
+ghost use Rattle.tape_host.specs.Turns.{carried_of, sent_back};
+ghost use Rattle.tape_host.specs.Hosting.{IsCalmAt, IsCarried, TurnsSession};
+
+use crate::turn::{Carried, Turn};
+use drives::{DriveTable, ListStacks, LocalHolds};
+use rmt_server::{Session, one_scene, troubled_serve, troubles_set};
+use rmt_wire::{Reply, Request, RequestReader, push_reply};
+use tape::{MTOFFL, Trouble};
+
+/// Where a request meets a trouble: what is set for the open reel, and whether one is set for the stacks. An open and MTOFFL
+/// meet it at the stacks, a close nowhere, and all others at the open reel.
+fn place(trouble: Trouble, request: &Request<'_>) -> (Trouble, bool)
+    ensures { (x : MemoryState) → set_for trouble (plain_request request.now) x ≡ with_troubles result.0 result.1 x }
+{
+    let stacks = (Trouble::None, !matches!(trouble, Trouble::None));
+    match *request {
+        Request::Open { .. } => stacks,
+        Request::Op { op, .. } if op == MTOFFL => stacks,
+        Request::Close => (Trouble::None, false),
+        Request::Op { .. }
+        | Request::Write { .. }
+        | Request::WriteDropped { .. }
+        | Request::Read { .. } => (trouble, false),
+    }
+}
+
+/// Sets these troubles for the open reel, if there is one, and for the stacks.
+fn set_troubles(
+    session: &mut Session<LocalHolds, ListStacks>,
+    drives: &mut DriveTable<LocalHolds, ListStacks>,
+    reel: Trouble,
+    stacks: bool,
+)
+    ensures { state drives.new session.new ≡ with_troubles reel stacks (state drives.old session.old) }
+{
+    session.trouble(reel);
+    drives.stacks.trouble(stacks);
+}
+
+/// Takes both troubles back.
+fn clear_troubles(
+    session: &mut Session<LocalHolds, ListStacks>,
+    drives: &mut DriveTable<LocalHolds, ListStacks>,
+)
+    ensures { state drives.new session.new ≡ with_troubles NoTrouble false (state drives.old session.old) }
+{
+    set_troubles(session, drives, Trouble::None, false);
+}
+
+/// Sends a reply back, unless it is lost. There is room for it.
+fn send_back(back: &mut Vec<u8>, reply: &Reply<'_>, lost: bool)
+    requires spelling { ReplyHasSpelling (plain_reply reply.now) }
+    requires room { vec_len back.old + length (reply_text (plain_reply reply.now)) ≤ vec_capacity back.old }
+    ensures { back.new.items ≡ sent_back lost back.old.items (reply_text (plain_reply reply.now)) }
+{
+    if lost {
+        return;
+    }
+    let _ = push_reply(back, reply);
+}
+
+/// Carries out a request, whose device call fails so, and sends its reply back, unless it is lost. No trouble is set before it
+/// and after it.
+fn carry(
+    session: &mut Session<LocalHolds, ListStacks>,
+    drives: &mut DriveTable<LocalHolds, ListStacks>,
+    trouble: Trouble,
+    request: Request<'_>,
+    back: &mut Vec<u8>,
+    lost: bool,
+) -> Carried
+    requires calm { IsCalmAt (state drives.old session.old) }
+    requires sayable { IsSayable (plain_request request) }
+    requires room { vec_len back.old + reader_limit ≤ vec_capacity back.old }
+    ensures { (reply : PlainReply)
+        × IsCarried trouble (state drives.old session.old) (plain_request request.entry) reply (state drives.new session.new)
+        × (result ≡ carried_of (plain_request request.entry) reply) × (back.new.items ≡ sent_back lost back.old.items (reply_text reply)) }
+{
+    one_scene();
+    troubles_set();
+    troubled_serve();
+    let (reel, stacks) = place(trouble, &request);
+    set_troubles(session, drives, reel, stacks);
+    let reply = session.carry_out(drives, request);
+    send_back(back, &reply, lost);
+    let carried = Carried::new(&request, &reply);
+    clear_troubles(session, drives);
+    carried
+}
+
+/// Takes one turn of a session: it carries out the next request, if a whole one is there.
+pub(crate) fn take_turn(
+    reader: &mut RequestReader,
+    session: &mut Session<LocalHolds, ListStacks>,
+    drives: &mut DriveTable<LocalHolds, ListStacks>,
+    trouble: Trouble,
+    back: &mut Vec<u8>,
+    lost: bool,
+) -> Turn
+    requires calm { IsCalmAt (state drives.old session.old) }
+    requires readable { (bytes : List ℕ) × Unread reader.old bytes }
+    requires room { vec_len back.old + reader_limit ≤ vec_capacity back.old }
+    ensures { TurnsSession trouble lost reader.old (state drives.old session.old) back.old.items result
+        reader.new (state drives.new session.new) back.new.items }
+{
+    match reader.next() {
+        Err(fault) => Turn::Broken(fault),
+        Ok(None) => Turn::Nothing,
+        Ok(Some(request)) => Turn::Carried(carry(session, drives, trouble, request, back, lost)),
+    }
+}
