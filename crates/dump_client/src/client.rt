@@ -115,6 +115,7 @@ impl<B: Blocks> Client<B> {
         ensures same_source { self.new.source ≡ self.old.source }
         ensures room { OnOk result (0 < self.new.room) }
         ensures same_room { OnErr result (self.new.room ≡ self.old.room) }
+        ensures same_reader { OnErr result (self.new.reader ≡ self.old.reader) }
     {
         self.ledger.start()?;
         self.reader.clear();

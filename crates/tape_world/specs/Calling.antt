@@ -1,0 +1,73 @@
+-- What calls of the client, if there is one, make of it.
+use Rattle.std.specs.Prelude.{◌≡◌, ◌≤◌, ℕ, List, [], Option, Some, None, Result, Ok, Err}
+use Rattle.dump_run.specs.Run.{PlainRun}
+use Rattle.dump_run.specs.Blocks.{cut_blocks}
+use Rattle.dump_client.specs.Standing.{Standing, standing, checkpoint_of, AnsweredAt, CutAt}
+use Rattle.dump_client.specs.Client.{HasFedAt}
+use Rattle.dump_client.specs.declared.step.Step.TheVariants.{Open}
+use Rattle.dump_client.specs.declared.stage.Stage.TheVariants.{Ready, ToSend}
+use Rattle.dump_client.specs.declared.stage.Answer.{Answer}
+use Rattle.dump_client.specs.declared.stage.Progress.{Progress}
+use Rattle.dump_client.specs.declared.stage.Progress.TheVariants.{Failed}
+use Rattle.dump_client.specs.declared.fault.AttemptFault.{AttemptFault}
+use Rattle.dump_client.specs.declared.fault.StartFault.{StartFault}
+use Rattle.tape_events.specs.World.{Link, Dumping}
+use Rattle.tape_events.specs.Changes.{changed, over_there}
+use Rattle.rmt_wire.specs.ReplyReader.{reply_held}
+use Rattle.tape_world.specs.Parts.{new_dumping}
+use Rattle.tape_world.specs.declared.stop.Stop.{Stop}
+use Rattle.tape_world.specs.declared.stop.Stop.TheVariants.{OutOfMemory}
+use Rattle.tape_world.specs.declared.caller.Begun.{Begun}
+use Rattle.tape_world.specs.declared.caller.Caller.{Caller}
+
+-- the client of the same run, with the same payload
+pub record IsSameRun (c d : Caller) : Type 0 where
+  pub number : d.number ≡ c.number
+  pub source : d.client.source ≡ c.client.source
+
+-- the other side of the client's own connection, if it has one, is over
+abbrev pub over_own : Option ℕ → List Link → List Link
+over_own None links = links
+over_own (Some k) links = changed over_there links k
+
+-- its number is one of so many
+abbrev pub IsPlaced : Option ℕ → ℕ → Type 0
+IsPlaced None n = Unit {0}
+IsPlaced (Some k) n = (1 ≤ k) × (k ≤ n)
+
+-- the operator answers
+abbrev pub Answers : Option Caller → Answer → Option Caller → Type 0
+Answers None answer new = new ≡ None
+Answers (Some c) answer new =
+    (d : Caller) × (result : Result Unit StartFault) × (new ≡ Some d) × IsSameRun c d × AnsweredAt c.client.at.stage c.client.at answer result d.client.at
+
+-- what a call made fail: the volume, and why
+abbrev pub failure_of : Standing → Progress → Option (ℕ × AttemptFault)
+failure_of at (Failed fault) = Some ((checkpoint_of at.counts).0, fault)
+failure_of at progress = None
+
+-- its connection ended
+abbrev pub Ends : Option Caller → Option (ℕ × AttemptFault) → Option Caller → Type 0
+Ends None failure new = new ≡ None
+Ends (Some c) failure new =
+    (d : Caller) × (progress : Progress) × (new ≡ Some d) × IsSameRun c d × CutAt c.client.at.stage c.client.at progress d.client.at
+    × HasFedAt d.client.at.stage d.client.reader [] × (failure ≡ failure_of d.client.at progress)
+
+-- a run that is begun with this payload
+pub record IsBegunWith (r : PlainRun) (bytes : List ℕ) (b : Begun) : Type 0 where
+  pub run : b.run ≡ r
+  pub payload : b.payload.blocks ≡ cut_blocks r.blocks r.block_bytes bytes
+
+-- an attempt can start
+abbrev pub IsReady : Option Caller → Type 0
+IsReady o = (c : Caller) × (o ≡ Some c) × (c.client.at.stage ≡ Ready)
+
+-- An attempt starts, of the volume that is next. Where memory is refused nothing has changed.
+abbrev pub Starts : Option Caller → Result Dumping Stop → Option Caller → Type 0
+Starts None result new = ⊥
+Starts (Some c) (Ok dump) new =
+    (d : Caller) × (new ≡ Some d) × IsSameRun c d × (d.client.at ≡ standing c.client.at.run c.client.at.counts (ToSend Open))
+    × (d.client.reader ≡ reply_held None [])
+    × (dump ≡ new_dumping c.number (checkpoint_of c.client.at.counts).0 (checkpoint_of c.client.at.counts).1)
+Starts (Some c) (Err stop) new =
+    (d : Caller) × (new ≡ Some d) × IsSameRun c d × (d.client.at ≡ c.client.at) × (d.client.reader ≡ c.client.reader) × (stop ≡ OutOfMemory)

@@ -1,0 +1,16 @@
+-- What becomes of a connection.
+use Rattle.std.specs.Prelude.{ℕ, true, List, drop}
+use Rattle.tape_events.specs.World.{Link}
+use Rattle.tape_events.specs.Changes.{sent_on}
+
+-- it is cut
+abbrev pub severed : Link → Link
+severed l = record l { cut = true }
+
+-- these bytes are sent to the server
+abbrev pub said : List ℕ → Link → Link
+said bytes l = record l { toward = sent_on l.cut l.toward bytes }
+
+-- so many of the bytes on the way to the server arrived
+abbrev pub arrived : ℕ → Link → Link
+arrived n l = record l { toward = drop n l.toward }

@@ -1,0 +1,25 @@
+-- Parts of a world that need no part in memory.
+use Rattle.std.specs.Prelude.{ℕ, false, List}
+use Rattle.tape_events.specs.World.{Dumping}
+
+-- bytes on the way, and room for how many more there is
+pub record Piped : Type 0 where
+  pub way : List ℕ
+  pub spare : ℕ
+
+abbrev pub piped : List ℕ → ℕ → Piped
+piped way spare = record { way = way; spare = spare }
+
+-- an attempt that has done nothing
+abbrev pub new_dumping : ℕ → ℕ → ℕ → Dumping
+new_dumping run volume first = record {
+  run = run;
+  volume = volume;
+  first = first;
+  sent = 0;
+  carried = 0;
+  label = false;
+  blocks = 0;
+  mark = false;
+  fault = false;
+}

@@ -1,0 +1,51 @@
+-- What the parts of a world in memory are seen as.
+use Rattle.std.specs.Prelude.{ℕ, List, [], map, get_or, option_map, Option}
+use Rattle.dumpdates.specs.Entry.{DatesEntry}
+use Rattle.rmt_server.specs.Hall.{Hall}
+use Rattle.tape_events.specs.World.{Link, Begun, Caller, Count, Opening, Entered, World}
+use Rattle.tape_world.specs.declared.link.Link.{Link as RealLink}
+use Rattle.tape_world.specs.declared.caller.Begun.{Begun as RealBegun}
+use Rattle.tape_world.specs.declared.caller.Caller.{Caller as RealCaller}
+use Rattle.tape_world.specs.declared.books.Count.{Count as RealCount}
+use Rattle.tape_world.specs.declared.books.Opening.{Opening as RealOpening}
+use Rattle.tape_world.specs.declared.books.Books.{Books}
+
+abbrev pub seen_link : RealLink → Link
+seen_link l = record { toward = l.toward.way; back = l.back.way; cut = l.cut; other = l.other; dump = l.dump }
+
+abbrev pub seen_begun : RealBegun → Begun
+seen_begun b = record { run = b.run; payload = b.payload.blocks }
+
+abbrev pub seen_caller : RealCaller → Caller
+seen_caller c = record { number = c.number; at = c.client.at; reader = c.client.reader }
+
+-- the reel whose name stands at this place
+abbrev pub name_at : List (List ℕ) → ℕ → List ℕ
+name_at names place = get_or names place []
+
+abbrev pub seen_count : List (List ℕ) → RealCount → Count
+seen_count names c =
+    record { run = c.run; volume = c.volume; first = c.first; count = c.count; reel = name_at names c.reel; connection = c.connection }
+
+abbrev pub seen_opening : List (List ℕ) → RealOpening → Opening
+seen_opening names o = record { connection = o.connection; reel = name_at names o.reel }
+
+abbrev pub seen_entered : ℕ → Entered
+seen_entered run = record { run = run }
+
+abbrev pub names_in : Books → List (List ℕ)
+names_in b = map (λ name. name.items) b.names.items
+
+abbrev pub world_of : Hall → List RealLink → List RealBegun → Option RealCaller → Option ℕ → Books → List DatesEntry → World
+world_of h links begun caller own books dates = record {
+  hall = h;
+  links = map seen_link links;
+  begun = map seen_begun begun;
+  caller = option_map seen_caller caller;
+  own = own;
+  counts = map (seen_count (names_in books)) books.counts.items;
+  opens = map (seen_opening (names_in books)) books.opens.items;
+  entered = map seen_entered books.entered.items;
+  failure = books.failure;
+  dates = dates;
+}

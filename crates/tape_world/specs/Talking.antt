@@ -1,0 +1,47 @@
+-- What the client's next request makes of it, and of its connection.
+use Rattle.std.specs.Prelude.{◌≡◌, ◌≤◌, ℕ, Bool, true, false, List, [], length, Option, Some, None}
+use Rattle.rmt_wire.specs.Limits.{reader_limit}
+use Rattle.rmt_wire.specs.Request.{request_text}
+use Rattle.dump_run.specs.Blocks.{listed}
+use Rattle.dump_client.specs.Script.{request_of}
+use Rattle.dump_client.specs.Standing.{standing, checkpoint_of}
+use Rattle.dump_client.specs.Client.{HasFedAt}
+use Rattle.dump_client.specs.declared.step.Step.{Step}
+use Rattle.dump_client.specs.declared.stage.Stage.TheVariants.{ToSend, Waiting, Asking}
+use Rattle.dump_client.specs.declared.fault.AttemptFault.{AttemptFault}
+use Rattle.dump_client.specs.declared.fault.AttemptFault.TheVariants.{SourceFault}
+use Rattle.tape_events.specs.World.{Link}
+use Rattle.tape_events.specs.Changes.{over_there}
+use Rattle.tape_events.specs.Steps.{is_failing, sent_link}
+use Rattle.tape_world.specs.declared.caller.Caller.{Caller}
+
+-- a request is to be sent
+abbrev pub IsToSend : Option Caller → Type 0
+IsToSend o = (c : Caller) × (step : Step) × (o ≡ Some c) × (c.client.at.stage ≡ ToSend step)
+
+-- the attempt failed, where that is true; or this is the text of the request
+abbrev pub AskedOf : Bool → Caller → Step → List ℕ → Option (ℕ × AttemptFault) → Caller → Type 0
+AskedOf true c step text failure d =
+    (failure ≡ Some ((checkpoint_of c.client.at.counts).0, SourceFault)) × (d.client.at ≡ standing c.client.at.run c.client.at.counts Asking)
+AskedOf false c step text failure d =
+    (failure ≡ None) × (d.client.at ≡ standing c.client.at.run c.client.at.counts (Waiting step)) × HasFedAt (Waiting step) d.client.reader []
+    × (text ≡ request_text (request_of c.client.at.run c.client.source.blocks (checkpoint_of c.client.at.counts).0 (checkpoint_of c.client.at.counts).1 step))
+
+-- the client was asked for its next request
+pub record Asks (o : Option Caller) (fails : Bool) (text : List ℕ) (failure : Option (ℕ × AttemptFault)) (new : Option Caller) : Type 0 where
+  pub before : Caller
+  pub after : Caller
+  pub step : Step
+  pub failures : ℕ
+  pub was : o ≡ Some before
+  pub stage : before.client.at.stage ≡ ToSend step
+  pub is : new ≡ Some after
+  pub number : after.number ≡ before.number
+  pub source : after.client.source ≡ listed before.client.source.blocks false failures
+  pub short : length text ≤ reader_limit
+  pub asked : AskedOf (is_failing fails step) before step text failure after
+
+-- the request is sent on its connection, or that is over there
+abbrev pub talked : List ℕ → Option (ℕ × AttemptFault) → Link → Link
+talked text None l = sent_link text l
+talked text (Some failure) l = over_there l

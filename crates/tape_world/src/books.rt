@@ -1,0 +1,32 @@
+use dump_client::AttemptFault;
+
+/// A volume that was counted: of the run of this number, by this connection. The reel is told by its place among all names.
+#[derive(Clone, Copy)]
+pub(crate) struct Count {
+    pub(crate) run: usize,
+    pub(crate) volume: u32,
+    pub(crate) first: u32,
+    pub(crate) count: u32,
+    pub(crate) reel: usize,
+    pub(crate) connection: usize,
+}
+
+/// An open for writing that was accepted: of this reel, by this connection.
+#[derive(Clone, Copy)]
+pub(crate) struct Opening {
+    pub(crate) connection: usize,
+    pub(crate) reel: usize,
+}
+
+/// What is kept of all that passed, in the order in which it came.
+#[derive(Drop)]
+pub(crate) struct Books {
+    /// The names of all reels.
+    pub(crate) names: Vec<Vec<u8>>,
+    pub(crate) counts: Vec<Count>,
+    pub(crate) opens: Vec<Opening>,
+    /// The numbers of the runs that were entered.
+    pub(crate) entered: Vec<usize>,
+    /// What the last event made fail: the volume, and why.
+    pub(crate) failure: Option<(u32, AttemptFault)>,
+}

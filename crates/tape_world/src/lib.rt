@@ -1,0 +1,14 @@
+//! Both ends of the tape protocol under events: a dump client, a tape server, strangers, and an operator.
+#![tactic(auto)]
+
+mod books;
+mod caller;
+mod dumping;
+mod event;
+mod link;
+mod pipe;
+mod stop;
+mod world;
+
+pub use event::Event;
+pub use world::World;

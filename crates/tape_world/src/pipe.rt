@@ -1,0 +1,88 @@
+ghost use Rattle.std.specs.Prelude.{◌≡◌, ◌≤◌, ◌++◌, [], length, drop, OnErr, OnOk};
+
+use std::alloc::{AllocError, Global};
+use std::marker::Model;
+
+/// Bytes on the way to one side of a connection, in order.
+///
+/// Those that arrived are let go at the front; what is left is moved there only where that makes room enough, so that bytes
+/// that arrive one at a time cost no more than as a whole.
+#[derive(Drop)]
+pub(crate) struct Pipe {
+    bytes: Vec<u8>,
+    start: usize,
+}
+
+impl Model for Pipe {
+    ghost use Rattle.std.specs.Prelude.{◌-◌, ◌≤◌, drop, length, vec_capacity, vec_len};
+    ghost use Rattle.tape_world.specs.Parts.{Piped, piped};
+
+    ghost Value = { Piped };
+
+    ghost view = { λ p. piped (drop p.start p.bytes.items) (vec_capacity p.bytes - vec_len p.bytes) };
+
+    ghost invariant = { λ p. p.start ≤ length p.bytes.items };
+}
+
+impl Pipe {
+    /// No bytes, and no memory yet.
+    pub(crate) fn new(alloc: Global) -> Pipe
+        ensures { result.way ≡ [] }
+    {
+        Pipe {
+            bytes: Vec::new(alloc),
+            start: 0,
+        }
+    }
+
+    /// The bytes on the way.
+    pub(crate) fn bytes(&self) -> &[u8]
+        ensures { result.now ≡ self.now.way }
+    {
+        &self.bytes[self.start..]
+    }
+
+    /// Makes room for so many bytes more.
+    pub(crate) fn reserve(&mut self, count: usize) -> Result<(), AllocError>
+        ensures same { self.new.way ≡ self.old.way }
+        ensures room { OnOk result (count ≤ self.new.spare) }
+    {
+        if self.start > self.bytes.len() / 2 {
+            self.move_to_front();
+        }
+        self.bytes.reserve(count)
+    }
+
+    /// Moves what is on the way to the front.
+    fn move_to_front(&mut self)
+        ensures { self.new.way ≡ self.old.way }
+    {
+        let left = self.bytes.len() - self.start;
+        self.bytes.copy_within(self.start.., 0);
+        self.bytes.truncate(left);
+        self.start = 0;
+    }
+
+    /// Adds bytes for which there is room.
+    pub(crate) fn push(&mut self, bytes: &[u8])
+        requires { length bytes.now ≤ self.old.spare }
+        ensures { self.new.way ≡ self.old.way ++ bytes.now }
+    {
+        let _ = self.bytes.extend_from_slice(bytes);
+    }
+
+    /// So many of the first bytes arrived, or all where there are fewer.
+    pub(crate) fn pass(&mut self, count: usize)
+        ensures { self.new.way ≡ drop count self.old.way }
+    {
+        self.start += count.min(self.bytes.len() - self.start);
+    }
+
+    /// The bytes are lost.
+    pub(crate) fn clear(&mut self)
+        ensures { self.new.way ≡ [] }
+    {
+        self.bytes.clear();
+        self.start = 0;
+    }
+}
