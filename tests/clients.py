@@ -611,6 +611,7 @@ def starts(program: str) -> None:
     changes: tuple[tuple[str, Callable[[Path], Any]], ...] = (
         ("is gone", away),
         ("can't be written", lambda path: access(path, 0o500)),
+        ("is another user's", of_another),
         ("is a file", as_file),
     )
     for title, change in changes:
@@ -627,6 +628,22 @@ def starts(program: str) -> None:
     with site(program, drives=2) as shop:
         got = subprocess.run(shop.words, input=opened(), capture_output=True, check=False, timeout=GUARD_SECONDS, **as_nobody(shop))
         check("all folders are there", (got.returncode, got.stdout, got.stderr) == (0, NO_REEL, b""), got)
+
+
+@contextmanager
+def of_another(path: Path) -> Iterator[None]:
+    """A folder in which its owner alone may write, who is root for a while; where this is not run by root, nobody may write in it."""
+    if os.geteuid() != 0:
+        with access(path, 0o500):
+            yield
+        return
+    before = path.stat()
+    os.chown(path, 0, 0)
+    try:
+        with access(path, 0o755):
+            yield
+    finally:
+        os.chown(path, before.st_uid, before.st_gid)
 
 
 @contextmanager

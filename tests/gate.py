@@ -4,13 +4,14 @@
     gate.py [--minutes FILE]
 
 It passes on what `rt ci` prints, and ends with its status. `rt ci` tells no times, so once a second it is looked up which
-checks run, by the command lines of the processes below this one: a check of a crate, of its tests, or of an edit that must
-fail. The minutes are those in which at least one such check of the crate ran, written as a table to FILE, or else printed.
+checks run, by the command lines of the processes below this one: a check of a crate (which `rt ci` builds in the same run), of its tests, or of an
+edit that must fail. The minutes are those in which at least one such check of the crate ran, written as a table to FILE, or else printed.
 """
 
 from __future__ import annotations
 
 import argparse
+import os
 import subprocess
 import sys
 import threading
@@ -29,10 +30,27 @@ def words_of(process: Path) -> list[str]:
         return []
 
 
+def parent_of(process: Path) -> Path | None:
+    """The parent of a process, None where it has ended or has none."""
+    try:
+        told = process.joinpath("stat").read_text(errors="replace")
+    except OSError:
+        return None
+    parent = told.rpartition(")")[2].split()[1]
+    return Path("/proc", parent) if parent != "0" else None
+
+
+def is_ours(process: Path | None) -> bool:
+    """Whether a process is below this one."""
+    while process and process.name != str(os.getpid()):
+        process = parent_of(process)
+    return process is not None
+
+
 def check_of(process: Path) -> tuple[str, str] | None:
-    """The crate that a process checks, and what of it; None for any other process."""
+    """The crate that a process below this one checks, and what of it; None for any other process."""
     words = words_of(process)
-    if "check" not in words or "--crate-name" not in words:
+    if not {"check", "build"} & set(words[1:2]) or "--crate-name" not in words or not is_ours(process):
         return None
     crate = words[words.index("--crate-name") + 1]
     try:
