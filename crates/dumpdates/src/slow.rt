@@ -84,18 +84,28 @@ fn spoken<'a>(words: &[&'a [u8]]) -> Option<(&'a str, u8, Option<u64>)> {
     let [name, level, weekday, month, day, time, year] = words else {
         return None;
     };
-    if name.len() > 255 || !name.iter().all(|b| *b > 32 && *b < 127) {
+    let name = spoken_name(name)?;
+    let level = u8::try_from(number(level, 1, 1)?).ok()?;
+    WEEKDAYS.iter().position(|w| w.as_bytes() == *weekday)?;
+    let date = spoken_date(month, day, time, year)?;
+    Some((name, level, date))
+}
+
+/// The name that a word is.
+fn spoken_name<'a>(word: &'a [u8]) -> Option<&'a str> {
+    if word.len() > 255 || !word.iter().all(|b| *b > 32 && *b < 127) {
         return None;
     }
-    let level = number(level, 1, 1)?;
-    WEEKDAYS.iter().position(|w| w.as_bytes() == *weekday)?;
-    let month = MONTHS.iter().position(|m| m.as_bytes() == *month)?;
+    std::str::from_utf8(word).ok()
+}
+
+/// What the words of a date say, where they have its shapes: a date where it is one.
+fn spoken_date(month: &[u8], day: &[u8], time: &[u8], year: &[u8]) -> Option<Option<u64>> {
+    let month = MONTHS.iter().position(|m| m.as_bytes() == month)?;
     let day = number(day, 1, 2)?;
     let second = second_of_day(time)?;
     let year = number(year, 4, 4)?;
-    let date = seconds(year, month, day, second);
-    let level = u8::try_from(level).ok()?;
-    Some((std::str::from_utf8(name).ok()?, level, date))
+    Some(seconds(year, month, day, second))
 }
 
 /// The number of so many digits that a word is.

@@ -2,7 +2,6 @@ mod fed;
 mod first_bytes;
 mod limits;
 mod pushed;
-mod replied;
 mod replies;
 mod reply_faults;
 mod reply_fed;

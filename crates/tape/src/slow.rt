@@ -48,6 +48,20 @@ pub(crate) fn make_call<'a, R: Reel>(
     }
 }
 
+/// A call, and what it has to answer.
+pub(crate) type Wanted = (Call, Result<&'static [u8], TapeFault>);
+
+/// Whether each of the calls answers as is wanted.
+pub(crate) fn answers<R: Reel>(reel: &mut R, calls: &[Wanted]) -> bool {
+    for (request, wanted) in calls {
+        let mut into = [0u8; 8];
+        if make_call(reel, *request, &mut into) != *wanted {
+            return false;
+        }
+    }
+    true
+}
+
 /// A tape as all its entries, where `None` is a mark, the place and the capacity; and how its device fails next, and
 /// how often it has failed.
 #[derive(Drop)]

@@ -3,68 +3,179 @@
 use crate::{BLOCKS_LIMIT, Run, RunFault};
 use std::process::Abort;
 
-/// The fault of a run, if it has one.
-fn fault(
-    device: &[u8],
-    name: &str,
-    level: u64,
-    dates: (u64, u64),
-    block_bytes: u64,
-    blocks: u64,
-) -> Option<RunFault> {
-    Run::new(device, name, level, dates.0, dates.1, block_bytes, blocks).err()
-}
+/// Devices of the most bytes that one has, and of one more.
+const LONGEST: [u8; 255] = [b'x'; 255];
 
-/// A device, and a name, of one byte more than 255.
 const LONG: [u8; 256] = [b'x'; 256];
 
-#[test]
-fn each_limit_alone(rt: HostRuntime) {
-    let day = (951782400, 0);
-    let good = fault(b"/dev/st0", "/usr", 0, day, 1024, 3);
-    assert!(rt; good.is_none());
-    let device = fault(b"", "/usr", 0, day, 1024, 3);
-    assert!(rt; device == Some(RunFault::BadDevice));
-    let name = fault(b"/dev/st0", "/usr /home", 0, day, 1024, 3);
-    assert!(rt; name == Some(RunFault::BadName));
-    let level = fault(b"/dev/st0", "/usr", 10, day, 1024, 3);
-    assert!(rt; level == Some(RunFault::BadLevel));
-    let date = fault(b"/dev/st0", "/usr", 0, (253402300800, 0), 1024, 3);
-    assert!(rt; date == Some(RunFault::BadDate));
-    let size = fault(b"/dev/st0", "/usr", 0, day, 65537, 3);
-    assert!(rt; size == Some(RunFault::BadBlockSize));
-    let blocks = fault(b"/dev/st0", "/usr", 0, day, 1024, 2147483648);
-    assert!(rt; blocks == Some(RunFault::TooManyBlocks));
-}
+/// What a run is to be made of: a device, a name, a level, both dates, the size of a block, and the number of blocks.
+/// Last stands the fault of it, if it has one.
+type Row = (
+    &'static [u8],
+    &'static str,
+    u64,
+    (u64, u64),
+    u64,
+    u64,
+    Option<RunFault>,
+);
+
+/// Each limit alone; other ways past one; and more than one that is broken, of which the first tells.
+const ROWS: [Row; 18] = [
+    (b"/dev/st0", "/usr", 0, (951782400, 0), 1024, 3, None),
+    (
+        b"",
+        "/usr",
+        0,
+        (951782400, 0),
+        1024,
+        3,
+        Some(RunFault::BadDevice),
+    ),
+    (
+        b"/dev/st0",
+        "/usr /home",
+        0,
+        (951782400, 0),
+        1024,
+        3,
+        Some(RunFault::BadName),
+    ),
+    (
+        b"/dev/st0",
+        "/usr",
+        10,
+        (951782400, 0),
+        1024,
+        3,
+        Some(RunFault::BadLevel),
+    ),
+    (
+        b"/dev/st0",
+        "/usr",
+        0,
+        (253402300800, 0),
+        1024,
+        3,
+        Some(RunFault::BadDate),
+    ),
+    (
+        b"/dev/st0",
+        "/usr",
+        0,
+        (951782400, 0),
+        65537,
+        3,
+        Some(RunFault::BadBlockSize),
+    ),
+    (
+        b"/dev/st0",
+        "/usr",
+        0,
+        (951782400, 0),
+        1024,
+        2147483648,
+        Some(RunFault::TooManyBlocks),
+    ),
+    (&LONGEST, "/usr", 0, (951782400, 0), 1024, 3, None),
+    (
+        &LONG,
+        "/usr",
+        0,
+        (951782400, 0),
+        1024,
+        3,
+        Some(RunFault::BadDevice),
+    ),
+    (
+        b"/dev\n",
+        "/usr",
+        0,
+        (951782400, 0),
+        1024,
+        3,
+        Some(RunFault::BadDevice),
+    ),
+    (
+        b"/dev/st0",
+        "",
+        0,
+        (951782400, 0),
+        1024,
+        3,
+        Some(RunFault::BadName),
+    ),
+    (
+        b"/dev/st0",
+        "/usr",
+        0,
+        (0, 253402300800),
+        1024,
+        3,
+        Some(RunFault::BadDate),
+    ),
+    (
+        b"/dev/st0",
+        "/usr",
+        0,
+        (951782400, 0),
+        0,
+        3,
+        Some(RunFault::BadBlockSize),
+    ),
+    (
+        b"",
+        "",
+        10,
+        (253402300800, 253402300800),
+        0,
+        2147483648,
+        Some(RunFault::BadDevice),
+    ),
+    (
+        b"/dev/st0",
+        "",
+        10,
+        (253402300800, 253402300800),
+        0,
+        2147483648,
+        Some(RunFault::BadName),
+    ),
+    (
+        b"/dev/st0",
+        "/usr",
+        10,
+        (253402300800, 253402300800),
+        0,
+        2147483648,
+        Some(RunFault::BadLevel),
+    ),
+    (
+        b"/dev/st0",
+        "/usr",
+        9,
+        (253402300800, 253402300800),
+        0,
+        2147483648,
+        Some(RunFault::BadDate),
+    ),
+    (
+        b"/dev/st0",
+        "/usr",
+        9,
+        (0, 0),
+        0,
+        2147483648,
+        Some(RunFault::BadBlockSize),
+    ),
+];
 
 #[test]
-fn other_ways_past_a_limit(rt: HostRuntime) {
-    let day = (951782400, 0);
-    let (line, _) = LONG.split_at(255);
-    assert!(rt; fault(line, "/usr", 0, day, 1024, 3).is_none());
-    assert!(rt; fault(&LONG, "/usr", 0, day, 1024, 3) == Some(RunFault::BadDevice));
-    assert!(rt; fault(b"/dev\n", "/usr", 0, day, 1024, 3) == Some(RunFault::BadDevice));
-    assert!(rt; fault(b"/dev/st0", "", 0, day, 1024, 3) == Some(RunFault::BadName));
-    let since = fault(b"/dev/st0", "/usr", 0, (0, 253402300800), 1024, 3);
-    assert!(rt; since == Some(RunFault::BadDate));
-    let size = fault(b"/dev/st0", "/usr", 0, day, 0, 3);
-    assert!(rt; size == Some(RunFault::BadBlockSize));
-}
-
-/// With more than one limit broken, the first tells.
-#[test]
-fn the_first_limit_tells(rt: HostRuntime) {
-    let dates = (253402300800, 253402300800);
-    let all = fault(b"", "", 10, dates, 0, 2147483648);
-    assert!(rt; all == Some(RunFault::BadDevice));
-    let name = fault(b"/dev/st0", "", 10, dates, 0, 2147483648);
-    assert!(rt; name == Some(RunFault::BadName));
-    let level = fault(b"/dev/st0", "/usr", 10, dates, 0, 2147483648);
-    assert!(rt; level == Some(RunFault::BadLevel));
-    let date = fault(b"/dev/st0", "/usr", 9, dates, 0, 2147483648);
-    assert!(rt; date == Some(RunFault::BadDate));
-    let size = fault(b"/dev/st0", "/usr", 9, (0, 0), 0, 2147483648);
-    assert!(rt; size == Some(RunFault::BadBlockSize));
+fn limits(rt: HostRuntime) {
+    for (device, name, level, dates, size, blocks, wanted) in ROWS {
+        let found = Run::new(device, name, level, dates.0, dates.1, size, blocks).err();
+        assert!(rt; found == wanted, "{device:?}, {name}, {wanted:?}");
+    }
 }
 
 /// A run tells what it was made of.

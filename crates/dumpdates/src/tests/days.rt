@@ -6,7 +6,6 @@ use crate::moment::{Moment, moment_of, seconds_of};
 use crate::slow::month_days;
 use crate::{Dates, Entry};
 use std::alloc::Global;
-use std::process::Abort;
 use std::test::Fail;
 
 /// What `LC_ALL=C date -u -d @N '+%a %b %e %H:%M:%S %Y'` prints for N.
@@ -108,25 +107,29 @@ impl Walk {
     }
 }
 
-/// A date is written as this text, and the text is read as this date.
-fn is_written(rt: &impl Abort, alloc: Global, date: u64, text: &str) -> Result<(), Fail> {
+/// Whether these bytes are read as one entry of the date.
+fn is_read(alloc: Global, bytes: &[u8], date: u64) -> Result<bool, Fail> {
+    Ok(Dates::read(alloc, bytes)?.base("x", 1) == date)
+}
+
+/// Whether a date is written as this text, and the text is read as this date.
+fn is_written(alloc: Global, date: u64, text: &str) -> Result<bool, Fail> {
     let mut dates = Dates::new(alloc);
     dates.enter(Entry::new("x", 0, date).ok_or("an entry")?)?;
     let line = format!(in alloc; "{:<32} 0 {text}\n", "x")?;
-    let written = dates.text()?;
-    assert_eq!(rt; written.as_slice(), line.as_bytes(), "{date}");
-    let read = Dates::read(alloc, &written)?;
-    assert_eq!(rt; read.base("x", 1), date);
     let short = format!(in alloc; "x 0 {text}")?;
-    let read = Dates::read(alloc, short.as_bytes())?;
-    assert_eq!(rt; read.base("x", 1), date);
-    Ok(())
+    let written = dates.text()?;
+    Ok(
+        written.as_slice() == line.as_bytes()
+            && is_read(alloc, &written, date)?
+            && is_read(alloc, short.as_bytes(), date)?,
+    )
 }
 
 #[test]
 fn as_date_prints_them(rt: HostRuntime) -> Result<(), Fail> {
     for (date, text) in PRINTED {
-        is_written(&rt, rt.alloc(), date, text)?;
+        assert!(rt; is_written(rt.alloc(), date, text)?, "{date}");
     }
     Ok(())
 }
@@ -142,7 +145,10 @@ fn each_day_to_2104(rt: HostRuntime) -> Result<(), Fail> {
         let month = MONTHS[walk.month % 12];
         let (day, year) = (walk.day, walk.year);
         let text = format!(in alloc; "{weekday} {month} {day:2} {h:02}:{m:02}:{s:02} {year}")?;
-        is_written(&rt, alloc, number * 86_400 + second, &text)?;
+        assert!(rt;
+            is_written(alloc, number * 86_400 + second, &text)?,
+            "{text}"
+        );
         walk.step();
     }
     assert_eq!(rt; (walk.year, walk.month, walk.day), (2105, 0, 1));

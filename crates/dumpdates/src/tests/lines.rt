@@ -10,28 +10,13 @@ use std::test::Fail;
 
 const LINE: &[u8] = b"\t/a 3 Sun Feb 29 12:34:56 2000 ";
 
-/// What was read, as it is written, or the fault.
-fn told(alloc: Global, bytes: &[u8]) -> Result<Result<Vec<u8>, DatesFault>, AllocError> {
-    match Dates::read(alloc, bytes) {
-        Ok(dates) => Ok(dates.text()),
-        Err(fault) => Ok(Err(fault)),
-    }
-}
-
-fn slowly_told(alloc: Global, bytes: &[u8]) -> Result<Result<String, DatesFault>, AllocError> {
-    match read(alloc, bytes) {
-        Ok(entries) => Ok(Ok(text(alloc, &entries)?)),
-        Err(fault) => Ok(Err(fault)),
-    }
-}
-
-fn compare(rt: &impl Abort, alloc: Global, bytes: &[u8]) -> Result<(), Fail> {
-    match (told(alloc, bytes)?, slowly_told(alloc, bytes)?) {
-        (Ok(one), Ok(other)) => assert_eq!(rt; one.as_slice(), other.as_bytes(), "{bytes:?}"),
-        (Err(one), Err(other)) => assert!(rt; one == other, "{bytes:?}"),
-        _ => assert!(rt; false, "{bytes:?}"),
-    }
-    Ok(())
+/// Whether the bytes are read as the slow program reads them.
+fn agree(alloc: Global, bytes: &[u8]) -> Result<bool, Fail> {
+    Ok(match (Dates::read(alloc, bytes), read(alloc, bytes)) {
+        (Ok(one), Ok(other)) => one.text()?.as_slice() == text(alloc, &other)?.as_bytes(),
+        (Err(one), Err(other)) => one == other,
+        _ => false,
+    })
 }
 
 fn joined(alloc: Global, parts: &[&[u8]]) -> Result<Vec<u8>, AllocError> {
@@ -42,44 +27,36 @@ fn joined(alloc: Global, parts: &[&[u8]]) -> Result<Vec<u8>, AllocError> {
     Ok(text)
 }
 
-fn compare_joined(
-    rt: &impl Abort,
-    alloc: Global,
-    before: &[u8],
-    middle: &[u8],
-    after: &[u8],
-) -> Result<(), Fail> {
-    let mut bytes = Vec::from_slice(alloc, before)?;
-    bytes.extend_from_slice(middle)?;
-    bytes.extend_from_slice(after)?;
-    compare(rt, alloc, &bytes)
+/// The same of these parts, one behind the other.
+fn agree_joined(alloc: Global, before: &[u8], middle: &[u8], after: &[u8]) -> Result<bool, Fail> {
+    let bytes = joined(alloc, &[before, middle, after])?;
+    agree(alloc, &bytes)
 }
 
-/// The line with this byte in place of the one at that place, and in front of it.
-fn compare_with(rt: &impl Abort, alloc: Global, at: usize, byte: u8) -> Result<(), Fail>
+/// The same of the line with this byte in place of the one at that place, and in front of it.
+fn agree_with(alloc: Global, at: usize, byte: u8) -> Result<bool, Fail>
     requires { at < length LINE.now }
 {
     let (before, rest) = LINE.split_at(at);
     let (_, after) = rest.split_at(1);
-    compare_joined(rt, alloc, before, &[byte], after)?;
-    compare_joined(rt, alloc, before, &[byte], rest)
+    Ok(agree_joined(alloc, before, &[byte], after)? && agree_joined(alloc, before, &[byte], rest)?)
 }
 
-/// The line without the byte at that place.
-fn compare_without(rt: &impl Abort, alloc: Global, at: usize) -> Result<(), Fail>
+/// The same of the line without the byte at that place.
+fn agree_without(alloc: Global, at: usize) -> Result<bool, Fail>
     requires { at < length LINE.now }
 {
     let (before, rest) = LINE.split_at(at);
     let (_, after) = rest.split_at(1);
-    compare_joined(rt, alloc, before, b"", after)
+    agree_joined(alloc, before, b"", after)
 }
 
 /// The line with each byte at that place.
-fn compare_each_byte(rt: &impl Abort, alloc: Global, at: usize) -> Result<(), Fail>
+fn check_each_byte(rt: &impl Abort, alloc: Global, at: usize) -> Result<(), Fail>
     requires { at < length LINE.now }
 {
     for byte in 0..=255u8 {
-        compare_with(rt, alloc, at, byte)?;
+        assert!(rt; agree_with(alloc, at, byte)?, "{byte} at {at}");
     }
     Ok(())
 }
@@ -87,72 +64,73 @@ fn compare_each_byte(rt: &impl Abort, alloc: Global, at: usize) -> Result<(), Fa
 #[test]
 fn any_byte_in_any_place(rt: HostRuntime) -> Result<(), Fail> {
     for at in 0..LINE.len() {
-        compare_without(&rt, rt.alloc(), at)?;
-        compare_each_byte(&rt, rt.alloc(), at)?;
+        assert!(rt; agree_without(rt.alloc(), at)?, "without {at}");
+        check_each_byte(&rt, rt.alloc(), at)?;
     }
     Ok(())
 }
 
-/// A text of one line has this fault, and the slow program says the same.
-fn is_refused(rt: &impl Abort, alloc: Global, line: &str, fault: DatesFault) -> Result<(), Fail> {
-    compare(rt, alloc, line.as_bytes())?;
-    assert!(rt;
-        matches!(Dates::read(alloc, line.as_bytes()), Err(f) if f == fault),
-        "{line}"
-    );
-    Ok(())
+/// Whether a text of one line has this fault, and the slow program says the same.
+fn is_refused(alloc: Global, line: &str, fault: DatesFault) -> Result<bool, Fail> {
+    let found = Dates::read(alloc, line.as_bytes()).err();
+    Ok(found == Some(fault) && agree(alloc, line.as_bytes())?)
 }
 
+/// Lines of other words than an entry has.
+const OTHER_SHAPES: [&str; 24] = [
+    "a",
+    "a 0",
+    "a 0 Thu Jan 1 00:00:00",
+    "a 0 Thu Jan 1 00:00:00 1970 x",
+    "a 00 Thu Jan 1 00:00:00 1970",
+    "a -1 Thu Jan 1 00:00:00 1970",
+    "a x Thu Jan 1 00:00:00 1970",
+    "a 0 thu Jan 1 00:00:00 1970",
+    "a 0 Thursday Jan 1 00:00:00 1970",
+    "a 0 Thu jan 1 00:00:00 1970",
+    "a 0 Thu 01 1 00:00:00 1970",
+    "a 0 Thu Jan 001 00:00:00 1970",
+    "a 0 Thu Jan x 00:00:00 1970",
+    "a 0 Thu Jan 1 0:00:00 1970",
+    "a 0 Thu Jan 1 00:00 1970",
+    "a 0 Thu Jan 1 00.00.00 1970",
+    "a 0 Thu Jan 1 000000 1970",
+    "a 0 Thu Jan 1 00:00:00: 1970",
+    "a 0 Thu Jan 1 00:00:00 970",
+    "a 0 Thu Jan 1 00:00:00 01970",
+    "a 0 Thu Jan 1 00:00:00 +970",
+    "a 0 Thu Jan 1 00:00:00 1970\r",
+    "a\u{e9} 0 Thu Jan 1 00:00:00 1970",
+    "a\u{7f} 0 Thu Jan 1 00:00:00 1970",
+];
+
+/// Lines with a date that is none.
+const NO_DATES: [&str; 10] = [
+    "a 0 Thu Jan 0 00:00:00 1970",
+    "a 0 Thu Jan 32 00:00:00 1970",
+    "a 0 Thu Apr 31 00:00:00 1970",
+    "a 0 Thu Jan 1 24:00:00 1970",
+    "a 0 Thu Jan 1 00:60:00 1970",
+    "a 0 Thu Jan 1 00:00:60 1970",
+    "a 0 Thu Jan 1 00:00:00 1969",
+    "a 0 Thu Jan 1 00:00:00 0000",
+    "a 0 Thu Feb 29 00:00:00 1900",
+    "a 0 Thu Feb 29 00:00:00 2001",
+];
+
 #[test]
-fn words_of_other_shapes(rt: HostRuntime) -> Result<(), Fail> {
-    let lines = [
-        "a",
-        "a 0",
-        "a 0 Thu Jan 1 00:00:00",
-        "a 0 Thu Jan 1 00:00:00 1970 x",
-        "a 00 Thu Jan 1 00:00:00 1970",
-        "a -1 Thu Jan 1 00:00:00 1970",
-        "a x Thu Jan 1 00:00:00 1970",
-        "a 0 thu Jan 1 00:00:00 1970",
-        "a 0 Thursday Jan 1 00:00:00 1970",
-        "a 0 Thu jan 1 00:00:00 1970",
-        "a 0 Thu 01 1 00:00:00 1970",
-        "a 0 Thu Jan 001 00:00:00 1970",
-        "a 0 Thu Jan x 00:00:00 1970",
-        "a 0 Thu Jan 1 0:00:00 1970",
-        "a 0 Thu Jan 1 00:00 1970",
-        "a 0 Thu Jan 1 00.00.00 1970",
-        "a 0 Thu Jan 1 000000 1970",
-        "a 0 Thu Jan 1 00:00:00: 1970",
-        "a 0 Thu Jan 1 00:00:00 970",
-        "a 0 Thu Jan 1 00:00:00 01970",
-        "a 0 Thu Jan 1 00:00:00 +970",
-        "a 0 Thu Jan 1 00:00:00 1970\r",
-        "a\u{e9} 0 Thu Jan 1 00:00:00 1970",
-        "a\u{7f} 0 Thu Jan 1 00:00:00 1970",
-    ];
-    for line in lines {
-        is_refused(&rt, rt.alloc(), line, DatesFault::BadLine(1))?;
+fn other_shapes_and_no_dates(rt: HostRuntime) -> Result<(), Fail> {
+    for line in OTHER_SHAPES {
+        assert!(rt;
+            is_refused(rt.alloc(), line, DatesFault::BadLine(1))?,
+            "{line}"
+        );
     }
-    Ok(())
-}
-
-#[test]
-fn dates_that_are_none(rt: HostRuntime) -> Result<(), Fail> {
-    let lines = [
-        "a 0 Thu Jan 0 00:00:00 1970",
-        "a 0 Thu Jan 32 00:00:00 1970",
-        "a 0 Thu Apr 31 00:00:00 1970",
-        "a 0 Thu Jan 1 24:00:00 1970",
-        "a 0 Thu Jan 1 00:60:00 1970",
-        "a 0 Thu Jan 1 00:00:60 1970",
-        "a 0 Thu Jan 1 00:00:00 1969",
-        "a 0 Thu Jan 1 00:00:00 0000",
-        "a 0 Thu Feb 29 00:00:00 1900",
-        "a 0 Thu Feb 29 00:00:00 2001",
-    ];
-    for line in lines {
-        is_refused(&rt, rt.alloc(), line, DatesFault::BadDate(1))?;
+    for line in NO_DATES {
+        assert!(rt;
+            is_refused(rt.alloc(), line, DatesFault::BadDate(1))?,
+            "{line}"
+        );
     }
     Ok(())
 }

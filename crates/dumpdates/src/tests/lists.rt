@@ -14,28 +14,25 @@ fn entry_numbered(alloc: Global, number: usize) -> Result<SlowEntry, AllocError>
     slow_entry(alloc, name, level, date)
 }
 
-/// The base dates of a name, at each level.
-fn compare_bases(rt: &impl Abort, dates: &Dates, list: &[SlowEntry], name: &str) {
+/// Whether the base dates of a name are as the slow program says, at each level.
+fn has_bases(dates: &Dates, list: &[SlowEntry], name: &str) -> bool {
     for level in 0..4u8 {
-        assert_eq!(rt; dates.base(name, level), base(list, name, level));
+        if dates.base(name, level) != base(list, name, level) {
+            return false;
+        }
     }
+    true
 }
 
-/// A list's base dates, and what it is with the entry in it.
-fn compare(
-    rt: &impl Abort,
-    alloc: Global,
-    list: &[SlowEntry],
-    entry: &SlowEntry,
-) -> Result<(), Fail> {
+/// Whether a list's base dates are so, and what it is with the entry in it.
+fn agree(alloc: Global, list: &[SlowEntry], entry: &SlowEntry) -> Result<bool, Fail> {
     let mut dates = Dates::read(alloc, text(alloc, list)?.as_bytes())?;
-    for name in ["/a", "/b", "/c"] {
-        compare_bases(rt, &dates, list, name);
-    }
+    let good = has_bases(&dates, list, "/a")
+        && has_bases(&dates, list, "/b")
+        && has_bases(&dates, list, "/c");
     dates.enter(Entry::new(&entry.name, entry.level, entry.date).ok_or("an entry")?)?;
     let wanted = text(alloc, &entered(alloc, list, entry)?)?;
-    assert_eq!(rt; dates.text()?.as_slice(), wanted.as_bytes());
-    Ok(())
+    Ok(good && dates.text()?.as_slice() == wanted.as_bytes())
 }
 
 /// The list of so many entries that a number tells, in base 8.
@@ -50,17 +47,13 @@ fn list_numbered(alloc: Global, len: usize, number: usize) -> Result<Vec<SlowEnt
 }
 
 /// Three entries into each list of that length.
-fn compare_lists(rt: &impl Abort, alloc: Global, len: usize) -> Result<(), Fail> {
+fn check_lists(rt: &impl Abort, alloc: Global, len: usize) -> Result<(), Fail> {
     for number in 0..512usize {
         let list = list_numbered(alloc, len, number)?;
-        compare(rt, alloc, &list, &entry_numbered(alloc, number)?)?;
-        compare(rt, alloc, &list, &entry_numbered(alloc, number / 8)?)?;
-        compare(
-            rt,
-            alloc,
-            &list,
-            &entry_numbered(alloc, number / 64 + number)?,
-        )?;
+        for other in [number, number / 8, number / 64 + number] {
+            let good = agree(alloc, &list, &entry_numbered(alloc, other)?)?;
+            assert!(rt; good, "{len}, {number}, {other}");
+        }
     }
     Ok(())
 }
@@ -68,7 +61,7 @@ fn compare_lists(rt: &impl Abort, alloc: Global, len: usize) -> Result<(), Fail>
 #[test]
 fn each_entry_into_each_short_list(rt: HostRuntime) -> Result<(), Fail> {
     for len in 0..4usize {
-        compare_lists(&rt, rt.alloc(), len)?;
+        check_lists(&rt, rt.alloc(), len)?;
     }
     Ok(())
 }

@@ -5,139 +5,112 @@ use crate::{
     Dates, DatesFault, Entry, LAST_SECOND, is_name, one_entry, one_reading, written_and_read,
 };
 use std::alloc::Global;
-use std::process::Abort;
 use std::test::Fail;
 
+/// An entry: its name, its level and its date.
+type Row = (&'static str, u8, u64);
+
 /// The text of a list.
-fn text_of(alloc: Global, entries: &[(&str, u8, u64)]) -> Result<Vec<u8>, Fail> {
+fn text_of(alloc: Global, entries: &[Row]) -> Result<Vec<u8>, Fail> {
     Ok(dates_of(alloc, &slow_list(alloc, entries)?)?.text()?)
 }
 
-/// A text spells just these entries, and they are read, here and by the slow program.
-fn spells(
-    rt: &impl Abort,
-    alloc: Global,
-    bytes: &str,
-    entries: &[(&str, u8, u64)],
-) -> Result<(), Fail> {
+/// Whether a text spells just these entries, and they are read, here and by the slow program.
+fn spells(alloc: Global, bytes: &str, entries: &[Row]) -> Result<bool, Fail> {
     let wanted = text(alloc, &slow_list(alloc, entries)?)?;
     let dates = Dates::read(alloc, bytes.as_bytes())?;
-    assert_eq!(rt; dates.text()?.as_slice(), wanted.as_bytes(), "{bytes}");
     let slow = read(alloc, bytes.as_bytes())?;
-    assert_eq!(rt; text(alloc, &slow)?, wanted, "{bytes}, slow");
-    Ok(())
+    Ok(dates.text()?.as_slice() == wanted.as_bytes() && text(alloc, &slow)? == wanted)
 }
 
-/// A text has this fault, here and by the slow program.
-fn has_fault(rt: &impl Abort, alloc: Global, bytes: &str, fault: DatesFault) {
-    assert!(rt;
-        matches!(Dates::read(alloc, bytes.as_bytes()), Err(f) if f == fault),
-        "{bytes}"
-    );
-    assert!(rt;
-        matches!(read(alloc, bytes.as_bytes()), Err(f) if f == fault),
-        "{bytes}, slow"
-    );
+/// Whether a text has this fault, here and by the slow program.
+fn has_fault(alloc: Global, bytes: &str, fault: DatesFault) -> bool {
+    Dates::read(alloc, bytes.as_bytes()).err() == Some(fault)
+        && read(alloc, bytes.as_bytes()).err() == Some(fault)
 }
+
+/// Lists, and the text of each.
+const WRITTEN: [(&[Row], &[u8]); 5] = [
+    (
+        &[("/usr", 0, 951782400)],
+        b"/usr                             0 Tue Feb 29 00:00:00 2000\n",
+    ),
+    (
+        &[("/usr", 0, 951868800), ("a", 3, 951827696), ("/", 9, 0)],
+        b"/usr                             0 Wed Mar  1 00:00:00 2000\n\
+a                                3 Tue Feb 29 12:34:56 2000\n\
+/                                9 Thu Jan  1 00:00:00 1970\n",
+    ),
+    (
+        &[("/a/name/of/exactly/32/characters", 1, LAST_SECOND)],
+        b"/a/name/of/exactly/32/characters 1 Fri Dec 31 23:59:59 9999\n",
+    ),
+    (
+        &[("/a/name/of/just/thirty-three/char", 1, LAST_SECOND)],
+        b"/a/name/of/just/thirty-three/char 1 Fri Dec 31 23:59:59 9999\n",
+    ),
+    (&[], b""),
+];
 
 #[test]
 fn entries_are_written(rt: HostRuntime) -> Result<(), Fail> {
-    let alloc = rt.alloc();
-    assert_eq!(rt;
-        text_of(alloc, &[("/usr", 0, 951782400)])?.as_slice(),
-        b"/usr                             0 Tue Feb 29 00:00:00 2000\n".as_slice()
-    );
-    assert_eq!(rt;
-        text_of(
-            alloc,
-            &[("/usr", 0, 951868800), ("a", 3, 951827696), ("/", 9, 0)]
-        )?
-        .as_slice(),
-        b"/usr                             0 Wed Mar  1 00:00:00 2000\n\
-a                                3 Tue Feb 29 12:34:56 2000\n\
-/                                9 Thu Jan  1 00:00:00 1970\n"
-            .as_slice()
-    );
-    let name = "/a/name/of/exactly/32/characters";
-    assert_eq!(rt; name.len(), 32);
-    assert_eq!(rt;
-        text_of(alloc, &[(name, 1, LAST_SECOND)])?.as_slice(),
-        b"/a/name/of/exactly/32/characters 1 Fri Dec 31 23:59:59 9999\n".as_slice()
-    );
-    assert_eq!(rt;
-        text_of(
-            alloc,
-            &[("/a/name/of/just/thirty-three/char", 1, LAST_SECOND)]
-        )?
-        .as_slice(),
-        b"/a/name/of/just/thirty-three/char 1 Fri Dec 31 23:59:59 9999\n".as_slice()
-    );
-    assert!(rt; text_of(alloc, &[])?.is_empty());
+    for (entries, wanted) in WRITTEN {
+        let text = text_of(rt.alloc(), entries)?;
+        assert!(rt; text.as_slice() == wanted, "{wanted:?}");
+    }
     Ok(())
 }
 
+/// Texts, and the entries that each spells.
+const SPELLED: [(&str, &[Row]); 10] = [
+    ("a 0 Mon Jan 1 00:00:00 1970", &[("a", 0, 0)]),
+    ("a 0 Thu Jan  1 00:00:00 1970\n", &[("a", 0, 0)]),
+    ("a 0 Thu Jan 01 00:00:00 1970\n", &[("a", 0, 0)]),
+    (
+        "\n \t \n\ta\t0\tSun\tJan\t1\t00:00:00\t1970 \t\n\n",
+        &[("a", 0, 0)],
+    ),
+    ("  a   0 Thu Jan 1 00:00:00 1970  ", &[("a", 0, 0)]),
+    ("", &[]),
+    ("\n", &[]),
+    ("\t \n\n  ", &[]),
+    ("a 3 Sun Feb 29 12:34:56 2000", &[("a", 3, 951827696)]),
+    ("~!x 9 Fri Dec 31 23:59:59 9999", &[("~!x", 9, LAST_SECOND)]),
+];
+
 #[test]
 fn texts_are_read(rt: HostRuntime) -> Result<(), Fail> {
-    let alloc = rt.alloc();
-    let one = [("a", 0, 0)];
-    let texts = [
-        "a 0 Mon Jan 1 00:00:00 1970",
-        "a 0 Thu Jan  1 00:00:00 1970\n",
-        "a 0 Thu Jan 01 00:00:00 1970\n",
-        "\n \t \n\ta\t0\tSun\tJan\t1\t00:00:00\t1970 \t\n\n",
-        "  a   0 Thu Jan 1 00:00:00 1970  ",
-    ];
-    for bytes in texts {
-        spells(&rt, alloc, bytes, &one)?;
+    for (bytes, entries) in SPELLED {
+        assert!(rt; spells(rt.alloc(), bytes, entries)?, "{bytes}");
     }
-    spells(&rt, alloc, "", &[])?;
-    spells(&rt, alloc, "\n", &[])?;
-    spells(&rt, alloc, "\t \n\n  ", &[])?;
-    spells(
-        &rt,
-        alloc,
-        "a 3 Sun Feb 29 12:34:56 2000",
-        &[("a", 3, 951827696)],
-    )?;
-    spells(
-        &rt,
-        alloc,
-        "~!x 9 Fri Dec 31 23:59:59 9999",
-        &[("~!x", 9, LAST_SECOND)],
-    )
+    Ok(())
 }
 
-#[test]
-fn a_bad_line_is_told_by_its_number(rt: HostRuntime) {
-    let texts = [
-        ("a 10 Thu Jan 1 00:00:00 1970", 1),
-        ("a 0 Thu Jan 1 00:00:00 1970 +0000", 1),
-        (
-            "a 0 Mon Jan 1 00:00:00 1970\n\nb 10 Thu Jan 1 00:00:00 1970\n",
-            3,
-        ),
-        ("\n\n \t\nx\n", 4),
-        ("x\na 0 Thu Feb 30 00:00:00 2000\n", 1),
-    ];
-    for (bytes, line) in texts {
-        has_fault(&rt, rt.alloc(), bytes, DatesFault::BadLine(line));
-    }
-}
+/// Texts, and the fault of each.
+const BAD: [(&str, DatesFault); 10] = [
+    ("a 10 Thu Jan 1 00:00:00 1970", DatesFault::BadLine(1)),
+    ("a 0 Thu Jan 1 00:00:00 1970 +0000", DatesFault::BadLine(1)),
+    (
+        "a 0 Mon Jan 1 00:00:00 1970\n\nb 10 Thu Jan 1 00:00:00 1970\n",
+        DatesFault::BadLine(3),
+    ),
+    ("\n\n \t\nx\n", DatesFault::BadLine(4)),
+    ("x\na 0 Thu Feb 30 00:00:00 2000\n", DatesFault::BadLine(1)),
+    ("a 0 Thu Jan 1 00:00:60 1970", DatesFault::BadDate(1)),
+    ("/usr 0 Tue Feb 30 00:00:00 2000", DatesFault::BadDate(1)),
+    ("a 0 Mon Feb 29 00:00:00 2100", DatesFault::BadDate(1)),
+    ("a 0 Mon Feb 29 00:00:00 1968", DatesFault::BadDate(1)),
+    (
+        "a 0 Thu Jan 1 00:00:00 1970\n\na 0 Thu Jan 0 00:00:00 1970\nx\n",
+        DatesFault::BadDate(3),
+    ),
+];
 
+/// A bad line and a bad date are told by the number of their line.
 #[test]
-fn a_bad_date_is_told_by_its_line(rt: HostRuntime) {
-    let texts = [
-        ("a 0 Thu Jan 1 00:00:60 1970", 1),
-        ("/usr 0 Tue Feb 30 00:00:00 2000", 1),
-        ("a 0 Mon Feb 29 00:00:00 2100", 1),
-        ("a 0 Mon Feb 29 00:00:00 1968", 1),
-        (
-            "a 0 Thu Jan 1 00:00:00 1970\n\na 0 Thu Jan 0 00:00:00 1970\nx\n",
-            3,
-        ),
-    ];
-    for (bytes, line) in texts {
-        has_fault(&rt, rt.alloc(), bytes, DatesFault::BadDate(line));
+fn what_is_bad_is_told_by_its_line(rt: HostRuntime) {
+    for (bytes, fault) in BAD {
+        assert!(rt; has_fault(rt.alloc(), bytes, fault), "{bytes}");
     }
 }
 
@@ -148,10 +121,14 @@ fn bases(rt: HostRuntime) -> Result<(), Fail> {
         alloc,
         &slow_list(alloc, &[("/usr", 0, 951782400), ("/usr", 1, 951868800)])?,
     )?;
-    assert_eq!(rt; dates.base("/usr", 2), 951868800);
-    assert_eq!(rt; dates.base("/usr", 1), 951782400);
-    assert_eq!(rt; dates.base("/usr", 0), 0);
-    assert_eq!(rt; dates.base("/home", 9), 0);
+    for (name, level, wanted) in [
+        ("/usr", 2, 951868800),
+        ("/usr", 1, 951782400),
+        ("/usr", 0, 0),
+        ("/home", 9, 0),
+    ] {
+        assert_eq!(rt; dates.base(name, level), wanted, "{name}");
+    }
     Ok(())
 }
 
@@ -205,29 +182,40 @@ fn entries_within_their_limits(rt: HostRuntime) -> Result<(), Fail> {
         (entry.name, entry.level, entry.date),
         ("/usr", 3, 951827696)
     );
-    assert!(rt; Entry::new("!~", 0, 0).is_some());
-    assert!(rt; Entry::new("a", 9, LAST_SECOND).is_some());
-    assert!(rt; Entry::new("a", 10, 0).is_none());
-    assert!(rt; Entry::new("a", 0, LAST_SECOND + 1).is_none());
+    for (name, level, date, good) in [
+        ("!~", 0, 0, true),
+        ("a", 9, LAST_SECOND, true),
+        ("a", 10, 0, false),
+        ("a", 0, LAST_SECOND + 1, false),
+    ] {
+        assert_eq!(rt; Entry::new(name, level, date).is_some(), good, "{level}");
+    }
     Ok(())
 }
 
-#[test]
-fn names_that_are_some(rt: HostRuntime) {
-    for name in ["/usr", "!", "~", "!~", "a"] {
-        assert!(rt; is_name(name.as_bytes()), "{name}");
-        assert!(rt; Entry::new(name, 0, 0).is_some(), "{name}");
-    }
-}
+/// Whether a name is one, here and in an entry.
+const NAMES: [(&str, bool); 12] = [
+    ("/usr", true),
+    ("!", true),
+    ("~", true),
+    ("!~", true),
+    ("a", true),
+    ("", false),
+    (" ", false),
+    ("a b", false),
+    ("a\t", false),
+    ("a\n", false),
+    ("\u{7f}", false),
+    ("\u{e9}", false),
+];
 
 #[test]
-fn names_that_are_none(rt: HostRuntime) {
-    for name in ["", " ", "a b", "a\t", "a\n", "\u{7f}", "\u{e9}"] {
-        assert!(rt; !is_name(name.as_bytes()), "{name}");
-        assert!(rt; Entry::new(name, 0, 0).is_none(), "{name}");
+fn names_that_are_some_and_none(rt: HostRuntime) {
+    for (name, good) in NAMES {
+        assert_eq!(rt; is_name(name.as_bytes()), good, "{name}");
+        assert_eq!(rt; Entry::new(name, 0, 0).is_some(), good, "{name}");
     }
-    assert!(rt; !is_name(&[255]));
-    assert!(rt; !is_name(&[b'a', 0]));
+    assert!(rt; !is_name(&[255]) && !is_name(&[b'a', 0]));
 }
 
 #[test]
@@ -257,8 +245,8 @@ fn entries_by_their_places(rt: HostRuntime) -> Result<(), Fail> {
     let dates = Dates::read(rt.alloc(), text)?;
     assert_eq!(rt; dates.len(), 3);
     for (at, fields) in wanted.iter().enumerate() {
-        let entry = dates.get(at).ok_or("an entry")?;
-        assert_eq!(rt; (entry.name, entry.level, entry.date), *fields);
+        let told = dates.get(at).map(|e| (e.name, e.level, e.date));
+        assert!(rt; told == Some(*fields), "{at}");
     }
     assert!(rt; dates.get(3).is_none());
     assert!(rt; dates.get(usize::MAX).is_none());

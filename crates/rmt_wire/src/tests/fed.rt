@@ -1,8 +1,28 @@
 use crate::slow::{Parts, is_same, split, taken};
 use crate::{Request, RequestReader, WireFault};
-use std::alloc::Global;
+use std::alloc::{AllocError, Global};
 use std::process::Abort;
 use std::test::Fail;
+
+/// What a reader gives: the request that is wanted, another one, or none, and then perhaps a fault.
+#[derive(Clone, Copy, PartialEq, Eq)]
+pub(super) enum Next {
+    Wanted,
+    Other,
+    None(Option<WireFault>),
+}
+
+/// What a reader gives next, where this is wanted.
+pub(super) fn next_of(reader: &mut RequestReader, wanted: Option<&Request<'_>>) -> Next {
+    match reader.next() {
+        Ok(Some(request)) => match wanted {
+            Some(wanted) if is_same(wanted, &request) => Next::Wanted,
+            _ => Next::Other,
+        },
+        Ok(None) => Next::None(None),
+        Err(fault) => Next::None(Some(fault)),
+    }
+}
 
 /// A reader, the stream that it is fed, and what it is to give of it.
 #[derive(Drop)]
@@ -17,7 +37,7 @@ struct Fed<'a> {
 }
 
 impl<'a> Fed<'a> {
-    fn new(alloc: Global, stream: &'a [u8], want: &'a Parts<'a>) -> Result<Fed<'a>, Fail> {
+    fn new(alloc: Global, stream: &'a [u8], want: &'a Parts<'a>) -> Result<Fed<'a>, AllocError> {
         Ok(Fed {
             reader: RequestReader::new(alloc)?,
             stream,
@@ -27,46 +47,41 @@ impl<'a> Fed<'a> {
         })
     }
 
-    /// Feeds it so many bytes more as one piece. What does not fit is pushed once requests were given.
-    fn feed(&mut self, rt: &impl Abort, size: usize) {
+    /// Feeds it so many bytes more as one piece. What does not fit is pushed once requests were given. It tells whether
+    /// the reader does as it is to each time.
+    fn feed(&mut self, size: usize) -> bool {
         let end = self.pushed.saturating_add(size).min(self.stream.len());
         for _ in 0..=size {
             let piece = self.stream.get(self.pushed..end).unwrap_or(&[]);
-            let room = self.reader.room();
-            let count = self.reader.push(piece);
-            assert_eq!(rt; count, piece.len().min(room));
-            self.pushed = self.pushed.saturating_add(count);
-            self.take_requests(rt);
-            self.check_held(rt);
-            if count == piece.len() {
-                return;
+            if !self.takes(piece) || !self.gives_all() || !self.holds() {
+                return false;
+            }
+            if self.pushed == end {
+                return true;
             }
         }
+        false
     }
 
-    /// Takes all that is given now.
-    fn take_requests(&mut self, rt: &impl Abort) {
+    /// Whether it takes the lesser of the piece and its room.
+    fn takes(&mut self, piece: &[u8]) -> bool {
+        let room = self.reader.room();
+        let count = self.reader.push(piece);
+        self.pushed = self.pushed.saturating_add(count);
+        count == piece.len().min(room)
+    }
+
+    /// Takes all that is given now. It tells whether that is what is wanted, and then none, or the fault that is shown.
+    fn gives_all(&mut self) -> bool {
         for _ in 0..=self.want.requests.len() {
-            match self.reader.next() {
-                Ok(Some(request)) => {
-                    let is_wanted = match self.want.requests.get(self.given) {
-                        Some(wanted) => is_same(wanted, &request),
-                        None => false,
-                    };
-                    assert!(rt; is_wanted, "request {}", self.given);
-                    self.given = self.given.saturating_add(1);
-                }
-                Ok(None) => {
-                    assert_eq!(rt; self.fault_now(), None, "no fault at {}", self.pushed);
-                    return;
-                }
-                Err(fault) => {
-                    assert_eq!(rt; self.fault_now(), Some(fault), "at {}", self.pushed);
-                    return;
-                }
+            let wanted = self.want.requests.get(self.given);
+            match next_of(&mut self.reader, wanted) {
+                Next::Wanted => self.given = self.given.saturating_add(1),
+                Next::Other => return false,
+                Next::None(fault) => return fault == self.fault_now(),
             }
         }
-        assert!(rt; false, "more requests than were wanted");
+        false
     }
 
     /// The fault that the bytes pushed show.
@@ -77,8 +92,8 @@ impl<'a> Fed<'a> {
         }
     }
 
-    /// No whole request waits, and what is held takes just its room.
-    fn check_held(&self, rt: &impl Abort) {
+    /// How many requests the bytes pushed have, and where the last one ends.
+    fn whole(&self) -> (usize, usize) {
         let mut whole = 0usize;
         let mut start = 0usize;
         for end in self.want.ends.iter() {
@@ -87,78 +102,109 @@ impl<'a> Fed<'a> {
                 start = *end;
             }
         }
-        assert_eq!(rt; self.given, whole, "after {} bytes", self.pushed);
-        let unread = self.stream.get(start..self.pushed).unwrap_or(&[]);
-        let room = 65548usize.saturating_sub(taken(unread));
-        assert_eq!(rt; self.reader.room(), room, "after {} bytes", self.pushed);
-        assert_eq!(rt; self.reader.is_empty(), unread.is_empty());
-        if self.fault_now().is_none() {
-            assert!(rt; room > 0);
-        }
+        (whole, start)
     }
 
-    /// At the end a fault stays, whatever is pushed.
-    fn check_end(&mut self, rt: &impl Abort) {
+    /// Whether no whole request waits, what is held takes just its room, and without a fault there is some.
+    fn holds(&self) -> bool {
+        let (whole, start) = self.whole();
+        let unread = self.stream.get(start..self.pushed).unwrap_or(&[]);
+        let room = 65548usize.saturating_sub(taken(unread));
+        self.given == whole
+            && self.reader.room() == room
+            && self.reader.is_empty() == unread.is_empty()
+            && (room > 0 || self.fault_now().is_some())
+    }
+
+    /// Whether a fault stays at the end, whatever is pushed.
+    fn stays(&mut self) -> bool {
         let Some((fault, _)) = self.want.fault else {
-            return;
+            return true;
         };
         for more in [b"".as_slice(), b"C\n", b"\n", b"R1\n"] {
             self.reader.push(more);
-            assert!(rt; matches!(self.reader.next(), Err(again) if again == fault));
+            if next_of(&mut self.reader, None) != Next::None(Some(fault)) {
+                return false;
+            }
         }
+        true
     }
 }
 
-/// Feeds the stream in pieces of one size.
-fn check_sizes(
-    rt: &impl Abort,
+/// Whether a reader does as it is to where the stream is fed in a piece of `first` bytes, and then in pieces of one
+/// size.
+fn is_fed(
     alloc: Global,
     stream: &[u8],
     want: &Parts<'_>,
+    first: usize,
     size: usize,
-) -> Result<(), Fail> {
+) -> Result<bool, AllocError> {
     let mut fed = Fed::new(alloc, stream, want)?;
+    if !fed.feed(first) {
+        return Ok(false);
+    }
     for _ in 0..=stream.len() {
-        fed.feed(rt, size);
+        if !fed.feed(size) {
+            return Ok(false);
+        }
         if fed.pushed == stream.len() {
-            break;
+            return Ok(fed.stays());
         }
     }
-    assert_eq!(rt; fed.pushed, stream.len());
-    fed.check_end(rt);
-    Ok(())
+    Ok(false)
 }
 
-/// Feeds the stream in two pieces.
-fn check_cut(
-    rt: &impl Abort,
-    alloc: Global,
-    stream: &[u8],
-    want: &Parts<'_>,
-    at: usize,
-) -> Result<(), Fail> {
-    let mut fed = Fed::new(alloc, stream, want)?;
-    fed.feed(rt, at);
-    fed.feed(rt, stream.len());
-    assert_eq!(rt; fed.pushed, stream.len());
-    fed.check_end(rt);
-    Ok(())
-}
-
-/// The reader gives what the slow program says: of the stream in one piece, and in pieces of one byte.
-pub(super) fn check_pieces(
-    rt: &impl Abort,
-    alloc: Global,
-    stream: &[u8],
-    want: &Parts<'_>,
-) -> Result<(), Fail> {
-    check_sizes(rt, alloc, stream, want, stream.len())?;
-    check_sizes(rt, alloc, stream, want, 1)
+/// Whether the reader gives what the slow program says: of the stream in one piece, and in pieces of one byte.
+fn is_fed_in_pieces(alloc: Global, stream: &[u8], want: &Parts<'_>) -> Result<bool, AllocError> {
+    let len = stream.len();
+    Ok(is_fed(alloc, stream, want, len, len)? && is_fed(alloc, stream, want, 1, 1)?)
 }
 
 /// Whether the stream is cut here: a short one everywhere, a long one beside its ends and those of requests.
 fn is_cut_at(want: &Parts<'_>, len: usize, at: usize) -> bool {
     len < 100 || at < 9 || at.abs_diff(len) < 9 || want.ends.iter().any(|end| at.abs_diff(*end) < 9)
+}
+
+/// Whether the reader gives what the slow program says where the stream is cut in two.
+fn is_fed_in_cuts(alloc: Global, stream: &[u8], want: &Parts<'_>) -> Result<bool, AllocError> {
+    let len = stream.len();
+    for at in 0..=len {
+        if is_cut_at(want, len, at) && !is_fed(alloc, stream, want, at, len)? {
+            return Ok(false);
+        }
+    }
+    Ok(true)
+}
+
+/// Whether both are the same requests.
+fn are_same(ones: &[Request<'_>], others: &[Request<'_>]) -> bool {
+    if ones.len() != others.len() {
+        return false;
+    }
+    for (one, other) in ones.iter().zip(others) {
+        if !is_same(one, other) {
+            return false;
+        }
+    }
+    true
+}
+
+/// Whether the parts of a stream are these.
+fn is_split(
+    found: &Parts<'_>,
+    requests: &[Request<'_>],
+    rest: &[u8],
+    fault: Option<WireFault>,
+) -> bool {
+    are_same(&found.requests, requests) && found.rest == rest && found.fault.map(|it| it.0) == fault
+}
+
+/// The reader gives what the slow program says: of the stream in one piece, and in pieces of one byte.
+pub(super) fn check_pieces(rt: &impl Abort, alloc: Global, stream: &[u8]) -> Result<(), Fail> {
+    let found = split(alloc, stream)?;
+    assert!(rt; is_fed_in_pieces(alloc, stream, &found)?, "{stream:?}");
+    Ok(())
 }
 
 /// The slow program gives what is wanted by hand, and the reader what the slow program says, also where the stream
@@ -172,18 +218,9 @@ pub(super) fn check_by_hand(
     fault: Option<WireFault>,
 ) -> Result<(), Fail> {
     let found = split(alloc, stream)?;
-    assert_eq!(rt; found.requests.len(), requests.len(), "{stream:?}");
-    for (one, other) in found.requests.iter().zip(requests) {
-        assert!(rt; is_same(one, other), "{one:?} is not {other:?}");
-    }
-    assert_eq!(rt; found.rest, rest);
-    assert_eq!(rt; found.fault.map(|it| it.0), fault, "{stream:?}");
-    check_pieces(rt, alloc, stream, &found)?;
-    for at in 0..=stream.len() {
-        if is_cut_at(&found, stream.len(), at) {
-            check_cut(rt, alloc, stream, &found, at)?;
-        }
-    }
+    assert!(rt; is_split(&found, requests, rest, fault), "{stream:?}");
+    check_pieces(rt, alloc, stream)?;
+    assert!(rt; is_fed_in_cuts(alloc, stream, &found)?, "cut: {stream:?}");
     Ok(())
 }
 
@@ -195,7 +232,9 @@ pub(super) fn check_last_byte(
     fault: Option<WireFault>,
 ) -> Result<(), Fail> {
     let found = split(alloc, stream)?;
-    let wanted = fault.map(|it| (it, stream.len()));
-    assert_eq!(rt; found.fault, wanted, "{stream:?}");
-    check_cut(rt, alloc, stream, &found, stream.len().saturating_sub(1))
+    let len = stream.len();
+    assert!(rt; found.fault == fault.map(|it| (it, len)), "{stream:?}");
+    let is_fed = is_fed(alloc, stream, &found, len.saturating_sub(1), len)?;
+    assert!(rt; is_fed, "cut: {stream:?}");
+    Ok(())
 }

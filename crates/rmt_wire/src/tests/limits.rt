@@ -1,8 +1,9 @@
 //! Numbers, lines and data at their limits and one past them.
 
-use super::fed::check_by_hand;
+use super::fed::{Next, check_by_hand, next_of};
 use crate::{Request, RequestReader, WireFault};
 use std::alloc::{AllocError, Global};
+use std::process::Abort;
 use std::test::Fail;
 
 fn joined(alloc: Global, parts: &[&[u8]]) -> Result<Vec<u8>, AllocError> {
@@ -44,43 +45,83 @@ fn numbers(rt: HostRuntime) -> Result<(), Fail> {
     Ok(())
 }
 
+/// The parts joined are these requests, and a rest without a fault.
+fn check_joined(
+    rt: &impl Abort,
+    alloc: Global,
+    parts: &[&[u8]],
+    requests: &[Request<'_>],
+) -> Result<(), Fail> {
+    let stream = joined(alloc, parts)?;
+    let rest = if requests.is_empty() {
+        stream.as_slice()
+    } else {
+        b""
+    };
+    check_by_hand(rt, alloc, &stream, requests, rest, None)
+}
+
+/// The parts joined are no request, since a line is too long.
+fn check_too_long(rt: &impl Abort, alloc: Global, parts: &[&[u8]]) -> Result<(), Fail> {
+    let stream = joined(alloc, parts)?;
+    let fault = Some(WireFault::LineTooLong);
+    check_by_hand(rt, alloc, &stream, &[], &stream, fault)
+}
+
 #[test]
 fn device_and_close_lines(rt: HostRuntime) -> Result<(), Fail> {
     let alloc = rt.alloc();
     let line = [b'0'; 256];
     let (longest, _) = line.split_at(255);
-    let opens: [&[u8]; 2] = [b"", longest];
-    for device in opens {
-        let stream = joined(alloc, &[b"O", device, b"\n1\n"])?;
-        let requests = [Request::Open { device, mode: 1 }];
-        check_by_hand(&rt, alloc, &stream, &requests, b"", None)?;
-        let stream = joined(alloc, &[b"C", device, b"\n"])?;
-        check_by_hand(&rt, alloc, &stream, &[Request::Close], b"", None)?;
+    for device in [b"".as_slice(), longest] {
+        let open = [Request::Open { device, mode: 1 }];
+        check_joined(&rt, alloc, &[b"O", device, b"\n1\n"], &open)?;
+        check_joined(&rt, alloc, &[b"C", device, b"\n"], &[Request::Close])?;
     }
     for letter in [b"O".as_slice(), b"C"] {
-        let stream = joined(alloc, &[letter, longest])?;
-        check_by_hand(&rt, alloc, &stream, &[], &stream, None)?;
-        let stream = joined(alloc, &[letter, &line])?;
-        let fault = Some(WireFault::LineTooLong);
-        check_by_hand(&rt, alloc, &stream, &[], &stream, fault)?;
+        check_joined(&rt, alloc, &[letter, longest], &[])?;
+        check_too_long(&rt, alloc, &[letter, &line])?;
     }
     Ok(())
 }
 
 #[test]
 fn mode_lines(rt: HostRuntime) -> Result<(), Fail> {
-    let alloc = rt.alloc();
     let spaces = [b' '; 255];
     let (fit, _) = spaces.split_at(254);
-    let stream = joined(alloc, &[b"Ost0\n2", fit, b"\n"])?;
-    let requests = [Request::Open {
+    let open = Request::Open {
         device: b"st0",
         mode: 2,
-    }];
-    check_by_hand(&rt, alloc, &stream, &requests, b"", None)?;
-    let stream = joined(alloc, &[b"Ost0\n2", &spaces, b"\n"])?;
-    let fault = Some(WireFault::LineTooLong);
-    check_by_hand(&rt, alloc, &stream, &[], &stream, fault)
+    };
+    check_joined(&rt, rt.alloc(), &[b"Ost0\n2", fit, b"\n"], &[open])?;
+    check_too_long(&rt, rt.alloc(), &[b"Ost0\n2", &spaces, b"\n"])
+}
+
+/// A reader has so much room, and is empty where it has all.
+fn check_room(rt: &impl Abort, reader: &RequestReader, room: usize) {
+    assert_eq!(rt; reader.room(), room);
+    assert!(rt; reader.is_empty() == (room == 65548));
+}
+
+/// It takes so many bytes of the piece, and has so much room then.
+fn check_push(
+    rt: &impl Abort,
+    reader: &mut RequestReader,
+    piece: &[u8],
+    count: usize,
+    room: usize,
+) {
+    assert_eq!(rt; reader.push(piece), count);
+    check_room(rt, reader, room);
+}
+
+/// It gives this request, and has so much room then.
+fn check_next(rt: &impl Abort, reader: &mut RequestReader, wanted: Request<'_>, room: usize) {
+    assert!(rt;
+        next_of(reader, Some(&wanted)) == Next::Wanted,
+        "{wanted:?}"
+    );
+    check_room(rt, reader, room);
 }
 
 #[test]
@@ -90,17 +131,11 @@ fn the_largest_request_fills_a_reader(rt: HostRuntime) -> Result<(), Fail> {
     let stream = joined(alloc, &[b"W0000065536\n", &data, b"C\n"])?;
     assert_eq!(rt; stream.len(), 65550);
     let mut reader = RequestReader::new(alloc)?;
-    assert_eq!(rt; reader.room(), 65548);
-    assert!(rt; reader.is_empty());
-    assert_eq!(rt; reader.push(&stream), 65548);
-    assert_eq!(rt; reader.room(), 0);
-    assert_eq!(rt; reader.push(b"C"), 0);
-    assert!(rt;
-        matches!(reader.next()?, Some(Request::Write { bytes }) if bytes == data.as_slice())
-    );
-    assert_eq!(rt; reader.room(), 65548);
-    assert!(rt; reader.is_empty());
-    assert!(rt; reader.next()?.is_none());
+    check_room(&rt, &reader, 65548);
+    check_push(&rt, &mut reader, &stream, 65548, 0);
+    check_push(&rt, &mut reader, b"C", 0, 0);
+    check_next(&rt, &mut reader, Request::Write { bytes: &data }, 65548);
+    assert!(rt; next_of(&mut reader, None) == Next::None(None));
     Ok(())
 }
 
@@ -108,12 +143,11 @@ fn the_largest_request_fills_a_reader(rt: HostRuntime) -> Result<(), Fail> {
 fn data_that_are_dropped_take_no_room(rt: HostRuntime) -> Result<(), Fail> {
     let data = [b'x'; 4096];
     let mut reader = RequestReader::new(rt.alloc())?;
-    assert_eq!(rt; reader.push(b"W2147483647\n"), 12);
+    check_push(&rt, &mut reader, b"W2147483647\n", 12, 65536);
     for _ in 0..100 {
-        assert_eq!(rt; reader.push(&data), 4096);
-        assert_eq!(rt; reader.room(), 65536);
-        assert!(rt; reader.next()?.is_none());
-        assert!(rt; !reader.is_empty());
+        check_push(&rt, &mut reader, &data, 4096, 65536);
+        assert!(rt; next_of(&mut reader, None) == Next::None(None));
+        check_room(&rt, &reader, 65536);
     }
     Ok(())
 }
@@ -123,22 +157,15 @@ fn a_dropped_write_behind_a_request_takes_room(rt: HostRuntime) -> Result<(), Fa
     let alloc = rt.alloc();
     let data = vec![in alloc; b'x'; 65537]?;
     let stream = joined(alloc, &[b"R1\nW65537\n", &data, b"C\n"])?;
-    let requests = [
-        Request::Read { count: 1 },
-        Request::WriteDropped { count: 65537 },
-        Request::Close,
-    ];
+    let read = Request::Read { count: 1 };
+    let dropped = Request::WriteDropped { count: 65537 };
+    let requests = [read, dropped, Request::Close];
     check_by_hand(&rt, alloc, &stream, &requests, b"", None)?;
     let mut reader = RequestReader::new(alloc)?;
-    assert_eq!(rt; reader.push(&stream), 65548);
-    assert_eq!(rt; reader.room(), 0);
-    assert!(rt; matches!(reader.next()?, Some(Request::Read { count: 1 })));
-    assert_eq!(rt; reader.room(), 65540);
-    assert_eq!(rt; reader.push(b"\n"), 1);
-    let dropped = reader.next()?;
-    assert!(rt; matches!(dropped, Some(Request::WriteDropped { count: 65537 })));
-    assert_eq!(rt; reader.room(), 65546);
-    assert!(rt; matches!(reader.next()?, Some(Request::Close)));
-    assert!(rt; reader.is_empty());
+    check_push(&rt, &mut reader, &stream, 65548, 0);
+    check_next(&rt, &mut reader, read, 65540);
+    check_push(&rt, &mut reader, b"\n", 1, 65539);
+    check_next(&rt, &mut reader, dropped, 65546);
+    check_next(&rt, &mut reader, Request::Close, 65548);
     Ok(())
 }

@@ -1,8 +1,10 @@
 //! Each byte that leaves no reply possible, at the places where one can.
 
-use super::reply_fed::{check_last_byte, check_replies};
+use super::reply_fed::{Next, check_last_byte, check_replies, next_of, wait};
 use crate::slow::reply::Wanted;
 use crate::{Reply, ReplyReader, WireFault};
+use std::alloc::Global;
+use std::process::Abort;
 use std::test::Fail;
 
 #[test]
@@ -36,21 +38,34 @@ const NUMBERS: [(&[u8], Wanted, &[u8], &[u8]); 12] = [
     (b"A0000000000", Wanted::DataUpTo(3), b"\n", b"456789"),
 ];
 
+/// Each byte behind such a beginning.
+fn check_bytes(
+    rt: &impl Abort,
+    alloc: Global,
+    before: &[u8],
+    wanted: Wanted,
+    next: &[u8],
+    too_many: &[u8],
+) -> Result<(), Fail> {
+    for byte in 0..=255u8 {
+        let mut text = Vec::from_slice(alloc, before)?;
+        text.push(byte)?;
+        let fault = if too_many.contains(&byte) {
+            Some(WireFault::TooMuchData)
+        } else if next.contains(&byte) {
+            None
+        } else {
+            Some(WireFault::BadNumber)
+        };
+        check_last_byte(rt, alloc, &text, wanted, fault)?;
+    }
+    Ok(())
+}
+
 #[test]
 fn each_byte_of_a_number(rt: HostRuntime) -> Result<(), Fail> {
     for (before, wanted, next, too_many) in NUMBERS {
-        for byte in 0..=255u8 {
-            let mut text = Vec::from_slice(rt.alloc(), before)?;
-            text.push(byte)?;
-            let fault = if too_many.contains(&byte) {
-                Some(WireFault::TooMuchData)
-            } else if next.contains(&byte) {
-                None
-            } else {
-                Some(WireFault::BadNumber)
-            };
-            check_last_byte(&rt, rt.alloc(), &text, wanted, fault)?;
-        }
+        check_bytes(&rt, rt.alloc(), before, wanted, next, too_many)?;
     }
     Ok(())
 }
@@ -88,21 +103,26 @@ fn hopeless_texts(rt: HostRuntime) -> Result<(), Fail> {
     Ok(())
 }
 
+/// What is waited for, if anything is, what is fed then, and what a reader gives of it.
+const CLEARED: [(Option<Wanted>, &[u8], Next); 3] = [
+    (None, b"A0\n", Next::None(Some(WireFault::TooMuchData))),
+    (Some(Wanted::DataUpTo(4)), b"A4\nab", Next::None(None)),
+    (Some(Wanted::Number), b"A1\n", Next::Wanted),
+];
+
 #[test]
 fn a_cleared_reader_waits_anew(rt: HostRuntime) -> Result<(), Fail> {
     let mut reader = ReplyReader::new(rt.alloc())?;
-    reader.push(b"A0\n");
-    assert!(rt; matches!(reader.next(), Err(WireFault::TooMuchData)));
-    reader.clear();
-    assert!(rt; reader.is_empty());
-    reader.expect(crate::Wanted::Data(4));
-    reader.push(b"A4\nab");
-    assert!(rt; matches!(reader.next(), Ok(None)));
-    reader.clear();
-    assert_eq!(rt; reader.room(), 65548);
-    reader.expect(crate::Wanted::Number);
-    reader.push(b"A1\n");
-    assert!(rt; matches!(reader.next(), Ok(Some(Reply::Done { number: 1 }))));
+    let done = Some(Reply::Done { number: 1 });
+    for (wanted, piece, next) in CLEARED {
+        if let Some(wanted) = wanted {
+            assert!(rt; wait(&mut reader, wanted));
+        }
+        reader.push(piece);
+        assert!(rt; next_of(&mut reader, done) == next);
+        reader.clear();
+        assert!(rt; reader.is_empty() && reader.room() == 65548);
+    }
     Ok(())
 }
 

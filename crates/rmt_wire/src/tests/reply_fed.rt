@@ -1,7 +1,6 @@
 ghost use Rattle.rmt_wire.specs.Lent.{plain_wanted};
 ghost use Rattle.rmt_wire.specs.ReplyReader.{IsWithin};
 
-use super::replied;
 use crate::slow::reply::{Replies, Wanted, is_same, split, taken};
 use crate::{Reply, ReplyReader, WireFault};
 use std::alloc::{AllocError, Global};
@@ -20,6 +19,16 @@ pub(super) struct Exchange<'a> {
     pub(super) fault: Option<(WireFault, usize)>,
 }
 
+impl Exchange<'_> {
+    /// The fault that so many bytes show.
+    fn fault_at(&self, len: usize) -> Option<WireFault> {
+        match self.fault {
+            Some((fault, end)) if end <= len => Some(fault),
+            _ => None,
+        }
+    }
+}
+
 /// The same kind, as a reader takes it.
 fn kind_of(wanted: Wanted) -> crate::Wanted
     ensures { IsWithin (plain_wanted result) }
@@ -28,6 +37,35 @@ fn kind_of(wanted: Wanted) -> crate::Wanted
         Wanted::Number => crate::Wanted::Number,
         Wanted::DataUpTo(most) => crate::Wanted::Data(most.min(65536)),
     }
+}
+
+/// What a reader gives: the reply that is wanted, another one, or none, and then perhaps a fault.
+#[derive(Clone, Copy, PartialEq, Eq)]
+pub(super) enum Next {
+    Wanted,
+    Other,
+    None(Option<WireFault>),
+}
+
+/// What a reader gives next, where this is wanted.
+pub(super) fn next_of(reader: &mut ReplyReader, wanted: Option<Reply<'_>>) -> Next {
+    match reader.next() {
+        Ok(Some(reply)) => match wanted {
+            Some(wanted) if is_same(&wanted, &reply) => Next::Wanted,
+            _ => Next::Other,
+        },
+        Ok(None) => Next::None(None),
+        Err(fault) => Next::None(Some(fault)),
+    }
+}
+
+/// Waits for a reply, where none is waited for. It tells whether none was.
+pub(super) fn wait(reader: &mut ReplyReader, wanted: Wanted) -> bool {
+    if reader.is_waiting() {
+        return false;
+    }
+    reader.expect(kind_of(wanted));
+    true
 }
 
 /// A reader in the middle of an exchange.
@@ -50,144 +88,127 @@ impl<'a> Fed<'a> {
         })
     }
 
-    /// Waits for a reply, where none is waited for.
-    fn wait(&mut self, rt: &impl Abort, wanted: crate::Wanted)
-        requires { IsWithin (plain_wanted wanted) }
-    {
-        if self.reader.is_waiting() {
-            assert!(rt; false, "a reply is waited for");
-        } else {
-            self.reader.expect(wanted);
-        }
-    }
-
-    /// Begins an exchange.
-    fn begin(&mut self, rt: &impl Abort, next: Exchange<'a>) {
+    /// Begins an exchange. It tells whether no reply was waited for.
+    fn begin(&mut self, next: Exchange<'a>) -> bool {
         self.now = next;
         self.pushed = 0;
         self.is_given = false;
-        if let Some(wanted) = next.wanted {
-            self.wait(rt, kind_of(wanted));
+        match next.wanted {
+            Some(wanted) => wait(&mut self.reader, wanted),
+            None => true,
         }
     }
 
-    /// Feeds it so many bytes more as one piece, as far as they fit.
-    fn feed(&mut self, rt: &impl Abort, size: usize) {
+    /// Feeds it so many bytes more as one piece, as far as they fit. It tells whether the reader does as it is to.
+    fn feed(&mut self, size: usize) -> bool {
         let end = self.pushed.saturating_add(size).min(self.now.bytes.len());
         let piece = self.now.bytes.get(self.pushed..end).unwrap_or(&[]);
-        self.check_room(rt);
+        self.has_room()
+            && self.takes(piece)
+            && self.has_room()
+            && self.gives_reply()
+            && self.has_room()
+            && self.gives_no_more()
+    }
+
+    /// Whether it takes the lesser of the piece and its room.
+    fn takes(&mut self, piece: &[u8]) -> bool {
         let room = self.reader.room();
         let count = self.reader.push(piece);
-        assert_eq!(rt; count, piece.len().min(room));
         self.pushed = self.pushed.saturating_add(count);
-        self.check_room(rt);
-        self.take_reply(rt);
-        self.check_room(rt);
-        self.check_answer(rt);
+        count == piece.len().min(room)
     }
 
-    /// Takes the reply once its bytes were pushed.
-    fn take_reply(&mut self, rt: &impl Abort) {
-        let Some(reply) = self.now.reply else {
-            return;
-        };
-        if self.is_given || self.pushed < self.now.end {
-            return;
+    /// Takes the reply once its bytes were pushed. It tells whether that is the one that is wanted.
+    fn gives_reply(&mut self) -> bool {
+        if self.now.reply.is_none() || self.is_given || self.pushed < self.now.end {
+            return true;
         }
-        let is_wanted = match self.reader.next() {
-            Ok(Some(given)) => is_same(&reply, &given),
-            _ => false,
-        };
-        assert!(rt; is_wanted, "no {reply:?} after {} bytes", self.pushed);
         self.is_given = true;
+        next_of(&mut self.reader, self.now.reply) == Next::Wanted
     }
 
-    /// No reply is given now: what was pushed is a beginning, or shows its fault.
-    fn check_answer(&mut self, rt: &impl Abort) {
-        let fault = match self.now.fault {
-            Some((fault, end)) if end <= self.pushed => Some(fault),
-            _ => None,
-        };
+    /// Whether no reply is given now: what was pushed is a beginning, or shows its fault.
+    fn gives_no_more(&mut self) -> bool {
+        let wanted = self.now.fault_at(self.pushed);
         for _ in 0..2 {
-            match self.reader.next() {
-                Ok(None) => assert_eq!(rt; fault, None, "no fault at {}", self.pushed),
-                Ok(Some(_)) => assert!(rt; false, "one reply more at {}", self.pushed),
-                Err(found) => assert_eq!(rt; fault, Some(found), "at {}", self.pushed),
+            if next_of(&mut self.reader, None) != Next::None(wanted) {
+                return false;
             }
         }
-        if fault.is_none() {
-            assert!(rt; self.reader.room() > 0);
-        }
+        wanted.is_some() || self.reader.room() > 0
     }
 
-    /// What is held takes just its room. In the middle of many bytes this is not looked at.
-    fn check_room(&self, rt: &impl Abort) {
+    /// Whether what is held takes just its room. In the middle of many bytes this is not looked at.
+    fn has_room(&self) -> bool {
         if self.pushed > 600 && self.pushed.saturating_add(9) < self.now.bytes.len() {
-            return;
+            return true;
         }
         let start = if self.is_given { self.now.end } else { 0 };
         let wanted = if self.is_given { None } else { self.now.wanted };
         let unread = self.now.bytes.get(start..self.pushed).unwrap_or(&[]);
         let room = 65548usize.saturating_sub(taken(unread, wanted));
-        assert_eq!(rt; self.reader.room(), room, "after {} bytes", self.pushed);
-        assert_eq!(rt; self.reader.is_empty(), unread.is_empty());
+        self.reader.room() == room && self.reader.is_empty() == unread.is_empty()
     }
 
-    /// At the end a fault stays, whatever is pushed.
-    fn check_end(&mut self, rt: &impl Abort) {
+    /// Whether a fault stays at the end, whatever is pushed, and whatever is waited for then.
+    fn stays(&mut self) -> bool {
         let Some((fault, _)) = self.now.fault else {
-            return;
+            return true;
         };
         for more in [b"".as_slice(), b"A0\n", b"\n", b"E5\nx\n"] {
             self.reader.push(more);
-            assert!(rt; matches!(self.reader.next(), Err(again) if again == fault));
-        }
-        if self.is_given || self.now.wanted.is_none() {
-            self.wait(rt, crate::Wanted::Number);
-            assert!(rt; matches!(self.reader.next(), Err(again) if again == fault));
-        }
-    }
-}
-
-/// Feeds one exchange after the other, each in pieces of one size.
-fn check_sizes(
-    rt: &impl Abort,
-    alloc: Global,
-    exchanges: &[Exchange<'_>],
-    size: usize,
-) -> Result<(), Fail> {
-    let Some(first) = exchanges.first() else {
-        return Ok(());
-    };
-    let mut fed = Fed::new(alloc, *first)?;
-    for exchange in exchanges {
-        fed.begin(rt, *exchange);
-        for _ in 0..=exchange.bytes.len() {
-            fed.feed(rt, size);
-            if fed.pushed == exchange.bytes.len() {
-                break;
+            if !self.is_at(fault) {
+                return false;
             }
         }
-        assert_eq!(rt; fed.pushed, exchange.bytes.len());
+        if self.is_given || self.now.wanted.is_none() {
+            return wait(&mut self.reader, Wanted::Number) && self.is_at(fault);
+        }
+        true
     }
-    fed.check_end(rt);
-    Ok(())
+
+    /// Whether it answers this fault.
+    fn is_at(&mut self, fault: WireFault) -> bool {
+        next_of(&mut self.reader, None) == Next::None(Some(fault))
+    }
+
+    /// Feeds it an exchange in a piece of `first` bytes, and then in pieces of one size. It tells whether the reader does
+    /// as it is to.
+    fn exchange(&mut self, next: Exchange<'a>, first: usize, size: usize) -> bool {
+        if !self.begin(next) || !self.feed(first) {
+            return false;
+        }
+        for _ in 0..=next.bytes.len() {
+            if !self.feed(size) {
+                return false;
+            }
+            if self.pushed == next.bytes.len() {
+                return true;
+            }
+        }
+        false
+    }
 }
 
-/// Feeds one exchange in two pieces.
-fn check_cut(
-    rt: &impl Abort,
+/// Whether a reader does as it is to in one exchange after the other, each in a piece of `first` bytes and then in pieces
+/// of one size.
+fn is_fed(
     alloc: Global,
-    exchange: &Exchange<'_>,
-    at: usize,
-) -> Result<(), Fail> {
+    exchanges: &[Exchange<'_>],
+    first: usize,
+    size: usize,
+) -> Result<bool, AllocError> {
+    let Some(exchange) = exchanges.first() else {
+        return Ok(true);
+    };
     let mut fed = Fed::new(alloc, *exchange)?;
-    fed.begin(rt, *exchange);
-    fed.feed(rt, at);
-    fed.feed(rt, exchange.bytes.len());
-    assert_eq!(rt; fed.pushed, exchange.bytes.len());
-    fed.check_end(rt);
-    Ok(())
+    for exchange in exchanges {
+        if !fed.exchange(*exchange, first, size) {
+            return Ok(false);
+        }
+    }
+    Ok(fed.stays())
 }
 
 /// Whether the bytes are cut here: short ones everywhere, long ones beside their ends, the end of the reply, and the end
@@ -200,60 +221,125 @@ fn is_cut_at(exchange: &Exchange<'_>, at: usize) -> bool {
             .any(|end| at.abs_diff(*end) < 9)
 }
 
-/// Of these exchanges a reader gives what is wanted: each in one piece, in small pieces, of one byte where they are not
-/// long, and cut in two.
-pub(super) fn check_exchanges(
-    rt: &impl Abort,
-    alloc: Global,
-    exchanges: &[Exchange<'_>],
-) -> Result<(), Fail> {
-    check_sizes(rt, alloc, exchanges, 100000)?;
-    let is_long = exchanges.iter().any(|it| it.bytes.len() > 12000);
-    check_sizes(rt, alloc, exchanges, if is_long { 1000 } else { 1 })?;
-    for exchange in exchanges {
-        for at in 0..=exchange.bytes.len() {
-            if is_cut_at(exchange, at) {
-                check_cut(rt, alloc, exchange, at)?;
-            }
+/// Whether a reader does as it is to in the exchange cut in two.
+fn is_fed_in_cuts(alloc: Global, exchange: Exchange<'_>) -> Result<bool, AllocError> {
+    let len = exchange.bytes.len();
+    for at in 0..=len {
+        if is_cut_at(&exchange, at) && !is_fed(alloc, &[exchange], at, len)? {
+            return Ok(false);
         }
     }
-    Ok(())
+    Ok(true)
 }
 
-/// The same of a stream that the slow program has split, where each reply is waited for once the one before was given.
-fn check_split(
-    rt: &impl Abort,
+/// Whether a reader gives of these exchanges what is wanted: each in one piece, in small pieces, of one byte where they are
+/// not long, and cut in two.
+pub(super) fn are_given(alloc: Global, exchanges: &[Exchange<'_>]) -> Result<bool, AllocError> {
+    let is_long = exchanges.iter().any(|it| it.bytes.len() > 12000);
+    let small = if is_long { 1000 } else { 1 };
+    if !is_fed(alloc, exchanges, 100000, 100000)? || !is_fed(alloc, exchanges, small, small)? {
+        return Ok(false);
+    }
+    for exchange in exchanges {
+        if !is_fed_in_cuts(alloc, *exchange)? {
+            return Ok(false);
+        }
+    }
+    Ok(true)
+}
+
+/// How many exchanges a stream is that the slow program has split: each reply is waited for once the one before was
+/// given, and after the last one none.
+fn exchange_count(wanted: &[Wanted], found: &Replies<'_>) -> usize {
+    let count = found.replies.len().saturating_add(1);
+    count.min(wanted.len().max(1))
+}
+
+/// One of so many exchanges.
+fn exchange_at<'a>(
+    stream: &'a [u8],
+    wanted: &[Wanted],
+    found: &Replies<'a>,
+    at: usize,
+    is_last: bool,
+) -> Exchange<'a> {
+    let start = match at.checked_sub(1) {
+        Some(before) => found.ends.get(before).copied().unwrap_or(0),
+        None => 0,
+    };
+    let end = found.ends.get(at).copied().unwrap_or(stream.len());
+    let bytes_end = if is_last { stream.len() } else { end };
+    let fault = match found.fault {
+        Some((fault, shown)) if is_last => Some((fault, shown.saturating_sub(start))),
+        _ => None,
+    };
+    Exchange {
+        bytes: stream.get(start..bytes_end).unwrap_or(&[]),
+        wanted: wanted.get(at).copied(),
+        reply: found.replies.get(at).copied(),
+        end: end.saturating_sub(start),
+        fault,
+    }
+}
+
+/// Whether a reader gives what the slow program says, where each reply is waited for once the one before was given.
+fn is_given<'a>(
+    alloc: Global,
+    stream: &'a [u8],
+    wanted: &[Wanted],
+    found: &Replies<'a>,
+) -> Result<bool, AllocError> {
+    let mut exchanges = Vec::new(alloc);
+    let count = exchange_count(wanted, found);
+    for at in 0..count {
+        let is_last = at.saturating_add(1) == count;
+        exchanges.push(exchange_at(stream, wanted, found, at, is_last))?;
+    }
+    are_given(alloc, &exchanges)
+}
+
+/// Whether both are the same replies.
+fn are_same(ones: &[Reply<'_>], others: &[Reply<'_>]) -> bool {
+    if ones.len() != others.len() {
+        return false;
+    }
+    for (one, other) in ones.iter().zip(others) {
+        if !is_same(one, other) {
+            return false;
+        }
+    }
+    true
+}
+
+/// Whether a beginning of so many bytes has the replies that end in it, and a fault that is shown in it.
+fn is_beginning(whole: &Replies<'_>, found: &Replies<'_>, len: usize) -> bool {
+    let count = whole.ends.iter().filter(|end| **end <= len).count();
+    let fault = match whole.fault {
+        Some((fault, end)) if end <= len => Some((fault, end)),
+        _ => None,
+    };
+    found.fault == fault
+        && found.ends.as_slice() == whole.ends.get(..count).unwrap_or(&[])
+        && are_same(&found.replies, whole.replies.get(..count).unwrap_or(&[]))
+}
+
+/// Whether the slow program gives of each beginning of a short text what lies in it.
+fn has_beginnings(
     alloc: Global,
     stream: &[u8],
     wanted: &[Wanted],
-    found: &Replies<'_>,
-) -> Result<(), Fail> {
-    let mut exchanges = Vec::new(alloc);
-    let mut start = 0;
-    for at in 0..=found.replies.len() {
-        let is_last = at.saturating_add(1) >= wanted.len() || at == found.replies.len();
-        let end = match found.ends.get(at) {
-            Some(end) => *end,
-            None => stream.len(),
-        };
-        let bytes_end = if is_last { stream.len() } else { end };
-        let fault = match found.fault {
-            Some((fault, shown)) if is_last => Some((fault, shown.saturating_sub(start))),
-            _ => None,
-        };
-        exchanges.push(Exchange {
-            bytes: stream.get(start..bytes_end).unwrap_or(&[]),
-            wanted: wanted.get(at).copied(),
-            reply: found.replies.get(at).copied(),
-            end: end.saturating_sub(start),
-            fault,
-        })?;
-        if is_last {
-            break;
-        }
-        start = end;
+    whole: &Replies<'_>,
+) -> Result<bool, AllocError> {
+    if stream.len() >= 100 {
+        return Ok(true);
     }
-    check_exchanges(rt, alloc, &exchanges)
+    for len in 0..stream.len() {
+        let beginning = stream.get(..len).unwrap_or(&[]);
+        if !is_beginning(whole, &split(alloc, beginning, wanted)?, len) {
+            return Ok(false);
+        }
+    }
+    Ok(true)
 }
 
 /// The slow program gives of these bytes, where this is waited for, what is wanted by hand, and a reader what the slow
@@ -267,8 +353,14 @@ pub(super) fn check_replies(
     rest: &[u8],
     fault: Option<(WireFault, usize)>,
 ) -> Result<(), Fail> {
-    let found = replied::check_replies(rt, alloc, stream, wanted, replies, rest, fault)?;
-    check_split(rt, alloc, stream, wanted, &found)
+    let found = split(alloc, stream, wanted)?;
+    let is_by_hand = are_same(&found.replies, replies) && found.rest == rest;
+    assert!(rt; is_by_hand && found.fault == fault, "{stream:?}");
+    let is_well = has_beginnings(alloc, stream, wanted, &found)?;
+    assert!(rt; is_well, "beginnings: {stream:?}");
+    let is_well = is_given(alloc, stream, wanted, &found)?;
+    assert!(rt; is_well, "reader: {stream:?}");
+    Ok(())
 }
 
 /// The text is one whole reply to one who waits for this.
@@ -301,14 +393,13 @@ pub(super) fn check_last_byte(
     fault: Option<WireFault>,
 ) -> Result<(), Fail> {
     let found = split(alloc, text, &[wanted])?;
-    let shown = fault.map(|it| (it, text.len()));
-    assert_eq!(rt; found.fault, shown, "{text:?} {wanted:?}");
-    let exchange = Exchange {
-        bytes: text,
-        wanted: Some(wanted),
-        reply: found.replies.get(0).copied(),
-        end: found.ends.get(0).copied().unwrap_or(text.len()),
-        fault: shown,
-    };
-    check_cut(rt, alloc, &exchange, text.len().saturating_sub(1))
+    let len = text.len();
+    assert!(rt;
+        found.fault == fault.map(|it| (it, len)),
+        "{text:?} {wanted:?}"
+    );
+    let exchange = exchange_at(text, &[wanted], &found, 0, true);
+    let is_well = is_fed(alloc, &[exchange], len.saturating_sub(1), len)?;
+    assert!(rt; is_well, "reader: {text:?} {wanted:?}");
+    Ok(())
 }

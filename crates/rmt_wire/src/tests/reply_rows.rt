@@ -1,7 +1,7 @@
 //! Replies as a client meets them, by hand: the least and the greatest that a reader keeps, and bytes that come too
 //! early or too late.
 
-use super::reply_fed::{Exchange, check_exchanges, check_last_byte, check_replies};
+use super::reply_fed::{Exchange, Next, are_given, check_last_byte, check_replies, next_of, wait};
 use crate::slow::reply::Wanted;
 use crate::{Reply, ReplyReader, WireFault};
 use std::alloc::{AllocError, Global};
@@ -47,7 +47,7 @@ fn each_byte_that_nobody_waits_for(rt: HostRuntime) -> Result<(), Fail> {
             end: 1,
             fault: Some((WireFault::TooMuchData, 1)),
         };
-        check_exchanges(&rt, rt.alloc(), &[early])?;
+        assert!(rt; are_given(rt.alloc(), &[early])?, "{byte}");
         let late = Some(WireFault::TooMuchData);
         check_last_byte(
             &rt,
@@ -82,36 +82,37 @@ fn of_ten_thousand_bytes_of_text_255_are_kept(rt: HostRuntime) -> Result<(), Fai
         fault: None,
     };
     assert_eq!(rt; text, [b'z'; 255].as_slice());
-    check_exchanges(&rt, rt.alloc(), &[error, error])
+    assert!(rt; are_given(rt.alloc(), &[error, error])?);
+    Ok(())
 }
+
+/// How many bytes a reader takes each time of a text of 200,000 bytes, its room then, and what it gives.
+const TAKEN: [(usize, usize, Next); 4] = [
+    (65548, 65290, Next::None(None)),
+    (65290, 65290, Next::None(None)),
+    (65290, 65290, Next::None(None)),
+    (3876, 65289, Next::Wanted),
+];
 
 #[test]
 fn a_text_longer_than_a_reader(rt: HostRuntime) -> Result<(), Fail> {
-    let alloc = rt.alloc();
-    let text = long_error(alloc, 200000)?;
-    let mut reader = ReplyReader::new(alloc)?;
-    assert_eq!(rt; reader.room(), 65548);
-    assert!(rt; reader.is_empty());
-    reader.expect(crate::Wanted::Data(65536));
+    let text = long_error(rt.alloc(), 200000)?;
+    let kept = [b'z'; 255];
+    let error = Reply::Error {
+        number: 5,
+        text: &kept,
+    };
+    let mut reader = ReplyReader::new(rt.alloc())?;
+    assert!(rt; reader.is_empty() && reader.room() == 65548);
+    assert!(rt; wait(&mut reader, Wanted::DataUpTo(65536)));
     let mut pushed = 0usize;
-    for _ in 0..4 {
-        let room = reader.room();
-        let count = reader.push(text.get(pushed..).unwrap_or(&[]));
-        assert_eq!(rt; count, room.min(200004usize.saturating_sub(pushed)));
+    for (count, room, next) in TAKEN {
+        assert_eq!(rt; reader.push(text.get(pushed..).unwrap_or(&[])), count);
+        assert_eq!(rt; reader.room(), room);
+        assert!(rt; next_of(&mut reader, Some(error)) == next);
         pushed = pushed.saturating_add(count);
-        if pushed < 200004 {
-            assert_eq!(rt; reader.room(), 65290);
-            assert!(rt; matches!(reader.next(), Ok(None)));
-        }
     }
     assert_eq!(rt; pushed, 200004);
-    assert_eq!(rt; reader.room(), 65289);
-    let is_kept = match reader.next() {
-        Ok(Some(Reply::Error { number: 5, text })) => text == [b'z'; 255].as_slice(),
-        _ => false,
-    };
-    assert!(rt; is_kept);
-    assert!(rt; reader.is_empty());
-    assert_eq!(rt; reader.room(), 65548);
+    assert!(rt; reader.is_empty() && reader.room() == 65548);
     Ok(())
 }

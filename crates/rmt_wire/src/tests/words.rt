@@ -1,92 +1,103 @@
 //! What stands beside the reader: answers, counted streams, the law of the grammar.
+ghost use Rattle.rmt_wire.specs.Lent.{plain_reply};
+ghost use Rattle.rmt_wire.specs.Reply.{ReplyHasSpelling};
+ghost use Rattle.rmt_wire.specs.Reply.PlainReply.{Error};
 
 use crate::{Counted, OutputFault, Reply, WireFault, one_reading, short_replies, write_reply};
+use std::alloc::Global;
 use std::io::{Read, Write};
+use std::process::Abort;
 use std::test::Fail;
 
-#[test]
-fn answers_of_a_conversation(rt: HostRuntime) -> Result<(), Fail> {
-    let mut out = Counted::new(Vec::new(rt.alloc()));
-    write_reply(&mut out, &Reply::Done { number: 0 })?;
-    write_reply(&mut out, &Reply::Done { number: 5 })?;
-    write_reply(&mut out, &Reply::Done { number: 1 })?;
-    write_reply(&mut out, &Reply::Data { bytes: b"hello" })?;
-    write_reply(&mut out, &Reply::Data { bytes: b"" })?;
-    write_reply(&mut out, &Reply::Done { number: 10 })?;
-    let greatest = Reply::Done { number: 2147483647 };
-    write_reply(&mut out, &greatest)?;
-    assert_eq!(rt; out.failures(), 0);
-    assert_eq!(rt;
-        out.into_inner().as_slice(),
-        b"A0\nA5\nA1\nA5\nhelloA0\nA10\nA2147483647\n".as_slice()
-    );
-    Ok(())
+/// Replies as they are written to memory.
+type Said = Counted<Vec<u8>>;
+
+/// Writes one reply more, which memory takes.
+fn say(rt: &impl Abort, out: &mut Said, reply: Reply<'_>)
+    requires { ReplyHasSpelling (plain_reply reply) }
+{
+    assert!(rt; write_reply(out, &reply).is_ok() && out.failures() == 0);
+}
+
+/// An error more.
+fn refuse(rt: &impl Abort, out: &mut Said, number: u32, text: &[u8])
+    requires { ReplyHasSpelling (Error number text.now) }
+{
+    say(rt, out, Reply::Error { number, text });
 }
 
 #[test]
-fn refusals(rt: HostRuntime) -> Result<(), Fail> {
+fn answers_of_a_conversation(rt: HostRuntime) {
     let mut out = Counted::new(Vec::new(rt.alloc()));
-    let bad = Reply::Error {
-        number: 9,
-        text: b"Bad file descriptor",
-    };
-    write_reply(&mut out, &bad)?;
-    let denied = Reply::Error {
-        number: 13,
-        text: b"Permission denied",
-    };
-    write_reply(&mut out, &denied)?;
-    let none = Reply::Error {
-        number: 0,
-        text: b"",
-    };
-    write_reply(&mut out, &none)?;
-    assert_eq!(rt;
-        out.into_inner().as_slice(),
-        b"E9\nBad file descriptor\nE13\nPermission denied\nE0\n\n".as_slice()
-    );
-    Ok(())
+    say(&rt, &mut out, Reply::Done { number: 0 });
+    say(&rt, &mut out, Reply::Done { number: 5 });
+    say(&rt, &mut out, Reply::Done { number: 1 });
+    say(&rt, &mut out, Reply::Data { bytes: b"hello" });
+    say(&rt, &mut out, Reply::Data { bytes: b"" });
+    say(&rt, &mut out, Reply::Done { number: 10 });
+    say(&rt, &mut out, Reply::Done { number: 2147483647 });
+    say(&rt, &mut out, Reply::Done { number: 7 });
+    say(&rt, &mut out, Reply::Data { bytes: b"abc" });
+    let want = b"A0\nA5\nA1\nA5\nhelloA0\nA10\nA2147483647\nA7\nA3\nabc".as_slice();
+    assert!(rt; out.into_inner().as_slice() == want);
+}
+
+#[test]
+fn refusals(rt: HostRuntime) {
+    let mut out = Counted::new(Vec::new(rt.alloc()));
+    refuse(&rt, &mut out, 9, b"Bad file descriptor");
+    refuse(&rt, &mut out, 13, b"Permission denied");
+    refuse(&rt, &mut out, 0, b"");
+    let want = b"E9\nBad file descriptor\nE13\nPermission denied\nE0\n\n".as_slice();
+    assert!(rt; out.into_inner().as_slice() == want);
 }
 
 #[test]
 fn a_read_of_the_largest_record(rt: HostRuntime) -> Result<(), Fail> {
-    let alloc = rt.alloc();
-    let data = vec![in alloc; b'E'; 65536]?;
-    let mut out = Counted::new(Vec::new(alloc));
-    write_reply(&mut out, &Reply::Data { bytes: &data })?;
+    let data = vec![in rt.alloc(); b'E'; 65536]?;
+    let mut out = Counted::new(Vec::new(rt.alloc()));
+    say(&rt, &mut out, Reply::Data { bytes: &data });
     let text = out.into_inner();
-    assert_eq!(rt; text.get(..7), Some(b"A65536\n".as_slice()));
-    assert_eq!(rt; text.get(7..), Some(data.as_slice()));
+    assert!(rt; text.get(..7) == Some(b"A65536\n".as_slice()));
+    assert!(rt; text.get(7..) == Some(data.as_slice()));
     Ok(())
 }
 
+/// Reads, into room for two bytes, and gives how many were read, and the failures counted then.
+fn read_two<'a>(input: &mut Counted<&[u8]>, piece: &'a mut [u8; 2]) -> (Option<usize>, u64) {
+    let count = input.read(piece).ok();
+    (count, input.failures())
+}
+
 #[test]
-fn counted_streams_pass_bytes_on(rt: HostRuntime) -> Result<(), Fail> {
+fn counted_readers_pass_bytes_on(rt: HostRuntime) {
     let mut input = Counted::new(b"abc".as_slice());
     let mut piece = [0u8; 2];
-    assert_eq!(rt; input.read(&mut piece)?, 2);
-    assert_eq!(rt; piece, *b"ab");
-    assert_eq!(rt; input.read(&mut piece)?, 1);
-    assert_eq!(rt; input.failures(), 0);
-    let mut out = Counted::new(Vec::new(rt.alloc()));
-    assert_eq!(rt; out.write(b"abc")?, 3);
-    out.flush()?;
-    assert_eq!(rt; out.failures(), 0);
-    assert_eq!(rt; out.into_inner().as_slice(), b"abc".as_slice());
-    Ok(())
+    assert!(rt; read_two(&mut input, &mut piece) == (Some(2), 0));
+    assert!(rt; piece == *b"ab");
+    assert!(rt; read_two(&mut input, &mut piece) == (Some(1), 0));
 }
 
 #[test]
-fn a_full_stream_is_an_output_fault(rt: HostRuntime) -> Result<(), Fail> {
+fn counted_writers_pass_bytes_on(rt: HostRuntime) {
+    let mut out = Counted::new(Vec::new(rt.alloc()));
+    assert!(rt; matches!(out.write(b"abc"), Ok(3)));
+    assert!(rt; out.flush().is_ok() && out.failures() == 0);
+    assert!(rt; out.into_inner().as_slice() == b"abc".as_slice());
+}
+
+#[test]
+fn a_full_stream_is_an_output_fault(rt: HostRuntime) {
     let mut room = [0u8; 4];
     let mut out = Counted::new(room.as_mut_slice());
-    assert_eq!(rt;
-        write_reply(&mut out, &Reply::Data { bytes: b"abc" }),
-        Err(OutputFault)
-    );
-    assert_eq!(rt; out.failures(), 1);
-    assert_eq!(rt; room, *b"A3\na");
-    Ok(())
+    let written = write_reply(&mut out, &Reply::Data { bytes: b"abc" });
+    assert!(rt; written == Err(OutputFault) && out.failures() == 1);
+    assert!(rt; room == *b"A3\na");
+}
+
+/// Whether the fault prints this name.
+fn is_named(alloc: Global, fault: WireFault, name: &str) -> Result<bool, Fail> {
+    Ok(fault.to_string(alloc)?.as_str() == name)
 }
 
 #[test]
@@ -99,9 +110,9 @@ fn names_of_faults(rt: HostRuntime) -> Result<(), Fail> {
         (WireFault::TooMuchData, "TooMuchData"),
     ];
     for (fault, name) in names {
-        assert_eq!(rt; fault.to_string(rt.alloc())?.as_str(), name);
+        assert!(rt; is_named(rt.alloc(), fault, name)?, "{name}");
     }
-    assert_eq!(rt; OutputFault.to_string(rt.alloc())?.as_str(), "Output");
+    assert!(rt; OutputFault.to_string(rt.alloc())?.as_str() == "Output");
     one_reading();
     short_replies();
     Ok(())

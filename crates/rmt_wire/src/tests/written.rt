@@ -3,7 +3,7 @@ ghost use Rattle.rmt_wire.specs.Lent.{plain_reply};
 ghost use Rattle.rmt_wire.specs.Reply.{ReplyHasSpelling};
 ghost use Rattle.rmt_wire.specs.Reply.PlainReply.{Error};
 
-use super::replied::{check_begun, check_whole};
+use super::reply_fed::{check_begun, check_whole};
 use crate::slow::reply::Wanted;
 use crate::{Counted, NUMBER_LIMIT, Reply, write_reply};
 use std::alloc::Global;

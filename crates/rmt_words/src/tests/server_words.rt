@@ -2,135 +2,177 @@
 
 use crate::{LineFault, ServerLine, server_line, server_words};
 use clap::error::ErrorKind;
-use std::alloc::Global;
-use std::process::Abort;
 use std::test::Fail;
 
-/// What these words ask for, which are right.
-fn line<'a>(alloc: Global, words: &'a [&'a str]) -> Result<ServerLine<'a>, Fail> {
-    match server_words(alloc, words) {
-        Ok(line) => Ok(line),
-        Err(_) => Err(Fail::new("words that are right were refused")),
+/// Words of a program.
+type Words = &'static [&'static str];
+
+/// What right words ask for. The drives are devices, each with its folder.
+#[derive(Clone, Copy)]
+struct Wanted {
+    stdio: bool,
+    listen: Option<&'static str>,
+    capacity: u64,
+    connections: Option<u64>,
+    bin: Option<&'static str>,
+    drives: &'static [(&'static str, &'static str)],
+}
+
+/// What is asked for by `--stdio` alone.
+const STDIO: Wanted = Wanted {
+    stdio: true,
+    listen: None,
+    capacity: 1_048_576,
+    connections: None,
+    bin: None,
+    drives: &[],
+};
+
+/// Words that are right, and what they ask for.
+const RIGHT: [(Words, Wanted); 5] = [
+    (&["rmtd", "--stdio"], STDIO),
+    (
+        &[
+            "rmtd",
+            "--connections",
+            "007",
+            "--listen=127.0.0.1:0",
+            "--capacity=9223372036854775807",
+        ],
+        Wanted {
+            stdio: false,
+            listen: Some("127.0.0.1:0"),
+            capacity: 9_223_372_036_854_775_807,
+            connections: Some(7),
+            bin: None,
+            drives: &[],
+        },
+    ),
+    (
+        &["rmtd", "--stdio", "--capacity", "0", "--connections", "0"],
+        Wanted {
+            stdio: true,
+            listen: None,
+            capacity: 0,
+            connections: Some(0),
+            bin: None,
+            drives: &[],
+        },
+    ),
+    (
+        &[
+            "rmtd",
+            "/dev/st0=/srv/a=b",
+            "--stdio",
+            "--bin",
+            "/bin",
+            "st1=c",
+        ],
+        Wanted {
+            stdio: true,
+            listen: None,
+            capacity: 1_048_576,
+            connections: None,
+            bin: Some("/bin"),
+            drives: &[("/dev/st0", "/srv/a=b"), ("st1", "c")],
+        },
+    ),
+    (
+        &["rmtd", "--stdio", "--bin", "/srv"],
+        Wanted {
+            stdio: true,
+            listen: None,
+            capacity: 1_048_576,
+            connections: None,
+            bin: Some("/srv"),
+            drives: &[],
+        },
+    ),
+];
+
+/// Whether the line has these drives.
+fn has_drives(line: &ServerLine<'_>, wanted: &[(&str, &str)]) -> bool {
+    if line.drives.len() != wanted.len() {
+        return false;
+    }
+    for (drive, wanted) in line.drives.iter().zip(wanted) {
+        if (drive.device, drive.folder) != *wanted {
+            return false;
+        }
+    }
+    true
+}
+
+/// Whether the line is this one.
+fn is_line(line: &ServerLine<'_>, wanted: &Wanted) -> bool {
+    line.stdio == wanted.stdio
+        && line.listen == wanted.listen
+        && line.capacity == wanted.capacity
+        && line.connections == wanted.connections
+        && line.bin == wanted.bin
+        && has_drives(line, wanted.drives)
+}
+
+#[test]
+fn words_that_are_right(rt: HostRuntime) {
+    for (words, wanted) in RIGHT {
+        let good = match server_words(rt.alloc(), words) {
+            Ok(line) => is_line(&line, &wanted),
+            Err(_) => false,
+        };
+        assert!(rt; good, "{words:?}");
     }
 }
 
-#[test]
-fn standard_input(rt: HostRuntime) -> Result<(), Fail> {
-    let line = line(rt.alloc(), &["rmtd", "--stdio"])?;
-    assert!(rt; line.stdio && line.listen.is_none());
-    assert_eq!(rt; line.capacity, 1_048_576);
-    assert_eq!(rt; line.connections, None);
-    Ok(())
-}
+/// Words that are refused: neither or both ways, words of no use, drives that are none, and numbers that are none.
+const REFUSED: [Words; 22] = [
+    &["rmtd"],
+    &["rmtd", "--stdio", "--listen", "x"],
+    &["rmtd", "--stdio", "--stdio"],
+    &["rmtd", "--stdio", "--bin"],
+    &["rmtd", "--listen"],
+    &["rmtd", "--stdio", "--drive", "x=/srv"],
+    &["rmtd", "--stdio", "st0=/srv"],
+    &["rmtd", "--stdio", "--bin", "/bin", "st0"],
+    &["rmtd", "--stdio", "--bin", "/bin", "=/srv"],
+    &["rmtd", "--stdio", "--bin", "/bin", "st0="],
+    &["rmtd", "--stdio", "--bin", "/bin", "="],
+    &["rmtd", "--stdio", "--bin", "/bin", ""],
+    &["rmtd", "--stdio", "--bin", "/bin", "s\nt=/srv"],
+    &["rmtd", "--stdio", "--bin", "/bin", "a=x", "b=y", "a=z"],
+    &["rmtd", "--stdio", "--capacity", "9223372036854775808"],
+    &["rmtd", "--stdio", "--capacity", "+1"],
+    &["rmtd", "--stdio", "--capacity", "-1"],
+    &["rmtd", "--stdio", "--capacity", "1k"],
+    &["rmtd", "--stdio", "--capacity", ""],
+    &["rmtd", "--stdio", "--capacity", " 1"],
+    &["rmtd", "--stdio", "--capacity", "0x10"],
+    &["rmtd", "--listen", "x", "--connections", "two"],
+];
 
 #[test]
-fn an_address(rt: HostRuntime) -> Result<(), Fail> {
-    let words = [
-        "rmtd",
-        "--connections",
-        "007",
-        "--listen=127.0.0.1:0",
-        "--capacity=9223372036854775807",
-    ];
-    let line = line(rt.alloc(), &words)?;
-    assert!(rt; !line.stdio && line.listen == Some("127.0.0.1:0"));
-    assert_eq!(rt; line.capacity, 9_223_372_036_854_775_807);
-    assert_eq!(rt; line.connections, Some(7));
-    Ok(())
-}
-
-#[test]
-fn nothing_of_anything(rt: HostRuntime) -> Result<(), Fail> {
-    let words = ["rmtd", "--stdio", "--capacity", "0", "--connections", "0"];
-    let line = line(rt.alloc(), &words)?;
-    assert_eq!(rt; line.capacity, 0);
-    assert_eq!(rt; line.connections, Some(0));
-    Ok(())
-}
-
-/// These words are refused.
-fn check_refused(rt: &impl Abort, alloc: Global, words: &[&str]) {
-    assert!(rt; server_words(alloc, words).err() == Some(LineFault::BadWords));
-}
-
-#[test]
-fn neither_or_both(rt: HostRuntime) {
-    check_refused(&rt, rt.alloc(), &["rmtd"]);
-    check_refused(&rt, rt.alloc(), &["rmtd", "--stdio", "--listen", "x"]);
-    check_refused(&rt, rt.alloc(), &["rmtd", "--stdio", "--stdio"]);
-}
-
-#[test]
-fn words_of_no_use(rt: HostRuntime) {
-    check_refused(&rt, rt.alloc(), &["rmtd", "--stdio", "--bin"]);
-    check_refused(&rt, rt.alloc(), &["rmtd", "--listen"]);
-    check_refused(&rt, rt.alloc(), &["rmtd", "--stdio", "--drive", "x=/srv"]);
-}
-
-#[test]
-fn drives_in_folders(rt: HostRuntime) -> Result<(), Fail> {
-    let words = [
-        "rmtd",
-        "/dev/st0=/srv/a=b",
-        "--stdio",
-        "--bin",
-        "/bin",
-        "st1=c",
-    ];
-    let line = line(rt.alloc(), &words)?;
-    assert!(rt; line.bin == Some("/bin"));
-    let wanted = [("/dev/st0", "/srv/a=b"), ("st1", "c")];
-    assert_eq!(rt; line.drives.len(), 2);
-    for (drive, (device, folder)) in line.drives.iter().zip(wanted) {
-        assert_eq!(rt; drive.device, device);
-        assert_eq!(rt; drive.folder, folder);
+fn words_that_are_wrong(rt: HostRuntime) {
+    for words in REFUSED {
+        let found = server_words(rt.alloc(), words).err();
+        assert!(rt; found == Some(LineFault::BadWords), "{words:?}");
     }
-    Ok(())
-}
-
-#[test]
-fn a_bin_alone(rt: HostRuntime) -> Result<(), Fail> {
-    let line = line(rt.alloc(), &["rmtd", "--stdio", "--bin", "/srv"])?;
-    assert!(rt; line.bin == Some("/srv") && line.drives.is_empty());
-    Ok(())
-}
-
-#[test]
-fn drives_that_are_none(rt: HostRuntime) {
-    check_refused(&rt, rt.alloc(), &["rmtd", "--stdio", "st0=/srv"]);
-    for word in ["st0", "=/srv", "st0=", "=", "", "s\nt=/srv"] {
-        check_refused(&rt, rt.alloc(), &["rmtd", "--stdio", "--bin", "/bin", word]);
-    }
-    let twice = ["rmtd", "--stdio", "--bin", "/bin", "a=x", "b=y", "a=z"];
-    check_refused(&rt, rt.alloc(), &twice);
-}
-
-#[test]
-fn numbers_that_are_none(rt: HostRuntime) {
-    for number in ["9223372036854775808", "+1", "-1", "1k", "", " 1", "0x10"] {
-        check_refused(&rt, rt.alloc(), &["rmtd", "--stdio", "--capacity", number]);
-    }
-    check_refused(
-        &rt,
-        rt.alloc(),
-        &["rmtd", "--listen", "x", "--connections", "two"],
-    );
 }
 
 #[test]
 fn what_a_user_is_told(rt: HostRuntime) -> Result<(), Fail> {
-    let both = ["rmtd", "--stdio", "--listen", "x"];
-    let Some(error) = server_line(rt.alloc(), &both).err() else {
-        return Err(Fail::new("both words were taken"));
-    };
-    assert_eq!(rt; error.kind(), ErrorKind::ArgumentConflict);
-    let Some(help) = server_line(rt.alloc(), &["rmtd", "--help"]).err() else {
-        return Err(Fail::new("no help"));
-    };
-    assert_eq!(rt; help.kind(), ErrorKind::DisplayHelp);
-    let Some(version) = server_line(rt.alloc(), &["rmtd", "--version"]).err() else {
-        return Err(Fail::new("no version"));
-    };
-    assert_eq!(rt; version.kind(), ErrorKind::DisplayVersion);
+    let rows: [(Words, ErrorKind); 3] = [
+        (
+            &["rmtd", "--stdio", "--listen", "x"],
+            ErrorKind::ArgumentConflict,
+        ),
+        (&["rmtd", "--help"], ErrorKind::DisplayHelp),
+        (&["rmtd", "--version"], ErrorKind::DisplayVersion),
+    ];
+    for (words, kind) in rows {
+        let Some(error) = server_line(rt.alloc(), words).err() else {
+            return Err(Fail::new("the words were taken"));
+        };
+        assert_eq!(rt; error.kind(), kind);
+    }
     Ok(())
 }

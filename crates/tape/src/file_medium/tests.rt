@@ -1,82 +1,78 @@
 use super::*;
+use crate::medium_calls::{DONE, MediumCall, WantedOfMedium, medium_answers};
 use std::fs::{self, OpenOptions};
-use std::process::{self, Abort};
+use std::process;
 use std::test::Fail;
 
-/// Adds, reads and cuts on a file that has no bytes. The last bytes are `axyz`.
-fn writes_and_reads(rt: &impl Abort, medium: &mut FileMedium) -> bool {
-    let mut into = *b"......";
-    assert_eq!(rt; medium.append(b"abc"), Ok(()));
-    assert_eq!(rt; medium.append(b"de"), Ok(()));
-    assert_eq!(rt; medium.len(), Ok(5));
-    assert_eq!(rt; medium.read_at(1, &mut into[..3]), Ok(3));
-    assert_eq!(rt; into, *b"bcd...");
-    assert_eq!(rt; medium.read_at(3, &mut into), Ok(2));
-    assert_eq!(rt; into, *b"ded...");
-    assert_eq!(rt; medium.read_at(5, &mut into), Ok(0));
-    assert_eq!(rt; medium.cut(9), Ok(()));
-    assert_eq!(rt; medium.len(), Ok(5));
-    assert_eq!(rt; medium.cut(1), Ok(()));
-    assert_eq!(rt; medium.append(b"xyz"), Ok(()));
-    medium.failures() == 0
-}
+/// A file that has no bytes. The last bytes are `axyz`.
+const ON_AN_EMPTY_FILE: &[WantedOfMedium] = &[
+    (MediumCall::Append(b"abc"), DONE),
+    (MediumCall::Append(b"de"), DONE),
+    (MediumCall::Len, Ok((5, b""))),
+    (MediumCall::ReadAt(1, 3), Ok((3, b"bcd"))),
+    (MediumCall::ReadAt(3, 6), Ok((2, b"de...."))),
+    (MediumCall::ReadAt(5, 6), Ok((0, b"......"))),
+    (MediumCall::Cut(9), DONE),
+    (MediumCall::Len, Ok((5, b""))),
+    (MediumCall::Cut(1), DONE),
+    (MediumCall::Append(b"xyz"), DONE),
+    (MediumCall::Failures, Ok((0, b""))),
+];
 
-/// Adds bytes between frames, of which any may be empty, to a file that has no bytes. It has `()abc()def<><>` then.
-fn writes_frames(rt: &impl Abort, medium: &mut FileMedium) -> bool {
-    let mut into = *b"..............";
-    assert_eq!(rt; medium.append_framed(b"()", b"abc"), Ok(()));
-    assert_eq!(rt; medium.append_framed(b"", b"def"), Ok(()));
-    assert_eq!(rt; medium.append_framed(b"<>", b""), Ok(()));
-    assert_eq!(rt; medium.append_framed(b"", b""), Ok(()));
-    assert_eq!(rt; medium.len(), Ok(14));
-    assert_eq!(rt; medium.read_at(0, &mut into), Ok(14));
-    assert_eq!(rt; into, *b"()abc()def<><>");
-    medium.failures() == 0
-}
+/// The same file, open to read alone: every call that asks the system for more fails, and is counted.
+const OPEN_TO_READ: &[WantedOfMedium] = &[
+    (MediumCall::Append(b"!"), Err(MediumFailed)),
+    (MediumCall::Failures, Ok((1, b""))),
+    (MediumCall::Cut(2), Err(MediumFailed)),
+    (MediumCall::Cut(4), DONE),
+    (MediumCall::Len, Ok((4, b""))),
+    (MediumCall::ReadAt(0, 4), Ok((4, b"axyz"))),
+    (MediumCall::Failures, Ok((2, b""))),
+];
 
-/// Whether 4 bytes are asked for from this offset on, and so many of them are there, which are these.
-fn reads(medium: &mut FileMedium, at: u64, wanted: &[u8]) -> bool {
-    let mut into = *b"----";
-    match medium.read_at(at, &mut into) {
-        Ok(count) => into.get(..count) == Some(wanted),
-        Err(_) => false,
-    }
-}
+/// The same file, open to write alone.
+const OPEN_TO_WRITE: &[WantedOfMedium] = &[
+    (MediumCall::ReadAt(0, 4), Err(MediumFailed)),
+    (MediumCall::Failures, Ok((1, b""))),
+];
 
-/// Reads lengths of a file that has `()abc()def<><>`: over the edge of the window, and at the end, where they are short.
-fn reads_short_at_the_end(medium: &mut FileMedium) -> bool {
-    reads(medium, 0, b"()ab")
-        && reads(medium, 4, b"c()d")
-        && reads(medium, 5, b"()de")
-        && reads(medium, 10, b"<><>")
-        && reads(medium, 12, b"<>")
-        && reads(medium, 14, b"")
-        && reads(medium, 2, b"abc(")
-}
+/// Bytes between frames, of which any may be empty, are added to a file that has no bytes. Then lengths are read: over
+/// the edge of the window, and at the end, where they are short.
+const FRAMED: &[WantedOfMedium] = &[
+    (MediumCall::AppendFramed(b"()", b"abc"), DONE),
+    (MediumCall::AppendFramed(b"", b"def"), DONE),
+    (MediumCall::AppendFramed(b"<>", b""), DONE),
+    (MediumCall::AppendFramed(b"", b""), DONE),
+    (MediumCall::Len, Ok((14, b""))),
+    (MediumCall::ReadAt(0, 14), Ok((14, b"()abc()def<><>"))),
+    (MediumCall::Failures, Ok((0, b""))),
+    (MediumCall::ReadAt(0, 4), Ok((4, b"()ab"))),
+    (MediumCall::ReadAt(4, 4), Ok((4, b"c()d"))),
+    (MediumCall::ReadAt(5, 4), Ok((4, b"()de"))),
+    (MediumCall::ReadAt(10, 4), Ok((4, b"<><>"))),
+    (MediumCall::ReadAt(12, 4), Ok((2, b"<>.."))),
+    (MediumCall::ReadAt(14, 4), Ok((0, b"...."))),
+    (MediumCall::ReadAt(2, 4), Ok((4, b"abc("))),
+];
 
-/// What another handle writes is not seen in the window, until a call changes the file or fails.
-fn asks_again_after_a_change(medium: &mut FileMedium, other: &File) -> io::Result<bool> {
-    other.write_all_at(b"xyz", 6)?;
-    let kept = reads(medium, 6, b")def") && reads(medium, 7, b"yzf<");
-    let added = medium.append(b"!").is_ok() && reads(medium, 6, b"xyzf");
-    let cut = medium.cut(8).is_ok() && reads(medium, 6, b"xy") && reads(medium, 8, b"");
-    let framed = reads(medium, 0, b"()ab") && medium.append_framed(b"<", b"[]").is_ok();
-    other.write_all_at(b"v", 7)?;
-    Ok(kept && added && cut && framed && reads(medium, 6, b"xv<["))
-}
+/// Another handle wrote `xyz` from 6 on: that is not seen in the window, until a call changes the file.
+const AFTER_A_WRITE: &[WantedOfMedium] = &[
+    (MediumCall::ReadAt(6, 4), Ok((4, b")def"))),
+    (MediumCall::ReadAt(7, 4), Ok((4, b"yzf<"))),
+    (MediumCall::Append(b"!"), DONE),
+    (MediumCall::ReadAt(6, 4), Ok((4, b"xyzf"))),
+    (MediumCall::Cut(8), DONE),
+    (MediumCall::ReadAt(6, 4), Ok((2, b"xy.."))),
+    (MediumCall::ReadAt(8, 4), Ok((0, b"...."))),
+    (MediumCall::ReadAt(0, 4), Ok((4, b"()ab"))),
+    (MediumCall::AppendFramed(b"<", b"[]"), DONE),
+];
 
-/// Every call that asks the system for more than the file is open for fails, and is counted.
-fn fails_to_write(rt: &impl Abort, medium: &mut FileMedium) -> bool {
-    let mut into = [0u8; 4];
-    assert_eq!(rt; medium.append(b"!"), Err(MediumFailed));
-    assert_eq!(rt; medium.failures(), 1);
-    assert_eq!(rt; medium.cut(2), Err(MediumFailed));
-    assert_eq!(rt; medium.cut(4), Ok(()));
-    assert_eq!(rt; medium.len(), Ok(4));
-    assert_eq!(rt; medium.read_at(0, &mut into), Ok(4));
-    assert_eq!(rt; into, *b"axyz");
-    medium.failures() == 2
-}
+/// Another handle wrote `v` at 7 since.
+const AFTER_ANOTHER_WRITE: &[WantedOfMedium] = &[
+    (MediumCall::ReadAt(6, 4), Ok((4, b"xv<["))),
+    (MediumCall::Failures, Ok((0, b""))),
+];
 
 /// A new file of this path, open to read and to append.
 fn new_file(rt: &HostRuntime, path: &str) -> io::Result<File> {
@@ -87,33 +83,42 @@ fn new_file(rt: &HostRuntime, path: &str) -> io::Result<File> {
         .open(rt, path)
 }
 
+/// The path of a file that no other test has.
+fn path_of(rt: &HostRuntime, name: &str) -> Result<String, Fail> {
+    let id = process::id(rt.process());
+    Ok(format!(in rt.alloc(); "file_medium_{name}_{id}")?)
+}
+
+/// Whether a medium that is this file answers each of the calls as is wanted.
+fn file_answers(file: File, calls: &[WantedOfMedium]) -> bool {
+    medium_answers(&mut FileMedium::new(file), calls)
+}
+
 #[test]
 fn stands_on_a_file(rt: HostRuntime) -> Result<(), Fail> {
-    let id = process::id(rt.process());
-    let path = format!(in rt.alloc(); "file_medium_{id}")?;
+    let path = path_of(&rt, "calls")?;
     let mut medium = FileMedium::new(new_file(&rt, path.as_str())?);
-    assert!(&rt; writes_and_reads(&rt, &mut medium));
+    assert!(&rt; medium_answers(&mut medium, ON_AN_EMPTY_FILE));
     medium.sync()?;
-    assert_eq!(&rt; medium.file().metadata()?.len(), 4);
-    let mut reader = FileMedium::new(File::open(&rt, path.as_str())?);
-    assert!(&rt; fails_to_write(&rt, &mut reader));
-    let mut writer = FileMedium::new(OpenOptions::new().write(true).open(&rt, path.as_str())?);
-    assert_eq!(&rt; writer.read_at(0, &mut [0; 4]), Err(MediumFailed));
-    assert_eq!(&rt; writer.failures(), 1);
+    assert!(&rt; medium.file().metadata()?.len() == 4);
+    let reader = File::open(&rt, path.as_str())?;
+    assert!(&rt; file_answers(reader, OPEN_TO_READ));
+    let writer = OpenOptions::new().write(true).open(&rt, path.as_str())?;
+    assert!(&rt; file_answers(writer, OPEN_TO_WRITE));
     fs::remove_file(&rt, path.as_str())?;
     Ok(())
 }
 
 #[test]
 fn keeps_what_it_read_until_a_change(rt: HostRuntime) -> Result<(), Fail> {
-    let id = process::id(rt.process());
-    let path = format!(in rt.alloc(); "file_medium_window_{id}")?;
+    let path = path_of(&rt, "window")?;
     let mut medium = FileMedium::new(new_file(&rt, path.as_str())?);
-    assert!(&rt; writes_frames(&rt, &mut medium));
-    assert!(&rt; reads_short_at_the_end(&mut medium));
+    assert!(&rt; medium_answers(&mut medium, FRAMED));
     let other = OpenOptions::new().write(true).open(&rt, path.as_str())?;
-    assert!(&rt; asks_again_after_a_change(&mut medium, &other)?);
-    assert_eq!(&rt; medium.failures(), 0);
+    other.write_all_at(b"xyz", 6)?;
+    assert!(&rt; medium_answers(&mut medium, AFTER_A_WRITE));
+    other.write_all_at(b"v", 7)?;
+    assert!(&rt; medium_answers(&mut medium, AFTER_ANOTHER_WRITE));
     fs::remove_file(&rt, path.as_str())?;
     Ok(())
 }

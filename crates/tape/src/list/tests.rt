@@ -3,32 +3,20 @@ ghost use Rattle.tape.specs.Tape.{IsRecord, WriteStep, done_answer};
 ghost use Rattle.tape.specs.declared.fault.TapeFault.TheVariants.{Device};
 
 use super::*;
-use crate::slow::{Call, SlowReel, make_call};
+use crate::compared::{Compared, count_entries, make_both, write_both};
+use crate::slow::{Call, SlowReel, Wanted, answers};
 use crate::{MTBSF, MTBSR, MTFSF, MTFSR, MTNOP, MTREW};
 use std::process::Abort;
 use std::test::Fail;
 
-/// A record for each entry of the greatest list that spacing is compared on. No two have one length.
-const RECORDS: [&[u8]; 5] = [b"a", b"bb", b"ccc", b"dddd", b"eeeee"];
-
-impl ListReel {
-    /// The record file that it is, the number of its place, and the offset of that.
-    pub(crate) fn parts(&self) -> (&[u8], usize, u64) {
-        let file = self.reel.medium().bytes();
-        let offset = self.reel.offset();
-        let before = file.get(..offset as usize).unwrap_or(file);
-        (file, count_entries(before), offset)
+impl Compared for ListReel {
+    fn parts(&self) -> (&[u8], u64) {
+        (self.reel.medium().bytes(), self.reel.offset())
     }
-}
 
-/// How many entries a record file has.
-fn count_entries(file: &[u8]) -> usize {
-    for at in 0..file.len() {
-        if nth_entry(file, at).is_none() {
-            return at;
-        }
+    fn troubles(&self) -> (Trouble, u64) {
+        (Trouble::None, self.failures())
     }
-    file.len()
 }
 
 /// What a caller learns of a write that knows the reel to be in memory.
@@ -40,202 +28,179 @@ fn write_in_memory(reel: &mut ListReel, bytes: &[u8]) -> Result<(), TapeFault>
     reel.write(bytes)
 }
 
-/// Makes the calls on a reel of this capacity, and on the slow reel. Each has to answer as is wanted.
-fn compare(
-    rt: &impl Abort,
-    alloc: Global,
-    capacity: u64,
-    calls: &[(Call, Result<&[u8], TapeFault>)],
-) {
-    let mut reel = ListReel::new(alloc, capacity);
-    let mut slow = SlowReel::new(alloc, capacity);
-    for (at, (request, wanted)) in calls.iter().enumerate() {
+/// A capacity, and calls of a new reel of that capacity.
+const RUNS: [(u64, &[Wanted]); 8] = [
+    (0, &[]),
+    (100, WRITES_AND_READS_BACK),
+    (16, KEEPS_ROOM_FOR_A_MARK),
+    (15, LACKS_ROOM_FOR_A_MARK),
+    (1000, LOSES_THE_OLD_TAIL),
+    (100, REFUSES_OTHER_OPERATIONS),
+    (100, SPACES_OVER_RECORDS_UP_TO_A_MARK),
+    (100, SPACES_OVER_MARKS),
+];
+
+const WRITES_AND_READS_BACK: &[Wanted] = &[
+    (Call::Write(b"abc"), Ok(b"")),
+    (Call::Write(b"de"), Ok(b"")),
+    (Call::Op(MTWEOF, 1), Ok(b"")),
+    (Call::Read(8), Ok(b"")),
+    (Call::Rewind, Ok(b"")),
+    (Call::Read(2), Ok(b"ab")),
+    (Call::Read(8), Ok(b"de")),
+    (Call::Op(MTREW, 3), Ok(b"")),
+    (Call::Op(MTNOP, 3), Ok(b"")),
+    (Call::Read(0), Ok(b"")),
+    (Call::Read(2), Ok(b"de")),
+    (Call::Read(8), Ok(b"")),
+    (Call::Read(8), Ok(b"")),
+];
+
+const KEEPS_ROOM_FOR_A_MARK: &[Wanted] = &[
+    (Call::Write(b"four"), Ok(b"")),
+    (Call::Write(b"x"), Err(TapeFault::Full)),
+    (Call::Op(MTWEOF, 1), Ok(b"")),
+    (Call::Op(MTWEOF, 1), Err(TapeFault::Full)),
+    (Call::Op(MTWEOF, 0), Ok(b"")),
+    (Call::Rewind, Ok(b"")),
+    (Call::Read(8), Ok(b"four")),
+    (Call::Read(8), Ok(b"")),
+];
+
+const LACKS_ROOM_FOR_A_MARK: &[Wanted] = &[
+    (Call::Write(b"four"), Err(TapeFault::Full)),
+    (Call::Op(MTWEOF, 4), Err(TapeFault::Full)),
+    (Call::Op(MTWEOF, 3), Ok(b"")),
+    (Call::Op(MTWEOF, 1), Err(TapeFault::Full)),
+    (Call::Op(MTWEOF, u32::MAX), Err(TapeFault::Full)),
+];
+
+const LOSES_THE_OLD_TAIL: &[Wanted] = &[
+    (Call::Write(b"abc"), Ok(b"")),
+    (Call::Write(b"de"), Ok(b"")),
+    (Call::Rewind, Ok(b"")),
+    (Call::Write(b"x"), Ok(b"")),
+    (Call::Read(5), Ok(b"")),
+    (Call::Rewind, Ok(b"")),
+    (Call::Op(MTWEOF, 0), Ok(b"")),
+    (Call::Read(5), Ok(b"x")),
+    (Call::Read(5), Ok(b"")),
+    (Call::Rewind, Ok(b"")),
+    (Call::Op(MTWEOF, 2), Ok(b"")),
+    (Call::Rewind, Ok(b"")),
+    (Call::Read(5), Ok(b"")),
+    (Call::Write(b"yz"), Ok(b"")),
+    (Call::Rewind, Ok(b"")),
+    (Call::Read(5), Ok(b"")),
+    (Call::Read(5), Ok(b"yz")),
+    (Call::Read(5), Ok(b"")),
+];
+
+const REFUSES_OTHER_OPERATIONS: &[Wanted] = &[
+    (Call::Write(b"a"), Ok(b"")),
+    (Call::Rewind, Ok(b"")),
+    (Call::Op(6, 1), Err(TapeFault::BadOperation)),
+    (Call::Op(8, 0), Err(TapeFault::BadOperation)),
+    (Call::Op(u32::MAX, 1), Err(TapeFault::BadOperation)),
+    (Call::Read(5), Ok(b"a")),
+];
+
+const SPACES_OVER_RECORDS_UP_TO_A_MARK: &[Wanted] = &[
+    (Call::Op(MTFSR, 1), Err(TapeFault::EndOrMark)),
+    (Call::Write(b"a"), Ok(b"")),
+    (Call::Write(b"b"), Ok(b"")),
+    (Call::Op(MTWEOF, 1), Ok(b"")),
+    (Call::Op(MTBSR, 1), Err(TapeFault::EndOrMark)),
+    (Call::Op(MTBSR, 5), Err(TapeFault::EndOrMark)),
+    (Call::Op(MTFSR, 2), Ok(b"")),
+    (Call::Op(MTFSR, 1), Err(TapeFault::EndOrMark)),
+    (Call::Op(MTBSF, 1), Ok(b"")),
+    (Call::Op(MTBSF, 1), Err(TapeFault::EndOrMark)),
+    (Call::Op(MTFSF, 2), Err(TapeFault::EndOrMark)),
+    (Call::Op(MTBSF, 0), Ok(b"")),
+    (Call::Op(MTBSF, u32::MAX), Err(TapeFault::EndOrMark)),
+    (Call::Read(8), Ok(b"a")),
+];
+
+const SPACES_OVER_MARKS: &[Wanted] = &[
+    (Call::Write(b"a"), Ok(b"")),
+    (Call::Op(MTWEOF, 1), Ok(b"")),
+    (Call::Write(b"b"), Ok(b"")),
+    (Call::Op(MTWEOF, 1), Ok(b"")),
+    (Call::Op(MTBSF, 2), Ok(b"")),
+    (Call::Read(8), Ok(b"")),
+    (Call::Op(MTBSR, 1), Err(TapeFault::EndOrMark)),
+    (Call::Op(MTFSF, 1), Ok(b"")),
+    (Call::Read(1), Ok(b"b")),
+];
+
+/// Whether both reels answer each of the calls as is wanted.
+fn answer_alike(reel: &mut ListReel, slow: &mut SlowReel, calls: &[Wanted]) -> bool {
+    for (request, wanted) in calls {
         let mut into = [0u8; 8];
-        let mut slow_into = [0u8; 8];
-        assert_eq!(rt;
-            make_call(&mut reel, *request, &mut into),
-            *wanted,
-            "call {at}"
-        );
-        assert_eq!(rt;
-            slow.call(*request, &mut slow_into),
-            *wanted,
-            "slow call {at}"
-        );
+        if slow.call(*request, &mut into) != *wanted {
+            return false;
+        }
     }
+    answers(reel, calls)
 }
 
 #[test]
-fn writes_and_reads_back(rt: HostRuntime) -> Result<(), Fail> {
-    compare(
-        &rt,
-        rt.alloc(),
-        100,
-        &[
-            (Call::Write(b"abc"), Ok(b"")),
-            (Call::Write(b"de"), Ok(b"")),
-            (Call::Op(MTWEOF, 1), Ok(b"")),
-            (Call::Read(8), Ok(b"")),
-            (Call::Rewind, Ok(b"")),
-            (Call::Read(2), Ok(b"ab")),
-            (Call::Read(8), Ok(b"de")),
-            (Call::Op(MTREW, 3), Ok(b"")),
-            (Call::Op(MTNOP, 3), Ok(b"")),
-            (Call::Read(0), Ok(b"")),
-            (Call::Read(2), Ok(b"de")),
-            (Call::Read(8), Ok(b"")),
-            (Call::Read(8), Ok(b"")),
-        ],
-    );
+fn each_call_answers_as_is_wanted(rt: HostRuntime) -> Result<(), Fail> {
+    let alloc = rt.alloc();
+    for (at, (capacity, calls)) in RUNS.iter().enumerate() {
+        let mut reel = ListReel::new(alloc, *capacity);
+        let mut slow = SlowReel::new(alloc, *capacity);
+        let alike = answer_alike(&mut reel, &mut slow, calls);
+        assert!(&rt; alike && reel.failures() == 0, "run {at}");
+    }
     Ok(())
 }
 
-#[test]
-fn keeps_room_for_a_mark(rt: HostRuntime) -> Result<(), Fail> {
-    compare(
-        &rt,
-        rt.alloc(),
-        16,
-        &[
-            (Call::Write(b"four"), Ok(b"")),
-            (Call::Write(b"x"), Err(TapeFault::Full)),
-            (Call::Op(MTWEOF, 1), Ok(b"")),
-            (Call::Op(MTWEOF, 1), Err(TapeFault::Full)),
-            (Call::Op(MTWEOF, 0), Ok(b"")),
-            (Call::Rewind, Ok(b"")),
-            (Call::Read(8), Ok(b"four")),
-            (Call::Read(8), Ok(b"")),
-        ],
-    );
-    compare(
-        &rt,
-        rt.alloc(),
-        15,
-        &[
-            (Call::Write(b"four"), Err(TapeFault::Full)),
-            (Call::Op(MTWEOF, 4), Err(TapeFault::Full)),
-            (Call::Op(MTWEOF, 3), Ok(b"")),
-            (Call::Op(MTWEOF, 1), Err(TapeFault::Full)),
-            (Call::Op(MTWEOF, u32::MAX), Err(TapeFault::Full)),
-        ],
-    );
-    Ok(())
-}
+/// The number of an entry of the records `abc` and `defgh` with a mark between them, what is told of it, and what a
+/// buffer of so many dots has then.
+const TOLD: [(usize, Option<usize>, &[u8]); 6] = [
+    (0, Some(3), b"abc..."),
+    (1, Some(0), b"......"),
+    (2, Some(5), b"de"),
+    (2, Some(5), b""),
+    (3, None, b"......"),
+    (usize::MAX, None, b"......"),
+];
 
-#[test]
-fn loses_the_old_tail(rt: HostRuntime) -> Result<(), Fail> {
-    compare(
-        &rt,
-        rt.alloc(),
-        1000,
-        &[
-            (Call::Write(b"abc"), Ok(b"")),
-            (Call::Write(b"de"), Ok(b"")),
-            (Call::Rewind, Ok(b"")),
-            (Call::Write(b"x"), Ok(b"")),
-            (Call::Read(5), Ok(b"")),
-            (Call::Rewind, Ok(b"")),
-            (Call::Op(MTWEOF, 0), Ok(b"")),
-            (Call::Read(5), Ok(b"x")),
-            (Call::Read(5), Ok(b"")),
-            (Call::Rewind, Ok(b"")),
-            (Call::Op(MTWEOF, 2), Ok(b"")),
-            (Call::Rewind, Ok(b"")),
-            (Call::Read(5), Ok(b"")),
-            (Call::Write(b"yz"), Ok(b"")),
-            (Call::Rewind, Ok(b"")),
-            (Call::Read(5), Ok(b"")),
-            (Call::Read(5), Ok(b"yz")),
-            (Call::Read(5), Ok(b"")),
-        ],
-    );
-    Ok(())
-}
-
-#[test]
-fn refuses_other_operations(rt: HostRuntime) -> Result<(), Fail> {
-    compare(
-        &rt,
-        rt.alloc(),
-        100,
-        &[
-            (Call::Write(b"a"), Ok(b"")),
-            (Call::Rewind, Ok(b"")),
-            (Call::Op(6, 1), Err(TapeFault::BadOperation)),
-            (Call::Op(8, 0), Err(TapeFault::BadOperation)),
-            (Call::Op(u32::MAX, 1), Err(TapeFault::BadOperation)),
-            (Call::Read(5), Ok(b"a")),
-        ],
-    );
-    assert_eq!(rt; ListReel::new(rt.alloc(), 0).failures(), 0);
-    Ok(())
+/// Whether this is told of the entry of that number, and the buffer is this one then.
+fn tells(reel: &ListReel, (i, wanted, after): (usize, Option<usize>, &[u8])) -> bool {
+    let mut into = [b'.'; 6];
+    let part = &mut into[..after.len().min(6)];
+    reel.entry(i, part) == wanted && *part == *after
 }
 
 #[test]
 fn tells_each_entry_by_its_number(rt: HostRuntime) -> Result<(), Fail> {
     let mut reel = ListReel::new(rt.alloc(), 100);
-    let mut into = *b"......";
-    assert_eq!(&rt; reel.entry(0, &mut into), None);
-    assert_eq!(&rt; write_in_memory(&mut reel, b"abc"), Ok(()));
-    assert_eq!(&rt; reel.op(MTWEOF, 1), Ok(()));
-    assert_eq!(&rt; write_in_memory(&mut reel, b"defgh"), Ok(()));
+    assert!(&rt; tells(&reel, (0, None, b"......")));
+    let first = write_in_memory(&mut reel, b"abc").is_ok() && reel.op(MTWEOF, 1).is_ok();
+    assert!(&rt; first && write_in_memory(&mut reel, b"defgh").is_ok());
     reel.rewind();
-    assert_eq!(&rt; reel.entry(1, &mut into), Some(0));
-    assert_eq!(&rt; reel.entry(3, &mut into), None);
-    assert_eq!(&rt; reel.entry(usize::MAX, &mut into), None);
-    assert_eq!(&rt; into, *b"......");
-    assert_eq!(&rt; reel.entry(0, &mut into), Some(3));
-    assert_eq!(&rt; into, *b"abc...");
-    assert_eq!(&rt; reel.entry(2, &mut into[..2]), Some(5));
-    assert_eq!(&rt; into, *b"dec...");
-    assert_eq!(&rt; reel.entry(2, &mut []), Some(5));
-    assert_eq!(&rt; reel.read(&mut into), Ok(3));
+    for told in TOLD {
+        assert!(&rt; tells(&reel, told), "{told:?}");
+    }
+    assert_eq!(&rt; reel.read(&mut [0; 6]), Ok(3));
     Ok(())
 }
 
-/// Makes the call on both reels. They have to answer alike, and to stand at one place.
-fn make_both(rt: &impl Abort, reel: &mut ListReel, slow: &mut SlowReel, call: Call) {
-    let mut into = [0u8; 8];
-    let mut slow_into = [0u8; 8];
-    assert_eq!(rt;
-        make_call(reel, call, &mut into),
-        slow.call(call, &mut slow_into),
-        "{call:?}"
-    );
-    let (_, place, offset) = reel.parts();
-    assert_eq!(rt; place, slow.place(), "place after {call:?}");
-    assert_eq!(rt; offset, slow.offset(), "offset after {call:?}");
-}
-
-/// Writes so many entries on both reels, goes to the place, and makes the call there. Each binary digit of `shape`
-/// that is 1, from the lowest on, makes that entry a mark.
-fn compare_from(
-    rt: &impl Abort,
-    alloc: Global,
-    (length, shape): (usize, u32),
-    place: usize,
-    call: Call,
-) {
+/// Makes the call at the place of a list of so many entries, of which those that are 1 in `shape` are marks.
+fn compare_from(rt: &impl Abort, alloc: Global, list: (usize, u32), place: usize, call: Call) {
     let mut reel = ListReel::new(alloc, 1000);
     let mut slow = SlowReel::new(alloc, 1000);
-    let mut digits = shape;
-    for record in RECORDS.iter().take(length) {
-        let entry = if digits % 2 == 1 {
-            Call::Op(MTWEOF, 1)
-        } else {
-            Call::Write(record)
-        };
-        make_both(rt, &mut reel, &mut slow, entry);
-        digits /= 2;
-    }
-    make_both(rt, &mut reel, &mut slow, Call::Rewind);
-    for _ in 0..place {
-        make_both(rt, &mut reel, &mut slow, Call::Read(8));
-    }
+    write_both(rt, &mut reel, &mut slow, list, place);
     make_both(rt, &mut reel, &mut slow, call);
     make_both(rt, &mut reel, &mut slow, Call::Read(8));
-    let (file, _, _) = reel.parts();
-    assert_eq!(rt; count_entries(file), length, "entries after {call:?}");
+    let (file, _) = reel.parts();
+    assert!(rt;
+        count_entries(file, u64::MAX) == list.0,
+        "entries after {call:?}"
+    );
 }
 
 /// Compares every spacing by up to six, from each place of the list.
@@ -256,52 +221,5 @@ fn spaces_as_the_slow_reel_does(rt: HostRuntime) -> Result<(), Fail> {
             compare_spacing(&rt, rt.alloc(), (length, shape));
         }
     }
-    Ok(())
-}
-
-#[test]
-fn spaces_over_records_up_to_a_mark(rt: HostRuntime) -> Result<(), Fail> {
-    compare(
-        &rt,
-        rt.alloc(),
-        100,
-        &[
-            (Call::Op(MTFSR, 1), Err(TapeFault::EndOrMark)),
-            (Call::Write(b"a"), Ok(b"")),
-            (Call::Write(b"b"), Ok(b"")),
-            (Call::Op(MTWEOF, 1), Ok(b"")),
-            (Call::Op(MTBSR, 1), Err(TapeFault::EndOrMark)),
-            (Call::Op(MTBSR, 5), Err(TapeFault::EndOrMark)),
-            (Call::Op(MTFSR, 2), Ok(b"")),
-            (Call::Op(MTFSR, 1), Err(TapeFault::EndOrMark)),
-            (Call::Op(MTBSF, 1), Ok(b"")),
-            (Call::Op(MTBSF, 1), Err(TapeFault::EndOrMark)),
-            (Call::Op(MTFSF, 2), Err(TapeFault::EndOrMark)),
-            (Call::Op(MTBSF, 0), Ok(b"")),
-            (Call::Op(MTBSF, u32::MAX), Err(TapeFault::EndOrMark)),
-            (Call::Read(8), Ok(b"a")),
-        ],
-    );
-    Ok(())
-}
-
-#[test]
-fn spaces_over_marks(rt: HostRuntime) -> Result<(), Fail> {
-    compare(
-        &rt,
-        rt.alloc(),
-        100,
-        &[
-            (Call::Write(b"a"), Ok(b"")),
-            (Call::Op(MTWEOF, 1), Ok(b"")),
-            (Call::Write(b"b"), Ok(b"")),
-            (Call::Op(MTWEOF, 1), Ok(b"")),
-            (Call::Op(MTBSF, 2), Ok(b"")),
-            (Call::Read(8), Ok(b"")),
-            (Call::Op(MTBSR, 1), Err(TapeFault::EndOrMark)),
-            (Call::Op(MTFSF, 1), Ok(b"")),
-            (Call::Read(1), Ok(b"b")),
-        ],
-    );
     Ok(())
 }

@@ -1,5 +1,4 @@
 use super::*;
-use std::process::Abort;
 use std::test::Fail;
 
 /// A record `abc`, a mark, a record of one zero byte, and what is left of a record whose end was never written.
@@ -15,14 +14,6 @@ fn are_all(entries: &[Entry]) -> bool {
     }
 }
 
-/// Whether the file has no entry.
-fn is_tail(rt: &impl Abort, alloc: Global, file: &[u8]) -> bool {
-    let Ok(entries) = read_entries(alloc, file) else {
-        panic!(rt; "no memory");
-    };
-    entries.is_empty() && nth_entry(file, 0).is_none()
-}
-
 #[test]
 fn reads_each_whole_entry(rt: HostRuntime) -> Result<(), Fail> {
     let entries = read_entries(rt.alloc(), FILE)?;
@@ -30,25 +21,42 @@ fn reads_each_whole_entry(rt: HostRuntime) -> Result<(), Fail> {
     Ok(())
 }
 
+/// The number of an entry of the file, and its bytes, of which a mark has none.
+const NUMBERED: [(usize, Option<&[u8]>); 5] = [
+    (0, Some(b"abc")),
+    (1, Some(b"")),
+    (2, Some(b"\0")),
+    (3, None),
+    (usize::MAX, None),
+];
+
 #[test]
 fn finds_an_entry_by_its_number(rt: HostRuntime) -> Result<(), Fail> {
-    assert_eq!(&rt; nth_entry(FILE, 0), Some(b"abc".as_slice()));
-    assert_eq!(&rt; nth_entry(FILE, 1), Some(b"".as_slice()));
-    assert_eq!(&rt; nth_entry(FILE, 2), Some(b"\0".as_slice()));
-    assert_eq!(&rt; nth_entry(FILE, 3), None);
-    assert_eq!(&rt; nth_entry(FILE, usize::MAX), None);
+    for (at, wanted) in NUMBERED {
+        assert!(&rt; nth_entry(FILE, at) == wanted, "entry {at}");
+    }
     Ok(())
 }
 
+/// Files that have no entry.
+const TAILS: [&[u8]; 7] = [
+    b"",
+    b"\0\0\0",
+    b"\x01\0\0\0a\x01\0\0",
+    b"\x01\0\0\0a\x02\0\0\0",
+    b"\x03\0\0\0ab",
+    b"\x01\0\x01\0a\x01\0\x01\0",
+    b"\xff\xff\xff\xff",
+];
+
 #[test]
 fn a_tail_is_no_entry(rt: HostRuntime) -> Result<(), Fail> {
-    let alloc = rt.alloc();
-    assert!(&rt; is_tail(&rt, alloc, b""));
-    assert!(&rt; is_tail(&rt, alloc, b"\0\0\0"));
-    assert!(&rt; is_tail(&rt, alloc, b"\x01\0\0\0a\x01\0\0"));
-    assert!(&rt; is_tail(&rt, alloc, b"\x01\0\0\0a\x02\0\0\0"));
-    assert!(&rt; is_tail(&rt, alloc, b"\x03\0\0\0ab"));
-    assert!(&rt; is_tail(&rt, alloc, b"\x01\0\x01\0a\x01\0\x01\0"));
-    assert!(&rt; is_tail(&rt, alloc, b"\xff\xff\xff\xff"));
+    for file in TAILS {
+        let entries = read_entries(rt.alloc(), file)?;
+        assert!(&rt;
+            entries.is_empty() && nth_entry(file, 0).is_none(),
+            "{file:?}"
+        );
+    }
     Ok(())
 }

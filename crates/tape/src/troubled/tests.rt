@@ -4,15 +4,13 @@ ghost use Rattle.tape.specs.declared.fault.TapeFault.TheVariants.{Device};
 ghost use Rattle.tape.specs.declared.trouble.Trouble.TheVariants.{None};
 
 use super::*;
+use crate::compared::{Compared, count_entries, make_both, write_both};
 use crate::scan::nth_entry;
-use crate::slow::{Call, SlowReel, make_call};
+use crate::slow::{Call, SlowReel, Wanted, answers};
 use crate::{MTBSF, MTFSF, MTFSR, MTNOP, MTREW, device_steps};
 use std::alloc::Global;
 use std::process::Abort;
 use std::test::Fail;
-
-/// A record for each entry of the greatest list that troubles are compared on.
-const RECORDS: [&[u8]; 3] = [b"a", b"bb", b"ccc"];
 
 /// The capacities that troubles are compared at: all fits, and what follows the first entries does not.
 const CAPACITIES: [u64; 2] = [1000, 26];
@@ -28,6 +26,16 @@ const TROUBLES: [Trouble; 7] = [
     Trouble::Written(9),
 ];
 
+impl Compared for TroubledReel {
+    fn parts(&self) -> (&[u8], u64) {
+        self.reel.parts()
+    }
+
+    fn troubles(&self) -> (Trouble, u64) {
+        (self.next_trouble(), self.failures())
+    }
+}
+
 /// What a caller learns of a write where it has set no trouble.
 fn write_untroubled(reel: &mut TroubledReel, bytes: &[u8]) -> Result<(), TapeFault>
     requires record { IsRecord bytes.now }
@@ -40,11 +48,38 @@ fn write_untroubled(reel: &mut TroubledReel, bytes: &[u8]) -> Result<(), TapeFau
     reel.write(bytes)
 }
 
-/// Makes the call, which has to answer so.
-fn make(rt: &impl Abort, reel: &mut TroubledReel, request: Call, wanted: Result<&[u8], TapeFault>) {
-    let mut into = [0u8; 8];
-    assert_eq!(rt; make_call(reel, request, &mut into), wanted, "{request:?}");
-}
+/// A place on a reel of the records `abc` and `de`, a call there with the trouble that is set for it, and the entries
+/// that stand afterwards; one of no bytes is a mark.
+type Failure = (u32, Call, Trouble, &'static [&'static [u8]]);
+
+const ALL: &[&[u8]] = &[b"abc", b"de"];
+
+const WRITE: Call = Call::Write(b"x");
+
+const MARKS: Call = Call::Op(MTWEOF, 3);
+
+const FAILURES: [Failure; 17] = [
+    // A failed write leaves what its trouble says.
+    (1, WRITE, Trouble::Kept, ALL),
+    (1, WRITE, Trouble::Lost, &[b"abc"]),
+    (1, WRITE, Trouble::Written(0), &[b"abc"]),
+    (1, WRITE, Trouble::Written(1), &[b"abc", b"x"]),
+    (1, WRITE, Trouble::Written(7), &[b"abc", b"x"]),
+    // So do failed marks.
+    (0, MARKS, Trouble::Written(2), &[b"", b""]),
+    (0, MARKS, Trouble::Written(9), &[b"", b"", b""]),
+    (0, MARKS, Trouble::Written(0), &[]),
+    (0, MARKS, Trouble::Lost, &[]),
+    (1, MARKS, Trouble::Kept, ALL),
+    (1, MARKS, Trouble::Written(1), &[b"abc", b""]),
+    // Other failed calls leave all.
+    (0, Call::Read(8), Trouble::Lost, ALL),
+    (2, Call::Read(8), Trouble::Kept, ALL),
+    (0, Call::Op(MTFSF, 1), Trouble::Lost, ALL),
+    (1, Call::Op(MTBSF, 2), Trouble::Written(1), ALL),
+    (0, Call::Op(MTFSR, 1), Trouble::Written(0), ALL),
+    (2, Call::Op(MTBSR, 1), Trouble::Kept, ALL),
+];
 
 /// Whether these are the entries of a record file; one of no bytes is a mark.
 fn has(file: &[u8], wanted: &[&[u8]]) -> bool {
@@ -56,146 +91,82 @@ fn has(file: &[u8], wanted: &[&[u8]]) -> bool {
     nth_entry(file, wanted.len()).is_none()
 }
 
-/// Makes the call at the place of a reel of the records `abc` and `de`, with the trouble set. The device has to be at
-/// fault, the place the same, and the entries then these.
-fn leaves(
-    rt: &impl Abort,
-    alloc: Global,
-    place: u32,
-    (request, trouble): (Call, Trouble),
-    wanted: &[&[u8]],
-) {
+/// Whether the device is at fault in the call, the place is the same, and the entries are as is wanted.
+fn leaves(alloc: Global, (place, request, trouble, wanted): Failure) -> bool {
     let mut reel = TroubledReel::new(ListReel::new(alloc, 1000));
-    make(rt, &mut reel, Call::Write(b"abc"), Ok(b""));
-    make(rt, &mut reel, Call::Write(b"de"), Ok(b""));
-    make(rt, &mut reel, Call::Rewind, Ok(b""));
-    make(rt, &mut reel, Call::Op(MTFSR, place), Ok(b""));
+    let written = answers(
+        &mut reel,
+        &[
+            (Call::Write(b"abc"), Ok(b"")),
+            (Call::Write(b"de"), Ok(b"")),
+            (Call::Rewind, Ok(b"")),
+            (Call::Op(MTFSR, place), Ok(b"")),
+        ],
+    );
     reel.set(trouble);
-    make(rt, &mut reel, request, Err(TapeFault::Device));
-    assert_eq!(rt; reel.next_trouble(), Trouble::None);
-    assert_eq!(rt; reel.failures(), 1);
-    let (file, at, _) = reel.reel.parts();
-    assert_eq!(rt; at, place as usize, "place after {request:?}, {trouble:?}");
-    assert!(rt; has(file, wanted), "entries after {request:?}, {trouble:?}");
+    let failed = answers(&mut reel, &[(request, Err(TapeFault::Device))]);
+    let (file, offset) = reel.parts();
+    let same_place = count_entries(file, offset) == place as usize;
+    written && failed && reel.troubles() == (Trouble::None, 1) && same_place && has(file, wanted)
 }
 
 #[test]
-fn a_failed_write_leaves_what_its_trouble_says(rt: HostRuntime) -> Result<(), Fail> {
-    let write = Call::Write(b"x");
-    leaves(&rt, rt.alloc(), 1, (write, Trouble::Kept), &[b"abc", b"de"]);
-    leaves(&rt, rt.alloc(), 1, (write, Trouble::Lost), &[b"abc"]);
-    leaves(&rt, rt.alloc(), 1, (write, Trouble::Written(0)), &[b"abc"]);
-    leaves(
-        &rt,
-        rt.alloc(),
-        1,
-        (write, Trouble::Written(1)),
-        &[b"abc", b"x"],
-    );
-    leaves(
-        &rt,
-        rt.alloc(),
-        1,
-        (write, Trouble::Written(7)),
-        &[b"abc", b"x"],
-    );
+fn a_failed_call_leaves_what_its_trouble_says(rt: HostRuntime) -> Result<(), Fail> {
+    for (at, failure) in FAILURES.iter().enumerate() {
+        assert!(&rt; leaves(rt.alloc(), *failure), "failure {at}");
+    }
     Ok(())
 }
 
-#[test]
-fn failed_marks_leave_what_their_trouble_says(rt: HostRuntime) -> Result<(), Fail> {
-    let marks = Call::Op(MTWEOF, 3);
-    leaves(
-        &rt,
-        rt.alloc(),
-        0,
-        (marks, Trouble::Written(2)),
-        &[b"", b""],
-    );
-    leaves(
-        &rt,
-        rt.alloc(),
-        0,
-        (marks, Trouble::Written(9)),
-        &[b"", b"", b""],
-    );
-    leaves(&rt, rt.alloc(), 0, (marks, Trouble::Written(0)), &[]);
-    leaves(&rt, rt.alloc(), 0, (marks, Trouble::Lost), &[]);
-    leaves(&rt, rt.alloc(), 1, (marks, Trouble::Kept), &[b"abc", b"de"]);
-    leaves(
-        &rt,
-        rt.alloc(),
-        1,
-        (marks, Trouble::Written(1)),
-        &[b"abc", b""],
-    );
-    Ok(())
-}
-
-#[test]
-fn other_failed_calls_leave_all(rt: HostRuntime) -> Result<(), Fail> {
-    let all: &[&[u8]] = &[b"abc", b"de"];
-    leaves(&rt, rt.alloc(), 0, (Call::Read(8), Trouble::Lost), all);
-    leaves(&rt, rt.alloc(), 2, (Call::Read(8), Trouble::Kept), all);
-    leaves(&rt, rt.alloc(), 0, (Call::Op(MTFSF, 1), Trouble::Lost), all);
-    leaves(
-        &rt,
-        rt.alloc(),
-        1,
-        (Call::Op(MTBSF, 2), Trouble::Written(1)),
-        all,
-    );
-    leaves(
-        &rt,
-        rt.alloc(),
-        0,
-        (Call::Op(MTFSR, 1), Trouble::Written(0)),
-        all,
-    );
-    leaves(&rt, rt.alloc(), 2, (Call::Op(MTBSR, 1), Trouble::Kept), all);
-    Ok(())
-}
+/// Calls of a full reel that come to no device, whatever its trouble.
+const WAITING: &[Wanted] = &[
+    (Call::Write(b"b"), Err(TapeFault::Full)),
+    (Call::Op(MTWEOF, 2), Err(TapeFault::Full)),
+    (Call::Op(MTWEOF, 0), Ok(b"")),
+    (Call::Op(MTFSF, 0), Ok(b"")),
+    (Call::Op(MTBSF, 0), Ok(b"")),
+    (Call::Op(MTFSR, 0), Ok(b"")),
+    (Call::Op(MTBSR, 0), Ok(b"")),
+    (Call::Op(MTREW, 1), Ok(b"")),
+    (Call::Op(MTNOP, 1), Ok(b"")),
+    (Call::Op(6, 1), Err(TapeFault::BadOperation)),
+    (Call::Op(8, 1), Err(TapeFault::BadOperation)),
+    (Call::Rewind, Ok(b"")),
+];
 
 #[test]
 fn a_trouble_waits_for_a_device_call(rt: HostRuntime) -> Result<(), Fail> {
     let mut reel = TroubledReel::new(ListReel::new(rt.alloc(), 13));
-    make(&rt, &mut reel, Call::Write(b"a"), Ok(b""));
+    let written = answers(&mut reel, &[(Call::Write(b"a"), Ok(b""))]);
     reel.set(Trouble::Lost);
-    make(&rt, &mut reel, Call::Write(b"b"), Err(TapeFault::Full));
-    make(&rt, &mut reel, Call::Op(MTWEOF, 2), Err(TapeFault::Full));
-    for op in MTWEOF..=MTBSR {
-        make(&rt, &mut reel, Call::Op(op, 0), Ok(b""));
-    }
-    make(&rt, &mut reel, Call::Op(MTREW, 1), Ok(b""));
-    make(&rt, &mut reel, Call::Op(MTNOP, 1), Ok(b""));
-    make(&rt, &mut reel, Call::Op(6, 1), Err(TapeFault::BadOperation));
-    make(&rt, &mut reel, Call::Op(8, 1), Err(TapeFault::BadOperation));
-    make(&rt, &mut reel, Call::Rewind, Ok(b""));
-    assert_eq!(&rt; reel.next_trouble(), Trouble::Lost);
-    assert_eq!(&rt; reel.failures(), 0);
+    let waits = answers(&mut reel, WAITING) && reel.troubles() == (Trouble::Lost, 0);
+    assert!(&rt; written && waits);
     reel.set(Trouble::Kept);
-    make(&rt, &mut reel, Call::Read(8), Err(TapeFault::Device));
-    assert_eq!(&rt; reel.next_trouble(), Trouble::None);
-    assert_eq!(&rt; reel.failures(), 1);
-    make(&rt, &mut reel, Call::Read(8), Ok(b"a"));
-    assert_eq!(&rt; reel.failures(), 1);
+    let failed = answers(&mut reel, &[(Call::Read(8), Err(TapeFault::Device))]);
+    assert!(&rt; failed && reel.troubles() == (Trouble::None, 1));
+    assert!(&rt; answers(&mut reel, &[(Call::Read(8), Ok(b"a"))]) && reel.failures() == 1);
     Ok(())
+}
+
+/// Whether this is told of the entry of that number, and a buffer of four dots is this one then.
+fn tells(reel: &TroubledReel, i: usize, wanted: Option<usize>, after: &[u8; 4]) -> bool {
+    let mut into = *b"....";
+    reel.entry(i, &mut into) == wanted && into == *after
 }
 
 #[test]
 fn tells_entries_while_a_trouble_is_set(rt: HostRuntime) -> Result<(), Fail> {
     let mut reel = TroubledReel::new(ListReel::new(rt.alloc(), 100));
-    make(&rt, &mut reel, Call::Op(MTWEOF, 1), Ok(b""));
-    make(&rt, &mut reel, Call::Write(b"ab"), Ok(b""));
+    let calls: &[Wanted] = &[
+        (Call::Op(MTWEOF, 1), Ok(b"")),
+        (Call::Write(b"ab"), Ok(b"")),
+    ];
+    let written = answers(&mut reel, calls);
     reel.set(Trouble::Lost);
-    let mut into = *b"....";
-    assert_eq!(&rt; reel.entry(0, &mut into), Some(0));
-    assert_eq!(&rt; reel.entry(2, &mut into), None);
-    assert_eq!(&rt; into, *b"....");
-    assert_eq!(&rt; reel.entry(1, &mut into), Some(2));
-    assert_eq!(&rt; into, *b"ab..");
-    assert_eq!(&rt; reel.next_trouble(), Trouble::Lost);
-    assert_eq!(&rt; reel.failures(), 0);
+    let told = tells(&reel, 0, Some(0), b"....")
+        && tells(&reel, 2, None, b"....")
+        && tells(&reel, 1, Some(2), b"ab..");
+    assert!(&rt; written && told && reel.troubles() == (Trouble::Lost, 0));
     Ok(())
 }
 
@@ -206,11 +177,11 @@ fn counts_failures_up_to_the_greatest(rt: HostRuntime) -> Result<(), Fail> {
         trouble: Trouble::Kept,
         failures: u64::MAX - 1,
     };
-    make(&rt, &mut reel, Call::Read(8), Err(TapeFault::Device));
-    assert_eq!(&rt; reel.failures(), u64::MAX);
+    let first = answers(&mut reel, &[(Call::Read(8), Err(TapeFault::Device))]);
+    assert!(&rt; first && reel.failures() == u64::MAX);
     reel.set(Trouble::Lost);
-    make(&rt, &mut reel, Call::Op(MTFSF, 1), Err(TapeFault::Device));
-    assert_eq!(&rt; reel.failures(), u64::MAX);
+    let second = answers(&mut reel, &[(Call::Op(MTFSF, 1), Err(TapeFault::Device))]);
+    assert!(&rt; second && reel.failures() == u64::MAX);
     Ok(())
 }
 
@@ -218,41 +189,18 @@ fn counts_failures_up_to_the_greatest(rt: HostRuntime) -> Result<(), Fail> {
 fn a_reel_with_no_trouble_is_one_in_memory(rt: HostRuntime) -> Result<(), Fail> {
     let mut reel = TroubledReel::new(ListReel::new(rt.alloc(), 100));
     device_steps();
-    assert_eq!(&rt; write_untroubled(&mut reel, b"abc"), Ok(()));
-    make(&rt, &mut reel, Call::Op(MTWEOF, 1), Ok(b""));
-    make(
-        &rt,
-        &mut reel,
-        Call::Op(MTBSF, 2),
-        Err(TapeFault::EndOrMark),
-    );
-    make(&rt, &mut reel, Call::Read(2), Ok(b"ab"));
-    assert_eq!(&rt; reel.failures(), 0);
+    let written = write_untroubled(&mut reel, b"abc").is_ok();
+    let calls: &[Wanted] = &[
+        (Call::Op(MTWEOF, 1), Ok(b"")),
+        (Call::Op(MTBSF, 2), Err(TapeFault::EndOrMark)),
+        (Call::Read(2), Ok(b"ab")),
+    ];
+    assert!(&rt; written && answers(&mut reel, calls) && reel.failures() == 0);
     Ok(())
 }
 
-/// Makes the call on both reels. They have to answer alike, and to be alike afterwards.
-fn make_both(rt: &impl Abort, reel: &mut TroubledReel, slow: &mut SlowReel, call: Call) {
-    let mut into = [0u8; 8];
-    let mut slow_into = [0u8; 8];
-    assert_eq!(rt;
-        make_call(reel, call, &mut into),
-        slow.call(call, &mut slow_into),
-        "{call:?}"
-    );
-    let (file, place, offset) = reel.reel.parts();
-    assert_eq!(rt; place, slow.place(), "place after {call:?}");
-    assert_eq!(rt; offset, slow.offset(), "offset after {call:?}");
-    assert!(rt; slow.has(file), "entries after {call:?}");
-    assert_eq!(rt;
-        (reel.trouble, reel.failures),
-        slow.troubles(),
-        "troubles after {call:?}"
-    );
-}
-
-/// Writes so many entries on both reels, goes to the place, and makes the call there with the trouble set, and once
-/// more. Each binary digit of `shape` that is 1, from the lowest on, makes that entry a mark.
+/// Makes the call at the place of a list of so many entries, of which those that are 1 in `shape` are marks, with the
+/// trouble set, and once more.
 fn compare_from(
     rt: &impl Abort,
     alloc: Global,
@@ -262,20 +210,7 @@ fn compare_from(
 ) {
     let mut reel = TroubledReel::new(ListReel::new(alloc, capacity));
     let mut slow = SlowReel::new(alloc, capacity);
-    let mut digits = shape;
-    for record in RECORDS.iter().take(length) {
-        let entry = if digits % 2 == 1 {
-            Call::Op(MTWEOF, 1)
-        } else {
-            Call::Write(record)
-        };
-        make_both(rt, &mut reel, &mut slow, entry);
-        digits /= 2;
-    }
-    make_both(rt, &mut reel, &mut slow, Call::Rewind);
-    for _ in 0..place {
-        make_both(rt, &mut reel, &mut slow, Call::Read(8));
-    }
+    write_both(rt, &mut reel, &mut slow, (length, shape), place);
     reel.set(trouble);
     slow.set(trouble);
     make_both(rt, &mut reel, &mut slow, call);
