@@ -7,6 +7,7 @@ ghost use Rattle.drives.specs.ListShop.{IsShop, StacksCanFail, with_shop, empty_
 mod arrange;
 mod list;
 mod orders;
+mod reels;
 pub(crate) mod slow_holds;
 mod slow_shop;
 
@@ -33,12 +34,12 @@ fn one_seat_holds_a_drive(rt: HostRuntime) -> Result<(), Fail> {
     let (Some(mut first), Some(mut second)) = (holds.seat(), holds.seat()) else {
         return Err(Fail::new("no seat"));
     };
-    assert_eq!(rt; holds.take(&mut first, 1), Taken::Held);
-    assert_eq!(rt; holds.take(&mut second, 1), Taken::Busy(1));
-    assert_eq!(rt; holds.take(&mut second, 0), Taken::Held);
-    assert_eq!(rt; holds.holder(&mut first, 0), 2);
+    let held = holds.take(&mut first, 1) == Taken::Held;
+    let busy = holds.take(&mut second, 1) == Taken::Busy(1);
+    assert!(rt; held && busy && holds.take(&mut second, 0) == Taken::Held);
+    let told = holds.holder(&mut first, 0) == 2;
     holds.give(&mut second, 0);
-    assert_eq!(rt; holds.holder(&mut first, 0), 0);
+    assert!(rt; told && holds.holder(&mut first, 0) == 0);
     Ok(())
 }
 
@@ -50,18 +51,16 @@ fn an_open_latches(rt: HostRuntime) -> Result<(), Fail> {
     let Some(mut seat) = drives.holds.seat() else {
         return Err(Fail::new("no seat"));
     };
-    assert!(rt;
-        matches!(
-            drives.open(&mut seat, b"/dev/st9"),
-            Err(DriveFault::NoSuchDrive)
-        )
+    let unknown = matches!(
+        drives.open(&mut seat, b"/dev/st9"),
+        Err(DriveFault::NoSuchDrive)
     );
     let (drive, reel) = drives.open(&mut seat, b"/dev/st0")?;
-    assert_eq!(rt; drive, 0);
-    assert!(rt; drives.stacks.offline(drive, reel).is_ok());
+    let moved = drives.stacks.offline(drive, reel).is_ok();
+    assert!(rt; unknown && drive == 0 && moved);
     drives.holds.give(&mut seat, drive);
-    assert!(rt; matches!(drives.open(&mut seat, b"/dev/st0"), Err(DriveFault::NoReel)));
-    assert_eq!(rt; drives.holds.holder(&mut seat, 0), 0);
+    let none = matches!(drives.open(&mut seat, b"/dev/st0"), Err(DriveFault::NoReel));
+    assert!(rt; none && drives.holds.holder(&mut seat, 0) == 0);
     Ok(())
 }
 
@@ -73,13 +72,12 @@ fn a_second_open_is_refused(rt: HostRuntime) -> Result<(), Fail> {
     };
     let stacks = one_reel(rt.alloc())?;
     let mut drives = DriveTable { holds, stacks };
-    assert!(rt; drives.open(&mut first, b"/dev/st0").is_ok());
-    assert!(rt;
-        matches!(
-            drives.open(&mut second, b"/dev/st0"),
-            Err(DriveFault::Busy(1))
-        )
+    let opened = drives.open(&mut first, b"/dev/st0").is_ok();
+    let busy = matches!(
+        drives.open(&mut second, b"/dev/st0"),
+        Err(DriveFault::Busy(1))
     );
+    assert!(rt; opened && busy);
     Ok(())
 }
 

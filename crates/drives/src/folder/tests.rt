@@ -9,9 +9,8 @@ use super::FolderStacks;
 use crate::{DriveFault, Stacks};
 use fake::FakeRuntime;
 use place::Place;
-use std::fs::{self, File, OpenOptions};
+use std::fs::{File, OpenOptions};
 use std::io::{self, ErrorKind};
-use std::os::unix::fs::{PermissionsExt, symlink};
 use std::rt::Files;
 use tape::Reel;
 
@@ -48,6 +47,7 @@ fn is_empty(stacks: &mut FolderStacks<HostRuntime>, drive: usize) -> bool
     matches!(stacks.latch(drive), Err(DriveFault::NoReel)) && stacks.failures() == 0
 }
 
+/// Reels are latched in the order of the bytes of their names.
 fn in_byte_order(place: &Place, stacks: &mut FolderStacks<HostRuntime>) -> io::Result<bool>
     requires { length stacks.old.rows ≡ 2 }
 {
@@ -56,31 +56,13 @@ fn in_byte_order(place: &Place, stacks: &mut FolderStacks<HostRuntime>) -> io::R
     Ok(first && last && is_empty(stacks, 0))
 }
 
-#[test]
-fn reels_are_latched_in_the_order_of_their_bytes(rt: HostRuntime) -> io::Result<()> {
-    let place = Place::new(rt, "order")?;
-    place.put("st0/a9", "")?;
-    place.put("st0/é", "")?;
-    place.put("st0/a10", "")?;
-    place.put("st0/B", "")?;
-    let right = in_byte_order(&place, &mut place.open(rt)?)?;
-    place.remove()?;
-    assert!(rt; right);
-    Ok(())
-}
-
-#[test]
-fn folders_and_links_are_no_reels(rt: HostRuntime) -> io::Result<()> {
-    let place = Place::new(rt, "links")?;
-    place.put("other", "")?;
-    fs::create_dir(&rt, place.path("st0/a")?.as_str())?;
-    symlink(&rt, "../other", place.path("st0/b")?.as_str())?;
-    place.put("st0/c", "")?;
-    let mut stacks = place.open(rt)?;
-    let right = moves(&place, &mut stacks, "c")? && is_empty(&mut stacks, 0);
-    place.remove()?;
-    assert!(rt; right);
-    Ok(())
+/// Folders and links are no reels.
+fn past_others(place: &Place, stacks: &mut FolderStacks<HostRuntime>) -> io::Result<bool>
+    requires { length stacks.old.rows ≡ 2 }
+{
+    place.put_folder("st0/a")?;
+    place.put_link("st0/b", "../other")?;
+    Ok(moves(place, stacks, "c")? && is_empty(stacks, 0))
 }
 
 /// Writes a record to the reel `r`, which is laid back, and reads it again.
@@ -102,16 +84,6 @@ fn goes_round(place: &Place, stacks: &mut FolderStacks<HostRuntime>) -> io::Resu
     Ok(written && refused && read && lies && stacks.failures() == 0)
 }
 
-#[test]
-fn a_reel_is_a_record_file(rt: HostRuntime) -> io::Result<()> {
-    let place = Place::new(rt, "record")?;
-    place.put("st0/r", "")?;
-    let right = goes_round(&place, &mut place.open(rt)?)?;
-    place.remove()?;
-    assert!(rt; right);
-    Ok(())
-}
-
 /// The first drive's reel does not go over what the bin has, and the reel is handed back.
 fn is_kept(place: &Place, stacks: &mut FolderStacks<HostRuntime>) -> io::Result<bool>
     requires { length stacks.old.rows ≡ 2 }
@@ -129,48 +101,29 @@ fn is_kept(place: &Place, stacks: &mut FolderStacks<HostRuntime>) -> io::Result<
     Ok(same && place.has("st0/r")? && stacks.failures() == 0)
 }
 
-#[test]
-fn no_move_goes_over_a_reel_of_the_bin(rt: HostRuntime) -> io::Result<()> {
-    let place = Place::new(rt, "taken")?;
-    place.put("st0/r", "\x01\0\0\01\x01\0\0\0")?;
-    place.put("st1/r", "two")?;
-    let mut stacks = place.open(rt)?;
-    let second = move_first(&mut stacks, 1) == Ok(());
-    let kept = is_kept(&place, &mut stacks)? && place.reads("bin/r", b"two")?;
-    fs::remove_file(&rt, place.path("bin/r")?.as_str())?;
-    symlink(&rt, "nowhere", place.path("bin/r")?.as_str())?;
-    let again = is_kept(&place, &mut stacks)?;
-    place.remove()?;
-    assert!(rt; second && kept && again);
-    Ok(())
+/// No move goes over a file of the bin, nor over a link to nowhere.
+fn over_none(place: &Place, stacks: &mut FolderStacks<HostRuntime>) -> io::Result<bool>
+    requires { length stacks.old.rows ≡ 2 }
+{
+    let second = move_first(stacks, 1) == Ok(());
+    let kept = is_kept(place, stacks)? && place.reads("bin/r", b"two")?;
+    place.remove_file("bin/r")?;
+    place.put_link("bin/r", "nowhere")?;
+    Ok(second && kept && is_kept(place, stacks)?)
 }
 
 /// Another handle has the lock of the reel, and then of the bin. Both are failures.
-fn waits_for_locks(
-    rt: HostRuntime,
-    place: &Place,
-    stacks: &mut FolderStacks<HostRuntime>,
-) -> io::Result<bool>
+fn waits_for_locks(place: &Place, stacks: &mut FolderStacks<HostRuntime>) -> io::Result<bool>
     requires { length stacks.old.rows ≡ 2 }
 {
-    let other = File::open(&rt, place.path("st0/r")?.as_str())?;
+    let other = place.file("st0/r")?;
     other.lock()?;
     let refused = matches!(stacks.latch(0), Err(DriveFault::Device)) && stacks.failures() == 1;
     other.unlock()?;
-    let bin = File::open(&rt, place.path("bin")?.as_str())?;
+    let bin = place.file("bin")?;
     bin.lock()?;
     let unmoved = move_first(stacks, 0) == Err(DriveFault::Device) && stacks.failures() == 2;
     Ok(refused && unmoved && place.has("st0/r")?)
-}
-
-#[test]
-fn what_another_has_locked_is_a_failure(rt: HostRuntime) -> io::Result<()> {
-    let place = Place::new(rt, "locked")?;
-    place.put("st0/r", "")?;
-    let right = waits_for_locks(rt, &place, &mut place.open(rt)?)?;
-    place.remove()?;
-    assert!(rt; right);
-    Ok(())
 }
 
 /// While a reel is latched another open of the same folders cannot have it, and it is had once it was laid back.
@@ -186,85 +139,29 @@ fn is_had_once(one: &mut FolderStacks<HostRuntime>, other: &mut FolderStacks<Hos
     refused && other.latch(0).is_ok()
 }
 
-#[test]
-fn a_reel_is_latched_once(rt: HostRuntime) -> io::Result<()> {
-    let place = Place::new(rt, "once")?;
-    place.put("st0/r", "")?;
-    let right = is_had_once(&mut place.open(rt)?, &mut place.open(rt)?);
-    place.remove()?;
-    assert!(rt; right);
-    Ok(())
-}
-
 /// Another file has the name of the latched reel. It is not moved.
-fn moves_no_other_file(
-    rt: HostRuntime,
-    place: &Place,
-    stacks: &mut FolderStacks<HostRuntime>,
-) -> io::Result<bool>
+fn moves_no_other_file(place: &Place, stacks: &mut FolderStacks<HostRuntime>) -> io::Result<bool>
     requires { length stacks.old.rows ≡ 2 }
 {
     let Ok(reel) = stacks.latch(0) else {
         return Ok(false);
     };
-    fs::remove_file(&rt, place.path("st0/r")?.as_str())?;
+    place.remove_file("st0/r")?;
     place.put("st0/r", "other")?;
     let refused = matches!(stacks.offline(0, reel), Err((_, DriveFault::Device)));
     let kept = place.reads("st0/r", b"other")? && !place.has("bin/r")?;
     Ok(refused && kept && stacks.failures() == 1)
 }
 
-#[test]
-fn another_file_is_not_moved(rt: HostRuntime) -> io::Result<()> {
-    let place = Place::new(rt, "other")?;
-    place.put("st0/r", "")?;
-    let right = moves_no_other_file(rt, &place, &mut place.open(rt)?)?;
-    place.remove()?;
-    assert!(rt; right);
-    Ok(())
-}
-
-#[test]
-fn a_name_that_is_no_text_is_a_failure(rt: HostRuntime) -> io::Result<()> {
-    let place = Place::new(rt, "text")?;
-    place.put("st0/r", "")?;
-    let mut stacks = place.open(FakeRuntime {
-        rt,
-        lists_no_text: true,
-    })?;
-    let refused = matches!(stacks.latch(0), Err(DriveFault::Device)) && stacks.failures() == 1;
-    place.remove()?;
-    assert!(rt; refused);
-    Ok(())
-}
-
-#[test]
-fn a_rename_that_fails_is_a_failure(rt: HostRuntime) -> io::Result<()> {
-    let place = Place::new(rt, "rename")?;
-    place.put("st0/r", "")?;
-    let mut stacks = place.open(FakeRuntime {
-        rt,
-        lists_no_text: false,
-    })?;
-    let refused = move_first(&mut stacks, 0) == Err(DriveFault::Device) && stacks.failures() == 1;
-    let kept = place.has("st0/r")? && !place.has("bin/r")?;
-    place.remove()?;
-    assert!(rt; refused && kept);
-    Ok(())
-}
-
-#[test]
-fn a_folder_that_is_missing_is_a_failure(rt: HostRuntime) -> io::Result<()> {
-    let place = Place::new(rt, "missing")?;
-    place.put("st1/r", "")?;
-    let mut stacks = place.open(rt)?;
-    fs::remove_dir(&rt, place.path("st0")?.as_str())?;
-    fs::remove_dir(&rt, place.path("bin")?.as_str())?;
+/// A folder that is missing is a failure.
+fn misses_folders(place: &Place, stacks: &mut FolderStacks<HostRuntime>) -> io::Result<bool>
+    requires { length stacks.old.rows ≡ 2 }
+{
+    place.remove_folder("st0")?;
+    place.remove_folder("bin")?;
     let first = matches!(stacks.latch(0), Err(DriveFault::Device)) && stacks.failures() == 1;
-    let second = move_first(&mut stacks, 1) == Err(DriveFault::Device) && stacks.failures() == 2;
-    place.remove()?;
-    assert!(rt; first && second);
-    Ok(())
+    let second = move_first(stacks, 1) == Err(DriveFault::Device) && stacks.failures() == 2;
+    Ok(first && second)
 }
 
 /// Whether that folder is the first that cannot be used, for that reason.
@@ -281,22 +178,114 @@ fn is_fault(
     Ok(fault.folder == path.as_str() && fault.reason.kind() == kind)
 }
 
-#[test]
-fn a_look_names_the_first_folder_that_cannot_be_used(rt: HostRuntime) -> io::Result<()> {
-    let place = Place::new(rt, "look")?;
-    let stacks = place.open(rt)?;
+/// A look names the first folder that cannot be used.
+fn finds_faults(place: &Place, stacks: &FolderStacks<HostRuntime>) -> io::Result<bool> {
     let none = stacks.find_fault().is_none();
-    let bin = place.path("bin")?;
-    let mut mode = fs::metadata(&rt, bin.as_str())?.permissions();
-    mode.set_mode(0o555);
-    fs::set_permissions(&rt, bin.as_str(), mode)?;
-    let unwritable = is_fault(&place, &stacks, "bin", ErrorKind::PermissionDenied)?;
-    fs::remove_dir(&rt, place.path("st1")?.as_str())?;
+    place.close_folder("bin")?;
+    let unwritable = is_fault(place, stacks, "bin", ErrorKind::PermissionDenied)?;
+    place.remove_folder("st1")?;
     place.put("st1", "")?;
-    let no_folder = is_fault(&place, &stacks, "st1", ErrorKind::NotADirectory)?;
-    fs::remove_dir(&rt, place.path("st0")?.as_str())?;
-    let missing = is_fault(&place, &stacks, "st0", ErrorKind::NotFound)?;
-    place.remove()?;
-    assert!(rt; none && unwritable && no_folder && missing);
+    let no_folder = is_fault(place, stacks, "st1", ErrorKind::NotADirectory)?;
+    place.remove_folder("st0")?;
+    let missing = is_fault(place, stacks, "st0", ErrorKind::NotFound)?;
+    Ok(none && unwritable && no_folder && missing)
+}
+
+/// What is tried.
+#[derive(Clone, Copy)]
+enum Trial {
+    InByteOrder,
+    PastOthers,
+    GoesRound,
+    OverNone,
+    WaitsForLocks,
+    IsHadOnce,
+    MovesNoOtherFile,
+    MissesFolders,
+    FindsFaults,
+}
+
+/// Each trial, its name, and the files that lie there before, with their text.
+const TRIALS: [(Trial, &str, &[(&str, &str)]); 9] = [
+    (
+        Trial::InByteOrder,
+        "order",
+        &[
+            ("st0/a9", ""),
+            ("st0/é", ""),
+            ("st0/a10", ""),
+            ("st0/B", ""),
+        ],
+    ),
+    (Trial::PastOthers, "links", &[("other", ""), ("st0/c", "")]),
+    (Trial::GoesRound, "record", &[("st0/r", "")]),
+    (
+        Trial::OverNone,
+        "taken",
+        &[("st0/r", "\x01\0\0\01\x01\0\0\0"), ("st1/r", "two")],
+    ),
+    (Trial::WaitsForLocks, "locked", &[("st0/r", "")]),
+    (Trial::IsHadOnce, "once", &[("st0/r", "")]),
+    (Trial::MovesNoOtherFile, "other", &[("st0/r", "")]),
+    (Trial::MissesFolders, "missing", &[("st1/r", "")]),
+    (Trial::FindsFaults, "look", &[]),
+];
+
+/// Whether the trial goes as it has to.
+fn goes(trial: Trial, place: &Place, stacks: &mut FolderStacks<HostRuntime>) -> io::Result<bool>
+    requires { length stacks.old.rows ≡ 2 }
+{
+    match trial {
+        Trial::InByteOrder => in_byte_order(place, stacks),
+        Trial::PastOthers => past_others(place, stacks),
+        Trial::GoesRound => goes_round(place, stacks),
+        Trial::OverNone => over_none(place, stacks),
+        Trial::WaitsForLocks => waits_for_locks(place, stacks),
+        Trial::IsHadOnce => Ok(is_had_once(stacks, &mut place.open(place.rt)?)),
+        Trial::MovesNoOtherFile => moves_no_other_file(place, stacks),
+        Trial::MissesFolders => misses_folders(place, stacks),
+        Trial::FindsFaults => finds_faults(place, stacks),
+    }
+}
+
+#[test]
+fn each_trial_goes_as_it_has_to(rt: HostRuntime) -> io::Result<()> {
+    for (trial, name, files) in TRIALS {
+        let place = Place::new(rt, name)?;
+        for (path, text) in files {
+            place.put(path, text)?;
+        }
+        let right = goes(trial, &place, &mut place.open(rt)?)?;
+        place.remove()?;
+        assert!(rt; right, "{name}");
+    }
+    Ok(())
+}
+
+/// Whether a latch fails where a folder lists a name that is no text, and a move where a rename fails.
+fn fails(stacks: &mut FolderStacks<FakeRuntime>, lists_no_text: bool) -> bool
+    requires { length stacks.old.rows ≡ 2 }
+{
+    let failed = if lists_no_text {
+        matches!(stacks.latch(0), Err(DriveFault::Device))
+    } else {
+        move_first(stacks, 0) == Err(DriveFault::Device)
+    };
+    failed && stacks.failures() == 1
+}
+
+#[test]
+fn what_the_system_refuses_is_a_failure(rt: HostRuntime) -> io::Result<()> {
+    for (lists_no_text, name) in [(true, "text"), (false, "rename")] {
+        let place = Place::new(rt, name)?;
+        place.put("st0/r", "")?;
+        let refused = fails(
+            &mut place.open(FakeRuntime { rt, lists_no_text })?,
+            lists_no_text,
+        );
+        let kept = place.has("st0/r")? && !place.has("bin/r")?;
+        place.remove()?;
+        assert!(rt; refused && kept, "{name}");
+    }
     Ok(())
 }

@@ -189,24 +189,36 @@ fn every_three_steps_at_two_drives(rt: HostRuntime) -> Result<(), Fail> {
     Ok(())
 }
 
+/// Whether this is what the seat knows: its number, its steps, the last of them, and whether it holds the first drive.
+fn has_made(
+    seat: &LocalSeat,
+    number: u64,
+    steps: u64,
+    last: (SlowStep, usize, u64),
+    held: bool,
+) -> bool {
+    let view = &seat.view;
+    view.number == number
+        && view.steps == steps
+        && last_of(seat) == Some(last)
+        && view.held[0] == held
+}
+
 #[test]
 fn a_drive_goes_from_seat_to_seat(rt: HostRuntime) -> Result<(), Fail> {
     let mut holds = LocalHolds::new(rt.alloc(), 1)?;
     let (Some(mut first), Some(mut second)) = (holds.seat(), holds.seat()) else {
         return Err(Fail::new("no seat"));
     };
-    assert_eq!(rt; holds.take(&mut first, 0), Taken::Held);
-    assert_eq!(rt; holds.take(&mut second, 0), Taken::Busy(1));
-    assert_eq!(rt; holds.holder(&mut second, 0), 1);
-    assert_eq!(rt; holds.number_at(0), 1);
-    assert!(rt; first.view.held[0] && !second.view.held[0]);
+    let held = holds.take(&mut first, 0) == Taken::Held;
+    let busy = holds.take(&mut second, 0) == Taken::Busy(1);
+    let told = holds.holder(&mut second, 0) == 1 && holds.number_at(0) == 1;
+    let marked = first.view.held[0] && !second.view.held[0];
+    assert!(rt; held && busy && told && marked);
     holds.give(&mut first, 0);
-    assert_eq!(rt; holds.holder(&mut second, 0), 0);
-    assert_eq!(rt; holds.take(&mut second, 0), Taken::Held);
-    assert!(rt; !first.view.held[0] && second.view.held[0]);
-    assert_eq!(rt; (first.view.number, first.view.steps), (1, 2));
-    assert_eq!(rt; (second.view.number, second.view.steps), (2, 4));
-    assert_eq!(rt; last_of(&first), Some((SlowStep::Give, 0, 1)));
-    assert_eq!(rt; last_of(&second), Some((SlowStep::Take, 0, 0)));
+    let freed = holds.holder(&mut second, 0) == 0;
+    assert!(rt; freed && holds.take(&mut second, 0) == Taken::Held);
+    assert!(rt; has_made(&first, 1, 2, (SlowStep::Give, 0, 1), false));
+    assert!(rt; has_made(&second, 2, 4, (SlowStep::Take, 0, 0), true));
     Ok(())
 }

@@ -2,6 +2,7 @@
 
 ghost use Rattle.std.specs.Prelude.{◌≡◌, ◌<◌, IfOk, length};
 
+use super::reels::are;
 use super::slow_shop::SlowShop;
 use crate::{ListStacks, ListedReel, Stacks, told_orders};
 use std::alloc::Global;
@@ -40,10 +41,17 @@ fn move_first(stacks: &mut ListStacks, letter: &[u8; 1]) -> Result<(), Fail>
 }
 
 /// Whether these are reels of these names of one letter, in order, all of them there.
-fn are(reels: &[ListedReel], names: &[u8]) -> bool {
-    reels.len() == names.len()
-        && reels.iter().zip(names).all(|(reel, name)| reel.name() == [*name].as_slice()
-            && reel.reel().is_some())
+fn all_are(reels: &[ListedReel], names: &[u8]) -> bool {
+    are(reels, names) && reels.iter().all(|reel| reel.reel().is_some())
+}
+
+/// Whether all reels are there, and the drives and the bin have these, in order.
+fn all_lie(stacks: &ListStacks, first: &[u8], second: &[u8], bin: &[u8]) -> bool
+    requires { length stacks.now.shop.racks ≡ 2 }
+{
+    all_are(stacks.stack(0), first)
+        && all_are(stacks.stack(1), second)
+        && all_are(stacks.bin(), bin)
 }
 
 /// Whether a reel of that letter is found where the plain ones say that it lies there, with what is written on it.
@@ -74,8 +82,40 @@ fn letters_of(alloc: Global, number: u32) -> Result<Vec<u8>, Fail> {
     Ok(letters)
 }
 
+/// Whether both have the same reels.
+fn are_alike(stacks: &ListStacks, slow: &SlowShop) -> bool
+    requires { length stacks.now.shop.racks ≡ 2 }
+{
+    all_lie(stacks, &slow.first.names, &slow.second.names, &slow.bin)
+        && b"abcdef"
+            .iter()
+            .all(|letter| is_found(stacks, slow, *letter))
+}
+
 /// Has the stacks and the plain ones arranged by these letters, at the first drive, where the plain ones say that it
 /// can be. Afterwards both have to have the same reels.
+fn arrange_both(
+    stacks: &mut ListStacks,
+    slow: &mut SlowShop,
+    names: &[&[u8]],
+    letters: &[u8],
+) -> Result<(), Fail>
+    requires { length stacks.old.shop.racks ≡ 2 }
+{
+    if stacks.can_arrange(0, names) != slow.can_arrange(letters) {
+        return Err(Fail::new("another answer"));
+    }
+    if stacks.can_arrange(0, names) {
+        stacks.arrange(0, names)?;
+        slow.arrange(letters)?;
+    }
+    if !are_alike(stacks, slow) {
+        return Err(Fail::new("other reels"));
+    }
+    Ok(())
+}
+
+/// Compares what comes of these letters.
 fn check(alloc: Global, letters: &[u8]) -> Result<(), Fail> {
     let mut stacks = five_reels(alloc)?;
     let mut slow = SlowShop::new(alloc, b"ab", b"c")?;
@@ -84,23 +124,7 @@ fn check(alloc: Global, letters: &[u8]) -> Result<(), Fail> {
     for letter in letters {
         names.push(std::slice::from_ref(letter))?;
     }
-    if stacks.can_arrange(0, &names) != slow.can_arrange(letters) {
-        return Err(Fail::new("another answer"));
-    }
-    if stacks.can_arrange(0, &names) {
-        stacks.arrange(0, &names)?;
-        slow.arrange(letters)?;
-    }
-    let alike = are(stacks.stack(0), &slow.first.names)
-        && are(stacks.stack(1), &slow.second.names)
-        && are(stacks.bin(), &slow.bin)
-        && b"abcdef"
-            .iter()
-            .all(|letter| is_found(&stacks, &slow, *letter));
-    if !alike {
-        return Err(Fail::new("other reels"));
-    }
-    Ok(())
+    arrange_both(&mut stacks, &mut slow, &names, letters)
 }
 
 #[test]
@@ -121,33 +145,32 @@ fn a_stack_becomes_the_reels_that_are_named(rt: HostRuntime) -> Result<(), Fail>
     if stacks.can_arrange(0, &names) {
         stacks.arrange(0, &names)?;
     }
-    assert!(rt; are(stacks.stack(0), b"eb"));
-    assert!(rt; are(stacks.stack(1), b"c"));
-    assert!(rt; are(stacks.bin(), b"da"));
+    assert!(rt; all_lie(&stacks, b"eb", b"c", b"da"));
     Ok(())
 }
 
-#[test]
-fn no_stack_is_arranged_while_its_reel_is_latched(rt: HostRuntime) -> Result<(), Fail> {
-    let mut stacks = five_reels(rt.alloc())?;
-    let reel = stacks.latch(0)?;
-    assert!(rt; !stacks.can_arrange(0, &[]));
-    assert!(rt; stacks.can_arrange(1, &[]));
-    drop(reel);
-    Ok(())
-}
+/// Names, and whether a reel of that name is found.
+const FOUND: [(&[u8], bool); 4] = [(b"a", true), (b"c", true), (b"d", true), (b"f", false)];
 
 #[test]
 fn a_reel_is_found_wherever_it_lies(rt: HostRuntime) -> Result<(), Fail> {
+    let stacks = five_reels(rt.alloc())?;
+    for (name, wanted) in FOUND {
+        assert!(rt; stacks.reel(name).is_some() == wanted, "{name:?}");
+    }
+    Ok(())
+}
+
+#[test]
+fn while_a_reel_is_latched_it_is_not_found_and_its_stack_not_arranged(
+    rt: HostRuntime,
+) -> Result<(), Fail> {
     let mut stacks = five_reels(rt.alloc())?;
-    assert!(rt; stacks.reel(b"a").is_some());
-    assert!(rt; stacks.reel(b"c").is_some());
-    assert!(rt; stacks.reel(b"d").is_some());
-    assert!(rt; stacks.reel(b"f").is_none());
     let mut reel = stacks.latch(0)?;
-    assert!(rt; stacks.reel(b"a").is_none());
+    let away = stacks.reel(b"a").is_none();
+    let fixed = !stacks.can_arrange(0, &[]) && stacks.can_arrange(1, &[]);
     reel.write(b"abc")?;
     stacks.unlatch(0, reel);
-    assert!(rt; stacks.reel(b"a").is_some());
+    assert!(rt; away && fixed && stacks.reel(b"a").is_some());
     Ok(())
 }

@@ -1,24 +1,12 @@
 //! Every short list of rounds at two drives, and what lies where after each, against plain lists.
 
-ghost use Rattle.std.specs.Prelude.{◌≡◌, ◌<◌, IfOk, length};
+ghost use Rattle.std.specs.Prelude.{◌≡◌, ◌<◌, length};
 
+use super::reels::{are, two_drives};
 use super::slow_shop::{Round, SlowDrive, SlowShop};
 use crate::{DriveFault, ListStacks, ListedReel, Stacks};
 use std::alloc::Global;
 use std::test::Fail;
-
-/// Two drives: the first with the reels a and b, the second with c.
-fn three_reels(alloc: Global) -> Result<ListStacks, Fail>
-    ensures { IfOk result (λ stacks. length stacks.shop.racks ≡ 2) }
-{
-    let mut stacks = ListStacks::new(alloc);
-    stacks.add_drive(b"/dev/st0")?;
-    stacks.add_drive(b"/dev/st1")?;
-    stacks.add_reel(0, b"a", 100)?;
-    stacks.add_reel(0, b"b", 100)?;
-    stacks.add_reel(1, b"c", 100)?;
-    Ok(stacks)
-}
 
 /// One round at a drive. Answers whether a reel could be latched.
 fn act(stacks: &mut ListStacks, drive: usize, round: Round) -> Result<bool, Fail>
@@ -42,20 +30,14 @@ fn act(stacks: &mut ListStacks, drive: usize, round: Round) -> Result<bool, Fail
     Ok(true)
 }
 
-/// Whether these are reels of these names, in order, and the first of them alone is away, if any.
-fn are(reels: &[ListedReel], names: &[u8], latched: bool) -> bool {
-    reels.len() == names.len()
-        && reels
-            .iter()
-            .zip(names)
-            .all(|(reel, name)| reel.name() == [*name].as_slice())
-        && reels.iter().enumerate().all(|(place, reel)| reel.reel().is_some()
-            != (latched && place == 0))
+/// Whether the first of the reels alone is away, or none.
+fn lie_there(reels: &[ListedReel], latched: bool) -> bool {
+    reels.iter().enumerate().all(|(place, reel)| reel.reel().is_some() != (latched && place == 0))
 }
 
 /// Whether the drive has the reels that the plain one has.
 fn is_as(reels: &[ListedReel], drive: &SlowDrive) -> bool {
-    are(reels, &drive.names, drive.latched)
+    are(reels, &drive.names) && lie_there(reels, drive.latched)
 }
 
 /// What is done in the round of that number.
@@ -80,7 +62,8 @@ fn compare(stacks: &mut ListStacks, slow: &mut SlowShop, number: u32) -> Result<
     }
     let alike = is_as(stacks.stack(0), &slow.first)
         && is_as(stacks.stack(1), &slow.second)
-        && are(stacks.bin(), &slow.bin, false);
+        && are(stacks.bin(), &slow.bin)
+        && lie_there(stacks.bin(), false);
     if !alike {
         return Err(Fail::new("other reels"));
     }
@@ -89,7 +72,7 @@ fn compare(stacks: &mut ListStacks, slow: &mut SlowShop, number: u32) -> Result<
 
 /// Four rounds, by the digits of a number in base 6.
 fn check(alloc: Global, number: u32) -> Result<(), Fail> {
-    let mut stacks = three_reels(alloc)?;
+    let mut stacks = two_drives(alloc)?;
     let mut slow = SlowShop::new(alloc, b"ab", b"c")?;
     compare(&mut stacks, &mut slow, number)?;
     compare(&mut stacks, &mut slow, number / 6)?;

@@ -3,49 +3,6 @@
 use super::failing::Failing;
 use crate::dates;
 use rmt_wire::Counted;
-use std::alloc::Global;
-use std::process::Abort;
-
-/// What is printed of this file, and with which status.
-fn check(
-    rt: &impl Abort,
-    alloc: Global,
-    file: &[u8],
-    asked: Option<(&str, u8)>,
-    want: &[u8],
-    status: u8,
-) {
-    let mut taken = Vec::new(alloc);
-    let mut out = Counted::new(&mut taken);
-    assert_eq!(rt; dates(alloc, file, asked, &mut out), status);
-    assert_eq!(rt; out.failures(), 0);
-    assert_eq!(rt; taken.as_slice(), want);
-}
-
-/// Files, and the text that each has anew. The dates come from the `date` command.
-const TEXTS: [(&[u8], &[u8]); 5] = [
-    (b"", b""),
-    (b" \t\n\n", b""),
-    (
-        b"/usr 0 Tue Feb 29 00:00:00 2000\n",
-        b"/usr                             0 Tue Feb 29 00:00:00 2000\n",
-    ),
-    (
-        b"\t/usr 1 Mon Mar 1 00:00:00 2000\n\n/usr 0 Tue Feb 29 00:00:00 2000",
-        b"/usr                             1 Wed Mar  1 00:00:00 2000\n/usr                             0 Tue Feb 29 00:00:00 2000\n",
-    ),
-    (
-        b"a 3 Sun Feb 29 12:34:56 2000",
-        b"a                                3 Tue Feb 29 12:34:56 2000\n",
-    ),
-];
-
-#[test]
-fn each_text_is_printed_anew(rt: HostRuntime) {
-    for (file, want) in TEXTS {
-        check(&rt, rt.alloc(), file, None, want, 0);
-    }
-}
 
 /// Two dumps of one file system.
 const TWO: &[u8] = b"/usr 0 Tue Feb 29 00:00:00 2000\n/usr 1 Wed Mar  1 00:00:00 2000\n";
@@ -54,35 +11,76 @@ const TWO: &[u8] = b"/usr 0 Tue Feb 29 00:00:00 2000\n/usr 1 Wed Mar  1 00:00:00
 const TWO_ANEW: &[u8] =
     b"/usr                             0 Tue Feb 29 00:00:00 2000\n/usr                             1 Wed Mar  1 00:00:00 2000\n";
 
-#[test]
-fn each_base_is_printed(rt: HostRuntime) {
-    let alloc = rt.alloc();
-    check(&rt, alloc, TWO, Some(("/usr", 2)), b"951868800\n", 0);
-    check(&rt, alloc, TWO, Some(("/usr", 1)), b"951782400\n", 0);
-    check(&rt, alloc, TWO, Some(("/usr", 0)), b"0\n", 0);
-    check(&rt, alloc, TWO, Some(("/home", 9)), b"0\n", 0);
-    let file = b"a 3 Sun Feb 29 12:34:56 2000".as_slice();
-    check(&rt, alloc, file, Some(("a", 4)), b"951827696\n", 0);
-    let file = b"a 0 Fri Dec 31 23:59:59 9999".as_slice();
-    check(&rt, alloc, file, Some(("a", 9)), b"253402300799\n", 0);
-}
+/// A file of a bad line.
+const BAD_LINE: &[u8] = b"a 0 Mon Jan 1 00:00:00 1970\n\nb 10 Thu Jan 1 00:00:00 1970\n";
 
-/// Bad files, and the line that each prints.
-const BAD: [(&[u8], &[u8]); 4] = [
+/// Files of bad dates.
+const FEBRUARY_30: &[u8] = b"/usr 0 Tue Feb 30 00:00:00 2000";
+
+const LEAP_2100: &[u8] = b"a 0 Mon Feb 29 00:00:00 2100";
+
+const LEAP_1968: &[u8] = b"a 0 Mon Feb 29 00:00:00 1968";
+
+/// A file, what is asked of it, and what is printed, with which status.
+type Row = (&'static [u8], Option<(&'static str, u8)>, &'static [u8], u8);
+
+/// Texts that are printed anew, bases, and bad files with their first bad line. The dates come from the `date` command.
+const ROWS: [Row; 19] = [
+    (b"", None, b"", 0),
+    (b" \t\n\n", None, b"", 0),
     (
-        b"a 0 Mon Jan 1 00:00:00 1970\n\nb 10 Thu Jan 1 00:00:00 1970\n",
-        b"line 3: bad line\n",
+        b"/usr 0 Tue Feb 29 00:00:00 2000\n",
+        None,
+        b"/usr                             0 Tue Feb 29 00:00:00 2000\n",
+        0,
     ),
-    (b"/usr 0 Tue Feb 30 00:00:00 2000", b"line 1: bad date\n"),
-    (b"a 0 Mon Feb 29 00:00:00 2100", b"line 1: bad date\n"),
-    (b"a 0 Mon Feb 29 00:00:00 1968", b"line 1: bad date\n"),
+    (
+        b"\t/usr 1 Mon Mar 1 00:00:00 2000\n\n/usr 0 Tue Feb 29 00:00:00 2000",
+        None,
+        b"/usr                             1 Wed Mar  1 00:00:00 2000\n/usr                             0 Tue Feb 29 00:00:00 2000\n",
+        0,
+    ),
+    (
+        b"a 3 Sun Feb 29 12:34:56 2000",
+        None,
+        b"a                                3 Tue Feb 29 12:34:56 2000\n",
+        0,
+    ),
+    (TWO, Some(("/usr", 2)), b"951868800\n", 0),
+    (TWO, Some(("/usr", 1)), b"951782400\n", 0),
+    (TWO, Some(("/usr", 0)), b"0\n", 0),
+    (TWO, Some(("/home", 9)), b"0\n", 0),
+    (
+        b"a 3 Sun Feb 29 12:34:56 2000",
+        Some(("a", 4)),
+        b"951827696\n",
+        0,
+    ),
+    (
+        b"a 0 Fri Dec 31 23:59:59 9999",
+        Some(("a", 9)),
+        b"253402300799\n",
+        0,
+    ),
+    (BAD_LINE, None, b"line 3: bad line\n", 1),
+    (BAD_LINE, Some(("a", 1)), b"line 3: bad line\n", 1),
+    (FEBRUARY_30, None, b"line 1: bad date\n", 1),
+    (FEBRUARY_30, Some(("a", 1)), b"line 1: bad date\n", 1),
+    (LEAP_2100, None, b"line 1: bad date\n", 1),
+    (LEAP_2100, Some(("a", 1)), b"line 1: bad date\n", 1),
+    (LEAP_1968, None, b"line 1: bad date\n", 1),
+    (LEAP_1968, Some(("a", 1)), b"line 1: bad date\n", 1),
 ];
 
 #[test]
-fn a_bad_file_prints_its_first_bad_line(rt: HostRuntime) {
-    for (file, want) in BAD {
-        check(&rt, rt.alloc(), file, None, want, 1);
-        check(&rt, rt.alloc(), file, Some(("a", 1)), want, 1);
+fn what_is_printed(rt: HostRuntime) {
+    for (file, asked, want, status) in ROWS {
+        let mut taken = Vec::new(rt.alloc());
+        let mut out = Counted::new(&mut taken);
+        let told = dates(rt.alloc(), file, asked, &mut out);
+        let failures = out.failures();
+        let good = taken.as_slice() == want && (told, failures) == (status, 0);
+        assert!(rt; good, "{asked:?} of {file:?}");
     }
 }
 

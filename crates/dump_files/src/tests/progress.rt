@@ -4,7 +4,6 @@ use crate::{Clearing, Gauge, ProgressLine, Shown};
 use dump_client::{Blocks, ListBlocks};
 use std::cell::Cell;
 use std::io::{self, Write};
-use std::process::Abort;
 use std::test::Fail;
 use std::time::{Clock, Duration};
 
@@ -85,31 +84,51 @@ fn a_block_is_shown_and_read(rt: HostRuntime) -> Result<(), Fail> {
     Ok(())
 }
 
-/// These blocks of so many bytes, one read 50 milliseconds after the other, are shown so.
-fn check_shown(rt: &impl Abort, text: &mut Vec<u8>, bytes: usize, reads: &[u32], wanted: &[u8]) {
+/// Reads of these blocks of so many bytes, one 50 milliseconds after the other, and what is shown of them.
+type Row = (usize, &'static [u32], &'static [u8]);
+
+/// A line each tenth of a second, in KiB and in MiB; a volume from the block on for which there was no room; and one
+/// that begins anew.
+const ROWS: [Row; 4] = [
+    (
+        1024,
+        &[0, 1, 2],
+        b"\rvolume 1, block 1 of 3, 0 KiB/s\x1b[K\rvolume 1, block 3 of 3, 20 KiB/s\x1b[K",
+    ),
+    (
+        1048576,
+        &[0, 1, 2],
+        b"\rvolume 1, block 1 of 3, 0 KiB/s\x1b[K\rvolume 1, block 3 of 3, 20 MiB/s\x1b[K",
+    ),
+    (
+        1024,
+        &[0, 1, 1],
+        b"\rvolume 1, block 1 of 3, 0 KiB/s\x1b[K\rvolume 2, block 2 of 3, 0 KiB/s\x1b[K",
+    ),
+    (
+        1024,
+        &[0, 1, 0],
+        b"\rvolume 1, block 1 of 3, 0 KiB/s\x1b[K\rvolume 1, block 1 of 3, 0 KiB/s\x1b[K",
+    ),
+];
+
+/// What is shown of such reads.
+fn show(text: &mut Vec<u8>, bytes: usize, reads: &[u32]) {
     let clock = Ticking::new();
-    let mut line = ProgressLine::new(&clock, &mut *text);
+    let mut line = ProgressLine::new(&clock, text);
     line.begin(3);
     for block in reads {
         line.show(*block, bytes);
     }
-    assert_eq!(rt; text.as_slice(), wanted);
 }
 
 #[test]
-fn a_line_each_tenth_of_a_second(rt: HostRuntime) {
-    let slow = b"\rvolume 1, block 1 of 3, 0 KiB/s\x1b[K\rvolume 1, block 3 of 3, 20 KiB/s\x1b[K";
-    check_shown(&rt, &mut Vec::new(rt.alloc()), 1024, &[0, 1, 2], slow);
-    let fast = b"\rvolume 1, block 1 of 3, 0 KiB/s\x1b[K\rvolume 1, block 3 of 3, 20 MiB/s\x1b[K";
-    check_shown(&rt, &mut Vec::new(rt.alloc()), 1 << 20, &[0, 1, 2], fast);
-}
-
-#[test]
-fn a_volume_from_the_block_without_room(rt: HostRuntime) {
-    let next = b"\rvolume 1, block 1 of 3, 0 KiB/s\x1b[K\rvolume 2, block 2 of 3, 0 KiB/s\x1b[K";
-    check_shown(&rt, &mut Vec::new(rt.alloc()), 1024, &[0, 1, 1], next);
-    let again = b"\rvolume 1, block 1 of 3, 0 KiB/s\x1b[K\rvolume 1, block 1 of 3, 0 KiB/s\x1b[K";
-    check_shown(&rt, &mut Vec::new(rt.alloc()), 1024, &[0, 1, 0], again);
+fn lines_of_progress(rt: HostRuntime) {
+    for (bytes, reads, wanted) in ROWS {
+        let mut text = Vec::new(rt.alloc());
+        show(&mut text, bytes, reads);
+        assert!(rt; text.as_slice() == wanted, "{reads:?}, {bytes}");
+    }
 }
 
 #[test]

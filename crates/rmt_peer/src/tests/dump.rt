@@ -6,7 +6,6 @@ use crate::{dump, print_text};
 use dump_client::{Client, ListBlocks, Run};
 use rmt_wire::Counted;
 use std::alloc::Global;
-use std::process::Abort;
 use std::test::Fail;
 
 const BLOCK_BYTES: usize = 1024;
@@ -53,43 +52,48 @@ fn client(alloc: Global, blocks: u32) -> Result<Client<ListBlocks>, Fail>
     Ok(Client::new(alloc, run, source)?)
 }
 
-/// A dump of three blocks ends so, and prints that.
-fn check_dump(
-    rt: &impl Abort,
-    alloc: Global,
-    connections: &[Replies<'_>],
-    mut says: &[u8],
-    printed: &[u8],
-    status: u8,
-) -> Result<(), Fail> {
-    let mut client = client(alloc, 3)?;
-    let mut peer = FakePeer::new(alloc, connections);
-    let mut out = Counted::new(Vec::new(alloc));
-    let told = dump(alloc, &mut client, &mut peer, &mut says, &mut out);
-    assert_eq!(rt; out.into_inner().as_slice(), printed);
-    assert_eq!(rt; told, status);
+/// A dump of three blocks: the replies of each connection, what the operator says, what is printed, and the status.
+type Row = (
+    &'static [Replies<'static>],
+    &'static [u8],
+    &'static [u8],
+    u8,
+);
+
+/// Two volumes; an abandon; and a retry, where the third connection is made after `yes`, and the fourth cannot be.
+const ROWS: [Row; 3] = [
+    (
+        &[FULL, LAST],
+        b"",
+        b"volume 1: 2 blocks from 0\nvolume 2: 1 blocks from 2\ndump complete: 2 volumes, 3 blocks\n",
+        0,
+    ),
+    (
+        &[FULL, EMPTY],
+        b"",
+        b"volume 1: 2 blocks from 0\nvolume 2 failed: Refused 6\nretry?\ndump abandoned\n",
+        3,
+    ),
+    (
+        &[EMPTY, FULL],
+        b"yes\nno\n",
+        b"volume 1 failed: Refused 6\nretry?\nvolume 1: 2 blocks from 0\nvolume 2 failed: ConnectionEnded\nretry?\ndump abandoned\n",
+        3,
+    ),
+];
+
+#[test]
+fn dumps_and_their_lines(rt: HostRuntime) -> Result<(), Fail> {
+    for (connections, said, printed, status) in ROWS {
+        let mut client = client(rt.alloc(), 3)?;
+        let mut peer = FakePeer::new(rt.alloc(), connections);
+        let mut says = said;
+        let mut out = Counted::new(Vec::new(rt.alloc()));
+        let told = dump(rt.alloc(), &mut client, &mut peer, &mut says, &mut out);
+        assert!(rt; out.into_inner().as_slice() == printed, "{printed:?}");
+        assert_eq!(rt; told, status);
+    }
     Ok(())
-}
-
-#[test]
-fn two_volumes(rt: HostRuntime) -> Result<(), Fail> {
-    let lines =
-        b"volume 1: 2 blocks from 0\nvolume 2: 1 blocks from 2\ndump complete: 2 volumes, 3 blocks\n";
-    check_dump(&rt, rt.alloc(), &[FULL, LAST], b"", lines, 0)
-}
-
-#[test]
-fn an_abandon(rt: HostRuntime) -> Result<(), Fail> {
-    let lines = b"volume 1: 2 blocks from 0\nvolume 2 failed: Refused 6\nretry?\ndump abandoned\n";
-    check_dump(&rt, rt.alloc(), &[FULL, EMPTY], b"", lines, 3)
-}
-
-/// The third connection is made after `yes`, and the fourth cannot be.
-#[test]
-fn a_retry(rt: HostRuntime) -> Result<(), Fail> {
-    let lines =
-        b"volume 1 failed: Refused 6\nretry?\nvolume 1: 2 blocks from 0\nvolume 2 failed: ConnectionEnded\nretry?\ndump abandoned\n";
-    check_dump(&rt, rt.alloc(), &[EMPTY, FULL], b"yes\nno\n", lines, 3)
 }
 
 /// Once a line could not be printed nothing more is printed or sent.

@@ -1,7 +1,9 @@
-//! Attempts of a client at drives in memory, from its requests to the reels. Capacities are in bytes.
+//! Attempts of a client at drives in memory, from its requests to the reels, as tables of moves. Capacities are in
+//! bytes.
 
 use super::link::{Dumper, Link, dumper};
 use drives::{ListStacks, ListedReel, Stacks};
+use dump_client::Progress::{Ended, Failed, Send};
 use dump_client::{Answer, AttemptFault, Progress, State, VolumeCount};
 use dumpdates::Dates;
 use std::alloc::Global;
@@ -18,17 +20,225 @@ const FIRST_LABEL: &[u8] = b"name /usr\nlevel 0\ndate 951782400\nsince 0\nvolume
 
 const SECOND_LABEL: &[u8] = b"name /usr\nlevel 0\ndate 951782400\nsince 0\nvolume 2\nfirst 2\n";
 
-/// Blocks 0 and 1 on the first volume, and block 2 on the second.
-const COUNTS: [VolumeCount; 2] = [
-    VolumeCount {
-        volume: 1,
-        first: 0,
-        count: 2,
+/// The line of the run in dumpdates.
+const LINE: &[u8] = b"/usr                             0 Tue Feb 29 00:00:00 2000\n";
+
+/// Blocks 0 and 1 on the first volume.
+const FIRST: VolumeCount = VolumeCount {
+    volume: 1,
+    first: 0,
+    count: 2,
+};
+
+/// Block 2 on the second.
+const SECOND: VolumeCount = VolumeCount {
+    volume: 2,
+    first: 2,
+    count: 1,
+};
+
+/// A volume of a run without blocks.
+const EMPTY: VolumeCount = VolumeCount {
+    volume: 1,
+    first: 0,
+    count: 0,
+};
+
+/// The names of reels.
+type Names = &'static [&'static [u8]];
+
+/// One move of a dump, and what is wanted of it.
+#[derive(Clone, Copy)]
+enum Move {
+    /// An attempt starts, on a new connection.
+    Connects,
+    /// So many requests are answered, and this comes of the last.
+    Pumps(usize, Progress),
+    /// A request is carried out and replied to with these bytes, of which the client hears nothing.
+    Sends(&'static [u8]),
+    /// The client's connection ends before the count.
+    Loses,
+    /// The operator wants another attempt.
+    Retries,
+    /// The session of the connection ends.
+    Ends,
+    /// The session of the connection before ends.
+    EndsStale,
+    /// The client is in this state.
+    Stands(State),
+    /// This is counted, and this volume and block are next.
+    Counted(&'static [VolumeCount], (u32, u32)),
+    /// The open reel is this label, blocks of these bytes, and after them a mark where it is marked.
+    Reel(&'static [u8], &'static [u8], bool),
+    /// The bin has these reels.
+    Bin(Names),
+    /// The drive's stack has these reels.
+    Stack(Names),
+    /// The run is finished, and its line in dumpdates is `LINE`.
+    Finished,
+    /// No entry is told.
+    Unfinished,
+}
+
+/// The first volume of three blocks is written to a reel with room for two, and is counted. The reel has the whole
+/// volume before it is counted.
+const FIRST_VOLUME: &[Move] = &[
+    Move::Connects,
+    Move::Pumps(7, Send),
+    Move::Counted(&[], (1, 0)),
+    Move::Reel(FIRST_LABEL, &[0, 1], true),
+    Move::Pumps(2, Ended),
+    Move::Ends,
+    Move::Counted(&[FIRST], (2, 2)),
+    Move::Stands(State::Ready),
+    Move::Unfinished,
+];
+
+/// So is the second volume, which is the run's last.
+const SECOND_VOLUME: &[Move] = &[
+    Move::Connects,
+    Move::Pumps(5, Send),
+    Move::Counted(&[FIRST], (2, 2)),
+    Move::Reel(SECOND_LABEL, &[2], true),
+    Move::Pumps(2, Ended),
+    Move::Ends,
+    Move::Counted(&[FIRST, SECOND], (3, 3)),
+    Move::Finished,
+];
+
+/// The label is on the reel and no block; nothing is counted.
+const LABEL_ALONE: &[Move] = &[
+    Move::Connects,
+    Move::Pumps(9, Failed(AttemptFault::ReelTooSmall)),
+    Move::Stands(State::Asking),
+    Move::Counted(&[], (1, 0)),
+    Move::Reel(FIRST_LABEL, &[], false),
+    Move::Ends,
+    Move::Stack(&[b"r1"]),
+    Move::Bin(&[]),
+];
+
+/// A run of no blocks is one volume: its label and a mark.
+const NO_BLOCKS: &[Move] = &[
+    Move::Connects,
+    Move::Pumps(4, Send),
+    Move::Counted(&[], (1, 0)),
+    Move::Reel(FIRST_LABEL, &[], true),
+    Move::Pumps(2, Ended),
+    Move::Ends,
+    Move::Counted(&[EMPTY], (2, 0)),
+    Move::Finished,
+    Move::Bin(&[b"r1"]),
+    Move::Stack(&[]),
+];
+
+/// The reel is moved to the bin, but the answer that says so is lost with the connection: the volume is whole there, and
+/// is not counted.
+const LOST_MOVE: &[Move] = &[
+    Move::Connects,
+    Move::Pumps(7, Send),
+    Move::Counted(&[], (1, 0)),
+    Move::Reel(FIRST_LABEL, &[0, 1], true),
+    Move::Sends(b"A1\n"),
+    Move::Loses,
+    Move::Counted(&[], (1, 0)),
+    Move::Retries,
+    Move::Ends,
+    Move::Bin(&[b"r1"]),
+];
+
+/// What is counted stays so where the next attempt finds no reel.
+const NO_REEL: &[Move] = &[
+    Move::Connects,
+    Move::Pumps(9, Failed(AttemptFault::Refused(6))),
+    Move::Stands(State::Asking),
+    Move::Counted(&[FIRST], (2, 2)),
+    Move::Bin(&[b"r1"]),
+];
+
+/// The client loses its connection behind the label, and its next attempt finds the drive held by the session of the
+/// first, which ends then.
+const STALE: &[Move] = &[
+    Move::Connects,
+    Move::Pumps(3, Send),
+    Move::Loses,
+    Move::Counted(&[], (1, 0)),
+    Move::Retries,
+    Move::Connects,
+    Move::Pumps(9, Failed(AttemptFault::Refused(16))),
+    Move::Stands(State::Asking),
+    Move::Counted(&[], (1, 0)),
+    Move::EndsStale,
+    Move::Retries,
+];
+
+/// A dump of at most three blocks to reels of one capacity, in parts.
+#[derive(Clone, Copy)]
+struct Case {
+    name: &'static str,
+    capacity: u64,
+    reels: Names,
+    blocks: u32,
+    parts: &'static [&'static [Move]],
+}
+
+const CASES: [Case; 6] = [
+    Case {
+        name: "three blocks on two reels, in the order in which they lie on the stack",
+        capacity: THREE_RECORDS,
+        reels: &[b"r1", b"r2"],
+        blocks: 3,
+        parts: &[
+            &[Move::Counted(&[], (1, 0))],
+            FIRST_VOLUME,
+            SECOND_VOLUME,
+            &[Move::Bin(&[b"r1", b"r2"]), Move::Stack(&[])],
+        ],
     },
-    VolumeCount {
-        volume: 2,
-        first: 2,
-        count: 1,
+    Case {
+        name: "a reel for the label alone",
+        capacity: ONE_RECORD,
+        reels: &[b"r1"],
+        blocks: 1,
+        parts: &[LABEL_ALONE],
+    },
+    Case {
+        name: "no blocks",
+        capacity: ONE_RECORD,
+        reels: &[b"r1"],
+        blocks: 0,
+        parts: &[NO_BLOCKS],
+    },
+    Case {
+        name: "a lost answer to the move",
+        capacity: THREE_RECORDS,
+        reels: &[b"r1", b"r2", b"r3"],
+        blocks: 3,
+        parts: &[
+            LOST_MOVE,
+            FIRST_VOLUME,
+            &[Move::Bin(&[b"r1", b"r2"])],
+            SECOND_VOLUME,
+            &[Move::Bin(&[b"r1", b"r2", b"r3"])],
+        ],
+    },
+    Case {
+        name: "no reel for the second volume",
+        capacity: THREE_RECORDS,
+        reels: &[b"r1"],
+        blocks: 3,
+        parts: &[FIRST_VOLUME, NO_REEL],
+    },
+    Case {
+        name: "a stale session holds the drive until it ends; what it wrote is lost to the attempt after that",
+        capacity: THREE_RECORDS,
+        reels: &[b"r1", b"r2"],
+        blocks: 3,
+        parts: &[
+            STALE,
+            FIRST_VOLUME,
+            &[Move::Bin(&[b"r1"]), Move::Stack(&[b"r2"])],
+        ],
     },
 ];
 
@@ -49,279 +259,150 @@ fn has_stack(stacks: &ListStacks, names: &[&[u8]]) -> bool {
     }
 }
 
-/// What the session answers to a request.
-fn check_said(rt: &impl Abort, link: &mut Link, asked: &[u8], wanted: &[u8]) -> Result<(), Fail> {
-    assert_eq!(rt; link.serve(asked)?.as_slice(), wanted);
-    Ok(())
+/// Whether the session answers a request so.
+fn is_said(link: &mut Link, asked: &[u8], wanted: &[u8]) -> bool {
+    match link.serve(asked) {
+        Some(reply) => reply.as_slice() == wanted,
+        None => false,
+    }
 }
 
-/// The next record of the open reel begins with these bytes, and has 1,024 with as many of `fill` as that takes.
-fn check_record(rt: &impl Abort, link: &mut Link, begin: &[u8], fill: u8) -> Result<(), Fail> {
-    let reply = link.serve(b"R65536\n")?;
-    let Some(record) = reply.as_slice().strip_prefix(b"A1024\n") else {
-        return Err(Fail::new("not a record of 1024 bytes"));
+/// Whether bytes are these, and after them as many of `fill` as 1,024 take.
+fn is_record(bytes: &[u8], begin: &[u8], fill: u8) -> bool {
+    bytes.len() == 1024
+        && bytes.starts_with(begin)
+        && bytes.iter().skip(begin.len()).all(|b| *b == fill)
+}
+
+/// Whether the next record of the open reel is such.
+fn is_next(link: &mut Link, begin: &[u8], fill: u8) -> bool {
+    let Some(reply) = link.serve(b"R65536\n") else {
+        return false;
     };
-    assert_eq!(rt; record.len(), 1024);
-    assert!(rt; record.starts_with(begin));
-    assert!(rt; record.iter().skip(begin.len()).all(|b| *b == fill));
-    Ok(())
+    match reply.as_slice().strip_prefix(b"A1024\n") {
+        Some(record) => is_record(record, begin, fill),
+        None => false,
+    }
 }
 
-/// The open reel is this label, these blocks, and after them a mark where it is `marked`.
+/// Whether the next records of the open reel are blocks, each of one of these bytes.
+fn are_next(link: &mut Link, blocks: &[u8]) -> bool {
+    for block in blocks {
+        if !is_next(link, b"", *block) {
+            return false;
+        }
+    }
+    true
+}
+
+/// Whether the open reel is this label, these blocks, and after them a mark where it is `marked`.
 ///
 /// Behind the records a read gives nothing, there is no mark ahead of that, and a mark stands last, or a record.
-fn check_reel(
-    rt: &impl Abort,
-    link: &mut Link,
-    label: &[u8],
-    blocks: &[u8],
-    marked: bool,
-) -> Result<(), Fail> {
+fn is_reel(link: &mut Link, label: &[u8], blocks: &[u8], marked: bool) -> bool {
     let none = b"E5\nInput/output error\n".as_slice();
-    check_said(rt, link, b"I5\n1\n", b"A1\n")?;
-    check_record(rt, link, label, 0)?;
-    for block in blocks {
-        check_record(rt, link, b"", *block)?;
-    }
-    check_said(rt, link, b"R65536\n", b"A0\n")?;
-    check_said(rt, link, b"I1\n1\n", none)?;
-    check_said(rt, link, b"I4\n1\n", if marked { none } else { b"A1\n" })
+    is_said(link, b"I5\n1\n", b"A1\n")
+        && is_next(link, label, 0)
+        && are_next(link, blocks)
+        && is_said(link, b"R65536\n", b"A0\n")
+        && is_said(link, b"I1\n1\n", none)
+        && is_said(link, b"I4\n1\n", if marked { none } else { b"A1\n" })
 }
 
-/// What is counted, and the volume and the block that are next.
-fn check_counted(rt: &impl Abort, dumper: &Dumper, counts: &[VolumeCount], next: (u32, u32)) {
-    assert_eq!(rt; dumper.counted(), counts);
-    assert_eq!(rt; dumper.checkpoint(), next);
-}
-
-/// The run is finished, and this is its line in dumpdates.
-fn check_finished(rt: &impl Abort, alloc: Global, dumper: &Dumper) -> Result<(), Fail> {
-    let line = b"/usr                             0 Tue Feb 29 00:00:00 2000\n".as_slice();
-    assert_eq!(rt; dumper.state(), State::Finished);
+/// Whether the run is finished, and this is its line in dumpdates. None where memory is wanting.
+fn is_finished(alloc: Global, dumper: &Dumper) -> Option<bool> {
     let Some(entry) = dumper.finished() else {
-        return Err(Fail::new("no entry"));
+        return Some(false);
     };
-    assert_eq!(rt;
-        (entry.name, entry.level, entry.date),
-        ("/usr", 0, 951782400)
-    );
-    let mut dates = Dates::read(alloc, b"")?;
-    dates.enter(entry)?;
-    assert_eq!(rt; dates.text()?.as_slice(), line);
-    Ok(())
+    let told = (entry.name, entry.level, entry.date) == ("/usr", 0, 951782400);
+    let mut dates = Dates::read(alloc, b"").ok()?;
+    dates.enter(entry).ok()?;
+    let text = dates.text().ok()?;
+    Some(told && dumper.state() == State::Finished && text.as_slice() == LINE)
 }
 
-/// An attempt on a new connection fails so.
-fn check_fails(
-    rt: &impl Abort,
-    link: &mut Link,
-    dumper: &mut Dumper,
-    fault: AttemptFault,
-) -> Result<(), Fail> {
-    link.connect(dumper)?;
-    assert_eq!(rt; link.pump(dumper, 9)?, Progress::Failed(fault));
-    assert_eq!(rt; dumper.state(), State::Asking);
-    Ok(())
+/// Makes a move of the client and its connection. None where it is another, or fails.
+fn goes_on(link: &mut Link, dumper: &mut Dumper, next: Move) -> Option<bool> {
+    match next {
+        Move::Connects => link.connect(dumper)?,
+        Move::Pumps(most, progress) => return Some(link.pump(dumper, most)? == progress),
+        Move::Sends(reply) => return Some(link.send(dumper)?.as_slice() == reply),
+        Move::Loses => return Some(dumper.ended() == Failed(AttemptFault::ConnectionEnded)),
+        Move::Retries => dumper.answer(Answer::Retry).ok()?,
+        Move::Ends => link.end(),
+        Move::EndsStale => link.end_stale(),
+        _ => return None,
+    }
+    Some(true)
 }
 
-/// The connection ends, and the operator wants another attempt.
-fn lose(rt: &impl Abort, dumper: &mut Dumper) -> Result<(), Fail> {
-    let failed = Progress::Failed(AttemptFault::ConnectionEnded);
-    assert_eq!(rt; dumper.ended(), failed);
-    check_counted(rt, dumper, &[], (1, 0));
-    dumper.answer(Answer::Retry)?;
-    Ok(())
+/// Whether the client stands so.
+fn stands(alloc: Global, dumper: &Dumper, next: Move) -> Option<bool> {
+    match next {
+        Move::Stands(state) => Some(dumper.state() == state),
+        Move::Counted(counts, next) => Some(
+            dumper.counted() == counts && dumper.checkpoint() == next,
+        ),
+        Move::Finished => is_finished(alloc, dumper),
+        Move::Unfinished => Some(dumper.finished().is_none()),
+        _ => None,
+    }
 }
 
-/// An attempt on a new connection up to the mark: so many requests are answered. The reel has the whole volume then,
-/// which is not counted yet.
-fn write_volume(
-    rt: &impl Abort,
-    link: &mut Link,
-    dumper: &mut Dumper,
-    requests: usize,
-    label: &[u8],
-    blocks: &[u8],
-) -> Result<(), Fail> {
-    let counted = dumper.counted().len();
-    link.connect(dumper)?;
-    assert_eq!(rt; link.pump(dumper, requests)?, Progress::Send);
-    assert_eq!(rt; dumper.counted().len(), counted);
-    check_reel(rt, link, label, blocks, true)
+/// Whether the reels are so.
+fn lies(link: &mut Link, next: Move) -> bool {
+    match next {
+        Move::Reel(label, blocks, marked) => is_reel(link, label, blocks, marked),
+        Move::Bin(names) => are_reels(link.drives.stacks.bin(), names),
+        Move::Stack(names) => has_stack(&link.drives.stacks, names),
+        _ => false,
+    }
 }
 
-/// The volume is counted by the rest of the attempt, and its session ends.
-fn end_volume(rt: &impl Abort, link: &mut Link, dumper: &mut Dumper) -> Result<(), Fail> {
-    assert_eq!(rt; link.pump(dumper, 2)?, Progress::Ended);
-    link.end();
-    Ok(())
+/// Makes a move. Whether all was as is wanted.
+fn makes(alloc: Global, link: &mut Link, dumper: &mut Dumper, next: Move) -> bool {
+    if let Some(good) = goes_on(link, dumper, next) {
+        return good;
+    }
+    match stands(alloc, dumper, next) {
+        Some(good) => good,
+        None => lies(link, next),
+    }
 }
 
-/// The first volume of three blocks, on a reel with room for two.
-fn write_first(rt: &impl Abort, link: &mut Link, dumper: &mut Dumper) -> Result<(), Fail> {
-    write_volume(rt, link, dumper, 7, FIRST_LABEL, &[0, 1])
-}
-
-/// That volume is written and counted.
-fn count_first(rt: &impl Abort, link: &mut Link, dumper: &mut Dumper) -> Result<(), Fail> {
-    write_first(rt, link, dumper)?;
-    end_volume(rt, link, dumper)?;
-    check_counted(rt, dumper, &COUNTS[..1], (2, 2));
-    assert_eq!(rt; dumper.state(), State::Ready);
-    assert!(rt; dumper.finished().is_none());
-    Ok(())
-}
-
-/// The second volume, which is the run's last, is written and counted.
-fn count_second(rt: &impl Abort, link: &mut Link, dumper: &mut Dumper) -> Result<(), Fail> {
-    write_volume(rt, link, dumper, 5, SECOND_LABEL, &[2])?;
-    end_volume(rt, link, dumper)?;
-    check_counted(rt, dumper, &COUNTS, (3, 3));
-    Ok(())
-}
-
-/// Two reels take two volumes, in the order in which they lie on the stack.
-fn dump_two_volumes(
-    rt: &impl Abort,
+/// Where the moves are not as is wanted: the first such, counted from 0.
+fn wrong_move(
     alloc: Global,
     link: &mut Link,
     dumper: &mut Dumper,
-) -> Result<(), Fail> {
-    check_counted(rt, dumper, &[], (1, 0));
-    count_first(rt, link, dumper)?;
-    count_second(rt, link, dumper)?;
-    check_finished(rt, alloc, dumper)?;
-    assert!(rt; are_reels(link.drives.stacks.bin(), &[b"r1", b"r2"]));
-    assert!(rt; has_stack(&link.drives.stacks, &[]));
+    moves: &[Move],
+) -> Option<usize> {
+    for (at, next) in moves.iter().enumerate() {
+        if !makes(alloc, link, dumper, *next) {
+            return Some(at);
+        }
+    }
+    None
+}
+
+/// A dump goes as the moves of its parts say.
+fn check_case(rt: &impl Abort, alloc: Global, case: &Case) -> Result<(), Fail> {
+    if case.blocks > 3 {
+        return Err(Fail::new("too many blocks"));
+    }
+    let mut link = Link::new(alloc, case.capacity, case.reels)?;
+    let mut dumper = dumper(alloc, case.blocks)?;
+    let name = case.name;
+    for (part, moves) in case.parts.iter().enumerate() {
+        let wrong = wrong_move(alloc, &mut link, &mut dumper, moves);
+        assert!(rt; wrong.is_none(), "{name}: part {part}, move {wrong:?}");
+    }
     Ok(())
 }
 
 #[test]
-fn three_blocks_on_two_reels(rt: HostRuntime) -> Result<(), Fail> {
-    let mut link = Link::new(rt.alloc(), THREE_RECORDS, &[b"r1", b"r2"])?;
-    let mut dumper = dumper(rt.alloc(), 3)?;
-    dump_two_volumes(&rt, rt.alloc(), &mut link, &mut dumper)
-}
-
-/// The label is on the reel and no block; nothing is counted.
-fn dump_the_label_alone(rt: &impl Abort, link: &mut Link, dumper: &mut Dumper) -> Result<(), Fail> {
-    check_fails(rt, link, dumper, AttemptFault::ReelTooSmall)?;
-    check_counted(rt, dumper, &[], (1, 0));
-    check_reel(rt, link, FIRST_LABEL, &[], false)?;
-    link.end();
-    assert!(rt; has_stack(&link.drives.stacks, &[b"r1"]));
-    assert!(rt; link.drives.stacks.bin().is_empty());
+fn dumps(rt: HostRuntime) -> Result<(), Fail> {
+    for case in CASES {
+        check_case(&rt, rt.alloc(), &case)?;
+    }
     Ok(())
-}
-
-#[test]
-fn a_reel_for_the_label_alone(rt: HostRuntime) -> Result<(), Fail> {
-    let mut link = Link::new(rt.alloc(), ONE_RECORD, &[b"r1"])?;
-    let mut dumper = dumper(rt.alloc(), 1)?;
-    dump_the_label_alone(&rt, &mut link, &mut dumper)
-}
-
-/// A run of no blocks is one volume: its label and a mark.
-fn dump_no_blocks(
-    rt: &impl Abort,
-    alloc: Global,
-    link: &mut Link,
-    dumper: &mut Dumper,
-) -> Result<(), Fail> {
-    let whole = VolumeCount {
-        volume: 1,
-        first: 0,
-        count: 0,
-    };
-    write_volume(rt, link, dumper, 4, FIRST_LABEL, &[])?;
-    end_volume(rt, link, dumper)?;
-    check_counted(rt, dumper, &[whole], (2, 0));
-    check_finished(rt, alloc, dumper)?;
-    assert!(rt; are_reels(link.drives.stacks.bin(), &[b"r1"]));
-    assert!(rt; has_stack(&link.drives.stacks, &[]));
-    Ok(())
-}
-
-#[test]
-fn no_blocks(rt: HostRuntime) -> Result<(), Fail> {
-    let mut link = Link::new(rt.alloc(), ONE_RECORD, &[b"r1"])?;
-    let mut dumper = dumper(rt.alloc(), 0)?;
-    dump_no_blocks(&rt, rt.alloc(), &mut link, &mut dumper)
-}
-
-/// The reel is moved to the bin, but the answer that says so is lost with the connection.
-fn lose_the_move(rt: &impl Abort, link: &mut Link, dumper: &mut Dumper) -> Result<(), Fail> {
-    write_first(rt, link, dumper)?;
-    assert_eq!(rt; link.send(dumper)?.as_slice(), b"A1\n".as_slice());
-    lose(rt, dumper)?;
-    link.end();
-    assert!(rt; are_reels(link.drives.stacks.bin(), &[b"r1"]));
-    Ok(())
-}
-
-/// The first reel has a whole volume and lies in the bin, and is not counted.
-fn dump_past_a_lost_move(
-    rt: &impl Abort,
-    alloc: Global,
-    link: &mut Link,
-    dumper: &mut Dumper,
-) -> Result<(), Fail> {
-    lose_the_move(rt, link, dumper)?;
-    count_first(rt, link, dumper)?;
-    assert!(rt; are_reels(link.drives.stacks.bin(), &[b"r1", b"r2"]));
-    count_second(rt, link, dumper)?;
-    assert!(rt; are_reels(link.drives.stacks.bin(), &[b"r1", b"r2", b"r3"]));
-    check_finished(rt, alloc, dumper)
-}
-
-#[test]
-fn a_lost_answer_to_the_move(rt: HostRuntime) -> Result<(), Fail> {
-    let mut link = Link::new(rt.alloc(), THREE_RECORDS, &[b"r1", b"r2", b"r3"])?;
-    let mut dumper = dumper(rt.alloc(), 3)?;
-    dump_past_a_lost_move(&rt, rt.alloc(), &mut link, &mut dumper)
-}
-
-/// What is counted stays so where the next attempt finds no reel.
-fn dump_to_one_reel(rt: &impl Abort, link: &mut Link, dumper: &mut Dumper) -> Result<(), Fail> {
-    count_first(rt, link, dumper)?;
-    check_fails(rt, link, dumper, AttemptFault::Refused(6))?;
-    check_counted(rt, dumper, &COUNTS[..1], (2, 2));
-    assert!(rt; are_reels(link.drives.stacks.bin(), &[b"r1"]));
-    Ok(())
-}
-
-#[test]
-fn no_reel_for_the_second_volume(rt: HostRuntime) -> Result<(), Fail> {
-    let mut link = Link::new(rt.alloc(), THREE_RECORDS, &[b"r1"])?;
-    let mut dumper = dumper(rt.alloc(), 3)?;
-    dump_to_one_reel(&rt, &mut link, &mut dumper)
-}
-
-/// The client loses its connection behind the label, and its next attempt finds the drive held by the session of the
-/// first, which ends then.
-fn meet_the_stale(rt: &impl Abort, link: &mut Link, dumper: &mut Dumper) -> Result<(), Fail> {
-    link.connect(dumper)?;
-    assert_eq!(rt; link.pump(dumper, 3)?, Progress::Send);
-    lose(rt, dumper)?;
-    check_fails(rt, link, dumper, AttemptFault::Refused(16))?;
-    check_counted(rt, dumper, &[], (1, 0));
-    link.end_stale();
-    dumper.answer(Answer::Retry)?;
-    Ok(())
-}
-
-/// A session whose client is gone holds the drive until it ends; what it wrote is lost to the attempt after that.
-fn dump_past_the_stale(rt: &impl Abort, link: &mut Link, dumper: &mut Dumper) -> Result<(), Fail> {
-    meet_the_stale(rt, link, dumper)?;
-    count_first(rt, link, dumper)?;
-    assert!(rt; are_reels(link.drives.stacks.bin(), &[b"r1"]));
-    assert!(rt; has_stack(&link.drives.stacks, &[b"r2"]));
-    Ok(())
-}
-
-#[test]
-fn a_stale_session(rt: HostRuntime) -> Result<(), Fail> {
-    let mut link = Link::new(rt.alloc(), THREE_RECORDS, &[b"r1", b"r2"])?;
-    let mut dumper = dumper(rt.alloc(), 3)?;
-    dump_past_the_stale(&rt, &mut link, &mut dumper)
 }

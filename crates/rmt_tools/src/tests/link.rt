@@ -164,13 +164,10 @@ impl Link {
     }
 
     /// The client starts an attempt on a new connection, which has a reader and a session of its own. The session of
-    /// the connection before is as it was; that of the one before it has ended.
-    pub(super) fn connect(&mut self, dumper: &mut Dumper) -> Result<(), Fail> {
-        dumper.start()?;
-        match self.renew() {
-            Some(()) => Ok(()),
-            None => Err(Fail::new("no connection")),
-        }
+    /// the connection before is as it was; that of the one before it has ended. None where that cannot be.
+    pub(super) fn connect(&mut self, dumper: &mut Dumper) -> Option<()> {
+        dumper.start().ok()?;
+        self.renew()
     }
 
     /// A new connection with a session of its own, as `connect` has it.
@@ -185,16 +182,9 @@ impl Link {
         Some(())
     }
 
-    /// Carries out the one request that these bytes are, and answers the bytes of the reply.
-    pub(super) fn serve(&mut self, bytes: &[u8]) -> Result<Vec<u8>, Fail> {
-        match self.reply_to(bytes) {
-            Some(reply) => Ok(reply),
-            None => Err(Fail::new("no reply")),
-        }
-    }
-
-    /// The same; None where there is no room, no request, or no reply.
-    fn reply_to(&mut self, bytes: &[u8]) -> Option<Vec<u8>> {
+    /// Carries out the one request that these bytes are, and answers the bytes of the reply. None where there is no
+    /// room, no request, or no reply.
+    pub(super) fn serve(&mut self, bytes: &[u8]) -> Option<Vec<u8>> {
         let mut reply = Vec::new(self.alloc);
         if self.wire.push(bytes) < bytes.len() {
             return None;
@@ -208,17 +198,18 @@ impl Link {
     }
 
     /// Has the client's next request carried out, and answers the reply, of which the client has heard nothing.
-    pub(super) fn send(&mut self, dumper: &mut Dumper) -> Result<Vec<u8>, Fail> {
+    /// None where there is none, or no reply.
+    pub(super) fn send(&mut self, dumper: &mut Dumper) -> Option<Vec<u8>> {
         let mut bytes = Vec::new(self.alloc);
-        if !dumper.next_request(&mut bytes)? {
-            return Err(Fail::new("nothing to send"));
+        if !dumper.next_request(&mut bytes).ok()? {
+            return None;
         }
         self.serve(&bytes)
     }
 
     /// Has so many requests of the client carried out, each after the reply to the one before, and answers what came
-    /// of the last reply. It stops where the client has nothing to send.
-    pub(super) fn pump(&mut self, dumper: &mut Dumper, most: usize) -> Result<Progress, Fail> {
+    /// of the last reply. It stops where the client has nothing to send. None where a request had no reply.
+    pub(super) fn pump(&mut self, dumper: &mut Dumper, most: usize) -> Option<Progress> {
         let mut progress = Progress::Idle;
         for _ in 0..most {
             if dumper.state() != State::ToSend {
@@ -227,7 +218,7 @@ impl Link {
             let reply = self.send(dumper)?;
             progress = dumper.feed(&reply);
         }
-        Ok(progress)
+        Some(progress)
     }
 
     /// The session of the client's connection ends.

@@ -1,5 +1,5 @@
 //! Dumps over a peer in memory, and what is entered in dumpdates then.
-ghost use Rattle.std.specs.Prelude.{◌≡◌};
+ghost use Rattle.std.specs.Prelude.{◌≡◌, IfSome};
 
 use super::memory_peer::peer;
 use crate::{DatesStore, DumpLine, Gauge, PayloadFile, Shown, dump, dump_and_update, dumper};
@@ -53,16 +53,18 @@ impl Gauge for Unseen {
     fn show(&mut self, _: u32, _: usize) {}
 }
 
-/// The client of a dump of 2,500 bytes, which are three blocks of 1,024.
-fn three_blocks(alloc: Global) -> Result<Client<Shown<PayloadFile<MemoryMedium>, Unseen>>, Fail> {
-    let medium = MemoryMedium::from_bytes(Vec::from_elem(alloc, b'p', 2500)?);
-    let Ok(payload) = PayloadFile::open(medium, 1024) else {
-        return Err(Fail::new("no payload"));
-    };
-    match dumper(alloc, &line(), 951868800, 951782400, payload, Unseen) {
-        Ok(client) => Ok(client),
-        Err(_) => Err(Fail::new("no client")),
-    }
+/// A payload of 2,500 bytes, which are three blocks of 1,024.
+fn payload(alloc: Global) -> Option<PayloadFile<MemoryMedium>>
+    ensures { IfSome result (λ p. p.size ≡ 1024) }
+{
+    let medium = MemoryMedium::from_bytes(Vec::from_elem(alloc, b'p', 2500).ok()?);
+    PayloadFile::open(medium, 1024).ok()
+}
+
+/// The client of a dump of it.
+fn three_blocks(alloc: Global) -> Option<Client<Shown<PayloadFile<MemoryMedium>, Unseen>>> {
+    let payload = payload(alloc)?;
+    dumper(alloc, &line(), 951868800, 951782400, payload, Unseen).ok()
 }
 
 /// A file in memory, which can be told not to be read or not to be replaced.
@@ -109,7 +111,7 @@ fn check_dump(
     dates: &[u8],
 ) -> Result<(), Fail> {
     let mut peer = peer(alloc, THREE_RECORDS, reels)?;
-    let mut client = three_blocks(alloc)?;
+    let mut client = three_blocks(alloc).ok_or("no client")?;
     let mut store = file_of(alloc, OLD, true, true)?;
     let mut operator = b"".as_slice();
     let mut printed = Vec::new(alloc);
@@ -142,7 +144,7 @@ fn two_reels_and_one(rt: HostRuntime) -> Result<(), Fail> {
 fn a_dump_without_dumpdates(rt: HostRuntime) -> Result<(), Fail> {
     let alloc = rt.alloc();
     let mut peer = peer(alloc, THREE_RECORDS, &[b"r1".as_slice()])?;
-    let mut client = three_blocks(alloc)?;
+    let mut client = three_blocks(alloc).ok_or("no client")?;
     let mut operator = b"no\n".as_slice();
     let mut printed = Vec::new(alloc);
     let mut out = Counted::new(&mut printed);

@@ -4,13 +4,14 @@ ghost use Rattle.std.specs.Prelude.{◌≡◌, IfOk, length};
 
 use super::super::{FolderDrive, FolderStacks};
 use std::fs::{self, File};
+use std::os::unix::fs::{PermissionsExt, symlink};
 use std::rt::Files;
 use std::{io, process};
 
 /// A folder with the stacks `st0` and `st1` and the folder `bin`.
 #[derive(Drop)]
 pub(super) struct Place {
-    rt: HostRuntime,
+    pub(super) rt: HostRuntime,
     top: String,
 }
 
@@ -21,9 +22,9 @@ impl Place {
         let top = format!(in rt.alloc(); "folders_{name}_{id}")?;
         let place = Place { rt, top };
         fs::create_dir(&rt, place.top.as_str())?;
-        fs::create_dir(&rt, place.path("st0")?.as_str())?;
-        fs::create_dir(&rt, place.path("st1")?.as_str())?;
-        fs::create_dir(&rt, place.path("bin")?.as_str())?;
+        place.put_folder("st0")?;
+        place.put_folder("st1")?;
+        place.put_folder("bin")?;
         Ok(place)
     }
 
@@ -35,6 +36,39 @@ impl Place {
     /// Writes a file there.
     pub(super) fn put(&self, inner: &str, text: &str) -> io::Result<()> {
         fs::write(&self.rt, self.path(inner)?.as_str(), text)
+    }
+
+    /// Makes a folder there.
+    pub(super) fn put_folder(&self, inner: &str) -> io::Result<()> {
+        fs::create_dir(&self.rt, self.path(inner)?.as_str())
+    }
+
+    /// Makes a link there.
+    pub(super) fn put_link(&self, inner: &str, target: &str) -> io::Result<()> {
+        symlink(&self.rt, target, self.path(inner)?.as_str())
+    }
+
+    /// Removes the file there.
+    pub(super) fn remove_file(&self, inner: &str) -> io::Result<()> {
+        fs::remove_file(&self.rt, self.path(inner)?.as_str())
+    }
+
+    /// Removes the empty folder there.
+    pub(super) fn remove_folder(&self, inner: &str) -> io::Result<()> {
+        fs::remove_dir(&self.rt, self.path(inner)?.as_str())
+    }
+
+    /// Lets nobody write in the folder there.
+    pub(super) fn close_folder(&self, inner: &str) -> io::Result<()> {
+        let folder = self.path(inner)?;
+        let mut mode = fs::metadata(&self.rt, folder.as_str())?.permissions();
+        mode.set_mode(0o555);
+        fs::set_permissions(&self.rt, folder.as_str(), mode)
+    }
+
+    /// What lies there, open to read.
+    pub(super) fn file(&self, inner: &str) -> io::Result<File> {
+        File::open(&self.rt, self.path(inner)?.as_str())
     }
 
     /// Whether something lies there.
