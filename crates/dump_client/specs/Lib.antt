@@ -5,3 +5,4 @@ pub mod Standing
 pub mod Lawful
 pub mod Replies
 pub mod Client
+pub mod Going

@@ -6,6 +6,7 @@ ghost use Rattle.dump_client.specs.Position.{Follows, Heard, IsWantedAt, IsFailu
 ghost use Rattle.dump_client.specs.Position.Heard.{Noise, End};
 ghost use Rattle.dump_client.specs.Standing.{Standing, FedAt, CutAt, checkpoint_of, counted_to};
 ghost use Rattle.dump_client.specs.Client.{unanswered};
+ghost use Rattle.dump_client.specs.Going.{GoesOnWith, StandsAfter};
 ghost use Rattle.dump_client.specs.declared.step.Step.{Step};
 ghost use Rattle.dump_client.specs.Lawful.{IsLawful, StepFits, StandsAt, sent_before, attempt_request};
 ghost use Rattle.dump_client.specs.Replies.{Granted, led_by};
@@ -90,4 +91,20 @@ pub fn fed_in_pieces()
     ensures failed { (old new : Standing) (bytes p : List ℕ) (fault : AttemptFault) →
         FedAt old.stage old bytes p (Failed fault) new → new.counts ≡ old.counts }
     ensures cut { (old new : Standing) (fault : AttemptFault) → CutAt old.stage old (Failed fault) new → new.counts ≡ old.counts }
+{}
+
+/// Bytes that are fed and the end of a connection leave a client in its run, with what it had counted; the end counts
+/// nothing. A client that is finished stays so, and one that is lawful stays lawful. What is told is where it stands then.
+///
+/// It does nothing: its contract is a law of the definitions.
+pub fn same_run()
+    ensures fed { (old new : Standing) (bytes piece : List ℕ) (progress : Progress) → FedAt old.stage old bytes piece progress new →
+        (more : List VolumeCount) × GoesOnWith old new more }
+    ensures cut { (old new : Standing) (progress : Progress) → CutAt old.stage old progress new → GoesOnWith old new [] }
+    ensures fed_lawful { (old new : Standing) (bytes piece : List ℕ) (progress : Progress) → IsLawful old →
+        FedAt old.stage old bytes piece progress new → IsLawful new }
+    ensures fed_stands { (old new : Standing) (bytes piece : List ℕ) (progress : Progress) → FedAt old.stage old bytes piece progress new →
+        StandsAfter old progress new }
+    ensures cut_stands { (old new : Standing) (progress : Progress) → CutAt old.stage old progress new → StandsAfter old progress new }
+    ensures cut_lawful { (old new : Standing) (progress : Progress) → IsLawful old → CutAt old.stage old progress new → IsLawful new }
 {}

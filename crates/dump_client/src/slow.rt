@@ -23,7 +23,7 @@ pub(crate) enum Answer {
 }
 
 /// The answers that a request wants.
-#[derive(Clone, Copy, Debug, PartialEq, Eq)]
+#[derive(Clone, Copy, PartialEq, Eq)]
 pub(crate) enum Wish {
     AnyNumber,
     Number(u64),
@@ -126,6 +126,45 @@ fn open(alloc: Global, run: SlowRun) -> Result<Scripted, AllocError> {
     })
 }
 
+/// Appends what begins a volume: the open, the rewind and the label.
+fn push_begin(
+    all: &mut Vec<Scripted>,
+    alloc: Global,
+    run: SlowRun,
+    label: &[u8],
+) -> Result<(), AllocError> {
+    all.push(open(alloc, run)?)?;
+    all.push(asked(alloc, b"I5\n1\n", Wish::Number(1))?)?;
+    all.push(write(alloc, label, Wish::Number(1024))?)?;
+    Ok(())
+}
+
+/// Appends the writes of the blocks from `first` on, up to the one of the number `end`, for which there is no room.
+fn push_blocks(
+    all: &mut Vec<Scripted>,
+    alloc: Global,
+    run: SlowRun,
+    blocks: &[&[u8]],
+    (first, end): (usize, usize),
+) -> Result<(), AllocError> {
+    for (number, block) in blocks.iter().enumerate() {
+        if number >= first && number < end {
+            all.push(write(alloc, block, Wish::Number(run.block_bytes))?)?;
+        } else if number == end {
+            all.push(write(alloc, block, Wish::NoRoom)?)?;
+        }
+    }
+    Ok(())
+}
+
+/// Appends what closes a volume.
+fn push_end(all: &mut Vec<Scripted>, alloc: Global) -> Result<(), AllocError> {
+    all.push(asked(alloc, b"I0\n1\n", Wish::Number(1))?)?;
+    all.push(asked(alloc, b"I6\n1\n", Wish::Number(1))?)?;
+    all.push(asked(alloc, b"C\n", Wish::Anything)?)?;
+    Ok(())
+}
+
 /// The script of a volume that has so many blocks of these from `first` on.
 pub(crate) fn script(
     alloc: Global,
@@ -135,27 +174,22 @@ pub(crate) fn script(
     first: usize,
     count: usize,
 ) -> Result<Vec<Scripted>, AllocError> {
-    let mut all = Vec::new(alloc);
-    all.push(open(alloc, run)?)?;
-    all.push(asked(alloc, b"I5\n1\n", Wish::Number(1))?)?;
     let label = label(alloc, run, volume, first as u64)?;
-    all.push(write(alloc, &label, Wish::Number(1024))?)?;
-    let end = first.saturating_add(count);
-    for (number, block) in blocks.iter().enumerate() {
-        if number >= first && number < end {
-            all.push(write(alloc, block, Wish::Number(run.block_bytes))?)?;
-        } else if number == end {
-            all.push(write(alloc, block, Wish::NoRoom)?)?;
-        }
-    }
-    all.push(asked(alloc, b"I0\n1\n", Wish::Number(1))?)?;
-    all.push(asked(alloc, b"I6\n1\n", Wish::Number(1))?)?;
-    all.push(asked(alloc, b"C\n", Wish::Anything)?)?;
+    let mut all = Vec::new(alloc);
+    push_begin(&mut all, alloc, run, &label)?;
+    push_blocks(
+        &mut all,
+        alloc,
+        run,
+        blocks,
+        (first, first.saturating_add(count)),
+    )?;
+    push_end(&mut all, alloc)?;
     Ok(all)
 }
 
 /// What comes next in an attempt.
-#[derive(Debug, Drop)]
+#[derive(Drop)]
 pub(crate) enum Next {
     /// This request.
     Send(Vec<u8>),

@@ -8,5 +8,6 @@ mod faults;
 mod laws;
 mod listen;
 mod next;
+mod play;
 mod script;
 mod talk;

@@ -36,11 +36,12 @@ struct Attempt {
 
 impl Attempt {
     /// It has started.
-    fn new(rt: &impl Abort, alloc: Global) -> Result<Attempt, Fail> {
+    fn new(alloc: Global) -> Result<Attempt, Fail> {
         let script = script(alloc, RUN, &BLOCKS, 1, 0, 2)?;
-        assert_eq!(rt; script.len(), REPLIES.len());
         let mut talk = Talk::new(alloc, 3)?;
-        talk.start(rt);
+        if script.len() != REPLIES.len() || !talk.starts() {
+            return Err(Fail::new("no attempt of as many steps"));
+        }
         Ok(Attempt {
             talk,
             script,
@@ -49,91 +50,109 @@ impl Attempt {
     }
 
     /// It asks what is next.
-    fn asks(&mut self, rt: &impl Abort) {
-        self.talk.asks_step(rt, &self.script, self.whole);
+    fn asks(&mut self) -> bool {
+        self.talk.asks_step(&self.script, self.whole)
     }
 
     /// It hears a beginning of a reply.
-    fn hears_part(&mut self, rt: &impl Abort, part: &[u8]) {
-        self.talk.hears(rt, part, Progress::Waiting);
-        self.is_counted(rt, State::Waiting);
+    fn hears_part(&mut self, part: &[u8]) -> bool {
+        self.talk.hears(part, Progress::Waiting) && self.is_counted(State::Waiting)
     }
 
     /// It hears the rest of a reply.
-    fn hears_rest(&mut self, rt: &impl Abort, rest: &[u8]) {
+    fn hears_rest(&mut self, rest: &[u8]) -> bool {
         self.whole = self.whole.saturating_add(1);
-        if self.whole == REPLIES.len() {
-            self.talk.hears(rt, rest, Progress::Ended);
-            self.is_counted(rt, State::Ready);
+        let (progress, state) = if self.whole == REPLIES.len() {
+            (Progress::Ended, State::Ready)
         } else {
-            self.talk.hears(rt, rest, Progress::Send);
-            self.is_counted(rt, State::ToSend);
-        }
+            (Progress::Send, State::ToSend)
+        };
+        self.talk.hears(rest, progress) && self.is_counted(state)
     }
 
     /// The volume is counted exactly once the reply to MTOFFL has come.
-    fn is_counted(&self, rt: &impl Abort, state: State) {
+    fn is_counted(&self, state: State) -> bool {
         if self.whole < COUNTED {
-            self.talk.stands(rt, state, &[], (1, 0));
+            self.talk.stands(state, &[], (1, 0))
         } else {
-            self.talk.stands(rt, state, &[(1, 0, 2)], (2, 2));
+            self.talk.stands(state, &[(1, 0, 2)], (2, 2))
         }
     }
 
     /// It asks, and hears a reply in pieces of so many bytes.
-    fn goes_on_in_pieces(&mut self, rt: &impl Abort, reply: &[u8], most: usize)
+    fn goes_on_in_pieces(&mut self, reply: &[u8], most: usize) -> bool
         requires { 0 < most }
     {
-        self.asks(rt);
+        let mut good = self.asks();
         let mut left = reply.len();
         for piece in reply.chunks(most) {
-            if piece.len() < left {
-                self.hears_part(rt, piece);
-            } else {
-                self.hears_rest(rt, piece);
-            }
+            good = good
+                && if piece.len() < left {
+                    self.hears_part(piece)
+                } else {
+                    self.hears_rest(piece)
+                };
             left = left.saturating_sub(piece.len());
         }
+        good
     }
 
     /// It asks, and hears a reply that is cut in two behind so many bytes.
-    fn goes_on_in_two(&mut self, rt: &impl Abort, reply: &[u8], cut: usize) {
-        self.asks(rt);
-        self.hears_part(rt, reply.get(..cut).unwrap_or(&[]));
-        self.hears_rest(rt, reply.get(cut..).unwrap_or(&[]));
+    fn goes_on_in_two(&mut self, reply: &[u8], cut: usize) -> bool {
+        self.asks()
+            && self.hears_part(reply.get(..cut).unwrap_or(&[]))
+            && self.hears_rest(reply.get(cut..).unwrap_or(&[]))
     }
 
     /// It asks and hears until so many bytes of the replies have come. Where they end with a reply, `asks` says whether
     /// the next request has been sent.
-    fn goes_on_for(&mut self, rt: &impl Abort, bytes: usize, asks: bool) {
+    fn goes_on_for(&mut self, bytes: usize, asks: bool) -> bool {
         let mut left = bytes;
         for reply in REPLIES {
             if left == 0 && !asks {
-                return;
+                return true;
             }
-            self.asks(rt);
+            if !self.asks() {
+                return false;
+            }
             if left < reply.len() {
-                self.hears_part(rt, reply.get(..left).unwrap_or(&[]));
-                return;
+                return self.hears_part(reply.get(..left).unwrap_or(&[]));
             }
-            self.hears_rest(rt, reply);
+            if !self.hears_rest(reply) {
+                return false;
+            }
             left = left.saturating_sub(reply.len());
         }
+        true
     }
 
     /// The connection ends.
-    fn is_cut(&mut self, rt: &impl Abort) {
+    fn is_cut(&mut self) -> bool {
         let progress = match self.whole {
             0..COUNTED => Progress::Failed(AttemptFault::ConnectionEnded),
             COUNTED => Progress::Ended,
             _ => Progress::Idle,
         };
-        assert!(rt; self.talk.client.ended() == progress);
         let state = match self.whole {
             0..COUNTED => State::Asking,
             _ => State::Ready,
         };
-        self.is_counted(rt, state);
+        self.talk.ends(progress) && self.is_counted(state)
+    }
+
+    /// The volume is written anew where it is not counted.
+    fn goes_anew(&mut self) -> bool {
+        self.whole >= COUNTED
+            || self.talk.retries() && self.talk.goes_through(&self.script, 0, REPLIES.len())
+    }
+
+    /// The second volume is written, and the run finished.
+    fn finishes(&mut self, last: &[Scripted]) -> bool {
+        self.talk.starts()
+            && self.talk.goes_through(last, 0, last.len())
+            && self
+                .talk
+                .stands(State::Finished, &[(1, 0, 2), (2, 2, 1)], (3, 3))
     }
 }
 
@@ -141,9 +160,10 @@ impl Attempt {
 fn check_pieces(rt: &impl Abort, alloc: Global, most: usize) -> Result<(), Fail>
     requires { 0 < most }
 {
-    let mut attempt = Attempt::new(rt, alloc)?;
+    let mut attempt = Attempt::new(alloc)?;
     for reply in REPLIES {
-        attempt.goes_on_in_pieces(rt, reply, most);
+        let good = attempt.goes_on_in_pieces(reply, most);
+        assert!(rt; good, "{most}");
     }
     assert_eq!(rt; attempt.whole, REPLIES.len());
     Ok(())
@@ -160,13 +180,14 @@ fn replies_in_pieces(rt: HostRuntime) -> Result<(), Fail> {
 
 /// One reply comes in two pieces, and all others whole.
 fn check_two_pieces(rt: &impl Abort, alloc: Global, at: usize, cut: usize) -> Result<(), Fail> {
-    let mut attempt = Attempt::new(rt, alloc)?;
+    let mut attempt = Attempt::new(alloc)?;
     for (number, reply) in REPLIES.iter().enumerate() {
-        if number == at {
-            attempt.goes_on_in_two(rt, reply, cut);
+        let good = if number == at {
+            attempt.goes_on_in_two(reply, cut)
         } else {
-            attempt.goes_on_in_pieces(rt, reply, 100);
-        }
+            attempt.goes_on_in_pieces(reply, 100)
+        };
+        assert!(rt; good, "{at}, {cut}");
     }
     Ok(())
 }
@@ -183,19 +204,13 @@ fn each_reply_in_two(rt: HostRuntime) -> Result<(), Fail> {
 
 /// The connection ends behind so many bytes of the replies, and the run is dumped to its end on others.
 fn check_cut(rt: &impl Abort, alloc: Global, bytes: usize, asks: bool) -> Result<(), Fail> {
-    let mut attempt = Attempt::new(rt, alloc)?;
-    attempt.goes_on_for(rt, bytes, asks);
-    attempt.is_cut(rt);
-    let mut talk = attempt.talk;
-    if attempt.whole < COUNTED {
-        talk.retries(rt);
-        talk.goes_through(rt, &attempt.script, 0..attempt.script.len());
-    }
+    let mut attempt = Attempt::new(alloc)?;
     let last = script(alloc, RUN, &BLOCKS, 2, 2, 1)?;
-    talk.start(rt);
-    talk.goes_through(rt, &last, 0..last.len());
-    let counts = [(1, 0, 2), (2, 2, 1)];
-    talk.stands(rt, State::Finished, &counts, (3, 3));
+    let good = attempt.goes_on_for(bytes, asks)
+        && attempt.is_cut()
+        && attempt.goes_anew()
+        && attempt.finishes(&last);
+    assert!(rt; good, "{bytes}, {asks}");
     Ok(())
 }
 

@@ -1,63 +1,177 @@
-//! What a client makes of replies that are not wanted, of bytes that are none, and of the end of the connection.
+//! What a client makes of replies that are not wanted, of bytes that are none, and of the end of the connection, in its
+//! second volume. Of three blocks, the first is counted, and the others are to be written.
 
-use super::talk::{BLOCKS, RUN, Talk};
-use crate::slow::{Scripted, script};
-use crate::{Answer, AttemptFault, Progress, State};
+use super::play::Move::{
+    AsksStep, Ends, Fails, FailsAt, Goes, Hears, HearsIt, IsIdle, Stands, Starts, Takes, Volume,
+};
+use super::play::{Case, Move, ONCE, ONE_COUNTED, Play, check_cases};
+use super::talk::{BLOCKS, RUN};
+use crate::Progress::{Failed, Send, Waiting};
+use crate::{Answer, AttemptFault, State};
 use std::alloc::Global;
-use std::process::Abort;
 use std::test::Fail;
 
-/// A client of three blocks, of which the first is counted, and the script of its second volume, which has the others.
-#[derive(Drop)]
-struct Second {
-    talk: Talk,
-    script: Vec<Scripted>,
-}
+/// The steps of the second volume's script.
+const OPEN: usize = 0;
 
-impl Second {
-    /// It has not started its second volume.
-    fn new(rt: &impl Abort, alloc: Global) -> Result<Second, Fail> {
-        let first = script(alloc, RUN, &BLOCKS, 1, 0, 1)?;
-        let mut talk = Talk::new(alloc, 3)?;
-        talk.start(rt);
-        talk.goes_through(rt, &first, 0..first.len());
-        Ok(Second {
-            talk,
-            script: script(alloc, RUN, &BLOCKS, 2, 1, 2)?,
-        })
-    }
+const REWIND: usize = 1;
 
-    /// It starts its second volume, and asks what the script says up to this step, counted from 0.
-    fn starts_to(&mut self, rt: &impl Abort, step: usize) {
-        self.talk.start(rt);
-        self.talk.goes_through(rt, &self.script, 0..step);
-        self.talk.asks_step(rt, &self.script, step);
-    }
+const FIRST_BLOCK: usize = 3;
 
-    /// The volume is not counted, and is not written on.
-    fn has_failed(&mut self, rt: &impl Abort) {
-        self.talk.stands(rt, State::Asking, &[(1, 0, 1)], (2, 1));
-        self.talk.is_idle(rt);
-        self.talk.stands(rt, State::Asking, &[(1, 0, 1)], (2, 1));
-    }
+const LAST_BLOCK: usize = 4;
 
-    /// The attempt at the second volume fails at this step of this piece, and another can start.
-    fn fails_at(&mut self, rt: &impl Abort, step: usize, piece: &[u8], fault: AttemptFault) {
-        self.starts_to(rt, step);
-        self.talk.fails(rt, piece, fault);
-        self.has_failed(rt);
-        assert!(rt; self.talk.client.answer(Answer::Retry) == Ok(()));
-        self.talk.stands(rt, State::Ready, &[(1, 0, 1)], (2, 1));
-    }
+const MARK: usize = 5;
 
-    /// It writes its second volume and is finished.
-    fn finishes(&mut self, rt: &impl Abort) {
-        self.talk.start(rt);
-        self.talk
-            .goes_through(rt, &self.script, 0..self.script.len());
-        let counts = [(1, 0, 1), (2, 1, 2)];
-        self.talk.stands(rt, State::Finished, &counts, (3, 3));
-    }
+const UNLOAD: usize = 6;
+
+/// Replies to the write of a block.
+const TO_A_BLOCK: &[Move] = &[
+    Volume(1, 0, 1),
+    Starts,
+    Goes(0, 8),
+    Volume(2, 1, 2),
+    FailsAt(FIRST_BLOCK, b"A1025\n", AttemptFault::ShortWrite),
+    FailsAt(FIRST_BLOCK, b"A1023\n", AttemptFault::ShortWrite),
+    FailsAt(FIRST_BLOCK, b"A1\nA1024\n", AttemptFault::ShortWrite),
+    FailsAt(FIRST_BLOCK, b"X\n", AttemptFault::Botched),
+    FailsAt(FIRST_BLOCK, b"A99999999999\n", AttemptFault::Botched),
+    FailsAt(FIRST_BLOCK, b"A2147483648", AttemptFault::Botched),
+    FailsAt(FIRST_BLOCK, b"A1024\nA", AttemptFault::Botched),
+    FailsAt(
+        FIRST_BLOCK,
+        b"E16\nDevice busy\n",
+        AttemptFault::Refused(16),
+    ),
+    FailsAt(FIRST_BLOCK, b"E0\n\n", AttemptFault::Refused(0)),
+    FailsAt(LAST_BLOCK, b"A1025\n", AttemptFault::ShortWrite),
+    FailsAt(LAST_BLOCK, b"A1023\n", AttemptFault::ShortWrite),
+    FailsAt(LAST_BLOCK, b"A1\nA1024\n", AttemptFault::ShortWrite),
+    FailsAt(LAST_BLOCK, b"X\n", AttemptFault::Botched),
+    FailsAt(LAST_BLOCK, b"A99999999999\n", AttemptFault::Botched),
+    FailsAt(LAST_BLOCK, b"A2147483648", AttemptFault::Botched),
+    FailsAt(LAST_BLOCK, b"A1024\nA", AttemptFault::Botched),
+    FailsAt(LAST_BLOCK, b"E16\nDevice busy\n", AttemptFault::Refused(16)),
+    FailsAt(LAST_BLOCK, b"E0\n\n", AttemptFault::Refused(0)),
+    Starts,
+    Goes(0, 8),
+    Stands(State::Finished, &[(1, 0, 1), (2, 1, 2)], (3, 3)),
+];
+
+/// Replies where an operation was asked for, and where a device was to be opened.
+const TO_OTHERS: &[Move] = &[
+    Volume(1, 0, 1),
+    Starts,
+    Goes(0, 8),
+    Volume(2, 1, 2),
+    FailsAt(OPEN, b"A0\nA1\n", AttemptFault::Botched),
+    FailsAt(OPEN, b"E28\n\n", AttemptFault::Refused(28)),
+    FailsAt(OPEN, b"E2\n\n", AttemptFault::Refused(2)),
+    FailsAt(REWIND, b"A0\n", AttemptFault::Botched),
+    FailsAt(REWIND, b"A2\n", AttemptFault::Botched),
+    FailsAt(REWIND, b"A\n", AttemptFault::Botched),
+    FailsAt(REWIND, b"B1\n", AttemptFault::Botched),
+    FailsAt(REWIND, b"A00000000001\n", AttemptFault::Botched),
+    FailsAt(REWIND, b"E28\n\n", AttemptFault::Refused(28)),
+    FailsAt(REWIND, b"E5\nzz\n", AttemptFault::Refused(5)),
+    FailsAt(MARK, b"A0\n", AttemptFault::Botched),
+    FailsAt(MARK, b"A2\n", AttemptFault::Botched),
+    FailsAt(MARK, b"A\n", AttemptFault::Botched),
+    FailsAt(MARK, b"B1\n", AttemptFault::Botched),
+    FailsAt(MARK, b"A00000000001\n", AttemptFault::Botched),
+    FailsAt(MARK, b"E28\n\n", AttemptFault::Refused(28)),
+    FailsAt(MARK, b"E5\nzz\n", AttemptFault::Refused(5)),
+    FailsAt(UNLOAD, b"A0\n", AttemptFault::Botched),
+    FailsAt(UNLOAD, b"A2\n", AttemptFault::Botched),
+    FailsAt(UNLOAD, b"A\n", AttemptFault::Botched),
+    FailsAt(UNLOAD, b"B1\n", AttemptFault::Botched),
+    FailsAt(UNLOAD, b"A00000000001\n", AttemptFault::Botched),
+    FailsAt(UNLOAD, b"E28\n\n", AttemptFault::Refused(28)),
+    FailsAt(UNLOAD, b"E5\nzz\n", AttemptFault::Refused(5)),
+    FailsAt(REWIND, b"A1\nA", AttemptFault::Botched),
+    Starts,
+    Goes(0, REWIND),
+    AsksStep(REWIND),
+    Hears(b"A0000000001\n", Send),
+];
+
+/// The end of the connection, while a reply is waited for and while a request is to be sent.
+const CUT: &[Move] = &[
+    Volume(1, 0, 1),
+    Starts,
+    Goes(0, 8),
+    Volume(2, 1, 2),
+    Starts,
+    Goes(0, REWIND),
+    AsksStep(REWIND),
+    HearsIt(Waiting),
+    Ends(Failed(AttemptFault::ConnectionEnded)),
+    Stands(State::Asking, ONE_COUNTED, (2, 1)),
+    IsIdle,
+    Stands(State::Asking, ONE_COUNTED, (2, 1)),
+    Takes(Answer::Retry),
+    Starts,
+    Goes(0, OPEN),
+    AsksStep(OPEN),
+    Hears(b"A0\n", Send),
+    Ends(Failed(AttemptFault::ConnectionEnded)),
+    Stands(State::Asking, ONE_COUNTED, (2, 1)),
+    IsIdle,
+    Stands(State::Asking, ONE_COUNTED, (2, 1)),
+];
+
+/// An empty piece changes nothing, and one byte in place of a request fails the attempt.
+const BEFORE_A_REQUEST: &[Move] = &[
+    Volume(1, 0, 1),
+    Starts,
+    Goes(0, 8),
+    Volume(2, 1, 2),
+    Starts,
+    Goes(0, REWIND),
+    AsksStep(REWIND),
+    Hears(b"", Waiting),
+    Hears(b"A1\n", Send),
+    Hears(b"", Send),
+    Stands(State::ToSend, ONE_COUNTED, (2, 1)),
+    Fails(b"A", AttemptFault::Botched),
+    Stands(State::Asking, ONE_COUNTED, (2, 1)),
+    IsIdle,
+    Stands(State::Asking, ONE_COUNTED, (2, 1)),
+];
+
+const CASES: [Case; 4] = [
+    Case {
+        name: "replies to the write of a block",
+        run: RUN,
+        blocks: &BLOCKS,
+        pieces: ONCE,
+        moves: TO_A_BLOCK,
+    },
+    Case {
+        name: "replies to other requests",
+        run: RUN,
+        blocks: &BLOCKS,
+        pieces: ONCE,
+        moves: TO_OTHERS,
+    },
+    Case {
+        name: "the connection ends before the count",
+        run: RUN,
+        blocks: &BLOCKS,
+        pieces: &[b"", b"E5\n", b"E5\nzz", b"A1"],
+        moves: CUT,
+    },
+    Case {
+        name: "pieces while a request is to be sent",
+        run: RUN,
+        blocks: &BLOCKS,
+        pieces: ONCE,
+        moves: BEFORE_A_REQUEST,
+    },
+];
+
+#[test]
+fn unwanted_replies(rt: HostRuntime) -> Result<(), Fail> {
+    check_cases(&rt, rt.alloc(), CASES.as_slice())
 }
 
 /// An error with a text of so many bytes.
@@ -70,111 +184,36 @@ fn long_error(alloc: Global, size: usize) -> Result<Vec<u8>, Fail> {
     Ok(error)
 }
 
-/// The steps of the second volume's script.
-const OPEN: usize = 0;
+/// The first volume is counted, and the second is to be written.
+const SECOND: [Move; 4] = [Volume(1, 0, 1), Starts, Goes(0, 8), Volume(2, 1, 2)];
 
-const REWIND: usize = 1;
+/// The second volume is written.
+const FINISHES: [Move; 3] = [
+    Starts,
+    Goes(0, 8),
+    Stands(State::Finished, &[(1, 0, 1), (2, 1, 2)], (3, 3)),
+];
 
-const FIRST_BLOCK: usize = 3;
-
-const LAST_BLOCK: usize = 4;
-
-const UNLOAD: usize = 6;
-
-const CLOSE: usize = 7;
-
-#[test]
-fn replies_to_the_write_of_a_block(rt: HostRuntime) -> Result<(), Fail> {
-    let mut second = Second::new(&rt, rt.alloc())?;
-    let replies: [(&[u8], AttemptFault); 9] = [
-        (b"A1025\n", AttemptFault::ShortWrite),
-        (b"A1023\n", AttemptFault::ShortWrite),
-        (b"A1\nA1024\n", AttemptFault::ShortWrite),
-        (b"X\n", AttemptFault::Botched),
-        (b"A99999999999\n", AttemptFault::Botched),
-        (b"A2147483648", AttemptFault::Botched),
-        (b"A1024\nA", AttemptFault::Botched),
-        (b"E16\nDevice busy\n", AttemptFault::Refused(16)),
-        (b"E0\n\n", AttemptFault::Refused(0)),
-    ];
-    for step in [FIRST_BLOCK, LAST_BLOCK] {
-        for (reply, fault) in replies {
-            second.fails_at(&rt, step, reply, fault);
+/// Makes these moves. Whether all was as is wanted.
+fn makes_all(play: &mut Play, moves: &[Move]) -> Result<bool, Fail> {
+    for next in moves {
+        if !play.makes(*next, b"")? {
+            return Ok(false);
         }
     }
-    second.finishes(&rt);
-    Ok(())
+    Ok(true)
 }
 
 /// The text of an error can be longer than all else that is kept of a reply.
 #[test]
 fn long_texts_of_errors(rt: HostRuntime) -> Result<(), Fail> {
-    let mut second = Second::new(&rt, rt.alloc())?;
+    let mut play = Play::new(rt.alloc(), RUN, &BLOCKS)?;
+    assert!(rt; makes_all(&mut play, SECOND.as_slice())?);
     for size in [10000, 65548, 200000] {
         let error = long_error(rt.alloc(), size)?;
-        let fault = AttemptFault::Refused(5);
-        second.fails_at(&rt, LAST_BLOCK, &error, fault);
+        let failed = play.fails_at(LAST_BLOCK, &error, AttemptFault::Refused(5));
+        assert!(rt; failed, "{size}");
     }
-    second.finishes(&rt);
-    Ok(())
-}
-
-/// Where an operation was asked for, and where a device was to be opened.
-#[test]
-fn replies_to_other_requests(rt: HostRuntime) -> Result<(), Fail> {
-    let mut second = Second::new(&rt, rt.alloc())?;
-    let botched = AttemptFault::Botched;
-    second.fails_at(&rt, OPEN, b"A0\nA1\n", botched);
-    second.fails_at(&rt, OPEN, b"E28\n\n", AttemptFault::Refused(28));
-    second.fails_at(&rt, OPEN, b"E2\n\n", AttemptFault::Refused(2));
-    for step in [REWIND, LAST_BLOCK.saturating_add(1), UNLOAD] {
-        for reply in [
-            b"A0\n".as_slice(),
-            b"A2\n",
-            b"A\n",
-            b"B1\n",
-            b"A00000000001\n",
-        ] {
-            second.fails_at(&rt, step, reply, botched);
-        }
-        second.fails_at(&rt, step, b"E28\n\n", AttemptFault::Refused(28));
-        second.fails_at(&rt, step, b"E5\nzz\n", AttemptFault::Refused(5));
-    }
-    second.fails_at(&rt, REWIND, b"A1\nA", botched);
-    second.starts_to(&rt, REWIND);
-    second.talk.hears(&rt, b"A0000000001\n", Progress::Send);
-    Ok(())
-}
-
-/// The end of the connection, while a request is to be sent and while a reply is waited for.
-#[test]
-fn the_connection_ends_before_the_count(rt: HostRuntime) -> Result<(), Fail> {
-    let mut second = Second::new(&rt, rt.alloc())?;
-    let ended = Progress::Failed(AttemptFault::ConnectionEnded);
-    for piece in [b"".as_slice(), b"E5\n", b"E5\nzz", b"A1"] {
-        second.starts_to(&rt, REWIND);
-        second.talk.hears(&rt, piece, Progress::Waiting);
-        assert!(rt; second.talk.client.ended() == ended);
-        second.has_failed(&rt);
-        assert!(rt; second.talk.client.answer(Answer::Retry) == Ok(()));
-    }
-    second.starts_to(&rt, OPEN);
-    second.talk.hears(&rt, b"A0\n", Progress::Send);
-    assert!(rt; second.talk.client.ended() == ended);
-    second.has_failed(&rt);
-    Ok(())
-}
-
-/// An empty piece changes nothing, and one byte in place of a request fails the attempt.
-#[test]
-fn pieces_while_a_request_is_to_be_sent(rt: HostRuntime) -> Result<(), Fail> {
-    let mut second = Second::new(&rt, rt.alloc())?;
-    second.starts_to(&rt, REWIND);
-    second.talk.hears(&rt, b"", Progress::Waiting);
-    second.talk.hears(&rt, b"A1\n", Progress::Send);
-    second.talk.hears(&rt, b"", Progress::Send);
-    second.talk.stands(&rt, State::ToSend, &[(1, 0, 1)], (2, 1));
-    second.talk.fails(&rt, b"A", AttemptFault::Botched);
-    second.has_failed(&rt);
+    assert!(rt; makes_all(&mut play, FINISHES.as_slice())?);
     Ok(())
 }

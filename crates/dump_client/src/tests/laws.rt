@@ -1,7 +1,7 @@
 //! The laws are functions, too: they can be called.
 
 use crate::{
-    after_the_count, fed_in_pieces, granted_replies, lawful_positions, sent_in_order,
+    after_the_count, fed_in_pieces, granted_replies, lawful_positions, same_run, sent_in_order,
     wanted_replies,
 };
 
@@ -13,4 +13,5 @@ fn laws_are_called() {
     sent_in_order();
     after_the_count();
     fed_in_pieces();
+    same_run();
 }

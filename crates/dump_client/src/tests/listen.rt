@@ -32,12 +32,26 @@ fn heard(alloc: Global, bytes: &[u8], size: usize) -> Result<Listened, AllocErro
     Ok(Listened::Waits)
 }
 
+/// This is heard of the bytes, in pieces of so many.
+fn check_in_pieces(
+    rt: &impl Abort,
+    alloc: Global,
+    bytes: &[u8],
+    size: usize,
+    wanted: Listened,
+) -> Result<(), Fail>
+    requires { 0 < size }
+{
+    let found = heard(alloc, bytes, size)?;
+    assert!(rt; found == wanted, "{found:?} of {bytes:?} by {size}");
+    Ok(())
+}
+
 /// This is heard of the bytes, in one piece and in small ones.
 fn check_heard(rt: &impl Abort, alloc: Global, bytes: &[u8], wanted: Listened) -> Result<(), Fail> {
-    assert_eq!(rt; heard(alloc, bytes, 1)?, wanted, "{bytes:?}");
-    assert_eq!(rt; heard(alloc, bytes, 999)?, wanted, "{bytes:?}");
-    assert_eq!(rt; heard(alloc, bytes, 100000)?, wanted, "{bytes:?}");
-    Ok(())
+    check_in_pieces(rt, alloc, bytes, 1, wanted)?;
+    check_in_pieces(rt, alloc, bytes, 999, wanted)?;
+    check_in_pieces(rt, alloc, bytes, 100000, wanted)
 }
 
 /// A reply, behind which no more bytes come.
@@ -45,14 +59,30 @@ fn alone(said: Said) -> Listened {
     Listened::Reply { said, more: false }
 }
 
+/// Bytes that are one reply, that begin one, and that begin none.
 #[test]
-fn one_reply(rt: HostRuntime) -> Result<(), Fail> {
-    let alloc = rt.alloc();
-    check_heard(&rt, alloc, b"A0\n", alone(Said::Number(0)))?;
-    let most = alone(Said::Number(2147483647));
-    check_heard(&rt, alloc, b"A2147483647\n", most)?;
-    check_heard(&rt, alloc, b"E28\n\n", alone(Said::Error(28)))?;
-    check_heard(&rt, alloc, b"E16\nDevice busy\n", alone(Said::Error(16)))
+fn replies_beginnings_and_noise(rt: HostRuntime) -> Result<(), Fail> {
+    for (bytes, wanted) in [
+        (b"A0\n".as_slice(), alone(Said::Number(0))),
+        (b"A2147483647\n", alone(Said::Number(2147483647))),
+        (b"E28\n\n", alone(Said::Error(28))),
+        (b"E16\nDevice busy\n", alone(Said::Error(16))),
+        (b"", Listened::Waits),
+        (b"A", Listened::Waits),
+        (b"A65536", Listened::Waits),
+        (b"E5", Listened::Waits),
+        (b"E5\n", Listened::Waits),
+        (b"E5\nBusy", Listened::Waits),
+        (b"x", Listened::Noise),
+        (b"\n", Listened::Noise),
+        (b"A\n", Listened::Noise),
+        (b"A1x", Listened::Noise),
+        (b"A2147483648\n", Listened::Noise),
+        (b"E 5\n", Listened::Noise),
+    ] {
+        check_heard(&rt, rt.alloc(), bytes, wanted)?;
+    }
+    Ok(())
 }
 
 #[test]
@@ -71,29 +101,6 @@ fn an_error_with_a_long_text(rt: HostRuntime) -> Result<(), Fail> {
 }
 
 #[test]
-fn beginnings(rt: HostRuntime) -> Result<(), Fail> {
-    for bytes in [b"".as_slice(), b"A", b"A65536", b"E5", b"E5\n", b"E5\nBusy"] {
-        check_heard(&rt, rt.alloc(), bytes, Listened::Waits)?;
-    }
-    Ok(())
-}
-
-#[test]
-fn noise(rt: HostRuntime) -> Result<(), Fail> {
-    for bytes in [
-        b"x".as_slice(),
-        b"\n",
-        b"A\n",
-        b"A1x",
-        b"A2147483648\n",
-        b"E 5\n",
-    ] {
-        check_heard(&rt, rt.alloc(), bytes, Listened::Noise)?;
-    }
-    Ok(())
-}
-
-#[test]
 fn bytes_behind_a_reply(rt: HostRuntime) -> Result<(), Fail> {
     let alloc = rt.alloc();
     let number = Said::Number(1);
@@ -101,10 +108,9 @@ fn bytes_behind_a_reply(rt: HostRuntime) -> Result<(), Fail> {
         said: number,
         more: true,
     };
-    assert_eq!(rt; heard(alloc, b"A1\nA", 100)?, followed);
-    assert_eq!(rt; heard(alloc, b"A1\nA", 3)?, alone(number));
-    assert_eq!(rt; heard(alloc, b"A1\nA", 1)?, alone(number));
-    Ok(())
+    check_in_pieces(&rt, alloc, b"A1\nA", 100, followed)?;
+    check_in_pieces(&rt, alloc, b"A1\nA", 3, alone(number))?;
+    check_in_pieces(&rt, alloc, b"A1\nA", 1, alone(number))
 }
 
 #[test]

@@ -1,10 +1,11 @@
-//! A client whose requests are looked at, and whose replies are fed, by hand.
+//! A client whose requests are looked at, and whose replies are fed, by hand. Each call answers whether all was as is
+//! wanted.
 
 use crate::slow::{Scripted, SlowRun, Wish};
-use crate::{Answer, AttemptFault, Client, ListBlocks, Progress, Run, State, VolumeCount};
+use crate::{
+    Answer, AttemptFault, Client, ListBlocks, Progress, Run, StartFault, State, VolumeCount,
+};
 use std::alloc::Global;
-use std::ops::Range;
-use std::process::Abort;
 use std::test::Fail;
 
 /// The run of these tests.
@@ -74,6 +75,27 @@ pub(crate) fn wanted_reply(wish: Wish) -> &'static [u8] {
     }
 }
 
+/// What comes of a reply that is wanted.
+fn wanted_progress(wish: Wish) -> Progress {
+    match wish {
+        Wish::Anything => Progress::Ended,
+        _ => Progress::Send,
+    }
+}
+
+/// Whether the volumes are those.
+fn are_counts(found: &[VolumeCount], wanted: &[Counted]) -> bool {
+    if found.len() != wanted.len() {
+        return false;
+    }
+    for (found, wanted) in found.iter().zip(wanted) {
+        if (found.volume, found.first, found.count) != *wanted {
+            return false;
+        }
+    }
+    true
+}
+
 impl Talk {
     /// A client that has not started, of the run with so many blocks.
     pub(crate) fn new(alloc: Global, blocks: u32) -> Result<Talk, Fail> {
@@ -88,114 +110,123 @@ impl Talk {
         })
     }
 
+    /// It is in this state.
+    fn is_in(&self, state: State) -> bool {
+        self.client.state() == state
+    }
+
     /// It can start, and then is to send the first request.
-    pub(crate) fn start(&mut self, rt: &impl Abort) {
-        assert_eq!(rt; self.client.state(), State::Ready);
-        assert!(rt; self.client.start() == Ok(()));
-        assert_eq!(rt; self.client.state(), State::ToSend);
+    pub(crate) fn starts(&mut self) -> bool {
+        self.is_in(State::Ready) && self.client.start() == Ok(()) && self.is_in(State::ToSend)
     }
 
     /// It asks just this.
-    pub(crate) fn asks(&mut self, rt: &impl Abort, text: &[u8]) {
+    pub(crate) fn asks(&mut self, text: &[u8]) -> bool {
         let before = self.asked.len();
-        assert_eq!(rt; self.client.state(), State::ToSend);
-        assert!(rt; self.client.next_request(&mut self.asked) == Ok(true));
-        assert!(rt; self.asked.get(before..) == Some(text));
-        assert_eq!(rt; self.client.state(), State::Waiting);
+        self.is_in(State::ToSend)
+            && self.client.next_request(&mut self.asked) == Ok(true)
+            && self.asked.get(before..) == Some(text)
+            && self.is_in(State::Waiting)
     }
 
     /// It asks nothing.
-    pub(crate) fn asks_nothing(&mut self, rt: &impl Abort) {
+    pub(crate) fn asks_nothing(&mut self) -> bool {
         let before = self.asked.len();
-        assert!(rt; self.client.next_request(&mut self.asked) == Ok(false));
-        assert_eq!(rt; self.asked.len(), before);
+        self.client.next_request(&mut self.asked) == Ok(false) && self.asked.len() == before
     }
 
     /// It cannot ask, for this reason, and the operator is to answer.
-    pub(crate) fn asks_in_vain(&mut self, rt: &impl Abort, fault: AttemptFault) {
+    pub(crate) fn asks_in_vain(&mut self, fault: AttemptFault) -> bool {
         let before = self.asked.len();
-        assert_eq!(rt; self.client.state(), State::ToSend);
-        assert!(rt; self.client.next_request(&mut self.asked) == Err(fault));
-        assert_eq!(rt; self.asked.len(), before);
-        assert_eq!(rt; self.client.state(), State::Asking);
+        self.is_in(State::ToSend)
+            && self.client.next_request(&mut self.asked) == Err(fault)
+            && self.asked.len() == before
+            && self.is_in(State::Asking)
     }
 
     /// No attempt is under way: nothing comes of what it hears, it asks nothing, and it stays as it is.
-    pub(crate) fn is_idle(&mut self, rt: &impl Abort) {
+    pub(crate) fn is_idle(&mut self) -> bool {
         let state = self.client.state();
         for piece in [b"A0\n".as_slice(), b"A1", b"E5\nzz\n", b"zz", b""] {
-            self.hears(rt, piece, Progress::Idle);
+            if !self.hears(piece, Progress::Idle) {
+                return false;
+            }
         }
-        assert!(rt; self.client.ended() == Progress::Idle);
-        self.asks_nothing(rt);
-        assert_eq!(rt; self.client.state(), state);
+        self.ends(Progress::Idle) && self.asks_nothing() && self.is_in(state)
     }
 
     /// This comes of a piece of what the server answers.
-    pub(crate) fn hears(&mut self, rt: &impl Abort, piece: &[u8], progress: Progress) {
-        let found = self.client.feed(piece);
-        assert!(rt; found == progress, "{found:?} of {piece:?}");
+    pub(crate) fn hears(&mut self, piece: &[u8], progress: Progress) -> bool {
+        self.client.feed(piece) == progress
     }
 
-    /// It asks what the script says, and hears the replies that are wanted, at these of its steps, counted from 0.
-    pub(crate) fn goes_through(
-        &mut self,
-        rt: &impl Abort,
-        script: &[Scripted],
-        steps: Range<usize>,
-    ) {
-        for step in script.iter().take(steps.end).skip(steps.start) {
-            self.asks(rt, &step.text);
-            let progress = match step.wish {
-                Wish::Anything => Progress::Ended,
-                _ => Progress::Send,
-            };
-            self.hears(rt, wanted_reply(step.wish), progress);
+    /// This comes of the end of the connection.
+    pub(crate) fn ends(&mut self, progress: Progress) -> bool {
+        self.client.ended() == progress
+    }
+
+    /// It asks what the script says, and hears the replies that are wanted, from one of its steps up to another. They are
+    /// counted from 0.
+    pub(crate) fn goes_through(&mut self, script: &[Scripted], from: usize, to: usize) -> bool {
+        for step in script.iter().take(to).skip(from) {
+            let reply = wanted_reply(step.wish);
+            if !self.asks(&step.text) || !self.hears(reply, wanted_progress(step.wish)) {
+                return false;
+            }
         }
+        true
     }
 
     /// It asks what the script says at this step, counted from 0.
-    pub(crate) fn asks_step(&mut self, rt: &impl Abort, script: &[Scripted], step: usize) {
-        let next = script.get(step);
-        assert!(rt; next.is_some(), "no step {step}");
-        if let Some(next) = next {
-            self.asks(rt, &next.text);
+    pub(crate) fn asks_step(&mut self, script: &[Scripted], step: usize) -> bool {
+        match script.get(step) {
+            Some(next) => self.asks(&next.text),
+            None => false,
         }
     }
 
     /// The attempt fails of this piece. Nothing more is asked, and the operator is to answer.
-    pub(crate) fn fails(&mut self, rt: &impl Abort, piece: &[u8], fault: AttemptFault) {
-        self.hears(rt, piece, Progress::Failed(fault));
-        assert_eq!(rt; self.client.state(), State::Asking);
-        self.asks_nothing(rt);
+    pub(crate) fn fails(&mut self, piece: &[u8], fault: AttemptFault) -> bool {
+        self.hears(piece, Progress::Failed(fault))
+            && self.is_in(State::Asking)
+            && self.asks_nothing()
+    }
+
+    /// The operator's answer is taken.
+    pub(crate) fn takes(&mut self, answer: Answer) -> bool {
+        self.client.answer(answer) == Ok(())
     }
 
     /// The operator has the volume tried again, and the next attempt starts.
-    pub(crate) fn retries(&mut self, rt: &impl Abort) {
-        assert!(rt; self.client.answer(Answer::Retry) == Ok(()));
-        self.start(rt);
+    pub(crate) fn retries(&mut self) -> bool {
+        self.takes(Answer::Retry) && self.starts()
+    }
+
+    /// It does not start, and stays as it is.
+    pub(crate) fn cannot_start(&mut self) -> bool {
+        let state = self.client.state();
+        self.client.start() == Err(StartFault::WrongState) && self.is_in(state)
+    }
+
+    /// It takes no answer, and stays as it is.
+    pub(crate) fn cannot_take(&mut self, answer: Answer) -> bool {
+        let state = self.client.state();
+        self.client.answer(answer) == Err(StartFault::WrongState) && self.is_in(state)
     }
 
     /// It is in this state, with these counts, and this volume and block come next.
-    pub(crate) fn stands(
-        &self,
-        rt: &impl Abort,
-        state: State,
-        counts: &[Counted],
-        next: (u32, u32),
-    ) {
-        assert_eq!(rt; self.client.state(), state);
-        let counted = self.client.counted();
-        assert_eq!(rt; counted.len(), counts.len());
-        for (found, (volume, first, count)) in counted.iter().zip(counts) {
-            let wanted = VolumeCount {
-                volume: *volume,
-                first: *first,
-                count: *count,
-            };
-            assert!(rt; *found == wanted);
+    pub(crate) fn stands(&self, state: State, counts: &[Counted], next: (u32, u32)) -> bool {
+        self.is_in(state)
+            && are_counts(self.client.counted(), counts)
+            && self.client.checkpoint() == next
+            && self.client.finished().is_some() == (state == State::Finished)
+    }
+
+    /// The run is finished, and what is dumped is told.
+    pub(crate) fn tells(&self, name: &str, level: u8, date: u64) -> bool {
+        match self.client.finished() {
+            Some(entry) => (entry.name, entry.level, entry.date) == (name, level, date),
+            None => false,
         }
-        assert!(rt; self.client.checkpoint() == next);
-        assert_eq!(rt; self.client.finished().is_some(), state == State::Finished);
     }
 }
