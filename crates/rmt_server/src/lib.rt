@@ -6,8 +6,6 @@ mod laws;
 mod refusal;
 mod session;
 mod stream;
-#[cfg(test)]
-mod tests;
 
 pub use laws::{
     more_seats, one_holder, one_scene, open_is_held, stacks_trouble, still_at, troubled_is_served,

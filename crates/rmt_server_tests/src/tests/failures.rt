@@ -4,7 +4,7 @@ use super::CAPACITY;
 use super::fixture::serve_once;
 use super::pieces::{Pieces, Wanted};
 use super::script::{READ_BACK_ANSWERS, READ_BACK_BYTES, answered_of};
-use crate::ServeFault;
+use rmt_server::ServeFault;
 use std::alloc::Global;
 use std::io::{self, ErrorKind, Read};
 use std::process::Abort;

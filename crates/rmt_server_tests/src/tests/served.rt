@@ -4,7 +4,7 @@ use super::CAPACITY;
 use super::fixture::serve_once;
 use super::pieces::{Pieces, Wanted, check, check_at};
 use super::script::{READ_BACK_ANSWERS, READ_BACK_BYTES};
-use crate::{ServeFault, Served};
+use rmt_server::{ServeFault, Served};
 use rmt_wire::WireFault;
 use std::alloc::Global;
 use std::process::Abort;

@@ -8,8 +8,8 @@ ghost use Rattle.rmt_server.specs.State.{state, IsAt};
 ghost use Rattle.drives.specs.contracts.local.LocalHoldsHolds.TheImpl.{ghosts as of_holds};
 ghost use Rattle.drives.specs.contracts.list.ListStacksStacks.TheImpl.{ghosts as of_stacks};
 
-use crate::{ServeFault, Served, Session, serve};
 use drives::{DriveTable, Holds, ListStacks, LocalHolds, Stacks};
+use rmt_server::{ServeFault, Served, Session, serve};
 use rmt_wire::{Counted, RequestReader};
 use std::alloc::Global;
 use std::io::{Read, Write};

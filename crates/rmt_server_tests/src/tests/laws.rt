@@ -1,10 +1,10 @@
 //! The laws of a session, each called once.
 
-use crate::{
+use drives::{ListStacks, LocalHolds};
+use rmt_server::{
     more_seats, one_holder, one_scene, open_is_held, stacks_trouble, still_at, troubled_is_served,
     troubled_serve, troubles_set, untroubled_end,
 };
-use drives::{ListStacks, LocalHolds};
 
 #[test]
 fn a_law_does_nothing(_rt: HostRuntime) {

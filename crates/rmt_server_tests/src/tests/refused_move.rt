@@ -5,12 +5,12 @@ ghost use Rattle.tape.specs.contracts.list.ListReelReel.TheImpl.{ghosts as of_re
 ghost use Rattle.drives.specs.Opening.{kinds};
 ghost use Rattle.rmt_server.specs.State.{state, IsAt};
 ghost use Rattle.drives.specs.contracts.local.LocalHoldsHolds.TheImpl.{ghosts as of_holds};
-ghost use Rattle.rmt_server.specs.contracts.tests.full_bin.FullBinStacks.TheImpl.{ghosts as of_stacks};
+ghost use Rattle.rmt_server_tests.specs.contracts.tests.full_bin.FullBinStacks.TheImpl.{ghosts as of_stacks};
 
 use super::full_bin::{FullBin, Why};
 use super::talk::check_talk;
-use crate::Session;
 use drives::{DriveTable, LocalHolds};
+use rmt_server::Session;
 use std::alloc::Global;
 use std::process::Abort;
 use std::test::Fail;

@@ -7,8 +7,8 @@ ghost use Rattle.rmt_server.specs.State.{state, IsAt};
 ghost use Rattle.rmt_server.specs.Replies.{IsSayable};
 
 use super::pieces::Wanted;
-use crate::Session;
 use drives::{DriveTable, Holds, Stacks};
+use rmt_server::Session;
 use rmt_wire::{Counted, NUMBER_LIMIT, Request, RequestReader, write_reply};
 use std::alloc::Global;
 use std::process::Abort;

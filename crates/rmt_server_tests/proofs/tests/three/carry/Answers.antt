@@ -1,4 +1,4 @@
-use Rattle.rmt_server.proofs.tests.three.carry.Goals as goal
+use Rattle.rmt_server_tests.proofs.tests.three.carry.Goals as goal
 
 pub returns-clause-other : goal.returns-clause-other
 returns-clause-other c =
