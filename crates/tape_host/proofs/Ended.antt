@@ -1,6 +1,5 @@
 -- What the end of one side leaves of a host.
-use Rattle.std.proofs.Common.{◌≡◌, ◌≢◌, ◌⊎◌, ℕ, zero, suc, ◌+◌, ◌<◌, ◌≤◌, Bool, false, List, length, map, slice_index, option_map, Option, Some, None, MatchOption, refl, sym, ap, subst, ◌∙◌, inl, inr, arith}
-use Rattle.std.proofs.lemmas.List.{get_or_past, get_or-set_same, get_or-set_other, length-set, map-set, set-get_or}
+use Rattle.std.proofs.Common.{◌≡◌, ◌≢◌, ◌⊎◌, ℕ, ◌+◌, ◌<◌, ◌≤◌, Bool, false, List, length, map, slice_index, option_map, Option, Some, None, MatchOption, refl, sym, ap, subst, ◌∙◌, inl, inr, arith}
 use Rattle.std.proofs.lemmas.Grind.{common_steps}
 use Rattle.tape.specs.Trouble.{TroubledTape}
 use Rattle.tape.specs.declared.trouble.Trouble.TheVariants.{None as NoTrouble}
@@ -12,7 +11,7 @@ use Rattle.drives.specs.Stacking.{ReelCanFail}
 use Rattle.rmt_server.specs.Session.{Scene}
 use Rattle.rmt_server.specs.State.{state, drive_of, reel_of, IsAt, Tells, SessionCanFail, KeepsDrives}
 use Rattle.rmt_server.specs.Opening.{word_after_close, IsClosed}
-use Rattle.rmt_server.specs.Memory.{MemoryState, in_memory, scene_seen}
+use Rattle.rmt_server.specs.Memory.{MemoryState, in_memory, session_seen, scene_seen}
 use Rattle.rmt_server.specs.TroubledServe.{IsTroubled, IsEnded}
 use Rattle.rmt_server.specs.Hall.{hall, Side}
 use Rattle.tape_host.specs.declared.side.Side.{Side as RealSide}
@@ -20,7 +19,10 @@ use Rattle.tape_host.specs.declared.side.Next.{Next}
 use Rattle.tape_host.specs.declared.side.Next.TheVariants.{Nothing, Seat, Whole}
 use Rattle.tape_host.specs.Halls.{side_at, with_side_at, ended_from, ended}
 use Rattle.tape_host.specs.Hosting.{MemoryDrives, MemoryDesk, idle_desk, seen, hall_of, IsLive, IsIdleAt, IsWaiting, IsHosting}
-use Rattle.tape_host.proofs.Hosted.{false_unless, side_map, holds_open}
+use Rattle.tape_host.proofs.Sides.{side_within, side_other, side_same, side_map, length_with, map_with}
+use Rattle.tape_host.specs.Lying.{LieBut, IsOnlineAt}
+use Rattle.tape_host.proofs.Tidied.{Either, OnlineBeside, closed_fits, side_tidy}
+use Rattle.tape_host.proofs.Hosted.{false_unless, holds_open}
 
 -- what the laws of sessions say
 abbrev pub OthersStay : Type 0
@@ -38,47 +40,11 @@ EndsUntroubled = (stacks : Bool) (old new : MemoryState) (before : Scene) → Is
 eq_or_ne : (m n : ℕ) → (m ≡ n) ⊎ (m ≢ n)
 eq_or_ne m n = grind arith
 
-le_or_lt : (m n : ℕ) → (m ≤ n) ⊎ (n < m)
-le_or_lt m n = grind arith
-
 some_is : (a b : ℕ) → Some a ≡ Some b → a ≡ b
 some_is a b o = cc
 
 hall_is : {x y : Shop} {a b : List ℕ} {m n : List (Option Side)} → x ≡ y → a ≡ b → m ≡ n → hall x a m ≡ hall y b n
 hall_is {x} {y} {a} {b} {m} {n} e f g = ap (λ z. hall z a m) e ∙ ap (λ z. hall y z m) f ∙ ap (λ z. hall y b z) g
-
--- sides at places
-pub side_within : {S : Type 0} (sides : List (Option S)) (k : ℕ) (s : S) → side_at sides k ≡ Some s → (1 ≤ k) × (k ≤ length sides)
-side_within sides zero s e = absurd cc
-side_within sides (suc i) s e = elim (le_or_lt (length sides) i) [
-  | inl past ↦ (let none = get_or_past sides i None past in absurd cc)
-  | inr l ↦ (omega arith, omega (arith, l))
-]
-
-pub side_other : {S : Type 0} (sides : List (Option S)) (k n : ℕ) (x : Option S) → n ≢ k → side_at (with_side_at sides k x) n ≡ side_at sides n
-side_other sides zero n x apart = refl
-side_other sides (suc i) zero x apart = refl
-side_other sides (suc i) (suc j) x apart = get_or-set_other sides i j x None (λ same. apart (ap suc same))
-
-pub side_same : {S : Type 0} (sides : List (Option S)) (k : ℕ) (x : Option S) → 1 ≤ k → k ≤ length sides → side_at (with_side_at sides k x) k ≡ x
-side_same sides zero x first last = absurd (omega arith)
-side_same sides (suc i) x first last = get_or-set_same sides i x None (omega arith)
-
-pub length_with : {S : Type 0} (sides : List (Option S)) (k : ℕ) (x : Option S) → length (with_side_at sides k x) ≡ length sides
-length_with sides zero x = refl
-length_with sides (suc i) x = length-set sides i x
-
-pub map_with : {A B : Type 0} (f : A → B) (sides : List (Option A)) (k : ℕ) (x : Option A)
-    → map (option_map f) (with_side_at sides k x) ≡ with_side_at (map (option_map f) sides) k (option_map f x)
-map_with f sides zero x = refl
-map_with f sides (suc i) x = map-set (option_map f) sides i x
-
-pub with_own : {S : Type 0} (sides : List (Option S)) (k : ℕ) → with_side_at sides k (side_at sides k) ≡ sides
-with_own sides zero = refl
-with_own sides (suc i) = set-get_or sides i None
-
-pub with_none : {S : Type 0} (sides : List (Option S)) (k : ℕ) → side_at sides k ≡ None → with_side_at sides k None ≡ sides
-with_none sides k e = subst (λ x. with_side_at sides k x ≡ sides) e (with_own sides k)
 
 -- a side that is not live has no end
 pub ended_none : (drives : MemoryDrives) (sides : List (Option RealSide)) (k : ℕ) → side_at sides k ≡ None → hall_of drives sides ≡ ended (hall_of drives sides) k
@@ -151,6 +117,12 @@ module _ (others : OthersStay) (scene : TellsScene) (ends : EndsUntroubled) {dri
       let apart : n ≢ k = λ same. was.1 (holds_open h d k s live (l, was.0 ∙ same)) in
       (found.0, side_other sides k n None apart ∙ found.1)
 
+  ended_tidy : LieBut (shop_of drives'.stacks) (IsOnlineAt (map (option_map seen) (with_side_at sides k None)))
+  ended_tidy =
+      let others = OnlineBeside (map (option_map seen) sides) k in
+      side_tidy sides k s is None (shop_of drives.stacks) (shop_of drives'.stacks) h.tidy
+      (λ own. subst (λ (x : Shop). LieBut x (Either None others)) left.tells.shop.0 (closed_fits others (shop_of drives.stacks) (session_seen s.session.opened) own))
+
   pub ended_hosting : IsHosting drives' (with_side_at sides k None) next
   ended_hosting = record {
     live = ended_live;
@@ -161,6 +133,7 @@ module _ (others : OthersStay) (scene : TellsScene) (ends : EndsUntroubled) {dri
     paired = c.kept.same_holds ∙ h.paired ∙ sym c.kept.same_stacks;
     quiet = false_unless drives'.stacks.trouble (λ t. calm_before (c.quiet (inl (inl t))));
     lying = left.lying;
+    tidy = ended_tidy;
   }
 
   pub ended_hall : hall_of drives' (with_side_at sides k None) ≡ ended (hall_of drives sides) k

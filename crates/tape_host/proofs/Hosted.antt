@@ -7,6 +7,7 @@ use Rattle.std.proofs.lemmas.Grind.{common_steps}
 use Rattle.rmt_wire.specs.RequestReader.{RequestHeld, held, dropped_line, UnreadAt, Unread}
 use Rattle.tape.specs.Trouble.{TroubledTape}
 use Rattle.drives.specs.declared.view.View.{View}
+use Rattle.drives.specs.Shop.{latched_at}
 use Rattle.drives.specs.Holding.{newcomer, HoldsJust}
 use Rattle.drives.specs.Local.{Holders, holders, IsSeatOf, IsHeldBy}
 use Rattle.drives.specs.ListShop.{shop_of, IsShop, troubled_in, StacksCanFail}
@@ -21,6 +22,10 @@ use Rattle.tape_host.specs.declared.side.Side.{Side as RealSide}
 use Rattle.tape_host.specs.declared.side.Next.{Next}
 use Rattle.tape_host.specs.declared.side.Next.TheVariants.{Nothing, Seat, Whole}
 use Rattle.tape_host.specs.Halls.{side_at, drive_open_by, IsHeldOnce, joined}
+use Rattle.tape_host.proofs.Lying.{lie_first, none_away}
+use Rattle.tape_host.proofs.Sides.{side_within, side_map, at_more}
+use Rattle.tape_host.proofs.Tidied.{joined_tidy, none_online}
+use Rattle.tape_host.specs.Lying.{AllLie, IsOnlineAt}
 use Rattle.tape_host.specs.Hosting.{MemoryDrives, MemoryDesk, seen, hall_of, is_nothing, IsIdle, IsMade, IsCalm, IsLive, IsIdleAt, IsWaiting, IsHosting}
 
 -- without connections no side is live
@@ -38,8 +43,8 @@ none_unless (suc n) h = absurd (h (omega arith))
 
 -- drives that no seat holds, and no connection
 pub first_hosting : (drives : MemoryDrives) (n : ℕ) → drives.holds ≡ holders (replicate n 0) 0 → length drives.stacks.shop.racks ≡ n
-    → IsShop drives.stacks (shop_of drives.stacks) → (StacksCanFail drives.stacks → ⊥) → IsHosting drives [] Nothing
-first_hosting drives n e all told quiet =
+    → IsShop drives.stacks (shop_of drives.stacks) → (StacksCanFail drives.stacks → ⊥) → AllLie (shop_of drives.stacks) → IsHosting drives [] Nothing
+first_hosting drives n e all told quiet rested =
     let numbers : drives.holds.numbers ≡ replicate n 0 = ap (λ h. h.numbers) e in
     let same : length drives.holds.numbers ≡ n = ap length numbers ∙ length-replicate n 0 in
     record {
@@ -52,6 +57,7 @@ first_hosting drives n e all told quiet =
       paired = same ∙ sym all;
       quiet = false_unless drives.stacks.trouble (λ t. quiet (inl t));
       lying = none_unless (troubled_in drives.stacks.shop) (λ x. quiet (inr x));
+      tidy = lie_first (shop_of drives.stacks) (IsOnlineAt []) rested;
     }
 
 seen_with : (drive : ℕ) (access : Access) (reel : Option TroubledTape) → drive_in (session_with drive access reel) ≡ Some drive
@@ -62,16 +68,6 @@ seen_with drive access (Some reel) = refl
 seen_drive : (opened : Option (Opened TroubledTape)) → drive_in (session_seen opened) ≡ drive_of opened
 seen_drive None = refl
 seen_drive (Some device) = seen_with device.drive device.access device.reel
-
--- a side is seen at its connection's place
-at_map : {A B : Type 0} (f : A → B) (sides : List (Option A)) (i : ℕ) → slice_index_or (map (option_map f) sides) i None ≡ option_map f (slice_index_or sides i None)
-at_map f [] i = refl
-at_map f (s ∷ sides) zero = refl
-at_map f (s ∷ sides) (suc i) = at_map f sides i
-
-pub side_map : {A B : Type 0} (f : A → B) (sides : List (Option A)) (k : ℕ) → side_at (map (option_map f) sides) k ≡ option_map f (side_at sides k)
-side_map f sides zero = refl
-side_map f sides (suc i) = at_map f sides i
 
 number-is : (n a : ℕ) → (n == a) ≡ true → n ≡ a
 number-is n a e = grind (arith, nat_tests)
@@ -101,6 +97,14 @@ module _ {drives : MemoryDrives} {sides : List (Option RealSide)} {next : Next} 
         ap drive_open_by (side_map seen sides k ∙ ap (option_map seen) found.1) ∙ seen_drive found.0.session.opened ∙ holds_open d k found.0 (h.live k found.0 found.1) holder),
     λ o. open_back d k (side_at sides k) refl (ap drive_open_by (sym (side_map seen sides k)) ∙ o),
   )
+
+  -- no reel is latched at a drive that has no holder
+  pub unlatched : (d : ℕ) → IsHeldBy drives.holds d 0 → latched_at (shop_of drives.stacks) d ≡ None
+  unlatched d none =
+      let nobody : IsOnlineAt (map (option_map seen) sides) d → ⊥ = none_online sides d (λ k s e o. (
+      let held = open_holds d k s (h.live k s e) o in
+      let within = side_within sides k s e in absurd (omega (arith, within.0, held.1, none.1)))) in
+      none_away (latched_at (shop_of drives.stacks) d) (λ first. nobody (h.tidy.first d first))
 
 -- what the law of more seats says
 abbrev pub KeepsSeats : Type 0
@@ -143,6 +147,7 @@ seated_hosting more drives sides h seat new e number own idle =
       paired = h.paired;
       quiet = h.quiet;
       lying = h.lying;
+      tidy = h.tidy;
     }) own
 
 -- the next connection's side was made of its seat
@@ -158,6 +163,7 @@ made_hosting drives sides (Seat seat) next h (inr (s, e, fresh)) = subst (IsHost
   paired = h.paired;
   quiet = h.quiet;
   lying = h.lying;
+  tidy = h.tidy;
 }
 made_hosting drives sides (Whole s) next h m = subst (IsHosting drives sides) (sym m) h
 
@@ -177,12 +183,6 @@ at_push (y ∷ ys) s (suc i) x e = elim (at_push ys s i x e) [
   | inl before ↦ inl before
   | inr last ↦ inr (ap suc last.0, last.1)
 ]
-
-at_more : {S : Type 0} (sides : List (Option S)) (s : S) (i : ℕ) (x : S) → slice_index_or sides i None ≡ Some x
-    → slice_index_or (sides ++ Some s ∷ []) i None ≡ Some x
-at_more [] s i x e = absurd cc
-at_more (y ∷ ys) s zero x e = e
-at_more (y ∷ ys) s (suc i) x e = at_more ys s i x e
 
 module _ {drives : MemoryDrives} {sides : List (Option RealSide)} {s : RealSide} (h : IsHosting drives sides (Whole s)) where
   -- the side that was admitted is live
@@ -214,6 +214,7 @@ module _ {drives : MemoryDrives} {sides : List (Option RealSide)} {s : RealSide}
     paired = h.paired;
     quiet = h.quiet;
     lying = h.lying;
+    tidy = joined_tidy sides s (shop_of drives.stacks) h.tidy;
   }
 
 nothing_kept : (line : Option (ℕ × ℕ)) (r : RequestHeld) → UnreadAt line r [] → length r.kept ≡ 0

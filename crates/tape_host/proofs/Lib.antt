@@ -1,6 +1,9 @@
 pub mod Carrying
 pub mod Ended
 pub mod Given
+pub mod Lying
+pub mod Sides
+pub mod Tidied
 pub mod Hosted
 pub mod Pushed
 pub mod Restacked

@@ -10,8 +10,8 @@ use Rattle.tape_host.specs.declared.side.Side.{Side as RealSide}
 use Rattle.tape_host.specs.declared.side.Next.{Next}
 use Rattle.tape_host.specs.Halls.{Hosted, hosted, side_at, with_side_at, TakesIn, IsPushed}
 use Rattle.tape_host.specs.Hosting.{MemoryDrives, seen, hall_of, IsLive, IsWaiting, IsHosting}
-use Rattle.tape_host.proofs.Hosted.{side_map}
-use Rattle.tape_host.proofs.Ended.{side_within, side_other, side_same, length_with, map_with}
+use Rattle.tape_host.proofs.Tidied.{side_tidy}
+use Rattle.tape_host.proofs.Sides.{side_within, side_other, side_same, side_map, length_with, map_with}
 
 -- a side with another reader
 abbrev pub with_reader : RealSide → RequestHeld → RealSide
@@ -56,6 +56,7 @@ module _ {drives : MemoryDrives} {sides : List (Option RealSide)} {next : Next} 
     paired = h.paired;
     quiet = h.quiet;
     lying = h.lying;
+    tidy = side_tidy sides k s is (Some (with_reader s reader)) (shop_of drives.stacks) (shop_of drives.stacks) h.tidy (λ own. own);
   }
 
 -- it is seen as a piece that was taken in

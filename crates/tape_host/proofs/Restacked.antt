@@ -1,7 +1,8 @@
 -- What an operator's order leaves of a host.
-use Rattle.std.proofs.Common.{◌≡◌, ◌≢◌, ℕ, ◌+◌, Bool, false, List, length, map, option_map, Option, Some, Result, Ok, Err, MatchResult, refl, sym, ap, ◌∙◌, inl, inr, arith}
+use Rattle.std.proofs.Common.{◌≡◌, ◌≢◌, ℕ, ◌+◌, Bool, false, List, length, map, option_map, Option, Some, Result, Ok, Err, MatchResult, refl, sym, ap, subst, ◌∙◌, inl, inr, arith}
 use Rattle.drives.specs.declared.fault.DriveFault.{DriveFault}
 use Rattle.drives.specs.Arranging.{arranged}
+use Rattle.drives.specs.Shop.{Shop}
 use Rattle.drives.specs.Local.{IsSeatOf, IsHeldBy}
 use Rattle.drives.specs.ListShop.{ListShop, shop_of, IsShop, troubled_in, StacksCanFail}
 use Rattle.drives.specs.Stacking.{HasLatched}
@@ -13,6 +14,9 @@ use Rattle.tape_host.specs.declared.side.Next.{Next}
 use Rattle.tape_host.specs.declared.side.Next.TheVariants.{Nothing, Seat, Whole}
 use Rattle.tape_host.specs.Halls.{hosted, restacked}
 use Rattle.tape_host.specs.Hosting.{MemoryDrives, MemoryDesk, idle_desk, seen, hall_of, IsIdleAt, IsWaiting, IsHosting}
+use Rattle.tape_host.specs.Lying.{LieBut, IsOnlineAt}
+use Rattle.tape_host.proofs.Lying.{lie_arranged}
+use Rattle.tape_host.proofs.Tidied.{none_online}
 use Rattle.tape_host.proofs.Hosted.{false_unless, none_unless}
 
 -- what the laws of sessions say
@@ -47,8 +51,22 @@ module _ (free : LeavesFree) (elsewhere : StaysElsewhere) {drives : MemoryDrives
   waiting_stays n (Seat seat) w = (w.0, idle_stays (n + 1) (idle_desk seat) w.1)
   waiting_stays n (Whole s) w = (w.0, idle_stays (n + 1) s.session w.1, w.2)
 
-  pub restacked_hosting : IsShop stacks (shop_of stacks) → (StacksCanFail stacks → StacksCanFail drives.stacks) → IsHosting after sides next
-  restacked_hosting told quiet =
+  -- no side is online at the drive
+  pub none_there : IsOnlineAt (map (option_map seen) sides) d → ⊥
+  none_there = none_online sides d (λ k s e. free drives s.session d (h.live k s e).at none)
+
+  restacked_tidy : {U : Type 0} (names : List (List ℕ)) (result : Result U DriveFault)
+      → MatchResult result (λ _. shop_of stacks ≡ arranged (shop_of drives.stacks) d names) (λ _. shop_of stacks ≡ shop_of drives.stacks)
+      → LieBut (shop_of stacks) (IsOnlineAt (map (option_map seen) sides))
+  restacked_tidy names (Ok x) e =
+      subst (λ (s : Shop). LieBut s (IsOnlineAt (map (option_map seen) sides))) (sym e)
+      (lie_arranged (shop_of drives.stacks) d names (IsOnlineAt (map (option_map seen) sides)) h.tidy none_there)
+  restacked_tidy names (Err why) e = subst (λ (s : Shop). LieBut s (IsOnlineAt (map (option_map seen) sides))) (sym e) h.tidy
+
+  pub restacked_hosting : {U : Type 0} (names : List (List ℕ)) (result : Result U DriveFault)
+      → MatchResult result (λ _. shop_of stacks ≡ arranged (shop_of drives.stacks) d names) (λ _. shop_of stacks ≡ shop_of drives.stacks)
+      → IsShop stacks (shop_of stacks) → (StacksCanFail stacks → StacksCanFail drives.stacks) → IsHosting after sides next
+  restacked_hosting names result order told quiet =
       let calm : StacksCanFail drives.stacks → ⊥ = cannot drives.stacks h.quiet h.lying in
       record {
         live = λ k s e. (let l = h.live k s e in record { at = desk_stays s.session l.at; number = l.number; readable = l.readable; calm = l.calm });
@@ -58,6 +76,7 @@ module _ (free : LeavesFree) (elsewhere : StaysElsewhere) {drives : MemoryDrives
         paired = h.paired ∙ sym same;
         quiet = false_unless stacks.trouble (λ t. calm (quiet (inl t)));
         lying = none_unless (troubled_in stacks.shop) (λ x. calm (quiet (inr x)));
+        tidy = restacked_tidy names result order;
       }
 
 -- the order is seen, or nothing where it was refused

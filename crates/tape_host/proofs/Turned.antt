@@ -19,8 +19,10 @@ use Rattle.tape_host.specs.declared.turn.Turn.TheVariants as turns
 use Rattle.tape_host.specs.Halls.{Hosted, hosted, side_at, with_side_at}
 use Rattle.tape_host.specs.Turns.{TurnsAt}
 use Rattle.tape_host.specs.Hosting.{MemoryDrives, seen, hall_of, IsLive, IsWaiting, IsHosting, IsCalmAt, IsCarried, TurnsSession}
-use Rattle.tape_host.proofs.Hosted.{side_map}
-use Rattle.tape_host.proofs.Ended.{OthersStay, side_within, side_other, side_same, length_with, map_with, with_own, live_stays, waiting_stays}
+use Rattle.tape_host.proofs.Sides.{side_within, side_other, side_same, side_map, length_with, map_with, with_own}
+use Rattle.tape_host.specs.Lying.{LieBut, IsOnlineAt}
+use Rattle.tape_host.proofs.Tidied.{OnlineBeside, served_fits, side_tidy}
+use Rattle.tape_host.proofs.Ended.{OthersStay, live_stays, waiting_stays}
 
 eq_or_ne : (m n : ℕ) → (m ≡ n) ⊎ (m ≢ n)
 eq_or_ne m n = grind arith
@@ -89,6 +91,12 @@ module _ (others : OthersStay) {drives drives' : MemoryDrives} {sides : List (Op
         | inr was ↦ still_there n (h.held d n (l, was) x)
       ]
 
+  carried_tidy : LieBut (shop_of drives'.stacks) (IsOnlineAt (map (option_map seen) (with_side_at sides k (Some after))))
+  carried_tidy =
+      side_tidy sides k s is (Some after) (shop_of drives.stacks) (shop_of drives'.stacks) h.tidy
+      (served_fits (OnlineBeside (map (option_map seen) sides) k) trouble drives.holds.numbers (scene_seen (state drives s.session)) request reply
+      (scene_seen (state drives' after.session)) c.served.step)
+
   pub carried_hosting : IsHosting drives' (with_side_at sides k (Some after)) next
   carried_hosting = record {
     live = carried_live;
@@ -99,6 +107,7 @@ module _ (others : OthersStay) {drives drives' : MemoryDrives} {sides : List (Op
     paired = c.kept.same_holds ∙ h.paired ∙ sym c.kept.same_stacks;
     quiet = c.calm.calm.next;
     lying = c.calm.calm.lying;
+    tidy = carried_tidy;
   }
 
 -- a side of this reader and this session

@@ -23,6 +23,7 @@ use Rattle.tape_host.specs.declared.side.Next.TheVariants.{Nothing, Seat, Whole}
 use Rattle.tape_host.specs.declared.turn.Turn.{Turn}
 use Rattle.tape_host.specs.declared.turn.Turn.TheVariants as turns
 use Rattle.tape_host.specs.Halls.{side_at}
+use Rattle.tape_host.specs.Lying.{LieBut, IsOnlineAt}
 use Rattle.tape_host.specs.Turns.{carried_of, sent_back, GivesNothing, GivesFault, GivesRequest}
 
 abbrev pub MemoryDrives : Type 0
@@ -92,7 +93,8 @@ IsWaiting drives n Nothing = drives.holds.last ≡ n
 IsWaiting drives n (Seat seat) = (drives.holds.last ≡ n + 1) × IsIdleAt drives (n + 1) (idle_desk seat)
 IsWaiting drives n (Whole s) = (drives.holds.last ≡ n + 1) × IsIdleAt drives (n + 1) s.session × Unread s.reader []
 
--- Each drive is held by a live side or by none. No trouble is set, for the stacks or for a reel.
+-- Each drive is held by a live side or by none. No trouble is set, for the stacks or for a reel. Each reel lies there but those
+-- that a live side has open.
 pub record IsHosting (drives : MemoryDrives) (sides : List (Option RealSide)) (next : Next) : Type 0 where
   pub live : (k : ℕ) (s : RealSide) → side_at sides k ≡ Some s → IsLive drives k s
   pub held : (d n : ℕ) → IsHeldBy drives.holds d n → 0 < n → (s : RealSide) × (side_at sides n ≡ Some s)
@@ -101,6 +103,7 @@ pub record IsHosting (drives : MemoryDrives) (sides : List (Option RealSide)) (n
   pub paired : length drives.holds.numbers ≡ length drives.stacks.shop.racks
   pub quiet : drives.stacks.trouble ≡ false
   pub lying : troubled_in drives.stacks.shop ≡ 0
+  pub tidy : LieBut (shop_of drives.stacks) (IsOnlineAt (map (option_map seen) sides))
 
 -- The drives are those of a session for which no trouble is set, and each reel stands once.
 pub record IsCalmAt (x : MemoryState) : Type 0 where

@@ -1,3 +1,4 @@
 pub mod Halls
+pub mod Lying
 pub mod Hosting
 pub mod Turns

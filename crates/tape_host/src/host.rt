@@ -1,13 +1,14 @@
 //! One server.
-ghost use Rattle.std.specs.Prelude.{◌≡◌, ◌+◌, ◌<◌, ◌≤◌, false, true, [], IfOk, IfErr, IfSome, IsTrue, MatchResult, length, map, replicate, vec_len, vec_capacity};
+ghost use Rattle.std.specs.Prelude.{◌≡◌, ◌+◌, ◌<◌, ◌≤◌, false, true, [], None, IfOk, IfErr, IfSome, IsTrue, MatchResult, length, map, replicate, vec_len, vec_capacity};
 ghost use Rattle.std.specs.Option.{option_copied, option_map};
 ghost use Rattle.drives.specs.declared.fault.DriveFault.TheVariants.{OutOfMemory};
-ghost use Rattle.drives.specs.Shop.{IsDriveNamed, rack_at, slots_in};
+ghost use Rattle.drives.specs.Shop.{IsDriveNamed, rack_at, latched_at, slots_in};
 ghost use Rattle.drives.specs.ListShop.{IsShop, shop_of, at_rest, rest_slot, StacksCanFail};
 ghost use Rattle.drives.specs.Arranging.{reel_named, may_arrange};
 ghost use Rattle.rmt_server.specs.Memory.{session_seen};
 ghost use Rattle.rmt_server.specs.Hall.{hall};
 ghost use Rattle.tape_host.specs.Halls.{hosted, side_at, joined, ended, all_ended, restacked, HasRoom, IsPushed, IsHolder, IsHeldOnce};
+ghost use Rattle.tape_host.specs.Lying.{AllLie};
 ghost use Rattle.tape_host.specs.Turns.{TurnsAt, ServesAt};
 
 use crate::serving::take_turn;
@@ -48,14 +49,16 @@ impl Model for Host {
 }
 
 impl Host {
-    /// A server with these drives, from 1 to 64, and no connection. No trouble is set in them. It fails only where memory is
-    /// refused.
+    /// A server with these drives, from 1 to 64, and no connection. No trouble is set in them, and no reel is latched.
+    ///
+    /// It fails only where memory is refused.
     pub fn new(alloc: Global, drives: usize, stacks: ListStacks) -> Result<Host, AllocError>
         requires some { 1 ≤ drives }
         requires few { drives ≤ 64 }
         requires all { length stacks.shop.racks ≡ drives }
         requires told { IsShop stacks (shop_of stacks) }
         requires quiet { StacksCanFail stacks → ⊥ }
+        requires rested { AllLie (shop_of stacks) }
         ensures hall { IfOk result (λ h. h ≡ hosted (hall (shop_of stacks) (replicate drives 0) []) false) }
     {
         let holds = LocalHolds::new(alloc, drives)?;
@@ -245,10 +248,11 @@ impl Host {
     }
 
     /// Whether `arrange` can be asked for these names: no reel of the drive is latched, no name stands twice, and each is the
-    /// name of a reel of its stack or of the bin.
+    /// name of a reel of its stack or of the bin. No reel is latched at a drive that has no holder.
     pub fn can_arrange(&self, drive: usize, names: &[&[u8]]) -> bool
         requires { drive < length self.now.hall.shop.racks }
-        ensures { result ≡ may_arrange self.now.hall.shop drive (map (λ n. n.now) names.now) }
+        ensures may { result ≡ may_arrange self.now.hall.shop drive (map (λ n. n.now) names.now) }
+        ensures free { IsHolder self.now.hall drive 0 → latched_at self.now.hall.shop drive ≡ None }
     {
         self.drives.stacks.can_arrange(drive, names)
     }

@@ -2,6 +2,7 @@
 
 ghost use Rattle.std.specs.Prelude.{◌≡◌, IfOk, length};
 ghost use Rattle.drives.specs.ListShop.{IsShop, shop_of, StacksCanFail};
+ghost use Rattle.tape_host.specs.Lying.{AllLie};
 
 use crate::{Answered, Asked, Carried, Host, Turn};
 use drives::ListStacks;
@@ -15,6 +16,7 @@ fn one_reel(alloc: Global) -> Result<ListStacks, Fail>
     ensures told { IfOk result (λ s. IsShop s (shop_of s)) }
     ensures quiet { IfOk result (λ s. StacksCanFail s → ⊥) }
     ensures drives { IfOk result (λ s. length s.shop.racks ≡ 1) }
+    ensures rested { IfOk result (λ s. AllLie (shop_of s)) }
 {
     let mut stacks = ListStacks::new(alloc);
     let drive = stacks.add_drive(b"/dev/st0")?;

@@ -15,7 +15,8 @@ pub invariant_of-self : goal.invariant_of-self
 invariant_of-self c = (
   restacked_hosting c.open_is_held.ensures.free c.still_at.ensures.elsewhere c.self.invariant.0 c.args.drive
       (subst (λ (v : Hosted). IsHolder v.hall c.args.drive 0) (sym c.self.view_is) c.requires.free) c.arrange.new.self
-      c.arrange.ensures.same_drives c.arrange.ensures.elsewhere c.arrange.ensures.told c.arrange.ensures.quiet,
+      c.arrange.ensures.same_drives c.arrange.ensures.elsewhere (map (λ n. n.now) c.args.names.now) c.arrange.result c.arrange.ensures.told_order
+      c.arrange.ensures.told c.arrange.ensures.quiet,
   c.self.invariant.1,
 )
 

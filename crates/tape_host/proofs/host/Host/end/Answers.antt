@@ -1,7 +1,8 @@
 use Rattle.std.proofs.Common.{None, length, sym, ap, subst, ◌∙◌, arith}
 use Rattle.tape_host.specs.Halls.{Hosted, hosted, ended}
 use Rattle.tape_host.specs.Hosting.{hall_of, is_whole, IsHosting}
-use Rattle.tape_host.proofs.Ended.{length_with, with_none, ended_none, ended_hosting, ended_hall}
+use Rattle.tape_host.proofs.Sides.{length_with, with_none}
+use Rattle.tape_host.proofs.Ended.{ended_none, ended_hosting, ended_hall}
 use Rattle.tape_host.proofs.host.Host.end.Goals as goal
 
 pub invariant_of-self : goal.invariant_of-self

@@ -1,7 +1,7 @@
 use Rattle.std.proofs.Common.{Some, None, ◌++◌, take, length, sym, ap, subst, ◌∙◌, arith}
 use Rattle.tape_host.specs.Halls.{Hosted, hosted, side_at, with_side_at, IsPushed}
 use Rattle.tape_host.specs.Hosting.{hall_of, is_whole, IsHosting}
-use Rattle.tape_host.proofs.Ended.{length_with}
+use Rattle.tape_host.proofs.Sides.{length_with}
 use Rattle.tape_host.proofs.Pushed.{with_reader, put_back, pushed_hosting, pushed_seen}
 use Rattle.tape_host.proofs.host.Host.push.Goals as goal
 

@@ -2,7 +2,7 @@ use Rattle.std.proofs.Common.{option_map, sym, ap, ◌∙◌}
 use Rattle.rmt_server.specs.Hall.{Side}
 use Rattle.tape_host.specs.Halls.{Hosted, side_at}
 use Rattle.tape_host.specs.Hosting.{seen}
-use Rattle.tape_host.proofs.Hosted.{side_map}
+use Rattle.tape_host.proofs.Sides.{side_map}
 use Rattle.tape_host.proofs.host.Host.session.Goals as goal
 
 pub returns-clause-seen : goal.returns-clause-seen

@@ -3,7 +3,7 @@ use Rattle.tape_host.specs.declared.side.Side.{Side as RealSide}
 use Rattle.tape_host.specs.Halls.{Hosted, hosted, side_at, with_side_at}
 use Rattle.tape_host.specs.Turns.{TurnsAt}
 use Rattle.tape_host.specs.Hosting.{hall_of, is_whole, IsHosting}
-use Rattle.tape_host.proofs.Ended.{length_with}
+use Rattle.tape_host.proofs.Sides.{length_with}
 use Rattle.tape_host.proofs.Pushed.{put_back}
 use Rattle.tape_host.proofs.Turned.{turned_hosting, turned_seen}
 use Rattle.tape_host.proofs.host.Host.turn.Goals as goal

@@ -1,0 +1,203 @@
+-- How reels are latched and laid back with what the sides of a server have open.
+use Rattle.std.proofs.Common.{◌≡◌, ◌≢◌, ◌⊎◌, ℕ, zero, suc, ◌≤◌, Bool, true, false, List, [], ◌∷◌, ◌++◌, length, map, option_map, Option, Some, None, MatchOption, Result, Ok, Err, refl, sym, ap, subst, ◌∙◌, inl, inr, arith}
+use Rattle.std.proofs.lemmas.List.{map-append}
+use Rattle.rmt_wire.specs.Request.{PlainRequest}
+use Rattle.rmt_wire.specs.Request.PlainRequest.{Open, Close, Write, WriteDropped, Read, Op}
+use Rattle.rmt_wire.specs.Reply.{PlainReply}
+use Rattle.tape.specs.Trouble.{TroubledTape}
+use Rattle.tape.specs.Tape.{entries_of}
+use Rattle.tape.specs.declared.trouble.Trouble.{Trouble}
+use Rattle.drives.specs.declared.fault.DriveFault.{DriveFault}
+use Rattle.drives.specs.declared.fault.DriveFault.TheVariants.{NoSuchDrive, Busy, NoReel, Device, OutOfMemory, NameTaken}
+use Rattle.drives.specs.Shop.{Shop, kept_reel}
+use Rattle.drives.specs.Opening.{OpenStep}
+use Rattle.rmt_server.specs.declared.access.Access.{Access}
+use Rattle.rmt_server.specs.declared.session.desk.Opened.{Opened}
+use Rattle.rmt_server.specs.Access.{access_of}
+use Rattle.rmt_server.specs.Refusals.{refused}
+use Rattle.rmt_server.specs.Session.{PlainReel, PlainSession, Scene, status_of, refusal, closed, closed_shop, session_after, is_offline, MovesAs}
+use Rattle.rmt_server.specs.Session.PlainSession.{Idle, Offline, Online}
+use Rattle.rmt_server.specs.State.{drive_of}
+use Rattle.rmt_server.specs.Memory.{session_with, session_seen}
+use Rattle.rmt_server.specs.TroubledServe.{drive_in, with_holder, TroubledReelStep, TroubledMoveStep, TroubledOpStep, TroubledDoneStep, TroubledOpens, TroubledServeStep}
+use Rattle.rmt_server.specs.Hall.{Side}
+use Rattle.drives.specs.ListShop.{is_set}
+use Rattle.tape_host.specs.declared.side.Side.{Side as RealSide}
+use Rattle.tape_host.specs.Halls.{side_at, with_side_at}
+use Rattle.tape_host.specs.Lying.{LieBut, online_in, online_by, IsOnlineAt}
+use Rattle.tape_host.specs.Hosting.{seen}
+use Rattle.tape_host.proofs.Lying.{lie_laid, lie_latched, lie_moved}
+use Rattle.tape_host.proofs.Sides.{side_within, side_other, side_same, side_map, map_with, at_more}
+
+-- that drive is this one, or one of others
+abbrev pub Either : Option ℕ → (ℕ → Type 0) → ℕ → Type 0
+Either own others d = (own ≡ Some d) ⊎ others d
+
+-- ---- one request of a session, where others have drives open
+
+module _ (others : ℕ → Type 0) where
+  abbrev Fits : Shop → PlainSession → Type 0
+  Fits s x = LieBut s (Either (online_in x) others)
+
+  given_up : (drive e : ℕ) → e ≢ drive → Either (Some drive) others e → Either None others e
+  given_up drive e apart (inl own) = absurd (apart (cc))
+  given_up drive e apart (inr other) = inr other
+
+  taken_up : (drive e : ℕ) → e ≢ drive → Either None others e → Either (Some drive) others e
+  taken_up drive e apart (inl own) = absurd cc
+  taken_up drive e apart (inr other) = inr other
+
+  pub closed_fits : (s : Shop) (x : PlainSession) → Fits s x → Fits (closed_shop s x) Idle
+  closed_fits s Idle h = h
+  closed_fits s (Offline drive access) h = h
+  closed_fits s (Online drive access reel) h =
+      lie_laid s drive (Either (Some drive) others) (Either None others) h (given_up drive) (kept_reel (entries_of reel.tape) reel.capacity)
+
+  same_fits : (v w : Scene) → w ≡ v → Fits v.shop v.session → Fits w.shop w.session
+  same_fits v w same h = subst (λ (x : Scene). Fits x.shop x.session) (sym same) h
+
+  same_shop : (s now : Shop) → now ≡ s → Fits s Idle → Fits now Idle
+  same_shop s now same h = subst (λ (x : Shop). Fits x Idle) (sym same) h
+
+  latched_fits : (device : List ℕ) (asked : Option ℕ) (access : Access) (result : Result (ℕ × PlainReel) DriveFault) (s now : Shop)
+      → OpenStep (λ reel t. reel.tape ≡ t) (λ reel. reel.capacity) device asked result s now → Fits s Idle → Fits now (session_after access result)
+  latched_fits device asked access (Ok opened) s now step h =
+      subst (λ (x : Shop). Fits x (Online opened.0 access opened.1)) (sym step.2.2)
+      (lie_latched s opened.0 (Either None others) (Either (Some opened.0) others) h (taken_up opened.0) (inl refl))
+  latched_fits device asked access (Err NoSuchDrive) s now step h = same_shop s now step.1 h
+  latched_fits device asked access (Err (Busy n)) s now step h = same_shop s now step.3 h
+  latched_fits device asked access (Err NoReel) s now step h = same_shop s now step.3.1 h
+  latched_fits device asked access (Err Device) s now step h = same_shop s now step.3.1 h
+  latched_fits device asked access (Err OutOfMemory) s now step h = same_shop s now step.3.1 h
+  latched_fits device asked access (Err NameTaken) s now step h = same_shop s now step.3.1 h
+
+  opened_fits : (trouble : Trouble) (holders : List ℕ) (v : Scene) (device : List ℕ) (access : Option Access) (reply : PlainReply) (w : Scene)
+      → v.session ≡ Idle → TroubledOpens trouble holders v device access reply w → Fits v.shop v.session → Fits w.shop w.session
+  opened_fits trouble holders v device None reply w idle step h = same_fits v w step.1 h
+  opened_fits trouble holders v device (Some access) reply w idle step h =
+      subst (Fits w.shop) (sym step.5) (latched_fits device step.1 access step.0 v.shop w.shop step.2 (subst (Fits v.shop) idle h))
+
+  reel_fits : (trouble : Trouble) (v : Scene) (request : PlainRequest) (reply : PlainReply) (w : Scene) → TroubledReelStep trouble v request reply w
+      → Fits v.shop v.session → Fits w.shop w.session
+  reel_fits trouble v request reply w (drive, access, reel, answer, t, is, step, told, after) h =
+      subst (λ (x : Scene). Fits x.shop x.session) (sym after) (subst (Fits v.shop) is h)
+
+  moved_fits : (troubled : Bool) (drive : ℕ) (access : Access) (reel : PlainReel) (result : Result Unit DriveFault) (s : Shop) (w : Scene)
+      → MovesAs troubled drive access reel result s w → Fits s (Online drive access reel) → Fits w.shop w.session
+  moved_fits troubled drive access reel (Ok done) s w moved h =
+      subst (λ (x : Scene). Fits x.shop x.session) (sym moved)
+      (lie_moved s drive (Either (Some drive) others) (Either None others) h (given_up drive) (kept_reel (entries_of reel.tape) reel.capacity))
+  moved_fits troubled drive access reel (Err why) s w moved h =
+      subst (Fits w.shop) (sym moved.2) (subst (λ (x : Shop). Fits x (Online drive access reel)) (sym moved.1.0) h)
+
+  move_fits : (trouble : Trouble) (v : Scene) (count : ℕ) (reply : PlainReply) (w : Scene) → TroubledMoveStep trouble v count reply w
+      → Fits v.shop v.session → Fits w.shop w.session
+  move_fits trouble v count reply w (drive, access, reel, result, is, cause, told, moved) h =
+      moved_fits (is_set trouble) drive access reel result v.shop w moved (subst (Fits v.shop) is h)
+
+  op_fits : (off : Bool) (trouble : Trouble) (v : Scene) (op count : ℕ) (reply : PlainReply) (w : Scene) → TroubledOpStep off trouble v op count reply w
+      → Fits v.shop v.session → Fits w.shop w.session
+  op_fits true trouble v op count reply w step h = move_fits trouble v count reply w step h
+  op_fits false trouble v op count reply w step h = reel_fits trouble v (Op op count) reply w step h
+
+  -- a request is refused, or is done so
+  unless_refused : {R : Type 0} (o : Option R) (why : R → PlainReply) (Done : Type 0) (v : Scene) (reply : PlainReply) (w : Scene) → MatchOption o Done (λ r. (reply ≡ why r) × (w ≡ v))
+      → (Done → Fits w.shop w.session) → Fits v.shop v.session → Fits w.shop w.session
+  unless_refused None why Done v reply w m done h = done m
+  unless_refused (Some r) why Done v reply w m done h = same_fits v w m.1 h
+
+  pub served_fits : (trouble : Trouble) (holders : List ℕ) (v : Scene) (request : PlainRequest) (reply : PlainReply) (w : Scene)
+      → TroubledServeStep trouble holders v request reply w → Fits v.shop v.session → Fits w.shop w.session
+  served_fits trouble holders v (Open device mode) reply w step h =
+      opened_fits trouble (with_holder (drive_in v.session) 0 holders) (closed v) device (access_of mode) reply w refl step (closed_fits v.shop v.session h)
+  served_fits trouble holders v Close reply w step h =
+      unless_refused (refusal (status_of v.session) Close) refused (TroubledDoneStep trouble v Close reply w) v reply w step
+      (λ done. same_fits (closed v) w done.1 (closed_fits v.shop v.session h)) h
+  served_fits trouble holders v (Write bytes) reply w step h =
+      unless_refused (refusal (status_of v.session) (Write bytes)) refused (TroubledDoneStep trouble v (Write bytes) reply w) v reply w step
+      (λ done. reel_fits trouble v (Write bytes) reply w done h) h
+  served_fits trouble holders v (WriteDropped count) reply w step h =
+      unless_refused (refusal (status_of v.session) (WriteDropped count)) refused (TroubledDoneStep trouble v (WriteDropped count) reply w) v reply w step
+      (λ done. reel_fits trouble v (WriteDropped count) reply w done h) h
+  served_fits trouble holders v (Read count) reply w step h =
+      unless_refused (refusal (status_of v.session) (Read count)) refused (TroubledDoneStep trouble v (Read count) reply w) v reply w step
+      (λ done. reel_fits trouble v (Read count) reply w done h) h
+  served_fits trouble holders v (Op op count) reply w step h =
+      unless_refused (refusal (status_of v.session) (Op op count)) refused (TroubledDoneStep trouble v (Op op count) reply w) v reply w step
+      (λ done. op_fits (is_offline op) trouble v op count reply w done h) h
+
+-- ---- the sides of all connections
+
+eq_or_ne : (m n : ℕ) → (m ≡ n) ⊎ (m ≢ n)
+eq_or_ne m n = grind arith
+
+-- the side of a connection other than k has that drive open with its reel
+abbrev pub OnlineBeside : List (Option Side) → ℕ → ℕ → Type 0
+OnlineBeside sides k d = (j : ℕ) × (j ≢ k) × (online_by (side_at sides j) ≡ Some d)
+
+by_one : (sides : List (Option Side)) (k d : ℕ) (own : Option Side) → side_at sides k ≡ own → IsOnlineAt sides d → Either (online_by own) (OnlineBeside sides k) d
+by_one sides k d own is (j, online) = elim (eq_or_ne j k) [
+  | inl same ↦ inl (sym (ap online_by (ap (side_at sides) same ∙ is)) ∙ online)
+  | inr apart ↦ inr (j, apart, online)
+]
+
+by_all : (sides : List (Option Side)) (k d : ℕ) (x : Option Side) → 1 ≤ k → k ≤ length sides → Either (online_by x) (OnlineBeside sides k) d → IsOnlineAt (with_side_at sides k x) d
+by_all sides k d x first last (inl own) = (k, ap online_by (side_same sides k x first last) ∙ own)
+by_all sides k d x first last (inr (j, apart, online)) = (j, ap online_by (side_other sides k j x apart) ∙ online)
+
+-- where another reel is away only if one before was
+pub lie_while : {s : Shop} (before after : ℕ → Type 0) → LieBut s before → ((d : ℕ) → before d → after d) → LieBut s after
+lie_while before after h more = record { bin = h.bin; below = h.below; first = λ d away. more d (h.first d away) }
+
+-- what one side did
+pub side_tidy : (sides : List (Option RealSide)) (k : ℕ) (s : RealSide) → side_at sides k ≡ Some s → (x : Option RealSide) (old new : Shop)
+    → LieBut old (IsOnlineAt (map (option_map seen) sides))
+    → (LieBut old (Either (online_in (session_seen s.session.opened)) (OnlineBeside (map (option_map seen) sides) k))
+    → LieBut new (Either (online_by (option_map seen x)) (OnlineBeside (map (option_map seen) sides) k)))
+    → LieBut new (IsOnlineAt (map (option_map seen) (with_side_at sides k x)))
+side_tidy sides k s is x old new h step =
+    let all = map (option_map seen) sides in
+    let own : side_at all k ≡ Some (seen s) = side_map seen sides k ∙ ap (option_map seen) is in
+    let within = side_within all k (seen s) own in
+    let out : LieBut old (Either (online_by (Some (seen s))) (OnlineBeside all k)) = lie_while (IsOnlineAt all) (Either (online_by (Some (seen s))) (OnlineBeside all k)) h (λ d. by_one all k d (Some (seen s)) own) in
+    subst (λ xs. LieBut new (IsOnlineAt xs)) (sym (map_with seen sides k x))
+    (lie_while (Either (online_by (option_map seen x)) (OnlineBeside all k)) (IsOnlineAt (with_side_at all k (option_map seen x))) (step out)
+    (λ d. by_all all k d (option_map seen x) within.0 within.1))
+
+online_some : (o : Option Side) (d : ℕ) → online_by o ≡ Some d → (x : Side) × (o ≡ Some x)
+online_some None d online = absurd cc
+online_some (Some x) d online = (x, refl)
+
+still_at : (sides : List (Option Side)) (y : Side) (k : ℕ) (x : Side) → side_at sides k ≡ Some x → side_at (sides ++ Some y ∷ []) k ≡ Some x
+still_at sides y zero x is = is
+still_at sides y (suc i) x is = at_more sides y i x is
+
+-- one side more
+pub joined_tidy : (sides : List (Option RealSide)) (s : RealSide) (shop : Shop) → LieBut shop (IsOnlineAt (map (option_map seen) sides))
+    → LieBut shop (IsOnlineAt (map (option_map seen) (sides ++ Some s ∷ [])))
+joined_tidy sides s shop h =
+    let all = map (option_map seen) sides in
+    subst (λ xs. LieBut shop (IsOnlineAt xs)) (sym (map-append (option_map seen) sides (Some s ∷ [])))
+    (lie_while (IsOnlineAt all) (IsOnlineAt (all ++ Some (seen s) ∷ [])) h
+    (λ d (k, online). (
+    let found = online_some (side_at all k) d online in
+    (k, ap online_by (still_at all (seen s) k found.0 found.1) ∙ ap online_by (sym found.1) ∙ online))))
+
+online_with : (drive : ℕ) (access : Access) (reel : Option TroubledTape) (d : ℕ) → online_in (session_with drive access reel) ≡ Some d → Some drive ≡ Some d
+online_with drive access None d online = absurd cc
+online_with drive access (Some reel) d online = online
+
+-- a drive that is open with its reel is open
+online_open : (opened : Option (Opened TroubledTape)) (d : ℕ) → online_in (session_seen opened) ≡ Some d → drive_of opened ≡ Some d
+online_open None d online = absurd cc
+online_open (Some device) d online = online_with device.drive device.access device.reel d online
+
+none_online_at : (side : Option RealSide) (d : ℕ) → ((s : RealSide) → side ≡ Some s → drive_of s.session.opened ≢ Some d) → online_by (option_map seen side) ≡ Some d → ⊥
+none_online_at None d free online = absurd cc
+none_online_at (Some s) d free online = free s refl (online_open s.session.opened d online)
+
+-- a drive that is open in no session has no side that is online there
+pub none_online : (sides : List (Option RealSide)) (d : ℕ) → ((k : ℕ) (s : RealSide) → side_at sides k ≡ Some s → drive_of s.session.opened ≢ Some d)
+    → IsOnlineAt (map (option_map seen) sides) d → ⊥
+none_online sides d free (k, online) =
+    none_online_at (side_at sides k) d (free k) (sym (ap online_by (side_map seen sides k)) ∙ online)

@@ -1,0 +1,40 @@
+-- Which reels lie on the stacks and in the bin, and which are away.
+use Rattle.std.specs.Prelude.{◌≡◌, ℕ, drop, List, [], ◌∷◌, Option, Some, None, IsSome}
+use Rattle.drives.specs.Shop.{Slot, Rack, ShopOf, rack_at, latched_at}
+use Rattle.rmt_server.specs.Session.{PlainSession}
+use Rattle.rmt_server.specs.Session.PlainSession.{Idle, Offline, Online}
+use Rattle.rmt_server.specs.Hall.{Side}
+use Rattle.tape_host.specs.Halls.{side_at}
+
+-- each of these reels lies there
+abbrev pub Lie : {X : Type 0} → List (Slot X) → Type 0
+Lie [] = Unit {0}
+Lie (x ∷ xs) = IsSome x.reel × Lie xs
+
+abbrev pub StacksLie : {X : Type 0} → List (Rack X) → Type 0
+StacksLie [] = Unit {0}
+StacksLie (r ∷ racks) = Lie r.stack × StacksLie racks
+
+-- no reel is latched
+abbrev pub AllLie : {X : Type 0} → ShopOf X → Type 0
+AllLie s = StacksLie s.racks × Lie s.bin
+
+-- the drive that a session has open with its reel
+abbrev pub online_in : PlainSession → Option ℕ
+online_in Idle = None
+online_in (Offline drive access) = None
+online_in (Online drive access reel) = Some drive
+
+abbrev pub online_by : Option Side → Option ℕ
+online_by None = None
+online_by (Some s) = online_in s.session
+
+-- a live side has that drive open with its reel
+abbrev pub IsOnlineAt : List (Option Side) → ℕ → Type 0
+IsOnlineAt sides d = (k : ℕ) × (online_by (side_at sides k) ≡ Some d)
+
+-- All reels lie there, but for the first ones of stacks, which are away only where that is said of the drive.
+pub record LieBut {X : Type 0} (s : ShopOf X) (away : ℕ → Type 0) : Type 0 where
+  pub bin : Lie s.bin
+  pub below : (d : ℕ) → Lie (drop 1 (rack_at s d).stack)
+  pub first : (d : ℕ) → IsSome (latched_at s d) → away d
