@@ -4,3 +4,9 @@ pub mod Changes
 pub mod Rows
 pub mod Steps
 pub mod First
+pub mod Naming
+pub mod Kept
+pub mod Owning
+pub mod Sending
+pub mod Standing
+pub mod Written

@@ -7,4 +7,4 @@ mod laws;
 #[cfg(test)]
 mod tests;
 
-pub use laws::one_run;
+pub use laws::{kept, one_run};

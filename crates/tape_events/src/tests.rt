@@ -1,8 +1,9 @@
 //! The laws, each called once.
 
-use crate::one_run;
+use crate::{kept, one_run};
 
 #[test]
 fn each_law_is_called(_rt: HostRuntime) {
+    kept();
     one_run();
 }

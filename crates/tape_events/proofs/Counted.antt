@@ -1,0 +1,33 @@
+-- What was counted stands on its reel.
+use Rattle.std.proofs.Common.{◌≡◌, ℕ, List, ◌∷◌, ◌++◌, sym, ap, ◌∙◌}
+use Rattle.tape.specs.Tape.PlainEntry.{Record}
+use Rattle.std.proofs.lemmas.Option.{same_Some}
+use Rattle.dump_run.specs.Run.{PlainRun}
+use Rattle.dump_run.specs.Label.{label}
+use Rattle.tape_events.specs.World.{World, Link, Dumping, Begun, Count, numbered}
+use Rattle.tape_events.specs.Naming.{AreNamed}
+use Rattle.tape_events.specs.Written.{label_if, mark_if, block_records, written, whole_volume, AreLabelled, AreCountsEarned, IsEarnedBy, CountedReels}
+
+-- what an attempt wrote that was counted is its volume
+written_whole : (w : World) (run : PlainRun) (payload : List (List ℕ)) (x : Count) (l : Link) (d : Dumping) (b : Begun) → IsEarnedBy w x l d b
+    → written run payload d ≡ whole_volume run payload x.volume x.first x.count
+written_whole w run payload x l d b e =
+    ap (λ t. label_if t run d.volume d.first ++ (block_records payload d.first d.blocks ++ mark_if d.mark)) e.label
+    ∙ ap (λ t. Record (label run d.volume d.first) ∷ (block_records payload d.first d.blocks ++ mark_if t)) e.mark
+    ∙ ap (λ n. whole_volume run payload n d.first d.blocks) e.volume
+    ∙ ap (λ n. whole_volume run payload x.volume n d.blocks) e.first
+    ∙ ap (λ n. whole_volume run payload x.volume x.first n) e.count
+
+pub counted_reels : (w : World) → AreNamed w → AreLabelled w → AreCountsEarned w → CountedReels w
+counted_reels w named labelled earned x among =
+    let e = earned x among in
+    let p = e.3 in
+    let a = labelled x.connection e.0 e.1 p.there p.dump p.label in
+    let same : a.0 ≡ e.2 = same_Some a.0 e.2 (sym a.1 ∙ ap (numbered w.begun) p.run ∙ p.begun) in
+    record {
+      opened = p.opened;
+      there = named.opened _ p.opened;
+      begun = a.0;
+      begun_as = ap (numbered w.begun) (sym p.run) ∙ a.1;
+      whole = λ last entries stands. (a.2 x.reel (p.fault, last)).stands entries stands ∙ written_whole w a.0.run a.0.payload x e.0 e.1 e.2 p;
+    }

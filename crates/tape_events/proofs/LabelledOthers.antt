@@ -1,0 +1,117 @@
+-- What an attempt wrote stands on its reel, whatever happens but a request of its own.
+use Rattle.std.proofs.Common.{◌≡◌, ◌≢◌, ℕ, ◌+◌, List, [], ◌∷◌, ◌++◌, length, option_map, Option, Some, None, refl, sym, ap, subst, ◌∙◌, inl, inr, arith}
+use Rattle.std.specs.Prelude.{option_to_list}
+use Rattle.std.proofs.lemmas.List.{append-nil}
+use Rattle.std.proofs.lemmas.Bool.Decides.{eqb_tells}
+use Rattle.std.proofs.lemmas.Option.{same_Some}
+use Rattle.tape.specs.Tape.{PlainEntry}
+use Rattle.rmt_server.specs.Hall.{Hall, hall, Side, side}
+use Rattle.rmt_server.specs.Session.{PlainReel}
+use Rattle.dump_run.specs.Run.{PlainRun}
+use Rattle.dump_client.specs.Lawful.{steps_before}
+use Rattle.dump_client.specs.declared.step.Step.TheVariants.{Unload}
+use Rattle.tape_events.specs.World.{World, Dumping, Begun, Opening, numbered, with_numbered}
+use Rattle.tape_events.specs.Changes.{side_of, opening, opened_reel}
+use Rattle.tape_events.specs.Kept.{online_in, AreHeld}
+use Rattle.tape_events.specs.Naming.{IsLastOpening, AreOpened}
+use Rattle.tape_events.specs.Sending.{IsOnlineWith}
+use Rattle.tape_events.specs.Standing.{StandsOn}
+use Rattle.tape_events.specs.Written.{written, label_if, mark_if, block_records, IsBeforeOffline, IsWritten, IsLabelled, AreLabelled}
+use Rattle.tape_events.proofs.Numbers.{pushed_is, numbered_more}
+use Rattle.tape_events.proofs.Laid.{Sits, sits_other, less_or_more}
+use Rattle.tape_events.proofs.LabelledHalls.{served_stands}
+use Rattle.tape_events.proofs.LabelledEvents.{SameNotes, same_notes, IsFresh, Quietly, Serves}
+use Rattle.tape_events.proofs.LabelledSingle.{like_back}
+
+-- the same was written
+written_same : (run : PlainRun) (payload : List (List ℕ)) (d e : Dumping) → SameNotes d e → written run payload d ≡ written run payload e
+written_same run payload d e s =
+    ap (λ t. label_if t run d.volume d.first ++ (block_records payload d.first d.blocks ++ mark_if d.mark)) (sym s.label)
+    ∙ ap (λ n. label_if e.label run n d.first ++ (block_records payload d.first d.blocks ++ mark_if d.mark)) (sym s.volume)
+    ∙ ap (λ n. label_if e.label run e.volume n ++ (block_records payload n d.blocks ++ mark_if d.mark)) (sym s.first)
+    ∙ ap (λ n. label_if e.label run e.volume e.first ++ (block_records payload e.first n ++ mark_if d.mark)) (sym s.blocks)
+    ∙ ap (λ t. label_if e.label run e.volume e.first ++ (block_records payload e.first e.blocks ++ mark_if t)) (sym s.mark)
+
+before_same : (run : PlainRun) (d e : Dumping) → SameNotes d e → IsBeforeOffline run e → IsBeforeOffline run d
+before_same run d e s before marked =
+    let less = before (s.mark ∙ marked) in
+    let many : length (steps_before run e.first (e.first + e.blocks) (Unload (e.first + e.blocks))) ≡ length (steps_before run d.first (d.first + d.blocks) (Unload (d.first + d.blocks)))
+    = ap (λ n. length (steps_before run n (n + e.blocks) (Unload (n + e.blocks)))) s.first
+    ∙ ap (λ n. length (steps_before run d.first (d.first + n) (Unload (d.first + n)))) s.blocks in
+    let carried = s.carried in
+    omega (arith, less, many, carried)
+
+-- what stood on the reel stands there, or the session is another's
+record StillWritten (w u : World) (k : ℕ) (reel : List ℕ) : Type 0 where
+  stands : (entries : List PlainEntry) → StandsOn u.hall reel entries → StandsOn w.hall reel entries
+  sides : (s : Side) (r : PlainReel) → side_of u.hall k ≡ Some s → IsOnlineWith s.session r → (x : Side) × (side_of w.hall k ≡ Some x) × (s.session ≡ x.session)
+
+still_written : (w u : World) (k : ℕ) (b : Begun) (d e : Dumping) (reel : List ℕ) → SameNotes d e → StillWritten w u k reel → IsWritten w k b d reel → IsWritten u k b e reel
+still_written w u k b d e reel s t written = record {
+  stands = λ entries on. written.stands entries (t.stands entries on) ∙ written_same b.run b.payload d e s;
+  behind = λ y r at on before. (
+      let x = t.sides y r at on in
+      written.behind x.0 r x.1 (subst (λ z. IsOnlineWith z r) x.2 on) (before_same b.run d e s before));
+}
+
+pub quiet_labelled : (w u : World) → Quietly w u → AreLabelled w → AreLabelled u
+quiet_labelled w u q labelled k l d at dump label = elim (q.links.at k l at) [
+  | inl (x, was, like) ↦
+      let e = like_back x.dump l.dump d like dump in
+      let a = labelled k x e.0 was e.1 (sym e.2.label ∙ label) in (
+        a.0,
+        ap (numbered u.begun) e.2.run ∙ q.begun e.0.run a.0 a.1,
+        λ reel quiet.
+            still_written w u k a.0 e.0 d reel e.2
+            record {
+              stands = λ entries on. q.stands reel entries on;
+              sides = λ s r here on. q.sides k on.0 s here (ap online_in on.1);
+            }
+            (a.2 reel (sym e.2.fault ∙ quiet.0, subst (λ os. IsLastOpening os k reel) q.opens quiet.1)),
+      )
+  | inr (new, fresh) ↦ (let f = subst IsFresh dump fresh in let clash = sym f.0 ∙ label in absurd cc)
+]
+
+-- one connection has the last opening of a reel
+pub last_same : (opens : List Opening) (j k : ℕ) (reel : List ℕ) → IsLastOpening opens j reel → IsLastOpening opens k reel → j ≡ k
+last_same opens j k reel (i, at, behind) (m, its, after) = elim (eqb_tells i m) [
+  | inl (equal, same) ↦ ap (λ (o : Opening). o.connection) (same_Some (opening j reel) (opening k reel) (sym at ∙ ap (numbered opens) same ∙ its))
+  | inr (unequal, other) ↦ absurd (elim (less_or_more i m other) [
+    | inl less ↦ behind m (opening k reel) less its refl
+    | inr more ↦ after i (opening j reel) more at refl
+  ])
+]
+
+-- an opening by another was none of its
+last_before : (opens : List Opening) (j k : ℕ) (reel : List ℕ) (opened : Option (List ℕ)) → j ≢ k → IsLastOpening (opens ++ option_to_list (option_map (opening k) opened)) j reel
+    → IsLastOpening opens j reel
+last_before opens j k reel None other last = subst (λ os. IsLastOpening os j reel) (append-nil opens) last
+last_before opens j k reel (Some r) other (i, at, behind) = elim (pushed_is opens (opening k r) i (opening j reel) at) [
+  | inl was ↦ (i, was, λ m o less there. behind m o less (numbered_more opens (opening k r ∷ []) m o there))
+  | inr (last, is) ↦ absurd (other (ap (λ (o : Opening). o.connection) is))
+]
+
+-- a request of another connection
+pub others_labelled : (w u : World) (v : Serves w u) (j : ℕ) (d : Dumping) → j ≢ v.k → AreHeld w.hall → AreHeld u.hall → AreOpened w → IsLabelled w j d → IsLabelled u j d
+others_labelled w u v j d other a b opened labelled label =
+    let p = labelled label in
+    let h : Hall = hall v.shop v.holders (with_numbered w.hall.sides v.k (Some (side v.reached v.session))) in
+    let same : u.hall ≡ h = ap (λ (x : World). x.hall) v.is in
+    let sits : Sits w.hall v.k v.s (Some (side v.reached v.session)) h = record { was = v.live; sides = refl } in (
+      p.0,
+      ap (λ (x : World). numbered x.begun d.run) v.is ∙ p.1,
+      λ reel quiet.
+          (let last : IsLastOpening w.opens j reel
+          = last_before w.opens j v.k reel (opened_reel v.request v.shop v.session) other (subst (λ (x : World). IsLastOpening x.opens j reel) v.is quiet.1) in
+          still_written w u j p.0 d d reel (same_notes d)
+          record {
+            stands = λ entries on.
+                elim (served_stands v.trouble w.hall.holders w.hall h v.k v.s (side v.reached v.session) v.request v.reply sits a (subst AreHeld same b) v.served.step reel entries
+                (subst (λ x. StandsOn x reel entries) same on)) [
+                  | inl before ↦ before
+                  | inr wrote ↦ absurd (other (last_same w.opens j v.k reel last (opened.last v.k v.s reel v.live wrote.1)))
+                ];
+            sides = λ s r here on. (s, sym (sits_other w.hall v.k j v.s (Some (side v.reached v.session)) h sits other) ∙ ap (λ x. side_of x j) (sym same) ∙ here, refl);
+          }
+          (p.2 reel (quiet.0, last))),
+    )

@@ -1,0 +1,138 @@
+-- All openings of a connection of the client's are of one reel, whatever happens.
+use Rattle.std.proofs.Common.{◌≡◌, ◌≢◌, ◌⊎◌, ℕ, ◌+◌, ◌^◌, ◌<◌, Bool, true, false, List, Option, Some, None, Contains, refl, sym, ap, subst, ◌∙◌, inl, inr, arith}
+use Rattle.std.proofs.lemmas.Option.{same_Some}
+use Rattle.rmt_wire.specs.Counted.{raised}
+use Rattle.rmt_wire.specs.Request.{PlainRequest}
+use Rattle.rmt_wire.specs.Reply.{PlainReply}
+use Rattle.drives.specs.Shop.{Shop, rack_at}
+use Rattle.rmt_server.specs.Hall.{Side}
+use Rattle.rmt_server.specs.Session.{PlainSession}
+use Rattle.dump_client.specs.declared.step.Step.{Step}
+use Rattle.dump_client.specs.declared.step.Step.TheVariants.{Open, Rewind, Label, Block, Mark, Unload, Close}
+use Rattle.tape_events.specs.World.{World, Link, Dumping, Begun, Opening}
+use Rattle.tape_events.specs.Changes.{opening, opened_reel, written_reel, first_name, noted}
+use Rattle.tape_events.specs.Naming.{AreOpened}
+use Rattle.tape_events.specs.Sending.{HasDone, StandsFor, request_in, AreTold}
+use Rattle.tape_events.specs.Written.{IsSingle, AreSingle}
+use Rattle.tape_events.proofs.Booked.{among_at}
+use Rattle.tape_events.proofs.Named.{opening_is}
+use Rattle.tape_events.proofs.Sent.{raised_one}
+use Rattle.tape_events.proofs.SentWire.{OneReading, DroppedWrites}
+use Rattle.tape_events.proofs.SentServe.{noted_same}
+use Rattle.tape_events.proofs.LabelledEvents.{SameNotes, Like, IsFresh, Quietly, Serves}
+use Rattle.tape_events.proofs.LabelledServes.{IsServed, served_dump, served_step, opens_after}
+
+-- the attempt that it was before
+pub like_back : (o p : Option Dumping) (d : Dumping) → Like o p → p ≡ Some d → (e : Dumping) × (o ≡ Some e) × SameNotes e d
+like_back None p d is at = let clash = sym is ∙ at in absurd cc
+like_back (Some e) p d (f, is, same) at = (e, refl, subst (SameNotes e) (same_Some f d (sym is ∙ at)) same)
+
+-- no opening is of a connection that is not there
+pub quiet_single : (w u : World) → Quietly w u → AreOpened w → AreSingle w → AreSingle u
+quiet_single w u q opened single k l d at dump = elim (q.links.at k l at) [
+  | inl (x, was, like) ↦
+      let e = like_back x.dump l.dump d like dump in
+      let s = single k x e.0 was e.1 in
+      subst (λ os. IsSingle os k d) (sym q.opens) record {
+        one = s.one;
+        none = λ nothing. s.none (sym e.2.carried ∙ nothing);
+        some = λ labelled. s.some (sym e.2.label ∙ labelled);
+      }
+  | inr (new, fresh) ↦
+      let f = subst IsFresh dump fresh in
+      subst (λ os. IsSingle os k d) (sym q.opens) record {
+        one = λ o p among other mine its. (let few = (opened.there o among).1 in absurd (omega (arith, few, new, mine)));
+        none = λ nothing o among mine. (let few = (opened.there o among).1 in omega (arith, few, new, mine));
+        some = λ labelled. (let clash = sym f.0 ∙ labelled in absurd cc);
+      }
+]
+
+-- only an open opens a reel
+open_step : (b : Begun) (d : Dumping) (step : Step) (s : Shop) (session : PlainSession) (reel : List ℕ) → opened_reel (request_in b d step) s session ≡ Some reel → step ≡ Open
+open_step b d Open s session reel is = refl
+open_step b d Rewind s session reel is = absurd cc
+open_step b d Label s session reel is = absurd cc
+open_step b d (Block number) s session reel is = absurd cc
+open_step b d (Mark next) s session reel is = absurd cc
+open_step b d (Unload next) s session reel is = absurd cc
+open_step b d Close s session reel is = absurd cc
+
+-- only that of the label makes it accepted
+pub label_step : (b : Begun) (o : Option Side) (d : Dumping) (step : Step) (reply : PlainReply) → HasDone b.run o d step → d.label ≡ false
+    → (noted (request_in b d step) reply d).label ≡ true → step ≡ Label
+label_step b o d Open reply done none is = let clash = sym none ∙ is in absurd cc
+label_step b o d Rewind reply done none is = let clash = sym none ∙ is in absurd cc
+label_step b o d Label reply done none is = refl
+label_step b o d (Block number) reply done none is = let clash = sym none ∙ done.label in absurd cc
+label_step b o d (Mark next) reply done none is = let clash = sym none ∙ done.label in absurd cc
+label_step b o d (Unload next) reply done none is = let clash = sym none ∙ done.label in absurd cc
+label_step b o d Close reply done none is = let clash = sym none ∙ done.label in absurd cc
+
+-- one request more was carried out
+pub carried_more : (d : Dumping) (request : PlainRequest) (reply : PlainReply) → d.carried + 1 < 2 ^ 64 → (noted request reply d).carried ≡ d.carried + 1
+carried_more d request reply few = ap raised (noted_same d request reply).carried ∙ raised_one d.carried few
+
+-- what is open before the label, and the last opening of it
+label_opened : (w u : World) (v : Serves w u) (l : Link) (d : Dumping) (p : IsServed w u v l d) → AreOpened w → p.step ≡ Label → (reel : List ℕ) × Contains w.opens (opening v.k reel)
+label_opened w u v l d p opened is =
+    let on = subst (λ s. StandsFor s v.s.session) is (p.done.stands v.s refl) in
+    let name = first_name (rack_at w.hall.shop on.1.0).stack in
+    let last = opened.last v.k v.s name v.live (ap (written_reel w.hall.shop) on.1.1) in
+    (name, among_at w.opens last.0 (opening v.k name) last.1)
+
+label_some : (w u : World) (v : Serves w u) (l : Link) (d : Dumping) (p : IsServed w u v l d) (b : Bool) → d.label ≡ b → AreOpened w → IsSingle w.opens v.k d
+    → (noted v.request v.reply d).label ≡ true → (reel : List ℕ) × Contains w.opens (opening v.k reel)
+label_some w u v l d p true test opened single labelled = single.some test
+label_some w u v l d p false test opened single labelled =
+    label_opened w u v l d p opened
+    (label_step p.b (Some v.s) d p.step v.reply p.done test (subst (λ r. (noted r v.reply d).label ≡ true) p.asks labelled))
+
+-- an opening is one of those before, or that of the open
+was_opened : (w u : World) (v : Serves w u) (o : Opening) → Contains u.opens o
+    → Contains w.opens o ⊎ ((reel : List ℕ) × (opened_reel v.request v.shop v.session ≡ Some reel) × (o ≡ opening v.k reel))
+was_opened w u v o among = opening_is w.opens v.k (opened_reel v.request v.shop v.session) o (subst (λ (x : World). Contains x.opens o) v.is among)
+
+own_single : (w u : World) (v : Serves w u) (l : Link) (d : Dumping) → IsServed w u v l d → AreOpened w → IsSingle w.opens v.k d → IsSingle u.opens v.k (noted v.request v.reply d)
+own_single w u v l d p opened single = record {
+  one = λ o q among other mine its. both o q (was_opened w u v o among) (was_opened w u v q other) mine its;
+  none = λ nothing. (let more = carried_more d v.request v.reply p.few in absurd (omega (arith, more, nothing)));
+  some = λ labelled. (let s = label_some w u v l d p d.label refl opened single labelled in (s.0, opens_after w u v (opening v.k s.0) s.1));
+}
+  where
+    New : Opening → Type 0
+    New o = (reel : List ℕ) × (opened_reel v.request v.shop v.session ≡ Some reel) × (o ≡ opening v.k reel)
+
+    nothing : (reel : List ℕ) → opened_reel v.request v.shop v.session ≡ Some reel → d.carried ≡ 0
+    nothing reel is =
+        let first = open_step p.b d p.step v.shop v.session reel (subst (λ r. opened_reel r v.shop v.session ≡ Some reel) p.asks is) in
+        (subst (HasDone p.b.run (Some v.s) d) first p.done).carried
+
+    both : (o q : Opening) → Contains w.opens o ⊎ New o → Contains w.opens q ⊎ New q → o.connection ≡ v.k → q.connection ≡ v.k → o.reel ≡ q.reel
+    both o q (inl before) (inl was) mine its = single.one o q before was mine its
+    both o q (inl before) (inr (reel, is, new)) mine its = absurd (single.none (nothing reel is) o before mine)
+    both o q (inr (reel, is, new)) (inl was) mine its = absurd (single.none (nothing reel is) q was its)
+    both o q (inr (reel, is, new)) (inr (other, at, same)) mine its =
+        ap (λ (z : Opening). z.reel) new ∙ same_Some reel other (sym is ∙ at) ∙ sym (ap (λ (z : Opening). z.reel) same)
+
+-- another's openings are those before
+other_single : (w u : World) (v : Serves w u) (j : ℕ) (d : Dumping) → j ≢ v.k → IsSingle w.opens j d → IsSingle u.opens j d
+other_single w u v j d other single = record {
+  one = λ o p among its mine same. single.one o p (before o among mine) (before p its same) mine same;
+  none = λ nothing o among mine. single.none nothing o (before o among mine) mine;
+  some = λ labelled. (let s = single.some labelled in (s.0, opens_after w u v (opening j s.0) s.1));
+}
+  where
+    before : (o : Opening) → Contains u.opens o → o.connection ≡ j → Contains w.opens o
+    before o among mine = elim (was_opened w u v o among) [
+      | inl was ↦ was
+      | inr (reel, is, new) ↦ absurd (other (sym mine ∙ ap (λ (z : Opening). z.connection) new))
+    ]
+
+pub served_single : OneReading → DroppedWrites → (w u : World) (v : Serves w u) → AreTold w → AreOpened w → AreSingle w → AreSingle u
+served_single g h w u v told opened single j l d at dump = elim (served_dump w u v j l d at dump) [
+  | inl (same, (x, e, was, its, new)) ↦
+      let p = served_step g h w u v told x e was its in
+      subst (λ i. IsSingle u.opens i d) (sym same)
+      (subst (IsSingle u.opens v.k) (sym new) (own_single w u v x e p opened (single v.k x e was its)))
+  | inr (other, was) ↦ other_single w u v j d other (single j l d was dump)
+]

@@ -1,0 +1,268 @@
+-- The names of reels, whatever happens.
+use Rattle.std.proofs.Common.{◌≡◌, ◌⊎◌, ℕ, zero, suc, ◌+◌, ◌<◌, ◌≤◌, Bool, true, false, not, ◌&&◌, ◌||◌, List, [], ◌∷◌, ◌++◌, length, take, drop, map, flat_map, Option, Some, None, Contains, refl, sym, ap, subst, ◌∙◌, inl, inr, arith}
+use Rattle.std.specs.List.{sum_by, list_any}
+use Rattle.std.proofs.lemmas.List.Sums.{sum_by-append, sum_by-cons}
+use Rattle.std.specs.Str.{bytes_eq}
+use Rattle.tape.specs.Tape.{entries_of}
+use Rattle.drives.specs.Shop.{KeptReel, kept_reel, Slot, slot, Rack, rack, Shop, shop, rack_at, with_rack, slots_in, names_of, names_in, times, with_first, at_first, to_bin}
+use Rattle.drives.proofs.Shops.{bit, named, times-named, sum_by-slots, sum_by-with_rack}
+use Rattle.drives.specs.Arranging.{are_distinct}
+use Rattle.drives.proofs.Arranging.{times-arranged}
+use Rattle.std.specs.Prelude.{if◌then◌else◌, option_to_list, option_and_then}
+use Rattle.std.specs.Option.{option_map}
+use Rattle.std.proofs.lemmas.List.{append-nil}
+use Rattle.std.proofs.lemmas.Option.{same_Some}
+use Rattle.std.proofs.lemmas.List.Elements.{Contains-push_cases}
+use Rattle.std.proofs.lemmas.Slice.Eq.{bytes_eq-Decides}
+use Rattle.rmt_server.specs.Access.{writes}
+use Rattle.rmt_server.specs.Hall.{Hall, Side}
+use Rattle.rmt_server.specs.Session.{PlainSession, Scene, scene, closed_shop}
+use Rattle.rmt_server.specs.Session.PlainSession.{Idle, Offline, Online}
+use Rattle.rmt_server.specs.TroubledServe.{drive_in}
+use Rattle.tape_events.specs.World.{World, Opening, numbered, with_numbered}
+use Rattle.tape_events.specs.Events.{PlainEvent}
+use Rattle.tape_events.specs.Changes.{side_of, ended_from, ended, all_ended, first_name, written_reel, opening}
+use Rattle.tape_events.specs.Steps.{Happens}
+use Rattle.tape_events.specs.First.{PlainDrive, AreGoodDrives, blank_rack, first_world}
+use Rattle.tape_events.specs.Kept.{IsFirstAway, online_in, AreHeld, AreLaid}
+use Rattle.tape_events.specs.Naming.{HasReel, SameNames, AreNamed}
+use Rattle.tape_events.proofs.Numbers.{with_here}
+use Rattle.tape_events.proofs.Held.{side_there, all_ended_held}
+use Rattle.tape_events.proofs.Laid.{online_drive, drive_within}
+use Rattle.tape_events.proofs.NamedRequests.{Comes, stays, closes, opens, moves}
+use Rattle.tape_events.proofs.NamedEvents.{Makes, leaves, joins, reads, serves, ends, restarts, arranges, event_makes}
+
+-- a stack has the same names where its first reel is away or lies there
+first_names : (name : List ℕ) (reel : Option KeptReel) (stack : List (Slot KeptReel)) → sum_by (named name) (with_first reel stack) ≡ sum_by (named name) stack
+first_names name reel [] = refl
+first_names name reel (first ∷ rest) = sum_by-cons (named name) (slot first.name reel) rest ∙ sym (sum_by-cons (named name) first rest)
+
+-- and what is taken from it, with what is left
+taken_names : (name : List ℕ) (reel : KeptReel) (stack : List (Slot KeptReel))
+    → sum_by (named name) (drop 1 stack) + sum_by (named name) (with_first (Some reel) (take 1 stack)) ≡ sum_by (named name) stack
+taken_names name reel [] = refl
+taken_names name reel (first ∷ rest) =
+    let one = sum_by-cons (named name) (slot first.name (Some reel)) [] in
+    let all = sum_by-cons (named name) first rest in
+    omega (arith, one, all)
+
+-- names stay where sums of them do
+by_sums : (s u : Shop) → ((name : List ℕ) → sum_by (named name) (slots_in u) ≡ sum_by (named name) (slots_in s)) → SameNames s u
+by_sums s u sums name = times-named name (slots_in u) ∙ sums name ∙ sym (times-named name (slots_in s))
+
+pub at_first_names : (s : Shop) (d : ℕ) (reel : Option KeptReel) → d < length s.racks → SameNames s (at_first s d reel)
+at_first_names s d reel within = by_sums s (at_first s d reel) (λ name.
+    (let r = rack_at s d in
+    let whole = sum_by-with_rack (named name) s d (rack r.name (with_first reel r.stack)) within in
+    let part = first_names name reel r.stack in
+    omega (arith, whole, part)))
+
+pub to_bin_names : (s : Shop) (d : ℕ) (reel : KeptReel) → d < length s.racks → SameNames s (to_bin s d reel)
+to_bin_names s d reel within = by_sums s (to_bin s d reel) (λ name.
+    (let r = rack_at s d in
+    let less = rack r.name (drop 1 r.stack) in
+    let put = with_first (Some reel) (take 1 r.stack) in
+    let whole = sum_by-with_rack (named name) s d less within in
+    let one = sum_by-slots (named name) (with_rack s d less) in
+    let all = sum_by-slots (named name) (to_bin s d reel) in
+    let bin = sum_by-append (named name) s.bin put in
+    let part = taken_names name reel r.stack in
+    omega (arith, whole, one, all, bin, part)))
+
+-- what was open is laid back
+closed_names : (h : Hall) (k : ℕ) (s : Side) → side_of h k ≡ Some s → AreHeld h → (session : PlainSession) → s.session ≡ session → SameNames h.shop (closed_shop h.shop session)
+closed_names h k s was a Idle is = λ name. refl
+closed_names h k s was a (Offline drive access) is = λ name. refl
+closed_names h k s was a (Online drive access reel) is =
+    at_first_names h.shop drive (Some (kept_reel (entries_of reel.tape) reel.capacity)) (drive_within h k s drive a was (ap drive_in is))
+
+-- one request of a session
+comes_names : (h : Hall) (k : ℕ) (s : Side) (after : Scene) (opened : Option (List ℕ)) → side_of h k ≡ Some s → AreHeld h → Comes (scene h.shop s.session) after opened
+    → SameNames h.shop after.shop
+comes_names h k s after opened was a (stays shop session none) name = ap (λ (v : Shop). times name (names_in v)) shop
+comes_names h k s after opened was a (closes shop session none) name =
+    ap (λ (v : Shop). times name (names_in v)) shop ∙ closed_names h k s was a s.session refl name
+comes_names h k s after opened was a (opens drive access reel within shop session new) name =
+    ap (λ (v : Shop). times name (names_in v)) shop ∙ at_first_names (closed_shop h.shop s.session) drive None within name
+    ∙ closed_names h k s was a s.session refl name
+comes_names h k s after opened was a (moves drive access reel online shop session none) name =
+    ap (λ (v : Shop). times name (names_in v)) shop
+    ∙ to_bin_names h.shop drive (kept_reel (entries_of reel.tape) reel.capacity) (drive_within h k s drive a was (ap drive_in online)) name
+
+-- a side that is over, and all
+ended_names_from : (h : Hall) (k : ℕ) (o : Option Side) → side_of h k ≡ o → AreHeld h → SameNames h.shop (ended_from h k o).shop
+ended_names_from h k None is a = λ name. refl
+ended_names_from h k (Some s) is a = closed_names h k s is a s.session refl
+
+ended_names : (h : Hall) (k : ℕ) → AreHeld h → SameNames h.shop (ended h k).shop
+ended_names h k a = ended_names_from h k (side_of h k) refl a
+
+all_ended_names : (h : Hall) (n : ℕ) → AreHeld h → SameNames h.shop (all_ended h n).shop
+all_ended_names h zero a name = refl
+all_ended_names h (suc n) a name = ended_names (all_ended h n) (suc n) (all_ended_held h n a) name ∙ all_ended_names h n a name
+
+-- each event
+pub makes_names : (w u : World) → Makes w u → AreHeld w.hall → SameNames w.hall.shop u.hall.shop
+makes_names w u (leaves same) a name = ap (λ (h : Hall). times name (names_in h.shop)) same.hall
+makes_names w u (joins is made links) a name = ap (λ (h : Hall). times name (names_in h.shop)) is
+makes_names w u (reads k s x live session is made links) a name = ap (λ (h : Hall). times name (names_in h.shop)) is
+makes_names w u (serves k s x shop holders opened live comes is made links) a name =
+    ap (λ (h : Hall). times name (names_in h.shop)) is ∙ comes_names w.hall k s (scene shop x.session) opened live a comes name
+makes_names w u (ends k is made links) a name = ap (λ (h : Hall). times name (names_in h.shop)) is ∙ ended_names w.hall k a name
+makes_names w u (restarts is made links) a name = ap (λ (h : Hall). times name (names_in h.shop)) is ∙ all_ended_names w.hall (length w.hall.sides) a name
+makes_names w u (arranges d names within free is made links) a name =
+    ap (λ (h : Hall). times name (names_in h.shop)) is ∙ times-arranged w.hall.shop d names within name
+
+pub names_after : (w : World) (event : PlainEvent) (u : World) → Happens w event u → AreHeld w.hall → SameNames w.hall.shop u.hall.shop
+names_after w event u happens a = makes_names w u (event_makes w event u happens) a
+
+-- the openings, where one may have been added
+pub opening_is : (all : List Opening) (k : ℕ) (opened : Option (List ℕ)) (o : Opening) → Contains (all ++ option_to_list (option_map (opening k) opened)) o
+    → (Contains all o) ⊎ ((reel : List ℕ) × (opened ≡ Some reel) × (o ≡ opening k reel))
+opening_is all k None o among = inl (subst (λ l. Contains l o) (append-nil all) among)
+opening_is all k (Some reel) o among = elim (Contains-push_cases all (opening k reel) o among) [
+  | inl before ↦ inl before
+  | inr is ↦ inr (reel, refl, sym is)
+]
+
+-- the first reel of a stack is there
+pub first_times : (stack : List (Slot KeptReel)) → IsFirstAway stack → 0 < sum_by (named (first_name stack)) stack
+first_times [] away = absurd away
+first_times (first ∷ rest) away =
+    let one : named first.name first ≡ 1 = ap bit ((bytes_eq-Decides first.name first.name).1 refl) in
+    let all = sum_by-cons (named first.name) first rest in
+    omega (arith, one, all)
+
+first_is_reel : (s : Shop) (d : ℕ) → d < length s.racks → IsFirstAway (rack_at s d).stack → HasReel s (first_name (rack_at s d).stack)
+first_is_reel s d within away =
+    let name = first_name (rack_at s d).stack in
+    let part = sum_by-with_rack (named name) s d (rack [] []) within in
+    let some = first_times (rack_at s d).stack away in
+    let all = times-named name (slots_in s) in
+    omega (arith, part, some, all)
+
+written_if : (b : Bool) (name reel : List ℕ) → (if b then Some name else None) ≡ Some reel → name ≡ reel
+written_if true name reel is = same_Some name reel is
+written_if false name reel is = absurd cc
+
+-- what a session that writes has open
+pub written_is : (s : Shop) (session : PlainSession) (reel : List ℕ) → written_reel s session ≡ Some reel
+    → (d : ℕ) × (online_in session ≡ Some d) × (first_name (rack_at s d).stack ≡ reel)
+written_is s Idle reel is = absurd cc
+written_is s (Offline drive access) reel is = absurd cc
+written_is s (Online drive access r) reel is = (drive, refl, written_if (writes access) (first_name (rack_at s drive).stack) reel is)
+
+-- the reel that was opened is there
+opened_is_reel : (h : Hall) (k : ℕ) (x : Side) (reel : List ℕ) → side_of h k ≡ Some x → AreHeld h → AreLaid h → written_reel h.shop x.session ≡ Some reel → HasReel h.shop reel
+opened_is_reel h k x reel live a l is =
+    let w = written_is h.shop x.session reel is in
+    subst (HasReel h.shop) w.2 (first_is_reel h.shop w.0 (drive_within h k x w.0 a live (online_drive x.session w.0 w.1)) (l.latched w.0 (k, x, live, w.1)))
+
+-- the names and the openings, after an event that made no opening, or one
+same_named : (w u : World) → SameNames w.hall.shop u.hall.shop → u.opens ≡ w.opens → AreNamed w → AreNamed u
+same_named w u same made n = record {
+  once = λ name. subst (λ m. m ≤ 1) (sym (same name)) (n.once name);
+  opened = λ o among. subst (λ m. 0 < m) (sym (same o.reel)) (n.opened o (subst (λ l. Contains l o) made among));
+}
+
+served_named : (w u : World) (k : ℕ) (opened : Option (List ℕ)) → SameNames w.hall.shop u.hall.shop → u.opens ≡ w.opens ++ option_to_list (option_map (opening k) opened)
+    → ((reel : List ℕ) → opened ≡ Some reel → HasReel u.hall.shop reel) → AreNamed w → AreNamed u
+served_named w u k opened same made new n = record {
+  once = λ name. subst (λ m. m ≤ 1) (sym (same name)) (n.once name);
+  opened = λ o among. elim (opening_is w.opens k opened o (subst (λ l. Contains l o) made among)) [
+    | inl before ↦ subst (λ m. 0 < m) (sym (same o.reel)) (n.opened o before)
+    | inr (reel, is, its) ↦ subst (λ (z : Opening). HasReel u.hall.shop z.reel) (sym its) (new reel is)
+  ];
+}
+
+-- the reel that a request opened is there
+pub comes_reel : (before after : Scene) (opened : Option (List ℕ)) → Comes before after opened → (reel : List ℕ) → opened ≡ Some reel → written_reel after.shop after.session ≡ Some reel
+comes_reel before after opened (stays shop session none) reel is = let clash = sym none ∙ is in absurd cc
+comes_reel before after opened (closes shop session none) reel is = let clash = sym none ∙ is in absurd cc
+comes_reel before after opened (opens drive access r within shop session new) reel is = sym new ∙ is
+comes_reel before after opened (moves drive access r online shop session none) reel is = let clash = sym none ∙ is in absurd cc
+
+-- the side that a request turned
+pub turned_side : (h u : Hall) (k : ℕ) (s x : Side) → side_of h k ≡ Some s → u.sides ≡ with_numbered h.sides k (Some x) → side_of u k ≡ Some x
+turned_side h u k s x live sides =
+    ap (λ ss. option_and_then (λ y. y) (numbered ss k)) sides ∙ ap (option_and_then (λ y. y)) (with_here h.sides k (Some s) (Some x) (side_there h k s live))
+
+makes_named : (w u : World) → Makes w u → SameNames w.hall.shop u.hall.shop → AreHeld u.hall → AreLaid u.hall → AreNamed w → AreNamed u
+makes_named w u (leaves alike) same a l n = same_named w u same alike.opens n
+makes_named w u (joins is made links) same a l n = same_named w u same made n
+makes_named w u (reads k s x live session is made links) same a l n = same_named w u same made n
+makes_named w u (serves k s x shop holders opened live comes is made links) same a l n =
+    served_named w u k opened same made
+    (λ reel new. opened_is_reel u.hall k x reel (turned_side w.hall u.hall k s x live (ap (λ (h : Hall). h.sides) is)) a l
+    (ap (λ (h : Hall). written_reel h.shop x.session) is ∙ comes_reel _ (scene shop x.session) opened comes reel new)) n
+makes_named w u (ends k is made links) same a l n = same_named w u same made n
+makes_named w u (restarts is made links) same a l n = same_named w u same made n
+makes_named w u (arranges d names within free is made links) same a l n = same_named w u same made n
+
+pub named_after : (w : World) (event : PlainEvent) (u : World) → Happens w event u → AreHeld w.hall → AreHeld u.hall → AreLaid u.hall → AreNamed w → AreNamed u
+named_after w event u happens before a l n = makes_named w u (event_makes w event u happens) (names_after w event u happens before) a l n
+
+both : (a b : Bool) → (a && b) ≡ true → (a ≡ true) × (b ≡ true)
+both true b is = (refl, is)
+both false b is = absurd cc
+
+neither : (a b : Bool) → (a || b) ≡ false → (a ≡ false) × (b ≡ false)
+neither true b is = absurd cc
+neither false b is = (refl, is)
+
+turned : (b : Bool) → not b ≡ true → b ≡ false
+turned true is = absurd cc
+turned false is = refl
+
+-- the names of the first world
+none_times : (name : List ℕ) (names : List (List ℕ)) → list_any (bytes_eq name) names ≡ false → times name names ≡ 0
+none_times name [] none = refl
+none_times name (n ∷ names) none =
+    let parts = neither (bytes_eq name n) (list_any (bytes_eq name) names) none in
+    let one : bit (bytes_eq name n) ≡ 0 = ap bit parts.0 in
+    let rest = none_times name names parts.1 in
+    let all = sum_by-cons (λ m. bit (bytes_eq name m)) n names in
+    omega (arith, one, rest, all)
+
+distinct_if : (name n : List ℕ) (names : List (List ℕ)) (b : Bool) → bytes_eq name n ≡ b → list_any (bytes_eq n) names ≡ false → times name names ≤ 1
+    → times name (n ∷ names) ≤ 1
+distinct_if name n names true is apart more =
+    let same : name ≡ n = (bytes_eq-Decides name n).0 is in
+    let rest = ap (λ m. times m names) same ∙ none_times n names apart in
+    let one : bit (bytes_eq name n) ≡ 1 = ap bit is in
+    let all = sum_by-cons (λ m. bit (bytes_eq name m)) n names in
+    omega (arith, one, rest, all)
+distinct_if name n names false is apart more =
+    let one : bit (bytes_eq name n) ≡ 0 = ap bit is in
+    let all = sum_by-cons (λ m. bit (bytes_eq name m)) n names in
+    omega (arith, one, more, all)
+
+distinct_once : (names : List (List ℕ)) → are_distinct names ≡ true → (name : List ℕ) → times name names ≤ 1
+distinct_once [] distinct name = omega arith
+distinct_once (n ∷ names) distinct name =
+    let parts = both (not (list_any (bytes_eq n) names)) (are_distinct names) distinct in
+    distinct_if name n names (bytes_eq name n) refl (turned (list_any (bytes_eq n) names) parts.0) (distinct_once names parts.1 name)
+
+names_more : (xs ys : List (Slot KeptReel)) → names_of (xs ++ ys) ≡ names_of xs ++ names_of ys
+names_more [] ys = refl
+names_more (x ∷ xs) ys = ap (λ l. x.name ∷ l) (names_more xs ys)
+
+blank_names : (capacity : ℕ) (names : List (List ℕ)) → names_of (map (λ name. slot name (Some (kept_reel [] capacity))) names) ≡ names
+blank_names capacity [] = refl
+blank_names capacity (name ∷ names) = ap (λ l. name ∷ l) (blank_names capacity names)
+
+first_world_names : (drives : List PlainDrive) → names_of (flat_map (λ (r : Rack KeptReel). r.stack) (map blank_rack drives)) ≡ flat_map (λ (d : PlainDrive). d.reels) drives
+first_world_names [] = refl
+first_world_names (d ∷ drives) =
+    names_more (blank_rack d).stack (flat_map (λ (r : Rack KeptReel). r.stack) (map blank_rack drives))
+    ∙ ap (λ l. l ++ names_of (flat_map (λ (r : Rack KeptReel). r.stack) (map blank_rack drives))) (blank_names d.capacity d.reels)
+    ∙ ap (λ l. d.reels ++ l) (first_world_names drives)
+
+pub first_named : (drives : List PlainDrive) → AreGoodDrives drives → AreNamed (first_world drives)
+first_named drives good = record {
+  once = λ name.
+      (let all : names_in (first_world drives).hall.shop ≡ flat_map (λ (d : PlainDrive). d.reels) drives
+      = ap (λ l. names_of l) (append-nil (flat_map (λ (r : Rack KeptReel). r.stack) (map blank_rack drives))) ∙ first_world_names drives in
+      subst (λ l. times name l ≤ 1) (sym all) (distinct_once (flat_map (λ (d : PlainDrive). d.reels) drives) good.2 name));
+  opened = λ o (k, within, is). absurd (omega (arith, within));
+}

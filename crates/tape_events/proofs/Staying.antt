@@ -1,0 +1,121 @@
+-- What stays so, in the first world and after each event.
+use Rattle.std.proofs.Common.{◌≡◌, ℕ, zero, suc, List, [], ◌∷◌, length, map, replicate, Contains, Some, refl, sym, ◌∙◌, arith}
+use Rattle.std.specs.Prelude.{slice_get, slice_index_or}
+use Rattle.drives.specs.Shop.{kept_reel, slot, rack}
+use Rattle.std.proofs.lemmas.List.{length-map, length-replicate}
+use Rattle.std.proofs.lemmas.Option.{same_Some}
+use Rattle.tape_events.specs.World.{World, numbered}
+use Rattle.tape_events.specs.Events.{PlainEvent}
+use Rattle.tape_events.specs.First.{PlainDrive, AreGoodDrives, blank_rack, first_world}
+use Rattle.tape_events.specs.Steps.{Happens, Runs, none, one_more}
+use Rattle.tape_events.specs.Kept.{AreThere, IsKept, NoTwoHolders, DumpdatesGained}
+use Rattle.tape_events.specs.Naming.{SameNames}
+use Rattle.tape_events.proofs.SentWire.{OneReading, DroppedWrites, OneReply}
+use Rattle.tape_events.proofs.Lawfully.{Lawfully, lawful_after}
+use Rattle.tape_events.proofs.Owned.{Standings, owned_after, first_owned}
+use Rattle.tape_events.proofs.ToldAfter.{first_told, told_stays}
+use Rattle.tape_events.proofs.LabelledAfter.{first_single, first_earned, single_after, earned_after}
+use Rattle.tape_events.proofs.Tidy.{tidy_after}
+use Rattle.tape_events.proofs.Held.{held_after, side_there}
+use Rattle.tape_events.proofs.Laid.{laid_after}
+use Rattle.tape_events.proofs.Booked.{Goings, booked_after}
+use Rattle.tape_events.proofs.Named.{names_after, named_after, first_named}
+use Rattle.tape_events.proofs.Opened.{opened_after, first_opened}
+
+no_number : {X : Type 0} (k : ℕ) (x : X) → numbered {X = X} [] k ≡ Some x → ⊥
+no_number zero x is = cc
+no_number (suc k) x is = cc
+
+no_member : {X : Type 0} (x : X) → Contains [] x → ⊥
+no_member x (k, within, is) = omega (arith, within)
+
+-- no drive has a holder
+no_holder : (n d k : ℕ) → slice_get (replicate n 0) d ≡ Some (suc k) → ⊥
+no_holder zero d k is = cc
+no_holder (suc n) zero k is = let clash : 0 ≡ suc k = same_Some 0 (suc k) is in omega (arith, clash)
+no_holder (suc n) (suc d) k is = no_holder n d k is
+
+-- each reel lies there
+blank_there : (capacity : ℕ) (names : List (List ℕ)) → AreThere (map (λ name. slot name (Some (kept_reel [] capacity))) names)
+blank_there capacity [] = tt
+blank_there capacity (name ∷ names) = ((kept_reel [] capacity, refl), blank_there capacity names)
+
+first_there : (drives : List PlainDrive) (d : ℕ) → AreThere (slice_index_or (map blank_rack drives) d (rack [] [])).stack
+first_there [] d = tt
+first_there (drive ∷ drives) zero = blank_there drive.capacity drive.reels
+first_there (drive ∷ drives) (suc d) = first_there drives d
+
+pub first_kept : (drives : List PlainDrive) → AreGoodDrives drives → IsKept (first_world drives)
+first_kept drives good = record {
+  lawful = λ c is. absurd cc;
+  owned = first_owned (first_world drives) refl refl refl;
+  told = first_told drives;
+  single = first_single drives;
+  counted = first_earned drives;
+  tidy = record { paired = refl; each = λ k l at. absurd (no_number k l at) };
+  held = record {
+    places = length-replicate (length drives) 0 ∙ sym (length-map drives blank_rack);
+    opened = λ k d s at drive. absurd (no_number k (Some s) (side_there (first_world drives).hall k s at));
+    holds = λ k d at. absurd (no_holder (length drives) d k at);
+  };
+  laid = record {
+    latched = λ d (k, s, at, on). absurd (no_number k (Some s) (side_there (first_world drives).hall k s at));
+    lying = λ d off. first_there drives d;
+    bin = tt;
+  };
+  booked = record {
+    last = λ c is. absurd cc;
+    begun = λ c is. absurd cc;
+    listed = λ c is. absurd cc;
+    none = λ run past. refl;
+    earned = λ e among. absurd (no_member e among);
+    once = λ i j e f one other same. absurd (no_number i e one);
+    finished = λ c e is among same. absurd cc;
+    dates = refl;
+  };
+  once = first_named drives good;
+  opened = first_opened drives;
+}
+
+-- What other crates say of a client, and of requests and replies.
+pub record Laws : Type 0 where
+  pub goings : Goings
+  pub lawfully : Lawfully
+  pub standings : Standings
+  pub reading : OneReading
+  pub dropped : DroppedWrites
+  pub reply : OneReply
+
+pub kept_after : Laws → (w u : World) (event : PlainEvent) → IsKept w → Happens w event u → IsKept u
+kept_after g w u event k happens =
+    let held = held_after w event u happens k.held in
+    let laid = laid_after w event u happens k.held k.laid in
+    let named = named_after w event u happens k.held held laid k.once in
+    record {
+      lawful = lawful_after g.lawfully w event u happens k.lawful;
+      owned = owned_after g.standings w event u happens k.owned;
+      told = told_stays g.reading g.dropped g.reply w u event k.lawful k.owned k.tidy k.booked k.told happens;
+      single = single_after g.reading g.dropped w event u happens k.held k.told k.opened k.single;
+      counted = earned_after g.reading g.dropped g.reply w event u happens k.held k.owned k.told k.single k.counted;
+      tidy = tidy_after w event u happens k.tidy;
+      held = held;
+      laid = laid;
+      booked = booked_after g.goings w event u k.lawful happens k.booked;
+      once = named;
+      opened = opened_after w event u happens k.tidy k.held held laid named.once k.opened;
+    }
+
+-- after every list of events
+pub runs_kept : Laws → (first w : World) (events : List PlainEvent) → IsKept first → Runs first events w → IsKept w
+runs_kept g first w events k none = k
+runs_kept g first w events k (one_more {before = before} event run happens) = kept_after g before w event (runs_kept g first before _ k run) happens
+
+pub kept_names : (w u : World) (event : PlainEvent) → IsKept w → Happens w event u → SameNames w.hall.shop u.hall.shop
+kept_names w u event k happens = names_after w event u happens k.held
+
+pub no_two_holders : (w : World) → IsKept w → NoTwoHolders w
+no_two_holders w kept j k d s t one has other also =
+    same_Some j k (sym (kept.held.opened j d s one has) ∙ kept.held.opened k d t other also)
+
+pub dumpdates_gained : (w : World) → IsKept w → DumpdatesGained w
+dumpdates_gained w kept = record { dates = kept.booked.dates; once = kept.booked.once; earned = kept.booked.earned }

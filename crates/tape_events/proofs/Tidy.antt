@@ -1,0 +1,207 @@
+-- Connections of which a side is over are cut, and lose what is on the way, whatever happens.
+use Rattle.std.proofs.Common.{◌≡◌, ℕ, zero, suc, ◌+◌, Bool, true, false, List, [], ◌∷◌, ◌++◌, length, map, drop, Option, Some, None, Result, Ok, Err, refl, sym, ap, subst, ◌∙◌, inl, inr, arith}
+use Rattle.std.specs.Prelude.{option_and_then}
+use Rattle.std.proofs.lemmas.List.{length-map, length-append}
+use Rattle.std.proofs.lemmas.Option.{same_Some}
+use Rattle.rmt_wire.specs.Request.{PlainRequest}
+use Rattle.rmt_wire.specs.RequestReader.{held}
+use Rattle.rmt_wire.specs.declared.fault.WireFault.{WireFault}
+use Rattle.tape.specs.declared.trouble.Trouble.{Trouble}
+use Rattle.rmt_server.specs.Hall.{Hall, Side, side}
+use Rattle.rmt_server.specs.Session.PlainSession.{Idle}
+use Rattle.dump_client.specs.Standing.{Standing}
+use Rattle.dump_client.specs.declared.step.Step.{Step}
+use Rattle.dump_client.specs.declared.stage.Progress.{Progress}
+use Rattle.dump_client.specs.declared.stage.Progress.TheVariants.{Idle as Resting, Waiting, Send as Sends, Failed, Ended}
+use Rattle.tape_events.specs.World.{World, Link, Dumping, Caller, numbered, with_numbered}
+use Rattle.tape_events.specs.Events.{PlainEvent}
+use Rattle.tape_events.specs.Events.PlainEvent.{StartRun, Connect, Send, ToServer, Serve, ToClient, Cut, EndAtServer, EndAtClient, ServerRestart, ClientRestart, Respond, Arrange, Stranger, Says, Enter}
+use Rattle.tape_events.specs.Changes.{changed, side_of, calm, new_link, with_side, sent_on, over_there, over_here, ended_from, ended, all_ended, answered, came_to}
+use Rattle.tape_events.specs.Steps.{Happens, Sends as SendsAt, Finds, Hears, SeesEnd, sent_link, forgotten_from}
+use Rattle.tape_events.specs.Kept.{IsTidy, AreTidy}
+use Rattle.tape_events.proofs.Numbers.{with_here, with_other, length_with, changed_is, length_changed, pushed_is, numbered_more, numbered_last, numbered_within, numbered_there, numbered_first}
+
+-- a change of a connection that leaves it tidy, beside whatever side
+abbrev pub KeepsTidy : (Link → Link) → Type 0
+KeepsTidy f = (s : Option Side) (l : Link) → IsTidy s l → IsTidy s (f l)
+
+-- the same sides and connections
+same_tidy : (w u : World) → u.hall.sides ≡ w.hall.sides → u.links ≡ w.links → AreTidy w → AreTidy u
+same_tidy w u sides links t = record {
+  paired = ap length sides ∙ t.paired ∙ sym (ap length links);
+  each = λ k l at. subst (λ ss. IsTidy (option_and_then (λ s. s) (numbered ss k)) l) (sym sides) (t.each k l (ap (λ ls. numbered ls k) (sym links) ∙ at));
+}
+
+-- one connection is changed
+changed_tidy : (f : Link → Link) → KeepsTidy f → (w u : World) (k : ℕ) → u.hall.sides ≡ w.hall.sides → u.links ≡ changed f w.links k → AreTidy w → AreTidy u
+changed_tidy f keeps w u k sides links t = record {
+  paired = ap length sides ∙ t.paired ∙ sym (ap length links ∙ length_changed f w.links k);
+  each = λ j l at. subst (λ ss. IsTidy (option_and_then (λ s. s) (numbered ss j)) l) (sym sides)
+      (elim (changed_is f w.links k j l (ap (λ ls. numbered ls j) (sym links) ∙ at)) [
+        | inl (same, (x, was, new)) ↦ subst (λ y. IsTidy (side_of w.hall j) y) (sym new)
+            (keeps (side_of w.hall j) x (t.each j x (ap (numbered w.links) same ∙ was)))
+        | inr (other, on) ↦ t.each j l on
+      ]);
+}
+
+-- a connection beside a side that is live
+live_tidy : (s : Side) (l : Link) → (l.other ≡ false → l.cut ≡ true) → IsTidy (Some s) l
+live_tidy s l there = record { here = λ e. absurd cc; there = there; nothing = λ e. absurd cc }
+
+-- what the two ends of a connection say of it when they are over
+over_here_tidy : (s : Option Side) (l : Link) → IsTidy s (over_here l)
+over_here_tidy s l = record { here = λ e. refl; there = λ e. refl; nothing = λ e. refl }
+
+over_there_tidy : KeepsTidy over_there
+over_there_tidy s l t = record { here = λ e. refl; there = λ e. refl; nothing = t.nothing }
+
+sent_nothing : (cut : Bool) (way bytes : List ℕ) → cut ≡ true → sent_on cut way bytes ≡ way
+sent_nothing cut way bytes is = ap (λ c. sent_on c way bytes) is
+
+said_tidy : (bytes : List ℕ) → KeepsTidy (λ l. record l { toward = sent_on l.cut l.toward bytes })
+said_tidy bytes s l t = record { here = t.here; there = t.there; nothing = λ e. sent_nothing l.cut l.toward bytes (t.here e) ∙ t.nothing e }
+
+sent_tidy : (text : List ℕ) → KeepsTidy (sent_link text)
+sent_tidy text s l t = record { here = t.here; there = t.there; nothing = λ e. sent_nothing l.cut l.toward text (t.here e) ∙ t.nothing e }
+
+heard_tidy : (n : ℕ) → KeepsTidy (λ l. record l { back = drop n l.back })
+heard_tidy n s l t = record { here = t.here; there = t.there; nothing = t.nothing }
+
+cut_tidy : KeepsTidy (λ l. record l { cut = true })
+cut_tidy s l t = record { here = λ e. refl; there = λ e. refl; nothing = t.nothing }
+
+-- a live side is another, and its connection is changed
+side_tidy : (f : Link → Link) → ((l : Link) → (l.other ≡ false → l.cut ≡ true) → (f l).other ≡ false → (f l).cut ≡ true)
+    → (w u : World) (k : ℕ) (s x : Side) → side_of w.hall k ≡ Some s → u.hall.sides ≡ with_numbered w.hall.sides k (Some x)
+    → u.links ≡ changed f w.links k → AreTidy w → AreTidy u
+side_tidy f keeps w u k s x live sides links t = record {
+  paired = ap length sides ∙ length_with w.hall.sides k (Some x) ∙ t.paired ∙ sym (ap length links ∙ length_changed f w.links k);
+  each = λ j l at. subst (λ ss. IsTidy (option_and_then (λ y. y) (numbered ss j)) l) (sym sides)
+      (elim (changed_is f w.links k j l (ap (λ ls. numbered ls j) (sym links) ∙ at)) [
+        | inl (same, (y, was, new)) ↦
+            let within = numbered_within w.links k y was in
+            let there = numbered_there w.hall.sides k (numbered_first w.links k y was) (omega (arith, t.paired, within)) in
+            let now : numbered (with_numbered w.hall.sides k (Some x)) j ≡ Some (Some x)
+            = ap (numbered (with_numbered w.hall.sides k (Some x))) same ∙ with_here w.hall.sides k there.0 (Some x) there.1 in
+            subst (λ o. IsTidy (option_and_then (λ z. z) o) l) (sym now)
+            (subst (λ z. IsTidy (Some x) z) (sym new) (live_tidy x (f y) (keeps y ((t.each k y was).there))))
+        | inr (other, on) ↦ subst (λ o. IsTidy (option_and_then (λ z. z) o) l) (sym (with_other w.hall.sides k j (Some x) other)) (t.each j l on)
+      ]);
+}
+
+-- a side that was ended, and all others
+ended_length : (h : Hall) (k : ℕ) (o : Option Side) → length (ended_from h k o).sides ≡ length h.sides
+ended_length h k None = refl
+ended_length h k (Some s) = length_with h.sides k None
+
+ended_other : (h : Hall) (k j : ℕ) (o : Option Side) → ((j ≡ k) → ⊥) → numbered (ended_from h k o).sides j ≡ numbered h.sides j
+ended_other h k j None other = refl
+ended_other h k j (Some s) other = with_other h.sides k j None other
+
+ended_tidy : (w u : World) (k : ℕ) → u.hall.sides ≡ (ended w.hall k).sides → u.links ≡ changed over_here w.links k → AreTidy w → AreTidy u
+ended_tidy w u k sides links t = record {
+  paired = ap length sides ∙ ended_length w.hall k (side_of w.hall k) ∙ t.paired ∙ sym (ap length links ∙ length_changed over_here w.links k);
+  each = λ j l at. elim (changed_is over_here w.links k j l (ap (λ ls. numbered ls j) (sym links) ∙ at)) [
+    | inl (same, (x, was, new)) ↦ subst (λ y. IsTidy (side_of u.hall j) y) (sym new) (over_here_tidy (side_of u.hall j) x)
+    | inr (other, on) ↦ subst (λ o. IsTidy (option_and_then (λ s. s) o) l)
+        (sym (ap (λ ss. numbered ss j) sides ∙ ended_other w.hall k j (side_of w.hall k) other)) (t.each j l on)
+  ];
+}
+
+all_ended_length : (h : Hall) (n : ℕ) → length (all_ended h n).sides ≡ length h.sides
+all_ended_length h zero = refl
+all_ended_length h (suc n) = ended_length (all_ended h n) (suc n) (side_of (all_ended h n) (suc n)) ∙ all_ended_length h n
+
+-- a member of a mapped list
+map_get : (xs : List Link) (m : ℕ) (y : Link) → numbered (map over_here xs) (suc m) ≡ Some y → (x : Link) × (y ≡ over_here x)
+map_get [] m y is = absurd cc
+map_get (x ∷ xs) zero y is = (x, same_Some y (over_here x) (sym is))
+map_get (x ∷ xs) (suc m) y is = map_get xs m y is
+
+map_is : (xs : List Link) (k : ℕ) (y : Link) → numbered (map over_here xs) k ≡ Some y → (x : Link) × (y ≡ over_here x)
+map_is xs zero y is = absurd cc
+map_is xs (suc m) y is = map_get xs m y is
+
+restarted_tidy : (w u : World) → u.hall.sides ≡ (all_ended w.hall (length w.hall.sides)).sides → u.links ≡ map over_here w.links → AreTidy w → AreTidy u
+restarted_tidy w u sides links t = record {
+  paired = ap length sides ∙ all_ended_length w.hall (length w.hall.sides) ∙ t.paired ∙ sym (ap length links ∙ length-map w.links over_here);
+  each = λ j l at. (let found = map_is w.links j l (ap (λ ls. numbered ls j) (sym links) ∙ at) in
+      subst (λ y. IsTidy (side_of u.hall j) y) (sym found.1) (over_here_tidy (side_of u.hall j) found.0));
+}
+
+-- a connection more
+joined_tidy : (w u : World) (dump : Option Dumping) → u.hall.sides ≡ (with_side w.hall).sides → u.links ≡ w.links ++ new_link dump ∷ [] → AreTidy w → AreTidy u
+joined_tidy w u dump sides links t = record {
+  paired = ap length sides ∙ length-append w.hall.sides (Some (side (held [] 0) Idle) ∷ []) ∙ ap (λ n. n + 1) t.paired
+      ∙ sym (ap length links ∙ length-append w.links (new_link dump ∷ []));
+  each = λ j l at. subst (λ ss. IsTidy (option_and_then (λ s. s) (numbered ss j)) l) (sym sides)
+      (elim (pushed_is w.links (new_link dump) j l (ap (λ ls. numbered ls j) (sym links) ∙ at)) [
+        | inl on ↦
+            let within = numbered_within w.links j l on in
+            let there = numbered_there w.hall.sides j (numbered_first w.links j l on) (omega (arith, t.paired, within)) in
+            subst (λ o. IsTidy (option_and_then (λ s. s) o) l) (sym (numbered_more w.hall.sides (Some (side (held [] 0) Idle) ∷ []) j there.0 there.1))
+            (subst (λ o. IsTidy (option_and_then (λ s. s) o) l) there.1 (t.each j l on))
+        | inr (last, new) ↦
+            let here : numbered (w.hall.sides ++ Some (side (held [] 0) Idle) ∷ []) j ≡ Some (Some (side (held [] 0) Idle))
+            = ap (numbered (w.hall.sides ++ Some (side (held [] 0) Idle) ∷ [])) (last ∙ ap suc (sym t.paired))
+            ∙ numbered_last w.hall.sides (Some (side (held [] 0) Idle)) in
+            subst (λ o. IsTidy (option_and_then (λ s. s) o) l) (sym here)
+            (subst (λ y. IsTidy (Some (side (held [] 0) Idle)) y) (sym new) (live_tidy (side (held [] 0) Idle) (new_link dump) (λ e. absurd cc)))
+      ]);
+}
+
+-- what comes of the client's call
+came_to_tidy : (w : World) (k : ℕ) (at : Standing) (progress : Progress) → AreTidy w → AreTidy (came_to w k at progress)
+came_to_tidy w k at (Failed fault) t = changed_tidy over_there over_there_tidy w _ k refl refl t
+came_to_tidy w k at Ended t = changed_tidy over_there over_there_tidy w _ k refl refl t
+came_to_tidy w k at Resting t = t
+came_to_tidy w k at Waiting t = t
+came_to_tidy w k at Sends t = t
+
+hears_tidy : (o : Option Dumping) (w : World) (k n : ℕ) (piece : List ℕ) (u : World) → Hears o w k n piece u → AreTidy w → AreTidy u
+hears_tidy None w k n piece u is t = changed_tidy (λ l. record l { back = drop n l.back }) (heard_tidy n) w u k (ap (λ x. x.hall.sides) is) (ap (λ x. x.links) is) t
+hears_tidy (Some dump) w k n piece u (c, fed, at, reader, progress, there, had, feeds, has, is) t =
+    subst AreTidy (sym is)
+    (came_to_tidy _ k at progress (changed_tidy (λ l. record l { back = drop n l.back }) (heard_tidy n) w _ k refl refl t))
+
+sees_tidy : (o : Option Dumping) (w : World) (k : ℕ) (u : World) → SeesEnd o w k u → AreTidy w → AreTidy u
+sees_tidy None w k u is t = changed_tidy over_there over_there_tidy w u k (ap (λ x. x.hall.sides) is) (ap (λ x. x.links) is) t
+sees_tidy (Some dump) w k u (c, at, reader, progress, there, cuts, has, is) t =
+    subst AreTidy (sym is) (came_to_tidy _ k at progress (changed_tidy over_there over_there_tidy w _ k refl refl t))
+
+sends_tidy : (failing : Bool) (w : World) (k : ℕ) (c : Caller) (payload : List (List ℕ)) (step : Step) (u : World) → SendsAt failing w k c payload step u
+    → AreTidy w → AreTidy u
+sends_tidy true w k c payload step u (reader, is) t = changed_tidy over_there over_there_tidy w u k (ap (λ x. x.hall.sides) is) (ap (λ x. x.links) is) t
+sends_tidy false w k c payload step u (reader, has, is) t = changed_tidy (sent_link _) (sent_tidy _) w u k (ap (λ x. x.hall.sides) is) (ap (λ x. x.links) is) t
+
+finds_tidy : (w : World) (k : ℕ) (trouble : Trouble) (s : Side) (found : Result (Option PlainRequest) WireFault) (rest : List ℕ) (u : World)
+    → side_of w.hall k ≡ Some s → Finds w k trouble s found rest u → AreTidy w → AreTidy u
+finds_tidy w k trouble s (Ok None) rest u live finds t = absurd finds
+finds_tidy w k trouble s (Ok (Some request)) rest u live (reply, reached, shop, session, holders, unread, served, is) t =
+    side_tidy (answered request reply) (λ l there. there) w u k s (side reached session) live (ap (λ x. x.hall.sides) is) (ap (λ x. x.links) is) t
+finds_tidy w k trouble s (Err fault) rest u live is t = ended_tidy w u k (ap (λ x. x.hall.sides) is) (ap (λ x. x.links) is) t
+
+forgotten_tidy : (w : World) (o : Option ℕ) → AreTidy w → AreTidy (record (forgotten_from (calm w) o) { caller = None })
+forgotten_tidy w None t = same_tidy w _ refl refl t
+forgotten_tidy w (Some k) t = changed_tidy over_there over_there_tidy w _ k refl refl t
+
+-- the worlds of which all is said by what they are
+pub tidy_after : (w : World) (event : PlainEvent) (u : World) → Happens w event u → AreTidy w → AreTidy u
+tidy_after w (StartRun run payload) u (may, (reader, is)) t = same_tidy w u (ap (λ x. x.hall.sides) is) (ap (λ x. x.links) is) t
+tidy_after w Connect u (may, (c, there, ready, is)) t = joined_tidy w u _ (ap (λ x. x.hall.sides) is) (ap (λ x. x.links) is) t
+tidy_after w (Send fails) u (may, (c, step, k, b, there, stage, own, begun, sends)) t = sends_tidy _ w k c b.payload step u sends t
+tidy_after w (ToServer k n) u (may, (s, l, reached, live, at, grows, is)) t =
+    side_tidy (λ x. record x { toward = drop n x.toward }) (λ x there. there) w u k s (side reached s.session) live (ap (λ x. x.hall.sides) is) (ap (λ x. x.links) is) t
+tidy_after w (Serve k trouble) u (may, (s, found, bytes, rest, live, unread, gives, finds)) t = finds_tidy w k trouble s found rest u live finds t
+tidy_after w (ToClient k n) u (may, (l, at, hears)) t = hears_tidy l.dump w k n _ u hears t
+tidy_after w (Cut k) u (may, is) t = changed_tidy (λ l. record l { cut = true }) cut_tidy w u k (ap (λ x. x.hall.sides) is) (ap (λ x. x.links) is) t
+tidy_after w (EndAtServer k) u (may, is) t = ended_tidy w u k (ap (λ x. x.hall.sides) is) (ap (λ x. x.links) is) t
+tidy_after w (EndAtClient k) u (may, (l, at, sees)) t = sees_tidy l.dump w k u sees t
+tidy_after w ServerRestart u (may, is) t = restarted_tidy w u (ap (λ x. x.hall.sides) is) (ap (λ x. x.links) is) t
+tidy_after w ClientRestart u (may, is) t = subst AreTidy (sym is) (forgotten_tidy w w.own t)
+tidy_after w (Respond answer) u (may, (c, reader, there, asks, is)) t = same_tidy w u (ap (λ x. x.hall.sides) is) (ap (λ x. x.links) is) t
+tidy_after w (Arrange drive reels) u (may, (d, named, is)) t = same_tidy w u (ap (λ x. x.hall.sides) is) (ap (λ x. x.links) is) t
+tidy_after w Stranger u (may, is) t = joined_tidy w u None (ap (λ x. x.hall.sides) is) (ap (λ x. x.links) is) t
+tidy_after w (Says k bytes) u (may, is) t =
+    changed_tidy (λ l. record l { toward = sent_on l.cut l.toward bytes }) (said_tidy bytes) w u k (ap (λ x. x.hall.sides) is) (ap (λ x. x.links) is) t
+tidy_after w Enter u (may, (c, there, is)) t = same_tidy w u (ap (λ x. x.hall.sides) is) (ap (λ x. x.links) is) t

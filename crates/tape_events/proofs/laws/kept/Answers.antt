@@ -1,0 +1,35 @@
+use Rattle.tape_events.proofs.Staying.{first_kept, kept_after, runs_kept, kept_names, no_two_holders, dumpdates_gained}
+use Rattle.tape_events.specs.First.{first_world}
+use Rattle.tape_events.proofs.laws.kept.Goals as goal
+
+pub returns-clause-first : goal.returns-clause-first
+returns-clause-first c = first_kept
+
+pub returns-clause-after : goal.returns-clause-after
+returns-clause-after c = kept_after record {
+  goings = (c.same_run.ensures.fed, c.same_run.ensures.cut);
+  lawfully = (c.same_run.ensures.fed_lawful, c.same_run.ensures.cut_lawful);
+  standings = (c.same_run.ensures.fed_stands, c.same_run.ensures.cut_stands);
+  reading = c.one_reading.ensures.answers;
+  dropped = c.dropped_writes.ensures;
+  reply = c.one_reply.ensures;
+}
+
+pub returns-clause-runs : goal.returns-clause-runs
+returns-clause-runs c = λ drives events w good run. runs_kept record {
+  goings = (c.same_run.ensures.fed, c.same_run.ensures.cut);
+  lawfully = (c.same_run.ensures.fed_lawful, c.same_run.ensures.cut_lawful);
+  standings = (c.same_run.ensures.fed_stands, c.same_run.ensures.cut_stands);
+  reading = c.one_reading.ensures.answers;
+  dropped = c.dropped_writes.ensures;
+  reply = c.one_reply.ensures;
+} (first_world drives) w events (first_kept drives good) run
+
+pub returns-clause-names : goal.returns-clause-names
+returns-clause-names c = kept_names
+
+pub returns-clause-no_two_holders : goal.returns-clause-no_two_holders
+returns-clause-no_two_holders c = no_two_holders
+
+pub returns-clause-dumpdates_gained : goal.returns-clause-dumpdates_gained
+returns-clause-dumpdates_gained c = dumpdates_gained
