@@ -1,12 +1,12 @@
 -- Bytes that reach the server.
-use Rattle.std.proofs.Common.{◌≡◌, ◌⊎◌, ℕ, zero, suc, ◌+◌, ◌-◌, ◌<◌, ◌≤◌, min, Bool, List, [], ◌∷◌, ◌++◌, length, take, Option, Some, None, refl, sym, ap, subst, ◌∙◌, inl, inr, arith}
+use Rattle.std.proofs.Common.{◌≡◌, ◌⊎◌, ℕ, zero, suc, ◌+◌, ◌-◌, ◌≤◌, min, List, [], ◌∷◌, ◌++◌, length, take, Option, Some, None, refl, sym, ap, subst, ◌∙◌, inl, inr, arith}
 use Rattle.std.specs.Prelude.{slice_get, slice_set, option_and_then}
-use Rattle.std.proofs.lemmas.List.{length-set, length-take, take_all}
+use Rattle.std.proofs.lemmas.List.{length-take, take_all}
 use Rattle.std.proofs.lemmas.Option.{same_Some}
 use Rattle.rmt_wire.specs.RequestReader.{RequestHeld, Unread, taken_of}
 use Rattle.rmt_wire.specs.Limits.{reader_limit}
 use Rattle.rmt_server.specs.Hall.{Hall, hall, Side, side}
-use Rattle.tape_host.specs.Halls.{Hosted, hosted, side_at, with_side_at, HasRoom, IsPushed}
+use Rattle.tape_host.specs.Halls.{Hosted, side_at, with_side_at, HasRoom, IsPushed}
 use Rattle.tape_events.specs.World.{numbered, with_numbered}
 use Rattle.tape_events.specs.Changes.{side_of}
 use Rattle.tape_events.specs.Rows.{HasRoomFor}
@@ -22,7 +22,7 @@ pub record Reaches (h : Hall) (k n : ℕ) (way : List ℕ) (new : Hall) : Type 0
   pub unread : (bytes : List ℕ) → Unread side_is.reached bytes → Unread reached (bytes ++ take n way)
   pub hall_is : new ≡ hall h.shop h.holders (with_numbered h.sides k (Some (side reached side_is.session)))
 
-put_side : (sides : List (Option Side)) (k : ℕ) (x : Option Side) → with_side_at sides k x ≡ with_numbered sides k x
+pub put_side : (sides : List (Option Side)) (k : ℕ) (x : Option Side) → with_side_at sides k x ≡ with_numbered sides k x
 put_side sides zero x = refl
 put_side sides (suc i) x = refl
 
@@ -61,12 +61,12 @@ set_back (x ∷ xs) zero (suc m) v y is = inr is
 set_back (x ∷ xs) (suc i) zero v y is = inr is
 set_back (x ∷ xs) (suc i) (suc m) v y is = set_back xs i m v y is
 
-with_back : {X : Type 0} (xs : List X) (k n : ℕ) (v y : X) → numbered (with_numbered xs k v) n ≡ Some y → (y ≡ v) ⊎ (numbered xs n ≡ Some y)
+pub with_back : {X : Type 0} (xs : List X) (k n : ℕ) (v y : X) → numbered (with_numbered xs k v) n ≡ Some y → (y ≡ v) ⊎ (numbered xs n ≡ Some y)
 with_back xs zero n v y is = inr is
 with_back xs (suc i) zero v y is = absurd cc
 with_back xs (suc i) (suc m) v y is = set_back xs i m v y is
 
-side_is_some : (o : Option (Option Side)) (s : Side) → option_and_then (λ x. x) o ≡ Some s → o ≡ Some (Some s)
+pub side_is_some : (o : Option (Option Side)) (s : Side) → option_and_then (λ x. x) o ≡ Some s → o ≡ Some (Some s)
 side_is_some None s is = absurd cc
 side_is_some (Some x) s is = ap Some is
 

@@ -1,10 +1,9 @@
 -- What the ends of a server's sides leave of a world.
-use Rattle.std.proofs.Common.{◌≡◌, ◌⊎◌, ℕ, zero, suc, List, [], ◌∷◌, length, map, Option, Some, None, refl, sym, ap, subst, ◌∙◌, inl, inr, arith}
+use Rattle.std.proofs.Common.{◌≡◌, ℕ, zero, suc, List, [], ◌∷◌, length, map, Option, Some, None, refl, sym, ap, subst, ◌∙◌}
 use Rattle.std.specs.Prelude.{IsTrue, true, slice_get, slice_set, slice_index_or, option_and_then}
 use Rattle.std.specs.Option.{is_some}
-use Rattle.std.proofs.lemmas.List.{length-set, length-map}
-use Rattle.std.proofs.lemmas.Option.{same_Some, slice_get-map}
-use Rattle.rmt_wire.specs.RequestReader.{Unread}
+use Rattle.std.proofs.lemmas.List.{length-set}
+use Rattle.std.proofs.lemmas.Option.{same_Some}
 use Rattle.drives.specs.Shop.{Shop}
 use Rattle.rmt_server.specs.Hall.{Hall, hall, Side}
 use Rattle.rmt_server.specs.Session.{PlainSession, closed_shop}
@@ -14,8 +13,8 @@ use Rattle.tape_host.specs.Halls as host
 use Rattle.tape_host.specs.Halls.{side_at, with_side_at, HasRoom}
 use Rattle.tape_events.specs.World.{World, Link, numbered, with_numbered}
 use Rattle.tape_events.specs.Changes.{side_of, ended_from, ended, all_ended, over_here}
-use Rattle.tape_world.specs.Holding.{IsSound, IsClients}
-use Rattle.tape_world.proofs.Sound.{IsReadableHall, IsBeside, SameClients, owned_beside, begun_beside, changed_clients, length_changed}
+use Rattle.tape_world.specs.Holding.{IsSound}
+use Rattle.tape_world.proofs.Sound.{IsReadableHall, IsBeside, SameClients, owned_beside, begun_beside}
 
 -- ---- a side by its number
 
@@ -52,7 +51,7 @@ pub record Stays (old new : Hall) : Type 0 where
   pub racks : length new.shop.racks ≡ length old.shop.racks
   pub readable : IsReadableHall old → IsReadableHall new
 
-stays_here : (h : Hall) → Stays h h
+pub stays_here : (h : Hall) → Stays h h
 stays_here h = record { sides = refl; holders = refl; racks = refl; readable = λ r. r }
 
 stays_on : (x y z : Hall) → Stays x y → Stays y z → Stays x z
@@ -68,7 +67,7 @@ racks_closed s Idle = refl
 racks_closed s (Offline drive access) = refl
 racks_closed s (Online drive access reel) = length-set s.racks drive _
 
-holders_with : (d : Option ℕ) (n : ℕ) (holders : List ℕ) → length (with_holder d n holders) ≡ length holders
+pub holders_with : (d : Option ℕ) (n : ℕ) (holders : List ℕ) → length (with_holder d n holders) ≡ length holders
 holders_with None n holders = refl
 holders_with (Some d) n holders = length-set holders d n
 

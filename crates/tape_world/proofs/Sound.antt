@@ -1,11 +1,11 @@
 -- What leaves a world sound.
-use Rattle.std.proofs.Common.{◌≡◌, ◌⊎◌, ℕ, zero, suc, ◌+◌, ◌<◌, ◌≤◌, List, [], ◌∷◌, ◌++◌, length, map, option_map, Option, Some, None, refl, sym, ap, subst, ◌∙◌, inl, inr, arith}
+use Rattle.std.proofs.Common.{◌≡◌, ◌⊎◌, ℕ, zero, suc, ◌+◌, List, [], ◌∷◌, ◌++◌, length, map, option_map, Option, Some, None, refl, sym, ap, subst, ◌∙◌, inl, inr, arith}
 use Rattle.std.specs.Prelude.{IsTrue, slice_get, slice_set, take, drop, option_and_then, Result, Ok, Err}
 use Rattle.std.specs.Result.{IsErrAnd}
 use Rattle.std.proofs.lemmas.List.{length-set, length-map, take_all, drop_all, append-nil, length-append}
 use Rattle.std.proofs.lemmas.Option.{same_Some}
 use Rattle.rmt_server.specs.Hall.{Hall, Side, side}
-use Rattle.tape_events.specs.World.{World, Link, Dumping, Begun, Caller, numbered, with_numbered}
+use Rattle.tape_events.specs.World.{World, Link, Dumping, numbered}
 use Rattle.rmt_wire.specs.RequestReader.{held, dropped_line, Unread}
 use Rattle.rmt_server.specs.Session.PlainSession.{Idle}
 use Rattle.tape_host.specs.Halls.{joined}

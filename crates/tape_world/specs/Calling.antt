@@ -47,9 +47,9 @@ failure_of at (Failed fault) = Some ((checkpoint_of at.counts).0, fault)
 failure_of at progress = None
 
 -- its connection ended
-abbrev pub Ends : Option Caller → Option (ℕ × AttemptFault) → Option Caller → Type 0
-Ends None failure new = new ≡ None
-Ends (Some c) failure new =
+abbrev pub SeesEnd : Option Caller → Option (ℕ × AttemptFault) → Option Caller → Type 0
+SeesEnd None failure new = new ≡ None
+SeesEnd (Some c) failure new =
     (d : Caller) × (progress : Progress) × (new ≡ Some d) × IsSameRun c d × CutAt c.client.at.stage c.client.at progress d.client.at
     × HasFedAt d.client.at.stage d.client.reader [] × (failure ≡ failure_of d.client.at progress)
 

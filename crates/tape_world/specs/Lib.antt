@@ -4,3 +4,9 @@ pub mod Linking
 pub mod Holding
 pub mod Calling
 pub mod Talking
+pub mod Hearing
+pub mod Making
+pub mod Running
+pub mod Telling
+pub mod Serving
+pub mod Entries

@@ -1,8 +1,10 @@
 ghost use Rattle.std.specs.Prelude.{◌≡◌};
-ghost use Rattle.tape_events.specs.Changes.{noted_sent};
+ghost use Rattle.tape_events.specs.Changes.{noted_sent, accepted, noted_error};
 ghost use Rattle.tape_world.specs.Parts.{new_dumping};
+ghost use Rattle.tape_world.specs.Serving.{noted_record, noted_mark, noted_carried};
 
 use std::marker::Model;
+use tape_host::{Answered, Asked, Carried};
 
 /// What an attempt of the client came to on its connection: its run's number, volume and first block, how many requests were
 /// sent and how many carried out, and which of its writes were accepted. Counts stay at the greatest `u64`.
@@ -60,5 +62,59 @@ impl Dumping {
         ensures { self.new ≡ noted_sent self.old }
     {
         self.sent = self.sent.saturating_add(1);
+    }
+
+    /// A request of it was carried out.
+    pub(crate) fn note_carried(&mut self, carried: Carried)
+        ensures { self.new ≡ noted_carried carried self.old }
+    {
+        match carried.asked {
+            Asked::Open { .. } | Asked::Other => {}
+            Asked::Write => self.note_write(carried.answered),
+            Asked::Marks => self.note_marks(carried.answered),
+        }
+        self.carried = self.carried.saturating_add(1);
+    }
+
+    /// A write of it was answered so. Of no bytes nothing is noted.
+    fn note_write(&mut self, answered: Answered)
+        ensures { self.new ≡ noted_record self.old answered }
+    {
+        match answered {
+            Answered::Number(0) | Answered::Data => {}
+            Answered::Number(_) => self.note_accepted(),
+            Answered::Error(number) => self.note_error(number),
+        }
+    }
+
+    /// A write of it was accepted: the first is the label's, and others are blocks'.
+    fn note_accepted(&mut self)
+        ensures { self.new ≡ accepted self.old }
+    {
+        if self.label {
+            self.blocks = self.blocks.saturating_add(1);
+        } else {
+            self.label = true;
+        }
+    }
+
+    /// Its marks were answered so.
+    fn note_marks(&mut self, answered: Answered)
+        ensures { self.new ≡ noted_mark self.old answered }
+    {
+        match answered {
+            Answered::Number(_) => self.mark = true,
+            Answered::Data => {}
+            Answered::Error(number) => self.note_error(number),
+        }
+    }
+
+    /// A write or marks of it were refused with this number of an error. Of a device fault it is 5.
+    fn note_error(&mut self, number: u32)
+        ensures { self.new ≡ noted_error self.old number }
+    {
+        if number == 5 {
+            self.fault = true;
+        }
     }
 }

@@ -22,7 +22,8 @@ pub enum Event<'a> {
         connection: usize,
         count: usize,
     },
-    /// The server carries out one request that reached it, whose device call fails so, or finds that what reached it is none.
+    /// The server carries out one request that reached it, or finds that what reached it is none. The device call that the
+    /// request makes, if it makes one, meets this trouble.
     Serve {
         connection: usize,
         trouble: Trouble,

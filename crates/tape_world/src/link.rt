@@ -6,10 +6,13 @@ ghost use Rattle.tape_events.specs.Changes.{changed, new_link, over_here, over_t
 ghost use Rattle.tape_world.specs.Seen.{seen_link};
 ghost use Rattle.tape_events.specs.Steps.{sent_link};
 ghost use Rattle.tape_world.specs.Linking.{severed, said, arrived};
+ghost use Rattle.tape_world.specs.Hearing.{come_back};
+ghost use Rattle.tape_world.specs.Serving.{noted_turn};
 
 use crate::dumping::Dumping;
 use crate::pipe::Pipe;
 use std::alloc::{AllocError, Global};
+use tape_host::Turn;
 
 /// A connection: what is on the way to the server and back, whether it was cut, whether the side that is not the server's is
 /// live, and what an attempt came to on it, where it is the client's.
@@ -78,6 +81,21 @@ impl Link {
         }
         if !self.cut {
             self.toward.push(bytes);
+        }
+    }
+
+    /// The server's side took this turn.
+    pub(crate) fn note_turn(&mut self, turn: Turn)
+        ensures { seen_link self.new ≡ noted_turn turn (seen_link self.old) }
+    {
+        match turn {
+            Turn::Nothing => {}
+            Turn::Carried(carried) => {
+                if let Some(dump) = &mut self.dump {
+                    dump.note_carried(carried);
+                }
+            }
+            Turn::Broken(_) => self.end_here(),
         }
     }
 }
@@ -152,4 +170,13 @@ pub(crate) fn arrive(links: &mut [Link], connection: usize, count: usize)
     ensures { map seen_link links.new ≡ changed (arrived count) (map seen_link links.old) connection }
 {
     links[connection - 1].toward.pass(count);
+}
+
+/// So many of the bytes on the way back, on the connection of this number, which is there, arrived.
+pub(crate) fn come_back(links: &mut [Link], connection: usize, count: usize)
+    requires first { 1 ≤ connection }
+    requires last { connection ≤ length links.old }
+    ensures { map seen_link links.new ≡ changed (come_back count) (map seen_link links.old) connection }
+{
+    links[connection - 1].back.pass(count);
 }

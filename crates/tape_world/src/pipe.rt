@@ -1,7 +1,11 @@
 ghost use Rattle.std.specs.Prelude.{◌≡◌, ◌≤◌, ◌++◌, [], length, drop, OnErr, OnOk};
+ghost use Rattle.tape_host.specs.Turns.{ServesAt};
 
+use rmt_wire::READER_LIMIT;
 use std::alloc::{AllocError, Global};
 use std::marker::Model;
+use tape::Trouble;
+use tape_host::{Host, Turn};
 
 /// Bytes on the way to one side of a connection, in order.
 ///
@@ -84,5 +88,20 @@ impl Pipe {
     {
         self.bytes.clear();
         self.start = 0;
+    }
+
+    /// The server's side of a connection takes a turn, and its reply goes to the end, for which there is room, unless it
+    /// is lost.
+    pub(crate) fn take_reply(
+        &mut self,
+        host: &mut Host,
+        connection: usize,
+        trouble: Trouble,
+        lost: bool,
+    ) -> Turn
+        requires { READER_LIMIT ≤ self.old.spare }
+        ensures { ServesAt trouble lost host.old connection self.old.way result host.new self.new.way }
+    {
+        host.serve(connection, trouble, &mut self.bytes, lost)
     }
 }

@@ -1,42 +1,73 @@
-mod client;
-mod connection;
-mod server;
-mod talk;
+mod reels;
+mod telling;
 
-use crate::books::Books;
-use crate::caller::{Begun, Caller};
-use crate::link::Link;
-use dumpdates::Dates;
-use std::alloc::Global;
+ghost use Rattle.std.specs.Prelude.{◌≡◌, IfOk, map};
+ghost use Rattle.tape_events.specs.First.{AreGoodDrives, first_world};
+ghost use Rattle.tape_events.specs.Kept.{IsKept, NoTwoHolders, DumpdatesGained};
+ghost use Rattle.tape_world.specs.Holding.{IsEvent};
+ghost use Rattle.tape_world.specs.Making.{plain_drive};
+ghost use Rattle.tape_world.specs.Running.{plain_event};
+
+use crate::drive_spec::DriveSpec;
+use crate::ends::Ends;
+use crate::event::Event;
+use crate::stop::Stop;
+use std::alloc::{AllocError, Global};
 use std::marker::Model;
-use tape_host::Host;
+use tape_events::kept;
 
 /// A server with its drives, all connections that were ever made, and a client.
+///
+/// Contracts see all of it as plain data, and what stays so whatever happens.
 #[derive(Drop)]
 pub struct World {
-    alloc: Global,
-    host: Host,
-    links: Vec<Link>,
-    begun: Vec<Begun>,
-    caller: Option<Caller>,
-    own: Option<usize>,
-    books: Books,
-    dates: Dates,
-    /// Room for the longest request, and the longest reply.
-    scratch: Vec<u8>,
+    ends: Ends,
 }
 
 impl Model for World {
-    ghost use Rattle.std.specs.Prelude.{◌≤◌, vec_capacity};
-    ghost use Rattle.rmt_wire.specs.Limits.{reader_limit};
     ghost use Rattle.tape_events.specs.World.{World};
-    ghost use Rattle.tape_world.specs.Seen.{world_of};
-    ghost use Rattle.tape_world.specs.Holding.{IsSound, IsSourced};
+    ghost use Rattle.tape_events.specs.Kept.{IsKept};
 
     ghost Value = { World };
 
-    ghost view = { λ w. world_of w.host.hall w.links.items w.begun.items w.caller w.own w.books w.dates };
+    ghost view = { λ w. w.ends };
 
-    ghost invariant = { λ w. IsSound (world_of w.host.hall w.links.items w.begun.items w.caller w.own w.books w.dates)
-        × IsSourced w.begun.items w.caller × (reader_limit ≤ vec_capacity w.scratch) };
+    ghost invariant = { λ w. IsKept w.ends };
+}
+
+impl World {
+    /// A world where nothing has happened: a server with these drives, whose reels are empty, no connection and no client.
+    /// `good_drives` tells whether a world can have them.
+    ///
+    /// Fails only where memory is refused.
+    pub fn new(alloc: Global, drives: &[DriveSpec<'_>]) -> Result<World, AllocError>
+        requires { AreGoodDrives (map plain_drive drives.now) }
+        ensures { IfOk result (λ w. w ≡ first_world (map plain_drive drives.now)) }
+    {
+        kept();
+        let ends = Ends::new(alloc, drives)?;
+        Ok(World { ends })
+    }
+
+    /// What holds of each world, whatever happened: who holds the drives, where reels lie, whose openings are last, which
+    /// counts are the client's own, and what dumpdates gained. So no drive has two holders, and dumpdates gained only dumps
+    /// whose counted volumes are all their blocks in order.
+    ///
+    /// It does nothing: its contract is what is told.
+    pub fn kept(&self)
+        ensures kept { IsKept self.now }
+        ensures no_two_holders { NoTwoHolders self.now }
+        ensures dumpdates_gained { DumpdatesGained self.now }
+    {
+        let _ = &self.ends;
+        kept();
+    }
+
+    /// Makes one event.
+    pub(crate) fn make(&mut self, event: &Event<'_>) -> Result<(), Stop>
+        ensures { IsEvent self.old (plain_event event.now) result self.new }
+    {
+        kept();
+        self.ends.make(event)
+    }
 }

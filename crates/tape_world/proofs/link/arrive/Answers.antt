@@ -1,5 +1,4 @@
 use Rattle.std.proofs.Common.{ap}
-use Rattle.tape_events.specs.World.{Link}
 use Rattle.tape_world.specs.Linking.{arrived}
 use Rattle.tape_world.specs.Seen.{seen_link}
 use Rattle.std.specs.Prelude.{◌-◌, slice_index_or}

@@ -1,0 +1,201 @@
+-- Why no name of a new world's drives and reels is taken.
+use Rattle.std.proofs.Common.{◌≡◌, ℕ, zero, suc, ◌+◌, ◌<◌, ◌≤◌, Bool, true, false, not, ◌&&◌, ◌||◌, MatchBool, List, [], ◌∷◌, ◌++◌, length, drop, map, get_or, Some, None, Result, Ok, Err, refl, sym, ap, subst, ◌∙◌, append_assoc, drop-cons, arith}
+use Rattle.std.proofs.Math.Numerals.{suc-eq-add-one}
+use Rattle.std.specs.List.{flat_map, list_any, sum_by}
+use Rattle.std.specs.Str.{bytes_eq}
+use Rattle.std.proofs.lemmas.List.{append-nil, length-map, map-append, get_or-map}
+use Rattle.std.proofs.lemmas.List.Concat.{flat_map-cons}
+use Rattle.std.proofs.lemmas.List.Folds.{list_any-append}
+use Rattle.std.proofs.lemmas.List.Sums.{sum_by-append, sum_by-cons}
+use Rattle.std.proofs.lemmas.Slice.Eq.{bytes_eq-Decides}
+use Rattle.tape.specs.Trouble.{TroubledTape}
+use Rattle.drives.specs.Shop.{Slot, slot, Rack, rack, ShopOf, shop, rack_at, with_rack, slots_in, names_in, times, EachReelOnce, IsDriveNamed}
+use Rattle.drives.specs.ListShop.{ListShop, blank_reel, with_drive, IsDriveAdded, IsReelAdded}
+use Rattle.drives.specs.Arranging.{are_distinct}
+use Rattle.drives.specs.declared.fault.DriveFault.{DriveFault}
+use Rattle.drives.specs.declared.fault.DriveFault.TheVariants.{NoSuchDrive, Busy, NoReel, Device, OutOfMemory, NameTaken}
+use Rattle.drives.proofs.Shops.{bit, named, times-named, sum_by-slots, sum_by-with_rack, any-count}
+use Rattle.drives.proofs.Arranging.{names_from}
+use Rattle.tape_events.specs.First.{AreGoodDrives}
+use Rattle.tape_world.specs.declared.drive_spec.DriveSpec.{DriveSpec}
+use Rattle.tape_world.specs.Making.{plain_drive, reels_of, blank_slots, laid_rack, laid_shop, with_laid, with_slots}
+use Rattle.tape_world.proofs.Apart.{all_reels, good_parts}
+use Rattle.tape_world.proofs.Made.{laid_after, laid_on}
+
+both : (a b : Bool) → (a && b) ≡ true → (a ≡ true) × (b ≡ true)
+both true b h = (refl, h)
+both false b h = absurd cc
+
+turned : (b : Bool) → not b ≡ true → b ≡ false
+turned true h = absurd cc
+turned false h = refl
+
+or_true : (a b : Bool) → b ≡ true → (a || b) ≡ true
+or_true true b h = refl
+or_true false b h = h
+
+any_there : (xs ys : List (List ℕ)) (n : List ℕ) → list_any (bytes_eq n) (xs ++ n ∷ ys) ≡ true
+any_there xs ys n =
+    list_any-append (bytes_eq n) xs (n ∷ ys)
+    ∙ or_true (list_any (bytes_eq n) xs) (list_any (bytes_eq n) (n ∷ ys)) (ap (λ b. b || list_any (bytes_eq n) ys) ((bytes_eq-Decides n n).1 refl))
+
+-- of names that differ one is no other
+distinct_apart : (xs ys : List (List ℕ)) (n : List ℕ) (k : ℕ) → are_distinct (xs ++ n ∷ ys) ≡ true → k < length xs → get_or xs k [] ≡ n → ⊥
+distinct_apart [] ys n k distinct l is = absurd (omega (arith, l))
+distinct_apart (x ∷ xs) ys n zero distinct l is =
+    let first = both (not (list_any (bytes_eq x) (xs ++ n ∷ ys))) (are_distinct (xs ++ n ∷ ys)) distinct in
+    let there = subst (λ m. list_any (bytes_eq m) (xs ++ n ∷ ys) ≡ true) (sym is) (any_there xs ys n) in
+    let bad : true ≡ false = sym there ∙ turned (list_any (bytes_eq x) (xs ++ n ∷ ys)) first.0 in absurd cc
+distinct_apart (x ∷ xs) ys n (suc k) distinct l is =
+    let first = both (not (list_any (bytes_eq x) (xs ++ n ∷ ys))) (are_distinct (xs ++ n ∷ ys)) distinct in
+    distinct_apart xs ys n k first.1 (omega (arith, l)) is
+
+none_counted : (b : Bool) (n : ℕ) → MatchBool b (0 < n) (n ≡ 0) → b ≡ false → n ≡ 0
+none_counted true n h e = absurd cc
+none_counted false n h e = h
+
+once_step : (name x : List ℕ) (xs : List (List ℕ)) (b : Bool) → bytes_eq name x ≡ b → list_any (bytes_eq x) xs ≡ false → times name xs ≤ 1 → times name (x ∷ xs) ≤ 1
+once_step name x xs true e apart less =
+    let same : name ≡ x = (bytes_eq-Decides name x).0 e in
+    let none : times x xs ≡ 0 = none_counted (list_any (bytes_eq x) xs) (times x xs) (any-count (bytes_eq x) xs) apart in
+    let all = sum_by-cons (λ n. bit (bytes_eq name n)) x xs in
+    let here : bit (bytes_eq name x) ≡ 1 = ap bit e in
+    let other : times name xs ≡ times x xs = ap (λ n. times n xs) same in
+    omega (arith, none, all, here, other)
+once_step name x xs false e apart less =
+    let all = sum_by-cons (λ n. bit (bytes_eq name n)) x xs in
+    let here : bit (bytes_eq name x) ≡ 0 = ap bit e in
+    omega (arith, all, here, less)
+
+-- names that differ stand once
+distinct_once : (names : List (List ℕ)) → are_distinct names ≡ true → (name : List ℕ) → times name names ≤ 1
+distinct_once [] distinct name = omega arith
+distinct_once (x ∷ xs) distinct name =
+    let first = both (not (list_any (bytes_eq x) xs)) (are_distinct xs) distinct in
+    once_step name x xs (bytes_eq name x) refl (turned (list_any (bytes_eq x) xs) first.0) (distinct_once xs first.1 name)
+
+names_blank : (capacity : ℕ) (names : List (List ℕ)) → map (λ x. x.name) (blank_slots capacity names) ≡ names
+names_blank capacity [] = refl
+names_blank capacity (name ∷ names) = ap (λ ns. name ∷ ns) (names_blank capacity names)
+
+stacks_blank : (drives : List DriveSpec) → map (λ x. x.name) (flat_map (λ r. r.stack) (map laid_rack drives)) ≡ all_reels drives
+stacks_blank [] = refl
+stacks_blank (d ∷ drives) =
+    ap (map (λ x. x.name)) (flat_map-cons (λ r. r.stack) (laid_rack d) (map laid_rack drives))
+    ∙ map-append (λ x. x.name) (blank_slots d.capacity (reels_of d)) (flat_map (λ r. r.stack) (map laid_rack drives))
+    ∙ ap (λ ns. ns ++ map (λ x. x.name) (flat_map (λ r. r.stack) (map laid_rack drives))) (names_blank d.capacity (reels_of d))
+    ∙ ap (λ ns. reels_of d ++ ns) (stacks_blank drives) ∙ sym (flat_map-cons reels_of d drives)
+
+-- no name stands twice among the reels of good drives
+pub good_once : (drives : List DriveSpec) → AreGoodDrives (map plain_drive drives) → EachReelOnce (laid_shop drives)
+good_once drives good name =
+    let is : names_in (laid_shop drives) ≡ all_reels drives = ap (map (λ x. x.name)) (append-nil (flat_map (λ r. r.stack) (map laid_rack drives))) ∙ stacks_blank drives in
+    subst (λ ns. times name ns ≤ 1) (sym is) (distinct_once (all_reels drives) (good_parts drives good).3 name)
+
+pub good_names : (drives : List DriveSpec) → AreGoodDrives (map plain_drive drives) → are_distinct (map (λ d. d.name.now) drives) ≡ true
+good_names drives good = (good_parts drives good).2
+
+names_laid : (drives : List DriveSpec) → map (λ r. r.name) (map laid_rack drives) ≡ map (λ d. d.name.now) drives
+names_laid [] = refl
+names_laid (d ∷ drives) = ap (λ ns. d.name.now ∷ ns) (names_laid drives)
+
+-- ---- reels
+
+own_name : {X : Type 0} (x : Slot X) → named x.name x ≡ 1
+own_name x = ap bit ((bytes_eq-Decides x.name x.name).1 refl)
+
+name_free : (s : ShopOf TroubledTape) (d : ℕ) (x : Slot TroubledTape) (rest : List (Slot TroubledTape)) → d < length s.racks → EachReelOnce (with_slots s d (x ∷ rest))
+    → 0 < times x.name (names_in s) → ⊥
+name_free s d x rest l once taken =
+    let r = rack (rack_at s d).name ((rack_at s d).stack ++ x ∷ rest) in
+    let a = sum_by-with_rack (named x.name) s d r l in
+    let b = sum_by-append (named x.name) (rack_at s d).stack (x ∷ rest) in
+    let c = sum_by-cons (named x.name) x rest in
+    let e = times-named x.name (slots_in s) in
+    let g = times-named x.name (slots_in (with_rack s d r)) in
+    let o = once x.name in
+    let i = own_name x in
+    absurd (omega (arith, a, b, c, e, g, o, i, taken))
+
+-- a reel is refused for want of memory alone
+reel_fault : (U : Type 0) (old new : ListShop) (d : ℕ) (name : List ℕ) (capacity : ℕ) (rest : List (Slot TroubledTape)) (fault : DriveFault)
+    → IsReelAdded {U = U} old d name capacity (Err fault) new → d < length old.shop.racks
+    → EachReelOnce (with_slots old.shop d (slot name (Some (blank_reel capacity)) ∷ rest)) → fault ≡ OutOfMemory
+reel_fault U old new d name capacity rest NameTaken h l once = absurd (name_free old.shop d (slot name (Some (blank_reel capacity))) rest l once h.0)
+reel_fault U old new d name capacity rest OutOfMemory h l once = refl
+reel_fault U old new d name capacity rest NoSuchDrive h l once = absurd h
+reel_fault U old new d name capacity rest (Busy n) h l once = absurd h
+reel_fault U old new d name capacity rest NoReel h l once = absurd h
+reel_fault U old new d name capacity rest Device h l once = absurd h
+
+next_once : {A : Type 0} (f : A → List ℕ) (first now : ShopOf TroubledTape) (d capacity : ℕ) (names : List A) (i : ℕ) (x : A) → i < length names
+    → with_slots now d (blank_slots capacity (map f (drop i names))) ≡ with_slots first d (blank_slots capacity (map f names))
+    → EachReelOnce (with_slots first d (blank_slots capacity (map f names)))
+    → EachReelOnce (with_slots now d (slot (f (get_or names i x)) (Some (blank_reel capacity)) ∷ blank_slots capacity (map f (drop (i + 1) names))))
+next_once f first now d capacity names i x m same once =
+    subst (λ ns. EachReelOnce (with_slots now d (blank_slots capacity ns))) (names_from f names i x m)
+    (subst (λ (s : ShopOf TroubledTape). EachReelOnce s) (sym same) once)
+
+pub next_fault : {A U : Type 0} (f : A → List ℕ) (first : ShopOf TroubledTape) (now new : ListShop) (d capacity : ℕ) (names : List A) (i : ℕ) (x : A) (fault : DriveFault) (r : Result U DriveFault)
+    → r ≡ Err fault → IsReelAdded now d (f (get_or names i x)) capacity r new → d < length now.shop.racks → i < length names
+    → with_slots now.shop d (blank_slots capacity (map f (drop i names))) ≡ with_slots first d (blank_slots capacity (map f names))
+    → EachReelOnce (with_slots first d (blank_slots capacity (map f names))) → fault ≡ OutOfMemory
+next_fault {U = U} f first now new d capacity names i x fault r is h l m same once =
+    reel_fault U now new d (f (get_or names i x)) capacity (blank_slots capacity (map f (drop (i + 1) names))) fault
+    (subst (λ q. IsReelAdded now d (f (get_or names i x)) capacity q new) is h) l (next_once f first now.shop d capacity names i x m same once)
+
+-- ---- drives
+
+-- a drive is refused for want of memory alone
+pub drive_fault : (old new : ListShop) (name : List ℕ) (fault : DriveFault) → IsDriveAdded old name (Err fault) new → IsDriveNamed name old.shop None → fault ≡ OutOfMemory
+drive_fault old new name NameTaken h free = absurd (free h.0.0 h.0.1.0 h.0.1.1)
+drive_fault old new name OutOfMemory h free = refl
+drive_fault old new name NoSuchDrive h free = absurd h
+drive_fault old new name (Busy n) h free = absurd h
+drive_fault old new name NoReel h free = absurd h
+drive_fault old new name Device h free = absurd h
+
+-- its reels will be there once
+pub reels_once : (old made : ListShop) (d : DriveSpec) (number : ℕ) → IsDriveAdded old d.name.now (Ok number) made → EachReelOnce (with_laid old.shop d)
+    → EachReelOnce (with_slots made.shop number (blank_slots d.capacity (reels_of d)))
+reels_once old made d number added once =
+    let is = ap (λ (s : ListShop). with_slots s.shop number (blank_slots d.capacity (reels_of d))) added.2
+    ∙ ap (λ n. with_slots (with_drive old.shop d.name.now) n (blank_slots d.capacity (reels_of d))) added.1 ∙ laid_on old.shop d in
+    subst (λ (s : ShopOf TroubledTape). EachReelOnce s) (sym is) once
+
+fewer : (name : List ℕ) (racks more : List (Rack TroubledTape)) (bin : List (Slot TroubledTape)) → times name (names_in (shop racks bin)) ≤ times name (names_in (shop (racks ++ more) bin))
+fewer name racks more bin =
+    let a = times-named name (slots_in (shop racks bin)) in
+    let b = times-named name (slots_in (shop (racks ++ more) bin)) in
+    let c = sum_by-slots (named name) (shop racks bin) in
+    let e = sum_by-slots (named name) (shop (racks ++ more) bin) in
+    let g = sum_by-append (λ r. sum_by (named name) r.stack) racks more in
+    omega (arith, a, b, c, e, g)
+
+pub next_drive : (drives : List DriveSpec) (i : ℕ) (d : DriveSpec) → i < length drives → drop i drives ≡ get_or drives i d ∷ drop (i + 1) drives
+next_drive drives i d l = drop-cons drives i d l ∙ ap (λ m. get_or drives i d ∷ drop m drives) (suc-eq-add-one i)
+
+module _ (now : ShopOf TroubledTape) (drives : List DriveSpec) (i : ℕ) (x : DriveSpec) (next : drop i drives ≡ x ∷ drop (i + 1) drives)
+    (same : laid_after now (drop i drives) ≡ laid_shop drives) where
+  abbrev rest : List (Rack TroubledTape)
+  rest = map laid_rack (drop (i + 1) drives)
+
+  all_of : shop (now.racks ++ laid_rack x ∷ rest) now.bin ≡ laid_shop drives
+  all_of = ap (laid_after now) (sym next) ∙ same
+
+  pub drive_once : EachReelOnce (laid_shop drives) → EachReelOnce (with_laid now x)
+  drive_once once name =
+      let is = ap (λ racks. shop racks now.bin) (append_assoc now.racks (laid_rack x ∷ []) rest) ∙ all_of in
+      let less = fewer name (now.racks ++ laid_rack x ∷ []) rest now.bin in
+      let o = once name in
+      let e = ap (λ (s : ShopOf TroubledTape). times name (names_in s)) is in
+      omega (arith, less, o, e)
+
+  names_are : map (λ r. r.name) now.racks ++ x.name.now ∷ map (λ r. r.name) rest ≡ map (λ d. d.name.now) drives
+  names_are =
+      sym (map-append (λ r. r.name) now.racks (laid_rack x ∷ rest)) ∙ ap (λ (s : ShopOf TroubledTape). map (λ r. r.name) s.racks) all_of ∙ names_laid drives
+
+  pub drive_free : are_distinct (map (λ d. d.name.now) drives) ≡ true → IsDriveNamed x.name.now now None
+  drive_free distinct k l is =
+      distinct_apart (map (λ r. r.name) now.racks) (map (λ r. r.name) rest) x.name.now k (ap are_distinct names_are ∙ distinct)
+      (omega (arith, l, length-map now.racks (λ r. r.name))) (get_or-map (λ r. r.name) now.racks k (rack [] []) [] l ∙ is)

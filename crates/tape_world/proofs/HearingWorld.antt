@@ -1,0 +1,166 @@
+-- What a client that heard something leaves of a world.
+use Rattle.std.proofs.Common.{◌≡◌, Bool, true, false, List, [], ◌∷◌, ◌++◌, length, map, drop, option_map, Option, Some, None, refl, sym, ap, subst, ◌∙◌, ◌≤◌, ℕ, zero, suc, arith}
+use Rattle.std.specs.Prelude.{IsTrue, slice_get, slice_set, option_to_list}
+use Rattle.std.proofs.Math.Bool.{not}
+use Rattle.std.proofs.lemmas.Option.{same_Some}
+use Rattle.std.proofs.lemmas.List.{set-set, length-map, map-append}
+use Rattle.dump_client.specs.Standing.{Standing, checkpoint_of}
+use Rattle.dump_client.specs.declared.count.VolumeCount.{VolumeCount}
+use Rattle.dump_client.specs.declared.stage.Progress.{Progress}
+use Rattle.dump_client.specs.declared.stage.Progress.TheVariants as moved
+use Rattle.dump_client.specs.declared.fault.AttemptFault.{AttemptFault}
+use Rattle.tape_events.specs.World.{World, Link, Dumping, Caller, Count, numbered}
+use Rattle.tape_events.specs.Changes.{calm, changed, changed_from, over_there, reel_of, counts_of, came_to}
+use Rattle.tape_events.specs.Steps.{Hears, caller}
+use Rattle.tape_world.specs.declared.link.Link.{Link as RealLink}
+use Rattle.tape_world.specs.declared.caller.Caller.{Caller as RealCaller}
+use Rattle.tape_world.specs.declared.books.Count.{Count as RealCount}
+use Rattle.tape_world.specs.declared.ends.hearing.Heard.{Heard}
+use Rattle.tape_world.specs.Seen.{seen_caller, seen_count, seen_link, name_at}
+use Rattle.tape_world.specs.Holding.{is_in_attempt, IsClients, IsOwned, IsSound}
+use Rattle.tape_world.specs.Calling.{failure_of}
+use Rattle.tape_world.specs.Hearing.{come_back, heard_on, own_after, is_over, IsAttempting, HasHeard, count_in}
+use Rattle.tape_world.proofs.Sound.{changed_clients, length_changed}
+use Rattle.tape_world.proofs.Clients.{client_sound, same_begun}
+use Rattle.tape_world.proofs.Ending.{gone_owned}
+use Rattle.tape_world.proofs.Hearing.{HasMoved, fed_moves, inside}
+
+-- a number of a connection that is there is within
+get_within : (xs : List Link) (i : ℕ) (x : Link) → slice_get xs i ≡ Some x → suc i ≤ length xs
+get_within [] i x is = absurd cc
+get_within (y ∷ xs) zero x is = omega arith
+get_within (y ∷ xs) (suc i) x is = omega (arith, get_within xs i x is)
+
+numbered_within : (xs : List Link) (k : ℕ) (x : Link) → numbered xs k ≡ Some x → k ≤ length xs
+numbered_within xs zero x is = omega arith
+numbered_within xs (suc i) x is = get_within xs i x is
+
+pub link_within : (xs ys : List RealLink) (k : ℕ) (r : Option RealLink) (l : RealLink) → xs ≡ ys → option_map seen_link r ≡ numbered (map seen_link xs) k
+    → r ≡ Some l → k ≤ length ys
+link_within xs ys k r l same is some =
+    let within = numbered_within (map seen_link xs) k (seen_link l) (sym is ∙ ap (option_map seen_link) some) in
+    omega (arith, within, length-map xs seen_link, ap length same)
+
+-- the client whose connection it is is in an attempt
+pub attempts : (w : World) (o : Option RealCaller) (k : ℕ) → w.caller ≡ option_map seen_caller o → IsOwned w → IsClients w k → IsAttempting o
+attempts w None k was s clients = (let at = (s.own k (s.only k clients)).1 in let clash = sym was ∙ at.1 in absurd cc)
+attempts w (Some c) k was s clients =
+    let at = (s.own k (s.only k clients)).1 in
+    (c, refl, subst (λ (x : Caller). IsTrue (is_in_attempt x.at.stage)) (same_Some at.0 (seen_caller c) (sym at.1 ∙ was)) at.2)
+
+-- the own connection stays, or is over with the attempt
+heard_owned : (b : Bool) (w u : World) (k n : ℕ) (x : Caller) → IsClients w k → u.links ≡ changed (heard_on b n) w.links k → u.own ≡ own_after b w.own
+    → u.caller ≡ Some x → is_in_attempt x.at.stage ≡ not b → IsOwned w → IsOwned u
+heard_owned true w u k n x clients links own is stage s =
+    gone_owned w u (Some k) (s.only k clients) links own
+    (λ c at. ap (λ (y : Caller). is_in_attempt y.at.stage) (sym (same_Some x c (sym is ∙ at))) ∙ stage) s
+heard_owned false w u k n x clients links own is stage s =
+    let same = changed_clients (come_back n) (λ l o. o, λ l o. o) w u k links in
+    record {
+      own = λ j at. (let was = s.own j (sym own ∙ at) in (same.on j was.0, (x, is, stage)));
+      attempt = λ c at within. (k, own ∙ s.only k clients);
+      only = λ j theirs. own ∙ s.only j (same.back j theirs);
+    }
+
+pub heard_moves : (w : World) (o new : Option RealCaller) (piece : List ℕ) (k : ℕ) (h : Heard) → w.caller ≡ option_map seen_caller o → IsOwned w → IsClients w k
+    → (e : HasHeard o piece h new) → HasMoved e.before.client.at e.after.client.at e.progress
+heard_moves w o new piece k h was s clients e =
+    fed_moves e.before.client.at e.after.client.at e.fed piece e.progress (inside o e.before e.was (attempts w o k was s clients)) e.moved
+
+pub heard_sound : (w u : World) (k n : ℕ) (o new : Option RealCaller) (piece : List ℕ) (h : Heard) → IsClients w k → u.hall ≡ w.hall
+    → u.links ≡ changed (heard_on h.is_over n) w.links k → u.begun ≡ w.begun → u.own ≡ own_after h.is_over w.own → w.caller ≡ option_map seen_caller o
+    → u.caller ≡ option_map seen_caller new → HasHeard o piece h new → IsSound w → IsSound u
+heard_sound w u k n o new piece h clients hall links begun own was is e s =
+    let old : w.caller ≡ Some (seen_caller e.before) = was ∙ ap (option_map seen_caller) e.was in
+    let now : u.caller ≡ Some (seen_caller e.after) = is ∙ ap (option_map seen_caller) e.is in
+    let m = heard_moves w o new piece k h was s.owned clients e in
+    client_sound w u hall (ap length links ∙ length_changed (heard_on h.is_over n) w.links k)
+    (heard_owned h.is_over w u k n (seen_caller e.after) clients links own now (m.stage ∙ ap not (sym e.over)) s.owned)
+    (same_begun w u (seen_caller e.before) (seen_caller e.after) old now e.same.number m.run begun s.begun)
+    s
+
+-- bytes that arrive before the connection is over make no difference
+get_set : (xs : List Link) (i : ℕ) (x y : Link) → slice_get xs i ≡ Some x → slice_get (slice_set xs i y) i ≡ Some y
+get_set [] i x y at = absurd cc
+get_set (w ∷ xs) zero x y at = refl
+get_set (w ∷ xs) (suc i) x y at = get_set xs i x y at
+
+over_from : (n : ℕ) (xs : List Link) (k : ℕ) (o : Option Link) → numbered xs k ≡ o
+    → changed over_there (changed_from (come_back n) xs k o) k ≡ changed_from over_there xs k o
+over_from n xs k None is = ap (changed_from over_there xs k) is
+over_from n xs zero (Some x) is = absurd cc
+over_from n xs (suc i) (Some x) is =
+    ap (changed_from over_there (slice_set xs i (come_back n x)) (suc i)) (get_set xs i x (come_back n x) is)
+    ∙ set-set xs i (come_back n x) (over_there x)
+
+over_back : (n : ℕ) (xs : List Link) (k : ℕ) → changed over_there (changed (come_back n) xs k) k ≡ changed over_there xs k
+over_back n xs k = over_from n xs k (numbered xs k) refl
+
+-- the world after the client heard so many bytes
+abbrev pub heard_world : World → ℕ → ℕ → Bool → Option Caller → List Count → Option (ℕ × AttemptFault) → World
+heard_world w k n over caller counts failure =
+    record w { links = changed (heard_on over n) w.links k; own = own_after over w.own; caller = caller; counts = counts; failure = failure }
+
+come_is : (w : World) (k n : ℕ) (x : Caller) (counts : List Count) (at : Standing) (progress : Progress)
+    → heard_world w k n (is_over progress) (Some x) counts (failure_of at progress)
+    ≡ came_to (record (calm w) { links = changed (come_back n) w.links k; caller = Some x; counts = counts }) k at progress
+come_is w k n x counts at (moved.Failed fault) =
+    ap (λ ls. record w { links = ls; own = None; caller = Some x; counts = counts; failure = Some ((checkpoint_of at.counts).0, fault) }) (sym (over_back n w.links k))
+come_is w k n x counts at moved.Ended =
+    ap (λ ls. record w { links = ls; own = None; caller = Some x; counts = counts; failure = None }) (sym (over_back n w.links k))
+come_is w k n x counts at moved.Waiting = refl
+come_is w k n x counts at moved.Send = refl
+come_is w k n x counts at moved.Idle = refl
+
+pub heard_step : (w u : World) (k n : ℕ) (dump : Option Dumping) (d : Dumping) (piece : List ℕ) (o new : Option RealCaller) (h : Heard) → dump ≡ Some d
+    → w.caller ≡ option_map seen_caller o → HasHeard o piece h new
+    → u ≡ heard_world w k n h.is_over (option_map seen_caller new) (w.counts ++ map (counts_of w h.run k) (option_to_list h.count)) h.failure
+    → Hears dump w k n piece u
+heard_step w u k n dump d piece o new h some was e is =
+    let at = e.after.client.at in
+    let x = caller e.before.number at e.after.client.reader in
+    let counts = w.counts ++ map (counts_of w h.run k) (option_to_list h.count) in
+    let now = w.counts ++ map (counts_of w e.before.number k) (drop (length e.before.client.at.counts) at.counts) in
+    subst (λ y. Hears y w k n piece u) (sym some) (
+      seen_caller e.before,
+      e.fed,
+      at,
+      e.after.client.reader,
+      e.progress,
+      was ∙ ap (option_map seen_caller) e.was,
+      e.had,
+      e.moved,
+      e.has,
+      is ∙ ap (λ y. heard_world w k n h.is_over y counts h.failure)
+          (ap (option_map seen_caller) e.is ∙ ap (λ m. Some (caller m at e.after.client.reader)) e.same.number)
+          ∙ ap (λ cs. heard_world w k n h.is_over (Some x) cs h.failure)
+          (ap (λ m. w.counts ++ map (counts_of w m k) (option_to_list h.count)) e.run
+          ∙ ap (λ cs. w.counts ++ map (counts_of w e.before.number k) cs) e.count)
+          ∙ ap (λ b. heard_world w k n b (Some x) now h.failure) e.over
+          ∙ ap (λ f. heard_world w k n (is_over e.progress) (Some x) now f) e.failure
+          ∙ come_is w k n x now at e.progress,
+    )
+
+pub dropped_step : (w u : World) (k n : ℕ) (dump : Option Dumping) (piece : List ℕ) → dump ≡ None
+    → u ≡ record (calm w) { links = changed (come_back n) w.links k } → Hears dump w k n piece u
+dropped_step w u k n dump piece none is = subst (λ y. Hears y w k n piece u) (sym none) is
+
+-- what is seen of the counts that are kept
+count_is : (w : World) (names : List (List ℕ)) (run reel k : ℕ) (c : VolumeCount) → name_at names reel ≡ reel_of k w.opens
+    → seen_count names (count_in run reel k c) ≡ counts_of w run k c
+count_is w names run reel k c is =
+    ap (λ name. record { run = run; volume = c.volume; first = c.first; count = c.count; reel = name; connection = k }) is
+
+count_list : (w : World) (names : List (List ℕ)) (run reel k : ℕ) (o : Option VolumeCount) → name_at names reel ≡ reel_of k w.opens
+    → map (seen_count names) (map (count_in run reel k) (option_to_list o)) ≡ map (counts_of w run k) (option_to_list o)
+count_list w names run reel k None is = refl
+count_list w names run reel k (Some c) is = ap (λ x. x ∷ []) (count_is w names run reel k c is)
+
+pub counts_kept : (w : World) (names : List (List ℕ)) (run reel k : ℕ) (o : Option VolumeCount) (before items now : List RealCount)
+    → w.counts ≡ map (seen_count names) before → items ≡ before → now ≡ items ++ map (count_in run reel k) (option_to_list o)
+    → name_at names reel ≡ reel_of k w.opens → map (seen_count names) now ≡ w.counts ++ map (counts_of w run k) (option_to_list o)
+counts_kept w names run reel k o before items now was same is named =
+    ap (map (seen_count names)) (is ∙ ap (λ l. l ++ map (count_in run reel k) (option_to_list o)) same)
+    ∙ map-append (seen_count names) before (map (count_in run reel k) (option_to_list o))
+    ∙ ap (λ l. l ++ map (seen_count names) (map (count_in run reel k) (option_to_list o))) (sym was)
+    ∙ ap (λ l. w.counts ++ l) (count_list w names run reel k o named)

@@ -1,0 +1,218 @@
+-- How a new world's stacks are laid.
+use Rattle.std.proofs.Common.{◌≡◌, ℕ, zero, suc, ◌+◌, ◌<◌, ◌≤◌, List, [], ◌∷◌, ◌++◌, length, drop, map, get_or, slice_set, slice_index_or, replicate, false, Some, None, Result, Ok, Err, OnOk, refl, sym, ap, subst, ◌∙◌, append_assoc, arith}
+use Rattle.std.specs.Prelude.{is_err, Contains}
+use Rattle.std.specs.List.{flat_map}
+use Rattle.std.proofs.lemmas.List.Concat.{flat_map-cons}
+use Rattle.std.proofs.lemmas.List.Elements.{All-nil, All-cons, Contains-append_left, Contains-append_right}
+use Rattle.drives.specs.declared.fault.DriveFault.{DriveFault}
+use Rattle.std.proofs.lemmas.List.{length-set, get_or-set_same, set-set, set-get_or, append-nil, length-append, length-map, length-replicate, drop_all}
+use Rattle.std.proofs.lemmas.Result.{on_ok_weaker}
+use Rattle.tape.specs.Trouble.{TroubledTape}
+use Rattle.drives.specs.Shop.{KeptReel, kept_reel, Slot, slot, Rack, rack, ShopOf, Shop, shop, rack_at, with_rack}
+use Rattle.drives.specs.ListShop.{ListShop, shop_of, blank_reel, rest_slot, rest_rack, with_drive, with_reel, IsDriveAdded, IsReelAdded}
+use Rattle.drives.proofs.Arranging.{names_from}
+use Rattle.dumpdates.specs.Entry.{DatesEntry}
+use Rattle.rmt_server.specs.Hall.{hall, Side}
+use Rattle.tape_events.specs.World.{numbered}
+use Rattle.tape_events.specs.Changes.{side_of}
+use Rattle.tape_world.specs.Holding.{IsSound}
+use Rattle.tape_host.specs.Halls.{Hosted, hosted}
+use Rattle.tape_host.specs.Lying.{Lie, StacksLie, AllLie}
+use Rattle.tape_events.specs.First.{PlainDrive, blank_rack, first_world}
+use Rattle.tape_world.specs.declared.link.Link.{Link as RealLink}
+use Rattle.tape_world.specs.declared.caller.Begun.{Begun as RealBegun}
+use Rattle.tape_world.specs.declared.books.Books.{Books}
+use Rattle.tape_world.specs.Seen.{seen_link, seen_begun, seen_count, seen_opening, seen_entered, names_in, world_of}
+use Rattle.tape_world.specs.declared.drive_spec.DriveSpec.{DriveSpec}
+use Rattle.tape_world.specs.Serving.{AreKnown, IsStocked}
+use Rattle.tape_world.specs.Making.{plain_drive, reels_of, blank_slots, laid_rack, laid_shop, with_laid, with_slots}
+
+no_slots : (s : ShopOf TroubledTape) (d : ℕ) → with_slots s d [] ≡ s
+no_slots s d =
+    ap (λ stack. with_rack s d (rack (rack_at s d).name stack)) (append-nil (rack_at s d).stack)
+    ∙ ap (λ racks. shop racks s.bin) (set-get_or s.racks d (rack [] []))
+
+one_slot : (s : ShopOf TroubledTape) (d : ℕ) (name : List ℕ) (capacity : ℕ) (slots : List (Slot TroubledTape)) → d < length s.racks
+    → with_slots (with_reel s d name capacity) d slots ≡ with_slots s d (slot name (Some (blank_reel capacity)) ∷ slots)
+one_slot s d name capacity slots l =
+    let r = rack_at s d in
+    let x = slot name (Some (blank_reel capacity)) in
+    let put = rack r.name (r.stack ++ x ∷ []) in
+    let here : rack_at (with_reel s d name capacity) d ≡ put = get_or-set_same s.racks d put (rack [] []) l in
+    ap (λ (q : Rack TroubledTape). with_rack (with_reel s d name capacity) d (rack q.name (q.stack ++ slots))) here
+    ∙ ap (λ racks. shop racks s.bin) (set-set s.racks d put (rack r.name ((r.stack ++ x ∷ []) ++ slots)))
+    ∙ ap (λ stack. with_rack s d (rack r.name stack)) (append_assoc r.stack (x ∷ []) slots)
+
+reel_added : {U : Type 0} (old new : ListShop) (d : ℕ) (name : List ℕ) (capacity : ℕ) (r : Result U DriveFault) → IsReelAdded old d name capacity r new → is_err r ≡ false
+    → new.shop ≡ with_reel old.shop d name capacity
+reel_added old new d name capacity (Ok x) h e = ap (λ (s : ListShop). s.shop) h.1
+reel_added old new d name capacity (Err fault) h e = absurd cc
+
+racks_with : (s : ShopOf TroubledTape) (d : ℕ) (name : List ℕ) (capacity : ℕ) → length (with_reel s d name capacity).racks ≡ length s.racks
+racks_with s d name capacity = length-set s.racks d (rack (rack_at s d).name ((rack_at s d).stack ++ slot name (Some (blank_reel capacity)) ∷ []))
+
+pub same_racks : {U : Type 0} (old new : ListShop) (d : ℕ) (name : List ℕ) (capacity : ℕ) (r : Result U DriveFault) → IsReelAdded old d name capacity r new → is_err r ≡ false
+    → length new.shop.racks ≡ length old.shop.racks
+same_racks old new d name capacity r h e = ap (λ (s : ShopOf TroubledTape). length s.racks) (reel_added old new d name capacity r h e) ∙ racks_with old.shop d name capacity
+
+more_reels : {A : Type 0} (f : A → List ℕ) (first now new : ShopOf TroubledTape) (d capacity : ℕ) (names : List A) (i : ℕ) (x : A) → d < length now.racks → i < length names
+    → new ≡ with_reel now d (f (get_or names i x)) capacity
+    → with_slots now d (blank_slots capacity (map f (drop i names))) ≡ with_slots first d (blank_slots capacity (map f names))
+    → with_slots new d (blank_slots capacity (map f (drop (i + 1) names))) ≡ with_slots first d (blank_slots capacity (map f names))
+more_reels f first now new d capacity names i x l m made same =
+    ap (λ s. with_slots s d (blank_slots capacity (map f (drop (i + 1) names)))) made
+    ∙ one_slot now d (f (get_or names i x)) capacity (blank_slots capacity (map f (drop (i + 1) names))) l
+    ∙ ap (λ ns. with_slots now d (blank_slots capacity ns)) (sym (names_from f names i x m)) ∙ same
+
+-- the reels that are to be added yet
+pub next_reel : {A U : Type 0} (f : A → List ℕ) (first : ShopOf TroubledTape) (now new : ListShop) (d capacity : ℕ) (names : List A) (i : ℕ) (x : A) (r : Result U DriveFault)
+    → d < length now.shop.racks → i < length names → IsReelAdded now d (f (get_or names i x)) capacity r new → is_err r ≡ false
+    → with_slots now.shop d (blank_slots capacity (map f (drop i names))) ≡ with_slots first d (blank_slots capacity (map f names))
+    → with_slots new.shop d (blank_slots capacity (map f (drop (i + 1) names))) ≡ with_slots first d (blank_slots capacity (map f names))
+next_reel f first now new d capacity names i x r l m h e same =
+    more_reels f first now.shop new.shop d capacity names i x l m (reel_added now new d (f (get_or names i x)) capacity r h e) same
+
+pub all_reels_in : {A : Type 0} (f : A → List ℕ) (first now : ShopOf TroubledTape) (d capacity : ℕ) (names : List A) (i : ℕ) → length names ≤ i
+    → with_slots now d (blank_slots capacity (map f (drop i names))) ≡ with_slots first d (blank_slots capacity (map f names))
+    → now ≡ with_slots first d (blank_slots capacity (map f names))
+all_reels_in f first now d capacity names i past same =
+    sym (no_slots now d) ∙ ap (λ ns. with_slots now d (blank_slots capacity (map f ns))) (sym (drop_all i names past)) ∙ same
+
+last_is : {X : Type 0} (racks : List (Rack X)) (r : Rack X) → slice_index_or (racks ++ r ∷ []) (length racks) (rack [] []) ≡ r
+last_is [] r = refl
+last_is (x ∷ racks) r = last_is racks r
+
+put_last : {X : Type 0} (racks : List (Rack X)) (r new : Rack X) → slice_set (racks ++ r ∷ []) (length racks) new ≡ racks ++ new ∷ []
+put_last [] r new = refl
+put_last (x ∷ racks) r new = ap (λ xs. x ∷ xs) (put_last racks r new)
+
+-- a drive that was added, with its reels
+pub laid_on : (s : ShopOf TroubledTape) (d : DriveSpec) → with_slots (with_drive s d.name.now) (length s.racks) (blank_slots d.capacity (reels_of d)) ≡ with_laid s d
+laid_on s d =
+    ap (λ (r : Rack TroubledTape). with_rack (with_drive s d.name.now) (length s.racks) (rack r.name (r.stack ++ blank_slots d.capacity (reels_of d)))) (last_is s.racks (rack d.name.now []))
+    ∙ ap (λ racks. shop racks s.bin) (put_last s.racks (rack d.name.now []) (laid_rack d))
+
+-- the drives that are to be added yet
+abbrev pub laid_after : ShopOf TroubledTape → List DriveSpec → ShopOf TroubledTape
+laid_after s drives = shop (s.racks ++ map laid_rack drives) s.bin
+
+pub more_drives : (now new : ShopOf TroubledTape) (drives : List DriveSpec) (i : ℕ) (x : DriveSpec) → new ≡ with_laid now x → drop i drives ≡ x ∷ drop (i + 1) drives
+    → laid_after now (drop i drives) ≡ laid_shop drives → laid_after new (drop (i + 1) drives) ≡ laid_shop drives
+more_drives now new drives i x made next same =
+    ap (λ (s : ShopOf TroubledTape). laid_after s (drop (i + 1) drives)) made
+    ∙ ap (λ racks. shop racks now.bin) (append_assoc now.racks (laid_rack x ∷ []) (map laid_rack (drop (i + 1) drives)))
+    ∙ ap (λ ds. laid_after now ds) (sym next) ∙ same
+
+pub all_drives_in : (now : ShopOf TroubledTape) (drives : List DriveSpec) (i : ℕ) → length drives ≤ i → laid_after now (drop i drives) ≡ laid_shop drives → now ≡ laid_shop drives
+all_drives_in now drives i past same =
+    ap (λ racks. shop racks now.bin) (sym (append-nil now.racks)) ∙ ap (laid_after now) (sym (drop_all i drives past)) ∙ same
+
+-- what an added drive came to, with its reels
+pub drive_laid : {U E : Type 0} (old made : ListShop) (new : ShopOf TroubledTape) (d : DriveSpec) (number : ℕ) (r : Result U E) → IsDriveAdded old d.name.now (Ok number) made
+    → OnOk r (new ≡ with_slots made.shop number (blank_slots d.capacity (reels_of d))) → OnOk r (new ≡ with_laid old.shop d)
+drive_laid old made new d number r added laid =
+    on_ok_weaker r (λ is. is ∙ ap (λ (s : ListShop). with_slots s.shop number (blank_slots d.capacity (reels_of d))) added.2
+    ∙ ap (λ n. with_slots (with_drive old.shop d.name.now) n (blank_slots d.capacity (reels_of d))) added.1 ∙ laid_on old.shop d) laid
+
+pub drive_there : (old made : ListShop) (name : List ℕ) (number : ℕ) → IsDriveAdded old name (Ok number) made → number < length made.shop.racks
+drive_there old made name number added =
+    let racks = ap (λ (s : ListShop). length s.shop.racks) added.2 in
+    omega (arith, racks, added.1, length-append old.shop.racks (rack name [] ∷ []))
+
+-- ---- what is told of them
+
+kept_slots : (capacity : ℕ) (names : List (List ℕ)) → map rest_slot (blank_slots capacity names) ≡ map (λ name. slot name (Some (kept_reel [] capacity))) names
+kept_slots capacity [] = refl
+kept_slots capacity (name ∷ names) = ap (λ slots. slot name (Some (kept_reel [] capacity)) ∷ slots) (kept_slots capacity names)
+
+kept_racks : (drives : List DriveSpec) → map rest_rack (map laid_rack drives) ≡ map blank_rack (map plain_drive drives)
+kept_racks [] = refl
+kept_racks (d ∷ drives) =
+    ap (λ slots. rack d.name.now slots ∷ map rest_rack (map laid_rack drives)) (kept_slots d.capacity (reels_of d))
+    ∙ ap (λ racks. blank_rack (plain_drive d) ∷ racks) (kept_racks drives)
+
+pub first_shop : (s : ListShop) (drives : List DriveSpec) → s.shop ≡ laid_shop drives → shop_of s ≡ shop (map blank_rack (map plain_drive drives)) []
+first_shop s drives is =
+    ap (λ (x : ShopOf TroubledTape). shop (map rest_rack x.racks) (map rest_slot x.bin)) is ∙ ap (λ racks. shop racks []) (kept_racks drives)
+
+slots_lie : (capacity : ℕ) (names : List (List ℕ)) → Lie (map (λ name. slot name (Some (kept_reel [] capacity))) names)
+slots_lie capacity [] = tt
+slots_lie capacity (name ∷ names) = (refl, slots_lie capacity names)
+
+racks_lie : (drives : List PlainDrive) → StacksLie (map blank_rack drives)
+racks_lie [] = tt
+racks_lie (d ∷ drives) = (slots_lie d.capacity d.reels, racks_lie drives)
+
+pub none_latched : (s : ListShop) (drives : List DriveSpec) → s.shop ≡ laid_shop drives → AllLie (shop_of s)
+none_latched s drives is = subst (λ (x : Shop). AllLie x) (sym (first_shop s drives is)) (racks_lie (map plain_drive drives), tt)
+
+-- where nothing has happened yet
+pub made_world : (host : Hosted) (s : ListShop) (drives : List DriveSpec) (n : ℕ) (links : List RealLink) (begun : List RealBegun) (books : Books) (dates : List DatesEntry)
+    → s.shop ≡ laid_shop drives → host ≡ hosted (hall (shop_of s) (replicate n 0) []) false → n ≡ length drives → links ≡ [] → begun ≡ []
+    → books.counts.items ≡ [] → books.opens.items ≡ [] → books.entered.items ≡ [] → books.failure ≡ None → dates ≡ []
+    → world_of host.hall links begun None None books dates ≡ first_world (map plain_drive drives)
+made_world host s drives n links begun books dates laid is count no_links no_runs no_counts no_opens no_entered no_failure no_dates =
+    let there : host.hall ≡ hall (shop (map blank_rack (map plain_drive drives)) []) (replicate (length (map plain_drive drives)) 0) []
+    = ap (λ (h : Hosted). h.hall) is ∙ ap (λ x. hall x (replicate n 0) []) (first_shop s drives laid)
+    ∙ ap (λ m. hall (shop (map blank_rack (map plain_drive drives)) []) (replicate m 0) []) (count ∙ sym (length-map drives plain_drive)) in
+    let links-none : map seen_link links ≡ [] = ap (map seen_link) no_links in
+    let begun-none : map seen_begun begun ≡ [] = ap (map seen_begun) no_runs in
+    let counts-none : map (seen_count (names_in books)) books.counts.items ≡ [] = ap (map (seen_count (names_in books))) no_counts in
+    let opens-none : map (seen_opening (names_in books)) books.opens.items ≡ [] = ap (map (seen_opening (names_in books))) no_opens in
+    let entered-none : map seen_entered books.entered.items ≡ [] = ap (map seen_entered) no_entered in cc
+
+-- the name of each reel of a new world is among the names of all
+next_among : (x y : List ℕ) (xs : List (List ℕ)) → Contains xs y → Contains (x ∷ xs) y
+next_among x y xs (k, within, is) = (suc k, omega (arith, within), is)
+
+reels_known : (capacity : ℕ) (reels names : List (List ℕ)) → ((x : List ℕ) → Contains reels x → Contains names x)
+    → AreKnown names (map (λ name. slot name (Some (kept_reel [] capacity))) reels)
+reels_known capacity [] names among = All-nil (λ (s : Slot KeptReel). Contains names s.name)
+reels_known capacity (reel ∷ reels) names among =
+    All-cons (λ (s : Slot KeptReel). Contains names s.name) (slot reel (Some (kept_reel [] capacity))) (map (λ name. slot name (Some (kept_reel [] capacity))) reels)
+    (among reel (0, omega arith, refl)) (reels_known capacity reels names (λ x at. among x (next_among reel x reels at)))
+
+stacks_known : (drives : List PlainDrive) (names : List (List ℕ)) → ((x : List ℕ) → Contains (flat_map (λ d. d.reels) drives) x → Contains names x) → (d : ℕ)
+    → AreKnown names (slice_index_or (map blank_rack drives) d (rack [] [])).stack
+stacks_known [] names among d = All-nil (λ (s : Slot KeptReel). Contains names s.name)
+stacks_known (drive ∷ drives) names among zero = reels_known drive.capacity drive.reels names
+    (λ x at. among x (subst (λ l. Contains l x) (sym (flat_map-cons (λ (d : PlainDrive). d.reels) drive drives))
+    (Contains-append_left drive.reels (flat_map (λ (d : PlainDrive). d.reels) drives) x at)))
+stacks_known (drive ∷ drives) names among (suc d) = stacks_known drives names
+    (λ x at. among x (subst (λ l. Contains l x) (sym (flat_map-cons (λ (d : PlainDrive). d.reels) drive drives))
+    (Contains-append_right drive.reels (flat_map (λ (d : PlainDrive). d.reels) drives) x at))) d
+
+plain_reels : (drives : List DriveSpec) → flat_map (λ (d : PlainDrive). d.reels) (map plain_drive drives) ≡ flat_map reels_of drives
+plain_reels [] = refl
+plain_reels (d ∷ drives) =
+    flat_map-cons (λ (x : PlainDrive). x.reels) (plain_drive d) (map plain_drive drives) ∙ ap (λ l. reels_of d ++ l) (plain_reels drives)
+    ∙ sym (flat_map-cons reels_of d drives)
+
+pub stocked_new : (names : List (List ℕ)) (s : Shop) (drives : List DriveSpec) → names ≡ flat_map reels_of drives
+    → s ≡ shop (map blank_rack (map plain_drive drives)) [] → IsStocked names s
+stocked_new names s drives is laid = record {
+  stacks = λ d. subst (λ (v : Shop). AreKnown names (rack_at v d).stack) (sym laid)
+      (stacks_known (map plain_drive drives) names (λ x at. subst (λ l. Contains l x) (plain_reels drives ∙ sym is) at) d);
+  bin = subst (λ (v : Shop). AreKnown names v.bin) (sym laid) (All-nil (λ (x : Slot KeptReel). Contains names x.name));
+}
+
+-- a world where nothing has happened is sound
+no_number : {X : Type 0} (k : ℕ) (x : X) → numbered {X = X} [] k ≡ Some x → ⊥
+no_number zero x is = cc
+no_number (suc k) x is = cc
+
+no_side : (drives : List PlainDrive) (k : ℕ) (s : Side) → side_of (first_world drives).hall k ≡ Some s → ⊥
+no_side drives zero s is = cc
+no_side drives (suc k) s is = cc
+
+pub first_sound : (drives : List PlainDrive) → IsSound (first_world drives)
+first_sound drives = record {
+  paired = record { links = refl; holders = length-replicate (length drives) 0 ∙ sym (length-map drives blank_rack) };
+  readable = λ k s at. absurd (no_side drives k s at);
+  owned = record {
+    own = λ k is. absurd cc;
+    attempt = λ c is inside. absurd cc;
+    only = λ k clients. absurd (no_number k clients.0 clients.2);
+  };
+  begun = λ c is. absurd cc;
+}

@@ -1,0 +1,81 @@
+-- Reels that live sides have online.
+use Rattle.std.proofs.Common.{◌≡◌, ℕ, zero, suc, ◌+◌, ◌<◌, ◌≤◌, List, [], ◌∷◌, length, take, option_map, Option, Some, None, refl, sym, ap, ◌∙◌, add-one, arith}
+use Rattle.std.specs.Prelude.{slice_index_or}
+use Rattle.std.specs.Option.{option_or}
+use Rattle.std.proofs.lemmas.List.{take_all}
+use Rattle.std.proofs.lemmas.Option.{slice_get_within}
+use Rattle.tape_events.specs.Kept.{AreHeld}
+use Rattle.tape.specs.Tape.{Tape}
+use Rattle.drives.specs.Shop.{Shop}
+use Rattle.rmt_server.specs.Session.{PlainSession}
+use Rattle.rmt_server.specs.TroubledServe.{drive_in}
+use Rattle.rmt_server.specs.Hall.{Hall, Side}
+use Rattle.tape_host.specs.Halls.{side_at, drive_open_by, IsHeldOnce}
+use Rattle.tape_events.specs.Changes.{side_of}
+use Rattle.tape_world.specs.Entries.{AreOpenThere, tape_online, first_tape_online}
+use Rattle.tape_world.proofs.Server.{side_found}
+
+there_by : (h : Hall) (k d : ℕ) (o : Option Side) (s : PlainSession) → AreOpenThere h → side_of h k ≡ o → option_map (λ (x : Side). x.session) o ≡ Some s
+    → drive_in s ≡ Some d → d < length h.shop.racks
+there_by h k d None s there at told is = absurd cc
+there_by h k d (Some x) s there at told is = let same : x.session ≡ s = cc in there k d x at (ap drive_in same ∙ is)
+
+-- the drive of a session that is told of a connection
+pub drive_there : (h : Hall) (k d : ℕ) (s : PlainSession) → AreOpenThere h → option_map (λ (x : Side). x.session) (side_at h.sides k) ≡ Some s
+    → drive_in s ≡ Some d → d < length h.shop.racks
+drive_there h k d s there told is = there_by h k d (side_at h.sides k) s there (sym (side_found h k)) told is
+
+open_by : (h : Hall) (k : ℕ) (x : Side) → side_of h k ≡ Some x → drive_open_by (side_at h.sides k) ≡ drive_in x.session
+open_by h k x at = ap drive_open_by (side_found h k ∙ at)
+
+-- where holders are told of live sides, each drive that one has open is there
+pub there_once : (h : Hall) → IsHeldOnce h → length h.holders ≡ length h.shop.racks → AreOpenThere h
+there_once h once paired zero d s at is = absurd cc
+there_once h once paired (suc i) d s at is =
+    let held = (once d (suc i) (omega arith)).1 (open_by h (suc i) s at ∙ is) in
+    omega (arith, held.0, paired)
+
+or_none : {T : Type 0} (a b : Option T) → option_or a b ≡ None → (a ≡ None) × (b ≡ None)
+or_none None b is = (refl, is)
+or_none (Some x) b is = absurd cc
+
+-- the connection of a place
+pub side_here : (sides : List (Option Side)) (i : ℕ) → side_at sides (i + 1) ≡ slice_index_or sides i None
+side_here sides i = ap (side_at sides) (add-one i)
+
+-- the first that has one online, behind those that have none
+first_here : (name : List ℕ) (s : Shop) (sides : List (Option Side)) (i : ℕ) (t : Tape) → first_tape_online name s (take i sides) ≡ None
+    → tape_online name s (slice_index_or sides i None) ≡ Some t → first_tape_online name s sides ≡ Some t
+first_here name s [] i t none some = absurd cc
+first_here name s (x ∷ sides) zero t none some = ap (λ o. option_or o (first_tape_online name s sides)) some
+first_here name s (x ∷ sides) (suc i) t none some =
+    let both = or_none (tape_online name s x) (first_tape_online name s (take i sides)) none in
+    ap (λ o. option_or o (first_tape_online name s sides)) both.0 ∙ first_here name s sides i t both.1 some
+
+pub first_found : (name : List ℕ) (s : Shop) (sides : List (Option Side)) (i : ℕ) (t : Tape) (o : Option Tape) → first_tape_online name s (take i sides) ≡ None
+    → o ≡ tape_online name s (side_at sides (i + 1)) → o ≡ Some t → first_tape_online name s sides ≡ Some t
+first_found name s sides i t o none is some =
+    first_here name s sides i t none (sym (ap (tape_online name s) (side_here sides i)) ∙ sym is ∙ some)
+
+none_here : (name : List ℕ) (s : Shop) (sides : List (Option Side)) (i : ℕ) → first_tape_online name s (take i sides) ≡ None
+    → tape_online name s (slice_index_or sides i None) ≡ None → first_tape_online name s (take (suc i) sides) ≡ None
+none_here name s [] i none here = refl
+none_here name s (x ∷ sides) zero none here = ap (λ o. option_or o None) here
+none_here name s (x ∷ sides) (suc i) none here =
+    let both = or_none (tape_online name s x) (first_tape_online name s (take i sides)) none in
+    ap (λ o. option_or o (first_tape_online name s (take (suc i) sides))) both.0 ∙ none_here name s sides i both.1 here
+
+-- one connection more that has none
+pub none_more : (name : List ℕ) (s : Shop) (sides : List (Option Side)) (i : ℕ) (o : Option Tape) → first_tape_online name s (take i sides) ≡ None
+    → o ≡ tape_online name s (side_at sides (i + 1)) → o ≡ None → first_tape_online name s (take (i + 1) sides) ≡ None
+none_more name s sides i o none is here =
+    ap (λ n. first_tape_online name s (take n sides)) (add-one i)
+    ∙ none_here name s sides i none (sym (ap (tape_online name s) (side_here sides i)) ∙ sym is ∙ here)
+
+pub none_at_all : (name : List ℕ) (s : Shop) (sides : List (Option Side)) (i : ℕ) → length sides ≤ i → first_tape_online name s (take i sides) ≡ None
+    → first_tape_online name s sides ≡ None
+none_at_all name s sides i all none = sym (ap (first_tape_online name s) (take_all i sides all)) ∙ none
+
+-- each drive that a live side has open is there, where holders are those that have them open
+pub held_there : (h : Hall) → AreHeld h → AreOpenThere h
+held_there h a k d s at is = let few = slice_get_within h.holders d k (a.opened k d s at is) in let places = a.places in omega (arith, few, places)

@@ -1,0 +1,193 @@
+-- What a turn of the server's side makes of a connection.
+use Rattle.std.proofs.Common.{◌≡◌, ℕ, zero, suc, ◌-◌, ◌≤◌, Bool, true, false, not, List, [], ◌∷◌, ◌++◌, length, drop, map, Option, Some, None, refl, sym, ap, subst, ◌∙◌, inl, inr, arith, Vec, Global}
+use Rattle.std.specs.Prelude.{Result, Ok, Err, IfOk, slice_index_or, slice_set, option_map, cond, nat_lt, if◌then◌else◌, ◌==◌, ◌+◌}
+use Rattle.std.specs.List.{position, position_or_len}
+use Rattle.std.specs.Option.{option_to_list}
+use Rattle.std.proofs.lemmas.List.{map-append}
+use Rattle.std.specs.Str.{bytes_eq}
+use Rattle.std.proofs.lemmas.Slice.Eq.{bytes_eq-Decides}
+use Rattle.std.proofs.lemmas.List.{drop-append-le}
+use Rattle.std.proofs.lemmas.Option.{same_Some}
+use Rattle.std.proofs.lemmas.Bool.Decides.{nat_tests}
+use Rattle.std.proofs.lemmas.List.Sums.{prefix_len-le-length}
+use Rattle.rmt_wire.specs.Counted.{raised}
+use Rattle.rmt_wire.specs.Request.{PlainRequest}
+use Rattle.rmt_wire.specs.Request.PlainRequest.{Open, Close, Write, WriteDropped, Read, Op}
+use Rattle.rmt_wire.specs.Reply.{PlainReply, reply_text}
+use Rattle.rmt_wire.specs.Reply.PlainReply.{Done, Data, Error}
+use Rattle.tape.specs.declared.trouble.Trouble.{Trouble}
+use Rattle.rmt_server.specs.Hall.{Side}
+use Rattle.tape_host.specs.declared.turn.Asked.TheVariants as asked
+use Rattle.tape_host.specs.declared.turn.Turn.{Turn}
+use Rattle.tape_host.specs.declared.turn.Turn.TheVariants as turns
+use Rattle.tape_host.specs.Halls.{Hosted, hosted, side_at, ended}
+use Rattle.tape_host.specs.Turns.{sent_back, GivesNothing, carried_of, asked_of, answered_of, TurnsAt, TurnsSide, ServesAt}
+use Rattle.tape_events.specs.World.{Link, Dumping}
+use Rattle.tape_events.specs.Changes.{changed, sent_on, noted, noted_by, noted_write, noted_marks, answered, over_here, opening}
+use Rattle.tape_world.specs.declared.link.Link.{Link as RealLink}
+use Rattle.tape_world.specs.declared.books.Opening.{Opening as RealOpening}
+use Rattle.tape_world.specs.Seen.{seen_link, seen_opening, name_at}
+use Rattle.tape_world.specs.Serving.{IsKnown, Serves, noted_record, noted_mark, noted_asked, noted_carried, noted_turn}
+use Rattle.tape_world.proofs.Linked.{put_link}
+
+-- ---- what is on the way back
+
+-- a reply goes behind what is left of the bytes
+behind : (start : ℕ) (lost : Bool) (back text : List ℕ) → start ≤ length back → drop start (sent_back lost back text) ≡ sent_back lost (drop start back) text
+behind start true back text fits = refl
+behind start false back text fits = drop-append-le start back text fits
+
+turned_side : (left : Hosted) (trouble : Trouble) (lost : Bool) (old : Hosted) (k : ℕ) (s : Side) (back : List ℕ) (turn : Turn) (new : Hosted) (back' : List ℕ) (start : ℕ)
+    → start ≤ length back → TurnsSide left trouble lost old k s back turn new back' → TurnsSide left trouble lost old k s (drop start back) turn new (drop start back')
+turned_side left trouble lost old k s back turns.Nothing new back' start fits (none, same, is) = (none, same, ap (drop start) is)
+turned_side left trouble lost old k s back (turns.Carried c) new back' start fits (request, reply, carries, ready, told, is) =
+    (request, reply, carries, ready, told, ap (drop start) is ∙ behind start lost back (reply_text reply) fits)
+turned_side left trouble lost old k s back (turns.Broken fault) new back' start fits (gives, after, is) = (gives, after, ap (drop start) is)
+
+turned_at : (left : Hosted) (trouble : Trouble) (lost : Bool) (old : Hosted) (k : ℕ) (o : Option Side) (back : List ℕ) (turn : Turn) (new : Hosted) (back' : List ℕ) (start : ℕ)
+    → start ≤ length back → TurnsAt left trouble lost old k o back turn new back' → TurnsAt left trouble lost old k o (drop start back) turn new (drop start back')
+turned_at left trouble lost old k None back turn new back' start fits (none, same, is) = (none, same, ap (drop start) is)
+turned_at left trouble lost old k (Some s) back turn new back' start fits t = turned_side left trouble lost old k s back turn new back' start fits t
+
+pub serves_behind : (trouble : Trouble) (lost : Bool) (old : Hosted) (k : ℕ) (back : List ℕ) (turn : Turn) (new : Hosted) (back' : List ℕ) (start : ℕ)
+    → start ≤ length back → ServesAt trouble lost old k back turn new back' → ServesAt trouble lost old k (drop start back) turn new (drop start back')
+serves_behind trouble lost old k back turn new back' start fits t =
+    turned_at (hosted (ended old.hall k) old.ready) trouble lost old k (side_at old.hall.sides k) back turn new back' start fits t
+
+-- ---- what is noted of a request
+
+record_noted : (d : Dumping) (reply : PlainReply) → noted_record d (answered_of reply) ≡ noted_write d reply
+record_noted d (Done zero) = refl
+record_noted d (Done (suc n)) = refl
+record_noted d (Data bytes) = refl
+record_noted d (Error n text) = refl
+
+mark_noted : (d : Dumping) (reply : PlainReply) → noted_mark d (answered_of reply) ≡ noted_marks d reply
+mark_noted d (Done n) = refl
+mark_noted d (Data bytes) = refl
+mark_noted d (Error n text) = refl
+
+op_step : (b : Bool) (d : Dumping) (reply : PlainReply)
+    → noted_asked d (if b then asked.Marks else asked.Other) (answered_of reply) ≡ (if b then noted_marks d reply else d)
+op_step true d reply = mark_noted d reply
+op_step false d reply = refl
+
+op_noted : (d : Dumping) (op count : ℕ) (reply : PlainReply) → noted_asked d (asked_of (Op op count)) (answered_of reply) ≡ noted_by d (Op op count) reply
+op_noted d op count reply = op_step (op == 0) d reply
+
+asked_noted : (d : Dumping) (request : PlainRequest) (reply : PlainReply) → noted_asked d (asked_of request) (answered_of reply) ≡ noted_by d request reply
+asked_noted d (Open device mode) reply = refl
+asked_noted d Close reply = refl
+asked_noted d (Write bytes) reply = record_noted d reply
+asked_noted d (WriteDropped count) reply = refl
+asked_noted d (Read count) reply = refl
+asked_noted d (Op op count) reply = op_noted d op count reply
+
+carried_noted : (request : PlainRequest) (reply : PlainReply) (o : Option Dumping)
+    → option_map (noted_carried (carried_of request reply)) o ≡ option_map (noted request reply) o
+carried_noted request reply None = refl
+carried_noted request reply (Some d) = ap Some (ap (λ (e : Dumping). record e { carried = raised e.carried }) (asked_noted d request reply))
+
+sent_same : (lost : Bool) (back text : List ℕ) → sent_back lost back text ≡ sent_on lost back text
+sent_same true back text = refl
+sent_same false back text = refl
+
+-- ---- the connection after a turn
+
+serves_side : (trouble : Trouble) (old new : Hosted) (k : ℕ) (s : Side) (turn : Turn) (l x : Link) (back : List ℕ) → side_at old.hall.sides k ≡ Some s
+    → TurnsSide (hosted (ended old.hall k) old.ready) trouble l.cut old k s l.back turn new back → x ≡ noted_turn turn (record l { back = back })
+    → Serves trouble old k turn new (λ f. x ≡ f l)
+serves_side trouble old new k s turns.Nothing l x back live (none, same, is) so =
+    (λ y at. subst (λ (z : Side). GivesNothing z.reached) (same_Some s y (sym live ∙ at)) none, same, so ∙ ap (λ b. record l { back = b }) is)
+serves_side trouble old new k s (turns.Carried c) l x back live (request, reply, carries, ready, told, is) so = (
+  s,
+  request,
+  reply,
+  live,
+  carries,
+  told,
+  so ∙ ap (λ b. record l { back = b; dump = option_map (noted_carried c) l.dump }) (is ∙ sent_same l.cut l.back (reply_text reply))
+      ∙ ap (λ d. record l { back = sent_on l.cut l.back (reply_text reply); dump = d })
+      (ap (λ e. option_map (noted_carried e) l.dump) told ∙ carried_noted request reply l.dump),
+)
+serves_side trouble old new k s (turns.Broken fault) l x back live (gives, after, is) so =
+    (s, live, gives, after, so ∙ ap (λ b. over_here (record l { back = b })) is)
+
+serves_from : (trouble : Trouble) (old new : Hosted) (k : ℕ) (o : Option Side) (turn : Turn) (l x : Link) (back : List ℕ) → side_at old.hall.sides k ≡ o
+    → TurnsAt (hosted (ended old.hall k) old.ready) trouble l.cut old k o l.back turn new back → x ≡ noted_turn turn (record l { back = back })
+    → Serves trouble old k turn new (λ f. x ≡ f l)
+serves_from trouble old new k None turn l x back over (none, same, is) so =
+    subst (λ t. Serves trouble old k t new (λ f. x ≡ f l)) (sym none)
+    (λ y at. (let clash = sym over ∙ at in absurd cc), same, so ∙ ap (λ t. noted_turn t (record l { back = back })) none ∙ ap (λ b. record l { back = b }) is)
+serves_from trouble old new k (Some s) turn l x back live t so = serves_side trouble old new k s turn l x back live t so
+
+pub serves_link : (trouble : Trouble) (old new : Hosted) (k : ℕ) (turn : Turn) (l x : Link) (back : List ℕ) → ServesAt trouble l.cut old k l.back turn new back
+    → x ≡ noted_turn turn (record l { back = back }) → Serves trouble old k turn new (λ f. x ≡ f l)
+serves_link trouble old new k turn l x back t so = serves_from trouble old new k (side_at old.hall.sides k) turn l x back refl t so
+
+-- the same, of all connections
+pub serves_as : (trouble : Trouble) (old new : Hosted) (k : ℕ) (turn : Turn) (p q : (Link → Link) → Type 0) → ((f : Link → Link) → p f → q f)
+    → Serves trouble old k turn new p → Serves trouble old k turn new q
+serves_as trouble old new k turns.Nothing p q on (none, same, is) = (none, same, on (λ l. l) is)
+serves_as trouble old new k (turns.Carried c) p q on (s, request, reply, live, carries, told, is) =
+    (s, request, reply, live, carries, told, on (answered request reply) is)
+serves_as trouble old new k (turns.Broken fault) p q on (s, live, gives, after, is) = (s, live, gives, after, on over_here is)
+
+pub serves_links : {E : Type 0} (trouble : Trouble) (old new : Hosted) (links : List RealLink) (k : ℕ) (x d : RealLink) → 1 ≤ k → k ≤ length links → (r : Result Turn E)
+    → IfOk r (λ turn. Serves trouble old k turn new (λ f. seen_link x ≡ f (seen_link (slice_index_or links (k - 1) d))))
+    → IfOk r (λ turn. Serves trouble old k turn new (λ f. map seen_link (slice_set links (k - 1) x) ≡ changed f (map seen_link links) k))
+serves_links {E} trouble old new links k x d first last (Ok turn) t = serves_as trouble old new k turn _ _ (λ f is. put_link f links k x d first last is) t
+serves_links {E} trouble old new links k x d first last (Err e) t = tt
+
+-- ---- the place of a name
+
+known_tail : (x name : List ℕ) (names : List (List ℕ)) → bytes_eq name x ≡ false → IsKnown (x ∷ names) name → IsKnown names name
+known_tail x name names apart (inl (zero, within, at)) = absurd (let same = (bytes_eq-Decides name x).1 (sym at) in cc)
+known_tail x name names apart (inl (suc i, within, at)) = inl (i, omega (arith, within), at)
+known_tail x name names apart (inr none) = inr none
+
+next : (p : ℕ) → 1 + p ≡ suc p
+next p = omega arith
+
+place_step : (x name : List ℕ) (names : List (List ℕ)) (p : ℕ) (b : Bool) → bytes_eq name x ≡ b → (IsKnown names name → name_at names p ≡ name) → IsKnown (x ∷ names) name
+    → name_at (x ∷ names) (cond (not b) (1 + p) 0) ≡ name
+place_step x name names p true is rest known = sym ((bytes_eq-Decides name x).0 is)
+place_step x name names p false is rest known = ap (name_at (x ∷ names)) (next p) ∙ rest (known_tail x name names is known)
+
+pub place_found : (names : List (Vec ℕ Global)) (name : List ℕ) → IsKnown (map (λ n. n.items) names) name
+    → name_at (map (λ n. n.items) names) (position_or_len (λ n. bytes_eq name n.items) names) ≡ name
+place_found [] name (inl (k, within, at)) = absurd (omega (arith, within))
+place_found [] name (inr none) = sym none
+place_found (x ∷ xs) name known =
+    place_step x.items name (map (λ n. n.items) xs) (position_or_len (λ n. bytes_eq name n.items) xs) (bytes_eq name x.items) refl (place_found xs name) known
+
+position_some : (b : Bool) (p place : ℕ) → Some place ≡ cond b (Some p) None → place ≡ p
+position_some true p place is = same_Some place p is
+position_some false p place is = absurd cc
+
+pub place_some : (test : Vec ℕ Global → Bool) (names : List (Vec ℕ Global)) (r : Option ℕ) (place : ℕ) → r ≡ position test names → r ≡ Some place
+    → place ≡ position_or_len test names
+place_some test names r place is some = position_some (nat_lt (position_or_len test names) (length names)) (position_or_len test names) place (sym some ∙ is)
+
+not_less : (p n : ℕ) → nat_lt p n ≡ false → n ≤ p
+not_less p n test = grind (arith, nat_tests, test)
+
+position_none : (b : Bool) (p n : ℕ) → nat_lt p n ≡ b → None ≡ cond b (Some p) None → p ≤ n → n ≡ p
+position_none true p n test is within = absurd cc
+position_none false p n test is within = omega (arith, not_less p n test, within)
+
+pub place_none : (test : Vec ℕ Global → Bool) (names : List (Vec ℕ Global)) (r : Option ℕ) → r ≡ position test names → r ≡ None
+    → length names ≡ position_or_len test names
+place_none test names r is none =
+    position_none (nat_lt (position_or_len test names) (length names)) (position_or_len test names) (length names) refl (sym none ∙ is) (prefix_len-le-length (λ x. not (test x)) names)
+
+-- one opening more
+pub opening_noted : (names : List (Vec ℕ Global)) (opens new : List RealOpening) (k place : ℕ) (name : List ℕ) (o : Option (List ℕ)) → o ≡ Some name
+    → IsKnown (map (λ n. n.items) names) name → place ≡ position_or_len (λ n. bytes_eq name n.items) names → new ≡ opens ++ record { connection = k; reel = place } ∷ []
+    → map (seen_opening (map (λ n. n.items) names)) new ≡ map (seen_opening (map (λ n. n.items) names)) opens ++ option_to_list (option_map (opening k) o)
+opening_noted names opens new k place name o some known at is =
+    let all = map (λ (n : Vec ℕ Global). n.items) names in
+    let here : name_at all place ≡ name = ap (name_at all) at ∙ place_found names name known in
+    ap (map (seen_opening all)) is ∙ map-append (seen_opening all) opens (record { connection = k; reel = place } ∷ [])
+    ∙ ap (λ l. map (seen_opening all) opens ++ opening k l ∷ []) here
+    ∙ ap (λ x. map (seen_opening all) opens ++ option_to_list (option_map (opening k) x)) (sym some)

@@ -1,0 +1,64 @@
+use Rattle.std.proofs.Common.{rules, ◌≡◌, ◌+◌, refl, sym, ap, subst, ◌∙◌, Some, None, map, option_map, length, ◌++◌, ◌∷◌, [], arith}
+use Rattle.std.proofs.lemmas.List.{map-append, length-map}
+use Rattle.std.proofs.lemmas.Option.{same_Some}
+use Rattle.rmt_wire.specs.ReplyReader.{reply_held}
+use Rattle.dump_client.specs.Standing.{standing}
+use Rattle.dump_client.specs.declared.step.Step.TheVariants.{Open}
+use Rattle.dump_client.specs.declared.stage.Stage.TheVariants.{Ready, ToSend}
+use Rattle.tape_host.specs.Halls.{joined}
+use Rattle.tape_events.specs.World.{World, Caller}
+use Rattle.tape_events.specs.Changes.{calm, new_link}
+use Rattle.tape_events.specs.Rows.{StandsIn}
+use Rattle.tape_events.specs.Steps.{caller, connected, fresh}
+use Rattle.tape_world.specs.contracts.ends.Ends.{the_view}
+use Rattle.tape_world.specs.Seen.{seen_caller, seen_link}
+use Rattle.tape_world.proofs.Clients.{sourced_same}
+use Rattle.tape_world.proofs.Starting.{stands_ready, started, started_caller, connected_sound}
+use Rattle.tape_world.proofs.ServingStock.{stocked_same}
+use Rattle.tape_world.proofs.ends.Ends.connect.Goals as goal
+
+pub invariant_of-self-2 : goal.invariant_of-self-2
+invariant_of-self-2 c =
+    let i = started c.self.inside.caller c.start_attempt.new.caller c.in_ok-dumping.dumping c.in_ok-dumping.ensures in
+    let ready = subst (λ w. StandsIn w (λ stage. stage ≡ Ready)) (sym c.self.view_is) (stands_ready c.args.self.now (c.stands_in.ensures.0 (search rules))) in
+    let number : c.len.result ≡ length c.self.inside.links.items + 1
+    = omega (arith, c.len.ensures, c.push_reserved.ensures.len, c.in_ok-reserve.ensures.len, c.self.inside.links.ok.0) in (
+      connected_sound (the_view c.self.inside) _ c.self.inside.caller c.start_attempt.new.caller c.in_ok-dumping.dumping c.len.result ready
+          (ap (λ h. h.hall) c.admit.ensures ∙ ap (λ h. joined h.hall) c.in_ok-prepare.ensures)
+          (ap (map seen_link) (c.push_reserved.ensures.items ∙ ap (λ l. l ++ c.new.result ∷ []) c.in_ok-reserve.ensures.items)
+          ∙ map-append seen_link c.self.inside.links.items (c.new.result ∷ []) ∙ ap (λ l. map seen_link c.self.inside.links.items ++ l ∷ []) c.new.ensures)
+          refl refl (number ∙ ap (λ n. n + 1) (sym (length-map c.self.inside.links.items seen_link))) refl refl i c.self.invariant.0,
+      sourced_same c.self.inside.begun.items c.self.inside.caller c.start_attempt.new.caller i.before i.after i.was i.is i.same c.self.invariant.1,
+      stocked_same _ c.self.inside.host.hall.shop c.admit.new.self.hall.shop
+          (ap (λ h. h.hall.shop) c.admit.ensures ∙ ap (λ h. h.hall.shop) c.in_ok-prepare.ensures) c.self.invariant.2,
+    )
+
+pub returns : goal.returns
+returns c =
+    let i = started c.self.inside.caller c.start_attempt.new.caller c.in_ok-dumping.dumping c.in_ok-dumping.ensures in
+    let ready = stands_ready c.args.self.now (c.stands_in.ensures.0 (search rules)) in
+    let at = ap (λ w. w.caller) (sym c.self.view_is) ∙ ap (option_map seen_caller) i.was in
+    let stage = ap (λ (x : Caller). x.at.stage) (same_Some (seen_caller i.before) ready.0 (sym at ∙ ready.1)) ∙ ready.2 in
+    let number : c.len.result ≡ length c.self.inside.links.items + 1
+    = omega (arith, c.len.ensures, c.push_reserved.ensures.len, c.in_ok-reserve.ensures.len, c.self.inside.links.ok.0) in
+    let before = map seen_link c.self.inside.links.items in
+    let V = the_view c.self.inside in
+    let x = caller i.before.number (standing i.before.client.at.run i.before.client.at.counts (ToSend Open)) (reply_held None []) in (
+      ready,
+      (
+        seen_caller i.before,
+        at,
+        stage,
+        ap (λ h. record (calm V) { hall = h; links = map seen_link c.push_reserved.new.self.items; caller = option_map seen_caller c.start_attempt.new.caller; own = Some c.len.result })
+            (ap (λ h. h.hall) c.admit.ensures ∙ ap (λ h. joined h.hall) c.in_ok-prepare.ensures)
+            ∙ ap (λ ls. record (calm V) { hall = joined V.hall; links = ls; caller = option_map seen_caller c.start_attempt.new.caller; own = Some c.len.result })
+            (ap (map seen_link) (c.push_reserved.ensures.items ∙ ap (λ l. l ++ c.new.result ∷ []) c.in_ok-reserve.ensures.items)
+            ∙ map-append seen_link c.self.inside.links.items (c.new.result ∷ [])
+            ∙ ap (λ l. before ++ l ∷ []) (c.new.ensures ∙ ap (λ d. new_link (Some d)) i.fresh))
+            ∙ ap (λ y. record (calm V) { hall = joined V.hall; links = before ++ new_link (Some (fresh (seen_caller i.before))) ∷ []; caller = y; own = Some c.len.result })
+            (started_caller c.self.inside.caller c.start_attempt.new.caller c.in_ok-dumping.dumping i)
+            ∙ ap (λ n. record (calm V) { hall = joined V.hall; links = before ++ new_link (Some (fresh (seen_caller i.before))) ∷ []; caller = Some x; own = Some n })
+            (number ∙ ap (λ n. n + 1) (sym (length-map c.self.inside.links.items seen_link)))
+            ∙ ap (λ (w : World). connected w (seen_caller i.before)) c.self.view_is,
+      ),
+    )

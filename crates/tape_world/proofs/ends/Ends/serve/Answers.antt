@@ -1,0 +1,76 @@
+use Rattle.std.proofs.Common.{rules, ◌≡◌, refl, sym, ap, subst, ◌∙◌}
+use Rattle.std.specs.Prelude.{map, take, drop, length, ◌++◌, option_map}
+use Rattle.std.specs.Option.{option_to_list}
+use Rattle.tape_events.specs.World.{World}
+use Rattle.tape_events.specs.Changes.{calm, changed, opening}
+use Rattle.tape_events.specs.Events.PlainEvent.{Serve}
+use Rattle.tape_events.specs.Steps.{Happens}
+use Rattle.tape_world.specs.contracts.ends.Ends.{the_view}
+use Rattle.tape_world.specs.Seen.{seen_link, seen_opening, names_in}
+use Rattle.tape_world.specs.Serving.{Serves, opened_in}
+use Rattle.tape_world.proofs.ServingStock.{stocked}
+use Rattle.tape_world.proofs.ServingRow.{serves_sound, serves_keeps, serves_opened_in, serves_happens, serves_world, nothing_there, same_links, opened_known, opens_after, known_in}
+use Rattle.tape_world.proofs.ends.Ends.serve.Goals as goal
+
+pub invariant_of-self-in-Nothing : goal.invariant_of-self-in-Nothing
+invariant_of-self-in-Nothing c =
+    let w = the_view c.self.inside in
+    let t = serves_world c.args.trouble c.args.connection c.self.inside.host c.take_turn_at.new.host c.in_ok-turn.turn c.self.inside.links.len c.self.inside.links.items
+    c.deref_mut.result.now c.take_turn_at.new.links c.self.inside.links.ok.0 c.deref_mut.ensures.value c.in_ok-turn.ensures.taken in (
+      serves_sound c.args.trouble c.args.connection w _ c.self.inside.host c.take_turn_at.new.host c.in_ok-turn.turn refl refl t
+          record { begun = refl; caller = refl; own = refl } c.self.invariant.0,
+      c.self.invariant.1,
+      stocked (names_in c.self.inside.books) w.hall.shop c.take_turn_at.new.host.hall.shop
+          (serves_keeps c.args.trouble c.args.connection c.self.inside.host c.take_turn_at.new.host c.in_ok-turn.turn _ c.in_ok-turn.ensures.taken) c.self.invariant.2,
+    )
+
+pub returns-in-Nothing : goal.returns-in-Nothing
+returns-in-Nothing c =
+    let w = the_view c.self.inside in
+    let names = names_in c.self.inside.books in
+    let t = subst (λ turn. Serves c.args.trouble c.self.inside.host c.args.connection turn c.take_turn_at.new.host (λ f. map seen_link (take c.self.inside.links.len (c.take_turn_at.new.links ++ drop (length c.take_turn_at.new.links) c.self.inside.links.items)) ≡ changed f w.links c.args.connection))
+    c.in-Nothing.is
+    (serves_world c.args.trouble c.args.connection c.self.inside.host c.take_turn_at.new.host c.in_ok-turn.turn c.self.inside.links.len c.self.inside.links.items
+    c.deref_mut.result.now c.take_turn_at.new.links c.self.inside.links.ok.0 c.deref_mut.ensures.value c.in_ok-turn.ensures.taken) in (
+      ap (λ ls. record w { hall = c.take_turn_at.new.host.hall; links = ls; opens = map (seen_opening names) c.reserve.new.self.items })
+          (t.2 ∙ same_links w.links c.args.connection)
+          ∙ ap (λ h. record w { hall = h.hall; opens = map (seen_opening names) c.reserve.new.self.items }) t.1
+          ∙ ap (λ items. record w { opens = map (seen_opening names) items }) c.in_ok-reserve.ensures.items ∙ c.self.view_is,
+      nothing_there c.args.trouble c.args.connection c.args.self.now c.self.inside.host.hall (ap (λ v. v.hall) (sym c.self.view_is)) t.0,
+    )
+
+pub note_opening-requires : goal.note_opening-requires
+note_opening-requires c =
+    let stock = stocked (names_in c.self.inside.books) c.self.inside.host.hall.shop c.take_turn_at.new.host.hall.shop
+    (serves_keeps c.args.trouble c.args.connection c.self.inside.host c.take_turn_at.new.host c.in_ok-turn.turn _ c.in_ok-turn.ensures.taken) c.self.invariant.2 in
+    record {
+      room = search rules;
+      there = serves_opened_in c.args.trouble c.args.connection c.self.inside.host c.take_turn_at.new.host c.in_ok-turn.turn _ c.in_ok-turn.ensures.taken;
+      known = λ name is. known_in c.self.inside.books.names.items c.deref-2.result.now name c.deref-2.ensures.value
+          (opened_known c.in_ok-turn.turn (names_in c.self.inside.books) c.take_turn_at.new.host.hall c.args.connection name stock.stacks is);
+    }
+
+pub invariant_of-self-2 : goal.invariant_of-self-2
+invariant_of-self-2 c =
+    let w = the_view c.self.inside in
+    let t = serves_world c.args.trouble c.args.connection c.self.inside.host c.take_turn_at.new.host c.in_ok-turn.turn c.self.inside.links.len c.self.inside.links.items
+    c.deref_mut.result.now c.take_turn_at.new.links c.self.inside.links.ok.0 c.deref_mut.ensures.value c.in_ok-turn.ensures.taken in (
+      serves_sound c.args.trouble c.args.connection w _ c.self.inside.host c.take_turn_at.new.host c.in_ok-turn.turn refl refl t
+          record { begun = refl; caller = refl; own = refl } c.self.invariant.0,
+      c.self.invariant.1,
+      stocked (names_in c.self.inside.books) w.hall.shop c.take_turn_at.new.host.hall.shop
+          (serves_keeps c.args.trouble c.args.connection c.self.inside.host c.take_turn_at.new.host c.in_ok-turn.turn _ c.in_ok-turn.ensures.taken) c.self.invariant.2,
+    )
+
+pub returns : goal.returns
+returns c =
+    let w = the_view c.self.inside in
+    let links = map seen_link (take c.self.inside.links.len (c.take_turn_at.new.links ++ drop (length c.take_turn_at.new.links) c.self.inside.links.items)) in
+    let opens = map (seen_opening (names_in c.self.inside.books)) c.note_opening.new.opens.items in
+    let t = serves_world c.args.trouble c.args.connection c.self.inside.host c.take_turn_at.new.host c.in_ok-turn.turn c.self.inside.links.len c.self.inside.links.items
+    c.deref_mut.result.now c.take_turn_at.new.links c.self.inside.links.ok.0 c.deref_mut.ensures.value c.in_ok-turn.ensures.taken in
+    subst (λ (v : World). Happens v (Serve c.args.connection c.args.trouble) (record (calm w) { hall = c.take_turn_at.new.host.hall; links = links; opens = opens })) c.self.view_is
+    (serves_happens c.args.trouble c.args.connection w c.self.inside.host c.take_turn_at.new.host c.in_ok-turn.turn links opens refl t c.in_default.not-Nothing
+    (opens_after c.self.inside.books.names.items c.deref-2.result.now c.self.inside.books.opens.items c.reserve.new.self.items c.note_opening.new.opens.items
+    (option_to_list (option_map (opening c.args.connection) (opened_in c.take_turn_at.new.host.hall c.args.connection c.in_ok-turn.turn)))
+    c.deref-2.ensures.value c.in_ok-reserve.ensures.items c.note_opening.ensures))

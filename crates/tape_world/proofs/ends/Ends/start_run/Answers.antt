@@ -1,0 +1,51 @@
+use Rattle.std.proofs.Common.{rules, ◌≡◌, ◌+◌, refl, sym, ap, subst, ◌∙◌, Some, map, length, ◌++◌, ◌∷◌, [], arith}
+use Rattle.std.proofs.lemmas.List.{map-append, length-map}
+use Rattle.tape_events.specs.World.{World}
+use Rattle.tape_events.specs.Changes.{calm}
+use Rattle.tape_events.specs.Rows.{NoRun}
+use Rattle.tape_events.specs.Steps.{begun, caller}
+use Rattle.dump_run.specs.Blocks.{cut_blocks}
+use Rattle.tape_world.specs.contracts.ends.Ends.{the_view}
+use Rattle.tape_world.specs.Seen.{seen_begun}
+use Rattle.tape_world.specs.Holding.{is_in_attempt}
+use Rattle.tape_world.proofs.Starting.{begun_sound, begun_is, begun_sourced, plain_begun}
+use Rattle.tape_world.proofs.ends.Ends.start_run.Goals as goal
+
+pub invariant_of-self-2 : goal.invariant_of-self-2
+invariant_of-self-2 c =
+    let more = c.push_reserved.ensures.items ∙ ap (λ l. l ++ c.in_ok-begun.begun ∷ []) c.in_ok-reserve.ensures.items in
+    let number : c.len.result ≡ length c.self.inside.begun.items + 1
+    = omega (arith, c.len.ensures, c.push_reserved.ensures.len, c.in_ok-reserve.ensures.len, c.self.inside.begun.ok.0) in
+    let idle : NoRun (the_view c.self.inside) = subst NoRun (sym c.self.view_is) (c.has_no_run.ensures.0 (search rules)) in (
+      begun_sound (the_view c.self.inside) _ (caller c.len.result c.in_ok-client.client.at c.in_ok-client.client.reader) (seen_begun c.in_ok-begun.begun) idle refl refl refl
+          (ap (map seen_begun) more ∙ map-append seen_begun c.self.inside.begun.items (c.in_ok-begun.begun ∷ []))
+          refl (number ∙ ap (λ n. n + 1) (sym (length-map c.self.inside.begun.items seen_begun)))
+          (c.in_ok-begun.ensures.run ∙ ap (λ at. at.run) (sym c.in_ok-client.ensures.made))
+          (ap (λ at. is_in_attempt at.stage) c.in_ok-client.ensures.made) c.self.invariant.0,
+      begun_sourced c.push_reserved.new.self.items c.self.inside.begun.items c.in_ok-begun.begun _ c.args.run.now c.args.payload.now more number c.in_ok-begun.ensures
+          c.in_ok-client.ensures.given,
+      c.self.invariant.2,
+    )
+
+pub returns : goal.returns
+returns c =
+    let more = c.push_reserved.ensures.items ∙ ap (λ l. l ++ c.in_ok-begun.begun ∷ []) c.in_ok-reserve.ensures.items in
+    let number : c.len.result ≡ length c.self.inside.begun.items + 1
+    = omega (arith, c.len.ensures, c.push_reserved.ensures.len, c.in_ok-reserve.ensures.len, c.self.inside.begun.ok.0) in
+    let run = c.args.run.now in
+    let blocks = cut_blocks run.blocks run.block_bytes c.args.payload.now in
+    let reader = c.in_ok-client.client.reader in
+    let x = caller c.len.result c.in_ok-client.client.at reader in
+    let before = map seen_begun c.self.inside.begun.items in (
+      (c.has_no_run.ensures.0 (search rules), c.in_ok-client.ensures.run, search rules),
+      (
+        reader,
+        ap (λ bs. record (calm (the_view c.self.inside)) { begun = map seen_begun bs; caller = Some x }) more
+            ∙ ap (λ bs. record (calm (the_view c.self.inside)) { begun = bs; caller = Some x }) (map-append seen_begun c.self.inside.begun.items (c.in_ok-begun.begun ∷ []))
+            ∙ ap (λ b. record (calm (the_view c.self.inside)) { begun = before ++ b ∷ []; caller = Some x }) (begun_is run c.args.payload.now c.in_ok-begun.begun c.in_ok-begun.ensures)
+            ∙ ap (λ y. record (calm (the_view c.self.inside)) { begun = before ++ plain_begun run blocks ∷ []; caller = Some y })
+            (ap (λ n. caller n c.in_ok-client.client.at reader) (number ∙ ap (λ n. n + 1) (sym (length-map c.self.inside.begun.items seen_begun)))
+            ∙ ap (λ at. caller (length before + 1) at reader) c.in_ok-client.ensures.made)
+            ∙ ap (λ (w : World). begun w run c.args.payload.now reader) c.self.view_is,
+      ),
+    )

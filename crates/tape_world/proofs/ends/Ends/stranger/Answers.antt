@@ -1,0 +1,33 @@
+use Rattle.std.proofs.Common.{refl, ap, ◌∙◌}
+use Rattle.std.specs.Prelude.{map, ◌++◌, ◌∷◌, []}
+use Rattle.std.proofs.lemmas.List.{map-append}
+use Rattle.tape_events.specs.Events.PlainEvent.{Stranger}
+use Rattle.tape_host.specs.Halls.{joined}
+use Rattle.tape_world.specs.contracts.ends.Ends.{the_view}
+use Rattle.tape_world.specs.Seen.{seen_link}
+use Rattle.tape_world.proofs.Sound.{stranger_sound, refused_event}
+use Rattle.tape_world.proofs.ServingStock.{stocked_same}
+use Rattle.tape_world.proofs.ends.Ends.stranger.Goals as goal
+
+pub returns-in_err-reserve : goal.returns-in_err-reserve
+returns-in_err-reserve c =
+    refused_event c.args.self.now _ Stranger c.from_residual.result c.from_residual.ensures.1
+    (ap (λ items. record (the_view c.self.inside) { links = map seen_link items }) c.in_err-reserve.ensures.items ∙ c.self.view_is)
+
+pub returns-in_err-prepare : goal.returns-in_err-prepare
+returns-in_err-prepare c =
+    refused_event c.args.self.now _ Stranger c.from_residual-in_err-prepare.result c.from_residual-in_err-prepare.ensures.1
+    (ap (λ items. record (the_view c.self.inside) { hall = c.prepare.new.self.hall; links = map seen_link items }) c.in_ok-reserve.ensures.items
+    ∙ ap (λ h. record (the_view c.self.inside) { hall = h.hall }) c.in_err-prepare.ensures ∙ c.self.view_is)
+
+pub invariant_of-self-2 : goal.invariant_of-self-2
+invariant_of-self-2 c = (
+  stranger_sound (the_view c.self.inside) _ record { begun = refl; caller = refl; own = refl }
+      (ap (λ h. h.hall) c.admit.ensures ∙ ap (λ h. joined h.hall) c.in_ok-prepare.ensures)
+      (ap (map seen_link) (c.push_reserved.ensures.items ∙ ap (λ l. l ++ c.new.result ∷ []) c.in_ok-reserve.ensures.items)
+      ∙ map-append seen_link c.self.inside.links.items (c.new.result ∷ []) ∙ ap (λ l. map seen_link c.self.inside.links.items ++ l ∷ []) c.new.ensures)
+      c.self.invariant.0,
+  c.self.invariant.1,
+  stocked_same _ c.self.inside.host.hall.shop c.admit.new.self.hall.shop
+      (ap (λ h. h.hall.shop) c.admit.ensures ∙ ap (λ h. h.hall.shop) c.in_ok-prepare.ensures) c.self.invariant.2,
+)

@@ -1,0 +1,117 @@
+use Rattle.std.proofs.Common.{rules, ◌≡◌, ◌∙◌, refl, sym, ap, subst, arith, map, option_map, None, Some}
+use Rattle.std.specs.Prelude.{◌≤◌, ◌++◌, length, take, drop}
+use Rattle.std.specs.Option.{option_copied}
+use Rattle.tape_events.specs.World.{World, Dumping}
+use Rattle.tape_events.specs.Changes.{calm, changed}
+use Rattle.tape_events.specs.Events.PlainEvent.{ToClient}
+use Rattle.tape_events.specs.Steps.{Happens}
+use Rattle.tape_world.specs.contracts.ends.Ends.{the_view}
+use Rattle.tape_world.specs.Hearing.{come_back, heard_on, HasHeard}
+use Rattle.tape_world.specs.Holding.{IsClients}
+use Rattle.tape_world.specs.Seen.{names_in, seen_caller, seen_count, seen_link}
+use Rattle.tape_world.proofs.Clients.{sourced_same}
+use Rattle.tape_world.proofs.HearingWorld.{attempts, counts_kept, dropped_step, heard_sound, heard_step, heard_world, link_within}
+use Rattle.tape_world.proofs.Sound.{link_is, link_sound, links_after}
+use Rattle.tape_world.proofs.ends.Ends.to_client.Goals as goal
+
+pub invariant_of-self : goal.invariant_of-self
+invariant_of-self c = (
+  link_sound (come_back c.args.count) (λ l o. o, λ l o. o) (the_view c.self.inside) _ c.args.connection record { begun = refl; caller = refl; own = refl } refl
+      (links_after (come_back c.args.count) c.self.inside.links.len c.self.inside.links.items c.deref_mut.result.now c.come_back.new.links c.args.connection
+      c.self.inside.links.ok.0 c.deref_mut.ensures.value c.come_back.ensures)
+      c.self.invariant.0,
+  c.self.invariant.1,
+  c.self.invariant.2,
+)
+
+pub returns-then-is_none : goal.returns-then-is_none
+returns-then-is_none c =
+    let w = the_view c.self.inside in
+    let l = seen_link c.in-Some.link.now in
+    let there
+    = link_is w c.self.inside.links.items c.deref.result.now c.args.connection (option_copied c.find.result) c.in-Some.link.now refl c.deref.ensures.value
+    c.find.ensures (ap option_copied c.in-Some.is) in
+    let none : l.dump ≡ None = search rules in
+    let links
+    = links_after (come_back c.args.count) c.self.inside.links.len c.self.inside.links.items c.deref_mut.result.now c.come_back.new.links c.args.connection
+    c.self.inside.links.ok.0 c.deref_mut.ensures.value c.come_back.ensures in
+    let u
+    = record (calm w) { links = map seen_link (take c.self.inside.links.len (c.come_back.new.links ++ drop (length c.come_back.new.links) c.self.inside.links.items)) } in
+    subst (λ (v : World). Happens v (ToClient c.args.connection c.args.count) u) c.self.view_is (
+      (
+        l,
+        (there, c.if-not-link.false),
+        (omega (arith, c.if-count-eq0.false), subst (λ b. c.args.count ≤ length b) c.bytes-way.ensures c.if-way-count.false),
+      ),
+      (l, there, dropped_step w u c.args.connection c.args.count l.dump (take c.args.count l.back) none (ap (λ ls. record (calm w) { links = ls }) links)),
+    )
+
+pub hear-heard-requires : goal.hear-heard-requires
+hear-heard-requires c =
+    let w = the_view c.self.inside in
+    let some : (d : Dumping) × (c.in-Some.link.now.dump ≡ Some d) = search rules in
+    let there
+    = link_is w c.self.inside.links.items c.deref.result.now c.args.connection (option_copied c.find.result) c.in-Some.link.now refl c.deref.ensures.value
+    c.find.ensures (ap option_copied c.in-Some.is) in
+    attempts w c.self.inside.caller c.args.connection refl c.self.invariant.0.owned
+    (seen_link c.in-Some.link.now, some.0, there, c.if-not-link.false, some.1)
+
+pub settle-requires-clause-last : goal.settle-requires-clause-last
+settle-requires-clause-last c =
+    link_within c.deref.result.now c.deref_mut-2.result.now c.args.connection (option_copied c.find.result) c.in-Some.link.now
+    (c.deref.ensures.value ∙ sym c.deref_mut-2.ensures.value) c.find.ensures (ap option_copied c.in-Some.is)
+
+pub invariant_of-self-2 : goal.invariant_of-self-2
+invariant_of-self-2 c =
+    let w = the_view c.self.inside in
+    let some : (d : Dumping) × (c.in-Some.link.now.dump ≡ Some d) = search rules in
+    let there
+    = link_is w c.self.inside.links.items c.deref.result.now c.args.connection (option_copied c.find.result) c.in-Some.link.now refl c.deref.ensures.value
+    c.find.ensures (ap option_copied c.in-Some.is) in
+    let clients : IsClients w c.args.connection = (seen_link c.in-Some.link.now, some.0, there, c.if-not-link.false, some.1) in
+    let e = c.hear-heard.ensures in (
+      heard_sound w _ c.args.connection c.args.count c.self.inside.caller c.hear-heard.new.caller _ c.hear-heard.result clients refl
+          (links_after (heard_on c.hear-heard.result.is_over c.args.count) c.self.inside.links.len c.self.inside.links.items c.deref_mut-2.result.now c.settle.new.links
+          c.args.connection c.self.inside.links.ok.0 c.deref_mut-2.ensures.value c.settle.ensures.links)
+          refl c.settle.ensures.own refl refl e c.self.invariant.0,
+      sourced_same c.self.inside.begun.items c.self.inside.caller c.hear-heard.new.caller e.before e.after e.was e.is e.same c.self.invariant.1,
+      c.self.invariant.2,
+    )
+
+pub returns : goal.returns
+returns c =
+    let w = the_view c.self.inside in
+    let l = seen_link c.in-Some.link.now in
+    let some : (d : Dumping) × (c.in-Some.link.now.dump ≡ Some d) = search rules in
+    let there
+    = link_is w c.self.inside.links.items c.deref.result.now c.args.connection (option_copied c.find.result) c.in-Some.link.now refl c.deref.ensures.value
+    c.find.ensures (ap option_copied c.in-Some.is) in
+    let heard = c.hear-heard.result in
+    let caller = option_map seen_caller c.hear-heard.new.caller in
+    let names = names_in c.self.inside.books in
+    let kept = map (seen_count names) c.keep.new.counts.items in
+    let ls = map seen_link (take c.self.inside.links.len (c.settle.new.links ++ drop (length c.settle.new.links) c.self.inside.links.items)) in
+    let u = record w { links = ls; own = c.settle.new.own; caller = caller; counts = kept; failure = heard.failure } in
+    let links
+    = links_after (heard_on heard.is_over c.args.count) c.self.inside.links.len c.self.inside.links.items c.deref_mut-2.result.now c.settle.new.links
+    c.args.connection c.self.inside.links.ok.0 c.deref_mut-2.ensures.value c.settle.ensures.links in
+    let counts
+    = counts_kept w names heard.run c.reel_of-reel.result c.args.connection heard.count c.self.inside.books.counts.items c.reserve.new.self.items c.keep.new.counts.items
+    refl c.reserve.ensures.items c.keep.ensures c.reel_of-reel.ensures in
+    subst (λ (v : World). Happens v (ToClient c.args.connection c.args.count) u) c.self.view_is (
+      (
+        l,
+        (there, c.if-not-link.false),
+        (omega (arith, c.if-count-eq0.false), subst (λ b. c.args.count ≤ length b) c.bytes-way.ensures c.if-way-count.false),
+      ),
+      (
+        l,
+        there,
+        heard_step w u c.args.connection c.args.count l.dump some.0 (take c.args.count l.back) c.self.inside.caller c.hear-heard.new.caller heard some.1 refl
+            (subst (λ b. HasHeard c.self.inside.caller (take c.args.count b) heard c.hear-heard.new.caller) c.bytes-way.ensures c.hear-heard.ensures)
+            (ap (λ x. record w { links = x; own = c.settle.new.own; caller = caller; counts = kept; failure = heard.failure }) links
+            ∙ ap (λ x. record w { links = changed (heard_on heard.is_over c.args.count) w.links c.args.connection; own = x; caller = caller; counts = kept; failure = heard.failure })
+            c.settle.ensures.own
+            ∙ ap (λ x. heard_world w c.args.connection c.args.count heard.is_over caller x heard.failure) counts),
+      ),
+    )

@@ -1,0 +1,7 @@
+use Rattle.std.proofs.Common.{map, take}
+use Rattle.tape_events.specs.Steps.{Runs}
+use Rattle.tape_world.specs.Running.{plain_event}
+use Rattle.tape_world.proofs.running.run.Given as goal
+
+abbrev pub invariant-loop-i : goal.invariant-loop-i
+invariant-loop-i l = Runs l.fn.world (take l.i (map plain_event l.events)) l.world

@@ -1,0 +1,9 @@
+use Rattle.std.proofs.Common.{sym, subst, ap}
+use Rattle.tape_events.specs.World.{World}
+use Rattle.tape_world.specs.Entries.{AreOpenThere}
+use Rattle.tape_world.proofs.Online.{held_there}
+use Rattle.tape_world.proofs.world.World.entry.Goals as goal
+
+pub find_online-requires-clause-there : goal.find_online-requires-clause-there
+find_online-requires-clause-there c =
+    subst (λ (w : World). AreOpenThere w.hall) (sym (ap (λ i. i.ends) c.self-inside.view_is)) (held_there c.self.inside.ends.hall c.self.invariant.held)

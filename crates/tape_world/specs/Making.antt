@@ -1,0 +1,44 @@
+-- What a new world is made of.
+use Rattle.std.specs.Prelude.{ℕ, Bool, false, not, ◌||◌, List, [], ◌∷◌, ◌++◌, map, Some}
+use Rattle.std.specs.List.{list_any}
+use Rattle.std.specs.Str.{bytes_eq}
+use Rattle.tape.specs.Trouble.{TroubledTape}
+use Rattle.drives.specs.Shop.{Slot, slot, Rack, rack, ShopOf, shop, rack_at, with_rack}
+use Rattle.drives.specs.ListShop.{blank_reel}
+use Rattle.drives.specs.Arranging.{are_distinct}
+use Rattle.tape_events.specs.First.{PlainDrive}
+use Rattle.tape_world.specs.declared.drive_spec.DriveSpec.{DriveSpec}
+
+abbrev pub reels_of : DriveSpec → List (List ℕ)
+reels_of d = map (λ n. n.now) d.reels.now
+
+abbrev pub plain_drive : DriveSpec → PlainDrive
+plain_drive d = record { name = d.name.now; capacity = d.capacity; reels = reels_of d }
+
+-- a reel of one of the drives has that name
+abbrev pub names_again : List DriveSpec → List ℕ → Bool
+names_again drives name = list_any (λ d. list_any (λ n. bytes_eq name n.now) d.reels.now) drives
+
+-- a reel of the first drive has the name of another
+abbrev pub reel_again : List DriveSpec → Bool
+reel_again [] = false
+reel_again (d ∷ drives) = not (are_distinct (reels_of d)) || list_any (λ n. names_again drives n.now) d.reels.now
+
+-- empty reels of these names
+abbrev pub blank_slots : ℕ → List (List ℕ) → List (Slot TroubledTape)
+blank_slots capacity names = map (λ n. slot n (Some (blank_reel capacity))) names
+
+abbrev pub laid_rack : DriveSpec → Rack TroubledTape
+laid_rack d = rack d.name.now (blank_slots d.capacity (reels_of d))
+
+-- the drives with their reels, which are empty, and an empty bin
+abbrev pub laid_shop : List DriveSpec → ShopOf TroubledTape
+laid_shop drives = shop (map laid_rack drives) []
+
+-- reels more, last on the stack of drive d
+abbrev pub with_slots : ShopOf TroubledTape → ℕ → List (Slot TroubledTape) → ShopOf TroubledTape
+with_slots s d slots = with_rack s d (rack (rack_at s d).name ((rack_at s d).stack ++ slots))
+
+-- one drive more, with its reels
+abbrev pub with_laid : ShopOf TroubledTape → DriveSpec → ShopOf TroubledTape
+with_laid s d = shop (s.racks ++ laid_rack d ∷ []) s.bin

@@ -1,0 +1,52 @@
+-- Events as values, and what a list of them makes of a world.
+use Rattle.std.specs.Prelude.{◌≡◌, ℕ, ◌<◌, List, length, map, take, slice_get, Some}
+use Rattle.tape_events.specs.World.{World}
+use Rattle.tape_events.specs.Events.{PlainEvent}
+use Rattle.tape_events.specs.Events.PlainEvent.{StartRun, Connect, Send, ToServer, Serve, ToClient, Cut, EndAtServer, EndAtClient, ServerRestart, ClientRestart, Respond, Arrange, Stranger, Says, Enter}
+use Rattle.tape_events.specs.Rows.{Possible}
+use Rattle.tape_events.specs.Steps.{Runs}
+use Rattle.tape_world.specs.declared.event.Event.{Event}
+use Rattle.tape_world.specs.declared.event.Event.TheVariants as lent
+use Rattle.tape_world.specs.declared.stop.Stop.{Stop}
+use Rattle.tape_world.specs.declared.stop.Stop.TheVariants as stops
+use Rattle.tape_world.specs.declared.fault.WorldFault.{WorldFault}
+use Rattle.tape_world.specs.declared.fault.WorldFault.TheVariants.{NotPossible, OutOfMemory}
+
+-- an event that lends what it tells, as the value that it is
+abbrev pub plain_event : Event → PlainEvent
+plain_event (lent.StartRun run payload) = StartRun run.now payload.now
+plain_event lent.Connect = Connect
+plain_event (lent.Send fails) = Send fails
+plain_event (lent.ToServer k n) = ToServer k n
+plain_event (lent.Serve k trouble) = Serve k trouble
+plain_event (lent.ToClient k n) = ToClient k n
+plain_event (lent.Cut k) = Cut k
+plain_event (lent.EndAtServer k) = EndAtServer k
+plain_event (lent.EndAtClient k) = EndAtClient k
+plain_event lent.ServerRestart = ServerRestart
+plain_event lent.ClientRestart = ClientRestart
+plain_event (lent.Respond answer) = Respond answer
+plain_event (lent.Arrange drive reels) = Arrange drive.now (map (λ name. name.now) reels.now)
+plain_event lent.Stranger = Stranger
+plain_event (lent.Says k bytes) = Says k bytes.now
+plain_event lent.Enter = Enter
+
+-- the place of the event that was not made
+abbrev pub place_of : WorldFault → ℕ
+place_of (NotPossible i) = i
+place_of (OutOfMemory i) = i
+
+-- the fault that this stop is, at the event of this place
+abbrev pub fault_at : Stop → ℕ → WorldFault
+fault_at stops.NotPossible i = NotPossible i
+fault_at stops.OutOfMemory i = OutOfMemory i
+
+-- there is an event of that place, and all before it were made, and no other
+pub record IsStopped (old : World) (events : List PlainEvent) (i : ℕ) (new : World) : Type 0 where
+  pub inside : i < length events
+  pub made : Runs old (take i events) new
+
+-- where the fault says so, the event of its place is not possible
+abbrev pub IsRefused : List PlainEvent → World → WorldFault → Type 0
+IsRefused events w (NotPossible i) = (event : PlainEvent) → slice_get events i ≡ Some event → Possible w event → ⊥
+IsRefused events w (OutOfMemory i) = Unit {0}

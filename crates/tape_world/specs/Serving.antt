@@ -1,0 +1,102 @@
+-- What a turn of the server makes of a connection, and which reel it opened for writing.
+use Rattle.std.specs.Prelude.{◌≡◌, ◌⊎◌, ℕ, zero, suc, ◌<◌, true, List, [], length, All, Contains, option_map, Option, Some, None}
+use Rattle.rmt_wire.specs.Counted.{raised}
+use Rattle.rmt_wire.specs.Request.{PlainRequest}
+use Rattle.rmt_wire.specs.Reply.{PlainReply}
+use Rattle.tape.specs.declared.trouble.Trouble.{Trouble}
+use Rattle.drives.specs.Shop.{Slot, Shop, rack_at}
+use Rattle.rmt_server.specs.Session.{PlainReel, PlainSession}
+use Rattle.rmt_server.specs.Session.PlainSession.{Online}
+use Rattle.rmt_server.specs.declared.access.Access.{Access}
+use Rattle.rmt_server.specs.Hall.{Hall, Side}
+use Rattle.tape_host.specs.declared.turn.Asked.{Asked}
+use Rattle.tape_host.specs.declared.turn.Asked.TheVariants as asked
+use Rattle.tape_host.specs.declared.turn.Answered.{Answered}
+use Rattle.tape_host.specs.declared.turn.Answered.TheVariants as said
+use Rattle.tape_host.specs.declared.turn.Carried.{Carried}
+use Rattle.tape_host.specs.declared.turn.Turn.{Turn}
+use Rattle.tape_host.specs.declared.turn.Turn.TheVariants as turns
+use Rattle.tape_host.specs.Halls.{Hosted, hosted, side_at, ended}
+use Rattle.tape_host.specs.Turns.{carried_of, Carries, GivesNothing, GivesFault}
+use Rattle.tape_events.specs.World.{Link, Dumping}
+use Rattle.tape_events.specs.Changes.{accepted, noted_error, answered, over_here, first_name}
+
+-- what an attempt came to once a write of it was answered so
+abbrev pub noted_record : Dumping → Answered → Dumping
+noted_record d (said.Number zero) = d
+noted_record d (said.Number (suc n)) = accepted d
+noted_record d said.Data = d
+noted_record d (said.Error n) = noted_error d n
+
+-- the same of marks
+abbrev pub noted_mark : Dumping → Answered → Dumping
+noted_mark d (said.Number n) = record d { mark = true }
+noted_mark d said.Data = d
+noted_mark d (said.Error n) = noted_error d n
+
+abbrev pub noted_asked : Dumping → Asked → Answered → Dumping
+noted_asked d (asked.Open writes) answer = d
+noted_asked d asked.Write answer = noted_record d answer
+noted_asked d asked.Marks answer = noted_mark d answer
+noted_asked d asked.Other answer = d
+
+-- a request of it was carried out
+abbrev pub noted_carried : Carried → Dumping → Dumping
+noted_carried c d = let d' = noted_asked d c.asked c.answered in record d' { carried = raised d'.carried }
+
+-- a turn of the server's side was taken
+abbrev pub noted_turn : Turn → Link → Link
+noted_turn turns.Nothing l = l
+noted_turn (turns.Carried c) l = record l { dump = option_map (noted_carried c) l.dump }
+noted_turn (turns.Broken fault) l = over_here l
+
+-- What a turn of connection k makes of the hall, and of the connection.
+abbrev pub Serves : Trouble → Hosted → ℕ → Turn → Hosted → ((Link → Link) → Type 0) → Type 0
+Serves trouble old k turns.Nothing new becomes =
+    ((s : Side) → side_at old.hall.sides k ≡ Some s → GivesNothing s.reached) × (new ≡ old) × becomes (λ l. l)
+Serves trouble old k (turns.Carried carried) new becomes =
+    (s : Side) × (request : PlainRequest) × (reply : PlainReply) × (side_at old.hall.sides k ≡ Some s)
+    × Carries trouble old.hall k s request reply new.hall × (carried ≡ carried_of request reply) × becomes (answered request reply)
+Serves trouble old k (turns.Broken fault) new becomes =
+    (s : Side) × (side_at old.hall.sides k ≡ Some s) × GivesFault s.reached fault
+    × (new ≡ hosted (ended old.hall k) old.ready) × becomes over_here
+
+-- the name of the reel that is online
+abbrev pub name_online : Shop → PlainSession → Option (List ℕ)
+name_online s (Online drive access reel) = Some (first_name (rack_at s drive).stack)
+name_online s session = None
+
+abbrev pub name_online_at : Shop → Option Side → Option (List ℕ)
+name_online_at s None = None
+name_online_at s (Some x) = name_online s x.session
+
+-- the drive that a connection has online is there
+abbrev pub IsOnlineIn : Hall → ℕ → Type 0
+IsOnlineIn h k =
+    (s : Side) (drive : ℕ) (access : Access) (reel : PlainReel) → side_at h.sides k ≡ Some s → s.session ≡ Online drive access reel
+    → drive < length h.shop.racks
+
+abbrev pub opened_by : Asked → Hall → ℕ → Option (List ℕ)
+opened_by (asked.Open true) h k = name_online_at h.shop (side_at h.sides k)
+opened_by _ h k = None
+
+-- the name of the reel that a turn opened for writing, if it did
+abbrev pub opened_in : Hall → ℕ → Turn → Option (List ℕ)
+opened_in h k (turns.Carried c) = opened_by c.asked h k
+opened_in h k turn = None
+
+-- where it opened one, the drive is there
+abbrev pub IsOpenedIn : Hall → ℕ → Turn → Type 0
+IsOpenedIn h k turn = (c : Carried) → turn ≡ turns.Carried c → c.asked ≡ asked.Open true → IsOnlineIn h k
+
+-- that name is among these, or it is none
+abbrev pub IsKnown : List (List ℕ) → List ℕ → Type 0
+IsKnown names name = Contains names name ⊎ (name ≡ [])
+
+abbrev pub AreKnown : {X : Type 0} → List (List ℕ) → List (Slot X) → Type 0
+AreKnown names slots = All (λ x. Contains names x.name) slots
+
+-- the name of each reel is among these
+pub record IsStocked (names : List (List ℕ)) (s : Shop) : Type 0 where
+  pub stacks : (d : ℕ) → AreKnown names (rack_at s d).stack
+  pub bin : AreKnown names s.bin

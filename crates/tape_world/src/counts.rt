@@ -1,0 +1,83 @@
+//! The volumes that were counted, as they are told.
+ghost use Rattle.std.specs.Prelude.{◌≡◌, ◌↔◌, true, [], length, map, slice_get};
+ghost use Rattle.std.specs.Option.{option_map};
+ghost use Rattle.tape_world.specs.Seen.{name_at};
+ghost use Rattle.tape_world.specs.Telling.{told_count};
+
+use crate::books::Count;
+use std::marker::Model;
+
+/// A volume that was counted.
+#[derive(Clone, Copy, Debug, PartialEq, Eq)]
+pub struct CountTold<'a> {
+    /// The number of its run. Runs are numbered from 1.
+    pub run: usize,
+    /// The number of the volume in its run, from 1.
+    pub volume: u32,
+    /// Its first block, from 0.
+    pub first: u32,
+    /// How many blocks it has.
+    pub count: u32,
+    /// The name of the reel that the connection had opened first.
+    pub reel: &'a [u8],
+    /// The connection that it was written on.
+    pub connection: usize,
+}
+
+/// All volumes that were counted, in the order in which they were.
+#[derive(Drop)]
+pub struct Counts<'a> {
+    pub(crate) names: &'a [Vec<u8>],
+    pub(crate) counts: &'a [Count],
+}
+
+impl<'a> Model for Counts<'a> {
+    ghost use Rattle.std.specs.Prelude.{List, map};
+    ghost use Rattle.tape_events.specs.World.{Count};
+    ghost use Rattle.tape_world.specs.Seen.{seen_count};
+
+    ghost Value = { List Count };
+
+    ghost view = { λ c. map (seen_count (map (λ name. name.items) c.names.now)) c.counts.now };
+}
+
+impl<'a> Counts<'a> {
+    /// How many there are.
+    pub fn len(&self) -> usize
+        ensures { result ≡ length self.now }
+    {
+        self.counts.len()
+    }
+
+    /// Whether there are none.
+    pub fn is_empty(&self) -> bool
+        ensures { (result ≡ true) ↔ (self.now ≡ []) }
+    {
+        self.counts.is_empty()
+    }
+
+    /// The one of this place, from 0. None past the last.
+    pub fn get(&self, i: usize) -> Option<CountTold<'a>>
+        ensures { option_map told_count result ≡ slice_get self.now i }
+    {
+        let count = self.counts.get(i)?;
+        Some(CountTold {
+            run: count.run,
+            volume: count.volume,
+            first: count.first,
+            count: count.count,
+            reel: name_at(self.names, count.reel),
+            connection: count.connection,
+        })
+    }
+}
+
+/// The name of this place, or none past the last.
+fn name_at(names: &[Vec<u8>], place: usize) -> &[u8]
+    ensures { result.now ≡ name_at (map (λ name. name.items) names.now) place }
+{
+    match names.get(place) {
+        Some(name) => name,
+        None => &[],
+    }
+}

@@ -1,0 +1,119 @@
+//! The drives of a new world.
+ghost use Rattle.std.specs.Prelude.{◌≡◌, ◌↔◌, true, map};
+ghost use Rattle.std.specs.List.{flat_map, list_any};
+ghost use Rattle.std.specs.Str.{bytes_eq};
+ghost use Rattle.drives.specs.Arranging.{are_distinct, is_repeated};
+ghost use Rattle.tape_events.specs.First.{AreGoodDrives};
+ghost use Rattle.tape_world.specs.Making.{plain_drive, reels_of, reel_again, names_again};
+
+/// A drive of a new world: its name, how many bytes each of its reels takes, and the names of those, which are empty.
+#[derive(Clone, Copy)]
+pub struct DriveSpec<'a> {
+    pub name: &'a [u8],
+    pub capacity: u64,
+    pub reels: &'a [&'a [u8]],
+}
+
+/// Whether a world can have these drives: there are 1 to 64, no two have one name, and no two of their reels have one.
+pub fn good_drives(drives: &[DriveSpec<'_>]) -> bool
+    ensures { (result ≡ true) ↔ AreGoodDrives (map plain_drive drives.now) }
+{
+    if drives.is_empty() || 64 < drives.len() {
+        return false;
+    }
+    names_differ(drives) && reels_differ(drives)
+}
+
+/// Whether no two drives have one name.
+fn names_differ(drives: &[DriveSpec<'_>]) -> bool
+    ensures { result ≡ are_distinct (map (λ d. d.name.now) drives.now) }
+{
+    for place in 0..drives.len() {
+        if is_name_again(&drives[place..]) {
+            return false;
+        }
+    }
+    true
+}
+
+/// Whether the name of the first of the drives is that of another.
+fn is_name_again(drives: &[DriveSpec<'_>]) -> bool
+    ensures { result ≡ is_repeated (map (λ d. d.name.now) drives.now) }
+{
+    let Some((first, others)) = drives.split_first() else {
+        return false;
+    };
+    any_named(others, first.name)
+}
+
+/// Whether one of the drives has that name.
+fn any_named(drives: &[DriveSpec<'_>], name: &[u8]) -> bool
+    ensures { result ≡ list_any (λ d. bytes_eq name.now d.name.now) drives.now }
+{
+    drives.iter().any(|drive| name == drive.name)
+}
+
+/// Whether no two reels of all the drives have one name.
+fn reels_differ(drives: &[DriveSpec<'_>]) -> bool
+    ensures { result ≡ are_distinct (flat_map reels_of drives.now) }
+{
+    for place in 0..drives.len() {
+        if is_reel_again(&drives[place..]) {
+            return false;
+        }
+    }
+    true
+}
+
+/// Whether a reel of the first of the drives has the name of another reel.
+fn is_reel_again(drives: &[DriveSpec<'_>]) -> bool
+    ensures { result ≡ reel_again drives.now }
+{
+    let Some((first, others)) = drives.split_first() else {
+        return false;
+    };
+    !all_differ(first.reels) || any_shared(first.reels, others)
+}
+
+/// Whether no two of the names are one.
+fn all_differ(names: &[&[u8]]) -> bool
+    ensures { result ≡ are_distinct (map (λ n. n.now) names.now) }
+{
+    for place in 0..names.len() {
+        if stands_again(&names[place..]) {
+            return false;
+        }
+    }
+    true
+}
+
+/// Whether the first of the names stands again.
+fn stands_again(names: &[&[u8]]) -> bool
+    ensures { result ≡ is_repeated (map (λ n. n.now) names.now) }
+{
+    let Some((name, others)) = names.split_first() else {
+        return false;
+    };
+    any_is(others, name)
+}
+
+/// Whether one of the names is that one.
+fn any_is(names: &[&[u8]], name: &[u8]) -> bool
+    ensures { result ≡ list_any (λ n. bytes_eq name.now n.now) names.now }
+{
+    names.iter().any(|other| name == *other)
+}
+
+/// Whether one of the names is that of a reel of these drives.
+fn any_shared(names: &[&[u8]], drives: &[DriveSpec<'_>]) -> bool
+    ensures { result ≡ list_any (λ n. names_again drives.now n.now) names.now }
+{
+    names.iter().any(|name| any_has(drives, name))
+}
+
+/// Whether a reel of one of these drives has that name.
+fn any_has(drives: &[DriveSpec<'_>], name: &[u8]) -> bool
+    ensures { result ≡ names_again drives.now name.now }
+{
+    drives.iter().any(|drive| any_is(drive.reels, name))
+}

@@ -1,0 +1,233 @@
+//! What happens at the client's side.
+ghost use Rattle.std.specs.Prelude.{◌≡◌, ◌*◌, ◌↔◌, true, false, IfOk, [], length, map};
+ghost use Rattle.dump_run.specs.Blocks.{cut_blocks, listed};
+ghost use Rattle.dump_run.specs.Run.{IsRun};
+ghost use Rattle.dump_client.specs.Client.{IsPayload};
+ghost use Rattle.dump_client.specs.Standing.{standing, state_of};
+ghost use Rattle.dump_client.specs.declared.stage.Stage.TheVariants.{Ready};
+ghost use Rattle.tape_events.specs.Events.PlainEvent.{StartRun, Connect, Respond, ClientRestart, EndAtClient, Enter};
+ghost use Rattle.tape_events.specs.Rows.{NoRun, StandsIn};
+ghost use Rattle.tape_world.specs.Holding.{IsEvent};
+ghost use Rattle.tape_world.specs.Calling.{Answers, SeesEnd, IsBegunWith, IsReady, Starts, IsPlaced, over_own};
+ghost use Rattle.tape_world.specs.Seen.{seen_link};
+
+use super::Ends;
+use crate::caller::{Begun, Caller};
+use crate::dumping::Dumping;
+use crate::link::{self, Link, find};
+use crate::stop::Stop;
+use dump_client::{Answer, AttemptFault, Client, ListBlocks, Progress, Run, State};
+use std::alloc::{AllocError, Global};
+
+/// A copy of the payload as blocks of the run.
+fn blocks_of(alloc: Global, run: &Run, payload: &[u8]) -> Result<ListBlocks, AllocError>
+    requires { length payload.now ≡ run.now.blocks * run.now.block_bytes }
+    ensures listed { IfOk result (λ b. b ≡ listed (cut_blocks run.now.blocks run.now.block_bytes payload.now) false 0) }
+    ensures shaped { IfOk result (λ b. IsPayload run.now b.blocks) }
+{
+    let copy = Vec::from_slice(alloc, payload)?;
+    Ok(ListBlocks::new(copy, run.block_bytes(), run.blocks()))
+}
+
+/// A run of this payload that is begun.
+fn begun_of(alloc: Global, run: &Run, payload: &[u8]) -> Result<Begun, AllocError>
+    requires { length payload.now ≡ run.now.blocks * run.now.block_bytes }
+    ensures { IfOk result (λ b. IsBegunWith run.now payload.now b) }
+{
+    Ok(Begun {
+        run: run.clone()?,
+        payload: blocks_of(alloc, run, payload)?,
+    })
+}
+
+/// A client of the run, with its payload.
+fn client_of(alloc: Global, run: &Run, payload: &[u8]) -> Result<Client<ListBlocks>, AllocError>
+    requires { length payload.now ≡ run.now.blocks * run.now.block_bytes }
+    ensures made { IfOk result (λ c. c.at ≡ standing run.now [] Ready) }
+    ensures given { IfOk result (λ c. c.source ≡ listed (cut_blocks run.now.blocks run.now.block_bytes payload.now) false 0) }
+    ensures run { IfOk result (λ _. IsRun run.now) }
+{
+    let source = blocks_of(alloc, run, payload)?;
+    let client = Client::new(alloc, run.clone()?, source)?;
+    let state = client.state();
+    prove!(matches!(state, State::Ready));
+    Ok(client)
+}
+
+/// The client, which is ready, starts an attempt. Answers what that has come to.
+///
+/// Fails where memory is refused. Nothing has changed then.
+fn start_attempt(caller: &mut Option<Caller>) -> Result<Dumping, Stop>
+    requires { IsReady caller.old }
+    ensures { Starts caller.old result caller.new }
+{
+    let Some(caller) = caller else {
+        return Err(Stop::NotPossible);
+    };
+    let (volume, first) = caller.client.checkpoint();
+    if caller.client.start().is_err() {
+        return Err(Stop::OutOfMemory);
+    }
+    Ok(Dumping::new(caller.number, volume, first))
+}
+
+/// The client, if there is one, takes the operator's answer.
+fn give_answer(caller: &mut Option<Caller>, answer: Answer)
+    ensures { Answers caller.old answer caller.new }
+{
+    if let Some(caller) = caller {
+        let _ = caller.client.answer(answer);
+    }
+}
+
+/// The client's own connection, if it has one, is over on its side.
+fn end_own(links: &mut [Link], own: Option<usize>)
+    requires { IsPlaced own (length links.old) }
+    ensures { map seen_link links.new ≡ over_own own (map seen_link links.old) }
+{
+    if let Some(own) = own {
+        link::end_there(links, own);
+    }
+}
+
+/// The client, if there is one, sees that its connection ended. Answers what that made fail.
+fn end_attempt(caller: &mut Option<Caller>) -> Option<(u32, AttemptFault)>
+    ensures { SeesEnd caller.old result caller.new }
+{
+    let Some(caller) = caller else {
+        return None;
+    };
+    match caller.client.ended() {
+        Progress::Failed(fault) => Some((caller.client.checkpoint().0, fault)),
+        _ => None,
+    }
+}
+
+impl Ends {
+    /// Whether there is a client that stands so.
+    pub(super) fn stands_in(&self, state: State) -> bool
+        ensures { (result ≡ true) ↔ StandsIn self.now (λ stage. state_of stage ≡ state) }
+    {
+        match &self.caller {
+            Some(caller) => caller.client.state() == state,
+            None => false,
+        }
+    }
+
+    /// Whether there is no run, or it is finished or abandoned.
+    fn has_no_run(&self) -> bool
+        ensures { (result ≡ true) ↔ NoRun self.now }
+    {
+        match &self.caller {
+            Some(caller) => matches!(caller.client.state(), State::Finished | State::Abandoned),
+            None => true,
+        }
+    }
+
+    /// A run of this payload is begun, and a client for it.
+    pub(crate) fn start_run(&mut self, run: &Run, payload: &[u8]) -> Result<(), Stop>
+        ensures { IsEvent self.old (StartRun run.now payload.now) result self.new }
+    {
+        let bytes = run.blocks() as usize * run.block_bytes();
+        if !self.has_no_run() || payload.len() != bytes {
+            return Err(Stop::NotPossible);
+        }
+        self.begun.reserve(1)?;
+        let begun = begun_of(self.alloc, run, payload)?;
+        let client = client_of(self.alloc, run, payload)?;
+        self.begun.push_reserved(begun);
+        self.caller = Some(Caller {
+            number: self.begun.len(),
+            client,
+        });
+        self.books.failure = None;
+        Ok(())
+    }
+
+    /// The client starts an attempt, on a new connection.
+    pub(crate) fn connect(&mut self) -> Result<(), Stop>
+        ensures { IsEvent self.old Connect result self.new }
+    {
+        if !self.stands_in(State::Ready) {
+            return Err(Stop::NotPossible);
+        }
+        self.links.reserve(1)?;
+        self.host.prepare()?;
+        let dumping = start_attempt(&mut self.caller)?;
+        self.host.admit();
+        self.links
+            .push_reserved(Link::new(self.alloc, Some(dumping)));
+        self.own = Some(self.links.len());
+        self.books.failure = None;
+        Ok(())
+    }
+
+    /// The operator answers the client, which asks after an attempt failed.
+    pub(crate) fn respond(&mut self, answer: Answer) -> Result<(), Stop>
+        ensures { IsEvent self.old (Respond answer) result self.new }
+    {
+        if !self.stands_in(State::Asking) {
+            return Err(Stop::NotPossible);
+        }
+        give_answer(&mut self.caller, answer);
+        self.books.failure = None;
+        Ok(())
+    }
+
+    /// The client forgets its run. Its own connection, if it has one, is over on its side.
+    pub(crate) fn client_restart(&mut self) -> Result<(), Stop>
+        ensures { IsEvent self.old ClientRestart result self.new }
+    {
+        if self.caller.is_none() {
+            return Err(Stop::NotPossible);
+        }
+        end_own(&mut self.links, self.own);
+        self.own = None;
+        self.caller = None;
+        self.books.failure = None;
+        Ok(())
+    }
+
+    /// The side that is not the server's sees that the connection ended.
+    pub(crate) fn end_at_client(&mut self, connection: usize) -> Result<(), Stop>
+        ensures { IsEvent self.old (EndAtClient connection) result self.new }
+    {
+        let Some(link) = find(&self.links, connection) else {
+            return Err(Stop::NotPossible);
+        };
+        if !link.other || !link.cut {
+            return Err(Stop::NotPossible);
+        }
+        let is_strangers = link.dump.is_none();
+        link::end_there(&mut self.links, connection);
+        if is_strangers {
+            self.books.failure = None;
+            return Ok(());
+        }
+        self.own = None;
+        self.books.failure = end_attempt(&mut self.caller);
+        Ok(())
+    }
+
+    /// The finished run is entered in dumpdates.
+    pub(crate) fn enter(&mut self) -> Result<(), Stop>
+        ensures { IsEvent self.old Enter result self.new }
+    {
+        let Some(caller) = &self.caller else {
+            return Err(Stop::NotPossible);
+        };
+        let Some(entry) = caller.client.finished() else {
+            return Err(Stop::NotPossible);
+        };
+        if self.books.entered.contains(&caller.number) {
+            return Err(Stop::NotPossible);
+        }
+        self.books.entered.reserve(1)?;
+        if self.dates.enter(entry).is_err() {
+            return Err(Stop::OutOfMemory);
+        }
+        self.books.entered.push_reserved(caller.number);
+        self.books.failure = None;
+        Ok(())
+    }
+}

@@ -1,0 +1,171 @@
+//! What the client hears of its server.
+ghost use Rattle.std.specs.Prelude.{◌≡◌, ◌==◌, ◌<◌, ◌≤◌, ◌++◌, length, map, option_to_list, slice_get};
+ghost use Rattle.std.specs.List.{find};
+ghost use Rattle.std.specs.Option.{option_copied};
+ghost use Rattle.std.specs.Vec.{vec_capacity, vec_len};
+ghost use Rattle.tape_events.specs.Changes.{changed, reel_of};
+ghost use Rattle.tape_events.specs.Events.PlainEvent.{ToClient};
+ghost use Rattle.tape_world.specs.Calling.{failure_of};
+ghost use Rattle.tape_world.specs.Hearing.{HasHeard, IsAttempting, count_in, heard_on, is_over, own_after};
+ghost use Rattle.tape_world.specs.Holding.{IsEvent};
+ghost use Rattle.tape_world.specs.Seen.{name_at, names_in, seen_link, seen_opening};
+
+use super::Ends;
+use crate::books::{Books, Count, Opening};
+use crate::caller::Caller;
+use crate::link::{self, Link, find};
+use crate::stop::Stop;
+use dump_client::{AttemptFault, Client, ListBlocks, Progress, State, VolumeCount};
+
+/// What came of bytes that the client heard.
+#[derive(Clone, Copy)]
+struct Heard {
+    /// The number of its run.
+    run: usize,
+    /// The volume that was counted, if one was.
+    count: Option<VolumeCount>,
+    /// Whether the attempt is over.
+    is_over: bool,
+    /// What failed: the volume, and why.
+    failure: Option<(u32, AttemptFault)>,
+}
+
+/// Whether the attempt is over.
+fn is_over(progress: Progress) -> bool
+    ensures { result ≡ is_over progress }
+{
+    matches!(progress, Progress::Failed(_) | Progress::Ended)
+}
+
+/// What made the attempt fail: the volume, and why.
+fn failure_of(client: &Client<ListBlocks>, progress: Progress) -> Option<(u32, AttemptFault)>
+    ensures { result ≡ failure_of client.now.at progress }
+{
+    match progress {
+        Progress::Failed(fault) => Some((client.checkpoint().0, fault)),
+        _ => None,
+    }
+}
+
+/// The count at this place.
+fn count_at(counts: &[VolumeCount], place: usize) -> Option<VolumeCount>
+    ensures { result ≡ slice_get counts.now place }
+{
+    counts.get(place).copied()
+}
+
+/// The client, which is in an attempt, hears these bytes.
+fn hear(caller: &mut Option<Caller>, piece: &[u8]) -> Heard
+    requires { IsAttempting caller.old }
+    ensures { HasHeard caller.old piece.now result caller.new }
+{
+    let Some(caller) = caller else {
+        return Heard {
+            run: 0,
+            count: None,
+            is_over: false,
+            failure: None,
+        };
+    };
+    let state = caller.client.state();
+    prove!(matches!(state, State::ToSend | State::Waiting));
+    let before = caller.client.counted().len();
+    let progress = caller.client.feed(piece);
+    Heard {
+        run: caller.number,
+        count: count_at(caller.client.counted(), before),
+        is_over: is_over(progress),
+        failure: failure_of(&caller.client, progress),
+    }
+}
+
+/// The first opening of the connection, if it made one.
+fn first_opening(opens: &[Opening], connection: usize) -> Option<&Opening>
+    ensures { option_copied result ≡ find (λ o. o.connection == connection) opens.now }
+{
+    opens
+        .iter()
+        .find(|opening| opening.connection == connection)
+}
+
+/// The place of the name of the reel that the connection opened first, or past all names where it opened none.
+fn reel_of(books: &Books, connection: usize) -> usize
+    ensures { name_at (names_in books.now) result
+        ≡ reel_of connection (map (seen_opening (names_in books.now)) books.now.opens.items) }
+{
+    let Some(opening) = first_opening(&books.opens, connection) else {
+        return books.names.len();
+    };
+    opening.reel
+}
+
+/// The volume that was counted, if one was, is kept, with its connection and the place of its reel's name.
+fn keep(counts: &mut Vec<Count>, heard: &Heard, reel: usize, connection: usize)
+    requires { vec_len counts.old < vec_capacity counts.old }
+    ensures { counts.new.items ≡ counts.old.items ++ map (count_in heard.now.run reel connection) (option_to_list heard.now.count) }
+{
+    if let Some(volume) = heard.count {
+        counts.push_reserved(Count {
+            run: heard.run,
+            volume: volume.volume,
+            first: volume.first,
+            count: volume.count,
+            reel,
+            connection,
+        });
+    }
+}
+
+/// So many bytes arrived on the client's connection. Where the attempt is over, so is the connection on its side.
+fn settle(
+    links: &mut [Link],
+    own: &mut Option<usize>,
+    connection: usize,
+    count: usize,
+    is_over: bool,
+)
+    requires first { 1 ≤ connection }
+    requires last { connection ≤ length links.old }
+    ensures links { map seen_link links.new ≡ changed (heard_on is_over count) (map seen_link links.old) connection }
+    ensures own { own.new ≡ own_after is_over own.old }
+{
+    if !is_over {
+        link::come_back(links, connection, count);
+        return;
+    }
+    link::end_there(links, connection);
+    *own = None;
+}
+
+impl Ends {
+    /// So many of the bytes on the way reach the other side.
+    pub(crate) fn to_client(&mut self, connection: usize, count: usize) -> Result<(), Stop>
+        ensures { IsEvent self.old (ToClient connection count) result self.new }
+    {
+        let Some(link) = find(&self.links, connection) else {
+            return Err(Stop::NotPossible);
+        };
+        let way = link.back.bytes();
+        if !link.other || count == 0 || way.len() < count {
+            return Err(Stop::NotPossible);
+        }
+        if link.dump.is_none() {
+            link::come_back(&mut self.links, connection, count);
+            self.books.failure = None;
+            return Ok(());
+        }
+        self.books.counts.reserve(1)?;
+        let reel = reel_of(&self.books, connection);
+        let heard = hear(&mut self.caller, &way[..count]);
+        keep(&mut self.books.counts, &heard, reel, connection);
+        settle(
+            &mut self.links,
+            &mut self.own,
+            connection,
+            count,
+            heard.is_over,
+        );
+        self.books.failure = heard.failure;
+        Ok(())
+    }
+}

@@ -1,0 +1,157 @@
+//! What the server does with what reached it.
+ghost use Rattle.std.specs.Prelude.{◌≡◌, ◌≤◌, ◌<◌, ◌++◌, List, ℕ, IfOk, OnErr, Some, length, map, option_map, vec_len, vec_capacity};
+ghost use Rattle.std.specs.List.{position, position_or_len};
+ghost use Rattle.std.specs.Option.{option_copied, option_to_list};
+ghost use Rattle.std.specs.Str.{bytes_eq};
+ghost use Rattle.drives.specs.ListShop.{rest_slot};
+ghost use Rattle.tape_host.specs.Halls.{side_at};
+ghost use Rattle.tape_events.specs.Changes.{changed, first_name, opening};
+ghost use Rattle.tape_events.specs.Events.PlainEvent.{Serve};
+ghost use Rattle.tape_world.specs.Holding.{IsEvent};
+ghost use Rattle.tape_world.specs.Seen.{seen_link, seen_opening};
+ghost use Rattle.tape_world.specs.Serving.{IsKnown, IsOnlineIn, IsOpenedIn, Serves, name_online_at, opened_in};
+
+use super::Ends;
+use crate::books::Opening;
+use crate::link::{Link, find};
+use crate::stop::Stop;
+use drives::ListedReel;
+use rmt_wire::READER_LIMIT;
+use std::alloc::AllocError;
+use tape::Trouble;
+use tape_host::{Asked, Host, Turn};
+
+/// The server's side of a connection takes one turn, and what came of it is noted.
+///
+/// Fails where memory is refused. Nothing has changed then.
+fn take_turn(
+    host: &mut Host,
+    link: &mut Link,
+    connection: usize,
+    trouble: Trouble,
+) -> Result<Turn, AllocError>
+    ensures taken { IfOk result (λ turn. Serves trouble host.old connection turn host.new
+        (λ f. seen_link link.new ≡ f (seen_link link.old))) }
+    ensures refused { OnErr result ((seen_link link.new ≡ seen_link link.old) × (host.new ≡ host.old)) }
+{
+    link.back.reserve(READER_LIMIT)?;
+    let turn = link.back.take_reply(host, connection, trouble, link.cut);
+    link.note_turn(turn);
+    Ok(turn)
+}
+
+/// The same, for the connection of this number, which is there.
+fn take_turn_at(
+    host: &mut Host,
+    links: &mut [Link],
+    connection: usize,
+    trouble: Trouble,
+) -> Result<Turn, AllocError>
+    requires first { 1 ≤ connection }
+    requires last { connection ≤ length links.old }
+    ensures taken { IfOk result (λ turn. Serves trouble host.old connection turn host.new
+        (λ f. map seen_link links.new ≡ changed f (map seen_link links.old) connection)) }
+    ensures refused { OnErr result ((map seen_link links.new ≡ map seen_link links.old) × (host.new ≡ host.old)) }
+{
+    take_turn(host, &mut links[connection - 1], connection, trouble)
+}
+
+/// The name of the first reel of a stack.
+fn name_of_first(stack: &[ListedReel]) -> &[u8]
+    ensures { result.now ≡ first_name (map rest_slot stack.now) }
+{
+    match stack.first() {
+        Some(reel) => reel.name(),
+        None => &[],
+    }
+}
+
+/// The name of the reel that a connection has online, if it has one.
+fn name_online(host: &Host, connection: usize) -> Option<&[u8]>
+    requires { IsOnlineIn host.now.hall connection }
+    ensures { option_copied result ≡ name_online_at host.now.hall.shop (side_at host.now.hall.sides connection) }
+{
+    let session = host.session(connection)?;
+    let (drive, _) = session.reel()?;
+    Some(name_of_first(host.stack(drive)))
+}
+
+/// The name of the reel that a turn of a connection opened for writing, if it did.
+fn name_opened(host: &Host, connection: usize, turn: Turn) -> Option<&[u8]>
+    requires { IsOpenedIn host.now.hall connection turn }
+    ensures { option_copied result ≡ opened_in host.now.hall connection turn }
+{
+    let Turn::Carried(carried) = turn else {
+        return None;
+    };
+    let Asked::Open { writes: true } = carried.asked else {
+        return None;
+    };
+    name_online(host, connection)
+}
+
+/// The first place of a name among these.
+fn find_name(names: &[Vec<u8>], name: &[u8]) -> Option<usize>
+    ensures { result ≡ position (λ n. bytes_eq name.now n.items) names.now }
+{
+    names.iter().position(|other| name == other.as_slice())
+}
+
+/// The first place of a name among these, or the place past the end.
+fn place_of(names: &[Vec<u8>], name: &[u8]) -> usize
+    ensures { result ≡ position_or_len (λ n. bytes_eq name.now n.items) names.now }
+{
+    match find_name(names, name) {
+        Some(place) => place,
+        None => names.len(),
+    }
+}
+
+/// Where a turn of a connection opened a reel for writing, that is listed by the place of the reel's name.
+fn note_opening(
+    opens: &mut Vec<Opening>,
+    names: &[Vec<u8>],
+    host: &Host,
+    connection: usize,
+    turn: Turn,
+)
+    requires room { vec_len opens.old < vec_capacity opens.old }
+    requires there { IsOpenedIn host.now.hall connection turn }
+    requires known { (name : List ℕ) → opened_in host.now.hall connection turn ≡ Some name
+        → IsKnown (map (λ n. n.items) names.now) name }
+    ensures { map (seen_opening (map (λ n. n.items) names.now)) opens.new.items
+        ≡ map (seen_opening (map (λ n. n.items) names.now)) opens.old.items
+        ++ option_to_list (option_map (opening connection) (opened_in host.now.hall connection turn)) }
+{
+    let Some(name) = name_opened(host, connection, turn) else {
+        return;
+    };
+    let reel = place_of(names, name);
+    opens.push_reserved(Opening { connection, reel });
+}
+
+impl Ends {
+    /// The server carries out one request that reached it, whose device call fails so, or finds that what reached it is
+    /// none.
+    pub(crate) fn serve(&mut self, connection: usize, trouble: Trouble) -> Result<(), Stop>
+        ensures { IsEvent self.old (Serve connection trouble) result self.new }
+    {
+        if find(&self.links, connection).is_none() {
+            return Err(Stop::NotPossible);
+        }
+        self.books.opens.reserve(1)?;
+        let turn = take_turn_at(&mut self.host, &mut self.links, connection, trouble)?;
+        if let Turn::Nothing = turn {
+            return Err(Stop::NotPossible);
+        }
+        note_opening(
+            &mut self.books.opens,
+            &self.books.names,
+            &self.host,
+            connection,
+            turn,
+        );
+        self.books.failure = None;
+        Ok(())
+    }
+}

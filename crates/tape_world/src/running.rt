@@ -1,0 +1,37 @@
+//! Events, one after the other.
+ghost use Rattle.std.specs.Prelude.{◌≡◌, OnOk, IfErr, map};
+ghost use Rattle.tape_events.specs.Steps.{Runs};
+ghost use Rattle.tape_world.specs.Holding.{IsEvent};
+ghost use Rattle.tape_world.specs.Running.{plain_event, place_of, fault_at, IsStopped, IsRefused};
+
+use crate::event::Event;
+use crate::fault::WorldFault;
+use crate::stop::Stop;
+use crate::world::World;
+
+/// Makes these events, one after the other. Each makes its growths in memory first.
+///
+/// Stops at the first event that is not possible where it comes, or for which memory is refused. The world stands then as
+/// after the events before it.
+pub fn run(world: &mut World, events: &[Event<'_>]) -> Result<(), WorldFault>
+    ensures made { OnOk result (Runs world.old (map plain_event events.now) world.new) }
+    ensures stopped { IfErr result (λ fault. IsStopped world.old (map plain_event events.now) (place_of fault) world.new) }
+    ensures impossible { IfErr result (λ fault. IsRefused (map plain_event events.now) world.new fault) }
+{
+    for (i, event) in events.iter().enumerate() {
+        if let Err(stop) = world.make(event) {
+            return Err(fault_of(stop, i));
+        }
+    }
+    Ok(())
+}
+
+/// The fault that this stop is, at the event of this place.
+fn fault_of(stop: Stop, place: usize) -> WorldFault
+    ensures { result ≡ fault_at stop place }
+{
+    match stop {
+        Stop::NotPossible => WorldFault::NotPossible(place),
+        Stop::OutOfMemory => WorldFault::OutOfMemory(place),
+    }
+}

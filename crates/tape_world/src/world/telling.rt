@@ -1,0 +1,99 @@
+//! What a world tells.
+ghost use Rattle.std.specs.Prelude.{◌≡◌, ℕ, List, Option, Some, false, map, slice_get, IfSome};
+ghost use Rattle.std.specs.Option.{option_copied, option_map};
+ghost use Rattle.drives.specs.Shop.{IsDriveNamed, rack_at};
+ghost use Rattle.drives.specs.ListShop.{rest_slot};
+ghost use Rattle.dump_run.specs.Blocks.{listed};
+ghost use Rattle.rmt_server.specs.Memory.{session_seen};
+ghost use Rattle.tape_events.specs.World.{Caller, Begun, numbered};
+ghost use Rattle.tape_events.specs.Changes.{side_of};
+ghost use Rattle.tape_world.specs.Telling.{client_told, caller_told, TellsStack, TellsWay, TellsPayload};
+
+use super::World;
+use crate::counts::Counts;
+use crate::link::find;
+use drives::{ListStacks, ListedReel, LocalHolds};
+use dump_client::{AttemptFault, Client, ListBlocks};
+use dumpdates::Dates;
+use rmt_server::Session;
+
+impl World {
+    /// All volumes that were counted, in order.
+    pub fn counts(&self) -> Counts<'_>
+        ensures { result ≡ self.now.counts }
+    {
+        Counts {
+            names: &self.ends.books.names,
+            counts: &self.ends.books.counts,
+        }
+    }
+
+    /// The entries of dumpdates.
+    pub fn dates(&self) -> &Dates
+        ensures { result.now ≡ self.now.dates }
+    {
+        &self.ends.dates
+    }
+
+    /// The volume that the last event made fail, and why. None where it made none fail.
+    pub fn failure(&self) -> Option<(u32, AttemptFault)>
+        ensures { result ≡ self.now.failure }
+    {
+        self.ends.books.failure
+    }
+
+    /// The connection of the client's attempt, while that is under way.
+    pub fn own(&self) -> Option<usize>
+        ensures { result ≡ self.now.own }
+    {
+        self.ends.own
+    }
+
+    /// The client, while there is one.
+    pub fn client(&self) -> Option<&Client<ListBlocks>>
+        ensures told { option_map client_told (option_copied result) ≡ option_map caller_told self.now.caller }
+        ensures payload { IfSome (option_copied result) (λ client. TellsPayload self.now client.source) }
+    {
+        let caller = self.ends.caller.as_ref()?;
+        Some(&caller.client)
+    }
+
+    /// The session of a connection, while the server's side is live.
+    pub fn session(&self, connection: usize) -> Option<&Session<LocalHolds, ListStacks>>
+        ensures seen { option_map (λ s. session_seen s.opened) (option_copied result)
+            ≡ option_map (λ s. s.session) (side_of self.now.hall connection) }
+        ensures number { IfSome (option_copied result) (λ s. s.seat.number ≡ connection) }
+    {
+        self.ends.host.session(connection)
+    }
+
+    /// How many of the bytes on the way can reach the server now, and how many the other side. None where there is no such
+    /// connection.
+    pub fn on_way(&self, connection: usize) -> Option<(usize, usize)>
+        ensures { TellsWay self.now connection result }
+    {
+        let link = find(&self.ends.links, connection)?;
+        let room = self.ends.host.room(connection).unwrap_or(0);
+        let toward = link.toward.bytes().len().min(room);
+        if !link.other {
+            return Some((toward, 0));
+        }
+        Some((toward, link.back.bytes().len()))
+    }
+
+    /// The reels of the first drive of that name, in their order on its stack: the first is latched, or would be next. None
+    /// where there is no such drive.
+    pub fn stack(&self, drive: &[u8]) -> Option<&[ListedReel]>
+        ensures { TellsStack drive.now self.now.hall.shop (option_map (map rest_slot) (option_copied result)) }
+    {
+        let drive = self.ends.host.drive(drive)?;
+        Some(self.ends.host.stack(drive))
+    }
+
+    /// The reels of the bin, in the order in which they were moved there.
+    pub fn bin(&self) -> &[ListedReel]
+        ensures { map rest_slot result.now ≡ self.now.hall.shop.bin }
+    {
+        self.ends.host.bin()
+    }
+}
