@@ -8,8 +8,6 @@ mod listing;
 mod look;
 mod moving;
 mod rack;
-#[cfg(test)]
-mod tests;
 
 use crate::{DriveFault, Stacks};
 use look::look_at;

@@ -16,8 +16,6 @@ mod rack;
 mod stacks;
 mod table;
 mod taken;
-#[cfg(test)]
-mod tests;
 mod view;
 
 pub use fault::DriveFault;

@@ -3,9 +3,6 @@ ghost use Rattle.drives.specs.declared.view.View.{View};
 ghost use Rattle.drives.specs.Holding.{newcomer, moved, last_step, HoldsJust};
 ghost use Rattle.drives.specs.Local.{holders, IsSeated, IsSeatOf, IsHeldBy};
 
-#[cfg(test)]
-mod tests;
-
 use crate::{Holds, LastStep, StepKind, Taken, View};
 use std::alloc::{AllocError, Global};
 use std::marker::Model;

@@ -1,6 +1,3 @@
-#[cfg(test)]
-mod tests;
-
 use crate::MediumFailed;
 use std::alloc::AllocError;
 use thiserror::Error;

@@ -4,8 +4,6 @@ ghost use Rattle.tape.specs.Medium.{IsMediumCall};
 ghost use Rattle.tape.specs.Medium.MediumCall.{Len, ReadAt, Append, Cut};
 ghost use Rattle.tape.specs.Media.{file_kind};
 
-#[cfg(test)]
-mod tests;
 mod window;
 
 use crate::{Medium, MediumFailed};

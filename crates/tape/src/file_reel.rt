@@ -9,8 +9,6 @@ ghost use Rattle.tape.specs.FileSteps.{IsReelRun, Puts, files_request, records_r
 ghost use Rattle.tape.specs.declared.fault.TapeFault.TheVariants.{Device, OutOfMemory};
 
 mod image;
-#[cfg(test)]
-mod tests;
 mod walk;
 
 use crate::entry::{MARK_SIZE, RECORD_FRAME};

@@ -4,8 +4,6 @@
 //! its entries in memory, and `TroubledReel` is such a reel whose next device call can be told to fail.
 #![tactic(auto)]
 
-#[cfg(test)]
-mod compared;
 mod entry;
 mod fault;
 mod file_medium;
@@ -13,15 +11,11 @@ mod file_reel;
 mod laws;
 mod list;
 mod medium;
-#[cfg(test)]
-mod medium_calls;
 mod memory_medium;
 mod op;
 mod record;
 mod reel;
 mod scan;
-#[cfg(test)]
-mod slow;
 mod trouble;
 mod troubled;
 

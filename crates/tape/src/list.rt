@@ -9,8 +9,6 @@ ghost use Rattle.tape.specs.Trouble.{DeviceStep};
 ghost use Rattle.tape.specs.declared.fault.TapeFault.TheVariants.{Device};
 
 mod device;
-#[cfg(test)]
-mod tests;
 
 use crate::entry::{MARK_SIZE, RECORD_FRAME};
 use crate::scan::nth_entry;

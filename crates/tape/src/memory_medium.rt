@@ -4,9 +4,6 @@ ghost use Rattle.tape.specs.Medium.{IsMediumCall, IsReadAt};
 ghost use Rattle.tape.specs.Medium.MediumCall.{Len, ReadAt, Append, Cut};
 ghost use Rattle.tape.specs.Media.{IsMemory, memory_kind};
 
-#[cfg(test)]
-mod tests;
-
 use crate::{Medium, MediumFailed};
 use std::alloc::{AllocError, Global};
 use std::marker::Model;

@@ -1,9 +1,6 @@
 ghost use Rattle.std.specs.Prelude.{◌≡◌, ◌↔◌, IsTrue};
 ghost use Rattle.tape.specs.Tape.{IsRecord, record_limit};
 
-#[cfg(test)]
-mod tests;
-
 /// The greatest length of a record, in bytes.
 pub const RECORD_LIMIT: usize = 65536;
 

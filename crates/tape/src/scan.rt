@@ -5,9 +5,6 @@ ghost use Rattle.tape.specs.List.{plain_of, plain_entries, bytes_of};
 ghost use Rattle.tape.specs.RecordFile.{IsTail, SpellsReel, entries_in, length_bytes};
 ghost use Rattle.tape.specs.Scan.{IsFirst, IsNth};
 
-#[cfg(test)]
-mod tests;
-
 use crate::{Entry, RECORD_LIMIT};
 use std::alloc::{AllocError, Global};
 

@@ -10,9 +10,6 @@ ghost use Rattle.tape.specs.Trouble.{IsTapeOf, IsTroubledCall, TroubledStep};
 ghost use Rattle.tape.specs.declared.fault.TapeFault.TheVariants.{Device};
 ghost use Rattle.tape.specs.declared.trouble.Trouble.TheVariants.{None};
 
-#[cfg(test)]
-mod tests;
-
 use crate::{ListReel, MTBSR, MTWEOF, Reel, TapeFault, Trouble};
 use std::marker::Model;
 

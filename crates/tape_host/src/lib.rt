@@ -8,8 +8,6 @@
 mod host;
 mod serving;
 mod side;
-#[cfg(test)]
-mod tests;
 mod turn;
 
 pub use host::Host;

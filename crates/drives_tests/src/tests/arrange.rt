@@ -1,0 +1,176 @@
+//! An operator's order of a stack, against plain lists, and reels by their names.
+
+ghost use Rattle.std.specs.Prelude.{◌≡◌, ◌<◌, IfOk, length};
+
+use super::reels::are;
+use super::slow_shop::SlowShop;
+use drives::{ListStacks, ListedReel, Stacks, told_orders};
+use std::alloc::Global;
+use std::test::Fail;
+use tape::Reel;
+
+/// Two drives: the first with the reels a and b, the second with c. The bin has d and e, on each of which its own
+/// letter is written.
+fn five_reels(alloc: Global) -> Result<ListStacks, Fail>
+    ensures { IfOk result (λ stacks. length stacks.shop.racks ≡ 2) }
+{
+    let mut stacks = ListStacks::new(alloc);
+    stacks.add_drive(b"/dev/st0")?;
+    stacks.add_drive(b"/dev/st1")?;
+    stacks.add_reel(0, b"d", 100)?;
+    stacks.add_reel(0, b"e", 100)?;
+    stacks.add_reel(0, b"a", 100)?;
+    stacks.add_reel(0, b"b", 100)?;
+    stacks.add_reel(1, b"c", 100)?;
+    move_first(&mut stacks, b"d")?;
+    move_first(&mut stacks, b"e")?;
+    Ok(stacks)
+}
+
+/// Writes the letter on the first reel of the first drive, and moves it to the bin.
+fn move_first(stacks: &mut ListStacks, letter: &[u8; 1]) -> Result<(), Fail>
+    requires { length stacks.old.shop.racks ≡ 2 }
+    ensures { length stacks.new.shop.racks ≡ 2 }
+{
+    let mut reel = stacks.latch(0)?;
+    reel.write(letter)?;
+    match stacks.offline(0, reel) {
+        Ok(()) => Ok(()),
+        Err(_) => Err(Fail::new("not moved")),
+    }
+}
+
+/// Whether these are reels of these names of one letter, in order, all of them there.
+fn all_are(reels: &[ListedReel], names: &[u8]) -> bool {
+    are(reels, names) && reels.iter().all(|reel| reel.reel().is_some())
+}
+
+/// Whether all reels are there, and the drives and the bin have these, in order.
+fn all_lie(stacks: &ListStacks, first: &[u8], second: &[u8], bin: &[u8]) -> bool
+    requires { length stacks.now.shop.racks ≡ 2 }
+{
+    all_are(stacks.stack(0), first)
+        && all_are(stacks.stack(1), second)
+        && all_are(stacks.bin(), bin)
+}
+
+/// Whether a reel of that letter is found where the plain ones say that it lies there, with what is written on it.
+fn is_found(stacks: &ListStacks, slow: &SlowShop, letter: u8) -> bool {
+    let Some(reel) = stacks.reel(&[letter]) else {
+        return !slow.lies(letter);
+    };
+    let mut into = [0];
+    let entry = reel.entry(0, &mut into);
+    let is_kept = match letter {
+        b'd' | b'e' => entry == Some(1) && into == [letter],
+        _ => entry.is_none(),
+    };
+    is_kept && slow.lies(letter)
+}
+
+/// Up to four letters from a to f, by the digits of a number in base 7, of which 0 is no letter.
+fn letters_of(alloc: Global, number: u32) -> Result<Vec<u8>, Fail> {
+    let mut letters = Vec::new(alloc);
+    let mut rest = number;
+    for _ in 0..4 {
+        match rest % 7 {
+            0 => (),
+            digit => letters.push(b"abcdef"[digit as usize - 1])?,
+        }
+        rest /= 7;
+    }
+    Ok(letters)
+}
+
+/// Whether both have the same reels.
+fn are_alike(stacks: &ListStacks, slow: &SlowShop) -> bool
+    requires { length stacks.now.shop.racks ≡ 2 }
+{
+    all_lie(stacks, &slow.first.names, &slow.second.names, &slow.bin)
+        && b"abcdef"
+            .iter()
+            .all(|letter| is_found(stacks, slow, *letter))
+}
+
+/// Has the stacks and the plain ones arranged by these letters, at the first drive, where the plain ones say that it
+/// can be. Afterwards both have to have the same reels.
+fn arrange_both(
+    stacks: &mut ListStacks,
+    slow: &mut SlowShop,
+    names: &[&[u8]],
+    letters: &[u8],
+) -> Result<(), Fail>
+    requires { length stacks.old.shop.racks ≡ 2 }
+{
+    if stacks.can_arrange(0, names) != slow.can_arrange(letters) {
+        return Err(Fail::new("another answer"));
+    }
+    if stacks.can_arrange(0, names) {
+        stacks.arrange(0, names)?;
+        slow.arrange(letters)?;
+    }
+    if !are_alike(stacks, slow) {
+        return Err(Fail::new("other reels"));
+    }
+    Ok(())
+}
+
+/// Compares what comes of these letters.
+fn check(alloc: Global, letters: &[u8]) -> Result<(), Fail> {
+    let mut stacks = five_reels(alloc)?;
+    let mut slow = SlowShop::new(alloc, b"ab", b"c")?;
+    slow.bin.extend_from_slice(b"de")?;
+    let mut names = Vec::new(alloc);
+    for letter in letters {
+        names.push(std::slice::from_ref(letter))?;
+    }
+    arrange_both(&mut stacks, &mut slow, &names, letters)
+}
+
+#[test]
+fn every_short_order_leaves_what_plain_lists_say(rt: HostRuntime) -> Result<(), Fail> {
+    for number in 0..2401 {
+        let letters = letters_of(rt.alloc(), number)?;
+        check(rt.alloc(), &letters)?;
+    }
+    Ok(())
+}
+
+#[test]
+fn a_stack_becomes_the_reels_that_are_named(rt: HostRuntime) -> Result<(), Fail> {
+    told_orders();
+    let mut stacks = five_reels(rt.alloc())?;
+    let names = [b"e".as_slice(), b"b".as_slice()];
+    assert!(rt; stacks.can_arrange(0, &names));
+    if stacks.can_arrange(0, &names) {
+        stacks.arrange(0, &names)?;
+    }
+    assert!(rt; all_lie(&stacks, b"eb", b"c", b"da"));
+    Ok(())
+}
+
+/// Names, and whether a reel of that name is found.
+const FOUND: [(&[u8], bool); 4] = [(b"a", true), (b"c", true), (b"d", true), (b"f", false)];
+
+#[test]
+fn a_reel_is_found_wherever_it_lies(rt: HostRuntime) -> Result<(), Fail> {
+    let stacks = five_reels(rt.alloc())?;
+    for (name, wanted) in FOUND {
+        assert!(rt; stacks.reel(name).is_some() == wanted, "{name:?}");
+    }
+    Ok(())
+}
+
+#[test]
+fn while_a_reel_is_latched_it_is_not_found_and_its_stack_not_arranged(
+    rt: HostRuntime,
+) -> Result<(), Fail> {
+    let mut stacks = five_reels(rt.alloc())?;
+    let mut reel = stacks.latch(0)?;
+    let away = stacks.reel(b"a").is_none();
+    let fixed = !stacks.can_arrange(0, &[]) && stacks.can_arrange(1, &[]);
+    reel.write(b"abc")?;
+    stacks.unlatch(0, reel);
+    assert!(rt; away && fixed && stacks.reel(b"a").is_some());
+    Ok(())
+}

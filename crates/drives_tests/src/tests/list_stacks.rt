@@ -1,0 +1,163 @@
+//! Drives, stacks and bin in memory: order, names, troubles.
+
+ghost use Rattle.std.specs.Prelude.{◌≡◌, ◌<◌, length};
+
+use super::reels::{are, lie, move_first, two_drives};
+use drives::{DriveFault, ListStacks, Stacks, lying_troubles};
+use std::test::Fail;
+use tape::Reel;
+
+/// Names of drives that are added, and what each addition answers.
+const ADDED: [(&[u8], Result<usize, DriveFault>); 4] = [
+    (b"/dev/st0", Ok(0)),
+    (b"/dev/st1", Ok(1)),
+    (b"/dev/st0", Err(DriveFault::NameTaken)),
+    (b"/dev/st2", Ok(2)),
+];
+
+/// Names, and the numbers of the drives that have them then.
+const FOUND: [(&[u8], Option<usize>); 4] = [
+    (b"/dev/st0", Some(0)),
+    (b"/dev/st1", Some(1)),
+    (b"/dev/st2", Some(2)),
+    (b"/dev/st", None),
+];
+
+#[test]
+fn drives_are_numbered_in_order(rt: HostRuntime) -> Result<(), Fail> {
+    let mut stacks = ListStacks::new(rt.alloc());
+    assert!(rt; stacks.drive(b"/dev/st0").is_none());
+    for (name, wanted) in ADDED {
+        assert!(rt; stacks.add_drive(name) == wanted, "adding {name:?}");
+    }
+    for (name, wanted) in FOUND {
+        assert!(rt; stacks.drive(name) == wanted, "finding {name:?}");
+    }
+    Ok(())
+}
+
+#[test]
+fn reels_are_added_at_the_end(rt: HostRuntime) -> Result<(), Fail> {
+    let stacks = two_drives(rt.alloc())?;
+    let all_lie = stacks.stack(0).iter().all(|reel| reel.reel().is_some());
+    assert!(rt; all_lie && lie(&stacks, b"ab", b"c", b""));
+    Ok(())
+}
+
+#[test]
+fn a_reel_goes_round(rt: HostRuntime) -> Result<(), Fail> {
+    lying_troubles();
+    let mut stacks = two_drives(rt.alloc())?;
+    let mut reel = stacks.latch(0)?;
+    reel.write(b"abc")?;
+    stacks.unlatch(0, reel);
+    let mut again = stacks.latch(0)?;
+    let mut into = [0; 5];
+    let given = again.read(&mut into)?;
+    let moved = stacks.offline(0, again).is_ok();
+    assert!(rt; given == 3 && into == *b"abc\0\0");
+    assert!(rt; moved && stacks.failures() == 0);
+    Ok(())
+}
+
+#[test]
+fn a_latched_reel_stays_first(rt: HostRuntime) -> Result<(), Fail> {
+    let mut stacks = two_drives(rt.alloc())?;
+    let reel = stacks.latch(0)?;
+    let stack = stacks.stack(0);
+    let first_is_away = stack.first().is_some_and(|first| first.reel().is_none());
+    let last_lies = stack.last().is_some_and(|last| last.reel().is_some());
+    assert!(rt; first_is_away && last_lies && lie(&stacks, b"ab", b"c", b""));
+    stacks.unlatch(0, reel);
+    let all_lie = stacks.stack(0).iter().all(|reel| reel.reel().is_some());
+    assert!(rt; all_lie && are(stacks.stack(0), b"ab"));
+    Ok(())
+}
+
+#[test]
+fn one_reel_of_a_drive_is_latched(rt: HostRuntime) -> Result<(), Fail> {
+    let mut stacks = two_drives(rt.alloc())?;
+    let first = stacks.latch(0).is_ok();
+    let again = matches!(stacks.latch(0), Err(DriveFault::NoReel));
+    let other = stacks.latch(1).is_ok();
+    assert!(rt; first && again && other && stacks.failures() == 0);
+    Ok(())
+}
+
+#[test]
+fn reels_are_moved_to_the_end_of_the_bin(rt: HostRuntime) -> Result<(), Fail> {
+    let mut stacks = two_drives(rt.alloc())?;
+    move_first(&mut stacks, 0)?;
+    assert!(rt; lie(&stacks, b"b", b"c", b"a"));
+    move_first(&mut stacks, 1)?;
+    move_first(&mut stacks, 0)?;
+    assert!(rt; lie(&stacks, b"", b"", b"acb"));
+    assert!(rt; matches!(stacks.latch(0), Err(DriveFault::NoReel)));
+    Ok(())
+}
+
+/// Whether no reel of that name is added, since the name is taken.
+fn refuses(stacks: &mut ListStacks, drive: usize, name: &[u8]) -> bool
+    requires { drive < length stacks.old.shop.racks }
+    ensures { length stacks.new.shop.racks ≡ length stacks.old.shop.racks }
+{
+    matches!(stacks.add_reel(drive, name, 5), Err(DriveFault::NameTaken))
+}
+
+#[test]
+fn a_reel_name_is_taken_on_each_stack(rt: HostRuntime) -> Result<(), Fail> {
+    let mut stacks = two_drives(rt.alloc())?;
+    let taken = refuses(&mut stacks, 0, b"a") && refuses(&mut stacks, 1, b"b");
+    let reel = stacks.latch(0)?;
+    assert!(rt; taken && refuses(&mut stacks, 1, b"a"));
+    drop(reel);
+    Ok(())
+}
+
+#[test]
+fn a_reel_name_is_taken_in_the_bin(rt: HostRuntime) -> Result<(), Fail> {
+    let mut stacks = two_drives(rt.alloc())?;
+    move_first(&mut stacks, 0)?;
+    assert!(rt; refuses(&mut stacks, 1, b"a") && are(stacks.stack(1), b"c"));
+    stacks.add_reel(1, b"d", 5)?;
+    assert!(rt; are(stacks.stack(1), b"cd"));
+    Ok(())
+}
+
+#[test]
+fn a_trouble_meets_one_latch(rt: HostRuntime) -> Result<(), Fail> {
+    let mut stacks = two_drives(rt.alloc())?;
+    stacks.trouble(true);
+    let failed = matches!(stacks.latch(0), Err(DriveFault::Device)) && stacks.failures() == 1;
+    let latched = stacks.latch(0).is_ok() && stacks.failures() == 1;
+    stacks.trouble(true);
+    stacks.trouble(false);
+    assert!(rt; failed && latched && stacks.latch(1).is_ok());
+    Ok(())
+}
+
+#[test]
+fn a_trouble_meets_one_move(rt: HostRuntime) -> Result<(), Fail> {
+    let mut stacks = two_drives(rt.alloc())?;
+    let reel = stacks.latch(0)?;
+    stacks.trouble(true);
+    let Err((reel, DriveFault::Device)) = stacks.offline(0, reel) else {
+        return Err(Fail::new("moved"));
+    };
+    assert!(rt; stacks.failures() == 1 && are(stacks.stack(0), b"ab"));
+    let moved = stacks.offline(0, reel).is_ok();
+    assert!(rt; moved && stacks.failures() == 1 && are(stacks.bin(), b"a"));
+    Ok(())
+}
+
+#[test]
+fn a_trouble_waits_for_a_reel(rt: HostRuntime) -> Result<(), Fail> {
+    let mut stacks = two_drives(rt.alloc())?;
+    let reel = stacks.latch(1)?;
+    stacks.trouble(true);
+    let none = matches!(stacks.latch(1), Err(DriveFault::NoReel)) && stacks.failures() == 0;
+    let failed = matches!(stacks.latch(0), Err(DriveFault::Device)) && stacks.failures() == 1;
+    assert!(rt; none && failed);
+    drop(reel);
+    Ok(())
+}

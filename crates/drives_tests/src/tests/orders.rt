@@ -1,0 +1,89 @@
+//! Every short list of rounds at two drives, and what lies where after each, against plain lists.
+
+ghost use Rattle.std.specs.Prelude.{◌≡◌, ◌<◌, length};
+
+use super::reels::{are, two_drives};
+use super::slow_shop::{Round, SlowDrive, SlowShop};
+use drives::{DriveFault, ListStacks, ListedReel, Stacks};
+use std::alloc::Global;
+use std::test::Fail;
+
+/// One round at a drive. Answers whether a reel could be latched.
+fn act(stacks: &mut ListStacks, drive: usize, round: Round) -> Result<bool, Fail>
+    requires { drive < length stacks.old.shop.racks }
+    ensures { length stacks.new.shop.racks ≡ length stacks.old.shop.racks }
+{
+    let reel = match stacks.latch(drive) {
+        Ok(reel) => reel,
+        Err(DriveFault::NoReel) => return Ok(false),
+        Err(_) => return Err(Fail::new("a fault")),
+    };
+    match round {
+        Round::LaidBack => stacks.unlatch(drive, reel),
+        Round::Moved => {
+            if stacks.offline(drive, reel).is_err() {
+                return Err(Fail::new("not moved"));
+            }
+        }
+        Round::Latched => drop(reel),
+    }
+    Ok(true)
+}
+
+/// Whether the first of the reels alone is away, or none.
+fn lie_there(reels: &[ListedReel], latched: bool) -> bool {
+    reels.iter().enumerate().all(|(place, reel)| reel.reel().is_some() != (latched && place == 0))
+}
+
+/// Whether the drive has the reels that the plain one has.
+fn is_as(reels: &[ListedReel], drive: &SlowDrive) -> bool {
+    are(reels, &drive.names) && lie_there(reels, drive.latched)
+}
+
+/// What is done in the round of that number.
+fn round_of(number: u32) -> Round {
+    match number / 2 % 3 {
+        0 => Round::LaidBack,
+        1 => Round::Moved,
+        _ => Round::Latched,
+    }
+}
+
+/// Has the stacks and the plain ones make the round of that number, at the first drive where it is even and else at
+/// the second. They have to answer alike and have the same reels then.
+fn compare(stacks: &mut ListStacks, slow: &mut SlowShop, number: u32) -> Result<(), Fail>
+    requires { length stacks.old.shop.racks ≡ 2 }
+    ensures { length stacks.new.shop.racks ≡ 2 }
+{
+    let drive = if number % 2 == 0 { 0 } else { 1 };
+    let round = round_of(number);
+    if act(stacks, drive, round)? != slow.act(drive, round)? {
+        return Err(Fail::new("another answer"));
+    }
+    let alike = is_as(stacks.stack(0), &slow.first)
+        && is_as(stacks.stack(1), &slow.second)
+        && are(stacks.bin(), &slow.bin)
+        && lie_there(stacks.bin(), false);
+    if !alike {
+        return Err(Fail::new("other reels"));
+    }
+    Ok(())
+}
+
+/// Four rounds, by the digits of a number in base 6.
+fn check(alloc: Global, number: u32) -> Result<(), Fail> {
+    let mut stacks = two_drives(alloc)?;
+    let mut slow = SlowShop::new(alloc, b"ab", b"c")?;
+    compare(&mut stacks, &mut slow, number)?;
+    compare(&mut stacks, &mut slow, number / 6)?;
+    compare(&mut stacks, &mut slow, number / 36)?;
+    compare(&mut stacks, &mut slow, number / 216)
+}
+
+#[test]
+fn four_rounds_leave_what_plain_lists_say(rt: HostRuntime) -> Result<(), Fail> {
+    for number in 0..1296 {
+        check(rt.alloc(), number)?;
+    }
+    Ok(())
+}

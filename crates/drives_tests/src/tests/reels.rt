@@ -1,0 +1,48 @@
+//! Two drives with reels of one letter, and what lies where.
+
+ghost use Rattle.std.specs.Prelude.{◌≡◌, ◌<◌, IfOk, length};
+
+use drives::{ListStacks, ListedReel, Stacks};
+use std::alloc::Global;
+use std::test::Fail;
+
+/// Two drives: the first with the reels a and b, the second with c.
+pub(super) fn two_drives(alloc: Global) -> Result<ListStacks, Fail>
+    ensures { IfOk result (λ stacks. length stacks.shop.racks ≡ 2) }
+{
+    let mut stacks = ListStacks::new(alloc);
+    stacks.add_drive(b"/dev/st0")?;
+    stacks.add_drive(b"/dev/st1")?;
+    stacks.add_reel(0, b"a", 100)?;
+    stacks.add_reel(0, b"b", 100)?;
+    stacks.add_reel(1, b"c", 100)?;
+    Ok(stacks)
+}
+
+/// Whether these are reels of these names, in order.
+pub(super) fn are(reels: &[ListedReel], names: &[u8]) -> bool {
+    reels.len() == names.len()
+        && reels
+            .iter()
+            .zip(names)
+            .all(|(reel, name)| reel.name() == [*name].as_slice())
+}
+
+/// Whether the drives and the bin have reels of these names, in order.
+pub(super) fn lie(stacks: &ListStacks, first: &[u8], second: &[u8], bin: &[u8]) -> bool
+    requires { length stacks.now.shop.racks ≡ 2 }
+{
+    are(stacks.stack(0), first) && are(stacks.stack(1), second) && are(stacks.bin(), bin)
+}
+
+/// Latches the first reel of the drive and moves it to the bin.
+pub(super) fn move_first(stacks: &mut ListStacks, drive: usize) -> Result<(), Fail>
+    requires { drive < length stacks.old.shop.racks }
+    ensures { length stacks.new.shop.racks ≡ length stacks.old.shop.racks }
+{
+    let reel = stacks.latch(drive)?;
+    match stacks.offline(drive, reel) {
+        Ok(()) => Ok(()),
+        Err(_) => Err(Fail::new("not moved")),
+    }
+}

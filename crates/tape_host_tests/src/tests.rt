@@ -1,0 +1,149 @@
+//! Connections of one server: what they have room for, and one conversation.
+
+ghost use Rattle.std.specs.Prelude.{◌≡◌, IfOk, length};
+ghost use Rattle.drives.specs.ListShop.{IsShop, shop_of, StacksCanFail};
+ghost use Rattle.tape_host.specs.Lying.{AllLie};
+
+use drives::ListStacks;
+use rmt_wire::{READER_LIMIT, WireFault};
+use std::alloc::Global;
+use std::test::Fail;
+use tape::Trouble;
+use tape_host::{Answered, Asked, Carried, Host, Turn};
+
+/// The drive `/dev/st0` with one reel.
+fn one_reel(alloc: Global) -> Result<ListStacks, Fail>
+    ensures told { IfOk result (λ s. IsShop s (shop_of s)) }
+    ensures quiet { IfOk result (λ s. StacksCanFail s → ⊥) }
+    ensures drives { IfOk result (λ s. length s.shop.racks ≡ 1) }
+    ensures rested { IfOk result (λ s. AllLie (shop_of s)) }
+{
+    let mut stacks = ListStacks::new(alloc);
+    let drive = stacks.add_drive(b"/dev/st0")?;
+    stacks.add_reel(drive, b"reel", 1024)?;
+    Ok(stacks)
+}
+
+/// How many bytes connections have room for, and how many of some bytes they take, while two connections are made, the first
+/// one ends, and all end.
+fn rooms(host: &mut Host) -> Result<[Option<usize>; 6], Fail> {
+    let before = host.room(1);
+    host.prepare()?;
+    host.admit();
+    let begun = host.room(1);
+    let taken = host.push(1, b"O/dev");
+    let pushed = host.room(1);
+    host.prepare()?;
+    host.admit();
+    host.end(1);
+    let ended = host.room(1);
+    let other = host.room(2);
+    host.restart();
+    let lost = host.push(2, b"C");
+    Ok([
+        before,
+        begun,
+        pushed,
+        ended,
+        other,
+        Some(taken.saturating_add(lost)),
+    ])
+}
+
+/// 65,548 bytes is the room of a reader to which nothing was pushed.
+const ROOMS: [Option<usize>; 6] = [None, Some(65548), Some(65543), None, Some(65548), Some(5)];
+
+#[test]
+fn ended_sides_take_nothing(rt: HostRuntime) -> Result<(), Fail> {
+    let mut host = Host::new(rt.alloc(), 1, one_reel(rt.alloc())?)?;
+    assert!(rt; rooms(&mut host)? == ROOMS);
+    Ok(())
+}
+
+/// Bytes that are pushed, how the device call of the request fails, whether its reply is lost, and what was asked and answered.
+type Row<'a> = (&'a [u8], Trouble, bool, Asked, Answered);
+
+/// A record is written, a second one meets a device failure, and the reply to marks behind the first is lost. Then the record is
+/// read back.
+const ROWS: [Row<'_>; 6] = [
+    (
+        b"O/dev/st0\n2\n",
+        Trouble::None,
+        false,
+        Asked::Open { writes: true },
+        Answered::Number(0),
+    ),
+    (
+        b"W5\nhello",
+        Trouble::None,
+        false,
+        Asked::Write,
+        Answered::Number(5),
+    ),
+    (
+        b"W1\nx",
+        Trouble::Kept,
+        false,
+        Asked::Write,
+        Answered::Error(5),
+    ),
+    (
+        b"I0\n1\n",
+        Trouble::None,
+        true,
+        Asked::Marks,
+        Answered::Number(1),
+    ),
+    (
+        b"I5\n1\n",
+        Trouble::Lost,
+        false,
+        Asked::Other,
+        Answered::Number(1),
+    ),
+    (b"R9\n", Trouble::None, false, Asked::Other, Answered::Data),
+];
+
+const REPLIES: &[u8] = b"A0\nA5\nE5\nInput/output error\nA1\nA5\nhello";
+
+/// Whether each turn of connection 1 carries out its request, and the replies are those.
+fn rows_are_met(host: &mut Host, back: &mut Vec<u8>) -> Result<bool, Fail> {
+    let mut met = true;
+    for (bytes, trouble, lost, asked, answered) in ROWS {
+        back.reserve(READER_LIMIT)?;
+        host.push(1, bytes);
+        let turn = host.serve(1, trouble, back, lost);
+        met = met && turn == Turn::Carried(Carried { asked, answered });
+    }
+    Ok(met && back.as_slice() == REPLIES)
+}
+
+/// The beginning of a read, a byte in it that is no digit, and a request behind it.
+const ENDING: [(&[u8], Turn); 3] = [
+    (b"R9", Turn::Nothing),
+    (b"x", Turn::Broken(WireFault::BadNumber)),
+    (b"C\n", Turn::Nothing),
+];
+
+/// Whether each turn of connection 1 comes to what is wanted.
+fn ending_is_met(host: &mut Host, back: &mut Vec<u8>) -> Result<bool, Fail> {
+    let mut met = true;
+    for (bytes, turn) in ENDING {
+        back.reserve(READER_LIMIT)?;
+        host.push(1, bytes);
+        met = met && host.serve(1, Trouble::None, back, false) == turn;
+    }
+    Ok(met)
+}
+
+#[test]
+fn a_turn_answers_one_request(rt: HostRuntime) -> Result<(), Fail> {
+    let mut host = Host::new(rt.alloc(), 1, one_reel(rt.alloc())?)?;
+    host.prepare()?;
+    host.admit();
+    let mut back = Vec::new(rt.alloc());
+    assert!(rt; rows_are_met(&mut host, &mut back)?);
+    assert!(rt; ending_is_met(&mut host, &mut back)?);
+    assert!(rt; host.room(1).is_none() && host.drive(b"/dev/st0") == Some(0));
+    Ok(())
+}

@@ -1,0 +1,44 @@
+//! Entries of record files.
+
+use std::test::Fail;
+use tape::{Entry, read_entries};
+
+/// A record `abc`, a mark, a record of one zero byte, and what is left of a record whose end was never written.
+const FILE: &[u8] = b"\x03\0\0\0abc\x03\0\0\0\0\0\0\0\x01\0\0\0\0\x01\0\0\0\x02\0\0\0de\x02\0\0";
+
+/// Whether these are the entries of the file.
+fn are_all(entries: &[Entry]) -> bool {
+    match entries {
+        [Entry::Record(first), Entry::Mark, Entry::Record(last)] => {
+            first.as_slice() == b"abc".as_slice() && last.as_slice() == b"\0".as_slice()
+        }
+        _ => false,
+    }
+}
+
+#[test]
+fn reads_each_whole_entry(rt: HostRuntime) -> Result<(), Fail> {
+    let entries = read_entries(rt.alloc(), FILE)?;
+    assert!(&rt; are_all(&entries));
+    Ok(())
+}
+
+/// Files that have no entry.
+pub(crate) const TAILS: [&[u8]; 7] = [
+    b"",
+    b"\0\0\0",
+    b"\x01\0\0\0a\x01\0\0",
+    b"\x01\0\0\0a\x02\0\0\0",
+    b"\x03\0\0\0ab",
+    b"\x01\0\x01\0a\x01\0\x01\0",
+    b"\xff\xff\xff\xff",
+];
+
+#[test]
+fn a_tail_is_no_entry(rt: HostRuntime) -> Result<(), Fail> {
+    for file in TAILS {
+        let entries = read_entries(rt.alloc(), file)?;
+        assert!(&rt; entries.is_empty(), "{file:?}");
+    }
+    Ok(())
+}

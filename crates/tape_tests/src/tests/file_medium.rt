@@ -1,0 +1,127 @@
+//! A medium that is a file, by tables of calls.
+
+use super::medium_calls::{DONE, MediumCall, WantedOfMedium, medium_answers};
+use std::fs::{self, File, OpenOptions};
+use std::os::unix::fs::FileExt;
+use std::test::Fail;
+use std::{io, process};
+use tape::{FileMedium, MediumFailed};
+
+/// A file that has no bytes. The last bytes are `axyz`.
+const ON_AN_EMPTY_FILE: &[WantedOfMedium] = &[
+    (MediumCall::Append(b"abc"), DONE),
+    (MediumCall::Append(b"de"), DONE),
+    (MediumCall::Len, Ok((5, b""))),
+    (MediumCall::ReadAt(1, 3), Ok((3, b"bcd"))),
+    (MediumCall::ReadAt(3, 6), Ok((2, b"de...."))),
+    (MediumCall::ReadAt(5, 6), Ok((0, b"......"))),
+    (MediumCall::Cut(9), DONE),
+    (MediumCall::Len, Ok((5, b""))),
+    (MediumCall::Cut(1), DONE),
+    (MediumCall::Append(b"xyz"), DONE),
+    (MediumCall::Failures, Ok((0, b""))),
+];
+
+/// The same file, open to read alone: every call that asks the system for more fails, and is counted.
+const OPEN_TO_READ: &[WantedOfMedium] = &[
+    (MediumCall::Append(b"!"), Err(MediumFailed)),
+    (MediumCall::Failures, Ok((1, b""))),
+    (MediumCall::Cut(2), Err(MediumFailed)),
+    (MediumCall::Cut(4), DONE),
+    (MediumCall::Len, Ok((4, b""))),
+    (MediumCall::ReadAt(0, 4), Ok((4, b"axyz"))),
+    (MediumCall::Failures, Ok((2, b""))),
+];
+
+/// The same file, open to write alone.
+const OPEN_TO_WRITE: &[WantedOfMedium] = &[
+    (MediumCall::ReadAt(0, 4), Err(MediumFailed)),
+    (MediumCall::Failures, Ok((1, b""))),
+];
+
+/// Bytes between frames, of which any may be empty, are added to a file that has no bytes. Then lengths are read: over
+/// the edge of the window, and at the end, where they are short.
+const FRAMED: &[WantedOfMedium] = &[
+    (MediumCall::AppendFramed(b"()", b"abc"), DONE),
+    (MediumCall::AppendFramed(b"", b"def"), DONE),
+    (MediumCall::AppendFramed(b"<>", b""), DONE),
+    (MediumCall::AppendFramed(b"", b""), DONE),
+    (MediumCall::Len, Ok((14, b""))),
+    (MediumCall::ReadAt(0, 14), Ok((14, b"()abc()def<><>"))),
+    (MediumCall::Failures, Ok((0, b""))),
+    (MediumCall::ReadAt(0, 4), Ok((4, b"()ab"))),
+    (MediumCall::ReadAt(4, 4), Ok((4, b"c()d"))),
+    (MediumCall::ReadAt(5, 4), Ok((4, b"()de"))),
+    (MediumCall::ReadAt(10, 4), Ok((4, b"<><>"))),
+    (MediumCall::ReadAt(12, 4), Ok((2, b"<>.."))),
+    (MediumCall::ReadAt(14, 4), Ok((0, b"...."))),
+    (MediumCall::ReadAt(2, 4), Ok((4, b"abc("))),
+];
+
+/// Another handle wrote `xyz` from 6 on: that is not seen in the window, until a call changes the file.
+const AFTER_A_WRITE: &[WantedOfMedium] = &[
+    (MediumCall::ReadAt(6, 4), Ok((4, b")def"))),
+    (MediumCall::ReadAt(7, 4), Ok((4, b"yzf<"))),
+    (MediumCall::Append(b"!"), DONE),
+    (MediumCall::ReadAt(6, 4), Ok((4, b"xyzf"))),
+    (MediumCall::Cut(8), DONE),
+    (MediumCall::ReadAt(6, 4), Ok((2, b"xy.."))),
+    (MediumCall::ReadAt(8, 4), Ok((0, b"...."))),
+    (MediumCall::ReadAt(0, 4), Ok((4, b"()ab"))),
+    (MediumCall::AppendFramed(b"<", b"[]"), DONE),
+];
+
+/// Another handle wrote `v` at 7 since.
+const AFTER_ANOTHER_WRITE: &[WantedOfMedium] = &[
+    (MediumCall::ReadAt(6, 4), Ok((4, b"xv<["))),
+    (MediumCall::Failures, Ok((0, b""))),
+];
+
+/// A new file of this path, open to read and to append.
+fn new_file(rt: &HostRuntime, path: &str) -> io::Result<File> {
+    OpenOptions::new()
+        .read(true)
+        .append(true)
+        .create_new(true)
+        .open(rt, path)
+}
+
+/// The path of a file that no other test has.
+fn path_of(rt: &HostRuntime, name: &str) -> Result<String, Fail> {
+    let id = process::id(rt.process());
+    Ok(format!(in rt.alloc(); "file_medium_{name}_{id}")?)
+}
+
+/// Whether a medium that is this file answers each of the calls as is wanted.
+fn file_answers(file: File, calls: &[WantedOfMedium]) -> bool {
+    medium_answers(&mut FileMedium::new(file), calls)
+}
+
+#[test]
+fn stands_on_a_file(rt: HostRuntime) -> Result<(), Fail> {
+    let path = path_of(&rt, "calls")?;
+    let mut medium = FileMedium::new(new_file(&rt, path.as_str())?);
+    assert!(&rt; medium_answers(&mut medium, ON_AN_EMPTY_FILE));
+    medium.sync()?;
+    assert!(&rt; medium.file().metadata()?.len() == 4);
+    let reader = File::open(&rt, path.as_str())?;
+    assert!(&rt; file_answers(reader, OPEN_TO_READ));
+    let writer = OpenOptions::new().write(true).open(&rt, path.as_str())?;
+    assert!(&rt; file_answers(writer, OPEN_TO_WRITE));
+    fs::remove_file(&rt, path.as_str())?;
+    Ok(())
+}
+
+#[test]
+fn keeps_what_it_read_until_a_change(rt: HostRuntime) -> Result<(), Fail> {
+    let path = path_of(&rt, "window")?;
+    let mut medium = FileMedium::new(new_file(&rt, path.as_str())?);
+    assert!(&rt; medium_answers(&mut medium, FRAMED));
+    let other = OpenOptions::new().write(true).open(&rt, path.as_str())?;
+    other.write_all_at(b"xyz", 6)?;
+    assert!(&rt; medium_answers(&mut medium, AFTER_A_WRITE));
+    other.write_all_at(b"v", 7)?;
+    assert!(&rt; medium_answers(&mut medium, AFTER_ANOTHER_WRITE));
+    fs::remove_file(&rt, path.as_str())?;
+    Ok(())
+}

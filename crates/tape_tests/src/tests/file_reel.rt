@@ -1,0 +1,122 @@
+//! Reels on bytes that were written by hand.
+
+use super::entries::TAILS;
+use super::slow::{Call, Wanted, answers};
+use std::alloc::{AllocError, Global};
+use std::test::Fail;
+use tape::{FileReel, MTBSF, MTBSR, MTFSF, MTFSR, MTNOP, MTWEOF, MemoryMedium, Reel, TapeFault};
+
+/// A record `abc` and a record `de`.
+const TWO: &[u8] = b"\x03\0\0\0abc\x03\0\0\0\x02\0\0\0de\x02\0\0\0";
+
+/// What a medium has, the calls of a reel of 100 bytes on it, and what the medium has after the last.
+const RUNS: [(&[u8], &[Wanted], &[u8]); 8] = [
+    (
+        b"",
+        SPELLS_A_RECORD_AND_A_MARK,
+        b"\x05\0\0\0hello\x05\0\0\0\0\0\0\0",
+    ),
+    (b"\x05\0\0\0hel", HAS_NO_ENTRY, X),
+    (b"\x02\0\0\0de\x02", HAS_NO_ENTRY, X),
+    (b"\x02\0\0\0de\x03\0\0\0", HAS_NO_ENTRY, X),
+    (b"\x01\0\x01\0", HAS_NO_ENTRY, X),
+    (
+        b"\0\0\0\0\x02\0\0\0d",
+        HAS_A_MARK,
+        b"\0\0\0\0\x01\0\0\0x\x01\0\0\0",
+    ),
+    (TWO, SPACES_BY_THE_LENGTHS, TWO),
+    (
+        TWO,
+        LOSES_WHAT_STOOD_BEHIND,
+        b"\x03\0\0\0abc\x03\0\0\0\x01\0\0\0x\x01\0\0\0",
+    ),
+];
+
+/// A record `x`.
+const X: &[u8] = b"\x01\0\0\0x\x01\0\0\0";
+
+const SPELLS_A_RECORD_AND_A_MARK: &[Wanted] = &[
+    (Call::Write(b"hello"), Ok(b"")),
+    (Call::Op(MTWEOF, 1), Ok(b"")),
+    (Call::Op(MTWEOF, 21), Err(TapeFault::Full)),
+];
+
+/// A torn end is ignored, and a write cuts it off.
+const HAS_NO_ENTRY: &[Wanted] = &[
+    (Call::Read(8), Ok(b"")),
+    (Call::Op(MTFSF, 1), Err(TapeFault::EndOrMark)),
+    (Call::Op(MTBSR, 1), Err(TapeFault::EndOrMark)),
+    (Call::Write(b"x"), Ok(b"")),
+];
+
+/// A torn record behind a mark is ignored.
+const HAS_A_MARK: &[Wanted] = &[
+    (Call::Op(MTFSF, 1), Ok(b"")),
+    (Call::Op(MTFSR, 1), Err(TapeFault::EndOrMark)),
+    (Call::Read(8), Ok(b"")),
+    (Call::Write(b"x"), Ok(b"")),
+];
+
+const SPACES_BY_THE_LENGTHS: &[Wanted] = &[
+    (Call::Op(MTFSR, 1), Ok(b"")),
+    (Call::Read(8), Ok(b"de")),
+    (Call::Op(MTBSR, 2), Ok(b"")),
+    (Call::Read(2), Ok(b"ab")),
+    (Call::Op(MTFSR, 2), Err(TapeFault::EndOrMark)),
+    (Call::Op(MTBSF, 1), Err(TapeFault::EndOrMark)),
+    (Call::Read(8), Ok(b"abc")),
+    (Call::Rewind, Ok(b"")),
+    (Call::Op(MTNOP, 1), Ok(b"")),
+    (Call::Op(6, 1), Err(TapeFault::BadOperation)),
+];
+
+const LOSES_WHAT_STOOD_BEHIND: &[Wanted] = &[
+    (Call::Op(MTFSR, 1), Ok(b"")),
+    (Call::Op(MTWEOF, 0), Ok(b"")),
+    (Call::Write(b"x"), Ok(b"")),
+    (Call::Read(8), Ok(b"")),
+];
+
+/// A reel of 100 bytes on these, with room in memory for as many more.
+fn reel_on(alloc: Global, bytes: &[u8]) -> Result<FileReel<MemoryMedium>, AllocError> {
+    let mut medium = MemoryMedium::from_bytes(bytes.to_vec(alloc)?);
+    medium.reserve(100)?;
+    Ok(FileReel::open(medium, 100))
+}
+
+/// Whether a reel on these bytes answers each of the calls as is wanted, and the medium has those afterwards.
+fn goes(alloc: Global, bytes: &[u8], calls: &[Wanted], after: &[u8]) -> Result<bool, AllocError> {
+    let mut reel = reel_on(alloc, bytes)?;
+    let answered = answers(&mut reel, calls);
+    Ok(answered && reel.medium().bytes() == after)
+}
+
+#[test]
+fn its_entries_are_what_the_medium_spells(rt: HostRuntime) -> Result<(), Fail> {
+    for (at, (bytes, calls, after)) in RUNS.iter().enumerate() {
+        assert!(&rt; goes(rt.alloc(), bytes, calls, after)?, "run {at}");
+    }
+    Ok(())
+}
+
+#[test]
+fn a_tail_has_no_entry_and_is_cut_off(rt: HostRuntime) -> Result<(), Fail> {
+    for bytes in TAILS {
+        assert!(&rt; goes(rt.alloc(), bytes, HAS_NO_ENTRY, X)?, "{bytes:?}");
+    }
+    Ok(())
+}
+
+#[test]
+fn a_medium_with_no_room_is_at_fault(rt: HostRuntime) -> Result<(), Fail> {
+    let mut reel = FileReel::open(MemoryMedium::new(rt.alloc()), 100);
+    let calls: &[Wanted] = &[
+        (Call::Write(b"x"), Err(TapeFault::Device)),
+        (Call::Op(MTWEOF, 1), Err(TapeFault::Device)),
+        (Call::Read(8), Ok(b"")),
+    ];
+    assert!(&rt; answers(&mut reel, calls) && reel.medium().bytes().is_empty());
+    assert!(&rt; reel.failures() == 2);
+    Ok(())
+}

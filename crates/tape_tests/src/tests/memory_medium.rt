@@ -1,0 +1,75 @@
+//! A medium in memory, by tables of calls.
+
+use super::medium_calls::{DONE, MediumCall, WantedOfMedium, medium_answers};
+use std::test::Fail;
+use tape::{Medium, MediumFailed, MemoryMedium};
+
+/// More bytes than any medium here has room for.
+const MANY: &[u8] = &[0; 1000];
+
+/// A medium with no room.
+const WITHOUT_ROOM: &[WantedOfMedium] = &[
+    (MediumCall::Append(b"a"), Err(MediumFailed)),
+    (MediumCall::Append(b""), DONE),
+    (MediumCall::Failures, Ok((1, b""))),
+];
+
+/// The same medium with room for 5 bytes. The last bytes are `axyzw`.
+const WITH_ROOM_FOR_FIVE: &[WantedOfMedium] = &[
+    (MediumCall::Append(b"abc"), DONE),
+    (MediumCall::Append(b"de"), DONE),
+    (MediumCall::Append(b""), DONE),
+    (MediumCall::Len, Ok((5, b""))),
+    (MediumCall::ReadAt(1, 3), Ok((3, b"bcd"))),
+    (MediumCall::ReadAt(3, 6), Ok((2, b"de...."))),
+    (MediumCall::ReadAt(5, 6), Ok((0, b"......"))),
+    (MediumCall::ReadAt(u64::MAX, 6), Ok((0, b"......"))),
+    (MediumCall::Cut(9), DONE),
+    (MediumCall::Cut(1), DONE),
+    (MediumCall::Append(b"xyzw"), DONE),
+    (MediumCall::ReadAt(0, 5), Ok((5, b"axyzw"))),
+    (MediumCall::Append(MANY), Err(MediumFailed)),
+    (MediumCall::Failures, Ok((2, b""))),
+];
+
+/// A medium with room for 7 bytes. The last bytes are `()abc()`.
+const WITH_ROOM_FOR_SEVEN: &[WantedOfMedium] = &[
+    (MediumCall::AppendFramed(b"()", b"abc"), DONE),
+    (MediumCall::AppendFramed(b"()", MANY), Err(MediumFailed)),
+    (MediumCall::AppendFramed(MANY, b""), Err(MediumFailed)),
+    (MediumCall::Failures, Ok((3, b""))),
+];
+
+/// A medium on the bytes `hello`.
+const ON_GIVEN_BYTES: &[WantedOfMedium] = &[
+    (MediumCall::ReadAt(0, 8), Ok((5, b"hello..."))),
+    (MediumCall::Failures, Ok((0, b""))),
+];
+
+#[test]
+fn fails_with_no_room(rt: HostRuntime) -> Result<(), Fail> {
+    let mut medium = MemoryMedium::new(rt.alloc());
+    assert!(&rt; medium_answers(&mut medium, WITHOUT_ROOM));
+    medium.reserve(5)?;
+    assert!(&rt; medium_answers(&mut medium, WITH_ROOM_FOR_FIVE));
+    assert!(&rt; medium.bytes() == b"axyzw".as_slice());
+    assert!(&rt; medium.into_bytes().as_slice() == b"axyzw".as_slice());
+    Ok(())
+}
+
+#[test]
+fn frames_what_has_its_room(rt: HostRuntime) -> Result<(), Fail> {
+    let mut medium = MemoryMedium::new(rt.alloc());
+    let refused = medium.append_framed(b"()", b"") == Err(MediumFailed);
+    medium.reserve(7)?;
+    assert!(&rt; refused && medium_answers(&mut medium, WITH_ROOM_FOR_SEVEN));
+    assert!(&rt; medium.into_bytes().as_slice() == b"()abc()".as_slice());
+    Ok(())
+}
+
+#[test]
+fn stands_on_given_bytes(rt: HostRuntime) -> Result<(), Fail> {
+    let mut medium = MemoryMedium::from_bytes(b"hello".to_vec(rt.alloc())?);
+    assert!(&rt; medium_answers(&mut medium, ON_GIVEN_BYTES));
+    Ok(())
+}
