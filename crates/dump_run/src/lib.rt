@@ -10,8 +10,6 @@ mod labels;
 mod list;
 mod row;
 mod run;
-#[cfg(test)]
-mod tests;
 
 pub use blocks::{Blocks, SourceFailed};
 pub use fault::RunFault;

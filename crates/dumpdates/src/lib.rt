@@ -14,11 +14,7 @@ mod line;
 mod list;
 mod moment;
 mod names;
-#[cfg(test)]
-mod slow;
 mod stored;
-#[cfg(test)]
-mod tests;
 mod words;
 mod writer;
 

@@ -3,9 +3,6 @@ ghost use Rattle.std.specs.Io.{ReadsAtMost, WritesAtMost};
 ghost use Rattle.std.specs.Io.KnownBytes.{ReadConsumes, WriteAppends, Keeps};
 ghost use Rattle.rmt_wire.specs.Counted.{raised};
 
-#[cfg(test)]
-mod tests;
-
 use std::io::{self, ErrorKind, Read, Write};
 use std::marker::Model;
 

@@ -8,8 +8,6 @@
 
 mod append;
 mod counted;
-#[cfg(test)]
-mod fake;
 mod fault;
 mod kept;
 mod laws;
@@ -18,10 +16,6 @@ mod number;
 mod reply;
 mod request;
 mod short_text;
-#[cfg(test)]
-mod slow;
-#[cfg(test)]
-mod tests;
 
 pub use counted::Counted;
 pub use fault::WireFault;

@@ -1,4 +1,4 @@
-ghost use Rattle.std.specs.Prelude.{◌≡◌, ℕ, ◌+◌, ◌-◌, ◌≤◌, ◌≢◌, ◌↔◌, false, Option, Some, None, List, [], ◌++◌, length, take, drop, min, IfOk, IfSome, IsTrue};
+ghost use Rattle.std.specs.Prelude.{◌≡◌, ℕ, ◌+◌, ◌-◌, ◌≤◌, ◌≢◌, ◌↔◌, Option, Some, None, List, [], ◌++◌, length, take, drop, min, IfOk, IfSome, IsTrue};
 ghost use Rattle.rmt_wire.specs.Reply as kinds;
 ghost use Rattle.rmt_wire.specs.Lent.{plain_wanted, plain_wanted_if_some};
 ghost use Rattle.rmt_wire.specs.ReplyReader as spec;
@@ -108,14 +108,6 @@ impl ReplyReader {
         if self.is_empty() {
             self.wanted = Some(wanted);
         }
-    }
-
-    /// Whether a reply is waited for.
-    #[cfg(test)]
-    pub(crate) fn is_waiting(&self) -> bool
-        ensures { result ≡ false → self.now.wanted ≡ None }
-    {
-        self.wanted.is_some()
     }
 
     /// Forgets every byte that was pushed and not given, and what is waited for, as a new connection asks. It keeps its

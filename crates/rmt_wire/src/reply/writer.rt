@@ -5,9 +5,6 @@ ghost use Rattle.rmt_wire.specs.Lent.{plain_reply};
 ghost use Rattle.rmt_wire.specs.Reply.{Wanted, ReplyHasSpelling, AnswersTo, SpellsReply, reply_text};
 ghost use Rattle.rmt_wire.specs.ReplyWriter.{AppendsBeginning};
 
-#[cfg(test)]
-mod tests;
-
 use crate::counted::Counted;
 use crate::reply::Reply;
 use crate::short_text::numbered;

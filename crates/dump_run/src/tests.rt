@@ -1,4 +1,0 @@
-mod blocks;
-mod faults;
-mod label;
-mod run;

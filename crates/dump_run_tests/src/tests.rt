@@ -1,0 +1,6 @@
+//! Runs, labels and blocks that were worked out by hand, and the names of faults.
+
+mod blocks;
+mod faults;
+mod label;
+mod run;

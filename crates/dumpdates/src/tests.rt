@@ -1,5 +1,0 @@
-mod days;
-mod lines;
-mod lists;
-mod memory;
-mod rows;

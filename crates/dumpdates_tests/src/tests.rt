@@ -1,0 +1,8 @@
+//! Texts, lists and dates that were worked out by hand, and a slow program of the file to compare with.
+
+mod days;
+mod lines;
+mod lists;
+mod memory;
+mod rows;
+mod slow;

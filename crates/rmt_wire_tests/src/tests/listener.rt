@@ -1,0 +1,85 @@
+//! A reader of replies that knows whether one is waited for.
+
+use super::slow::reply::{Wanted, is_same};
+use rmt_wire::{Reply, ReplyReader, WireFault};
+use std::alloc::{AllocError, Global};
+use std::marker::Model;
+
+/// What a reader gives: the reply that is wanted, another one, or none, and then perhaps a fault.
+#[derive(Clone, Copy, PartialEq, Eq)]
+pub(crate) enum Next {
+    Wanted,
+    Other,
+    None(Option<WireFault>),
+}
+
+/// A reader of replies. Contracts see of it whether a reply is waited for.
+#[derive(Drop)]
+pub(crate) struct Listener {
+    reader: ReplyReader,
+    is_waiting: bool,
+}
+
+impl Model for Listener {
+    ghost use Rattle.std.specs.Prelude.{Bool};
+    ghost use Rattle.rmt_wire_tests.specs.Listener.{WaitsOnlyIf};
+
+    ghost Value = { Bool };
+
+    ghost view = { λ l. l.is_waiting };
+
+    ghost invariant = { λ l. WaitsOnlyIf l.is_waiting l.reader };
+}
+
+impl Listener {
+    /// A reader to which nothing was pushed, and which waits for nothing.
+    pub(crate) fn new(alloc: Global) -> Result<Listener, AllocError> {
+        Ok(Listener {
+            reader: ReplyReader::new(alloc)?,
+            is_waiting: false,
+        })
+    }
+
+    pub(crate) fn room(&self) -> usize {
+        self.reader.room()
+    }
+
+    pub(crate) fn is_empty(&self) -> bool {
+        self.reader.is_empty()
+    }
+
+    /// Waits for a reply, where none is waited for. It tells whether none was.
+    pub(crate) fn wait(&mut self, wanted: Wanted) -> bool {
+        if self.is_waiting {
+            return false;
+        }
+        self.reader.expect(wanted.kind());
+        self.is_waiting = true;
+        true
+    }
+
+    pub(crate) fn push(&mut self, piece: &[u8]) -> usize {
+        self.reader.push(piece)
+    }
+
+    /// What it gives next, where this is wanted.
+    pub(crate) fn next(&mut self, wanted: Option<Reply<'_>>) -> Next {
+        match self.reader.next() {
+            Ok(Some(reply)) => {
+                let next = match wanted {
+                    Some(wanted) if is_same(&wanted, &reply) => Next::Wanted,
+                    _ => Next::Other,
+                };
+                self.is_waiting = false;
+                next
+            }
+            Ok(None) => Next::None(None),
+            Err(fault) => Next::None(Some(fault)),
+        }
+    }
+
+    pub(crate) fn clear(&mut self) {
+        self.reader.clear();
+        self.is_waiting = false;
+    }
+}

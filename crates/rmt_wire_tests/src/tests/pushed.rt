@@ -1,0 +1,73 @@
+//! Requests and replies as they are appended, by hand, and requests as they are read back.
+ghost use Rattle.rmt_wire.specs.Lent.{plain_reply, plain_request};
+ghost use Rattle.rmt_wire.specs.Reply.{ReplyHasSpelling};
+ghost use Rattle.rmt_wire.specs.Request.{HasSpelling};
+
+use super::fed::check_by_hand;
+use rmt_wire::{Reply, Request, push_reply, push_request};
+use std::alloc::AllocError;
+use std::test::Fail;
+
+/// Appends a request, of which no more is to be known.
+fn ask(out: &mut Vec<u8>, request: Request<'_>) -> Result<(), AllocError>
+    requires { HasSpelling (plain_request request) }
+{
+    push_request(out, &request)
+}
+
+/// The same of a reply.
+fn say(out: &mut Vec<u8>, reply: Reply<'_>) -> Result<(), AllocError>
+    requires { ReplyHasSpelling (plain_reply reply) }
+{
+    push_reply(out, &reply)
+}
+
+#[test]
+fn each_kind_of_request(rt: HostRuntime) -> Result<(), Fail> {
+    let mut out = Vec::new(rt.alloc());
+    let device = b"/dev/st0";
+    ask(&mut out, Request::Open { device, mode: 2 })?;
+    ask(&mut out, Request::Op { op: 5, count: 1 })?;
+    ask(&mut out, Request::Write { bytes: b"hello" })?;
+    ask(&mut out, Request::Write { bytes: b"" })?;
+    ask(&mut out, Request::Read { count: 65536 })?;
+    let count = 2147483647;
+    ask(&mut out, Request::Op { op: 0, count })?;
+    ask(&mut out, Request::Close)?;
+    ask(&mut out, Request::WriteDropped { count: 65537 })?;
+    let text = b"O/dev/st0\n2\nI5\n1\nW5\nhelloW0\nR65536\nI0\n2147483647\nC\nW65537\n".as_slice();
+    assert!(rt; out.as_slice() == text);
+    Ok(())
+}
+
+#[test]
+fn the_longest_device_and_the_largest_write(rt: HostRuntime) -> Result<(), Fail> {
+    let alloc = rt.alloc();
+    let device = [b'd'; 255];
+    let data = vec![in alloc; b'\n'; 65536]?;
+    let open = Request::Open {
+        device: &device,
+        mode: 2147483647,
+    };
+    let write = Request::Write { bytes: &data };
+    let mut out = Vec::new(alloc);
+    ask(&mut out, open)?;
+    assert_eq!(rt; out.len(), 268);
+    ask(&mut out, write)?;
+    assert_eq!(rt; out.len(), 268 + 65543);
+    check_by_hand(&rt, alloc, &out, &[open, write], b"", None)
+}
+
+#[test]
+fn each_kind_of_reply(rt: HostRuntime) -> Result<(), Fail> {
+    let mut out = Vec::new(rt.alloc());
+    say(&mut out, Reply::Done { number: 0 })?;
+    say(&mut out, Reply::Data { bytes: b"ab\n" })?;
+    say(&mut out, Reply::Data { bytes: b"" })?;
+    say(&mut out, Reply::Done { number: 2147483647 })?;
+    let text = b"Device busy";
+    say(&mut out, Reply::Error { number: 16, text })?;
+    let text = b"A0\nA3\nab\nA0\nA2147483647\nE16\nDevice busy\n".as_slice();
+    assert!(rt; out.as_slice() == text);
+    Ok(())
+}

@@ -1,0 +1,199 @@
+//! Whole conversations, whose requests are written by hand.
+
+use super::fed::{check_by_hand, check_pieces};
+use rmt_wire::{Request, WireFault};
+use std::test::Fail;
+
+const DEVICE: &[u8] = b"/dev/st0";
+
+const OPEN: Request = Request::Open {
+    device: DEVICE,
+    mode: 2,
+};
+
+/// A record is written and read back.
+const ROUND: &[u8] = b"O/dev/st0\n2\nW5\nhelloI0\n1\nI5\n1\nR10\nR10\nC\n";
+
+/// A stream, its requests, the rest, and the fault of that.
+type Row = (
+    &'static [u8],
+    &'static [Request<'static>],
+    &'static [u8],
+    Option<WireFault>,
+);
+
+const ROWS: [Row; 16] = [
+    (
+        ROUND,
+        &[
+            OPEN,
+            Request::Write { bytes: b"hello" },
+            Request::Op { op: 0, count: 1 },
+            Request::Op { op: 5, count: 1 },
+            Request::Read { count: 10 },
+            Request::Read { count: 10 },
+            Request::Close,
+        ],
+        b"",
+        None,
+    ),
+    // nothing at all
+    (b"", &[], b"", None),
+    // a write alone, and one that lacks data
+    (b"W3\nabc", &[Request::Write { bytes: b"abc" }], b"", None),
+    (b"O/dev/st0\n2\nW5\nhel", &[OPEN], b"W5\nhel", None),
+    // a drive that is only read
+    (
+        b"O/dev/st0\n0\nW1\nxI0\n1\n",
+        &[
+            Request::Open {
+                device: DEVICE,
+                mode: 0,
+            },
+            Request::Write { bytes: b"x" },
+            Request::Op { op: 0, count: 1 },
+        ],
+        b"",
+        None,
+    ),
+    // modes
+    (b"O/dev/st0\n2 O_RDWR\n", &[OPEN], b"", None),
+    (
+        b"O/dev/st0\n3\n",
+        &[Request::Open {
+            device: DEVICE,
+            mode: 3,
+        }],
+        b"",
+        None,
+    ),
+    (
+        b"O/dev/st0\n513\n",
+        &[Request::Open {
+            device: DEVICE,
+            mode: 513,
+        }],
+        b"",
+        None,
+    ),
+    (
+        b"O/dev/st9\n2\n",
+        &[Request::Open {
+            device: b"/dev/st9",
+            mode: 2,
+        }],
+        b"",
+        None,
+    ),
+    // a letter that is left out
+    (
+        b"O/dev/st0\n2\nS\n",
+        &[OPEN],
+        b"S\n",
+        Some(WireFault::UnknownCommand),
+    ),
+    // bad counts
+    (
+        b"W99999999999\n",
+        &[],
+        b"W99999999999\n",
+        Some(WireFault::BadNumber),
+    ),
+    (b"W3x", &[], b"W3x", Some(WireFault::BadNumber)),
+    // spacing over marks
+    (
+        b"O/dev/st0\n2\nI3\n1\nI8\n1\n",
+        &[
+            OPEN,
+            Request::Op { op: 3, count: 1 },
+            Request::Op { op: 8, count: 1 },
+        ],
+        b"",
+        None,
+    ),
+    (
+        b"O/dev/st0\n2\nW1\naI0\n1\nW1\nbI0\n1\nI2\n2\nR9\nI4\n1\nI1\n1\nR1\nC\n",
+        &[
+            OPEN,
+            Request::Write { bytes: b"a" },
+            Request::Op { op: 0, count: 1 },
+            Request::Write { bytes: b"b" },
+            Request::Op { op: 0, count: 1 },
+            Request::Op { op: 2, count: 2 },
+            Request::Read { count: 9 },
+            Request::Op { op: 4, count: 1 },
+            Request::Op { op: 1, count: 1 },
+            Request::Read { count: 1 },
+            Request::Close,
+        ],
+        b"",
+        None,
+    ),
+    // a reel written anew
+    (
+        b"O/dev/st0\n2\nW3\nabcW2\ndeI5\n1\nW1\nxR5\nC\n",
+        &[
+            OPEN,
+            Request::Write { bytes: b"abc" },
+            Request::Write { bytes: b"de" },
+            Request::Op { op: 5, count: 1 },
+            Request::Write { bytes: b"x" },
+            Request::Read { count: 5 },
+            Request::Close,
+        ],
+        b"",
+        None,
+    ),
+    // a reel taken off
+    (
+        b"O/dev/st0\n2\nI6\n1\nW1\nxI7\n1\nC\nO/dev/st0\n2\n",
+        &[
+            OPEN,
+            Request::Op { op: 6, count: 1 },
+            Request::Write { bytes: b"x" },
+            Request::Op { op: 7, count: 1 },
+            Request::Close,
+            OPEN,
+        ],
+        b"",
+        None,
+    ),
+];
+
+#[test]
+fn streams_are_split_as_by_hand(rt: HostRuntime) -> Result<(), Fail> {
+    for (stream, requests, rest, fault) in &ROWS {
+        check_by_hand(&rt, rt.alloc(), stream, requests, rest, *fault)?;
+    }
+    Ok(())
+}
+
+#[test]
+fn every_beginning_of_a_conversation(rt: HostRuntime) -> Result<(), Fail> {
+    for len in 0..=ROUND.len() {
+        let (stream, _) = ROUND.split_at(len);
+        check_pieces(&rt, rt.alloc(), stream)?;
+    }
+    Ok(())
+}
+
+#[test]
+fn the_largest_write_and_one_more(rt: HostRuntime) -> Result<(), Fail> {
+    let alloc = rt.alloc();
+    let data = vec![in alloc; b'W'; 65537]?;
+    let largest = data.as_slice().get(1..).unwrap_or(&[]);
+    let mut stream = Vec::new(alloc);
+    stream.extend_from_slice(b"O/dev/st0\n2\nW65536\n")?;
+    stream.extend_from_slice(largest)?;
+    stream.extend_from_slice(b"W65537\n")?;
+    stream.extend_from_slice(&data)?;
+    stream.extend_from_slice(b"W0\nI7\n9\n")?;
+    let requests = [
+        OPEN,
+        Request::Write { bytes: largest },
+        Request::WriteDropped { count: 65537 },
+        Request::Write { bytes: b"" },
+        Request::Op { op: 7, count: 9 },
+    ];
+    check_by_hand(&rt, alloc, &stream, &requests, b"", None)
+}
