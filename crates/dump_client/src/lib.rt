@@ -14,12 +14,8 @@ mod ledger;
 mod listen;
 mod outcome;
 mod request;
-#[cfg(test)]
-mod slow;
 mod stage;
 mod step;
-#[cfg(test)]
-mod tests;
 
 pub use client::Client;
 pub use count::VolumeCount;

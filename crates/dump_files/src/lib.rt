@@ -11,8 +11,6 @@ mod files;
 mod payload;
 mod payload_file;
 mod progress;
-#[cfg(test)]
-mod tests;
 
 pub use dates_file::{base_date, dates};
 pub use dates_store::{DatesStore, UpdateFault, update};

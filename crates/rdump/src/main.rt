@@ -5,7 +5,7 @@ ghost use Rattle.std.specs.Prelude.{◌≡◌};
 ghost use Rattle.rmt_words.specs.Rdump.{IsMtLine, IsReadLine};
 
 use clap::error::ErrorKind;
-use rmt_tools::{
+use rmt_programs::{
     Clearing, DatesFile, DumpLine, DumperFault, MtLine, PayloadFile, ProgressLine, RdumpLine,
     ReadFault, ReadLine, RunFault, SocketPeer, base_date, copy_volume, dates, dump,
     dump_and_update, dumper, mt, rdump_words, read_or_empty, read_steady, seconds_now,

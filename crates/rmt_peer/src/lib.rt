@@ -17,8 +17,6 @@ mod peer;
 mod print;
 mod rounds;
 mod socket;
-#[cfg(test)]
-mod tests;
 mod volume;
 
 pub use fault::{Asked, ReadFault};

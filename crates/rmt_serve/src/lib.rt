@@ -5,8 +5,6 @@ mod listening;
 mod memory_server;
 mod stdio;
 mod tape_server;
-#[cfg(test)]
-mod tests;
 
 pub use listening::{serve_connections, serve_in_turn};
 pub use memory_server::MemoryServer;

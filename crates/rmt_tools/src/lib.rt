@@ -1,26 +1,11 @@
-//! What the programs do, over the crates below, whose names it passes on: streams served, dumps over a connection that are
-//! entered in a dumpdates file, a dumpdates file that is asked, and the words of both programs.
+//! What the programs of this repository do, by one name: all that `rmt_programs` makes and passes on.
 #![tactic(auto)]
 
-mod dump_update;
-mod folders;
-mod memory_peer;
-#[cfg(test)]
-mod tests;
-
-pub use dump_client::RunFault;
-pub use dump_files::{
-    Clearing, DatesFile, DatesStore, DumperFault, Gauge, PayloadFile, ProgressLine, Shown,
-    UpdateFault, base_date, dates, dumper, read_or_empty, read_steady, seconds_now, update,
-};
-pub use dump_update::dump_and_update;
-pub use folders::folder_stacks;
-pub use memory_peer::MemoryPeer;
-pub use rmt_peer::{Passed, Peer, ReadFault, SocketPeer, copy_volume, dump, mt, read_volume};
-pub use rmt_serve::{
-    MemoryServer, TapeServer, exit_status, run_stdio, serve_connections, serve_in_turn,
-};
-pub use rmt_words::{
-    DriveWord, DumpLine, LineFault, MtLine, RdumpLine, ReadLine, ServerLine, rdump_words,
-    server_line, server_words,
+pub use rmt_programs::{
+    Clearing, DatesFile, DatesStore, DriveWord, DumpLine, DumperFault, Gauge, LineFault,
+    MemoryPeer, MemoryServer, MtLine, Passed, PayloadFile, Peer, ProgressLine, RdumpLine,
+    ReadFault, ReadLine, RunFault, ServerLine, Shown, SocketPeer, TapeServer, UpdateFault,
+    base_date, copy_volume, dates, dump, dump_and_update, dumper, exit_status, folder_stacks, mt,
+    rdump_words, read_or_empty, read_steady, read_volume, run_stdio, seconds_now,
+    serve_connections, serve_in_turn, server_line, server_words, update,
 };

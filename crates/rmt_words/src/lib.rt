@@ -7,8 +7,6 @@ mod rdump_line;
 mod rmtd_line;
 mod run_line;
 mod tape_line;
-#[cfg(test)]
-mod tests;
 mod wrong;
 
 pub use drive_word::DriveWord;

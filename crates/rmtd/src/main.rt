@@ -6,7 +6,7 @@ ghost use Rattle.rmt_words.specs.Drive.{KeepsDriveRules, plain_drive};
 
 use clap::Error;
 use clap::error::ErrorKind;
-use rmt_tools::{
+use rmt_programs::{
     MemoryServer, ServerLine, TapeServer, exit_status, folder_stacks, run_stdio, serve_connections,
     serve_in_turn, server_line,
 };

@@ -1,0 +1,16 @@
+//! A client's attempts against what was written by hand, and against a client computed plainly.
+
+mod client;
+mod client_cut;
+mod client_ends;
+mod client_faults;
+mod client_source;
+mod client_steps;
+mod faults;
+mod laws;
+mod listen;
+mod next;
+mod play;
+mod script;
+mod slow;
+mod talk;

@@ -1,0 +1,126 @@
+//! A client whose blocks cannot be read. A script's first block is its step 3, counted from 0.
+
+use super::play::Move::{AsksInVain, Goes, IsIdle, Stands, Starts, Takes, Trouble, Volume};
+use super::play::{Case, Move, ONCE, check_cases};
+use super::talk::{BLOCKS, RUN};
+use dump_client::{Answer, AttemptFault, State};
+use std::test::Fail;
+
+/// Each block fails in turn, and then the volume is written from its label on.
+const EACH_BLOCK: &[Move] = &[
+    Volume(1, 0, 3),
+    Starts,
+    Goes(0, 3),
+    Trouble(true),
+    AsksInVain(AttemptFault::SourceFault),
+    IsIdle,
+    Stands(State::Asking, &[], (1, 0)),
+    Trouble(false),
+    Takes(Answer::Retry),
+    Starts,
+    Goes(0, 4),
+    Trouble(true),
+    AsksInVain(AttemptFault::SourceFault),
+    IsIdle,
+    Stands(State::Asking, &[], (1, 0)),
+    Trouble(false),
+    Takes(Answer::Retry),
+    Starts,
+    Goes(0, 5),
+    Trouble(true),
+    AsksInVain(AttemptFault::SourceFault),
+    IsIdle,
+    Stands(State::Asking, &[], (1, 0)),
+    Trouble(false),
+    Takes(Answer::Retry),
+    Starts,
+    Goes(0, 9),
+    Stands(State::Finished, &[(1, 0, 3)], (2, 3)),
+];
+
+/// A block of a second volume fails: what is counted stays.
+const SECOND_VOLUME: &[Move] = &[
+    Volume(1, 0, 1),
+    Starts,
+    Goes(0, 8),
+    Volume(2, 1, 2),
+    Starts,
+    Goes(0, 4),
+    Trouble(true),
+    AsksInVain(AttemptFault::SourceFault),
+    IsIdle,
+    Stands(State::Asking, &[(1, 0, 1)], (2, 1)),
+    Trouble(false),
+    Takes(Answer::Retry),
+    Starts,
+    Goes(0, 8),
+    Stands(State::Finished, &[(1, 0, 1), (2, 1, 2)], (3, 3)),
+];
+
+/// Only the request of a block reads one, and the end of a reel is met at a block that was read.
+const WITHOUT_A_BLOCK: &[Move] = &[
+    Volume(1, 0, 2),
+    Trouble(true),
+    Starts,
+    Goes(0, 3),
+    Trouble(false),
+    Goes(3, 6),
+    Trouble(true),
+    Goes(6, 9),
+    Stands(State::Ready, &[(1, 0, 2)], (2, 2)),
+];
+
+/// A source that is still in trouble fails the next attempt, and one that is given up is not read.
+const LASTS: &[Move] = &[
+    Volume(1, 0, 3),
+    Starts,
+    Goes(0, 3),
+    Trouble(true),
+    AsksInVain(AttemptFault::SourceFault),
+    IsIdle,
+    Takes(Answer::Retry),
+    Starts,
+    Goes(0, 3),
+    Trouble(true),
+    AsksInVain(AttemptFault::SourceFault),
+    IsIdle,
+    Takes(Answer::Abandon),
+    IsIdle,
+    Stands(State::Abandoned, &[], (1, 0)),
+];
+
+const CASES: [Case; 4] = [
+    Case {
+        name: "each block fails",
+        run: RUN,
+        blocks: &BLOCKS,
+        pieces: ONCE,
+        moves: EACH_BLOCK,
+    },
+    Case {
+        name: "a block of a second volume fails",
+        run: RUN,
+        blocks: &BLOCKS,
+        pieces: ONCE,
+        moves: SECOND_VOLUME,
+    },
+    Case {
+        name: "requests without a block do not read",
+        run: RUN,
+        blocks: &BLOCKS,
+        pieces: ONCE,
+        moves: WITHOUT_A_BLOCK,
+    },
+    Case {
+        name: "trouble that lasts",
+        run: RUN,
+        blocks: &BLOCKS,
+        pieces: ONCE,
+        moves: LASTS,
+    },
+];
+
+#[test]
+fn blocks_that_cannot_be_read(rt: HostRuntime) -> Result<(), Fail> {
+    check_cases(&rt, rt.alloc(), CASES.as_slice())
+}

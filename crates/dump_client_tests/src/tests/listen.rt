@@ -1,0 +1,137 @@
+//! What comes of replies, of beginnings of them and of noise, in one piece and in many.
+
+use super::play::Move::{AsksStep, Goes, HearsBy, HearsEachWay, Stands, Starts, Volume};
+use super::play::{Case, Move, Play, check_case, long_error};
+use super::talk::RUN;
+use dump_client::Progress::{Ended, Failed, Send, Waiting};
+use dump_client::{AttemptFault, State};
+use std::test::Fail;
+
+/// The step at which any number is wanted, and that at which the label's size is.
+const OPEN: usize = 0;
+
+const LABEL: usize = 2;
+
+/// A number that is not the label's size.
+const ANOTHER_NUMBER: &[Move] = &[
+    Volume(1, 0, 0),
+    HearsEachWay(OPEN, Send),
+    HearsEachWay(LABEL, Failed(AttemptFault::ShortWrite)),
+];
+
+const ZERO: &[Move] = &[
+    Volume(1, 0, 0),
+    HearsEachWay(OPEN, Send),
+    HearsEachWay(LABEL, Failed(AttemptFault::ReelTooSmall)),
+];
+
+const NO_ROOM: &[Move] = &[
+    Volume(1, 0, 0),
+    HearsEachWay(OPEN, Failed(AttemptFault::Refused(28))),
+    HearsEachWay(LABEL, Failed(AttemptFault::ReelTooSmall)),
+];
+
+const BUSY: &[Move] = &[
+    Volume(1, 0, 0),
+    HearsEachWay(OPEN, Failed(AttemptFault::Refused(16))),
+    HearsEachWay(LABEL, Failed(AttemptFault::Refused(16))),
+];
+
+/// What begins a reply is waited on.
+const BEGINNING: &[Move] = &[
+    Volume(1, 0, 0),
+    HearsEachWay(OPEN, Waiting),
+    HearsEachWay(LABEL, Waiting),
+];
+
+const NOISE: &[Move] = &[
+    Volume(1, 0, 0),
+    HearsEachWay(OPEN, Failed(AttemptFault::Botched)),
+    HearsEachWay(LABEL, Failed(AttemptFault::Botched)),
+];
+
+/// A byte behind the reply that counts, in its piece.
+const FOLLOWED: &[Move] = &[
+    Volume(1, 0, 0),
+    Starts,
+    Goes(0, 4),
+    AsksStep(4),
+    HearsBy(100, Ended),
+    Stands(State::Finished, &[(1, 0, 0)], (2, 0)),
+];
+
+/// The same reply in a piece of its own.
+const ALONE: &[Move] = &[
+    Volume(1, 0, 0),
+    Starts,
+    Goes(0, 4),
+    AsksStep(4),
+    HearsBy(3, Send),
+    Stands(State::ToSend, &[(1, 0, 0)], (2, 0)),
+];
+
+/// The same reply byte by byte.
+const BYTE_BY_BYTE: &[Move] = &[
+    Volume(1, 0, 0),
+    Starts,
+    Goes(0, 4),
+    AsksStep(4),
+    HearsBy(1, Send),
+    Stands(State::ToSend, &[(1, 0, 0)], (2, 0)),
+];
+
+/// Pieces, each of which is heard so in a run without blocks.
+type Row = (&'static str, &'static [&'static [u8]], &'static [Move]);
+
+const ROWS: [Row; 9] = [
+    ("zero", &[b"A0\n"], ZERO),
+    ("the greatest number", &[b"A2147483647\n"], ANOTHER_NUMBER),
+    ("no room", &[b"E28\n\n"], NO_ROOM),
+    ("an error with a text", &[b"E16\nDevice busy\n"], BUSY),
+    (
+        "beginnings",
+        &[b"", b"A", b"A65536", b"E5", b"E5\n", b"E5\nBusy"],
+        BEGINNING,
+    ),
+    (
+        "noise",
+        &[b"x", b"\n", b"A\n", b"A1x", b"A2147483648\n", b"E 5\n"],
+        NOISE,
+    ),
+    ("bytes behind a reply", &[b"A1\nA"], FOLLOWED),
+    ("bytes in the next piece", &[b"A1\nA"], ALONE),
+    ("bytes one by one", &[b"A1\nA"], BYTE_BY_BYTE),
+];
+
+#[test]
+fn replies_beginnings_and_noise(rt: HostRuntime) -> Result<(), Fail> {
+    for (name, pieces, moves) in ROWS {
+        let case = Case {
+            name,
+            run: RUN,
+            blocks: &[],
+            pieces,
+            moves,
+        };
+        check_case(&rt, rt.alloc(), &case)?;
+    }
+    Ok(())
+}
+
+/// The text of an error can be longer than all that is kept of a reply, however it comes.
+#[test]
+fn an_error_with_a_long_text(rt: HostRuntime) -> Result<(), Fail> {
+    let mut play = Play::new(rt.alloc(), RUN, &[])?;
+    for size in [10000, 70000] {
+        let error = long_error(rt.alloc(), b"E28\n", size)?;
+        let begun = error.get(..error.len().saturating_sub(1)).unwrap_or(&[]);
+        let good = play.makes(Volume(1, 0, 0), b"")?
+            && play.makes(HearsEachWay(OPEN, Waiting), begun)?
+            && play.makes(
+                HearsEachWay(OPEN, Failed(AttemptFault::Refused(28))),
+                &error,
+            )?;
+        assert!(rt; good, "{size}");
+    }
+    Ok(())
+}

@@ -1,0 +1,7 @@
+//! Words of both programs, and streams served with drives in memory.
+
+mod failing;
+mod listening;
+mod rows;
+mod server_words;
+mod words;

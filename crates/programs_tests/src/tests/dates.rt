@@ -1,0 +1,110 @@
+//! A dumpdates file that is asked: what is printed, and the status.
+
+use super::failing::Failing;
+use dump_files::dates;
+use rmt_wire::Counted;
+
+/// Two dumps of one file system.
+const TWO: &[u8] = b"/usr 0 Tue Feb 29 00:00:00 2000\n/usr 1 Wed Mar  1 00:00:00 2000\n";
+
+/// What is written of them.
+const TWO_ANEW: &[u8] =
+    b"/usr                             0 Tue Feb 29 00:00:00 2000\n/usr                             1 Wed Mar  1 00:00:00 2000\n";
+
+/// A file of a bad line.
+const BAD_LINE: &[u8] = b"a 0 Mon Jan 1 00:00:00 1970\n\nb 10 Thu Jan 1 00:00:00 1970\n";
+
+/// Files of bad dates.
+const FEBRUARY_30: &[u8] = b"/usr 0 Tue Feb 30 00:00:00 2000";
+
+const LEAP_2100: &[u8] = b"a 0 Mon Feb 29 00:00:00 2100";
+
+const LEAP_1968: &[u8] = b"a 0 Mon Feb 29 00:00:00 1968";
+
+/// A file, what is asked of it, and what is printed, with which status.
+type Row = (&'static [u8], Option<(&'static str, u8)>, &'static [u8], u8);
+
+/// Texts that are printed anew, bases, and bad files with their first bad line. The dates come from the `date` command.
+const ROWS: [Row; 19] = [
+    (b"", None, b"", 0),
+    (b" \t\n\n", None, b"", 0),
+    (
+        b"/usr 0 Tue Feb 29 00:00:00 2000\n",
+        None,
+        b"/usr                             0 Tue Feb 29 00:00:00 2000\n",
+        0,
+    ),
+    (
+        b"\t/usr 1 Mon Mar 1 00:00:00 2000\n\n/usr 0 Tue Feb 29 00:00:00 2000",
+        None,
+        b"/usr                             1 Wed Mar  1 00:00:00 2000\n/usr                             0 Tue Feb 29 00:00:00 2000\n",
+        0,
+    ),
+    (
+        b"a 3 Sun Feb 29 12:34:56 2000",
+        None,
+        b"a                                3 Tue Feb 29 12:34:56 2000\n",
+        0,
+    ),
+    (TWO, Some(("/usr", 2)), b"951868800\n", 0),
+    (TWO, Some(("/usr", 1)), b"951782400\n", 0),
+    (TWO, Some(("/usr", 0)), b"0\n", 0),
+    (TWO, Some(("/home", 9)), b"0\n", 0),
+    (
+        b"a 3 Sun Feb 29 12:34:56 2000",
+        Some(("a", 4)),
+        b"951827696\n",
+        0,
+    ),
+    (
+        b"a 0 Fri Dec 31 23:59:59 9999",
+        Some(("a", 9)),
+        b"253402300799\n",
+        0,
+    ),
+    (BAD_LINE, None, b"line 3: bad line\n", 1),
+    (BAD_LINE, Some(("a", 1)), b"line 3: bad line\n", 1),
+    (FEBRUARY_30, None, b"line 1: bad date\n", 1),
+    (FEBRUARY_30, Some(("a", 1)), b"line 1: bad date\n", 1),
+    (LEAP_2100, None, b"line 1: bad date\n", 1),
+    (LEAP_2100, Some(("a", 1)), b"line 1: bad date\n", 1),
+    (LEAP_1968, None, b"line 1: bad date\n", 1),
+    (LEAP_1968, Some(("a", 1)), b"line 1: bad date\n", 1),
+];
+
+#[test]
+fn what_is_printed(rt: HostRuntime) {
+    for (file, asked, want, status) in ROWS {
+        let mut taken = Vec::new(rt.alloc());
+        let mut out = Counted::new(&mut taken);
+        let told = dates(rt.alloc(), file, asked, &mut out);
+        let failures = out.failures();
+        let good = taken.as_slice() == want && (told, failures) == (status, 0);
+        assert!(rt; good, "{asked:?} of {file:?}");
+    }
+}
+
+#[test]
+fn a_failed_write_gives_the_status_of_a_failure(rt: HostRuntime) {
+    let mut out = Counted::new(Failing);
+    assert_eq!(rt; dates(rt.alloc(), TWO, None, &mut out), 1);
+    assert_eq!(rt; out.failures(), 1);
+    assert_eq!(rt; dates(rt.alloc(), TWO, Some(("/usr", 1)), &mut out), 1);
+    assert_eq!(rt; dates(rt.alloc(), b"x", None, &mut out), 1);
+    assert_eq!(rt; out.failures(), 3);
+}
+
+/// Passes whichever allocation is refused: the answer is printed, or what is wrong, into a room that takes no memory.
+#[test]
+fn refused_memory_is_told(rt: HostRuntime) {
+    let mut room = [0; 256];
+    let mut out = Counted::new(room.as_mut_slice());
+    let status = dates(rt.alloc(), TWO, None, &mut out);
+    let left = out.into_inner().len();
+    let printed = &room[..room.len().saturating_sub(left)];
+    if status == 0 {
+        assert_eq!(rt; printed, TWO_ANEW);
+    } else {
+        assert_eq!(rt; printed, b"out of memory\n".as_slice());
+    }
+}

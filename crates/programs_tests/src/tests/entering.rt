@@ -1,0 +1,57 @@
+//! What is entered in dumpdates, and a base date.
+
+use super::store::{ENTERED, Kept, OLD};
+use dump_files::{UpdateFault, base_date, update};
+use dumpdates::{DatesFault, Entry};
+use rmt_wire::Counted;
+use std::test::Fail;
+
+/// A file and whether it can be read and replaced, what comes of a dump that is entered, and the file then.
+type Row = (
+    &'static [u8],
+    bool,
+    bool,
+    Result<(), UpdateFault>,
+    &'static [u8],
+);
+
+/// A dump that is entered, and so once more; a file that cannot be read, one that cannot be replaced, and a bad one.
+const ROWS: [Row; 5] = [
+    (OLD, true, true, Ok(()), ENTERED),
+    (ENTERED, true, true, Ok(()), ENTERED),
+    (OLD, false, true, Err(UpdateFault::Unread), OLD),
+    (OLD, true, false, Err(UpdateFault::Unwritten), b""),
+    (
+        b"\n/usr",
+        true,
+        true,
+        Err(UpdateFault::Dates(DatesFault::BadLine(2))),
+        b"\n/usr",
+    ),
+];
+
+#[test]
+fn dumps_that_are_entered_or_not(rt: HostRuntime) -> Result<(), Fail> {
+    let Some(entry) = Entry::new("/usr", 1, 951868800) else {
+        return Err(Fail::new("no entry"));
+    };
+    for (text, reads, takes, wanted, after) in ROWS {
+        let mut store = Kept::new(rt.alloc(), text, reads, takes)?;
+        let found = update(rt.alloc(), &mut store, entry);
+        assert!(&rt;
+            found == wanted && store.text.as_slice() == after,
+            "{found:?}"
+        );
+    }
+    Ok(())
+}
+
+#[test]
+fn a_base_date_and_a_bad_file(rt: HostRuntime) {
+    let alloc = rt.alloc();
+    let mut printed = Vec::new(alloc);
+    let mut out = Counted::new(&mut printed);
+    assert_eq!(&rt; base_date(alloc, OLD, "/usr", 2, &mut out), Some(951782400));
+    assert_eq!(&rt; base_date(alloc, b"\n/usr", "/usr", 2, &mut out), None);
+    assert_eq!(&rt; printed.as_slice(), b"line 2: bad line\n".as_slice());
+}

@@ -1,0 +1,96 @@
+//! A peer that gives what it was told to, and a writer with little room.
+
+use rmt_peer::Peer;
+use std::alloc::Global;
+use std::io::{self, Write};
+
+/// The replies that a connection gives, one at a time. Behind the last it ends.
+pub(super) type Replies<'a> = &'a [&'a [u8]];
+
+/// It makes as many connections as it has replies for. It keeps what it is sent.
+#[derive(Drop)]
+pub(super) struct FakePeer<'a> {
+    pub(super) sent: Vec<u8>,
+    connections: &'a [Replies<'a>],
+    made: usize,
+    current: Option<usize>,
+    given: usize,
+}
+
+impl<'a> FakePeer<'a> {
+    pub(super) fn new(alloc: Global, connections: &'a [Replies<'a>]) -> Self {
+        FakePeer {
+            sent: Vec::new(alloc),
+            connections,
+            made: 0,
+            current: None,
+            given: 0,
+        }
+    }
+}
+
+impl<'a> Peer for FakePeer<'a> {
+    ghost tells = { λ _ _. ⊥ };
+
+    fn connect(&mut self) -> bool {
+        if self.made >= self.connections.len() {
+            self.current = None;
+            return false;
+        }
+        self.current = Some(self.made);
+        self.given = 0;
+        self.made += 1;
+        true
+    }
+
+    fn send(&mut self, bytes: &[u8]) -> bool {
+        match self.current {
+            Some(_) => self.sent.extend_from_slice(bytes).is_ok(),
+            None => false,
+        }
+    }
+
+    fn receive(&mut self, into: &mut [u8]) -> usize {
+        let Some(current) = self.current else {
+            return 0;
+        };
+        let Some(replies) = self.connections.get(current) else {
+            return 0;
+        };
+        match replies.get(self.given) {
+            Some(reply) if reply.len() <= into.len() => {
+                into[..reply.len()].copy_from_slice(reply);
+                self.given = self.given.saturating_add(1);
+                reply.len()
+            }
+            _ => 0,
+        }
+    }
+
+    fn hang_up(&mut self) {
+        self.current = None;
+    }
+}
+
+/// It takes so many bytes, and then fails.
+#[derive(Drop)]
+pub(super) struct Short {
+    pub(super) taken: Vec<u8>,
+    pub(super) room: usize,
+}
+
+impl Write for Short {
+    fn write(&mut self, buf: &[u8]) -> io::Result<usize> {
+        let count = buf.len().min(self.room);
+        if count == 0 && !buf.is_empty() {
+            return Err(io::ErrorKind::BrokenPipe.into());
+        }
+        self.taken.extend_from_slice(&buf[..count])?;
+        self.room -= count;
+        Ok(count)
+    }
+
+    fn flush(&mut self) -> io::Result<()> {
+        Ok(())
+    }
+}

@@ -1,0 +1,149 @@
+//! What is shown of a dump.
+
+use dump_client::{Blocks, ListBlocks};
+use dump_files::{Clearing, Gauge, ProgressLine, Shown};
+use std::cell::Cell;
+use std::io::{self, Write};
+use std::test::Fail;
+use std::time::{Clock, Duration};
+
+const CLEARED: &[u8] = b"\r\x1b[K";
+
+/// Counts what is shown.
+#[derive(Drop)]
+pub(super) struct Seen {
+    blocks: u32,
+    shows: u32,
+    last: Option<(u32, usize)>,
+}
+
+impl Seen {
+    pub(super) fn new() -> Seen {
+        Seen {
+            blocks: 0,
+            shows: 0,
+            last: None,
+        }
+    }
+}
+
+impl Gauge for Seen {
+    fn begin(&mut self, blocks: u32) {
+        self.blocks = blocks;
+    }
+
+    fn show(&mut self, block: u32, bytes: usize) {
+        self.shows = self.shows.saturating_add(1);
+        self.last = Some((block, bytes));
+    }
+}
+
+/// A clock that has gone on by 50 milliseconds each time that it is read.
+#[derive(Drop)]
+struct Ticking {
+    millis: Cell<u64>,
+}
+
+impl Ticking {
+    fn new() -> Ticking {
+        Ticking {
+            millis: Cell::new(0),
+        }
+    }
+}
+
+impl Clock for Ticking {
+    fn monotonic(&self) -> io::Result<Duration> {
+        let now = self.millis.get();
+        self.millis.set(now.saturating_add(50));
+        Ok(Duration::from_millis(now))
+    }
+
+    fn since_1970(&self) -> io::Result<Duration> {
+        self.monotonic()
+    }
+}
+
+#[test]
+fn a_block_is_shown_and_read(rt: HostRuntime) -> Result<(), Fail> {
+    let payload = Vec::from_slice(rt.alloc(), b"abcdef")?;
+    let mut gauge = Some(Seen::new());
+    gauge.begin(3);
+    let mut source = Shown {
+        source: ListBlocks::new(payload, 2, 3),
+        gauge,
+    };
+    let mut block = [0; 2];
+    assert_eq!(&rt; source.read(1, &mut block), Ok(()));
+    assert_eq!(&rt; &block, b"cd");
+    assert_eq!(&rt; source.failures(), 0);
+    let Some(seen) = source.gauge else {
+        return Err(Fail::new("no gauge"));
+    };
+    assert_eq!(&rt; (seen.blocks, seen.shows, seen.last), (3, 1, Some((1, 2))));
+    Ok(())
+}
+
+/// Reads of these blocks of so many bytes, one 50 milliseconds after the other, and what is shown of them.
+type Row = (usize, &'static [u32], &'static [u8]);
+
+/// A line each tenth of a second, in KiB and in MiB; a volume from the block on for which there was no room; and one
+/// that begins anew.
+const ROWS: [Row; 4] = [
+    (
+        1024,
+        &[0, 1, 2],
+        b"\rvolume 1, block 1 of 3, 0 KiB/s\x1b[K\rvolume 1, block 3 of 3, 20 KiB/s\x1b[K",
+    ),
+    (
+        1048576,
+        &[0, 1, 2],
+        b"\rvolume 1, block 1 of 3, 0 KiB/s\x1b[K\rvolume 1, block 3 of 3, 20 MiB/s\x1b[K",
+    ),
+    (
+        1024,
+        &[0, 1, 1],
+        b"\rvolume 1, block 1 of 3, 0 KiB/s\x1b[K\rvolume 2, block 2 of 3, 0 KiB/s\x1b[K",
+    ),
+    (
+        1024,
+        &[0, 1, 0],
+        b"\rvolume 1, block 1 of 3, 0 KiB/s\x1b[K\rvolume 1, block 1 of 3, 0 KiB/s\x1b[K",
+    ),
+];
+
+/// What is shown of such reads.
+fn show(text: &mut Vec<u8>, bytes: usize, reads: &[u32]) {
+    let clock = Ticking::new();
+    let mut line = ProgressLine::new(&clock, text);
+    line.begin(3);
+    for block in reads {
+        line.show(*block, bytes);
+    }
+}
+
+#[test]
+fn lines_of_progress(rt: HostRuntime) {
+    for (bytes, reads, wanted) in ROWS {
+        let mut text = Vec::new(rt.alloc());
+        show(&mut text, bytes, reads);
+        assert!(rt; text.as_slice() == wanted, "{reads:?}, {bytes}");
+    }
+}
+
+#[test]
+fn a_line_below_progress(rt: HostRuntime) -> Result<(), Fail> {
+    let alloc = rt.alloc();
+    let mut out = Clearing {
+        lines: Vec::new(alloc),
+        terminal: Some(Vec::new(alloc)),
+    };
+    out.write_all(b"retry?\n")?;
+    let Clearing { lines, terminal } = out;
+    assert_eq!(&rt; lines.as_slice(), b"retry?\n".as_slice());
+    let Some(terminal) = terminal else {
+        return Err(Fail::new("no terminal"));
+    };
+    assert_eq!(&rt; terminal.as_slice(), CLEARED);
+    Ok(())
+}

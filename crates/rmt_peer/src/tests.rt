@@ -1,6 +1,0 @@
-//! What passes over a peer, and what is printed.
-mod dump;
-mod fake;
-mod operation;
-mod socket;
-mod volume;

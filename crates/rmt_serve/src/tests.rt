@@ -1,5 +1,0 @@
-//! Whole streams against what was written by hand.
-
-mod failing;
-mod listening;
-mod rows;

@@ -1,4 +1,0 @@
-//! Words against what was written by hand.
-
-mod server_words;
-mod words;
