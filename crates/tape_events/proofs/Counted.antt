@@ -1,12 +1,18 @@
--- What was counted stands on its reel.
-use Rattle.std.proofs.Common.{◌≡◌, ℕ, List, ◌∷◌, ◌++◌, sym, ap, ◌∙◌}
+-- What a quiet attempt wrote, and what was counted, stand on their reels.
+use Rattle.std.proofs.Common.{◌≡◌, ℕ, ◌+◌, ◌≤◌, List, ◌∷◌, ◌++◌, sym, ap, subst, ◌∙◌}
+use Rattle.tape.specs.Tape.{PlainEntry}
 use Rattle.tape.specs.Tape.PlainEntry.{Record}
 use Rattle.std.proofs.lemmas.Option.{same_Some}
 use Rattle.dump_run.specs.Run.{PlainRun}
 use Rattle.dump_run.specs.Label.{label}
 use Rattle.tape_events.specs.World.{World, Link, Dumping, Begun, Count, numbered}
-use Rattle.tape_events.specs.Naming.{AreNamed}
-use Rattle.tape_events.specs.Written.{label_if, mark_if, block_records, written, whole_volume, AreLabelled, AreCountsEarned, IsEarnedBy, CountedReels}
+use Rattle.tape_events.specs.Changes.{opening}
+use Rattle.tape_events.specs.Kept.{AreHeld, AreLaid}
+use Rattle.tape_events.specs.Naming.{AreNamed, IsLastOpening}
+use Rattle.tape_events.specs.Standing.{StandsOn}
+use Rattle.tape_events.specs.Written.{label_if, mark_if, block_records, written, whole_volume, AreLabelled, LabelledReels, AreCountsEarned, IsEarnedBy, CountedReels}
+use Rattle.tape_events.proofs.Booked.{among_at}
+use Rattle.tape_events.proofs.LabelledThere.{stands_somewhere}
 
 -- what an attempt wrote that was counted is its volume
 written_whole : (w : World) (run : PlainRun) (payload : List (List ℕ)) (x : Count) (l : Link) (d : Dumping) (b : Begun) → IsEarnedBy w x l d b
@@ -18,16 +24,28 @@ written_whole w run payload x l d b e =
     ∙ ap (λ n. whole_volume run payload x.volume n d.blocks) e.first
     ∙ ap (λ n. whole_volume run payload x.volume x.first n) e.count
 
-pub counted_reels : (w : World) → AreNamed w → AreLabelled w → AreCountsEarned w → CountedReels w
-counted_reels w named labelled earned x among =
+pub counted_reels : (w : World) → AreHeld w.hall → AreLaid w.hall → AreNamed w → AreLabelled w → AreCountsEarned w → CountedReels w
+counted_reels w held laid named labelled earned x among =
     let e = earned x among in
     let p = e.3 in
     let a = labelled x.connection e.0 e.1 p.there p.dump p.label in
     let same : a.0 ≡ e.2 = same_Some a.0 e.2 (sym a.1 ∙ ap (numbered w.begun) p.run ∙ p.begun) in
+    let just : IsLastOpening w.opens x.connection x.reel → (entries : List PlainEntry) → StandsOn w.hall x.reel entries
+    → entries ≡ whole_volume a.0.run a.0.payload x.volume x.first x.count
+    = λ last entries stands. (a.2 x.reel (p.fault, last)).stands entries stands ∙ written_whole w a.0.run a.0.payload x e.0 e.1 e.2 p in
+    let on = stands_somewhere w.hall x.reel held laid (named.opened _ p.opened) in
     record {
-      opened = p.opened;
-      there = named.opened _ p.opened;
       begun = a.0;
       begun_as = ap (numbered w.begun) (sym p.run) ∙ a.1;
-      whole = λ last entries stands. (a.2 x.reel (p.fault, last)).stands entries stands ∙ written_whole w a.0.run a.0.payload x e.0 e.1 e.2 p;
+      within = subst (λ (b : Begun). x.first + x.count ≤ b.run.blocks) (sym same) p.within;
+      opened = p.opened;
+      there = named.opened _ p.opened;
+      whole = λ last. (subst (StandsOn w.hall x.reel) (just last on.0 on.1) on.1, just last);
     }
+
+pub labelled_reels : (w : World) → AreHeld w.hall → AreLaid w.hall → AreNamed w → AreLabelled w → LabelledReels w
+labelled_reels w held laid named labelled k l d reel there dump label quiet =
+    let a = labelled k l d there dump label in
+    let just = (a.2 reel quiet).stands in
+    let on = stands_somewhere w.hall reel held laid (named.opened (opening k reel) (among_at w.opens quiet.1.0 (opening k reel) quiet.1.1)) in
+    (a.0, a.1, (subst (StandsOn w.hall reel) (just on.0 on.1) on.1, just))

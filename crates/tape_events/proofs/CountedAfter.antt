@@ -10,6 +10,7 @@ use Rattle.tape_events.specs.Owning.{IsOwned}
 use Rattle.tape_events.specs.Sending.{AreTold}
 use Rattle.tape_events.specs.Written.{IsSingle, AreSingle, IsEarnedBy, AreCountsEarned}
 use Rattle.tape_events.proofs.Booked.{drop_front}
+use Rattle.tape_events.proofs.Sent.{still_unloaded}
 use Rattle.tape_events.proofs.SentWire.{OneReply}
 use Rattle.tape_events.proofs.ToldHears.{open_attempt}
 use Rattle.tape_events.proofs.LabelledEvents.{Like, link_still, Quietly, Listens}
@@ -55,8 +56,10 @@ still_earned w u x l d b q e =
         volume = f.2.volume ∙ e.volume;
         first = f.2.first ∙ e.first;
         count = f.2.blocks ∙ e.count;
+        within = e.within;
         label = f.2.label ∙ e.label;
         mark = f.2.mark ∙ e.mark;
+        unloaded = still_unloaded b.run d f.0 f.2.first f.2.blocks (let same = f.2.carried in omega (arith, same)) e.unloaded;
         fault = f.2.fault ∙ e.fault;
         opened = subst (λ os. Contains os (opening x.connection x.reel)) (sym q.opens) e.opened;
       },
@@ -86,8 +89,13 @@ new_earned w u t q single h x is =
       volume = h.attempt.volume ∙ ap (λ p. p.0) at ∙ sym (ap (λ (z : Count). z.volume) is);
       first = first ∙ sym (ap (λ (z : Count). z.first) is);
       count = count ∙ sym (ap (λ (z : Count). z.count) is);
+      within = (
+          let part = ap (λ (z : Count). z.first + z.count) is in
+          let all = done.within in
+          omega (arith, part, all, first, count));
       label = done.label;
       mark = done.mark;
+      unloaded = (let all = done.carried in omega (arith, all));
       fault = done.fault;
       opened = subst (λ (z : Count). Contains w.opens (opening z.connection z.reel)) (sym is) (reel_there t.k w.opens its.0 its.1);
     }

@@ -1,9 +1,10 @@
--- Openings and counts of attempts, whatever happens.
+-- Openings and counts of attempts, and what they wrote, whatever happens.
 use Rattle.std.proofs.Common.{◌≡◌, ℕ, List, [], Some, arith}
+use Rattle.drives.specs.Shop.{EachReelOnce}
 use Rattle.tape_events.specs.World.{World, Link, numbered}
 use Rattle.tape_events.specs.Events.{PlainEvent}
 use Rattle.tape_events.specs.First.{PlainDrive, first_world}
-use Rattle.tape_events.specs.Kept.{AreHeld}
+use Rattle.tape_events.specs.Kept.{AreHeld, AreLaid}
 use Rattle.tape_events.specs.Naming.{AreOpened}
 use Rattle.tape_events.specs.Owning.{IsOwned}
 use Rattle.tape_events.specs.Sending.{AreTold}
@@ -14,6 +15,8 @@ use Rattle.tape_events.proofs.SentWire.{OneReading, DroppedWrites, OneReply}
 use Rattle.tape_events.proofs.LabelledEvents.{Brings, quiet, listens, serves, event_brings}
 use Rattle.tape_events.proofs.LabelledServes.{served_earned}
 use Rattle.tape_events.proofs.LabelledSingle.{quiet_single, served_single}
+use Rattle.tape_events.proofs.LabelledOthers.{quiet_labelled}
+use Rattle.tape_events.proofs.LabelledServed.{served_labelled}
 use Rattle.tape_events.proofs.CountedAfter.{quiet_earned, listens_earned}
 
 none_there : (k : ℕ) (l : Link) → numbered [] k ≡ Some l → ⊥
@@ -48,3 +51,16 @@ brings_earned g h r w u (serves v) owned told single earned = served_earned g h 
 pub earned_after : OneReading → DroppedWrites → OneReply → (w : World) (event : PlainEvent) (u : World) → Happens w event u → AreHeld w.hall → IsOwned w → AreTold w → AreSingle w
     → AreCountsEarned w → AreCountsEarned u
 earned_after g h r w event u happens held owned told single earned = brings_earned g h r w u (event_brings w event u happens held) owned told single earned
+
+brings_labelled : OneReading → DroppedWrites → (w u : World) → Brings w u → AreHeld w.hall → AreHeld u.hall → AreLaid u.hall → EachReelOnce u.hall.shop → AreTold w → AreOpened w → AreSingle w
+    → AreLabelled w → AreLabelled u
+brings_labelled g h w u (quiet q counts) held held_after laid_after once_after told opened single labelled = quiet_labelled w u q labelled
+brings_labelled g h w u (listens q t) held held_after laid_after once_after told opened single labelled = quiet_labelled w u q labelled
+brings_labelled g h w u (serves v) held held_after laid_after once_after told opened single labelled =
+    served_labelled g h w u v held held_after laid_after once_after told opened single labelled
+
+-- what each attempt wrote stands on its reel
+pub labelled_after : OneReading → DroppedWrites → (w : World) (event : PlainEvent) (u : World) → Happens w event u → AreHeld w.hall → AreHeld u.hall → AreLaid u.hall
+    → EachReelOnce u.hall.shop → AreTold w → AreOpened w → AreSingle w → AreLabelled w → AreLabelled u
+labelled_after g h w event u happens held held_after laid_after once_after told opened single labelled =
+    brings_labelled g h w u (event_brings w event u happens held) held held_after laid_after once_after told opened single labelled

@@ -1,5 +1,5 @@
 -- What a request that is carried out makes of attempts and of their openings.
-use Rattle.std.proofs.Common.{◌≡◌, ◌≢◌, ◌⊎◌, ℕ, ◌+◌, ◌^◌, ◌<◌, true, option_map, Option, Some, None, Contains, refl, sym, ap, subst, ◌∙◌, inl, inr, arith}
+use Rattle.std.proofs.Common.{◌≡◌, ◌≢◌, ◌⊎◌, ℕ, ◌+◌, ◌^◌, ◌<◌, ◌≤◌, true, option_map, Option, Some, None, Contains, refl, sym, ap, subst, ◌∙◌, inl, inr, arith}
 use Rattle.std.proofs.lemmas.List.Elements.{Contains-append_left}
 use Rattle.std.proofs.lemmas.Bool.Decides.{eqb_tells}
 use Rattle.std.proofs.lemmas.Option.{same_Some}
@@ -10,6 +10,7 @@ use Rattle.tape_events.specs.Changes.{changed_from, link_of, opening, noted, ans
 use Rattle.tape_events.specs.Sending.{HasDone, request_in, IsSent, AreTold}
 use Rattle.tape_events.specs.Written.{IsEarnedBy, AreCountsEarned}
 use Rattle.tape_events.proofs.Numbers.{changed_is, with_here, with_other}
+use Rattle.tape_events.proofs.Sent.{still_unloaded}
 use Rattle.tape_events.proofs.SentWire.{OneReading, DroppedWrites}
 use Rattle.tape_events.proofs.SentServe.{nothing_there, serve_pending}
 use Rattle.tape_events.proofs.ToldEvents.{mapped}
@@ -54,7 +55,7 @@ pub served_step : OneReading → DroppedWrites → (w u : World) (v : Serves w u
 served_step g h w u v told l d at dump =
     served_sent g h w u v l d (subst (λ o. IsSent w.begun o l d) v.live ((told.each v.k l at).sent d dump))
 
--- all but how many were carried out
+-- all but how many were carried out, and those are no fewer
 pub record SameWrites (d e : Dumping) : Type 0 where
   pub run : e.run ≡ d.run
   pub volume : e.volume ≡ d.volume
@@ -63,6 +64,7 @@ pub record SameWrites (d e : Dumping) : Type 0 where
   pub blocks : e.blocks ≡ d.blocks
   pub mark : e.mark ≡ d.mark
   pub fault : e.fault ≡ d.fault
+  pub more : d.carried ≤ e.carried
 
 -- once the mark was accepted no request changes what was
 pub marked_writes : (w u : World) (v : Serves w u) (b : Begun) (d : Dumping) (step : Step) → HasDone b.run (Some v.s) d step → v.request ≡ request_in b d step → d.mark ≡ true
@@ -73,9 +75,9 @@ marked_writes w u v b d Label done asks marked = let clash = sym done.mark ∙ m
 marked_writes w u v b d (Block number) done asks marked = let clash = sym done.mark ∙ marked in absurd cc
 marked_writes w u v b d (Mark next) done asks marked = let clash = sym done.mark ∙ marked in absurd cc
 marked_writes w u v b d (Unload next) done asks marked =
-    subst (λ r. SameWrites d (noted r v.reply d)) (sym asks) record { run = refl; volume = refl; first = refl; label = refl; blocks = refl; mark = refl; fault = refl }
+    subst (λ r. SameWrites d (noted r v.reply d)) (sym asks) record { run = refl; volume = refl; first = refl; label = refl; blocks = refl; mark = refl; fault = refl; more = omega arith }
 marked_writes w u v b d Close done asks marked =
-    subst (λ r. SameWrites d (noted r v.reply d)) (sym asks) record { run = refl; volume = refl; first = refl; label = refl; blocks = refl; mark = refl; fault = refl }
+    subst (λ r. SameWrites d (noted r v.reply d)) (sym asks) record { run = refl; volume = refl; first = refl; label = refl; blocks = refl; mark = refl; fault = refl; more = omega arith }
 
 -- each count is that of an attempt still
 link_after : (w u : World) (v : Serves w u) (j : ℕ) (l : Link) → link_of w j ≡ Some l
@@ -118,8 +120,10 @@ earned_as w u v x l y d e b p at dump same = record {
   volume = same.volume ∙ p.volume;
   first = same.first ∙ p.first;
   count = same.blocks ∙ p.count;
+  within = p.within;
   label = same.label ∙ p.label;
   mark = same.mark ∙ p.mark;
+  unloaded = still_unloaded b.run d e same.first same.blocks same.more p.unloaded;
   fault = same.fault ∙ p.fault;
   opened = opens_after w u v (opening x.connection x.reel) p.opened;
 }
@@ -144,6 +148,6 @@ served_earned g h w u v told earned x among =
         p.1,
         p.2,
         earned_as w u v x p.0 y.0 p.1 p.1 p.2 p.3 y.1 (ap (λ (z : Link). z.dump) same ∙ p.3.dump)
-            record { run = refl; volume = refl; first = refl; label = refl; blocks = refl; mark = refl; fault = refl },
+            record { run = refl; volume = refl; first = refl; label = refl; blocks = refl; mark = refl; fault = refl; more = omega arith },
       )
     ]

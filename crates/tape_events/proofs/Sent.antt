@@ -1,5 +1,5 @@
 -- How many steps come before a step, and what is left of a session's state when its side is another.
-use Rattle.std.proofs.Common.{◌≡◌, ℕ, zero, suc, ◌+◌, ◌-◌, ◌^◌, ◌<◌, ◌≤◌, Bool, true, false, if◌then◌else◌, nat_lt, [], ◌∷◌, length, Option, Some, refl, sym, subst, ◌∙◌, arith}
+use Rattle.std.proofs.Common.{◌≡◌, ℕ, zero, suc, ◌+◌, ◌-◌, ◌^◌, ◌<◌, ◌≤◌, Bool, true, false, if◌then◌else◌, nat_lt, [], ◌∷◌, length, Option, Some, refl, sym, ap, subst, ◌∙◌, arith}
 use Rattle.std.proofs.lemmas.List.{length-append}
 use Rattle.rmt_wire.specs.Counted.{raised}
 use Rattle.rmt_server.specs.Hall.{Side}
@@ -53,6 +53,14 @@ before_length run first next Close =
     let all = length-append (steps_to run first next) (Mark next ∷ Unload next ∷ []) in
     let many = to_length run first next in
     omega (arith, all, many)
+
+-- what comes before the close was carried out still
+pub still_unloaded : (run : PlainRun) (d e : Dumping) → e.first ≡ d.first → e.blocks ≡ d.blocks → d.carried ≤ e.carried
+    → length (steps_before run d.first (d.first + d.blocks) Close) ≤ d.carried → length (steps_before run e.first (e.first + e.blocks) Close) ≤ e.carried
+still_unloaded run d e first blocks more was =
+    let same : length (steps_before run e.first (e.first + e.blocks) Close) ≡ length (steps_before run d.first (d.first + d.blocks) Close)
+    = ap (λ n. length (steps_before run n (n + e.blocks) Close)) first ∙ ap (λ n. length (steps_before run d.first (d.first + n) Close)) blocks in
+    omega (arith, same, more, was)
 
 -- a count that is far from the greatest u64 is raised by one
 pub raised_one : (n : ℕ) → n + 1 < 2 ^ 64 → raised n ≡ n + 1

@@ -153,10 +153,10 @@ goes_next old new x d number next h is at =
 abbrev pub on_by_one : Dumping → Dumping
 on_by_one d = record d { carried = raised d.carried }
 
-label_accepted : (d : Dumping) → d.label ≡ false → accepted d ≡ record d { label = true }
+pub label_accepted : (d : Dumping) → d.label ≡ false → accepted d ≡ record d { label = true }
 label_accepted d is = ap (λ b. if b then record d { blocks = raised d.blocks } else record d { label = true }) is
 
-block_accepted : (d : Dumping) → d.label ≡ true → accepted d ≡ record d { blocks = raised d.blocks }
+pub block_accepted : (d : Dumping) → d.label ≡ true → accepted d ≡ record d { blocks = raised d.blocks }
 block_accepted d is = ap (λ b. if b then record d { blocks = raised d.blocks } else record d { label = true }) is
 
 label_tested : (old : Standing) (s x : Side) (d : Dumping) (b c : Bool) → HasDone old.run (Some s) d Label → d.carried + 1 < 2 ^ 64

@@ -88,7 +88,7 @@ nothing_there g s way bytes rest found (reached, unread, is) other gives =
     nothing_given rest found (subst (λ l. Gives l (Ok (Some found)) rest) (sym same) gives)
 
 -- no request of the client's is a write that is too long to be kept
-never_dropped : (b : Begun) (d : Dumping) (step : Step) (n : ℕ) → request_in b d step ≢ WriteDropped n
+pub never_dropped : (b : Begun) (d : Dumping) (step : Step) (n : ℕ) → request_in b d step ≢ WriteDropped n
 never_dropped b d Open n is = cc
 never_dropped b d Rewind n is = cc
 never_dropped b d Label n is = cc
@@ -130,7 +130,7 @@ serve_sent g h begun s l d bytes rest found reply reached session (inr (b, step,
     inl ((serve_pending g h b s l.toward d step bytes rest found reply reached session p unread gives left).1)
 
 -- the reply to each step, and where it leads
-served_leads : ReplyTexts → (old : Standing) (payload : List (List ℕ)) (trouble : Trouble) (holders : List ℕ) (shop shop' : Shop) (s : Side) (reached : RequestHeld)
+pub served_leads : ReplyTexts → (old : Standing) (payload : List (List ℕ)) (trouble : Trouble) (holders : List ℕ) (shop shop' : Shop) (s : Side) (reached : RequestHeld)
     (session : PlainSession) (d : Dumping) (step : Step) (reply : PlainReply) → IsRun old.run → HasDone old.run (Some s) d step → d.carried + 1 < 2 ^ 64
     → SpellsRequest (request_text (request_of old.run payload d.volume d.first step)) (request_of old.run payload d.volume d.first step)
     → TroubledServeStep trouble holders (scene shop s.session) (request_of old.run payload d.volume d.first step) reply (scene shop' session)

@@ -70,7 +70,7 @@ volumes_from : (run : PlainRun) (volume first : ℕ) (c : VolumeCount) (counts :
 volumes_from run volume first c counts v =
     subst (λ f. AreVolumes run (c.volume + 1) (f + c.count) counts) (sym v.1) (subst (λ w. AreVolumes run (w + 1) (first + c.count) counts) (sym v.0) v.4)
 
-few_volumes : (run : PlainRun) (volume first : ℕ) (counts : List VolumeCount) → volume ≤ first + 1 → first ≤ run.blocks → AreVolumes run volume first counts
+pub few_volumes : (run : PlainRun) (volume first : ℕ) (counts : List VolumeCount) → volume ≤ first + 1 → first ≤ run.blocks → AreVolumes run volume first counts
     → ((checkpoint_after volume first counts).0 ≤ run.blocks + 2) × ((checkpoint_after volume first counts).1 ≤ run.blocks)
 few_volumes run volume first [] at h v = (omega (arith, at, h), h)
 few_volumes run volume first (c ∷ []) at h v =
@@ -98,7 +98,7 @@ few_volumes run volume first (c ∷ d ∷ counts) at h v =
 few_digits : (n : ℕ) → n ≤ 999999999999 → length (decimal n) ≤ 12
 few_digits n small = length-decimal-le 12 n (omega arith) (omega arith) (omega arith)
 
-label_short : (run : PlainRun) (volume first : ℕ) → IsRun run → volume ≤ 999999999999 → first ≤ 999999999999 → length (label_text run volume first) ≤ 1024
+pub label_short : (run : PlainRun) (volume first : ℕ) → IsRun run → volume ≤ 999999999999 → first ≤ 999999999999 → length (label_text run volume first) ≤ 1024
 label_short run volume first good v f =
     let name = good.name in
     let level = few_digits run.level (let l = good.level in omega arith) in

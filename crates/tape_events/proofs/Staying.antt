@@ -1,26 +1,29 @@
 -- What stays so, in the first world and after each event.
-use Rattle.std.proofs.Common.{◌≡◌, ℕ, zero, suc, List, [], ◌∷◌, length, map, replicate, Contains, Some, refl, sym, ◌∙◌, arith}
+use Rattle.std.proofs.Common.{◌≡◌, ℕ, zero, suc, List, [], ◌∷◌, length, map, replicate, Contains, Some, refl, sym, ap, ◌∙◌, inl, inr, arith}
 use Rattle.std.specs.Prelude.{slice_get, slice_index_or}
 use Rattle.drives.specs.Shop.{kept_reel, slot, rack}
+use Rattle.std.proofs.lemmas.Bool.Decides.{eqb_tells}
 use Rattle.std.proofs.lemmas.List.{length-map, length-replicate}
 use Rattle.std.proofs.lemmas.Option.{same_Some}
 use Rattle.tape_events.specs.World.{World, numbered}
 use Rattle.tape_events.specs.Events.{PlainEvent}
 use Rattle.tape_events.specs.First.{PlainDrive, AreGoodDrives, blank_rack, first_world}
 use Rattle.tape_events.specs.Steps.{Happens, Runs, none, one_more}
-use Rattle.tape_events.specs.Kept.{AreThere, IsKept, NoTwoHolders, DumpdatesGained}
+use Rattle.tape_events.specs.Kept.{AreThere, IsKept, NoTwoHolders, DumpdatesGained, SentRequests, LatchedReels, ClientsCounts}
 use Rattle.tape_events.specs.Naming.{SameNames}
+use Rattle.tape_events.specs.Written.{LabelledReels, CountedReels}
 use Rattle.tape_events.proofs.SentWire.{OneReading, DroppedWrites, OneReply}
 use Rattle.tape_events.proofs.Lawfully.{Lawfully, lawful_after}
 use Rattle.tape_events.proofs.Owned.{Standings, owned_after, first_owned}
 use Rattle.tape_events.proofs.ToldAfter.{first_told, told_stays}
-use Rattle.tape_events.proofs.LabelledAfter.{first_single, first_earned, single_after, earned_after}
+use Rattle.tape_events.proofs.LabelledAfter.{first_single, first_labelled, first_earned, single_after, labelled_after, earned_after}
+use Rattle.tape_events.proofs.Counted.{labelled_reels, counted_reels}
 use Rattle.tape_events.proofs.Tidy.{tidy_after}
 use Rattle.tape_events.proofs.Held.{held_after, side_there}
-use Rattle.tape_events.proofs.Laid.{laid_after}
+use Rattle.tape_events.proofs.Laid.{laid_after, online_drive, drive_within}
 use Rattle.tape_events.proofs.Booked.{Goings, booked_after}
 use Rattle.tape_events.proofs.Named.{names_after, named_after, first_named}
-use Rattle.tape_events.proofs.Opened.{opened_after, first_opened}
+use Rattle.tape_events.proofs.Opened.{opened_after, first_opened, names_differ}
 
 no_number : {X : Type 0} (k : ℕ) (x : X) → numbered {X = X} [] k ≡ Some x → ⊥
 no_number zero x is = cc
@@ -51,6 +54,7 @@ first_kept drives good = record {
   owned = first_owned (first_world drives) refl refl refl;
   told = first_told drives;
   single = first_single drives;
+  labelled = first_labelled drives;
   counted = first_earned drives;
   tidy = record { paired = refl; each = λ k l at. absurd (no_number k l at) };
   held = record {
@@ -96,6 +100,7 @@ kept_after g w u event k happens =
       owned = owned_after g.standings w event u happens k.owned;
       told = told_stays g.reading g.dropped g.reply w u event k.lawful k.owned k.tidy k.booked k.told happens;
       single = single_after g.reading g.dropped w event u happens k.held k.told k.opened k.single;
+      labelled = labelled_after g.reading g.dropped w event u happens k.held held laid named.once k.told k.opened k.single k.labelled;
       counted = earned_after g.reading g.dropped g.reply w event u happens k.held k.owned k.told k.single k.counted;
       tidy = tidy_after w event u happens k.tidy;
       held = held;
@@ -119,3 +124,29 @@ no_two_holders w kept j k d s t one has other also =
 
 pub dumpdates_gained : (w : World) → IsKept w → DumpdatesGained w
 dumpdates_gained w kept = record { dates = kept.booked.dates; once = kept.booked.once; earned = kept.booked.earned }
+
+pub reels_counted : (w : World) → IsKept w → CountedReels w
+reels_counted w kept = counted_reels w kept.held kept.laid kept.once kept.labelled kept.counted
+
+pub reels_labelled : (w : World) → IsKept w → LabelledReels w
+reels_labelled w kept = labelled_reels w kept.held kept.laid kept.once kept.labelled
+
+pub sent_requests : (w : World) → IsKept w → SentRequests w
+sent_requests w kept k l d at dump = elim ((kept.told.each k l at).sent d dump) [
+  | inl settled ↦ inl settled.sent
+  | inr (b, step, begun, pending) ↦ inr pending.sent
+]
+
+pub latched_reels : (w : World) → IsKept w → LatchedReels w
+latched_reels w kept = record {
+  first = λ k d s at on. (kept.laid.latched d (k, s, at, on), kept.held.opened k d s at (online_drive s.session d on));
+  once = λ j k d e s t one on two off same. elim (eqb_tells d e) [
+    | inl (equal, its) ↦ no_two_holders w kept j k e s t one (online_drive s.session e (on ∙ ap Some its)) two (online_drive t.session e off)
+    | inr (unequal, other) ↦
+        absurd (names_differ w.hall.shop d e kept.once.once other (drive_within w.hall j s d kept.held one (online_drive s.session d on)) (kept.laid.latched d (j, s, one, on))
+        (drive_within w.hall k t e kept.held two (online_drive t.session e off)) (kept.laid.latched e (k, t, two, off)) same)
+  ];
+}
+
+pub clients_counts : (w : World) → IsKept w → ClientsCounts w
+clients_counts w kept = record { listed = kept.booked.listed; none = kept.booked.none }

@@ -39,7 +39,7 @@ first_told drives = record { good = λ n b at. absurd (no_number n b at); each =
 
 pub told_after : Sayings → (w : World) (event : PlainEvent) (u : World) → HasLawful w → IsOwned w → AreTidy w → AreBooked w → Happens w event u → AreTold w → AreTold u
 told_after g w (StartRun run payload) u lawful owned tidy booked ((none, good, long), (reader, is)) t =
-    subst AreTold (sym is) (begun_told w _ _ (started_good run payload good) refl refl refl (no_run_idle w none owned) t)
+    subst AreTold (sym is) (begun_told w _ _ (started_good run payload good long) refl refl refl (no_run_idle w none owned) t)
 told_after g w Connect u lawful owned tidy booked (may, (c, there, ready, is)) t =
     subst AreTold (sym is) (connected_told w c tidy booked (lawful c there) there ready t)
 told_after g w (Send fails) u lawful owned tidy booked (may, (c, step, k, b, there, stage, own, mine, sends)) t =

@@ -1,5 +1,5 @@
 -- What is told of each connection, when a run is begun, an attempt starts, or the client sends.
-use Rattle.std.proofs.Common.{◌≡◌, ◌⊎◌, ℕ, zero, suc, ◌+◌, ◌≤◌, Bool, true, false, List, [], ◌∷◌, ◌++◌, IsTrue, length, append_assoc, get_or, take, drop, Option, Some, None, refl, sym, ap, subst, ◌∙◌, inl, inr, arith}
+use Rattle.std.proofs.Common.{◌≡◌, ◌⊎◌, ℕ, zero, suc, ◌+◌, ◌*◌, ◌≤◌, Bool, true, false, List, [], ◌∷◌, ◌++◌, IsTrue, length, append_assoc, get_or, take, drop, Option, Some, None, refl, sym, ap, subst, ◌∙◌, inl, inr, arith}
 use Rattle.std.proofs.lemmas.Option.{same_Some}
 use Rattle.std.proofs.lemmas.List.{append-nil}
 use Rattle.rmt_wire.specs.Limits.{data_limit}
@@ -11,6 +11,7 @@ use Rattle.rmt_server.specs.Session.PlainSession.{Idle}
 use Rattle.dump_run.specs.Run.{PlainRun, IsRun}
 use Rattle.dump_run.specs.Label.{label}
 use Rattle.dump_run.specs.Blocks.{cut_blocks}
+use Rattle.dump_run.proofs.Cut.{size_cut}
 use Rattle.dump_client.specs.Script.{request_of}
 use Rattle.dump_client.specs.Standing.{Standing, standing, checkpoint_of}
 use Rattle.dump_client.specs.Lawful.{IsLawful, StageFits, IsRunLeft, attempt_at}
@@ -76,13 +77,15 @@ begun_told w u b good begun links hall none t = record {
   };
 }
 
-pub started_good : (run : PlainRun) (payload : List ℕ) → IsRun run → IsGood (record { run = run; payload = cut_blocks run.blocks run.block_bytes payload })
-started_good run payload good = record {
+pub started_good : (run : PlainRun) (payload : List ℕ) → IsRun run → length payload ≡ run.blocks * run.block_bytes
+    → IsGood (record { run = run; payload = cut_blocks run.blocks run.block_bytes payload })
+started_good run payload good size = record {
   run = good;
   blocks = λ n. (
       let most = cut_most run.blocks run.block_bytes payload n in
       let limit = good.block_bytes.1 in
       omega (arith, most, limit));
+  whole = size_cut run.blocks run.block_bytes payload size;
 }
 
 pub no_run_idle : (w : World) → NoRun w → IsOwned w → (k : ℕ) → w.own ≡ Some k → ⊥

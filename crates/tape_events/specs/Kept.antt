@@ -1,5 +1,5 @@
 -- What stays so, whatever happens.
-use Rattle.std.specs.Prelude.{◌≡◌, ℕ, suc, ◌<◌, ◌==◌, Bool, true, false, List, [], ◌∷◌, length, slice_get, Contains, Option, Some, None}
+use Rattle.std.specs.Prelude.{◌≡◌, ◌⊎◌, ℕ, suc, ◌+◌, ◌<◌, ◌==◌, Bool, true, false, List, [], ◌∷◌, length, slice_get, Contains, Option, Some, None}
 use Rattle.rmt_server.specs.Hall.{Hall, Side}
 use Rattle.rmt_server.specs.Session.{PlainSession}
 use Rattle.rmt_server.specs.Session.PlainSession.{Idle, Offline, Online}
@@ -11,12 +11,12 @@ use Rattle.dump_client.specs.Lawful.{IsLawful}
 use Rattle.dump_client.specs.Position.{Covers}
 use Rattle.dump_client.specs.declared.count.VolumeCount.{VolumeCount}
 use Rattle.dump_client.specs.declared.stage.Stage.TheVariants.{Finished}
-use Rattle.tape_events.specs.World.{World, Link, Begun, Caller, Count, Entered, numbered}
-use Rattle.tape_events.specs.Changes.{side_of, link_of}
+use Rattle.tape_events.specs.World.{World, Link, Dumping, Begun, Caller, Count, Entered, numbered}
+use Rattle.tape_events.specs.Changes.{side_of, link_of, first_name}
 use Rattle.tape_events.specs.Steps.{entry_of}
 use Rattle.tape_events.specs.Owning.{IsOwned}
 use Rattle.tape_events.specs.Sending.{AreTold}
-use Rattle.tape_events.specs.Written.{AreSingle, AreCountsEarned}
+use Rattle.tape_events.specs.Written.{AreSingle, AreLabelled, AreCountsEarned}
 use Rattle.tape_events.specs.Naming.{AreNamed, AreOpened}
 
 -- A connection of which either side is over is cut, and where the server's is, nothing is on the way to that.
@@ -117,6 +117,7 @@ pub record IsKept (w : World) : Type 0 where
   pub owned : IsOwned w
   pub told : AreTold w
   pub single : AreSingle w
+  pub labelled : AreLabelled w
   pub counted : AreCountsEarned w
   pub tidy : AreTidy w
   pub held : AreHeld w.hall
@@ -128,8 +129,8 @@ pub record IsKept (w : World) : Type 0 where
 -- No drive has two holders: no two live sides have one drive open, with its reel or without it.
 abbrev pub NoTwoHolders : World → Type 0
 NoTwoHolders w =
-    (j k d : ℕ) (s t : Side) → side_of w.hall j ≡ Some s → drive_in s.session ≡ Some d → side_of w.hall k ≡ Some t → drive_in t.session ≡ Some d
-    → j ≡ k
+    (j k d : ℕ) (s t : Side) → side_of w.hall j ≡ Some s → drive_in s.session ≡ Some d
+    → side_of w.hall k ≡ Some t → drive_in t.session ≡ Some d → j ≡ k
 
 -- Dumpdates gained only dumps whose counted volumes are all their blocks in order: it is the empty list with the entries of the
 -- runs that were entered, each once, in order, and the counts of each such run cover it.
@@ -137,3 +138,20 @@ pub record DumpdatesGained (w : World) : Type 0 where
   pub dates : w.dates ≡ dates_after w.begun [] w.entered
   pub once : AreOnce w.entered
   pub earned : (e : Entered) → Contains w.entered e → IsEarned w e
+
+-- As many requests were carried out of a client's connection as were sent there, or one fewer.
+abbrev pub SentRequests : World → Type 0
+SentRequests w =
+    (k : ℕ) (l : Link) (d : Dumping) → link_of w k ≡ Some l → l.dump ≡ Some d → (d.sent ≡ d.carried) ⊎ (d.sent ≡ d.carried + 1)
+
+-- A latched reel is first on the stack of the drive that its session holds, and no other session has it.
+pub record LatchedReels (w : World) : Type 0 where
+  pub first : (k d : ℕ) (s : Side) → side_of w.hall k ≡ Some s → online_in s.session ≡ Some d
+      → IsFirstAway (rack_at w.hall.shop d).stack × (slice_get w.hall.holders d ≡ Some k)
+  pub once : (j k d e : ℕ) (s t : Side) → side_of w.hall j ≡ Some s → online_in s.session ≡ Some d → side_of w.hall k ≡ Some t
+      → online_in t.session ≡ Some e → first_name (rack_at w.hall.shop d).stack ≡ first_name (rack_at w.hall.shop e).stack → j ≡ k
+
+-- The counts of the client's number, in order, are those that the client has. No number above those of the runs begun has counts.
+pub record ClientsCounts (w : World) : Type 0 where
+  pub listed : (c : Caller) → w.caller ≡ Some c → counts_in w.counts c.number ≡ c.at.counts
+  pub none : (run : ℕ) → length w.begun < run → counts_in w.counts run ≡ []

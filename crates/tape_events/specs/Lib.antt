@@ -10,3 +10,5 @@ pub mod Owning
 pub mod Sending
 pub mod Standing
 pub mod Written
+pub mod Serving
+pub mod Smooth

@@ -164,10 +164,11 @@ pub record IsTold (w : World) (k : ℕ) (o : Option Side) (l : Link) : Type 0 wh
   pub sent : (d : Dumping) → l.dump ≡ Some d → IsSent w.begun o l d
   pub own : (d : Dumping) (c : Caller) → l.dump ≡ Some d → w.own ≡ Some k → w.caller ≡ Some c → IsToldAt c.at.stage w.begun o l c d
 
--- a run within its limits, and a payload each block of which fits a record
+-- A run within its limits, and a payload each block of which fits a record. It has all blocks of the run, and each is whole.
 pub record IsGood (b : Begun) : Type 0 where
   pub run : IsRun b.run
   pub blocks : (n : ℕ) → length (get_or b.payload n []) ≤ data_limit
+  pub whole : (i : ℕ) → i < b.run.blocks → length (get_or b.payload i []) ≡ b.run.block_bytes
 
 -- of each connection that is told
 pub record AreTold (w : World) : Type 0 where

@@ -37,3 +37,7 @@ IsInDrive h name entries = (k : ℕ) × (s : Side) × (side_of h k ≡ Some s) �
 -- These entries stand on the reel of that name, wherever it is.
 abbrev pub StandsOn : Hall → List ℕ → List PlainEntry → Type 0
 StandsOn h name entries = LiesOn h.shop name entries ⊎ IsInDrive h name entries
+
+-- They do, and no others.
+abbrev pub HoldsJust : Hall → List ℕ → List PlainEntry → Type 0
+HoldsJust h name entries = StandsOn h name entries × ((others : List PlainEntry) → StandsOn h name others → others ≡ entries)

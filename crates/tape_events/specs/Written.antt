@@ -7,12 +7,12 @@ use Rattle.rmt_server.specs.Session.{PlainReel}
 use Rattle.dump_run.specs.Run.{PlainRun}
 use Rattle.dump_run.specs.Label.{label}
 use Rattle.dump_client.specs.Lawful.{steps_before}
-use Rattle.dump_client.specs.declared.step.Step.TheVariants.{Unload}
+use Rattle.dump_client.specs.declared.step.Step.TheVariants.{Unload, Close}
 use Rattle.tape_events.specs.World.{World, Link, Dumping, Begun, Count, Opening, numbered}
 use Rattle.tape_events.specs.Changes.{side_of, link_of, opening}
 use Rattle.tape_events.specs.Naming.{HasReel, IsLastOpening}
 use Rattle.tape_events.specs.Sending.{IsOnlineWith}
-use Rattle.tape_events.specs.Standing.{StandsOn}
+use Rattle.tape_events.specs.Standing.{StandsOn, HoldsJust}
 
 -- blocks of a payload, a record each, so many from this one on
 abbrev pub block_records : List (List ℕ) → ℕ → ℕ → List PlainEntry
@@ -61,6 +61,12 @@ IsLabelled w k d =
 abbrev pub AreLabelled : World → Type 0
 AreLabelled w = (k : ℕ) (l : Link) (d : Dumping) → link_of w k ≡ Some l → l.dump ≡ Some d → IsLabelled w k d
 
+-- What a quiet attempt whose label was accepted wrote stands on its reel, and nothing else stands there.
+abbrev pub LabelledReels : World → Type 0
+LabelledReels w =
+    (k : ℕ) (l : Link) (d : Dumping) (reel : List ℕ) → link_of w k ≡ Some l → l.dump ≡ Some d → d.label ≡ true
+    → IsQuiet w.opens k d reel → (b : Begun) × (numbered w.begun d.run ≡ Some b) × HoldsJust w.hall reel (written b.run b.payload d)
+
 -- All openings of a connection of the client's are of one reel. Before its first request was carried out there is none, and
 -- once its label was accepted there is one.
 pub record IsSingle (opens : List Opening) (k : ℕ) (d : Dumping) : Type 0 where
@@ -71,8 +77,8 @@ pub record IsSingle (opens : List Opening) (k : ℕ) (d : Dumping) : Type 0 wher
 abbrev pub AreSingle : World → Type 0
 AreSingle w = (k : ℕ) (l : Link) (d : Dumping) → link_of w k ≡ Some l → l.dump ≡ Some d → IsSingle w.opens k d
 
--- A count is that of an attempt of a run that was begun: its label, as many blocks and its mark were accepted, no write met a
--- device fault, and its connection opened that reel.
+-- A count is that of an attempt of a run that was begun: its label, as many blocks of the run and its mark were accepted, its MTOFFL
+-- was carried out, no write met a device fault, and its connection opened that reel.
 pub record IsEarnedBy (w : World) (x : Count) (l : Link) (d : Dumping) (b : Begun) : Type 0 where
   pub there : link_of w x.connection ≡ Some l
   pub dump : l.dump ≡ Some d
@@ -81,8 +87,10 @@ pub record IsEarnedBy (w : World) (x : Count) (l : Link) (d : Dumping) (b : Begu
   pub volume : d.volume ≡ x.volume
   pub first : d.first ≡ x.first
   pub count : d.blocks ≡ x.count
+  pub within : x.first + x.count ≤ b.run.blocks
   pub label : d.label ≡ true
   pub mark : d.mark ≡ true
+  pub unloaded : length (steps_before b.run d.first (d.first + d.blocks) Close) ≤ d.carried
   pub fault : d.fault ≡ false
   pub opened : Contains w.opens (opening x.connection x.reel)
 
@@ -90,15 +98,16 @@ pub record IsEarnedBy (w : World) (x : Count) (l : Link) (d : Dumping) (b : Begu
 abbrev pub AreCountsEarned : World → Type 0
 AreCountsEarned w = (x : Count) → Contains w.counts x → (l : Link) × (d : Dumping) × (b : Begun) × IsEarnedBy w x l d b
 
--- What is promised of a count: its connection opened its reel, and that reel is still there. Where no session opened the reel for
--- writing since, whatever stands on it is exactly the volume of the count.
+-- What is promised of a count: its run was begun, and has its blocks; its connection opened its reel, and that reel is still there.
+-- Where no session opened the reel for writing since, it holds the volume of the count, and nothing else.
 pub record IsOnItsReel (w : World) (x : Count) : Type 0 where
-  pub opened : Contains w.opens (opening x.connection x.reel)
-  pub there : HasReel w.hall.shop x.reel
   pub begun : Begun
   pub begun_as : numbered w.begun x.run ≡ Some begun
-  pub whole : IsLastOpening w.opens x.connection x.reel → (entries : List PlainEntry) → StandsOn w.hall x.reel entries
-      → entries ≡ whole_volume begun.run begun.payload x.volume x.first x.count
+  pub within : x.first + x.count ≤ begun.run.blocks
+  pub opened : Contains w.opens (opening x.connection x.reel)
+  pub there : HasReel w.hall.shop x.reel
+  pub whole : IsLastOpening w.opens x.connection x.reel
+      → HoldsJust w.hall x.reel (whole_volume begun.run begun.payload x.volume x.first x.count)
 
 -- Each reel that was counted and that no session opened for writing since holds exactly its volume.
 abbrev pub CountedReels : World → Type 0

@@ -1,15 +1,20 @@
-ghost use Rattle.std.specs.Prelude.{◌≡◌, List, ◌++◌};
-ghost use Rattle.tape_events.specs.World.{World};
+ghost use Rattle.std.specs.Prelude.{◌≡◌, ◌⊎◌, ℕ, List, ◌++◌, Some};
+ghost use Rattle.tape.specs.declared.trouble.Trouble.{Trouble};
+ghost use Rattle.tape_events.specs.World.{World, Link, Dumping};
+ghost use Rattle.tape_events.specs.Changes.{link_of, calm, ended_at};
 ghost use Rattle.tape_events.specs.Events.{PlainEvent};
+ghost use Rattle.tape_events.specs.Events.PlainEvent.{Serve};
 ghost use Rattle.tape_events.specs.Steps.{Runs, Happens};
 ghost use Rattle.tape_events.specs.First.{PlainDrive, AreGoodDrives, first_world};
-ghost use Rattle.tape_events.specs.Kept.{IsKept, NoTwoHolders, DumpdatesGained};
+ghost use Rattle.tape_events.specs.Kept.{IsKept, AreHeld, NoTwoHolders, DumpdatesGained, SentRequests, LatchedReels, ClientsCounts};
 ghost use Rattle.tape_events.specs.Naming.{SameNames};
+ghost use Rattle.tape_events.specs.Serving.{CarriesOut, IsNextSent, Meets, OthersStay, IsMoveDone, IsWholeInBin};
+ghost use Rattle.tape_events.specs.Written.{LabelledReels, CountedReels};
 
 use dump_client::same_run;
 use rmt_wire::{dropped_writes, one_reading, one_reply};
 
-/// Events that follow others are events from where those led.
+/// Two lists of events that follow each other are one list of events.
 ///
 /// It does nothing: its contract is a law of the definitions.
 #[tactic(auto, using(crate::proofs::Runs::run_on))]
@@ -19,8 +24,15 @@ pub fn one_run()
 {}
 
 /// What stays so whatever happens: the first world of good drives has it, each event leaves it, and so it holds after every
-/// list of events. No event takes a reel away, or brings one. So no drive has two holders, and dumpdates gained only dumps
-/// whose counted volumes are all their blocks in order.
+/// list of events. No event takes a reel away, or brings one. So the holder of a drive is the connection whose live side has
+/// it open, and no drive has two; each reel that was counted, and that no session opened for writing since, holds exactly its
+/// volume; and dumpdates gained only dumps whose counted volumes are all their blocks in order.
+///
+/// Where the label of an attempt was accepted and no write of it met a device fault, what it wrote stands on its reel, and
+/// nothing else, while no session opened that reel for writing since.
+///
+/// As many requests were carried out of a client's connection as were sent there, or one fewer; a latched reel is one
+/// session's, and first on the stack of the drive that this holds; and the counts of the client's number are its own.
 ///
 /// It does nothing: its contract is a law of the definitions.
 pub fn kept()
@@ -29,11 +41,40 @@ pub fn kept()
     ensures runs { (drives : List PlainDrive) (events : List PlainEvent) (w : World) → AreGoodDrives drives →
         Runs (first_world drives) events w → IsKept w }
     ensures names { (w u : World) (event : PlainEvent) → IsKept w → Happens w event u → SameNames w.hall.shop u.hall.shop }
+    ensures holders { (w : World) → IsKept w → AreHeld w.hall }
     ensures no_two_holders { (w : World) → IsKept w → NoTwoHolders w }
+    ensures labelled_reels { (w : World) → IsKept w → LabelledReels w }
+    ensures counted_reels { (w : World) → IsKept w → CountedReels w }
     ensures dumpdates_gained { (w : World) → IsKept w → DumpdatesGained w }
+    ensures sent_requests { (w : World) → IsKept w → SentRequests w }
+    ensures latched_reels { (w : World) → IsKept w → LatchedReels w }
+    ensures clients_counts { (w : World) → IsKept w → ClientsCounts w }
 {
     same_run();
     one_reading();
     dropped_writes();
     one_reply();
+}
+
+/// What one request comes to that the server carries out, in a world where all is kept.
+///
+/// Of a client's connection it is the one request that was sent and not carried out. A request of any session, stale or not,
+/// is refused, or meets the drive that this session still holds, or opens a drive that is free; and it touches no drive that
+/// another has open. Where an MTOFFL of a client's session is done, the reel lies in the bin with its whole volume, whether
+/// or not the reply arrives.
+///
+/// It does nothing: its contract is a law of the definitions.
+pub fn one_request()
+    ensures carries { (w u : World) (k : ℕ) (trouble : Trouble) → Happens w (Serve k trouble) u →
+        CarriesOut w k trouble u ⊎ (u ≡ ended_at (calm w) k) }
+    ensures next_request { (w u : World) (k : ℕ) (trouble : Trouble) (c : CarriesOut w k trouble u) (l : Link) (d : Dumping) →
+        IsKept w → link_of w k ≡ Some l → l.dump ≡ Some d → IsNextSent w d c.request }
+    ensures stale_requests { (w u : World) (k : ℕ) (trouble : Trouble) (c : CarriesOut w k trouble u) → IsKept w →
+        Meets w k c.s.session c.request c.reply c.session }
+    ensures others_stay { (w u : World) (k : ℕ) (trouble : Trouble) (c : CarriesOut w k trouble u) → IsKept w → OthersStay w k u }
+    ensures whole_at_the_move { (w u : World) (k : ℕ) (trouble : Trouble) (c : CarriesOut w k trouble u) (l : Link) (d : Dumping) →
+        IsKept w → link_of w k ≡ Some l → l.dump ≡ Some d → IsMoveDone c.request c.reply → IsWholeInBin w k d u }
+{
+    one_reading();
+    dropped_writes();
 }

@@ -4,7 +4,7 @@
 #![tactic(auto)]
 
 mod laws;
-#[cfg(test)]
-mod tests;
+mod order;
 
-pub use laws::{kept, one_run};
+pub use laws::{kept, one_request, one_run};
+pub use order::smooth;

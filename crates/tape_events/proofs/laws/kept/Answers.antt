@@ -1,4 +1,4 @@
-use Rattle.tape_events.proofs.Staying.{first_kept, kept_after, runs_kept, kept_names, no_two_holders, dumpdates_gained}
+use Rattle.tape_events.proofs.Staying.{first_kept, kept_after, runs_kept, kept_names, no_two_holders, reels_labelled, reels_counted, dumpdates_gained, sent_requests, latched_reels, clients_counts}
 use Rattle.tape_events.specs.First.{first_world}
 use Rattle.tape_events.proofs.laws.kept.Goals as goal
 
@@ -28,8 +28,26 @@ returns-clause-runs c = λ drives events w good run. runs_kept record {
 pub returns-clause-names : goal.returns-clause-names
 returns-clause-names c = kept_names
 
+pub returns-clause-holders : goal.returns-clause-holders
+returns-clause-holders c = λ w kept. kept.held
+
 pub returns-clause-no_two_holders : goal.returns-clause-no_two_holders
 returns-clause-no_two_holders c = no_two_holders
 
+pub returns-clause-labelled_reels : goal.returns-clause-labelled_reels
+returns-clause-labelled_reels c = reels_labelled
+
+pub returns-clause-counted_reels : goal.returns-clause-counted_reels
+returns-clause-counted_reels c = reels_counted
+
 pub returns-clause-dumpdates_gained : goal.returns-clause-dumpdates_gained
 returns-clause-dumpdates_gained c = dumpdates_gained
+
+pub returns-clause-sent_requests : goal.returns-clause-sent_requests
+returns-clause-sent_requests c = sent_requests
+
+pub returns-clause-latched_reels : goal.returns-clause-latched_reels
+returns-clause-latched_reels c = latched_reels
+
+pub returns-clause-clients_counts : goal.returns-clause-clients_counts
+returns-clause-clients_counts c = clients_counts

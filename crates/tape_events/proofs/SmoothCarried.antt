@@ -1,0 +1,276 @@
+-- On a link without faults, a request that is carried out.
+use Rattle.std.proofs.Common.{◌≡◌, ◌≢◌, ◌⊎◌, ℕ, suc, ◌+◌, ◌≤◌, IsTrue, List, [], ◌∷◌, ◌++◌, length, length-append, append_assoc, option_map, Option, Some, None, Result, Ok, Err, refl, sym, ap, subst, ◌∙◌, inl, inr, arith}
+use Rattle.std.proofs.lemmas.Bool.Decides.{eqb_tells}
+use Rattle.std.proofs.lemmas.List.{nil_from_length}
+use Rattle.std.proofs.lemmas.Option.{same_Some}
+use Rattle.tape.specs.declared.trouble.Trouble.TheVariants.{None as NoTrouble}
+use Rattle.rmt_wire.specs.Request.{PlainRequest, SpellsRequest, request_text}
+use Rattle.rmt_wire.specs.RequestParts.{Gives, HasFault}
+use Rattle.rmt_wire.specs.RequestReader.{RequestHeld, Unread}
+use Rattle.rmt_wire.specs.Reply.{PlainReply, reply_text}
+use Rattle.rmt_wire.specs.declared.fault.WireFault.{WireFault}
+use Rattle.drives.specs.Shop.{Shop}
+use Rattle.rmt_server.specs.Hall.{Side, side}
+use Rattle.rmt_server.specs.Session.{PlainSession, scene}
+use Rattle.rmt_server.specs.TroubledServe.{TroubledServe}
+use Rattle.dump_client.specs.Standing.{standing}
+use Rattle.dump_client.specs.declared.step.Step.{Step}
+use Rattle.dump_client.specs.declared.step.Step.TheVariants.{Open, Rewind, Label, Block, Mark, Unload, Close}
+use Rattle.dump_client.specs.declared.stage.Stage.{Stage}
+use Rattle.dump_client.specs.declared.stage.Stage.TheVariants.{Ready, ToSend, Waiting, Asking, Finished, Abandoned}
+use Rattle.tape_events.specs.World.{World, Link, Dumping, Begun, Caller, numbered}
+use Rattle.tape_events.specs.First.{PlainDrive}
+use Rattle.tape_events.specs.Changes.{changed, changed_from, side_of, sent_on, answered, noted}
+use Rattle.tape_events.specs.Steps.{Finds, carried}
+use Rattle.tape_events.specs.Kept.{IsKept}
+use Rattle.tape_events.specs.Owning.{is_in_attempt}
+use Rattle.tape_events.specs.Sending.{AreUnserved, request_in, IsPending, IsAttempt, IsAsked, IsBrief, IsToldAt}
+use Rattle.tape_events.specs.Smooth.{IsSmooth, IsOwnLink, IsUnanswered, StandsAt, StandsWith, StandsBefore, Leads, Stock, stock_of, volume_slots}
+use Rattle.tape_events.proofs.SmoothBins.{served_bin}
+use Rattle.tape_events.proofs.Numbers.{changed_is, with_here, numbered_there, numbered_within, numbered_first}
+use Rattle.tape_events.proofs.Held.{side_there}
+use Rattle.tape_events.proofs.SentWire.{OneReading, DroppedWrites, one_read, nothing_long, text_not_long}
+use Rattle.tape_events.proofs.SentServe.{nothing_there, never_dropped, serve_pending, served_leads, noted_same}
+use Rattle.tape_events.proofs.SentTexts.{reply_texts}
+use Rattle.tape_events.proofs.ToldEvents.{turned_here, turned_beside}
+use Rattle.tape_events.proofs.SmoothSteps.{stock_then, step_leads}
+
+pub changed_here : {X : Type 0} (f : X → X) (xs : List X) (k : ℕ) (x : X) → numbered xs k ≡ Some x → numbered (changed f xs k) k ≡ Some (f x)
+changed_here f xs k x at = ap (λ o. numbered (changed_from f xs k o) k) at ∙ with_here xs k x (f x) at
+
+-- no byte has no fault
+no_bytes : (bytes : List ℕ) (fault : WireFault) → bytes ≡ [] → HasFault bytes fault → ⊥
+no_bytes bytes fault none f =
+    let size : length (f.seen ++ f.byte ∷ f.later) ≡ 0 = ap length (sym f.split ∙ none) in
+    let both = length-append f.seen (f.byte ∷ f.later) in
+    omega (arith, size, both)
+
+-- a beginning of a request has no fault
+request_no_fault : (text bytes way rest : List ℕ) (request : PlainRequest) (fault : WireFault) → SpellsRequest text request → text ≡ bytes ++ way
+    → Gives bytes (Err fault) rest → ⊥
+request_no_fault text bytes way rest request fault spelled is (f, none, same) =
+    let stream : text ≡ (f.seen ++ f.byte ∷ []) ++ (f.later ++ way)
+    = is ∙ ap (λ l. l ++ way) f.split ∙ append_assoc f.seen (f.byte ∷ f.later) way ∙ sym (append_assoc f.seen (f.byte ∷ []) (f.later ++ way)) in
+    f.hopeless (f.later ++ way, request, subst (λ l. SpellsRequest l request) stream spelled)
+
+-- where nothing is unserved, no request is found and no fault
+pub nothing_found : DroppedWrites → (w u : World) (k : ℕ) (s : Side) (way bytes rest : List ℕ) (found : Result (Option PlainRequest) WireFault) → AreUnserved (Some s) way []
+    → Unread s.reached bytes → Gives bytes found rest → Finds w k NoTrouble s found rest u → ⊥
+nothing_found h w u k s way bytes rest (Ok None) none unread gives finds = finds
+nothing_found h w u k s way bytes rest (Ok (Some request)) none unread gives finds = nothing_there h s way bytes rest request none unread gives
+nothing_found h w u k s way bytes rest (Err fault) (reached, was, is) unread gives finds =
+    let size : length (reached ++ way) ≡ 0 = ap length (sym is) in
+    let both = length-append reached way in
+    let empty : reached ≡ [] = nil_from_length reached (omega (arith, size, both)) in
+    let same = one_read h s.reached [] bytes nothing_long (subst (Unread s.reached) empty was) unread in
+    no_bytes bytes fault (sym same) gives.0
+
+-- the server's side of a request that was sent finds no fault
+pending_no_fault : OneReading → DroppedWrites → (b : Begun) (s : Side) (way : List ℕ) (d : Dumping) (step : Step) (bytes rest : List ℕ) (fault : WireFault)
+    → IsPending b (Some s) way d step → Unread s.reached bytes → Gives bytes (Err fault) rest → ⊥
+pending_no_fault g h b s way d step bytes rest fault p unread gives = unserved_by p.unserved
+  where
+    unserved_by : AreUnserved (Some s) way (request_text (request_in b d step)) ⊎ AreUnserved (Some s) way [] → ⊥
+    unserved_by (inr (reached, was, is)) =
+        let size : length (reached ++ way) ≡ 0 = ap length (sym is) in
+        let both = length-append reached way in
+        let empty : reached ≡ [] = nil_from_length reached (omega (arith, size, both)) in
+        let same = one_read h s.reached [] bytes nothing_long (subst (Unread s.reached) empty was) unread in
+        no_bytes bytes fault (sym same) gives.0
+    unserved_by (inl (mine, was, is)) =
+        let text = request_text (request_in b d step) in
+        let same = one_read h s.reached mine bytes (text_not_long g text mine way (request_in b d step) p.spelled (never_dropped b d step) is) was unread in
+        request_no_fault text bytes way rest (request_in b d step) fault p.spelled (is ∙ ap (λ l. l ++ way) same) gives
+
+-- what is carried out of the request that the client waits for
+record Carries (w u : World) (k : ℕ) (c : Caller) (l : Link) (d : Dumping) (b : Begun) (s : Side) (step : Step) : Type 0 where
+  caller : w.caller ≡ Some c
+  stage : c.at.stage ≡ Waiting step
+  own : IsOwnLink w k l d b s
+  attempt : IsAttempt w.begun c d step b
+  asked : IsAsked b (Some s) l c d step
+  request : PlainRequest
+  reply : PlainReply
+  reached : RequestHeld
+  shop : Shop
+  session : PlainSession
+  holders : List ℕ
+  bytes : List ℕ
+  rest : List ℕ
+  unread : Unread s.reached bytes
+  gives : Gives bytes (Ok (Some request)) rest
+  left : Unread reached rest
+  served : TroubledServe NoTrouble w.hall.holders k (scene w.hall.shop s.session) request reply (scene shop session) holders
+  is : u ≡ carried w k request reply reached shop session holders
+
+-- the bin before a step
+pub before_bin : (drive : PlainDrive) (t : Stock) (k : ℕ) (b : Begun) (d : Dumping) (session : PlainSession) (step : Step) → StandsBefore step drive t k b d session
+    → t.shop.bin ≡ volume_slots drive t
+before_bin drive t k b d session Open q = ap (λ (x : Shop). x.bin) q.0.shop
+before_bin drive t k b d session Rewind q = ap (λ (x : Shop). x.bin) q.shop
+before_bin drive t k b d session Label q = ap (λ (x : Shop). x.bin) q.shop
+before_bin drive t k b d session (Block number) q = ap (λ (x : Shop). x.bin) q.shop
+before_bin drive t k b d session (Mark next) q = ap (λ (x : Shop). x.bin) q.shop
+before_bin drive t k b d session (Unload next) q = ap (λ (x : Shop). x.bin) q.shop
+before_bin drive t k b d session Close q = ap (λ (x : Shop). x.bin) q.shop
+
+carried_smooth : OneReading → DroppedWrites → (drive : PlainDrive) (w u : World) (k : ℕ) (c : Caller) (l : Link) (d : Dumping) (b : Begun) (s : Side) (step : Step) → IsKept w → IsSmooth drive w
+    → IsUnanswered drive w k l d b s step → Carries w u k c l d b s step → IsSmooth drive u
+carried_smooth g h drive w u k c l d b s step kept sm un v =
+    let p = v.asked.pending in
+    let all = serve_pending g h b s l.toward d step v.bytes v.rest v.request v.reply v.reached v.session p v.unread v.gives v.left in
+    let good = kept.told.good d.run b v.own.begun in
+    let served : TroubledServe NoTrouble w.hall.holders k (scene w.hall.shop s.session) (request_in b d step) v.reply (scene v.shop v.session) v.holders
+    = subst (λ r. TroubledServe NoTrouble w.hall.holders k (scene w.hall.shop s.session) r v.reply (scene v.shop v.session) v.holders) all.0 v.served in
+    let few = (let sent = p.sent in let many = p.few in let limit : d.carried + 1 ≡ d.sent = omega (arith, sent) in subst (λ n. suc n ≤ 18446744073709551616) (sym limit) many) in
+    let brief : IsBrief v.reply
+    = (served_leads reply_texts (standing b.run [] Ready) b.payload NoTrouble w.hall.holders w.hall.shop v.shop s v.reached v.session d step v.reply good.run p.done few p.spelled
+    served.step).0 in
+    let leads : Leads drive (stock_then (stock_of w) k v.request v.shop v.session v.holders) k c.at b (noted v.request v.reply d) v.session step v.reply
+    = subst (λ r. Leads drive (stock_then (stock_of w) k r v.shop v.session v.holders) k c.at b (noted r v.reply d) v.session step v.reply) (sym all.0)
+    (step_leads drive (stock_of w) k c.at b d s step v.reply v.shop v.session v.holders record {
+      run = v.attempt.run;
+      lawful = kept.lawful c v.caller;
+      good = good.run;
+      whole = good.whole;
+      volume = v.attempt.volume;
+      first = v.attempt.first;
+      done = p.done;
+      once = kept.once.once;
+    } un.stands served) in
+    let bins = served_bin NoTrouble w.hall.holders (scene w.hall.shop s.session) (request_in b d step) v.reply (scene v.shop v.session) served.step in
+    let x : World = carried w k v.request v.reply v.reached v.shop v.session v.holders in
+    let y : Side = side v.reached v.session in
+    let live : side_of x.hall k ≡ Some y = turned_here w x k s (Some y) v.own.live refl in
+    let way : [] ++ sent_on l.cut l.back (reply_text v.reply) ≡ reply_text v.reply
+    = ap (λ cut. sent_on cut l.back (reply_text v.reply)) v.own.whole ∙ ap (λ back. back ++ reply_text v.reply) un.back in
+    let mine : IsOwnLink x k (answered v.request v.reply l) (noted v.request v.reply d) b y
+    = record {
+      own = v.own.own;
+      there = changed_here (answered v.request v.reply) w.links k l v.own.there;
+      whole = v.own.whole;
+      dump = ap (option_map (noted v.request v.reply)) v.own.dump;
+      begun = ap (numbered w.begun) (noted_same d v.request v.reply).run ∙ v.own.begun;
+      live = live;
+    } in
+    let now : StandsAt (Waiting step) drive x c
+    = (
+      k,
+      answered v.request v.reply l,
+      noted v.request v.reply d,
+      b,
+      y,
+      mine,
+      inr record {
+        served = subst (λ o. AreUnserved o l.toward []) (sym live) all.1.unserved;
+        fed = [];
+        has = v.asked.fed;
+        reply = v.reply;
+        text = way;
+        brief = brief;
+        bin = (bins.0, bins.1 ∙ ap (λ l. l ++ bins.0) (before_bin drive (stock_of w) k b d s.session step un.stands));
+        leads = leads;
+      },
+    ) in
+    subst (IsSmooth drive) (sym v.is) record {
+      clients = λ j z at. elim (changed_is (answered v.request v.reply) w.links k j z at) [
+        | inl (same, (a, was, new)) ↦ (let o = sm.clients k a was in
+            (noted v.request v.reply o.0, ap (λ (m : Link). m.dump) new ∙ ap (option_map (noted v.request v.reply)) o.1))
+        | inr (other, on) ↦ sm.clients j z on
+      ];
+      still = λ j z at not_own. elim (changed_is (answered v.request v.reply) w.links k j z at) [
+        | inl (same, more) ↦ absurd (not_own (v.own.own ∙ ap Some (sym same)))
+        | inr (other, on) ↦ subst (λ o. AreUnserved o z.toward []) (sym (turned_beside w x k (Some y) refl j other)) (sm.still j z on not_own)
+      ];
+      reels = sm.reels;
+      stands = subst (λ o. StandsWith o drive x) (sym v.caller) (subst (λ stage. StandsAt stage drive x c) (sym v.stage) now);
+      failure = λ volume fault is. absurd cc;
+    }
+
+-- what is told of the client's own connection
+pub own_told : (w : World) (k : ℕ) (l : Link) (d : Dumping) (b : Begun) (s : Side) (c : Caller) (stage : Stage) → IsKept w → IsOwnLink w k l d b s → w.caller ≡ Some c
+    → c.at.stage ≡ stage → IsToldAt stage w.begun (Some s) l c d
+own_told w k l d b s c stage kept own there at =
+    subst (λ o. IsToldAt stage w.begun o l c d) own.live
+    (subst (λ x. IsToldAt x w.begun (side_of w.hall k) l c d) at ((kept.told.each k l own.there).own d c own.dump own.own there))
+
+-- the server finds something on a connection where the client waits
+found_smooth : OneReading → DroppedWrites → (drive : PlainDrive) (w u : World) (k : ℕ) (c : Caller) (l : Link) (d : Dumping) (b : Begun) (s : Side) (step : Step)
+    (found : Result (Option PlainRequest) WireFault) (bytes rest : List ℕ) → IsKept w → IsSmooth drive w → w.caller ≡ Some c → c.at.stage ≡ Waiting step → IsOwnLink w k l d b s
+    → IsUnanswered drive w k l d b s step → IsToldAt (Waiting step) w.begun (Some s) l c d → Unread s.reached bytes → Gives bytes found rest
+    → Finds w k NoTrouble s found rest u → IsSmooth drive u
+found_smooth g h drive w u k c l d b s step found bytes rest kept sm there stage own un (b', attempt, inr replied) unread gives finds =
+    absurd (nothing_found h w u k s l.toward bytes rest found replied.settled.unserved unread gives finds)
+found_smooth g h drive w u k c l d b s step (Ok None) bytes rest kept sm there stage own un (b', attempt, inl asked) unread gives finds = absurd finds
+found_smooth g h drive w u k c l d b s step (Err fault) bytes rest kept sm there stage own un (b', attempt, inl asked) unread gives finds =
+    absurd (pending_no_fault g h b' s l.toward d step bytes rest fault asked.pending unread gives)
+found_smooth g h drive w u k c l d b s step (Ok (Some request)) bytes rest kept sm there stage own un (b', attempt, inl asked) unread gives (reply, reached, shop, session, holders, left, served, is) =
+    let same : b' ≡ b = same_Some b' b (sym attempt.begun_as ∙ own.begun) in
+    carried_smooth g h drive w u k c l d b s step kept sm un record {
+      caller = there;
+      stage = stage;
+      own = own;
+      attempt = subst (λ x. IsAttempt w.begun c d step x) same attempt;
+      asked = subst (λ x. IsAsked x (Some s) l c d step) same asked;
+      request = request;
+      reply = reply;
+      reached = reached;
+      shop = shop;
+      session = session;
+      holders = holders;
+      bytes = bytes;
+      rest = rest;
+      unread = unread;
+      gives = gives;
+      left = left;
+      served = served;
+      is = is;
+    }
+
+-- on the client's own connection, by its stage
+own_found : OneReading → DroppedWrites → (drive : PlainDrive) (w u : World) (k : ℕ) (c : Caller) (s : Side) (stage : Stage) (found : Result (Option PlainRequest) WireFault)
+    (bytes rest : List ℕ) → IsKept w → IsSmooth drive w → w.caller ≡ Some c → c.at.stage ≡ stage → w.own ≡ Some k → IsTrue (is_in_attempt stage) → StandsAt stage drive w c
+    → side_of w.hall k ≡ Some s → Unread s.reached bytes → Gives bytes found rest → Finds w k NoTrouble s found rest u → IsSmooth drive u
+own_found g h drive w u k c s (ToSend step) found bytes rest kept sm there stage mine under (j, l, d, b, x, own, stands) live unread gives finds =
+    let at : j ≡ k = same_Some j k (sym own.own ∙ mine) in
+    let side : x ≡ s = same_Some x s (sym own.live ∙ ap (side_of w.hall) at ∙ live) in
+    let told = own_told w j l d b x c (ToSend step) kept own there stage in
+    absurd (nothing_found h w u k s l.toward bytes rest found (subst (λ y. AreUnserved (Some y) l.toward []) side told.2.settled.unserved) unread gives finds)
+own_found g h drive w u k c s (Waiting step) found bytes rest kept sm there stage mine under (j, l, d, b, x, own, inr done) live unread gives finds =
+    let at : j ≡ k = same_Some j k (sym own.own ∙ mine) in
+    let side : side_of w.hall j ≡ Some s = ap (side_of w.hall) at ∙ live in
+    absurd (nothing_found h w u k s l.toward bytes rest found (subst (λ o. AreUnserved o l.toward []) side done.served) unread gives finds)
+own_found g h drive w u k c s (Waiting step) found bytes rest kept sm there stage mine under (j, l, d, b, x, own, inl un) live unread gives finds =
+    let at : j ≡ k = same_Some j k (sym own.own ∙ mine) in
+    let side : x ≡ s = same_Some x s (sym own.live ∙ ap (side_of w.hall) at ∙ live) in
+    found_smooth g h drive w u j c l d b x step found bytes rest kept sm there stage own un (own_told w j l d b x c (Waiting step) kept own there stage)
+    (subst (λ (y : Side). Unread y.reached bytes) (sym side) unread) gives
+    (subst (λ n. Finds w n NoTrouble x found rest u) (sym at) (subst (λ y. Finds w k NoTrouble y found rest u) (sym side) finds))
+own_found g h drive w u k c s Ready found bytes rest kept sm there stage mine under stands live unread gives finds = absurd cc
+own_found g h drive w u k c s Asking found bytes rest kept sm there stage mine under stands live unread gives finds = absurd cc
+own_found g h drive w u k c s Finished found bytes rest kept sm there stage mine under stands live unread gives finds = absurd cc
+own_found g h drive w u k c s Abandoned found bytes rest kept sm there stage mine under stands live unread gives finds = absurd cc
+
+-- the server carries a request out
+pub serve_smooth : OneReading → DroppedWrites → (drive : PlainDrive) (w u : World) (k : ℕ) (s : Side) (found : Result (Option PlainRequest) WireFault) (bytes rest : List ℕ)
+    → IsKept w → IsSmooth drive w → side_of w.hall k ≡ Some s → Unread s.reached bytes → Gives bytes found rest → Finds w k NoTrouble s found rest u → IsSmooth drive u
+serve_smooth g h drive w u k s found bytes rest kept sm live unread gives finds = by_own w.own refl
+  where
+    others : (w.own ≢ Some k) → IsSmooth drive u
+    others not_own =
+        let paired = kept.tidy.paired in
+        let here = side_there w.hall k s live in
+        let within = numbered_within w.hall.sides k (Some s) here in
+        let l = numbered_there w.links k (numbered_first w.hall.sides k (Some s) here) (omega (arith, paired, within)) in
+        absurd (nothing_found h w u k s l.0.toward bytes rest found (subst (λ o. AreUnserved o l.0.toward []) live (sm.still k l.0 l.1 not_own)) unread gives finds)
+
+    by_own : (o : Option ℕ) → w.own ≡ o → IsSmooth drive u
+    by_own None is = others (λ mine. (let clash = sym is ∙ mine in absurd cc))
+    by_own (Some j) is = elim (eqb_tells j k) [
+      | inl (equal, same) ↦ (
+          let mine : w.own ≡ Some k = is ∙ ap Some same in
+          let client = (kept.owned.own k mine).1 in
+          own_found g h drive w u k client.0 s client.0.at.stage found bytes rest kept sm client.1 refl mine client.2
+          (subst (λ o. StandsWith o drive w) client.1 sm.stands) live unread gives finds)
+      | inr (unequal, other) ↦ others (λ mine. other (same_Some j k (sym is ∙ mine)))
+    ]

@@ -1,0 +1,245 @@
+-- On a link without faults, a run that begins, an attempt that starts, and what is sent and reaches the server.
+use Rattle.std.proofs.Common.{◌≡◌, ℕ, suc, ◌+◌, ◌≤◌, IsTrue, List, [], ◌∷◌, ◌++◌, length, length-append, drop, Option, Some, None, refl, sym, ap, subst, ◌∙◌, inl, inr, arith}
+use Rattle.std.specs.Prelude.{option_map, option_and_then}
+use Rattle.std.proofs.lemmas.Bool.Decides.{eqb_tells}
+use Rattle.std.proofs.lemmas.Option.{same_Some}
+use Rattle.rmt_wire.specs.RequestReader.{RequestHeld, held}
+use Rattle.rmt_wire.specs.ReplyReader.{ReplyHeld}
+use Rattle.drives.specs.Shop.{kept_reel, slot}
+use Rattle.rmt_server.specs.Hall.{Side, side}
+use Rattle.rmt_server.specs.Session.{PlainSession}
+use Rattle.rmt_server.specs.Session.PlainSession.{Idle}
+use Rattle.dump_run.specs.Run.{PlainRun}
+use Rattle.dump_run.specs.Blocks.{cut_blocks}
+use Rattle.dump_client.specs.declared.step.Step.{Step}
+use Rattle.dump_client.specs.declared.step.Step.TheVariants.{Open, Rewind, Label, Block, Mark, Unload, Close}
+use Rattle.dump_client.specs.declared.stage.Stage.{Stage}
+use Rattle.dump_client.specs.declared.stage.Stage.TheVariants.{Ready, ToSend, Waiting, Asking, Finished, Abandoned}
+use Rattle.tape_events.specs.World.{World, Link, Dumping, Begun, Caller}
+use Rattle.tape_events.specs.First.{PlainDrive}
+use Rattle.tape_events.specs.Changes.{side_of, link_of, new_link, noted_sent}
+use Rattle.tape_events.specs.Rows.{NoRun, is_done}
+use Rattle.tape_events.specs.Steps.{begun, connected, fresh, asked, sent_link, next_text, reached_by}
+use Rattle.tape_events.specs.Kept.{IsKept}
+use Rattle.tape_events.specs.Owning.{is_in_attempt}
+use Rattle.tape_events.specs.Sending.{AreUnserved}
+use Rattle.tape_events.specs.Smooth.{Stock, stock_of, blanks, one_drive, names_left, volume_by, volume_slot, volume_slots, IsFree, IsLatched, IsOwnLink, StandsBefore, StandsAt, StandsWith, IsSmooth}
+use Rattle.tape_events.proofs.Numbers.{pushed_is, numbered_more, numbered_last, numbered_there, numbered_within, numbered_first}
+use Rattle.tape_events.proofs.ToldEvents.{turned_here, turned_beside}
+use Rattle.tape_events.proofs.SmoothLists.{map_same}
+use Rattle.tape_events.proofs.SmoothCarried.{changed_here, own_told}
+use Rattle.tape_events.proofs.SmoothHears.{changed_links, settles}
+
+-- without a run no session has the drive
+free_stage : (drive : PlainDrive) (w : World) (c : Caller) (stage : Stage) → IsTrue (is_done stage) → StandsAt stage drive w c → IsFree drive (stock_of w)
+free_stage drive w c Finished done free = free
+free_stage drive w c Abandoned done free = absurd free
+free_stage drive w c Ready done free = free
+free_stage drive w c Asking done free = absurd cc
+free_stage drive w c (ToSend step) done free = absurd cc
+free_stage drive w c (Waiting step) done free = absurd cc
+
+free_then : (drive : PlainDrive) (w : World) → NoRun w → StandsWith w.caller drive w → IsFree drive (stock_of w)
+free_then drive w (inl none) stands = subst (λ o. StandsWith o drive w) none stands
+free_then drive w (inr (c, there, done)) stands = free_stage drive w c c.at.stage done (subst (λ o. StandsWith o drive w) there stands)
+
+-- the volumes that were counted are the same once another run is begun
+same_volumes : (drive : PlainDrive) (w : World) (b : Begun) → IsKept w
+    → volume_slots drive (stock_of w) ≡ volume_slots drive (record (stock_of w) { begun = w.begun ++ b ∷ [] })
+same_volumes drive w b kept =
+    map_same (volume_slot drive.capacity w.begun) (volume_slot drive.capacity (w.begun ++ b ∷ [])) w.counts
+    (λ x among. (
+    let e = kept.counted x among in
+    let was = e.3.begun in
+    ap (λ o. slot x.reel (Some (kept_reel (volume_by o x) drive.capacity))) (was ∙ sym (numbered_more w.begun (b ∷ []) x.run e.2 was))))
+
+pub begun_smooth : (drive : PlainDrive) (w : World) (run : PlainRun) (payload : List ℕ) (reader : ReplyHeld) → IsKept w → IsSmooth drive w → NoRun w
+    → IsSmooth drive (begun w run payload reader)
+begun_smooth drive w run payload reader kept sm none =
+    let b : Begun = record { run = run; payload = cut_blocks run.blocks run.block_bytes payload } in
+    let free = free_then drive w none sm.stands in
+    record {
+      clients = sm.clients;
+      still = sm.still;
+      reels = sm.reels;
+      stands = record { shop = free.shop ∙ ap (λ l. one_drive drive (blanks drive (names_left drive (stock_of w))) l) (same_volumes drive w b kept); holders = free.holders };
+      failure = λ volume fault is. absurd cc;
+    }
+
+-- between attempts there is no own connection
+idle_own : (w : World) (c : Caller) → IsKept w → w.caller ≡ Some c → c.at.stage ≡ Ready → (j : ℕ) → w.own ≡ Some j → ⊥
+idle_own w c kept there ready j mine =
+    let client = (kept.owned.own j mine).1 in
+    let same : client.0 ≡ c = same_Some client.0 c (sym client.1 ∙ there) in
+    let under : IsTrue (is_in_attempt Ready) = subst (λ s. IsTrue (is_in_attempt s)) ready (subst (λ (x : Caller). IsTrue (is_in_attempt x.at.stage)) same client.2) in
+    cc
+
+pub connected_smooth : (drive : PlainDrive) (w : World) (c : Caller) → IsKept w → IsSmooth drive w → w.caller ≡ Some c → c.at.stage ≡ Ready → IsSmooth drive (connected w c)
+connected_smooth drive w c kept sm there ready =
+    let u : World = connected w c in
+    let k = length w.links + 1 in
+    let l : Link = new_link (Some (fresh c)) in
+    let s : Side = side (held [] 0) Idle in
+    let last : suc (length w.links) ≡ k = omega arith in
+    let paired = kept.tidy.paired in
+    let b = kept.booked.begun c there in
+    let free : IsFree drive (stock_of w) = subst (λ x. StandsAt x drive w c) ready (subst (λ o. StandsWith o drive w) there sm.stands) in
+    let live : side_of u.hall k ≡ Some s
+    = ap (side_of u.hall) (let same : k ≡ suc (length w.hall.sides) = omega (arith, paired) in same) ∙ ap (option_and_then (λ y. y)) (numbered_last w.hall.sides (Some s)) in
+    let mine : IsOwnLink u k l (fresh c) b.0 s
+    = record {
+      own = refl;
+      there = ap (link_of u) (sym last) ∙ numbered_last w.links l;
+      whole = refl;
+      dump = refl;
+      begun = b.1;
+      live = live;
+    } in
+    record {
+      clients = λ j y at. elim (pushed_is w.links l j y at) [
+        | inl on ↦ sm.clients j y on
+        | inr (here, new) ↦ (fresh c, ap (λ (x : Link). x.dump) new)
+      ];
+      still = λ j y at not_own. elim (pushed_is w.links l j y at) [
+        | inl on ↦ (
+            let within = numbered_within w.links j y on in
+            let o = numbered_there w.hall.sides j (numbered_first w.links j y on) (omega (arith, within, paired)) in
+            let same : side_of u.hall j ≡ side_of w.hall j
+            = ap (option_and_then (λ x. x)) (numbered_more w.hall.sides (Some s ∷ []) j o.0 o.1 ∙ sym o.1) in
+            subst (λ x. AreUnserved x y.toward []) (sym same) (sm.still j y on (λ own. idle_own w c kept there ready j own)))
+        | inr (here, new) ↦ absurd (not_own (ap Some (sym last ∙ sym here)))
+      ];
+      reels = sm.reels;
+      stands = (k, l, fresh c, b.0, s, mine, (free, refl));
+      failure = λ volume fault is. absurd cc;
+    }
+
+sent_latched : (drive : PlainDrive) (t : Stock) (k : ℕ) (b : Begun) (d : Dumping) (session : PlainSession) → IsLatched drive t k b d session
+    → IsLatched drive t k b (noted_sent d) session
+sent_latched drive t k b d session q = record {
+  name = q.name;
+  others = q.others;
+  next = q.next;
+  shop = q.shop;
+  holders = q.holders;
+  online = q.online;
+  opened = q.opened;
+  room = q.room;
+}
+
+-- how all stands does not speak of how much was sent
+sent_stands : (drive : PlainDrive) (t : Stock) (k : ℕ) (b : Begun) (d : Dumping) (session : PlainSession) (step : Step) → StandsBefore step drive t k b d session
+    → StandsBefore step drive t k b (noted_sent d) session
+sent_stands drive t k b d session Open q = q
+sent_stands drive t k b d session Rewind q = sent_latched drive t k b d session q
+sent_stands drive t k b d session Label q = sent_latched drive t k b d session q
+sent_stands drive t k b d session (Block number) q = sent_latched drive t k b d session q
+sent_stands drive t k b d session (Mark next) q = sent_latched drive t k b d session q
+sent_stands drive t k b d session (Unload next) q = sent_latched drive t k b d session q
+sent_stands drive t k b d session Close q = q
+
+-- the client sends its next request
+pub asked_smooth : (drive : PlainDrive) (w : World) (k : ℕ) (c : Caller) (payload : List (List ℕ)) (step : Step) (reader : ReplyHeld) → IsKept w → IsSmooth drive w
+    → w.own ≡ Some k → w.caller ≡ Some c → c.at.stage ≡ ToSend step → IsSmooth drive (asked w k c payload step reader)
+asked_smooth drive w k c payload step reader kept sm mine there stage =
+    sent_by (subst (λ x. StandsAt x drive w c) stage (subst (λ o. StandsWith o drive w) there sm.stands))
+  where
+    sent_by : StandsAt (ToSend step) drive w c → IsSmooth drive (asked w k c payload step reader)
+    sent_by (j, l, d, b, s, own, stands) =
+        let u : World = asked w j c payload step reader in
+        let text = next_text c payload step in
+        let same : j ≡ k = same_Some j k (sym own.own ∙ mine) in
+        let told = own_told w j l d b s c (ToSend step) kept own there stage in
+        let now : IsOwnLink u j (sent_link text l) (noted_sent d) b s
+        = record {
+          own = own.own;
+          there = changed_here (sent_link text) w.links j l own.there;
+          whole = own.whole;
+          dump = ap (option_map noted_sent) own.dump;
+          begun = own.begun;
+          live = own.live;
+        } in
+        subst (λ n. IsSmooth drive (asked w n c payload step reader)) same (settles drive w u j sm record {
+          own = own.own;
+          links = changed_links w u j (sent_link text) refl (λ x e is. (noted_sent e, ap (option_map noted_sent) is));
+          sides = λ i other. refl;
+          here = λ y at not_own. absurd (not_own own.own);
+          begun = refl;
+          reels = sm.reels;
+          stands = (j, sent_link text l, noted_sent d, b, s, now, inl record { back = told.2.back; stands = sent_stands drive (stock_of w) j b d s.session step stands });
+          failure = λ volume fault is. absurd cc;
+        })
+
+-- nothing is on the way where nothing is unserved
+no_way : (s : Side) (way : List ℕ) (n : ℕ) → AreUnserved (Some s) way [] → 1 ≤ n → n ≤ length way → ⊥
+no_way s way n (reached, unread, is) first within =
+    let size : length (reached ++ way) ≡ 0 = ap length (sym is) in
+    let both = length-append reached way in
+    omega (arith, size, both, first, within)
+
+-- bytes reach the server
+pub reached_smooth : (drive : PlainDrive) (w : World) (k n : ℕ) (s : Side) (l : Link) (reached : RequestHeld) → IsKept w → IsSmooth drive w → side_of w.hall k ≡ Some s
+    → link_of w k ≡ Some l → 1 ≤ n → n ≤ length l.toward → IsSmooth drive (reached_by w k n s reached)
+reached_smooth drive w k n s l reached kept sm live link first within = by_own w.own refl
+  where
+    none_there : AreUnserved (side_of w.hall k) l.toward [] → IsSmooth drive (reached_by w k n s reached)
+    none_there none = absurd (no_way s l.toward n (subst (λ o. AreUnserved o l.toward []) live none) first within)
+
+    moved_on : (j : ℕ) (x : Link) (d : Dumping) (b : Begun) (y : Side) (c : Caller) (step : Step) → j ≡ k → w.caller ≡ Some c → c.at.stage ≡ Waiting step → IsOwnLink w j x d b y
+        → x.back ≡ [] → StandsBefore step drive (stock_of w) j b d y.session → IsSmooth drive (reached_by w j n y reached)
+    moved_on j x d b y c step same there stage own back stands =
+        let u : World = reached_by w j n y reached in
+        let z : Side = side reached y.session in
+        let now : IsOwnLink u j (record x { toward = drop n x.toward }) d b z
+        = record {
+          own = own.own;
+          there = changed_here (λ a. record a { toward = drop n a.toward }) w.links j x own.there;
+          whole = own.whole;
+          dump = own.dump;
+          begun = own.begun;
+          live = turned_here w u j y (Some z) own.live refl;
+        } in
+        let at : StandsAt (Waiting step) drive u c
+        = (j, record x { toward = drop n x.toward }, d, b, z, now, inl record { back = back; stands = stands }) in
+        settles drive w u j sm record {
+          own = own.own;
+          links = changed_links w u j (λ a. record a { toward = drop n a.toward }) refl (λ a e is. (e, is));
+          sides = λ i other. turned_beside w u j (Some z) refl i other;
+          here = λ a is not_own. absurd (not_own own.own);
+          begun = refl;
+          reels = sm.reels;
+          stands = subst (λ o. StandsWith o drive u) (sym there) (subst (λ a. StandsAt a drive u c) (sym stage) at);
+          failure = λ volume fault is. absurd cc;
+        }
+
+    by_stage : (c : Caller) (stage : Stage) → w.own ≡ Some k → w.caller ≡ Some c → c.at.stage ≡ stage → IsTrue (is_in_attempt stage) → StandsAt stage drive w c
+        → IsSmooth drive (reached_by w k n s reached)
+    by_stage c (ToSend step) mine there stage under (j, x, d, b, y, own, stands) =
+        let same : j ≡ k = same_Some j k (sym own.own ∙ mine) in
+        let links : x ≡ l = same_Some x l (sym own.there ∙ ap (link_of w) same ∙ link) in
+        let told = own_told w j x d b y c (ToSend step) kept own there stage in
+        none_there (subst (λ (a : Link). AreUnserved (side_of w.hall k) a.toward []) links
+        (subst (λ o. AreUnserved o x.toward []) (sym (ap (side_of w.hall) (sym same) ∙ own.live)) told.2.settled.unserved))
+    by_stage c (Waiting step) mine there stage under (j, x, d, b, y, own, inr done) =
+        let same : j ≡ k = same_Some j k (sym own.own ∙ mine) in
+        let links : x ≡ l = same_Some x l (sym own.there ∙ ap (link_of w) same ∙ link) in
+        none_there (subst (λ (a : Link). AreUnserved (side_of w.hall k) a.toward []) links (subst (λ m. AreUnserved (side_of w.hall m) x.toward []) same done.served))
+    by_stage c (Waiting step) mine there stage under (j, x, d, b, y, own, inl un) =
+        let same : j ≡ k = same_Some j k (sym own.own ∙ mine) in
+        let sides : y ≡ s = same_Some y s (sym own.live ∙ ap (side_of w.hall) same ∙ live) in
+        subst (λ m. IsSmooth drive (reached_by w m n s reached)) same (subst (λ a. IsSmooth drive (reached_by w j n a reached)) sides
+        (moved_on j x d b y c step same there stage own un.back un.stands))
+    by_stage c Ready mine there stage under stands = absurd cc
+    by_stage c Asking mine there stage under stands = absurd cc
+    by_stage c Finished mine there stage under stands = absurd cc
+    by_stage c Abandoned mine there stage under stands = absurd cc
+
+    by_own : (o : Option ℕ) → w.own ≡ o → IsSmooth drive (reached_by w k n s reached)
+    by_own None is = none_there (sm.still k l link (λ mine. (let clash = sym is ∙ mine in absurd cc)))
+    by_own (Some j) is = elim (eqb_tells j k) [
+      | inl (equal, same) ↦ (
+          let mine : w.own ≡ Some k = is ∙ ap Some same in
+          let client = (kept.owned.own k mine).1 in
+          by_stage client.0 client.0.at.stage mine client.1 refl client.2 (subst (λ o. StandsWith o drive w) client.1 sm.stands))
+      | inr (unequal, other) ↦ none_there (sm.still k l link (λ mine. other (same_Some j k (sym is ∙ mine))))
+    ]

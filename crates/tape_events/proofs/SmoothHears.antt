@@ -1,0 +1,399 @@
+-- On a link without faults, bytes that reach the client.
+use Rattle.std.proofs.Common.{◌≡◌, ◌≢◌, ℕ, ◌+◌, ◌-◌, ◌≤◌, false, IsTrue, List, [], ◌∷◌, ◌++◌, length, length-append, append_assoc, map, take, drop, Option, Some, None, Result, Ok, Err, refl, sym, ap, subst, ◌∙◌, inl, inr, arith}
+use Rattle.std.proofs.lemmas.Bool.Decides.{eqb_tells}
+use Rattle.std.proofs.lemmas.List.{append-nil, take-append-drop, map-append}
+use Rattle.std.proofs.lemmas.Option.{same_Some}
+use Rattle.rmt_wire.specs.Reply.{PlainReply, reply_text}
+use Rattle.rmt_wire.specs.Reply.Wanted.{Number}
+use Rattle.rmt_wire.specs.ReplyParts.{ReplyGives}
+use Rattle.rmt_wire.specs.ReplyReader.{ReplyHeld}
+use Rattle.rmt_wire.specs.declared.fault.WireFault.{WireFault}
+use Rattle.drives.specs.Shop.{kept_reel, slot}
+use Rattle.rmt_server.specs.Hall.{Side}
+use Rattle.dump_client.specs.Position.Heard.{Reply}
+use Rattle.dump_client.specs.Standing.{Standing, checkpoint_of, count_to, counted_to, HearsAt, FedAt, Makes}
+use Rattle.dump_client.specs.Listening.{is_more}
+use Rattle.dump_client.specs.Client.{HasFedAt, unanswered}
+use Rattle.dump_client.specs.declared.fault.AttemptFault.{AttemptFault}
+use Rattle.dump_client.specs.declared.step.Step.{Step}
+use Rattle.dump_client.specs.declared.step.Step.TheVariants.{Open, Rewind, Label, Block, Mark, Unload, Close}
+use Rattle.dump_client.specs.declared.stage.Stage.{Stage}
+use Rattle.dump_client.specs.declared.stage.Stage.TheVariants.{Ready, ToSend, Waiting, Asking, Finished, Abandoned}
+use Rattle.dump_client.specs.declared.stage.Progress.{Progress}
+use Rattle.dump_client.specs.declared.stage.Progress.TheVariants as moved
+use Rattle.tape_events.specs.World.{World, Link, Dumping, Begun, Caller, Count, numbered}
+use Rattle.tape_events.specs.First.{PlainDrive}
+use Rattle.tape_events.specs.Changes.{changed, side_of, link_of, over_there, counts_of, reel_of}
+use Rattle.tape_events.specs.Steps.{Hears, caller, heard}
+use Rattle.tape_events.specs.Kept.{IsKept}
+use Rattle.tape_events.specs.Owning.{is_in_attempt}
+use Rattle.tape_events.specs.Sending.{AreUnserved, IsAttempt}
+use Rattle.tape_events.specs.Written.{whole_volume}
+use Rattle.tape_events.specs.Smooth.{Stock, stock_of, blanks, one_drive, volume_slot, volume_slots, volume_by, IsFree, IsMoved, IsOffline, IsOwnLink, IsAnswered, StandsBefore, StandsThen, CountsThen, Leads, StandsAt, StandsWith, FailsFaultless, IsFaultlessFailure, IsSmooth}
+use Rattle.tape_events.proofs.Numbers.{changed_is}
+use Rattle.tape_events.proofs.Booked.{Goings, drop_front}
+use Rattle.tape_events.proofs.SentWire.{OneReply, one_heard, reply_whole, reply_no_fault}
+use Rattle.tape_events.proofs.ToldHears.{open_attempt, unlike_close, some_way}
+use Rattle.tape_events.proofs.SmoothLists.{next_of, length_push, reel_is}
+use Rattle.tape_events.proofs.SmoothCarried.{changed_here, own_told}
+
+-- Each connection was there; but for one, what is on the way to the server is the same.
+abbrev pub LinksFrom : World → World → ℕ → Type 0
+LinksFrom w u k =
+    (j : ℕ) (y : Link) → link_of u j ≡ Some y
+    → (x : Link) × (link_of w j ≡ Some x) × ((d : Dumping) → x.dump ≡ Some d → (e : Dumping) × (y.dump ≡ Some e)) × (j ≢ k → y.toward ≡ x.toward)
+
+pub changed_links : (w u : World) (k : ℕ) (f : Link → Link) → u.links ≡ changed f w.links k
+    → ((l : Link) (d : Dumping) → l.dump ≡ Some d → (e : Dumping) × ((f l).dump ≡ Some e)) → LinksFrom w u k
+changed_links w u k f links dumps j y at = elim (changed_is f w.links k j y (ap (λ ls. numbered ls j) (sym links) ∙ at)) [
+  | inl (same, (x, was, new)) ↦ (
+    x,
+    ap (numbered w.links) same ∙ was,
+    λ d is. (let e = dumps x d is in (e.0, ap (λ (l : Link). l.dump) new ∙ e.1)),
+    λ other. absurd (other same),
+  )
+  | inr (other, on) ↦ (y, on, λ d is. (d, is), λ different. refl)
+]
+
+-- What an event on the client's own connection leaves.
+pub record Settles (drive : PlainDrive) (w u : World) (k : ℕ) : Type 0 where
+  pub own : w.own ≡ Some k
+  pub links : LinksFrom w u k
+  pub sides : (j : ℕ) → j ≢ k → side_of u.hall j ≡ side_of w.hall j
+  pub here : (y : Link) → link_of u k ≡ Some y → u.own ≢ Some k → AreUnserved (side_of u.hall k) y.toward []
+  pub begun : u.begun ≡ w.begun
+  pub reels : map (λ (x : Count). x.reel) u.counts ≡ take (length u.counts) drive.reels
+  pub stands : StandsWith u.caller drive u
+  pub failure : FailsFaultless drive u
+
+pub settles : (drive : PlainDrive) (w u : World) (k : ℕ) → IsSmooth drive w → Settles drive w u k → IsSmooth drive u
+settles drive w u k sm v = record {
+  clients = λ j y at. (let x = v.links j y at in let d = sm.clients j x.0 x.1 in x.2 d.0 d.1);
+  still = λ j y at not_own. elim (eqb_tells j k) [
+    | inl (equal, same) ↦
+        subst (λ n. AreUnserved (side_of u.hall n) y.toward []) (sym same) (v.here y (ap (link_of u) (sym same) ∙ at) (λ mine. not_own (mine ∙ ap Some (sym same))))
+    | inr (unequal, other) ↦ (
+        let x = v.links j y at in
+        subst (λ way. AreUnserved (side_of u.hall j) way []) (sym (x.3 other))
+        (subst (λ o. AreUnserved o x.0.toward []) (sym (v.sides j other)) (sm.still j x.0 x.1 (λ mine. other (same_Some j k (sym mine ∙ v.own))))))
+  ];
+  reels = v.reels;
+  stands = v.stands;
+  failure = v.failure;
+}
+
+-- the client heard, and counts no more
+none_counted : (w : World) (number k : ℕ) (c : Standing) (new : Standing) → new.counts ≡ c.counts
+    → w.counts ++ map (counts_of w number k) (drop (length c.counts) new.counts) ≡ w.counts
+none_counted w number k c new same =
+    let none : drop (length c.counts) new.counts ≡ [] = ap (drop (length c.counts)) (same ∙ sym (append-nil c.counts)) ∙ drop_front c.counts [] in
+    ap (λ cs. w.counts ++ map (counts_of w number k) cs) none ∙ append-nil w.counts
+
+-- where reels are, with other counts
+abbrev with_counts : Stock → List Count → Stock
+with_counts t counts = record t { counts = counts }
+
+back_dumps : (n : ℕ) (l : Link) (d : Dumping) → l.dump ≡ Some d → (e : Dumping) × ((record l { back = drop n l.back }).dump ≡ Some e)
+back_dumps n l d is = (d, is)
+
+-- What was heard, and by whom.
+record Hearing (drive : PlainDrive) (w : World) (k n : ℕ) (c : Caller) (l : Link) (d : Dumping) (b : Begun) (s : Side) (step : Step) (at : Standing) (reader : ReplyHeld) : Type 0 where
+  caller : w.caller ≡ Some c
+  own : IsOwnLink w k l d b s
+  attempt : IsAttempt w.begun c d step b
+  served : AreUnserved (side_of w.hall k) l.toward []
+
+-- the client goes on
+goes_on : (drive : PlainDrive) (w : World) (k n : ℕ) (c : Caller) (l : Link) (d : Dumping) (b : Begun) (s : Side) (at : Standing) (reader : ReplyHeld) (progress : Progress)
+    (counts : List Count) → IsSmooth drive w → IsOwnLink w k l d b s → (came : heard w k n c at reader progress ≡ heard w k n c at reader moved.Send)
+    → w.counts ++ map (counts_of w c.number k) (drop (length c.at.counts) at.counts) ≡ counts
+    → map (λ (x : Count). x.reel) counts ≡ take (length counts) drive.reels
+    → (IsOwnLink (heard w k n c at reader moved.Send) k (record l { back = drop n l.back }) d b s
+    → StandsAt at.stage drive (heard w k n c at reader moved.Send) (caller c.number at reader))
+    → IsSmooth drive (heard w k n c at reader progress)
+goes_on drive w k n c l d b s at reader progress counts sm own came are reels stands =
+    let u : World = heard w k n c at reader moved.Send in
+    subst (IsSmooth drive) (sym came) (settles drive w u k sm record {
+      own = own.own;
+      links = changed_links w u k (λ x. record x { back = drop n x.back }) refl (back_dumps n);
+      sides = λ j other. refl;
+      here = λ y there not_own. absurd (not_own own.own);
+      begun = refl;
+      reels = subst (λ cs. map (λ (x : Count). x.reel) cs ≡ take (length cs) drive.reels) (sym are) reels;
+      stands = stands record {
+        own = own.own;
+        there = changed_here (λ x. record x { back = drop n x.back }) w.links k l own.there;
+        whole = own.whole;
+        dump = own.dump;
+        begun = own.begun;
+        live = own.live;
+      };
+      failure = λ volume fault is. absurd cc;
+    })
+
+-- it goes on to a step that is not its close
+goes_to : (drive : PlainDrive) (w : World) (k n : ℕ) (c : Caller) (l : Link) (d : Dumping) (b : Begun) (s : Side) (at : Standing) (reader : ReplyHeld) (next : Step)
+    → IsSmooth drive w → IsOwnLink w k l d b s → at.stage ≡ ToSend next → at.counts ≡ c.at.counts → StandsBefore next drive (stock_of w) k b d s.session
+    → IsSmooth drive (heard w k n c at reader moved.Send)
+goes_to drive w k n c l d b s at reader next sm own stage same stands =
+    let u : World = heard w k n c at reader moved.Send in
+    let counts = none_counted w c.number k c.at at same in
+    goes_on drive w k n c l d b s at reader moved.Send w.counts sm own refl counts sm.reels
+    (λ mine. subst (λ x. StandsAt x drive u (caller c.number at reader)) (sym stage)
+    (k, record l { back = drop n l.back }, d, b, s, mine, subst (λ cs. StandsBefore next drive (with_counts (stock_of w) cs) k b d s.session) (sym counts) stands))
+
+-- it counts its volume, and goes on to its close
+counts_now : (drive : PlainDrive) (w : World) (k n : ℕ) (c : Caller) (l : Link) (d : Dumping) (b : Begun) (s : Side) (step : Step) (at : Standing) (reader : ReplyHeld)
+    → IsKept w → IsSmooth drive w → IsOwnLink w k l d b s → IsAttempt w.begun c d step b → step ≢ Close → at.stage ≡ ToSend Close
+    → at.counts ≡ counted_to c.at.counts (d.first + d.blocks) → IsMoved drive (stock_of w) k b d s.session → IsSmooth drive (heard w k n c at reader moved.Send)
+counts_now drive w k n c l d b s step at reader kept sm own attempt other stage counted q =
+    let u : World = heard w k n c at reader moved.Send in
+    let v = count_to (checkpoint_of c.at.counts) (d.first + d.blocks) in
+    let x : Count = counts_of w c.number k v in
+    let point = open_attempt c.at.counts step other in
+    let volume : d.volume ≡ (checkpoint_of c.at.counts).0 = attempt.volume ∙ ap (λ p. p.0) point in
+    let first : d.first ≡ (checkpoint_of c.at.counts).1 = attempt.first ∙ ap (λ p. p.1) point in
+    let count : d.blocks ≡ (d.first + d.blocks) - (checkpoint_of c.at.counts).1 = omega (arith, first) in
+    let one : drop (length c.at.counts) at.counts ≡ v ∷ [] = ap (drop (length c.at.counts)) counted ∙ drop_front c.at.counts (v ∷ []) in
+    let all : w.counts ++ map (counts_of w c.number k) (drop (length c.at.counts) at.counts) ≡ w.counts ++ x ∷ []
+    = ap (λ cs. w.counts ++ map (counts_of w c.number k) cs) one in
+    let reel : reel_of k w.opens ≡ q.name = reel_is k w.opens q.name q.opened ((kept.single k l d own.there own.dump).one) in
+    let below = next_of drive.reels (length w.counts) q.name q.others q.next in
+    let size = length_push w.counts x in
+    let its : numbered w.begun c.number ≡ Some b = ap (numbered w.begun) (sym attempt.number) ∙ own.begun in
+    let whole : whole_volume b.run b.payload d.volume d.first d.blocks ≡ volume_by (numbered w.begun c.number) x
+    = ap (λ m. whole_volume b.run b.payload m d.first d.blocks) volume ∙ ap (λ m. whole_volume b.run b.payload (checkpoint_of c.at.counts).0 m d.blocks) first
+    ∙ ap (λ m. whole_volume b.run b.payload (checkpoint_of c.at.counts).0 (checkpoint_of c.at.counts).1 m) count ∙ ap (λ o. volume_by o x) (sym its) in
+    let placed : slot q.name (Some (kept_reel (whole_volume b.run b.payload d.volume d.first d.blocks) drive.capacity)) ≡ volume_slot drive.capacity w.begun x
+    = ap (λ name. slot name (Some (kept_reel (whole_volume b.run b.payload d.volume d.first d.blocks) drive.capacity))) (sym reel)
+    ∙ ap (λ entries. slot (reel_of k w.opens) (Some (kept_reel entries drive.capacity))) whole in
+    let off : IsOffline drive (with_counts (stock_of w) (w.counts ++ x ∷ [])) k s.session
+    = record {
+      shop = q.shop
+          ∙ ap (λ names. one_drive drive (blanks drive names)
+          (volume_slots drive (stock_of w) ++ slot q.name (Some (kept_reel (whole_volume b.run b.payload d.volume d.first d.blocks) drive.capacity)) ∷ []))
+          (sym (ap (λ m. drop m drive.reels) size ∙ below.1))
+          ∙ ap (λ z. one_drive drive (blanks drive (drop (length (w.counts ++ x ∷ [])) drive.reels)) (volume_slots drive (stock_of w) ++ z ∷ [])) placed
+          ∙ ap (one_drive drive (blanks drive (drop (length (w.counts ++ x ∷ [])) drive.reels))) (sym (map-append (volume_slot drive.capacity w.begun) w.counts (x ∷ [])));
+      holders = q.holders;
+      offline = q.offline;
+    } in
+    goes_on drive w k n c l d b s at reader moved.Send (w.counts ++ x ∷ []) sm own refl all
+    (map-append (λ (y : Count). y.reel) w.counts (x ∷ []) ∙ ap (λ ys. ys ++ reel_of k w.opens ∷ []) sm.reels ∙ ap (λ name. take (length w.counts) drive.reels ++ name ∷ []) reel
+    ∙ sym below.0 ∙ ap (λ m. take m drive.reels) (sym size))
+    (λ mine. subst (λ y. StandsAt y drive u (caller c.number at reader)) (sym stage)
+    (k, record l { back = drop n l.back }, d, b, s, mine, subst (λ cs. IsOffline drive (with_counts (stock_of w) cs) k s.session) (sym all) off))
+
+-- what was on the way to the server is so still
+over_links : (w u : World) (k n : ℕ) → u.links ≡ changed over_there (changed (λ x. record x { back = drop n x.back }) w.links k) k
+    → (j : ℕ) (y : Link) → link_of u j ≡ Some y → (x : Link) × (link_of w j ≡ Some x) × (y.dump ≡ x.dump) × (y.toward ≡ x.toward)
+over_links w u k n links j y at =
+    elim (changed_is over_there (changed (λ x. record x { back = drop n x.back }) w.links k) k j y (ap (λ ls. numbered ls j) (sym links) ∙ at)) [
+      | inl (same, (z, was, new)) ↦ elim (changed_is (λ x. record x { back = drop n x.back }) w.links k j z (ap (numbered _) same ∙ was)) [
+        | inl (here, (x, there, turned)) ↦ (
+          x,
+          ap (numbered w.links) here ∙ there,
+          ap (λ (l : Link). l.dump) new ∙ ap (λ (l : Link). l.dump) turned,
+          ap (λ (l : Link). l.toward) new ∙ ap (λ (l : Link). l.toward) turned,
+        )
+        | inr (other, on) ↦ absurd (other same)
+      ]
+      | inr (other, on) ↦ elim (changed_is (λ x. record x { back = drop n x.back }) w.links k j y on) [
+        | inl (here, more) ↦ absurd (other here)
+        | inr (different, there) ↦ (y, there, refl, refl)
+      ]
+    ]
+
+-- the attempt is over
+is_over : (drive : PlainDrive) (w u : World) (k n : ℕ) (l : Link) (d : Dumping) (b : Begun) (s : Side) → IsSmooth drive w → IsOwnLink w k l d b s
+    → AreUnserved (side_of w.hall k) l.toward [] → u.hall ≡ w.hall → u.links ≡ changed over_there (changed (λ x. record x { back = drop n x.back }) w.links k) k → u.begun ≡ w.begun
+    → u.counts ≡ w.counts → StandsWith u.caller drive u → FailsFaultless drive u → IsSmooth drive u
+is_over drive w u k n l d b s sm own served hall links begun counts stands failure = settles drive w u k sm record {
+  own = own.own;
+  links = λ j y at. (let x = over_links w u k n links j y at in (x.0, x.1, (λ e is. (e, x.2 ∙ is)), λ other. x.3));
+  sides = λ j other. ap (λ h. side_of h j) hall;
+  here = λ y at none. (
+      let x = over_links w u k n links k y at in
+      let same = same_Some x.0 l (sym x.1 ∙ own.there) in
+      subst (λ way. AreUnserved (side_of u.hall k) way []) (sym (x.3 ∙ ap (λ (z : Link). z.toward) same)) (subst (λ h. AreUnserved (side_of h k) l.toward []) (sym hall) served));
+  begun = begun;
+  reels = subst (λ cs. map (λ (x : Count). x.reel) cs ≡ take (length cs) drive.reels) (sym counts) sm.reels;
+  stands = stands;
+  failure = failure;
+}
+
+-- it failed
+has_failed : (drive : PlainDrive) (w : World) (k n : ℕ) (c : Caller) (l : Link) (d : Dumping) (b : Begun) (s : Side) (step : Step) (at : Standing) (reader : ReplyHeld) (fault : AttemptFault)
+    → IsSmooth drive w → IsOwnLink w k l d b s → AreUnserved (side_of w.hall k) l.toward [] → at.stage ≡ Asking → at.counts ≡ c.at.counts → b.run ≡ at.run
+    → IsFaultlessFailure drive.capacity b.run fault → w.hall.shop.bin ≡ volume_slots drive (stock_of w) → IsSmooth drive (heard w k n c at reader (moved.Failed fault))
+has_failed drive w k n c l d b s step at reader fault sm own served stage same run why bin =
+    let u : World = heard w k n c at reader (moved.Failed fault) in
+    let counts = none_counted w c.number k c.at at same in
+    is_over drive w u k n l d b s sm own served refl refl refl counts
+    (subst (λ x. StandsAt x drive u (caller c.number at reader)) (sym stage)
+    (subst (λ cs. w.hall.shop.bin ≡ volume_slots drive (with_counts (stock_of w) cs)) (sym counts) bin))
+    (λ volume other is. (
+      caller c.number at reader,
+      refl,
+      (let both : fault ≡ other = ap (λ p. p.1) (same_Some ((checkpoint_of at.counts).0, fault) (volume, other) is) in
+          subst (IsFaultlessFailure drive.capacity at.run) both (subst (λ r. IsFaultlessFailure drive.capacity r fault) run why)),
+    ))
+
+-- it ended
+has_ended : (drive : PlainDrive) (w : World) (k n : ℕ) (c : Caller) (l : Link) (d : Dumping) (b : Begun) (s : Side) (at : Standing) (reader : ReplyHeld) (stage : Stage)
+    → IsSmooth drive w → IsOwnLink w k l d b s → AreUnserved (side_of w.hall k) l.toward [] → at.stage ≡ stage → at.counts ≡ c.at.counts
+    → ((u : World) (x : Caller) → IsFree drive (stock_of u) → StandsAt stage drive u x) → IsFree drive (stock_of w) → IsSmooth drive (heard w k n c at reader moved.Ended)
+has_ended drive w k n c l d b s at reader stage sm own served is same stands free =
+    let u : World = heard w k n c at reader moved.Ended in
+    let counts = none_counted w c.number k c.at at same in
+    is_over drive w u k n l d b s sm own served refl refl refl counts
+    (subst (λ x. StandsAt x drive u (caller c.number at reader)) (sym is)
+    (stands u (caller c.number at reader) (subst (λ cs. IsFree drive (with_counts (stock_of w) cs)) (sym counts) free)))
+    (λ volume fault failed. absurd cc)
+
+-- by what came of it
+by_then : (drive : PlainDrive) (w : World) (k n : ℕ) (c : Caller) (l : Link) (d : Dumping) (b : Begun) (s : Side) (step : Step) (at : Standing) (reader : ReplyHeld)
+    (progress : Progress) (stage : Stage) → IsKept w → IsSmooth drive w → IsOwnLink w k l d b s → IsAttempt w.begun c d step b → AreUnserved (side_of w.hall k) l.toward []
+    → ((next : Step) → at.stage ≡ ToSend next → step ≢ Close) → b.run ≡ at.run → at.stage ≡ stage → StandsThen progress stage drive (stock_of w) k b d s.session
+    → CountsThen stage c.at.counts d at.counts → IsSmooth drive (heard w k n c at reader progress)
+by_then drive w k n c l d b s step at reader moved.Send (ToSend Close) kept sm own attempt served early run is stands counts =
+    counts_now drive w k n c l d b s step at reader kept sm own attempt (early Close is) is counts stands
+by_then drive w k n c l d b s step at reader moved.Send (ToSend Open) kept sm own attempt served early run is stands counts =
+    goes_to drive w k n c l d b s at reader Open sm own is counts stands
+by_then drive w k n c l d b s step at reader moved.Send (ToSend Rewind) kept sm own attempt served early run is stands counts =
+    goes_to drive w k n c l d b s at reader Rewind sm own is counts stands
+by_then drive w k n c l d b s step at reader moved.Send (ToSend Label) kept sm own attempt served early run is stands counts =
+    goes_to drive w k n c l d b s at reader Label sm own is counts stands
+by_then drive w k n c l d b s step at reader moved.Send (ToSend (Block number)) kept sm own attempt served early run is stands counts =
+    goes_to drive w k n c l d b s at reader (Block number) sm own is counts stands
+by_then drive w k n c l d b s step at reader moved.Send (ToSend (Mark next)) kept sm own attempt served early run is stands counts =
+    goes_to drive w k n c l d b s at reader (Mark next) sm own is counts stands
+by_then drive w k n c l d b s step at reader moved.Send (ToSend (Unload next)) kept sm own attempt served early run is stands counts =
+    goes_to drive w k n c l d b s at reader (Unload next) sm own is counts stands
+by_then drive w k n c l d b s step at reader moved.Send (Waiting next) kept sm own attempt served early run is stands counts = absurd stands
+by_then drive w k n c l d b s step at reader moved.Send Ready kept sm own attempt served early run is stands counts = absurd stands
+by_then drive w k n c l d b s step at reader moved.Send Asking kept sm own attempt served early run is stands counts = absurd stands
+by_then drive w k n c l d b s step at reader moved.Send Finished kept sm own attempt served early run is stands counts = absurd stands
+by_then drive w k n c l d b s step at reader moved.Send Abandoned kept sm own attempt served early run is stands counts = absurd stands
+by_then drive w k n c l d b s step at reader (moved.Failed fault) Asking kept sm own attempt served early run is (why, bin) counts =
+    has_failed drive w k n c l d b s step at reader fault sm own served is counts run why bin
+by_then drive w k n c l d b s step at reader (moved.Failed fault) (ToSend next) kept sm own attempt served early run is stands counts = absurd stands
+by_then drive w k n c l d b s step at reader (moved.Failed fault) (Waiting next) kept sm own attempt served early run is stands counts = absurd stands
+by_then drive w k n c l d b s step at reader (moved.Failed fault) Ready kept sm own attempt served early run is stands counts = absurd stands
+by_then drive w k n c l d b s step at reader (moved.Failed fault) Finished kept sm own attempt served early run is stands counts = absurd stands
+by_then drive w k n c l d b s step at reader (moved.Failed fault) Abandoned kept sm own attempt served early run is stands counts = absurd stands
+by_then drive w k n c l d b s step at reader moved.Ended Ready kept sm own attempt served early run is stands counts =
+    has_ended drive w k n c l d b s at reader Ready sm own served is counts (λ u x free. free) stands
+by_then drive w k n c l d b s step at reader moved.Ended Finished kept sm own attempt served early run is stands counts =
+    has_ended drive w k n c l d b s at reader Finished sm own served is counts (λ u x free. free) stands
+by_then drive w k n c l d b s step at reader moved.Ended (ToSend next) kept sm own attempt served early run is stands counts = absurd stands
+by_then drive w k n c l d b s step at reader moved.Ended (Waiting next) kept sm own attempt served early run is stands counts = absurd stands
+by_then drive w k n c l d b s step at reader moved.Ended Asking kept sm own attempt served early run is stands counts = absurd stands
+by_then drive w k n c l d b s step at reader moved.Ended Abandoned kept sm own attempt served early run is stands counts = absurd stands
+by_then drive w k n c l d b s step at reader moved.Idle stage kept sm own attempt served early run is stands counts = absurd stands
+by_then drive w k n c l d b s step at reader moved.Waiting stage kept sm own attempt served early run is stands counts = absurd stands
+
+-- it waits for more
+waits_on : (drive : PlainDrive) (w : World) (k n : ℕ) (c : Caller) (l : Link) (d : Dumping) (b : Begun) (s : Side) (step : Step) (at : Standing) (reader : ReplyHeld)
+    (bytes : List ℕ) → IsSmooth drive w → IsOwnLink w k l d b s → (a : IsAnswered drive w k l c d b s step) → c.at.stage ≡ Waiting step → at ≡ c.at
+    → reply_text a.reply ≡ bytes ++ drop n l.back → HasFedAt at.stage reader (unanswered at.stage bytes) → IsSmooth drive (heard w k n c at reader moved.Waiting)
+waits_on drive w k n c l d b s step at reader bytes sm own a was same text has =
+    let u : World = heard w k n c at reader moved.Send in
+    let stage : at.stage ≡ Waiting step = ap (λ (x : Standing). x.stage) same ∙ was in
+    let counts = none_counted w c.number k c.at at (ap (λ (x : Standing). x.counts) same) in
+    goes_on drive w k n c l d b s at reader moved.Waiting w.counts sm own refl counts sm.reels
+    (λ mine. subst (λ x. StandsAt x drive u (caller c.number at reader)) (sym stage) (
+      k,
+      record l { back = drop n l.back },
+      d,
+      b,
+      s,
+      mine,
+      inr record {
+        served = a.served;
+        fed = bytes;
+        has = subst (λ x. HasFedAt x reader (unanswered x bytes)) stage has;
+        reply = a.reply;
+        text = sym text;
+        brief = a.brief;
+        bin = (a.bin.0, subst (λ cs. w.hall.shop.bin ≡ volume_slots drive (with_counts (stock_of w) cs) ++ a.bin.0) (sym counts) a.bin.1);
+        leads = subst (λ x. Leads drive (stock_of u) k x b d s.session step a.reply) (sym same)
+            (subst (λ cs. Leads drive (with_counts (stock_of w) cs) k c.at b d s.session step a.reply) (sym counts) a.leads);
+      },
+    ))
+
+-- by what its reader makes of the bytes
+makes_smooth : OneReply → (drive : PlainDrive) (w : World) (k n : ℕ) (c : Caller) (l : Link) (d : Dumping) (b : Begun) (s : Side) (step : Step) (at : Standing) (reader : ReplyHeld)
+    (bytes rest : List ℕ) (progress : Progress) (seen : Result (Option PlainReply) WireFault) → IsKept w → IsSmooth drive w → IsOwnLink w k l d b s → IsAttempt w.begun c d step b
+    → (a : IsAnswered drive w k l c d b s step) → c.at.stage ≡ Waiting step → at.run ≡ c.at.run → reply_text a.reply ≡ bytes ++ drop n l.back
+    → ReplyGives (Some Number) bytes seen rest → Makes c.at step bytes seen rest progress at → HasFedAt at.stage reader (unanswered at.stage bytes)
+    → IsSmooth drive (heard w k n c at reader progress)
+makes_smooth g drive w k n c l d b s step at reader bytes rest progress (Ok None) kept sm own attempt a was run text gives (moves, same) has =
+    subst (λ p. IsSmooth drive (heard w k n c at reader p)) (sym moves) (waits_on drive w k n c l d b s step at reader bytes sm own a was same text has)
+makes_smooth g drive w k n c l d b s step at reader bytes rest progress (Ok (Some found)) kept sm own attempt a was run text gives hears has =
+    let whole = reply_whole g Number (reply_text a.reply) bytes (drop n l.back) rest a.reply found a.brief.spelled text gives in
+    let its : HearsAt c.at step (Reply a.reply) false progress at
+    = subst (λ r. HearsAt c.at step (Reply r) false progress at) whole.0 (subst (λ x. HearsAt c.at step (Reply found) (is_more x) progress at) whole.1 hears) in
+    let led = a.leads progress at its in
+    by_then drive w k n c l d b s step at reader progress at.stage kept sm own attempt a.served (λ next to. unlike_close c.at at step next a.reply progress its to)
+    (attempt.run ∙ sym run) refl led.0 led.1
+makes_smooth g drive w k n c l d b s step at reader bytes rest progress (Err fault) kept sm own attempt a was run text gives hears has =
+    absurd (reply_no_fault Number (reply_text a.reply) bytes (drop n l.back) rest a.reply fault a.brief.spelled text gives)
+
+-- what reached the client that waits
+fed_smooth : OneReply → Goings → (drive : PlainDrive) (w : World) (k n : ℕ) (c : Caller) (l : Link) (d : Dumping) (b : Begun) (s : Side) (step : Step) (at : Standing)
+    (reader : ReplyHeld) (fed : List ℕ) (progress : Progress) → IsKept w → IsSmooth drive w → IsOwnLink w k l d b s → IsAttempt w.begun c d step b
+    → IsAnswered drive w k l c d b s step → c.at.stage ≡ Waiting step → HasFedAt (Waiting step) c.reader fed
+    → FedAt c.at.stage c.at fed (take n l.back) progress at → FedAt (Waiting step) c.at fed (take n l.back) progress at
+    → HasFedAt at.stage reader (unanswered at.stage (fed ++ take n l.back)) → IsSmooth drive (heard w k n c at reader progress)
+fed_smooth g o drive w k n c l d b s step at reader fed progress kept sm own attempt a was had feeds (seen, rest, gives, makes) has =
+    let size = ap length a.text in
+    let both = length-append a.fed l.back in
+    let short = a.brief.short in
+    let same : a.fed ≡ fed = one_heard c.reader Number a.fed fed (omega (arith, size, both, short)) a.has.unread had.unread in
+    let text : reply_text a.reply ≡ (fed ++ take n l.back) ++ drop n l.back
+    = sym a.text ∙ ap (λ f. f ++ l.back) same ∙ ap (λ x. fed ++ x) (sym (take-append-drop n l.back)) ∙ sym (append_assoc fed (take n l.back) (drop n l.back)) in
+    makes_smooth g drive w k n c l d b s step at reader (fed ++ take n l.back) rest progress seen kept sm own attempt a was
+    ((o.0 c.at at fed (take n l.back) progress feeds).1.run) text gives makes has
+
+stage_hears : OneReply → Goings → (drive : PlainDrive) (w : World) (k n : ℕ) (l : Link) (c : Caller) (stage : Stage) (at : Standing) (reader : ReplyHeld) (fed : List ℕ)
+    (progress : Progress) → IsKept w → IsSmooth drive w → w.caller ≡ Some c → c.at.stage ≡ stage → w.own ≡ Some k → IsTrue (is_in_attempt stage) → link_of w k ≡ Some l
+    → 1 ≤ n → n ≤ length l.back → StandsAt stage drive w c → HasFedAt c.at.stage c.reader fed → FedAt c.at.stage c.at fed (take n l.back) progress at
+    → HasFedAt at.stage reader (unanswered at.stage (fed ++ take n l.back)) → IsSmooth drive (heard w k n c at reader progress)
+stage_hears g o drive w k n l c (ToSend step) at reader fed progress kept sm there is mine under link first within (j, x, d, b, s, own, stands) had feeds has =
+    let same : j ≡ k = same_Some j k (sym own.own ∙ mine) in
+    let links : x ≡ l = same_Some x l (sym own.there ∙ ap (link_of w) same ∙ link) in
+    let told = own_told w j x d b s c (ToSend step) kept own there is in
+    absurd (some_way l n first within (ap (λ (y : Link). y.back) (sym links) ∙ told.2.back))
+stage_hears g o drive w k n l c (Waiting step) at reader fed progress kept sm there is mine under link first within (j, x, d, b, s, own, inl un) had feeds has =
+    let same : j ≡ k = same_Some j k (sym own.own ∙ mine) in
+    let links : x ≡ l = same_Some x l (sym own.there ∙ ap (link_of w) same ∙ link) in
+    absurd (some_way l n first within (ap (λ (y : Link). y.back) (sym links) ∙ un.back))
+stage_hears g o drive w k n l c (Waiting step) at reader fed progress kept sm there is mine under link first within (j, x, d, b, s, own, inr done) had feeds has =
+    let same : j ≡ k = same_Some j k (sym own.own ∙ mine) in
+    let links : x ≡ l = same_Some x l (sym own.there ∙ ap (link_of w) same ∙ link) in
+    let told = own_told w j x d b s c (Waiting step) kept own there is in
+    let its : told.0 ≡ b = same_Some told.0 b (sym told.1.begun_as ∙ own.begun) in
+    let pieces : FedAt c.at.stage c.at fed (take n x.back) progress at = subst (λ (y : Link). FedAt c.at.stage c.at fed (take n y.back) progress at) (sym links) feeds in
+    subst (λ m. IsSmooth drive (heard w m n c at reader progress)) same
+    (fed_smooth g o drive w j n c x d b s step at reader fed progress kept sm own (subst (λ y. IsAttempt w.begun c d step y) its told.1) done is
+    (subst (λ y. HasFedAt y c.reader fed) is had) pieces (subst (λ y. FedAt y c.at fed (take n x.back) progress at) is pieces)
+    (subst (λ (y : Link). HasFedAt at.stage reader (unanswered at.stage (fed ++ take n y.back))) (sym links) has))
+stage_hears g o drive w k n l c Ready at reader fed progress kept sm there is mine under link first within stands had feeds has = absurd cc
+stage_hears g o drive w k n l c Asking at reader fed progress kept sm there is mine under link first within stands had feeds has = absurd cc
+stage_hears g o drive w k n l c Finished at reader fed progress kept sm there is mine under link first within stands had feeds has = absurd cc
+stage_hears g o drive w k n l c Abandoned at reader fed progress kept sm there is mine under link first within stands had feeds has = absurd cc
+
+-- Bytes reach the side that is not the server's: on this link it is the client.
+pub hears_smooth : OneReply → Goings → (dump : Option Dumping) (drive : PlainDrive) (w u : World) (k n : ℕ) (l : Link) → IsKept w → IsSmooth drive w → link_of w k ≡ Some l
+    → IsTrue l.other → l.dump ≡ dump → 1 ≤ n → n ≤ length l.back → Hears dump w k n (take n l.back) u → IsSmooth drive u
+hears_smooth g o None drive w u k n l kept sm at other dump first within hears =
+    let d = sm.clients k l at in
+    let clash = sym dump ∙ d.1 in absurd cc
+hears_smooth g o (Some d) drive w u k n l kept sm at other dump first within (c, fed, new, reader, progress, there, had, feeds, has, is) =
+    let mine : w.own ≡ Some k = kept.owned.only k (l, d, at, other, dump) in
+    let client = (kept.owned.own k mine).1 in
+    let same : client.0 ≡ c = same_Some client.0 c (sym client.1 ∙ there) in
+    subst (IsSmooth drive) (sym is)
+    (stage_hears g o drive w k n l c c.at.stage new reader fed progress kept sm there refl mine (subst (λ (x : Caller). IsTrue (is_in_attempt x.at.stage)) same client.2) at first within
+    (subst (λ x. StandsWith x drive w) there sm.stands) had feeds has)

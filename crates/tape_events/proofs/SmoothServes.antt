@@ -1,0 +1,248 @@
+-- What one request does at the only drive, where no device call fails.
+use Rattle.std.proofs.Common.{◌≡◌, ◌⊎◌, ℕ, ◌+◌, ◌<◌, ◌≤◌, ◌==◌, nat_lt, ◌||◌, if◌then◌else◌, Bool, true, false, List, [], ◌∷◌, ◌++◌, length, Some, None, MatchOption, Ok, Err, refl, sym, ap, subst, ◌∙◌, inl, inr, arith}
+use Rattle.std.proofs.lemmas.Bool.Decides.{nat_tests}
+use Rattle.std.proofs.lemmas.Option.{same_Some}
+use Rattle.std.proofs.lemmas.List.{append-nil}
+use Rattle.std.proofs.lemmas.List.Sums.{sum_by-append, sum_by-cons}
+use Rattle.std.proofs.lemmas.Slice.Eq.{bytes_eq-Decides}
+use Rattle.tape.specs.Tape.{PlainEntry, Tape, tape, TapeAnswer, offset_of, entries_of, record_limit}
+use Rattle.tape.specs.Tape.PlainEntry.{Record, Mark}
+use Rattle.tape.specs.Tape.TapeAnswer.{Done as Did, Gave, Fault}
+use Rattle.tape.specs.Trouble.{DeviceStep}
+use Rattle.tape.specs.declared.fault.TapeFault.TheVariants as faults
+use Rattle.tape.specs.declared.trouble.Trouble.TheVariants.{None as NoTrouble}
+use Rattle.rmt_wire.specs.Request.{PlainRequest}
+use Rattle.rmt_wire.specs.Request.PlainRequest.{Open, Close, Write, Op}
+use Rattle.rmt_wire.specs.Reply.{PlainReply}
+use Rattle.rmt_wire.specs.Reply.PlainReply.{Done, Error}
+use Rattle.drives.specs.declared.fault.DriveFault.TheVariants.{NoSuchDrive, Busy as Taken, NoReel, Device, OutOfMemory, NameTaken}
+use Rattle.drives.specs.Shop.{KeptReel, kept_reel, Slot, slot, Shop, EachReelOnce, times, names_in, names_of, IsNameInBin, slots_in, waiting_reel, after_latch, after_offline, latched_at}
+use Rattle.drives.proofs.Shops.{bit, named, times-named}
+use Rattle.rmt_server.specs.declared.access.Access.TheVariants.{Both}
+use Rattle.rmt_server.specs.Refusals.{refused, tape_refusal}
+use Rattle.rmt_server.specs.Session.{PlainReel, plain_reel, Scene, scene, tape_request, reel_reply}
+use Rattle.rmt_server.specs.Session.PlainSession.{Idle, Offline, Online}
+use Rattle.rmt_server.specs.TroubledServe.{holder_of, TroubledServeStep, TroubledReelStep, TroubledDoneStep}
+use Rattle.tape_events.specs.First.{PlainDrive}
+use Rattle.tape_events.specs.Smooth.{blanks, one_drive}
+
+-- no drive, no reel or no memory
+pub record IsTurnedDown (reply : PlainReply) : Type 0 where
+  pub number : ℕ
+  pub words : List ℕ
+  pub is : reply ≡ Error number words
+  pub why : (number ≡ 2) ⊎ (number ≡ 6) ⊎ (number ≡ 12)
+
+-- want of memory
+abbrev pub IsScarce : PlainReply → Type 0
+IsScarce reply = (words : List ℕ) × (reply ≡ Error 12 words)
+
+-- the open took the next reel, or left all as it was
+pub record Opened (drive : PlainDrive) (names : List (List ℕ)) (bin : List (Slot KeptReel)) (reply : PlainReply) (after : Scene) : Type 0 where
+  pub name : List ℕ
+  pub others : List (List ℕ)
+  pub next : names ≡ name ∷ others
+  pub replies : reply ≡ Done 0
+  pub shop : after.shop ≡ one_drive drive (slot name None ∷ blanks drive others) bin
+  pub session : after.session ≡ Online 0 Both (plain_reel (tape [] []) drive.capacity)
+
+pub record Refused (before : Shop) (reply : PlainReply) (after : Scene) : Type 0 where
+  pub replies : IsTurnedDown reply
+  pub shop : after.shop ≡ before
+  pub idle : after.session ≡ Idle
+
+refused_as : (before : Shop) (reply : PlainReply) (after : Scene) (n : ℕ) (words : List ℕ) → reply ≡ Error n words → (n ≡ 2) ⊎ (n ≡ 6) ⊎ (n ≡ 12) → after.shop ≡ before
+    → after.session ≡ Idle → Refused before reply after
+refused_as before reply after n words is why shop session = record { replies = record { number = n; words = words; is = is; why = why }; shop = shop; idle = session }
+
+opens_next : (drive : PlainDrive) (names : List (List ℕ)) (bin : List (Slot KeptReel)) (reply : PlainReply) (after : Scene) (reel : PlainReel) (first : KeptReel) → reply ≡ Done 0
+    → waiting_reel (one_drive drive (blanks drive names) bin) 0 ≡ Some first → after.shop ≡ after_latch (one_drive drive (blanks drive names) bin) 0
+    → reel.tape ≡ tape [] first.entries → reel.capacity ≡ first.capacity → after.session ≡ Online 0 Both reel → Opened drive names bin reply after
+opens_next drive [] bin reply after reel first replies waits shop holds size session = absurd cc
+opens_next drive (name ∷ others) bin reply after reel first replies waits shop holds size session =
+    let blank : first ≡ kept_reel [] drive.capacity = same_Some first (kept_reel [] drive.capacity) (sym waits) in
+    let tapes : reel.tape ≡ tape [] [] = holds ∙ ap (λ (x : KeptReel). tape [] x.entries) blank in
+    let sizes : reel.capacity ≡ drive.capacity = size ∙ ap (λ (x : KeptReel). x.capacity) blank in
+    record {
+      name = name;
+      others = others;
+      next = refl;
+      replies = replies;
+      shop = shop;
+      session = session ∙ ap (λ t. Online 0 Both (plain_reel t reel.capacity)) tapes ∙ ap (λ n. Online 0 Both (plain_reel (tape [] []) n)) sizes;
+    }
+
+pub serve_open : (drive : PlainDrive) (names : List (List ℕ)) (bin : List (Slot KeptReel)) (device : List ℕ) (reply : PlainReply) (after : Scene)
+    → TroubledServeStep NoTrouble (0 ∷ []) (scene (one_drive drive (blanks drive names) bin) Idle) (Open device 2) reply after
+    → Opened drive names bin reply after ⊎ Refused (one_drive drive (blanks drive names) bin) reply after
+serve_open drive names bin device reply after (Ok (d, reel), asked, (found, named, (first, waits, shop, holds, size)), cause, replies, session) =
+    let here : d ≡ 0 = (let within = named.0 in omega (arith, within)) in
+    inl (opens_next drive names bin reply after reel first replies
+    (subst (λ n. waiting_reel (one_drive drive (blanks drive names) bin) n ≡ Some first) here waits)
+    (subst (λ n. after.shop ≡ after_latch (one_drive drive (blanks drive names) bin) n) here shop) holds size
+    (subst (λ n. after.session ≡ Online n Both reel) here session))
+serve_open drive names bin device reply after (Err NoSuchDrive, asked, opens, cause, replies, session) =
+    inr (refused_as (one_drive drive (blanks drive names) bin) reply after _ _ replies (inl refl) opens.1 session)
+serve_open drive names bin device reply after (Err (Taken n), asked, (d, is, named, same), cause, replies, session) =
+    let here : d ≡ 0 = (let within = named.0 in omega (arith, within)) in
+    let free : n ≡ 0 = cause.1 ∙ ap (holder_of (0 ∷ [])) (is ∙ ap Some here) in
+    let held = cause.0 in
+    absurd (omega (arith, held, free))
+serve_open drive names bin device reply after (Err NoReel, asked, (d, is, named, latch), cause, replies, session) =
+    inr (refused_as (one_drive drive (blanks drive names) bin) reply after _ _ replies (inr (inl refl)) latch.1 session)
+serve_open drive names bin device reply after (Err Device, asked, opens, cause, replies, session) = absurd (cause.1 refl)
+serve_open drive names bin device reply after (Err OutOfMemory, asked, (d, is, named, latch), cause, replies, session) =
+    inr (refused_as (one_drive drive (blanks drive names) bin) reply after _ _ replies (inr (inr refl)) latch.1 session)
+serve_open drive names bin device reply after (Err NameTaken, asked, opens, cause, replies, session) = absurd cause
+
+-- one call of the reel in the drive
+record Called (shop : Shop) (reel : PlainReel) (request : PlainRequest) (reply : PlainReply) (after : Scene) : Type 0 where
+  answer : TapeAnswer
+  tape : Tape
+  device : DeviceStep reel.capacity NoTrouble reel.tape (tape_request request) answer tape
+  replies : reply ≡ reel_reply request answer
+  is : after ≡ scene shop (Online 0 Both (plain_reel tape reel.capacity))
+
+called : (shop : Shop) (reel : PlainReel) (request : PlainRequest) (reply : PlainReply) (after : Scene)
+    → TroubledReelStep NoTrouble (scene shop (Online 0 Both reel)) request reply after → Called shop reel request reply after
+called shop reel request reply after (e, access, x, answer, t, online, device, replies, is) =
+    let drives : e ≡ 0 = cc in
+    let accesses : access ≡ Both = cc in
+    let reels : x ≡ reel = cc in
+    record {
+      answer = answer;
+      tape = t;
+      device = subst (λ (y : PlainReel). DeviceStep y.capacity NoTrouble y.tape (tape_request request) answer t) reels device;
+      replies = replies;
+      is = is ∙ ap (λ n. scene shop (Online n access (plain_reel t x.capacity))) drives ∙ ap (λ a. scene shop (Online 0 a (plain_reel t x.capacity))) accesses
+          ∙ ap (λ (y : PlainReel). scene shop (Online 0 Both (plain_reel t y.capacity))) reels;
+    }
+
+-- the reel stands so in the drive
+abbrev pub IsOnline : Shop → ℕ → Tape → Scene → Type 0
+IsOnline shop capacity t after = after ≡ scene shop (Online 0 Both (plain_reel t capacity))
+
+-- a rewind of an empty reel
+pub serve_rewind : (shop : Shop) (capacity : ℕ) (reply : PlainReply) (holders : List ℕ) (after : Scene)
+    → TroubledServeStep NoTrouble holders (scene shop (Online 0 Both (plain_reel (tape [] []) capacity))) (Op 5 1) reply after
+    → (reply ≡ Done 1) × IsOnline shop capacity (tape [] []) after
+serve_rewind shop capacity reply holders after step = rewound (called shop (plain_reel (tape [] []) capacity) (Op 5 1) reply after step)
+  where
+    answered : (answer : TapeAnswer) (t : Tape) → DeviceStep capacity NoTrouble (tape [] []) (tape_request (Op 5 1)) answer t → reply ≡ reel_reply (Op 5 1) answer
+        → after ≡ scene shop (Online 0 Both (plain_reel t capacity)) → (reply ≡ Done 1) × IsOnline shop capacity (tape [] []) after
+    answered Did t device replies is = (replies, is ∙ ap (λ x. scene shop (Online 0 Both (plain_reel x capacity))) device.1)
+    answered (Gave bytes) t device replies is = absurd device.1
+    answered (Fault faults.Device) t device replies is = absurd (device.0 refl)
+    answered (Fault faults.Full) t device replies is = absurd device.1
+    answered (Fault faults.EndOrMark) t device replies is = absurd device.1
+    answered (Fault faults.BadOperation) t device replies is = absurd device.1
+    answered (Fault faults.OutOfMemory) t device replies is = absurd device
+
+    rewound : Called shop (plain_reel (tape [] []) capacity) (Op 5 1) reply after → (reply ≡ Done 1) × IsOnline shop capacity (tape [] []) after
+    rewound c = answered c.answer c.tape c.device c.replies c.is
+
+-- the record was written, or there is no room for it, or no memory
+pub data Writes (shop : Shop) (capacity : ℕ) (before : List PlainEntry) (bytes : List ℕ) (reply : PlainReply) (after : Scene) : Type 0 where
+  wrote : offset_of before + length bytes + 12 ≤ capacity → reply ≡ Done (length bytes)
+      → IsOnline shop capacity (tape (before ++ Record bytes ∷ []) []) after → Writes shop capacity before bytes reply after
+  full : capacity < offset_of before + length bytes + 12 → reply ≡ Done 0 → IsOnline shop capacity (tape before []) after
+      → Writes shop capacity before bytes reply after
+  scarce : IsScarce reply → IsOnline shop capacity (tape before []) after → Writes shop capacity before bytes reply after
+
+-- a record of a length that a record can have is not refused
+not_refused : (n : ℕ) → 0 < n → n ≤ 65536 → (n == 0) || nat_lt record_limit n ≡ false
+not_refused n some few = grind (arith, nat_tests)
+
+pub serve_write : (shop : Shop) (capacity : ℕ) (before : List PlainEntry) (bytes : List ℕ) (reply : PlainReply) (holders : List ℕ) (after : Scene) → 0 < length bytes → length bytes ≤ 65536
+    → TroubledServeStep NoTrouble holders (scene shop (Online 0 Both (plain_reel (tape before []) capacity))) (Write bytes) reply after → Writes shop capacity before bytes reply after
+serve_write shop capacity before bytes reply holders after some few step =
+    wrote_by (called shop (plain_reel (tape before []) capacity) (Write bytes) reply after
+    (checked ((length bytes == 0) || nat_lt record_limit (length bytes)) (not_refused (length bytes) some few) step))
+  where
+    checked : (b : Bool) → b ≡ false
+        → MatchOption (if b then Some (tape_refusal faults.BadOperation) else None)
+        (TroubledDoneStep NoTrouble (scene shop (Online 0 Both (plain_reel (tape before []) capacity))) (Write bytes) reply after)
+        (λ r. (reply ≡ refused r) × (after ≡ scene shop (Online 0 Both (plain_reel (tape before []) capacity))))
+        → TroubledReelStep NoTrouble (scene shop (Online 0 Both (plain_reel (tape before []) capacity))) (Write bytes) reply after
+    checked true is step = absurd cc
+    checked false is step = step
+
+    answered : (answer : TapeAnswer) (t : Tape) → DeviceStep capacity NoTrouble (tape before []) (tape_request (Write bytes)) answer t → reply ≡ reel_reply (Write bytes) answer
+        → after ≡ scene shop (Online 0 Both (plain_reel t capacity)) → Writes shop capacity before bytes reply after
+    answered Did t (spared, (fits, put)) replies is = wrote fits replies (is ∙ ap (λ x. scene shop (Online 0 Both (plain_reel x capacity))) put)
+    answered (Gave given) t device replies is = absurd device.1
+    answered (Fault faults.Device) t device replies is = absurd (device.0 refl)
+    answered (Fault faults.Full) t (spared, (tight, stays)) replies is = full tight replies (is ∙ ap (λ x. scene shop (Online 0 Both (plain_reel x capacity))) stays)
+    answered (Fault faults.EndOrMark) t device replies is = absurd device.1
+    answered (Fault faults.BadOperation) t device replies is = absurd device.1
+    answered (Fault faults.OutOfMemory) t (fits, stays) replies is =
+        scarce (_, replies) (is ∙ ap (λ x. scene shop (Online 0 Both (plain_reel x capacity))) stays)
+
+    wrote_by : Called shop (plain_reel (tape before []) capacity) (Write bytes) reply after → Writes shop capacity before bytes reply after
+    wrote_by c = answered c.answer c.tape c.device c.replies c.is
+
+-- the mark was written, or there is no memory
+pub serve_mark : (shop : Shop) (capacity : ℕ) (before : List PlainEntry) (reply : PlainReply) (holders : List ℕ) (after : Scene) → offset_of before + 4 ≤ capacity
+    → TroubledServeStep NoTrouble holders (scene shop (Online 0 Both (plain_reel (tape before []) capacity))) (Op 0 1) reply after
+    → ((reply ≡ Done 1) × IsOnline shop capacity (tape (before ++ Mark ∷ []) []) after) ⊎ (IsScarce reply × IsOnline shop capacity (tape before []) after)
+serve_mark shop capacity before reply holders after room step = marked_by (called shop (plain_reel (tape before []) capacity) (Op 0 1) reply after step)
+  where
+    answered : (answer : TapeAnswer) (t : Tape) → DeviceStep capacity NoTrouble (tape before []) (tape_request (Op 0 1)) answer t → reply ≡ reel_reply (Op 0 1) answer
+        → after ≡ scene shop (Online 0 Both (plain_reel t capacity))
+        → ((reply ≡ Done 1) × IsOnline shop capacity (tape (before ++ Mark ∷ []) []) after) ⊎ (IsScarce reply × IsOnline shop capacity (tape before []) after)
+    answered Did t (spared, inl (none, put)) replies is = absurd (omega (arith, none))
+    answered Did t (spared, inr (some, fits, put)) replies is = inl (replies, is ∙ ap (λ x. scene shop (Online 0 Both (plain_reel x capacity))) put)
+    answered (Gave given) t device replies is = absurd device.1
+    answered (Fault faults.Device) t device replies is = absurd (device.0 refl)
+    answered (Fault faults.Full) t (spared, (some, tight, stays)) replies is = absurd (omega (arith, room, tight))
+    answered (Fault faults.EndOrMark) t device replies is = absurd device.1
+    answered (Fault faults.BadOperation) t device replies is = absurd device.1
+    answered (Fault faults.OutOfMemory) t (some, fits, stays) replies is =
+        inr ((_, replies), is ∙ ap (λ x. scene shop (Online 0 Both (plain_reel x capacity))) stays)
+
+    marked_by : Called shop (plain_reel (tape before []) capacity) (Op 0 1) reply after
+        → ((reply ≡ Done 1) × IsOnline shop capacity (tape (before ++ Mark ∷ []) []) after) ⊎ (IsScarce reply × IsOnline shop capacity (tape before []) after)
+    marked_by c = answered c.answer c.tape c.device c.replies c.is
+
+-- the name of the reel in the drive is not that of one in the bin
+name_free : (drive : PlainDrive) (stack bin : List (Slot KeptReel)) (name : List ℕ) → EachReelOnce (one_drive drive (slot name None ∷ stack) bin) → 0 < times name (names_of bin) → ⊥
+name_free drive stack bin name once among =
+    let few : times name (names_in (one_drive drive (slot name None ∷ stack) bin)) ≤ 1 = once name in
+    let all = times-named name (slots_in (one_drive drive (slot name None ∷ stack) bin)) in
+    let one : named name (slot {X = KeptReel} name None) ≡ 1 = ap bit ((bytes_eq-Decides name name).1 refl) in
+    let first = sum_by-cons (named name) (slot name None) (stack ++ []) in
+    let parts = sum_by-append (named name) ((slot name None ∷ stack) ++ []) bin in
+    let there = times-named name bin in
+    omega (arith, few, all, one, first, parts, there, among)
+
+-- the reel went to the bin, or there is no memory, and it stays
+pub serve_unload : (drive : PlainDrive) (stack bin : List (Slot KeptReel)) (name : List ℕ) (before : List PlainEntry) (reply : PlainReply) (holders : List ℕ) (after : Scene)
+    → EachReelOnce (one_drive drive (slot name None ∷ stack) bin)
+    → TroubledServeStep NoTrouble holders (scene (one_drive drive (slot name None ∷ stack) bin) (Online 0 Both (plain_reel (tape before []) drive.capacity))) (Op 6 1) reply after
+    → ((reply ≡ Done 1) × (after ≡ scene (one_drive drive stack (bin ++ slot name (Some (kept_reel before drive.capacity)) ∷ [])) (Offline 0 Both)))
+    ⊎ (IsScarce reply × (after.shop ≡ one_drive drive (slot name None ∷ stack) bin))
+serve_unload drive stack bin name before reply holders after once (e, access, x, Ok done, online, cause, replies, is) =
+    let drives : e ≡ 0 = cc in
+    let accesses : access ≡ Both = cc in
+    let reels : x ≡ plain_reel (tape before []) drive.capacity = cc in
+    inl (
+      replies,
+      is ∙ ap (λ n. scene (after_offline (one_drive drive (slot name None ∷ stack) bin) n (entries_of x.tape) x.capacity) (Offline n access)) drives
+          ∙ ap (λ a. scene (after_offline (one_drive drive (slot name None ∷ stack) bin) 0 (entries_of x.tape) x.capacity) (Offline 0 a)) accesses
+          ∙ ap (λ (r : PlainReel). scene (after_offline (one_drive drive (slot name None ∷ stack) bin) 0 (entries_of r.tape) r.capacity) (Offline 0 Both)) reels
+          ∙ ap (λ l. scene (one_drive drive stack (bin ++ slot name (Some (kept_reel l drive.capacity)) ∷ [])) (Offline 0 Both)) (append-nil before),
+    )
+serve_unload drive stack bin name before reply holders after once (e, access, x, Err OutOfMemory, online, cause, replies, (excused, stays, is)) = inr ((_, replies), stays.0)
+serve_unload drive stack bin name before reply holders after once (e, access, x, Err Device, online, cause, replies, (excused, stays, is)) = absurd (cause refl)
+serve_unload drive stack bin name before reply holders after once (e, access, x, Err NameTaken, online, cause, replies, (excused, stays, is)) =
+    let drives : e ≡ 0 = cc in
+    absurd (name_free drive stack bin name once
+    (subst (λ n. IsNameInBin (one_drive drive (slot name None ∷ stack) bin) (latched_at (one_drive drive (slot name None ∷ stack) bin) n)) drives (stays.1 refl)))
+serve_unload drive stack bin name before reply holders after once (e, access, x, Err NoSuchDrive, online, cause, replies, (excused, stays, is)) = absurd excused
+serve_unload drive stack bin name before reply holders after once (e, access, x, Err (Taken n), online, cause, replies, (excused, stays, is)) = absurd excused
+serve_unload drive stack bin name before reply holders after once (e, access, x, Err NoReel, online, cause, replies, (excused, stays, is)) = absurd excused
+
+-- the drive is given back
+pub serve_close : (shop : Shop) (reply : PlainReply) (holders : List ℕ) (after : Scene) → TroubledServeStep NoTrouble holders (scene shop (Offline 0 Both)) Close reply after
+    → (reply ≡ Done 0) × (after ≡ scene shop Idle)
+serve_close shop reply holders after step = step

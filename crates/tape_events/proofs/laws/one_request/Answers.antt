@@ -1,0 +1,24 @@
+use Rattle.tape_events.proofs.Held.{held_after}
+use Rattle.tape_events.specs.Events.PlainEvent.{Serve}
+use Rattle.tape_events.proofs.RequestMeets.{carries, carries_happens, carries_serves, next_request, stale_requests}
+use Rattle.tape_events.proofs.RequestMoves.{whole_at_the_move}
+use Rattle.tape_events.proofs.laws.one_request.Goals as goal
+
+pub returns-clause-carries : goal.returns-clause-carries
+returns-clause-carries c = carries
+
+pub returns-clause-next_request : goal.returns-clause-next_request
+returns-clause-next_request c = λ w u k trouble t l d kept at dump.
+    next_request c.one_reading.ensures.answers c.dropped_writes.ensures w u (carries_serves w u k trouble t) l d kept.told at dump
+
+pub returns-clause-stale_requests : goal.returns-clause-stale_requests
+returns-clause-stale_requests c = λ w u k trouble t kept.
+    (stale_requests w u k trouble t kept.held (held_after w (Serve k trouble) u (carries_happens w u k trouble t) kept.held)).0
+
+pub returns-clause-others_stay : goal.returns-clause-others_stay
+returns-clause-others_stay c = λ w u k trouble t kept.
+    (stale_requests w u k trouble t kept.held (held_after w (Serve k trouble) u (carries_happens w u k trouble t) kept.held)).1
+
+pub returns-clause-whole_at_the_move : goal.returns-clause-whole_at_the_move
+returns-clause-whole_at_the_move c = λ w u k trouble t l d kept at dump done.
+    whole_at_the_move c.one_reading.ensures.answers c.dropped_writes.ensures w u (carries_serves w u k trouble t) l d kept at dump done
