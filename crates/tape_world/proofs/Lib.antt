@@ -12,9 +12,11 @@ pub mod HearingWorld
 pub mod Apart
 pub mod Made
 pub mod RunningOn
+pub mod RunningInOrder
 pub mod Told
 pub mod Serving
 pub mod ServingStock
 pub mod ServingRow
 pub mod Free
 pub mod Online
+pub mod Volumes

@@ -10,3 +10,4 @@ pub mod Running
 pub mod Telling
 pub mod Serving
 pub mod Entries
+pub mod Volumes

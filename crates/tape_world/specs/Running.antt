@@ -1,10 +1,12 @@
 -- Events as values, and what a list of them makes of a world.
-use Rattle.std.specs.Prelude.{◌≡◌, ℕ, ◌<◌, List, length, map, take, slice_get, Some}
+use Rattle.std.specs.Prelude.{◌≡◌, ℕ, ◌<◌, List, [], ◌∷◌, length, map, take, slice_get, Some}
 use Rattle.tape_events.specs.World.{World}
 use Rattle.tape_events.specs.Events.{PlainEvent}
 use Rattle.tape_events.specs.Events.PlainEvent.{StartRun, Connect, Send, ToServer, Serve, ToClient, Cut, EndAtServer, EndAtClient, ServerRestart, ClientRestart, Respond, Arrange, Stranger, Says, Enter}
 use Rattle.tape_events.specs.Rows.{Possible}
 use Rattle.tape_events.specs.Steps.{Runs}
+use Rattle.tape_events.specs.First.{PlainDrive, AreGoodDrives, first_world}
+use Rattle.tape_events.specs.Smooth.{AreFaultless, VolumesInOrder}
 use Rattle.tape_world.specs.declared.event.Event.{Event}
 use Rattle.tape_world.specs.declared.event.Event.TheVariants as lent
 use Rattle.tape_world.specs.declared.stop.Stop.{Stop}
@@ -50,3 +52,8 @@ pub record IsStopped (old : World) (events : List PlainEvent) (i : ℕ) (new : W
 abbrev pub IsRefused : List PlainEvent → World → WorldFault → Type 0
 IsRefused events w (NotPossible i) = (event : PlainEvent) → slice_get events i ≡ Some event → Possible w event → ⊥
 IsRefused events w (OutOfMemory i) = Unit {0}
+
+-- From the first world of one good drive on, events without a fault leave the volumes in order.
+abbrev pub LeavesInOrder : World → List PlainEvent → World → Type 0
+LeavesInOrder old events new =
+    (drive : PlainDrive) → AreGoodDrives (drive ∷ []) → old ≡ first_world (drive ∷ []) → AreFaultless events → VolumesInOrder drive new

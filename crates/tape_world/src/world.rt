@@ -3,10 +3,12 @@ mod telling;
 
 ghost use Rattle.std.specs.Prelude.{◌≡◌, IfOk, map};
 ghost use Rattle.tape_events.specs.First.{AreGoodDrives, first_world};
-ghost use Rattle.tape_events.specs.Kept.{IsKept, NoTwoHolders, DumpdatesGained};
+ghost use Rattle.tape_events.specs.Kept.{IsKept, AreHeld, NoTwoHolders, DumpdatesGained, ClientsCounts};
+ghost use Rattle.tape_events.specs.Written.{CountedReels};
 ghost use Rattle.tape_world.specs.Holding.{IsEvent};
 ghost use Rattle.tape_world.specs.Making.{plain_drive};
 ghost use Rattle.tape_world.specs.Running.{plain_event};
+ghost use Rattle.tape_world.specs.Volumes.{TellsVolumes};
 
 use crate::drive_spec::DriveSpec;
 use crate::ends::Ends;
@@ -49,15 +51,24 @@ impl World {
         Ok(World { ends })
     }
 
-    /// What holds of each world, whatever happened: who holds the drives, where reels lie, whose openings are last, which
-    /// counts are the client's own, and what dumpdates gained. So no drive has two holders, and dumpdates gained only dumps
-    /// whose counted volumes are all their blocks in order.
+    /// What holds of each world, whatever happened: who holds the drives, where reels lie, whose openings are last, what each
+    /// attempt wrote, which counts are the client's own, and what dumpdates gained. So the holder of a drive is the connection
+    /// whose live side has it open, and no drive has two; each reel that was counted, and that no session opened for writing
+    /// since, holds exactly its volume's records and one file mark; and dumpdates gained only dumps whose counted volumes are
+    /// all their blocks in order.
+    ///
+    /// What `entry` tells of such a reel are the entries of its volume. The counts of the client's number are those that the
+    /// client has.
     ///
     /// It does nothing: its contract is what is told.
     pub fn kept(&self)
         ensures kept { IsKept self.now }
+        ensures holders { AreHeld self.now.hall }
         ensures no_two_holders { NoTwoHolders self.now }
+        ensures counted_reels { CountedReels self.now }
+        ensures volumes_told { TellsVolumes self.now }
         ensures dumpdates_gained { DumpdatesGained self.now }
+        ensures clients_counts { ClientsCounts self.now }
     {
         let _ = &self.ends;
         kept();

@@ -5,6 +5,7 @@ mod dice;
 mod drive_specs;
 mod fixture;
 mod headline;
+mod laws;
 mod lists;
 mod real;
 mod rows;
