@@ -1,0 +1,3 @@
+pub mod Rule
+pub mod Keeping
+pub mod Seats

@@ -1,0 +1,44 @@
+-- The rule that holds between any two atomic steps at the table, and one step under it.
+use Rattle.std.specs.Prelude.{◌≡◌, ◌⊎◌, ℕ, ◌+◌, ◌-◌, ◌^◌, ◌<◌, ◌≤◌, min, true, false, List, length, slice_index, slice_set}
+use mathlib.Core.Option.{some}
+use lib.ListN.{get_elem?}
+use Rattle.drives.specs.declared.view.View.{View}
+use Rattle.drives.specs.Holding.{has}
+use Rattle.hold_table.specs.declared.rule.Seated.{Seated}
+
+-- what the table knows of a seat: what the seat knows, how many steps it made, and how many numbers it may hand on
+abbrev pub seated : View → ℕ → ℕ → Seated
+seated v made spare = record { view = v; made = made; spare = spare }
+
+-- no seat holds drive d
+abbrev pub HasNoHolder : List Seated → ℕ → Type 0
+HasNoHolder seats d = (k : ℕ) (x : Seated) → get_elem? seats k ≡ some x → has x.view d ≡ false
+
+-- the seat numbered n, and no other, holds drive d
+abbrev pub HasOneHolder : List Seated → ℕ → ℕ → Type 0
+HasOneHolder seats n d =
+    ((k : ℕ) × (x : Seated) × (get_elem? seats k ≡ some x) × (x.view.number ≡ n))
+    × ((k : ℕ) (x : Seated) → get_elem? seats k ≡ some x → (x.view.number ≡ n → has x.view d ≡ true) × (has x.view d ≡ true → x.view.number ≡ n))
+
+-- The hold rule, of the drives' words and of all seats.
+pub record HoldRule (words : List ℕ) (seats : List Seated) : Type 0 where
+  -- the numbers of the seats are from 1 to 32 and distinct
+  pub ranged : (k : ℕ) (x : Seated) → get_elem? seats k ≡ some x → (1 ≤ x.view.number) × (x.view.number ≤ 32)
+  pub distinct : (j k : ℕ) (x y : Seated) → get_elem? seats j ≡ some x → get_elem? seats k ≡ some y → x.view.number ≡ y.view.number → j ≡ k
+  -- each word is 0 and no seat holds that drive, or it is n and the seat numbered n, and no other, holds it
+  pub held : (d : ℕ) → d < length words → ((slice_index words d ≡ 0) × HasNoHolder seats d) ⊎ HasOneHolder seats (slice_index words d) d
+  -- a seat shows the number of steps that it made, up to the greatest u64
+  pub shown : (k : ℕ) (x : Seated) → get_elem? seats k ≡ some x → x.view.steps ≡ min x.made (2 ^ 64 - 1)
+
+-- One atomic step at the word of drive d, by a seat that knew `old` after `made` steps: it finds `found` there, leaves
+-- `left` there, and knows `new` then. It changes no other word and no other seat, and the hold rule holds before and after it.
+pub record IsRuledStep (d : ℕ) (old : View) (made found left : ℕ) (new : View) : Type 0 where
+  pub words : List ℕ
+  pub seats : List Seated
+  pub place : ℕ
+  pub spare : ℕ
+  pub inside : d < length words
+  pub before : HoldRule words seats
+  pub at : get_elem? seats place ≡ some (seated old made spare)
+  pub finds : slice_index words d ≡ found
+  pub after : HoldRule (slice_set words d left) (slice_set seats place (seated new (made + 1) spare))

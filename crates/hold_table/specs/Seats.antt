@@ -1,0 +1,29 @@
+-- What contracts see of a seat at the table.
+use Rattle.std.specs.Prelude.{◌≡◌, ℕ, zero, suc, ◌+◌, ◌≤◌, List, [], ◌∷◌, ◌++◌}
+use Rattle.atomic_table.specs.Seated.{TableId}
+use Rattle.drives.specs.declared.view.View.{View}
+use Rattle.drives.specs.Holding.{newcomer}
+
+-- a seat: its table, what it knows, and how many steps it made
+pub record TableSeat : Type 0 where
+  pub table : TableId
+  pub view : View
+  pub made : ℕ
+
+abbrev pub table_seat : TableId → View → ℕ → TableSeat
+table_seat table view made = record { table = table; view = view; made = made }
+
+-- the seat after one step more, which knows v then
+abbrev pub next : TableSeat → View → TableSeat
+next s v = table_seat s.table v (s.made + 1)
+
+-- the first n seats of a new table, in the order of their numbers, from 1
+abbrev pub dealt : TableId → ℕ → List TableSeat
+dealt t zero = []
+dealt t (suc n) = dealt t n ++ table_seat t (newcomer (n + 1)) 0 ∷ []
+
+-- the seat is one of the table's, so its number is from 1 to 32
+pub record IsSeatAt (t : TableId) (s : TableSeat) : Type 0 where
+  pub same : s.table ≡ t
+  pub numbered : 1 ≤ s.view.number
+  pub dealt : s.view.number ≤ 32

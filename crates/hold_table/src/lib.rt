@@ -1,0 +1,16 @@
+//! Who holds which drive, kept between threads: a table with one word for each drive, and 32 seats.
+//!
+//! A word is 0, or the number of the seat that holds the drive. Each call is one atomic step on one drive's word, and
+//! none waits. `TableHand` is a shared reference to the table that is a `Holds`.
+#![tactic(auto)]
+
+mod hand;
+mod laws;
+mod rule;
+mod seat;
+mod table;
+
+pub use hand::TableHand;
+pub use laws::one_holder;
+pub use seat::HoldSeat;
+pub use table::HoldTable;

@@ -1,0 +1,112 @@
+//! The table, and its atomic steps.
+ghost use Rattle.std.specs.Prelude.{◌≡◌, ◌<◌, ◌≤◌, ◌↔◌, ◌==◌, None, cond, length, All, IsTrue, IfOk};
+ghost use Rattle.drives.specs.Holding.{has, taken, given, looked, found_by, Answers, HoldsJust};
+ghost use Rattle.hold_table.specs.Rule.{IsRuledStep};
+ghost use Rattle.hold_table.specs.Seats.{next, dealt, IsSeatAt};
+
+use crate::rule::{Deal, Gives, HoldLaw, Looks, Seated, Takes};
+use crate::seat::HoldSeat;
+use atomic_table::Table;
+use drives::Taken;
+use std::alloc::{AllocError, Global};
+use std::marker::Model;
+
+/// How many seats a table has.
+const SEATS: usize = 32;
+
+/// Drives, from 1 to 64, that 32 seats share between threads. Each drive has one word: 0, or the number of the seat that
+/// holds it.
+///
+/// Between any two steps the seats' numbers are distinct and from 1 to 32, and each word is 0 while no seat holds that
+/// drive, or n while the seat numbered n holds it and no other does. Contracts see which table it is.
+#[derive(Drop)]
+pub struct HoldTable {
+    table: Table<(), Seated, usize, HoldLaw, Global>,
+}
+
+impl Model for HoldTable {
+    ghost use Rattle.std.specs.Prelude.{◌≡◌, ◌≤◌};
+    ghost use Rattle.atomic_table.specs.Seated.{TableId, table_id_coded};
+
+    ghost Value = { TableId };
+
+    ghost coded = { table_id_coded };
+
+    ghost view = { λ t. t.table.shared.table_id };
+
+    ghost invariant = { λ t. (t.table.shared.key ≡ t.table.shared.table_id.words) × (t.table.shared.table_id.slots ≡ 0) };
+}
+
+impl HoldTable {
+    /// A table of that many drives, from 1 to 64, which no seat holds, and its 32 seats in the order of their numbers,
+    /// from 1. It fails only where memory is refused.
+    pub fn new(alloc: Global, drives: usize) -> Result<(HoldTable, Vec<HoldSeat>), AllocError>
+        requires some { 1 ≤ drives }
+        requires few { drives ≤ 64 }
+        ensures drives { IfOk result (λ made. made.0.words ≡ drives) }
+        ensures seats { IfOk result (λ made. made.1.items ≡ dealt made.0 32) }
+        ensures count { IfOk result (λ made. length made.1.items ≡ 32) }
+        ensures idle { IfOk result (λ made. All (λ s. IsSeatAt made.0 s × HoldsJust s.view None) made.1.items) }
+    {
+        let words = Vec::from_elem(alloc, 0u64, drives)?;
+        let (table, mut seat) = Table::of_words(alloc, words.as_slice(), &drives)?;
+        let mut seats = Vec::with_capacity(alloc, SEATS)?;
+        let mut dealt = 0;
+        while dealt < 31 {
+            let next = table.shared.split_seat::<Deal>(&mut seat);
+            dealt += 1;
+            seats.push(HoldSeat {
+                seat,
+                number: dealt,
+            })?;
+            seat = next;
+        }
+        seats.push(HoldSeat { seat, number: 32 })?;
+        Ok((HoldTable { table }, seats))
+    }
+
+    /// Takes the drive if no seat holds it, by one atomic step: where the word is 0 it becomes the seat's number. Answers
+    /// `Held`, or `Busy` with the number of the seat that holds it, which may be this one. It does not wait.
+    pub fn take(&self, seat: &mut HoldSeat, drive: usize) -> Taken
+        requires seat { IsSeatAt self.now seat.old }
+        requires drive { drive < self.now.words }
+        ensures step { seat.new ≡ next seat.old (taken seat.old.view drive (found_by result)) }
+        ensures answer { Answers result seat.old.view seat.new.view drive }
+        ensures known { found_by result ≤ 32 }
+        ensures rule { IsRuledStep drive seat.old.view seat.old.made (found_by result)
+            (cond (found_by result == 0) seat.old.view.number (found_by result)) seat.new.view }
+    {
+        let found = self
+            .table
+            .shared
+            .compare_exchange::<Takes>(&mut seat.seat, drive, 0, seat.number);
+        if found == 0 {
+            Taken::Held
+        } else {
+            Taken::Busy(found)
+        }
+    }
+
+    /// Gives back a drive that the seat holds, by one atomic step: the word becomes 0. It does not wait.
+    pub fn give(&self, seat: &mut HoldSeat, drive: usize)
+        requires seat { IsSeatAt self.now seat.old }
+        requires drive { drive < self.now.words }
+        requires held { IsTrue (has seat.old.view drive) }
+        ensures step { seat.new ≡ next seat.old (given seat.old.view drive) }
+        ensures rule { IsRuledStep drive seat.old.view seat.old.made seat.old.view.number 0 seat.new.view }
+    {
+        self.table.shared.store::<Gives>(&mut seat.seat, drive, 0);
+    }
+
+    /// The number of the seat that holds the drive, or 0, by one atomic step that reads the word. It does not wait.
+    pub fn holder(&self, seat: &mut HoldSeat, drive: usize) -> u64
+        requires seat { IsSeatAt self.now seat.old }
+        requires drive { drive < self.now.words }
+        ensures step { seat.new ≡ next seat.old (looked seat.old.view drive result) }
+        ensures known { result ≤ 32 }
+        ensures mine { result ≡ seat.old.view.number ↔ IsTrue (has seat.old.view drive) }
+        ensures rule { IsRuledStep drive seat.old.view seat.old.made result result seat.new.view }
+    {
+        self.table.shared.load::<Looks>(&mut seat.seat, drive)
+    }
+}

@@ -1,0 +1,5 @@
+//! Tests of `hold_table`, by its public calls and below sessions. They stand here so that `hold_table` is proved once.
+#![tactic(auto)]
+
+#[cfg(test)]
+mod tests;

@@ -1,0 +1,8 @@
+//! Seats at one table, in one thread and in many.
+
+mod law;
+mod pair;
+mod race;
+mod rows;
+mod seats;
+mod sessions;
