@@ -1,0 +1,125 @@
+"""What must hold in the world of `model_world.py` after every event, looked at from nothing: by no step of the model's own.
+
+The headline: each counted reel that no session opened for writing since holds exactly its volume, its label, its blocks and one mark; no two sessions
+hold one drive; dumpdates gained only runs whose counted volumes are all their blocks in order; and the counts are exactly those of what the client
+sent and was answered. Beside it: from the label on a client's reel holds the writes that were accepted and nothing else, until one met a device fault
+or another session opened the reel for writing; and a client sends one request at a time.
+"""
+
+from __future__ import annotations
+
+from typing import Callable, Iterable, Iterator
+
+from model_session import Reel
+from model_world import Count, Link, Volume, World, entered
+
+
+Sentence = Callable[[World], Iterator[str]]
+
+
+def broken(world: World, sentences: Iterable[Sentence]) -> str | None:
+    """The first of these sentences that does not hold, told with its case; None where all hold."""
+    return next((told for sentence in sentences for told in sentence(world)), None)
+
+
+def opened_since(world: World, reel: Reel, link: int) -> bool:
+    """Whether the reel was opened for writing after this connection opened it."""
+    openers = [by for by, opened in world.opens if opened is reel]
+    return openers[-1:] not in ([], [link])
+
+
+def counted_reels(world: World) -> Iterator[str]:
+    for count in world.counts:
+        run = world.runs[count.run - 1]
+        whole = run.volume(*count.volume)
+        if count.reel.entries != whole and not opened_since(world, count.reel, count.link):
+            held = [it and len(it) for it in count.reel.entries]
+            yield f"reel {count.reel.name.decode()}, counted as volume {count.volume.volume} of run {count.run}, holds {held}"
+
+
+def holders(world: World) -> Iterator[str]:
+    open_in: dict[bytes, int] = {}
+    for link in world.alive.values():
+        drive = link.session.drive if link.server_live else None
+        if drive and drive.name in open_in:
+            yield f"sessions {open_in[drive.name]} and {link.number} both hold {drive.name.decode()}"
+        if drive:
+            open_in[drive.name] = link.number
+    for drive in world.shop.drives.values():
+        if drive.holder != open_in.get(drive.name, 0):
+            yield f"{drive.name.decode()} is held by {drive.holder}, and open in session {open_in.get(drive.name, 0)}"
+
+
+def covers(counts: list[Volume], blocks: int) -> bool:
+    """Whether these volumes, in this order, are all blocks."""
+    block = 0
+    for place, it in enumerate(counts, 1):
+        if (it.volume, it.first) != (place, block):
+            return False
+        block += it.count
+    return bool(counts) and block == blocks
+
+
+def entered_runs(world: World) -> Iterator[str]:
+    dates: list[tuple[bytes, int, int]] = []
+    for number in world.entered:
+        run = world.runs[number - 1]
+        counts = [it.volume for it in world.counts if it.run == number]
+        dates = entered(dates, (run.name, run.level, run.date))
+        if not covers(counts, run.blocks):
+            yield f"run {number} of {run.blocks} blocks was entered, counted are {[tuple(it) for it in counts]}"
+    if dates != world.dates or len(set(world.entered)) < len(world.entered):
+        yield f"entered were {world.entered}, dumpdates are {world.dates}"
+
+
+def position_of(link: Link, world: World) -> Volume | None:
+    """The volume that is counted by what was sent and answered on a connection."""
+    run = world.runs[link.run_number - 1]
+    requests = [f"O{run.device.decode()}\n2\n".encode(), b"I5\n1\n"]
+    label = run.label(link.volume, link.first)
+    requests.append(b"W%d\n%s" % (len(label), label))
+    blocks = 0
+    while link.first + blocks < run.blocks and len(requests) < len(link.got) and link.got[len(requests)] == ("A", run.block):
+        block = run.record(link.first + blocks)
+        requests.append(b"W%d\n%s" % (len(block), block))
+        blocks += 1
+    wanted = [("A", link.got[0][1] if link.got else 0), ("A", 1), ("A", 1024), *[("A", run.block)] * blocks]
+    if link.first + blocks < run.blocks and link.got[len(requests) :][:1] in ([("A", 0)], [("E", 28)]) and blocks:
+        block = run.record(link.first + blocks)
+        wanted.append(link.got[len(requests)])
+        requests.append(b"W%d\n%s" % (len(block), block))
+    elif link.first + blocks < run.blocks:
+        return None
+    requests += [b"I0\n1\n", b"I6\n1\n"]
+    wanted += [("A", 1), ("A", 1)]
+    whole = link.sent[: len(requests)] == requests and link.got[: len(wanted)] == wanted
+    return Volume(link.volume, link.first, blocks) if whole else None
+
+
+def counts_of_positions(world: World) -> Iterator[str]:
+    for link in world.links:
+        if link.is_mine:
+            volume = position_of(link, world)
+            here = [it for it in world.counts if it.link == link.number]
+            want = [Count(link.run_number, volume, link.reel, link.number)] if volume else []
+            if here != want:
+                yield f"connection {link.number} counts {[tuple(it.volume) for it in here]}, its position is {volume}"
+
+
+def accepted_writes(world: World) -> Iterator[str]:
+    for link in world.links:
+        if link.is_mine and link.accepted and not link.write_failed and not opened_since(world, link.reel, link.number):
+            if link.reel.entries != link.accepted:
+                held = [[it and len(it) for it in entries] for entries in (link.accepted, link.reel.entries)]
+                yield f"of connection {link.number} were accepted {held[0]}, reel {link.reel.name.decode()} holds {held[1]}"
+
+
+def requests_ahead(world: World) -> Iterator[str]:
+    for link in world.links:
+        if link.is_mine and not len(link.got) <= len(link.sent) <= len(link.got) + 1:
+            yield f"connection {link.number} sent {len(link.sent)} requests and was answered {len(link.got)}"
+
+
+HEADLINE = (counted_reels, holders, entered_runs, counts_of_positions)
+BESIDE = (accepted_writes, requests_ahead)
+SENTENCES = (*HEADLINE, *BESIDE)
