@@ -9,7 +9,10 @@ CLIENT := $(RDUMP)/out/rdump
 ANSWERED := $(RMTD)/out/answered
 MINUTES := out/minutes.txt
 
-.PHONY: build server client run test bench help kit
+PREFIX ?= /usr/local
+DESTDIR ?=
+
+.PHONY: build server client run test bench install clean help kit
 .NOTPARALLEL:
 
 build: server client ## prove the programs and build them (the first time takes minutes)
@@ -31,6 +34,7 @@ run: server ## the main job: one conversation through `rmtd --stdio`, its answer
 # The programs that are tested are those that `rt ci` has just proved and built, where it left them.
 test: kit ## the gate: each proof from nothing, then the built programs from outside, to the byte
 	rm -f $(PROGRAM) $(CLIENT)
+	python3 tests/promises.py
 	python3 tests/gate.py --minutes $(MINUTES)
 	test -x $(PROGRAM) -a -x $(CLIENT) || $(MAKE) build
 	python3 tests/rows.py $(PROGRAM)
@@ -39,6 +43,7 @@ test: kit ## the gate: each proof from nothing, then the built programs from out
 	python3 tests/reels.py $(PROGRAM) $(CLIENT)
 	python3 tests/clients.py $(PROGRAM)
 	python3 tests/kills.py $(PROGRAM) $(CLIENT)
+	python3 tests/schedules.py --broken all
 	@cat $(MINUTES)
 
 bench: build ## long streams through the server, also over a folder, beside cat and GNU rmt; a long dumpdates file, beside cat and wc; dumps and reads over the loopback, beside cat; both readers fed in pieces
@@ -48,6 +53,14 @@ bench: build ## long streams through the server, also over a folder, beside cat 
 	python3 bench/dump.py $(PROGRAM) $(CLIENT)
 	cd $(FEED) && rt run -- replies 1 1000
 	python3 bench/feed.py $(FEED)/out/feed
+
+install: build ## install the programs and their manual pages under PREFIX, below DESTDIR
+	install -d $(DESTDIR)$(PREFIX)/sbin $(DESTDIR)$(PREFIX)/share/man/man8
+	install $(PROGRAM) $(CLIENT) $(DESTDIR)$(PREFIX)/sbin
+	install -m 644 man/rmtd.8 man/rdump.8 $(DESTDIR)$(PREFIX)/share/man/man8
+
+clean: ## remove all that was built
+	rm -rf out crates/*/out
 
 help: ## list these words
 	@sed -n 's/^\([a-z]*\):.*## /  make \1\t/p' $(MAKEFILE_LIST) | expand -t 14
