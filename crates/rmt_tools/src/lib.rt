@@ -1,4 +1,5 @@
-//! What the programs of this repository do, by one name: all that `rmt_programs` makes and passes on.
+//! What the programs of this repository do, by one name: all that `rmt_programs` makes and passes on, and the schedules of
+//! `rsim`.
 #![tactic(auto)]
 
 pub use rmt_programs::{
@@ -9,3 +10,4 @@ pub use rmt_programs::{
     rdump_words, read_or_empty, read_steady, read_volume, run_stdio, seconds_now,
     serve_connections, serve_in_turn, server_line, server_words, update,
 };
+pub use schedules::schedule;

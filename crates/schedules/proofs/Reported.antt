@@ -1,0 +1,114 @@
+-- What a world tells, as the lines of its report say it.
+use Rattle.std.proofs.Common.{◌≡◌, ◌≢◌, ◌+◌, ◌<◌, ℕ, zero, suc, List, [], ◌∷◌, ◌++◌, Bool, true, false, Option, Some, None, refl, sym, ap, ◌∙◌, length, map, take, get_or, arith, append_assoc, append-nil, if◌then◌else◌}
+use Rattle.std.specs.Prelude.{slice_index_or, slice_get, unwrap_or}
+use Rattle.std.specs.List.{flat_map}
+use Rattle.std.specs.Option.{option_and_then}
+use Rattle.std.proofs.lemmas.List.{take_more, flat_map_more}
+use Rattle.std.proofs.lemmas.Option.{slice_get_within, slice_get-get_or, get_or_from_slice_get, same_Some}
+use Rattle.std.specs.Str.{bytes_eq}
+use Rattle.std.proofs.lemmas.Slice.Eq.{bytes_eq-Decides}
+use Rattle.tape.specs.Tape.{PlainEntry}
+use Rattle.tape.specs.List.{bytes_of, told_length}
+use Rattle.tape.specs.Trouble.{TroubledTape}
+use Rattle.drives.specs.Shop.{KeptReel, Slot, Rack, rack, Shop, names_of}
+use Rattle.drives.specs.ListShop.{rest_slot}
+use Rattle.tape_events.specs.World.{World, Count}
+use Rattle.tape_world.specs.Entries.{entry_on, entries_on}
+use Rattle.tape_world.specs.Telling.{TellsStack}
+use Rattle.schedules.specs.Report.{stack_of, entry_text, length_text, entries_of_reel}
+
+passed_by : (r : Rack KeptReel) (racks : List (Rack KeptReel)) (name : List ℕ) (b : Bool) → bytes_eq name r.name ≡ b → r.name ≢ name
+    → (if b then r.stack else stack_of racks name) ≡ stack_of racks name
+passed_by r racks name true is differs = absurd (differs (sym ((bytes_eq-Decides name r.name).0 is)))
+passed_by r racks name false is differs = refl
+
+met : (r : Rack KeptReel) (racks : List (Rack KeptReel)) (name : List ℕ) (b : Bool) → bytes_eq name r.name ≡ b → r.name ≡ name
+    → (if b then r.stack else stack_of racks name) ≡ r.stack
+met r racks name true is same = refl
+met r racks name false is same = absurd (let yes_it_is : bytes_eq name r.name ≡ true = (bytes_eq-Decides name r.name).1 (sym same) in cc)
+
+-- no drive has the name
+stack_none : (racks : List (Rack KeptReel)) (name : List ℕ)
+    → ((k : ℕ) → k < length racks → (slice_index_or racks k (rack [] [])).name ≢ name) → stack_of racks name ≡ []
+stack_none [] name none = refl
+stack_none (r ∷ racks) name none =
+    passed_by r racks name (bytes_eq name r.name) refl (none 0 (omega arith))
+    ∙ stack_none racks name (λ k below. none (suc k) (omega (arith, below)))
+
+-- the first drive of the name
+stack_found : (racks : List (Rack KeptReel)) (name : List ℕ) (d : ℕ) → d < length racks → (slice_index_or racks d (rack [] [])).name ≡ name
+    → ((k : ℕ) → k < d → (slice_index_or racks k (rack [] [])).name ≢ name) → stack_of racks name ≡ (slice_index_or racks d (rack [] [])).stack
+stack_found [] name d inside is first = absurd (omega (arith, inside))
+stack_found (r ∷ racks) name zero inside is first = met r racks name (bytes_eq name r.name) refl is
+stack_found (r ∷ racks) name (suc d) inside is first =
+    passed_by r racks name (bytes_eq name r.name) refl (first 0 (omega arith))
+    ∙ stack_found racks name d (omega (arith, inside)) is (λ k below. first (suc k) (omega (arith, below)))
+
+-- the reels that are told of a drive
+pub told_stack : (name : List ℕ) (s : Shop) (told : Option (List (Slot KeptReel))) → TellsStack name s told → stack_of s.racks name ≡ unwrap_or told []
+told_stack name s None tells = stack_none s.racks name tells
+told_stack name s (Some reels) tells =
+    stack_found s.racks name tells.0 tells.1.0 tells.1.1 tells.1.2 ∙ sym tells.2
+
+pub names_at_rest : (slots : List (Slot TroubledTape)) → names_of (map rest_slot slots) ≡ names_of slots
+names_at_rest [] = refl
+names_at_rest (x ∷ slots) = ap (λ names. x.name ∷ names) (names_at_rest slots)
+
+-- the names of a stack, as they are told
+pub told_names : (name : List ℕ) (s : Shop) (told : Option (List (Slot KeptReel))) (slots : List (Slot TroubledTape)) → TellsStack name s told
+    → map rest_slot slots ≡ unwrap_or told [] → names_of slots ≡ names_of (stack_of s.racks name)
+told_names name s told slots tells e = sym (names_at_rest slots) ∙ ap (λ l. names_of l) (e ∙ sym (told_stack name s told tells))
+
+-- one element more, behind what was said of those before it
+pub told_more : {X : Type 0} (f : X → List ℕ) (before now : List ℕ) (xs : List X) (i : ℕ) (x : X) → slice_get xs i ≡ Some x
+    → now ≡ before ++ flat_map f (take i xs) → now ++ f x ≡ before ++ flat_map f (take (i + 1) xs)
+told_more f before now xs i x got e =
+    let within : i < length xs = slice_get_within xs i x got in
+    let here : get_or xs i x ≡ x = get_or_from_slice_get xs i x x got in
+    let more : take (i + 1) xs ≡ take i xs ++ x ∷ [] = take_more xs i x within ∙ ap (λ y. take i xs ++ y ∷ []) here in
+    ap (λ t. t ++ f x) e ∙ flat_map_more f before (take i xs) x ∙ ap (λ l. before ++ flat_map f l) (sym more)
+
+entry_at : (entries : List PlainEntry) (before now : List ℕ) (i n : ℕ) (o : Option PlainEntry) → slice_get entries i ≡ o → Some n ≡ told_length o
+    → now ≡ before ++ flat_map entry_text (take i entries) → now ++ length_text n ≡ before ++ flat_map entry_text (take (i + 1) entries)
+entry_at entries before now i n None got told e = cc
+entry_at entries before now i n (Some x) got told e =
+    ap (λ m. now ++ length_text m) (same_Some n (length (bytes_of x)) told) ∙ told_more entry_text before now entries i x got e
+
+entry_in : (o : Option (List PlainEntry)) (before now : List ℕ) (i n : ℕ) → Some n ≡ told_length (option_and_then (λ entries. slice_get entries i) o)
+    → now ≡ before ++ flat_map entry_text (take i (unwrap_or o []))
+    → now ++ length_text n ≡ before ++ flat_map entry_text (take (i + 1) (unwrap_or o []))
+entry_in None before now i n told e = cc
+entry_in (Some entries) before now i n told e = entry_at entries before now i n (slice_get entries i) refl told e
+
+-- one entry more of a reel
+pub entry_more : (w : World) (reel before now : List ℕ) (i n : ℕ) → Some n ≡ told_length (entry_on w reel i)
+    → now ≡ before ++ flat_map entry_text (take i (entries_of_reel w reel))
+    → now ++ length_text n ≡ before ++ flat_map entry_text (take (i + 1) (entries_of_reel w reel))
+entry_more w reel before now i n told e = entry_in (entries_on w.hall reel) before now i n told e
+
+-- there is a volume in each place
+pub count_there : (counts : List Count) (i : ℕ) → i < length counts → ¬ (None ≡ slice_get counts i)
+count_there counts i within none =
+    let d : Count = record { run = 0; volume = 0; first = 0; count = 0; reel = []; connection = 0 } in
+    let there : slice_get counts i ≡ Some (get_or counts i d) = slice_get-get_or counts i d within in
+    let both : None ≡ Some (get_or counts i d) = none ∙ there in cc
+
+-- a word, a device and names, behind what was said before
+pub stack_said : (word end text one two device told names : List ℕ) → one ≡ text ++ word → two ≡ one ++ device → told ≡ names
+    → two ++ [] ++ told ++ end ≡ text ++ (word ++ device ++ names ++ end)
+stack_said word end text one two device told names e1 e2 same =
+    let first : two ≡ text ++ word ++ device = e2 ∙ ap (λ t. t ++ device) e1 in
+    let both : two ++ [] ++ told ++ end ≡ text ++ word ++ device ++ [] ++ names ++ end = (λ k. first k ++ [] ++ same k ++ end) in
+    both ∙ simp (append_assoc, append-nil)
+
+-- the parts of a report, one behind the other
+pub joined : (reels stacks word names end counts title dates t0 t1 t2 t3 t4 t5 : List ℕ) → t0 ≡ [] → t1 ≡ t0 ++ reels → t2 ≡ t1 ++ stacks
+    → t3 ≡ t2 ++ word ++ names ++ end → t4 ≡ t3 ++ counts → t5 ≡ t4 ++ title ++ dates
+    → t5 ≡ reels ++ stacks ++ (word ++ names ++ end) ++ counts ++ title ++ dates
+joined reels stacks word names end counts title dates t0 t1 t2 t3 t4 t5 h0 h1 h2 h3 h4 h5 =
+    let e1 : t1 ≡ reels = h1 ∙ ap (λ t. t ++ reels) h0 in
+    let e2 : t2 ≡ reels ++ stacks = h2 ∙ ap (λ t. t ++ stacks) e1 in
+    let regroup : reels ++ stacks ++ word ++ names ++ end ≡ reels ++ stacks ++ (word ++ names ++ end) = simp append_assoc in
+    let e3 : t3 ≡ reels ++ stacks ++ (word ++ names ++ end) = h3 ∙ ap (λ t. t ++ word ++ names ++ end) e2 ∙ regroup in
+    let e4 : t4 ≡ reels ++ stacks ++ (word ++ names ++ end) ++ counts = h4 ∙ ap (λ t. t ++ counts) e3 in
+    h5 ∙ ap (λ t. t ++ title ++ dates) e4

@@ -1,0 +1,9 @@
+use Rattle.std.proofs.Common.{◌∙◌}
+use Rattle.schedules.proofs.Reported.{entry_more}
+use Rattle.schedules.proofs.report.push_entries.Goals as goal
+
+pub loop-place-preserved : goal.loop-place-preserved
+loop-place-preserved c =
+    c.in_ok-push_entry-in-Some.ensures
+    ∙ entry_more c.args.world.now c.args.reel.now c.args.text.now.items c.loop-place.text.items c.loop-place.place c.in-Some.length
+    c.in-Some.ensures.told c.loop-place.invariant

@@ -1,0 +1,34 @@
+-- What events print.
+use Rattle.std.specs.Prelude.{ℕ, Bool, true, false, List, [], ◌∷◌, ◌++◌, codes, decimal, Option, Some, None, Result, Err}
+use Rattle.rmt_wire.specs.Counted.{Counting}
+use Rattle.dump_client.specs.declared.fault.AttemptFault.{AttemptFault}
+use Rattle.rmt_peer.specs.Lines.{fault_text}
+use Rattle.rmt_peer.specs.Print.{IsPrinted}
+use Rattle.tape_events.specs.World.{World}
+use Rattle.tape_events.specs.Events.{PlainEvent}
+use Rattle.tape_events.specs.Steps.{Runs}
+use Rattle.schedules.specs.declared.halt.Halt.{Halt}
+use Rattle.schedules.specs.declared.halt.Halt.TheVariants.{StreamFailed}
+
+-- an attempt that failed: its volume, and the fault as a dump prints it
+abbrev pub failure_line : ℕ → AttemptFault → List ℕ
+failure_line volume fault = codes "volume " ++ decimal volume ++ codes " failed: " ++ fault_text fault ++ codes "\n"
+
+abbrev pub failed_line : Option (ℕ × AttemptFault) → List ℕ
+failed_line None = []
+failed_line (Some failure) = failure_line failure.0 failure.1
+
+-- Events from one world to another, and what they print: a line for each that makes an attempt fail.
+pub data Plays (first : World) : World → List ℕ → Type 0 where
+  none : Plays first first []
+  one_more : {before after : World} {text : List ℕ} (event : PlainEvent) → Plays first before text → Runs before (event ∷ []) after
+      → Plays first after (text ++ failed_line after.failure)
+
+-- all that was to be printed was: no write failed
+abbrev pub is_whole : {T : Type 0} → Result T Halt → Bool
+is_whole (Err StreamFailed) = false
+is_whole result = true
+
+-- Events were made, and what they print was printed; or a write failed, and a beginning of it was.
+abbrev pub IsPlayed : {W : Type 0} → (W → Option (List ℕ)) → World → Counting W → Bool → World → Counting W → Type 0
+IsPlayed contents w out whole w' out' = (text : List ℕ) × Plays w w' text × IsPrinted contents text out out' whole

@@ -1,0 +1,137 @@
+//! Events that are made in a world, and the attempts that they make fail, which are printed.
+ghost use Rattle.rmt_peer.specs.Print.{IsPrinted};
+ghost use Rattle.schedules.specs.Playing.{IsPlayed, failed_line, is_whole};
+
+use crate::halt::Halt;
+use crate::printing::print_failure;
+use rmt_wire::Counted;
+use std::io::Write;
+use tape::Trouble;
+use tape_world::{Event, World, WorldFault, run};
+
+/// Makes an event, and prints the attempt that it makes fail, if it makes one fail.
+pub(crate) fn make<W: Write>(
+    world: &mut World,
+    event: Event<'_>,
+    out: &mut Counted<W>,
+) -> Result<(), Halt>
+    ensures { IsPlayed W.contents world.old out.old (is_whole result) world.new out.new }
+{
+    match run(world, &[event]) {
+        Ok(()) => print_failed(world, out),
+        Err(WorldFault::NotPossible(_)) => Err(Halt::NotPossible),
+        Err(WorldFault::OutOfMemory(_)) => Err(Halt::OutOfMemory),
+    }
+}
+
+/// Prints the attempt that the last event made fail, if it made one fail.
+fn print_failed<W: Write>(world: &World, out: &mut Counted<W>) -> Result<(), Halt>
+    ensures { IsPrinted W.contents (failed_line world.now.failure) out.old out.new (is_whole result) }
+{
+    match world.failure() {
+        Some((volume, fault)) => print_failure(volume, fault, out),
+        None => Ok(()),
+    }
+}
+
+/// Makes an event where it is possible, as `make` does. Answers whether it was.
+fn make_if_possible<W: Write>(
+    world: &mut World,
+    event: Event<'_>,
+    out: &mut Counted<W>,
+) -> Result<bool, Halt>
+    ensures { IsPlayed W.contents world.old out.old (is_whole result) world.new out.new }
+{
+    match make(world, event, out) {
+        Ok(()) => Ok(true),
+        Err(Halt::NotPossible) => Ok(false),
+        Err(Halt::BadLine) => Err(Halt::BadLine),
+        Err(Halt::OutOfMemory) => Err(Halt::OutOfMemory),
+        Err(Halt::StreamFailed) => Err(Halt::StreamFailed),
+    }
+}
+
+/// Makes so many rounds on a connection. A round in which nothing is possible is the last.
+pub(crate) fn pump<W: Write>(
+    world: &mut World,
+    connection: usize,
+    rounds: u64,
+    out: &mut Counted<W>,
+) -> Result<(), Halt>
+    ensures { IsPlayed W.contents world.old out.old (is_whole result) world.new out.new }
+{
+    for _ in 0..rounds {
+        if !make_round(world, connection, out)? {
+            return Ok(());
+        }
+    }
+    Ok(())
+}
+
+/// One round: the client's next request, where the connection is its own; all that is on the way to the server, one turn of
+/// the server, and all that is on the way back, each where it is possible. Answers whether one of them was.
+fn make_round<W: Write>(
+    world: &mut World,
+    connection: usize,
+    out: &mut Counted<W>,
+) -> Result<bool, Halt>
+    ensures { IsPlayed W.contents world.old out.old (is_whole result) world.new out.new }
+{
+    let sent = send_own(world, connection, out)?;
+    let arrived = arrive(world, connection, out)?;
+    let trouble = Trouble::None;
+    let served = make_if_possible(
+        world,
+        Event::Serve {
+            connection,
+            trouble,
+        },
+        out,
+    )?;
+    let heard = come_back(world, connection, out)?;
+    Ok(sent || arrived || served || heard)
+}
+
+/// The client sends its next request, where the connection is its own and that is possible. Answers whether it was.
+fn send_own<W: Write>(
+    world: &mut World,
+    connection: usize,
+    out: &mut Counted<W>,
+) -> Result<bool, Halt>
+    ensures { IsPlayed W.contents world.old out.old (is_whole result) world.new out.new }
+{
+    if world.own() != Some(connection) {
+        return Ok(false);
+    }
+    make_if_possible(world, Event::Send { fails: false }, out)
+}
+
+/// All that is on the way to the server and has room there arrives, where that is possible. Answers whether it was.
+fn arrive<W: Write>(
+    world: &mut World,
+    connection: usize,
+    out: &mut Counted<W>,
+) -> Result<bool, Halt>
+    ensures { IsPlayed W.contents world.old out.old (is_whole result) world.new out.new }
+{
+    let count = on_way(world, connection).0;
+    make_if_possible(world, Event::ToServer { connection, count }, out)
+}
+
+/// All that is on the way to the other side arrives, where that is possible. Answers whether it was.
+fn come_back<W: Write>(
+    world: &mut World,
+    connection: usize,
+    out: &mut Counted<W>,
+) -> Result<bool, Halt>
+    ensures { IsPlayed W.contents world.old out.old (is_whole result) world.new out.new }
+{
+    let count = on_way(world, connection).1;
+    make_if_possible(world, Event::ToClient { connection, count }, out)
+}
+
+/// How many of the bytes on the way can reach the server now, and how many the other side: none where there is no such
+/// connection.
+pub(crate) fn on_way(world: &World, connection: usize) -> (usize, usize) {
+    world.on_way(connection).unwrap_or((0, 0))
+}

@@ -1,0 +1,7 @@
+//! What schedules print, and their statuses.
+
+mod bad_lines;
+mod faults;
+mod fixture;
+mod memory;
+mod runs;

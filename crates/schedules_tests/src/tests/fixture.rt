@@ -1,0 +1,33 @@
+//! A schedule, and what it has to print.
+
+use rmt_wire::Counted;
+use schedules::schedule;
+use std::alloc::Global;
+use std::test::Fail;
+
+/// A schedule, what it prints, and its status.
+pub(crate) struct Case {
+    pub(crate) text: &'static [u8],
+    pub(crate) printed: &'static [u8],
+    pub(crate) status: u8,
+}
+
+impl Case {
+    /// Runs the schedule. It fails where the schedule prints something else, or has another status.
+    pub(crate) fn check(&self, alloc: Global) -> Result<(), Fail> {
+        check(alloc, self.text, self.printed, self.status)
+    }
+}
+
+/// Runs the schedule. It fails where the schedule prints something else, or has another status.
+pub(crate) fn check(alloc: Global, text: &[u8], wanted: &[u8], status: u8) -> Result<(), Fail> {
+    let mut printed = Vec::new(alloc);
+    let mut out = Counted::new(&mut printed);
+    let told = schedule(alloc, text, &mut out);
+    if told == status && printed.as_slice() == wanted {
+        return Ok(());
+    }
+    let text = str::from_utf8(text).unwrap_or("");
+    let printed = str::from_utf8(printed.as_slice()).unwrap_or("");
+    Err(Fail::new(format_args!("{told}: {printed} of {text}")))
+}

@@ -1,0 +1,198 @@
+//! Whole schedules, with a failure each of their own.
+
+use super::fixture::Case;
+use std::test::Fail;
+
+/// The answer to MTOFFL is lost: the first reel has a whole volume and is not counted.
+#[test]
+fn an_unload_without_an_answer(rt: HostRuntime) -> Result<(), Fail> {
+    Case {
+        text: b"drive /dev/st0 3100 r1 r2 r3\n\
+    run /dev/st0 /usr 0 951782400 0 1024 3\n\
+    connect\n\
+    pump 1 7\n\
+    send\n\
+    to-server 1 all\n\
+    serve 1\n\
+    cut 1\n\
+    end-client 1\n\
+    end-server 1\n\
+    retry\n\
+    connect\n\
+    pump 2 9\n\
+    connect\n\
+    pump 3 9\n\
+    enter\n",
+        printed: b"volume 1 failed: ConnectionEnded\n\
+    reel r1 R1024 R1024 R1024 M\n\
+    reel r2 R1024 R1024 R1024 M\n\
+    reel r3 R1024 R1024 M\n\
+    stack /dev/st0\n\
+    bin r1 r2 r3\n\
+    counted 1 1 0 2 r2\n\
+    counted 1 2 2 1 r3\n\
+    dumpdates\n\
+    /usr                             0 Tue Feb 29 00:00:00 2000\n",
+        status: 0,
+    }
+    .check(rt.alloc())
+}
+
+/// The session of a connection that was cut still holds the drive.
+#[test]
+fn a_stale_session(rt: HostRuntime) -> Result<(), Fail> {
+    Case {
+        text: b"drive /dev/st0 3100 r1 r2\n\
+    run /dev/st0 /usr 0 951782400 0 1024 3\n\
+    connect\n\
+    pump 1 3\n\
+    cut 1\n\
+    end-client 1\n\
+    retry\n\
+    connect\n\
+    pump 2 1\n\
+    end-server 1\n\
+    retry\n\
+    connect\n\
+    pump 3 9\n",
+        printed: b"volume 1 failed: ConnectionEnded\n\
+    volume 1 failed: Refused 16\n\
+    reel r1 R1024 R1024 R1024 M\n\
+    reel r2\n\
+    stack /dev/st0 r2\n\
+    bin r1\n\
+    counted 1 1 0 2 r1\n\
+    dumpdates\n",
+        status: 0,
+    }
+    .check(rt.alloc())
+}
+
+/// A reel has room for the label alone.
+#[test]
+fn a_reel_too_small(rt: HostRuntime) -> Result<(), Fail> {
+    Case {
+        text: b"drive /dev/st0 1040 r1\n\
+    run /dev/st0 /usr 0 951782400 0 1024 1\n\
+    connect\n\
+    pump 1 9\n",
+        printed: b"volume 1 failed: ReelTooSmall\n\
+    reel r1 R1024\n\
+    stack /dev/st0 r1\n\
+    bin\n\
+    dumpdates\n",
+        status: 0,
+    }
+    .check(rt.alloc())
+}
+
+/// A run without blocks is one volume of a label and a mark.
+#[test]
+fn no_blocks(rt: HostRuntime) -> Result<(), Fail> {
+    Case {
+        text: b"drive /dev/st0 1040 r1\n\
+    run /dev/st0 /usr 0 951782400 0 1024 0\n\
+    connect\n\
+    pump 1 9\n",
+        printed: b"reel r1 R1024 M\n\
+    stack /dev/st0\n\
+    bin r1\n\
+    counted 1 1 0 0 r1\n\
+    dumpdates\n",
+        status: 0,
+    }
+    .check(rt.alloc())
+}
+
+/// A write fails after the record was written.
+#[test]
+fn a_fault_in_a_write(rt: HostRuntime) -> Result<(), Fail> {
+    Case {
+        text: b"drive /dev/st0 3100 r1\n\
+    run /dev/st0 /usr 0 951782400 0 1024 1\n\
+    connect\n\
+    pump 1 2\n\
+    send\n\
+    to-server 1 all\n\
+    serve 1 written 1\n\
+    to-client 1 all\n",
+        printed: b"volume 1 failed: Refused 5\n\
+    reel r1 R1024\n\
+    stack /dev/st0 r1\n\
+    bin\n\
+    dumpdates\n",
+        status: 0,
+    }
+    .check(rt.alloc())
+}
+
+/// A stranger opens the drive, and sends a part of a write.
+#[test]
+fn bytes_of_a_stranger(rt: HostRuntime) -> Result<(), Fail> {
+    Case {
+        text: b"drive /dev/st0 3100 r1\n\
+    stranger\n\
+    says 1 4f2f6465762f7374300a320a57350a68656c\n\
+    pump 1 9\n\
+    cut 1\n\
+    end-server 1\n",
+        printed: b"reel r1\n\
+    stack /dev/st0 r1\n\
+    bin\n\
+    dumpdates\n",
+        status: 0,
+    }
+    .check(rt.alloc())
+}
+
+/// A reel that was counted is laid on the stack again, and a stranger writes on it.
+#[test]
+fn a_counted_reel_written_again(rt: HostRuntime) -> Result<(), Fail> {
+    Case {
+        text: b"drive /dev/st0 3100 r1\n\
+    run /dev/st0 /usr 0 951782400 0 1024 1\n\
+    connect\n\
+    pump 1 9\n\
+    arrange /dev/st0 r1\n\
+    stranger\n\
+    says 2 4f2f6465762f7374300a320a57310a78\n\
+    pump 2 9\n\
+    cut 2\n\
+    end-server 2\n",
+        printed: b"reel r1 R1\n\
+    stack /dev/st0 r1\n\
+    bin\n\
+    counted 1 1 0 1 r1\n\
+    dumpdates\n",
+        status: 0,
+    }
+    .check(rt.alloc())
+}
+
+/// The server restarts in mid volume.
+#[test]
+fn a_server_restart(rt: HostRuntime) -> Result<(), Fail> {
+    Case {
+        text: b"drive /dev/st0 3100 r1 r2\n\
+    run /dev/st0 /usr 0 951782400 0 1024 3\n\
+    connect\n\
+    pump 1 3\n\
+    restart-server\n\
+    end-client 1\n\
+    retry\n\
+    connect\n\
+    pump 2 9\n\
+    connect\n\
+    pump 3 9\n",
+        printed: b"volume 1 failed: ConnectionEnded\n\
+    reel r1 R1024 R1024 R1024 M\n\
+    reel r2 R1024 R1024 M\n\
+    stack /dev/st0\n\
+    bin r1 r2\n\
+    counted 1 1 0 2 r1\n\
+    counted 1 2 2 1 r2\n\
+    dumpdates\n",
+        status: 0,
+    }
+    .check(rt.alloc())
+}
