@@ -26,8 +26,7 @@ client: kit
 	cd $(RDUMP) && rt run -- dates --file /dev/null
 
 simulator: kit
-	-cd $(SIM) && rt run
-	test -x $(SIMULATOR)
+	cd $(SIM) && rt run -- --version
 
 run: server ## the main job: one conversation through `rmtd --stdio`, its answers beside those expected
 	@echo 'Sent to rmtd --stdio:'
