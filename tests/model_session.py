@@ -8,27 +8,15 @@ from __future__ import annotations
 
 from typing import Collection, NamedTuple
 
+from model_rmtd import GREATEST_NUMBER, GREATEST_RECORD, LONGEST_LINE, TEXTS
+
 Entry = bytes | None
 
 # How a device call fails: what stood is kept, lost, or so much of what was being written stands.
 Trouble = tuple[str, int]
 
-GREATEST_RECORD = 65_536
-GREATEST_NUMBER = 2_147_483_647
-LONGEST_LINE = 255
 ROOM = 65_548
 LINE_FEED, SPACE = 10, 32
-
-TEXTS = {
-    2: b"No such file or directory",
-    5: b"Input/output error",
-    6: b"Device not configured",
-    9: b"Bad file descriptor",
-    13: b"Permission denied",
-    16: b"Device busy",
-    22: b"Invalid argument",
-    28: b"No space left on device",
-}
 
 # Rules of the server that can be turned off.
 KEEPS_THE_OLD_TAIL = "keeps-the-old-tail"
