@@ -1,4 +1,4 @@
--- Reels by their names, and an operator's order of a stack.
+-- Reels by their names, and an operator's order of a stack. Public contracts cite it.
 use Rattle.std.specs.Prelude.{◌≡◌, ℕ, Bool, true, false, not, ◌&&◌, ◌||◌, List, [], ◌∷◌, ◌++◌, slice_set, is_some, Option, Result, Ok, Err}
 use Rattle.std.specs.List.{list_any, list_all, find, cons_option}
 use Rattle.std.specs.Option.{option_and_then}

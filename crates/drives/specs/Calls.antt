@@ -1,4 +1,4 @@
--- The calls of stacks: what was asked of them, and what they answered.
+-- The calls of stacks: what was asked of them, and what they answered. Public contracts cite it.
 use Rattle.std.specs.Prelude.{ℕ, Option, Some, None, Result, Ok, Err}
 use Rattle.drives.specs.Shop.{Shop}
 use Rattle.drives.specs.declared.fault.DriveFault.{DriveFault}

@@ -1,4 +1,4 @@
--- Drives in folders: what is known of them beside what lies in the folders, and what a call of them does.
+-- Drives in folders: what is known of them beside what lies in the folders, and what a call of them does. Public contracts cite it.
 use Rattle.std.specs.Prelude.{◌≡◌, ◌≢◌, ◌⊎◌, ℕ, ◌<◌, Bool, true, false, List, [], length, slice_set, slice_index_or, map, Option, Some, None, Result, Ok, Err}
 use Rattle.std.specs.List.{Contains}
 use Rattle.tape.specs.Failures.{raised}

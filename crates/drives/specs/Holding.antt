@@ -1,4 +1,4 @@
--- What a seat at the drives knows, and what each of its steps does.
+-- What a seat at the drives knows, and what each of its steps does. Public contracts cite it.
 use Rattle.std.specs.Prelude.{◌≡◌, ℕ, ◌<◌, ◌↔◌, Bool, IsTrue, true, false, cond, ◌==◌, List, replicate, slice_set, slice_index_or, Option, Some, None}
 use Rattle.tape.specs.Failures.{counted}
 use Rattle.drives.specs.declared.view.StepKind.{StepKind}

@@ -1,3 +1,4 @@
+-- In reading order: Holding, Local (holders); Shop, Calls, Stacking, Opening (reels); ListShop, Arranging (in memory); Folders.
 pub mod Holding
 pub mod Local
 pub mod Shop

@@ -1,4 +1,4 @@
--- The drives of one thread, and what ties its seats to them.
+-- The drives of one thread, and what ties its seats to them. Public contracts cite it.
 use Rattle.std.specs.Prelude.{◌≡◌, ℕ, ◌<◌, ◌≤◌, ◌+◌, ◌-◌, ◌^◌, ◌==◌, List, length, slice_index, Option, MatchOption}
 use Rattle.drives.specs.declared.view.View.{View}
 use Rattle.drives.specs.Holding.{has, newcomer}

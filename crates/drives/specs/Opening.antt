@@ -1,4 +1,4 @@
--- What an open of a drive promises.
+-- What an open of a drive promises. Public contracts cite it.
 use Rattle.std.specs.Prelude.{◌≡◌, ◌≢◌, ℕ, ◌<◌, List, Option, Some, None, Result, Ok, Err, true, false}
 use Rattle.tape.specs.Tape.{Tape}
 use Rattle.tape.specs.Failures.{Steps}

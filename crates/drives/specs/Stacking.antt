@@ -1,4 +1,4 @@
--- What a call of stacks does, and what it promises.
+-- What a call of stacks does, and what it promises. Public contracts cite it.
 use Rattle.std.specs.Prelude.{◌≡◌, ◌≢◌, ◌⊎◌, ℕ, ◌≤◌, [], Option, Some, None, Result, Ok, Err, IsSome}
 use Rattle.tape.specs.Failures.{HasRisen, Steps}
 use Rattle.tape.specs.Tape.{Tape, tape, entries_of}

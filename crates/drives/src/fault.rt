@@ -1,3 +1,5 @@
+//! Why a drive is not opened or added, or a reel not moved or added.
+
 use std::alloc::AllocError;
 use thiserror::Error;
 

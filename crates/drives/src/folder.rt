@@ -1,3 +1,5 @@
+//! Drives whose reels are files in folders.
+
 ghost use Rattle.std.specs.Prelude.{◌≡◌, ◌≢◌, ◌≤◌, ◌<◌, ◌↔◌, false, IfOk, IfSome, IsErr, IsErrAnd, None, map, length};
 ghost use Rattle.std.specs.IoError.{error_kind, raw_os_error};
 ghost use Rattle.drives.specs.declared.fault.DriveFault.TheVariants.{Device, OutOfMemory};
@@ -72,7 +74,8 @@ impl<R: Files<File = File> + AllocGlobal + Clone + Drop> FolderStacks<R> {
     ) -> Result<FolderStacks<R>, AllocError>
         requires some { 1 ≤ length drives.now }
         requires few { length drives.now ≤ 64 }
-        ensures drives { IfOk result (λ opened. opened ≡ folder_shop (map (λ d. folder_row d.name.now d.folder.now false) drives.now) bin.now capacity 0) }
+        ensures drives { IfOk result (λ opened. opened
+            ≡ folder_shop (map (λ d. folder_row d.name.now d.folder.now false) drives.now) bin.now capacity 0) }
         ensures count { IfOk result (λ opened. length opened.rows ≡ length drives.now) }
     {
         let mut racks = Vec::new(rt.alloc());

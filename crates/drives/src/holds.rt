@@ -1,3 +1,5 @@
+//! Who holds which drive: what every kind of holds does for a seat.
+
 ghost use Rattle.std.specs.Prelude.{◌≡◌, ◌≢◌, ℕ, ◌<◌, ◌≤◌, ◌↔◌, IsTrue};
 ghost use Rattle.drives.specs.declared.view.View.{View};
 ghost use Rattle.drives.specs.Holding.{has, taken, given, looked, found_by, Answers, word_after_take, word_after_give};
@@ -27,12 +29,14 @@ pub trait Holds {
     /// The drive is held by the seat of this number, or by none at 0. Holds that tell nothing say it of no number.
     ghost tells: { Self → ℕ → ℕ → Type 0 };
 
-    /// Takes the drive if no seat holds it. Answers `Held`, or `Busy` with the number of the seat that holds it.
+    /// Takes the drive if no seat holds it. Answers `Held`, or `Busy` with the number of the seat that holds it, which
+    /// was given.
     fn take(&mut self, seat: &mut Self::Seat, drive: usize) -> Taken
         requires seat { belongs self.old seat.old }
         requires drive { drive < drives self.old }
         ensures step { shows seat.new ≡ taken (shows seat.old) drive (found_by result) }
         ensures answer { Answers result (shows seat.old) (shows seat.new) drive }
+        ensures known { found_by result ≤ seated self.old }
         ensures found { (n : ℕ) → tells self.old drive n → found_by result ≡ n }
         ensures told { (d n : ℕ) → tells self.old d n → tells self.new d (word_after_take (shows seat.old).number drive d n) }
         ensures own { belongs self.new seat.new }
@@ -52,11 +56,12 @@ pub trait Holds {
         ensures same_drives { drives self.new ≡ drives self.old }
         ensures same_seats { seated self.new ≡ seated self.old };
 
-    /// The number of the seat that holds the drive, or 0.
+    /// The number of the seat that holds the drive, which was given, or 0.
     fn holder(&self, seat: &mut Self::Seat, drive: usize) -> u64
         requires seat { belongs self.now seat.old }
         requires drive { drive < drives self.now }
         ensures step { shows seat.new ≡ looked (shows seat.old) drive result }
+        ensures known { result ≤ seated self.now }
         ensures mine { result ≡ (shows seat.old).number ↔ IsTrue (has (shows seat.old) drive) }
         ensures found { (n : ℕ) → tells self.now drive n → result ≡ n }
         ensures own { belongs self.now seat.new };

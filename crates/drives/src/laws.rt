@@ -1,3 +1,5 @@
+//! Laws of stacks in memory, each the contract of a call that does nothing.
+
 ghost use Rattle.std.specs.Prelude.{◌≡◌, ℕ, ◌+◌, ◌<◌, List, length, Some, Result, MatchResult};
 ghost use Rattle.tape.specs.Trouble.{TroubledTape};
 ghost use Rattle.drives.specs.declared.fault.DriveFault.{DriveFault};

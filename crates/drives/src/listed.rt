@@ -1,3 +1,5 @@
+//! A reel in memory, with its name.
+
 ghost use Rattle.std.specs.Prelude.{◌≡◌, Some, None, IfOk, MatchOption};
 ghost use Rattle.std.specs.Str.{bytes_eq};
 ghost use Rattle.drives.specs.Shop.{slot};

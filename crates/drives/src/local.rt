@@ -1,3 +1,5 @@
+//! The drives of one thread, and its seats.
+
 ghost use Rattle.std.specs.Prelude.{◌≡◌, ◌≢◌, ◌<◌, ◌≤◌, ◌+◌, None, IfOk, IfSome, MatchOption, replicate, length};
 ghost use Rattle.drives.specs.declared.view.View.{View};
 ghost use Rattle.drives.specs.Holding.{newcomer, moved, last_step, HoldsJust};

@@ -1,3 +1,5 @@
+//! One drive in memory, with its stack.
+
 ghost use Rattle.std.specs.Prelude.{◌≡◌, ◌≢◌, ◌<◌, ◌≤◌, vec_capacity, is_some, [], ◌∷◌, ◌++◌, None, IsSome, IfOk, MatchBool, MatchResult, length, flat_map};
 ghost use Rattle.std.specs.List.{list_any};
 ghost use Rattle.std.specs.Option.{option_copied};

@@ -1,3 +1,5 @@
+//! Stacks: what every kind of drives does with its reels.
+
 ghost use Rattle.std.specs.Prelude.{◌≡◌, ℕ, ◌<◌, IfSome, IfErr, length};
 ghost use Rattle.drives.specs.Shop.{Shop, IsDriveNamed, EachReelOnce};
 ghost use Rattle.drives.specs.Calls.{StacksCall, stacks_kind};

@@ -1,3 +1,5 @@
+//! The table of drives: who holds them, and the reels that lie there.
+
 ghost use Rattle.std.specs.Prelude.{◌≡◌, ◌<◌, ◌≤◌, IfOk, OnErr};
 ghost use Rattle.drives.specs.Opening.{kinds, IsOpening};
 

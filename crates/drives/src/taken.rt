@@ -1,3 +1,5 @@
+//! The answer to a seat that takes a drive.
+
 /// What a take answers.
 #[derive(Clone, Copy, Debug, PartialEq, Eq)]
 pub enum Taken {

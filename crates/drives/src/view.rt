@@ -1,3 +1,5 @@
+//! What a seat knows, and the last step that it made.
+
 /// What a step at a drive was.
 #[derive(Clone, Copy, Debug, Drop)]
 pub enum StepKind {

@@ -1,3 +1,4 @@
 pub mod Keeps
 pub mod Dealt
 pub mod Holders
+pub mod Moved

@@ -1,4 +1,4 @@
--- Why each step keeps the hold rule, and what each step tells its seat.
+-- Why each step keeps the hold rule, and what each step tells its seat. No public contract needs it.
 use Rattle.std.specs.Prelude.{◌≡◌, ℕ, ◌+◌, ◌-◌, ◌^◌, ◌<◌, ◌≤◌, min, true, false, ◌==◌, cond, List, length, slice_index}
 use mathlib.Core.Option.{some}
 use lib.ListN.{get_elem?}
@@ -36,7 +36,8 @@ pub record IsKept (drives : ℕ) (words : List ℕ) (seats : List Seated) : Type
   pub few : length seats ≤ 32
   pub numbered : (k : ℕ) (x : Seated) → get_elem? seats k ≡ some x → IsNumbered (length seats) k x
   pub known : (d : ℕ) → d < length words → slice_index words d ≤ length seats
-  pub held : (k : ℕ) (x : Seated) (d : ℕ) → get_elem? seats k ≡ some x → d < length words → has x.view d ≡ (slice_index words d == x.view.number)
+  pub held : (k : ℕ) (x : Seated) (d : ℕ) → get_elem? seats k ≡ some x → d < length words
+      → has x.view d ≡ (slice_index words d == x.view.number)
 
 -- the rule as it is kept, and the hold rule in its own words
 abbrev pub KeepsRule : ℕ → List ℕ → List Seated → Type 0

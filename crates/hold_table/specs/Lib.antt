@@ -1,3 +1,5 @@
+-- In reading order: Seats (what contracts see); Rule (what each step may do); Keeping (why the steps keep to it).
 pub mod Rule
+pub mod Moves
 pub mod Keeping
 pub mod Seats

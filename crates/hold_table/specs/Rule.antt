@@ -1,4 +1,4 @@
--- The rule that holds between any two atomic steps at the table, and one step under it.
+-- The rule that holds between any two atomic steps at the table, and one step under it. Public contracts cite it.
 use Rattle.std.specs.Prelude.{◌≡◌, ◌⊎◌, ℕ, ◌+◌, ◌-◌, ◌^◌, ◌<◌, ◌≤◌, min, true, false, List, length, slice_index, slice_set}
 use mathlib.Core.Option.{some}
 use lib.ListN.{get_elem?}
@@ -14,19 +14,30 @@ seated v made spare = record { view = v; made = made; spare = spare }
 abbrev pub HasNoHolder : List Seated → ℕ → Type 0
 HasNoHolder seats d = (k : ℕ) (x : Seated) → get_elem? seats k ≡ some x → has x.view d ≡ false
 
+-- there is a seat numbered n
+abbrev pub IsSeated : List Seated → ℕ → Type 0
+IsSeated seats n = (k : ℕ) × (x : Seated) × (get_elem? seats k ≡ some x) × (x.view.number ≡ n)
+
+-- the seat holds drive d exactly where its number is n
+abbrev pub HoldsAs : ℕ → ℕ → Seated → Type 0
+HoldsAs n d x = (x.view.number ≡ n → has x.view d ≡ true) × (has x.view d ≡ true → x.view.number ≡ n)
+
 -- the seat numbered n, and no other, holds drive d
 abbrev pub HasOneHolder : List Seated → ℕ → ℕ → Type 0
-HasOneHolder seats n d =
-    ((k : ℕ) × (x : Seated) × (get_elem? seats k ≡ some x) × (x.view.number ≡ n))
-    × ((k : ℕ) (x : Seated) → get_elem? seats k ≡ some x → (x.view.number ≡ n → has x.view d ≡ true) × (has x.view d ≡ true → x.view.number ≡ n))
+HasOneHolder seats n d = IsSeated seats n × ((k : ℕ) (x : Seated) → get_elem? seats k ≡ some x → HoldsAs n d x)
+
+-- n is 0 and no seat holds drive d, or the seat numbered n, and no other, holds it
+abbrev pub IsHolder : List Seated → ℕ → ℕ → Type 0
+IsHolder seats d n = ((n ≡ 0) × HasNoHolder seats d) ⊎ HasOneHolder seats n d
 
 -- The hold rule, of the drives' words and of all seats.
 pub record HoldRule (words : List ℕ) (seats : List Seated) : Type 0 where
   -- the numbers of the seats are from 1 to 32 and distinct
   pub ranged : (k : ℕ) (x : Seated) → get_elem? seats k ≡ some x → (1 ≤ x.view.number) × (x.view.number ≤ 32)
-  pub distinct : (j k : ℕ) (x y : Seated) → get_elem? seats j ≡ some x → get_elem? seats k ≡ some y → x.view.number ≡ y.view.number → j ≡ k
-  -- each word is 0 and no seat holds that drive, or it is n and the seat numbered n, and no other, holds it
-  pub held : (d : ℕ) → d < length words → ((slice_index words d ≡ 0) × HasNoHolder seats d) ⊎ HasOneHolder seats (slice_index words d) d
+  pub distinct : (j k : ℕ) (x y : Seated) → get_elem? seats j ≡ some x → get_elem? seats k ≡ some y
+      → x.view.number ≡ y.view.number → j ≡ k
+  -- each word tells who holds that drive
+  pub held : (d : ℕ) → d < length words → IsHolder seats d (slice_index words d)
   -- a seat shows the number of steps that it made, up to the greatest u64
   pub shown : (k : ℕ) (x : Seated) → get_elem? seats k ≡ some x → x.view.steps ≡ min x.made (2 ^ 64 - 1)
 

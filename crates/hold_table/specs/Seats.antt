@@ -1,4 +1,4 @@
--- What contracts see of a seat at the table.
+-- What contracts see of a seat at the table. Public contracts cite it.
 use Rattle.std.specs.Prelude.{◌≡◌, ℕ, zero, suc, ◌+◌, ◌≤◌, List, [], ◌∷◌, ◌++◌}
 use Rattle.atomic_table.specs.Seated.{TableId}
 use Rattle.drives.specs.declared.view.View.{View}

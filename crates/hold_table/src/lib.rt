@@ -8,9 +8,10 @@ mod hand;
 mod laws;
 mod rule;
 mod seat;
+mod steps;
 mod table;
 
 pub use hand::TableHand;
-pub use laws::one_holder;
+pub use laws::{holders_move, one_holder};
 pub use seat::HoldSeat;
 pub use table::HoldTable;

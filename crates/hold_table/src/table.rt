@@ -1,12 +1,12 @@
 //! The table, and its atomic steps.
 ghost use Rattle.std.specs.Prelude.{◌≡◌, ◌<◌, ◌≤◌, ◌↔◌, ◌==◌, None, cond, length, All, IsTrue, IfOk};
-ghost use Rattle.drives.specs.Holding.{has, taken, given, looked, found_by, Answers, HoldsJust};
-ghost use Rattle.hold_table.specs.Rule.{IsRuledStep};
+ghost use Rattle.drives.specs.Holding.{has, newcomer, taken, given, looked, found_by, Answers, HoldsJust};
+ghost use Rattle.hold_table.specs.Rule.{seated, IsRuledStep};
 ghost use Rattle.hold_table.specs.Seats.{next, dealt, IsSeatAt};
 
-use crate::rule::{Deal, Gives, HoldLaw, Looks, Seated, Takes};
+use crate::rule::{Deal, HoldLaw, Seated};
 use crate::seat::HoldSeat;
-use atomic_table::Table;
+use atomic_table::{Seat, Table};
 use drives::Taken;
 use std::alloc::{AllocError, Global};
 use std::marker::Model;
@@ -21,7 +21,7 @@ const SEATS: usize = 32;
 /// drive, or n while the seat numbered n holds it and no other does. Contracts see which table it is.
 #[derive(Drop)]
 pub struct HoldTable {
-    table: Table<(), Seated, usize, HoldLaw, Global>,
+    pub(crate) table: Table<(), Seated, usize, HoldLaw, Global>,
 }
 
 impl Model for HoldTable {
@@ -48,12 +48,37 @@ impl HoldTable {
         ensures count { IfOk result (λ made. length made.1.items ≡ 32) }
         ensures idle { IfOk result (λ made. All (λ s. IsSeatAt made.0 s × HoldsJust s.view None) made.1.items) }
     {
+        let (table, first) = HoldTable::laid(alloc, drives)?;
+        let seats = table.deal(alloc, first)?;
+        Ok((table, seats))
+    }
+
+    // A table of that many drives, which no seat holds, and its first seat, which has all numbers to hand on.
+    fn laid(alloc: Global, drives: usize) -> Result<(HoldTable, Seat<(), Seated>), AllocError>
+        requires some { 1 ≤ drives }
+        requires few { drives ≤ 64 }
+        ensures drives { IfOk result (λ made. made.0.words ≡ drives) }
+        ensures same { IfOk result (λ made. made.1.table_id ≡ made.0) }
+        ensures first { IfOk result (λ made. made.1.me.0 ≡ seated (newcomer 1) 0 31) }
+    {
         let words = Vec::from_elem(alloc, 0u64, drives)?;
-        let (table, mut seat) = Table::of_words(alloc, words.as_slice(), &drives)?;
+        let (table, first) = Table::of_words(alloc, words.as_slice(), &drives)?;
+        Ok((HoldTable { table }, first))
+    }
+
+    // The seats of a new table, in the order of their numbers: each hands the numbers that are left on to the next.
+    fn deal(&self, alloc: Global, first: Seat<(), Seated>) -> Result<Vec<HoldSeat>, AllocError>
+        requires words { 0 < self.now.words }
+        requires same { first.table_id ≡ self.now }
+        requires first { first.me.0 ≡ seated (newcomer 1) 0 31 }
+        ensures seats { IfOk result (λ seats. seats.items ≡ dealt self.now 32) }
+        ensures idle { IfOk result (λ seats. All (λ s. IsSeatAt self.now s × HoldsJust s.view None) seats.items) }
+    {
+        let mut seat = first;
         let mut seats = Vec::with_capacity(alloc, SEATS)?;
         let mut dealt = 0;
         while dealt < 31 {
-            let next = table.shared.split_seat::<Deal>(&mut seat);
+            let next = self.table.shared.split_seat::<Deal>(&mut seat);
             dealt += 1;
             seats.push(HoldSeat {
                 seat,
@@ -62,7 +87,7 @@ impl HoldTable {
             seat = next;
         }
         seats.push(HoldSeat { seat, number: 32 })?;
-        Ok((HoldTable { table }, seats))
+        Ok(seats)
     }
 
     /// Takes the drive if no seat holds it, by one atomic step: where the word is 0 it becomes the seat's number. Answers
@@ -76,10 +101,7 @@ impl HoldTable {
         ensures rule { IsRuledStep drive seat.old.view seat.old.made (found_by result)
             (cond (found_by result == 0) seat.old.view.number (found_by result)) seat.new.view }
     {
-        let found = self
-            .table
-            .shared
-            .compare_exchange::<Takes>(&mut seat.seat, drive, 0, seat.number);
+        let found = self.claim(seat, drive);
         if found == 0 {
             Taken::Held
         } else {
@@ -95,7 +117,7 @@ impl HoldTable {
         ensures step { seat.new ≡ next seat.old (given seat.old.view drive) }
         ensures rule { IsRuledStep drive seat.old.view seat.old.made seat.old.view.number 0 seat.new.view }
     {
-        self.table.shared.store::<Gives>(&mut seat.seat, drive, 0);
+        self.clear(seat, drive);
     }
 
     /// The number of the seat that holds the drive, or 0, by one atomic step that reads the word. It does not wait.
@@ -107,6 +129,6 @@ impl HoldTable {
         ensures mine { result ≡ seat.old.view.number ↔ IsTrue (has seat.old.view drive) }
         ensures rule { IsRuledStep drive seat.old.view seat.old.made result result seat.new.view }
     {
-        self.table.shared.load::<Looks>(&mut seat.seat, drive)
+        self.read(seat, drive)
     }
 }

@@ -1,3 +1,5 @@
+//! One drive whose stack is a folder.
+
 ghost use Rattle.std.specs.Prelude.{◌≡◌, ◌≢◌, false, true, IfOk, IsSome, is_some, MatchBool, MatchResult};
 ghost use Rattle.drives.specs.Folders.{folder_row};
 

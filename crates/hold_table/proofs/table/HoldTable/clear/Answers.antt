@@ -3,7 +3,7 @@ use Rattle.atomic_table.specs.Seated.{TableId}
 use Rattle.drives.specs.Holding.{has}
 use Rattle.hold_table.specs.Seats.{TableSeat}
 use Rattle.hold_table.proofs.Keeps.{gives}
-use Rattle.hold_table.proofs.table.HoldTable.give.Goals as goal
+use Rattle.hold_table.proofs.table.HoldTable.clear.Goals as goal
 
 pub store-requires : goal.store-requires
 store-requires c =

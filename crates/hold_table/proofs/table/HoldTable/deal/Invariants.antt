@@ -2,14 +2,14 @@ use Rattle.std.proofs.Common.{◌≡◌, ◌+◌, ◌-◌, ◌≤◌}
 use Rattle.drives.specs.Holding.{newcomer}
 use Rattle.hold_table.specs.Rule.{seated}
 use Rattle.hold_table.specs.Seats.{dealt}
-use Rattle.hold_table.proofs.table.HoldTable.new.Given as goal
+use Rattle.hold_table.proofs.table.HoldTable.deal.Given as goal
 
 abbrev pub invariant-loop-dealt : goal.invariant-loop-dealt
 invariant-loop-dealt l =
     (l.dealt ≤ 31)
-    × (l.seat.table_id ≡ l.table.shared.table_id)
+    × (l.seat.table_id ≡ l.self)
     × (l.seat.me.0 ≡ seated (newcomer (l.dealt + 1)) 0 (31 - l.dealt))
-    × (l.seats.items ≡ dealt l.table.shared.table_id l.dealt)
+    × (l.seats.items ≡ dealt l.self l.dealt)
 
 abbrev pub decreases-loop-dealt : goal.decreases-loop-dealt
 decreases-loop-dealt l = 31 - l.dealt

@@ -1,0 +1,49 @@
+//! The atomic steps at a table: each is one at the word of a drive, and the seat that makes it knows of it.
+ghost use Rattle.std.specs.Prelude.{◌≡◌, ◌<◌, ◌≤◌, ◌↔◌, ◌==◌, true, false, cond, IsTrue};
+ghost use Rattle.drives.specs.Holding.{has, taken, given, looked};
+ghost use Rattle.hold_table.specs.Rule.{IsRuledStep};
+ghost use Rattle.hold_table.specs.Seats.{next, IsSeatAt};
+
+use crate::rule::{Gives, Looks, Takes};
+use crate::seat::HoldSeat;
+use crate::table::HoldTable;
+
+impl HoldTable {
+    // Where the word is 0 it becomes the seat's number. It gives the number that it found.
+    pub(crate) fn claim(&self, seat: &mut HoldSeat, drive: usize) -> u64
+        requires seat { IsSeatAt self.now seat.old }
+        requires drive { drive < self.now.words }
+        ensures step { seat.new ≡ next seat.old (taken seat.old.view drive result) }
+        ensures known { result ≤ 32 }
+        ensures free { result ≡ 0 → (has seat.old.view drive ≡ false) × (has seat.new.view drive ≡ true) }
+        ensures rule { IsRuledStep drive seat.old.view seat.old.made result
+            (cond (result == 0) seat.old.view.number result) seat.new.view }
+    {
+        self.table
+            .shared
+            .compare_exchange::<Takes>(&mut seat.seat, drive, 0, seat.number)
+    }
+
+    // The word, which is the seat's number, becomes 0.
+    pub(crate) fn clear(&self, seat: &mut HoldSeat, drive: usize)
+        requires seat { IsSeatAt self.now seat.old }
+        requires drive { drive < self.now.words }
+        requires held { IsTrue (has seat.old.view drive) }
+        ensures step { seat.new ≡ next seat.old (given seat.old.view drive) }
+        ensures rule { IsRuledStep drive seat.old.view seat.old.made seat.old.view.number 0 seat.new.view }
+    {
+        self.table.shared.store::<Gives>(&mut seat.seat, drive, 0);
+    }
+
+    // It gives the number that it found.
+    pub(crate) fn read(&self, seat: &mut HoldSeat, drive: usize) -> u64
+        requires seat { IsSeatAt self.now seat.old }
+        requires drive { drive < self.now.words }
+        ensures step { seat.new ≡ next seat.old (looked seat.old.view drive result) }
+        ensures known { result ≤ 32 }
+        ensures mine { result ≡ seat.old.view.number ↔ IsTrue (has seat.old.view drive) }
+        ensures rule { IsRuledStep drive seat.old.view seat.old.made result result seat.new.view }
+    {
+        self.table.shared.load::<Looks>(&mut seat.seat, drive)
+    }
+}
