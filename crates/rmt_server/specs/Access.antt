@@ -1,4 +1,4 @@
--- What a device was opened for.
+-- What a device was opened for. Public contracts stand on it (through Session).
 use Rattle.std.specs.Prelude.{ℕ, ◌%◌, ◌==◌, Bool, true, false, if◌then◌else◌, Option, Some, None}
 use Rattle.rmt_server.specs.declared.access.Access.{Access}
 use Rattle.rmt_server.specs.declared.access.Access.TheVariants.{Read, Write, Both}

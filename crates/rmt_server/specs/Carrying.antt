@@ -1,4 +1,4 @@
--- What a session promises of each request, whatever its drives, seats and reels are.
+-- What a session promises of each request, whatever its drives, seats and reels are. Public contracts cite it.
 use Rattle.std.specs.Prelude.{◌≡◌, ◌⊎◌, ℕ, ◌<◌, Bool, true, false, IsTrue, Option, Some, None}
 use Rattle.rmt_wire.specs.Request.{PlainRequest}
 use Rattle.rmt_wire.specs.Request.PlainRequest.{Open, Close, Op}

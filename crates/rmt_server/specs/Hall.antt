@@ -1,4 +1,4 @@
--- A server's drives, who holds each, and its end of each connection.
+-- A server's drives, who holds each, and its end of each connection. Public contracts cite it.
 use Rattle.std.specs.Prelude.{ℕ, List, Option}
 use Rattle.rmt_wire.specs.RequestReader.{RequestHeld}
 use Rattle.drives.specs.Shop.{Shop}

@@ -1,3 +1,5 @@
+-- In reading order: Access, Refusals, Session (what each request does); State, Replies, Opening, Moving, Serving, Carrying (a session);
+-- Stream; Memory, Troubling, TroubledServe (in memory); Hall (all connections).
 pub mod Access
 pub mod Refusals
 pub mod Session

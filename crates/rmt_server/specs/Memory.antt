@@ -1,4 +1,4 @@
--- A session at the drives of one thread, whose reels are in memory, and what it is seen as.
+-- A session at the drives of one thread, whose reels are in memory, and what it is seen as. Public contracts cite it.
 use Rattle.std.specs.Prelude.{ℕ, Option, Some, None}
 use Rattle.tape.specs.Trouble.{TroubledTape}
 use Rattle.tape.specs.contracts.troubled.TroubledReelReel.TheImpl.{ghosts as of_reel}

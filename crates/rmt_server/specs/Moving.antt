@@ -1,4 +1,4 @@
--- What a session does to move the open reel to the bin.
+-- What a session does to move the open reel to the bin. Public contracts stand on it (through Carrying).
 use Rattle.std.specs.Prelude.{◌≡◌, ℕ, Option, Some, None, MatchOption, Result, Ok, Err}
 use Rattle.rmt_wire.specs.Request.PlainRequest.{Op}
 use Rattle.rmt_wire.specs.Reply.{PlainReply}

@@ -1,4 +1,4 @@
--- What a session does to close what it has open, and to open a drive.
+-- What a session does to close what it has open, and to open a drive. Public contracts cite it.
 use Rattle.std.specs.Prelude.{◌≡◌, ℕ, Option, Some, None, MatchOption, Result, Ok, Err, List}
 use Rattle.rmt_wire.specs.Reply.{PlainReply}
 use Rattle.rmt_wire.specs.Reply.PlainReply.{Done}

@@ -1,4 +1,4 @@
--- Errors as they are sent: the numbers and texts are those of errno.
+-- Errors as they are sent: the numbers and texts are those of errno. Public contracts stand on it (through Session).
 use Rattle.std.specs.Prelude.{ℕ, List, codes}
 use Rattle.rmt_wire.specs.Reply.{PlainReply}
 use Rattle.rmt_wire.specs.Reply.PlainReply.{Error}

@@ -1,4 +1,4 @@
--- What a session answers, by what its parts gave.
+-- What a session answers, by what its parts gave. Public contracts cite it.
 use Rattle.std.specs.Prelude.{ℕ, ◌≤◌, List, length, take, Option, Some, None, Result, Ok, Err}
 use Rattle.rmt_wire.specs.Request.{PlainRequest}
 use Rattle.rmt_wire.specs.Request.PlainRequest.{Op}

@@ -1,4 +1,4 @@
--- What the open reel serves: writes, reads, and the operations of mtio but MTOFFL.
+-- What the open reel serves: writes, reads, and the operations of mtio but MTOFFL. Public contracts stand on it (through Carrying).
 use Rattle.std.specs.Prelude.{◌≡◌, Option, Some, None, MatchOption}
 use Rattle.rmt_wire.specs.Request.{PlainRequest}
 use Rattle.rmt_wire.specs.Reply.{PlainReply}

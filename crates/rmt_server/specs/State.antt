@@ -1,4 +1,4 @@
--- A session at its drives: what it holds and has open, what is told of it, and what each of its calls keeps.
+-- A session at its drives: what it holds and has open, what is told of it, and what each of its calls keeps. Public contracts cite it.
 use Rattle.std.specs.Prelude.{◌≡◌, ◌≢◌, ◌⊎◌, ℕ, ◌<◌, ◌≤◌, Option, Some, None}
 use Rattle.tape.specs.Tape.{Tape, TapeRequest, TapeAnswer}
 use Rattle.tape.specs.Call.{IsCall}

@@ -1,5 +1,5 @@
 -- One request of a session over drives and reels in memory, where it is told how the device call fails that it makes:
--- the serve step with its freedom taken out, and who holds the drives.
+-- the serve step with its freedom taken out, and who holds the drives. Public contracts cite it.
 use Rattle.std.specs.Prelude.{◌≡◌, ◌≢◌, ◌⊎◌, ℕ, ◌<◌, Bool, true, false, if◌then◌else◌, List, slice_set, slice_index, Option, Some, None, MatchOption, Result, Ok, Err}
 use Rattle.rmt_wire.specs.Request.{PlainRequest}
 use Rattle.rmt_wire.specs.Request.PlainRequest.{Open, Close, Op}

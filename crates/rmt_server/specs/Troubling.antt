@@ -1,4 +1,4 @@
--- Trouble for the reel that is online.
+-- Trouble for the reel that is online. Public contracts cite it.
 use Rattle.std.specs.Prelude.{Option, Some, None}
 use Rattle.tape.specs.Trouble.{TroubledTape}
 use Rattle.tape.specs.declared.trouble.Trouble.{Trouble}

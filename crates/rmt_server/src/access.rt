@@ -1,3 +1,5 @@
+//! What a device is opened for: to read, to write, or both.
+
 ghost use Rattle.std.specs.Prelude.{◌≡◌};
 ghost use Rattle.rmt_server.specs.Access.{access_of, reads, writes};
 

@@ -1,3 +1,5 @@
+//! Laws of sessions, each the contract of a call that does nothing.
+
 ghost use Rattle.std.specs.Prelude.{◌≡◌, ◌≢◌, ◌≤◌, ℕ, Bool, true, List, Option, Some};
 ghost use Rattle.tape.specs.Trouble.{TroubledTape};
 ghost use Rattle.tape.specs.contracts.troubled.TroubledReelReel.TheImpl.{ghosts as of_reel};

@@ -1,3 +1,5 @@
+//! Why a request is refused, by errno's numbers and texts.
+
 ghost use Rattle.std.specs.Prelude.{◌≡◌};
 ghost use Rattle.rmt_wire.specs.Lent.{plain_reply};
 ghost use Rattle.rmt_server.specs.Refusals.{number_of, text_of, refused, tape_refusal, drive_refusal};

@@ -118,6 +118,14 @@ impl<H: Holds, S: Stacks> Session<H, S> {
         opening::close(drives, &mut self.desk);
     }
 
+    /// Gives back the seat of a session that has nothing open, so that another can begin with it.
+    pub fn into_seat(self) -> H::Seat
+        requires { self.opened ≡ None }
+        ensures { result ≡ self.seat }
+    {
+        self.desk.seat
+    }
+
     /// The drive and the reel of the open device, while the reel is online.
     pub fn reel(&self) -> Option<(usize, &S::Reel)>
         ensures { MatchOption result (online_drive self.now.opened ≡ None) (λ told. IsOnline self.now.opened told.0 told.1.now) }

@@ -1,3 +1,5 @@
+//! A seat, and the device that is open there.
+
 use crate::access::Access;
 
 /// An open device: its drive, what it was opened for, and its reel, unless that lies in the bin.

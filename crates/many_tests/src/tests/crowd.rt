@@ -1,0 +1,130 @@
+//! More pairs than seats.
+
+use super::streams::{Counts, Gated, TURNS, Told, reaches};
+use super::table::{all_stacks, two_words};
+use rmt_many::{Incoming, serve_many};
+use std::sync::atomic::{AtomicU64, Ordering};
+use std::test::Fail;
+
+/// So many pairs, of one request each. Each comes when 16 of those before have not ended at most, so that a seat is free.
+#[derive(Drop)]
+struct OneByOne<'a> {
+    left: u64,
+    given: u64,
+    counts: &'a Counts,
+    sign: &'a AtomicU64,
+}
+
+impl<'a> Incoming for OneByOne<'a> {
+    type In = Gated<'a>;
+
+    type Out = Told<'a>;
+
+    ghost is_over = { λ _. Unit {0} };
+
+    fn next(&mut self) -> Option<(Gated<'a>, Told<'a>)> {
+        self.left = self.left.checked_sub(1)?;
+        reaches(&self.counts.ended, self.given.saturating_sub(16), TURNS);
+        self.given = self.given.saturating_add(1);
+        let input = Gated {
+            early: b"C\n",
+            late: b"",
+            sign: self.sign,
+            wanted: 0,
+            turns: TURNS,
+        };
+        let output = Told {
+            counts: self.counts,
+        };
+        Some((input, output))
+    }
+}
+
+/// Far more pairs than seats, of which each comes when a seat is free: each is answered.
+#[test]
+fn seats_serve_again(rt: HostRuntime) -> Result<(), Fail> {
+    let alloc = rt.alloc();
+    let (table, seats) = two_words(alloc)?;
+    let (counts, sign) = (Counts::new(), AtomicU64::new(0));
+    let pairs = OneByOne {
+        left: 200,
+        given: 0,
+        counts: &counts,
+        sign: &sign,
+    };
+    serve_many(&rt, alloc, pairs, &table, seats, all_stacks(alloc)?);
+    assert_eq!(rt; counts.all(), (0, 200, 200));
+    Ok(())
+}
+
+/// 32 pairs of two requests, the second after a sign; one when each of them has answered its first; and, after the sign, one
+/// when all of them have ended.
+#[derive(Drop)]
+struct Full<'a> {
+    given: u64,
+    sign: &'a AtomicU64,
+    seated: &'a Counts,
+    past: &'a Counts,
+    last: &'a Counts,
+}
+
+impl<'a> Full<'a> {
+    /// Whose answers are counted of the next pair.
+    fn counts(&self) -> Option<&'a Counts> {
+        match self.given {
+            0..=31 => Some(self.seated),
+            32 => {
+                reaches(&self.seated.errors, 32, TURNS);
+                Some(self.past)
+            }
+            33 => {
+                self.sign.store(1, Ordering::SeqCst);
+                reaches(&self.seated.ended, 32, TURNS);
+                Some(self.last)
+            }
+            _ => None,
+        }
+    }
+}
+
+impl<'a> Incoming for Full<'a> {
+    type In = Gated<'a>;
+
+    type Out = Told<'a>;
+
+    ghost is_over = { λ _. Unit {0} };
+
+    fn next(&mut self) -> Option<(Gated<'a>, Told<'a>)> {
+        let counts = self.counts()?;
+        self.given = self.given.saturating_add(1);
+        let input = Gated {
+            early: b"C\n",
+            late: b"C\n",
+            sign: self.sign,
+            wanted: 1,
+            turns: TURNS,
+        };
+        Some((input, Told { counts }))
+    }
+}
+
+/// A pair that comes while 32 are served is let go without an answer, and one that comes after an end is served.
+#[test]
+fn a_pair_past_32_is_let_go(rt: HostRuntime) -> Result<(), Fail> {
+    let alloc = rt.alloc();
+    let (table, seats) = two_words(alloc)?;
+    let sign = AtomicU64::new(0);
+    let (seated, past, last) = (Counts::new(), Counts::new(), Counts::new());
+    let pairs = Full {
+        given: 0,
+        sign: &sign,
+        seated: &seated,
+        past: &past,
+        last: &last,
+    };
+    serve_many(&rt, alloc, pairs, &table, seats, all_stacks(alloc)?);
+    assert_eq!(rt; seated.all(), (0, 64, 32));
+    assert_eq!(rt; past.all(), (0, 0, 1));
+    assert_eq!(rt; last.all(), (0, 2, 1));
+    Ok(())
+}
