@@ -1,4 +1,4 @@
--- What a client holds, and what a call that asks for the next request does.
+-- What a client holds, and what a call that asks for the next request does. Public contracts cite it.
 use Rattle.std.specs.Prelude.{◌≡◌, ◌≢◌, ℕ, ◌+◌, ◌<◌, Bool, true, false, List, [], ◌++◌, length, get_or, Option, Some, None, Result, Ok, Err}
 use Rattle.rmt_wire.specs.Counted.{raised}
 use Rattle.rmt_wire.specs.Request.{PlainRequest, IsTextOf, request_text}

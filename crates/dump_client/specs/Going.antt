@@ -1,4 +1,4 @@
--- How a client goes on in its run.
+-- How a client goes on in its run. Public contracts cite it.
 use Rattle.std.specs.Prelude.{◌≡◌, ◌≢◌, ◌⊎◌, List, [], ◌++◌}
 use Rattle.dump_client.specs.Standing.{Standing}
 use Rattle.dump_client.specs.declared.count.VolumeCount.{VolumeCount}

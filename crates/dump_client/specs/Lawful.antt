@@ -1,4 +1,4 @@
--- What holds of each client, and the position that it stands at.
+-- What holds of each client, and the position that it stands at. Public contracts cite it.
 use Rattle.std.specs.Prelude.{◌≡◌, ◌⊎◌, ℕ, zero, suc, ◌+◌, ◌-◌, ◌<◌, ◌≤◌, if◌then◌else◌, nat_lt, List, [], ◌∷◌, ◌++◌, length, map, take, Contains}
 use Rattle.rmt_wire.specs.Request.{PlainRequest}
 use Rattle.rmt_wire.specs.Request.PlainRequest.{Op}

@@ -1,3 +1,4 @@
+-- In reading order: Script, Position (an attempt); Listening, Standing, Client (a client); Lawful, Replies, Going (what stays so).
 pub mod Script
 pub mod Position
 pub mod Listening

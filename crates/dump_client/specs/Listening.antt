@@ -1,4 +1,4 @@
--- What came to a client that waits for a reply of some kind.
+-- What came to a client that waits for a reply of some kind. Public contracts stand on it (through Standing).
 use Rattle.std.specs.Prelude.{◌≡◌, ℕ, ◌<◌, Bool, true, false, List, [], ◌∷◌, ◌++◌, length, Option, Some, None, Result, Ok, Err}
 use Rattle.rmt_wire.specs.Reply.{PlainReply, Wanted}
 use Rattle.rmt_wire.specs.Reply.PlainReply.{Done, Data, Error}

@@ -1,4 +1,4 @@
--- Where the replies that come lead, and that they are those that the script wants.
+-- Where the replies that come lead, and that they are those that the script wants. Public contracts cite it.
 use Rattle.std.specs.Prelude.{◌≡◌, ℕ, ◌+◌, List, [], ◌∷◌, ◌++◌, length, map}
 use Rattle.rmt_wire.specs.Reply.{PlainReply}
 use Rattle.dump_run.specs.Run.{PlainRun}

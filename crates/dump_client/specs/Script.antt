@@ -1,4 +1,4 @@
--- What a client sends in one attempt, which writes one volume, and the replies that keep it going.
+-- What a client sends in one attempt, which writes one volume, and the replies that keep it going. Public contracts cite it.
 use Rattle.std.specs.Prelude.{◌≡◌, ◌⊎◌, ℕ, zero, suc, ◌+◌, ◌<◌, ◌≤◌, if◌then◌else◌, nat_lt, List, [], ◌∷◌, ◌++◌, map, get_or}
 use Rattle.rmt_wire.specs.Request.{PlainRequest}
 use Rattle.rmt_wire.specs.Request.PlainRequest.{Open as OpenDevice, Op, Write, Close as CloseDevice}

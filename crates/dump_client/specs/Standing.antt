@@ -1,4 +1,4 @@
--- Where a client stands, as values, and how bytes and the end of a connection move it.
+-- Where a client stands, as values, and how bytes and the end of a connection move it. Public contracts cite it.
 use Rattle.std.specs.Prelude.{◌≡◌, ◌≢◌, ◌⊎◌, ℕ, ◌+◌, ◌-◌, Bool, true, false, List, [], ◌∷◌, ◌++◌, Option, Some, None, Result, Ok, Err}
 use Rattle.rmt_wire.specs.Reply.{PlainReply}
 use Rattle.rmt_wire.specs.ReplyParts.{ReplyGives}

@@ -1,3 +1,5 @@
+//! Why an attempt fails, and why a client does not do what it is asked.
+
 use thiserror::Error;
 
 /// Why an attempt to write a volume failed.

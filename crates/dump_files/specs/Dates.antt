@@ -1,4 +1,4 @@
--- What dumpdates is asked by `rdump dates`, what is printed, and the status that it ends with.
+-- What dumpdates is asked by `rdump dates`, what is printed, and the status that it ends with. Public contracts cite it.
 use Rattle.std.specs.Prelude.{◌≡◌, ◌⊎◌, ℕ, List, [], ◌∷◌, ◌++◌, Option, Some, None, codes, decimal, option_map}
 use Rattle.std.specs.Borrow.{Bor}
 use Rattle.std.specs.Io.KnownBytes.{Appends}

@@ -1,4 +1,4 @@
--- A payload in blocks, and the run that dumps it.
+-- A payload in blocks, and the run that dumps it. Public contracts cite it.
 use Rattle.std.specs.Prelude.{◌≡◌, ◌≢◌, ◌⊎◌, ℕ, zero, suc, ◌*◌, ◌-◌, ◌++◌, List, length, replicate, min, refl, Result, Ok, Err, MatchResult}
 use Rattle.std.specs.Coded.{Coded, code_by, coded×, coded_ℕ}
 use Rattle.std.specs.Int.{div_ceil}
@@ -61,13 +61,14 @@ begin_of p block = min (block * p.size) p.len
 
 -- One read: the medium is read once, from where the block begins, for as many bytes as the payload has from there on and the room takes.
 -- The block is these bytes, and zero bytes behind them. Where the medium failed, or has fewer, the read failed.
-pub record IsPayloadRead {M : Type 0} (m : MediumKind M) (old : FiledPayload M) (block : ℕ) (into : List ℕ) (result : Result Unit SourceFailed)
-    (new : FiledPayload M) (given : List ℕ) : Type 0 where
+pub record IsPayloadRead {M : Type 0} (m : MediumKind M) (old : FiledPayload M) (block : ℕ) (into : List ℕ)
+    (result : Result Unit SourceFailed) (new : FiledPayload M) (given : List ℕ) : Type 0 where
   pub part : List ℕ
   pub found : Result ℕ MediumFailed
   pub call : IsMediumCall m old.medium (ReadAt (begin_of old block) part found) new.medium
   pub asked : length part ≡ min (old.len - begin_of old block) (length into)
-  pub gives : MatchResult result (λ _. (found ≡ Ok (length part)) × (given ≡ part ++ replicate (length into - length part) 0)) (λ _. found ≢ Ok (length part))
+  pub gives : MatchResult result (λ _. (found ≡ Ok (length part)) × (given ≡ part ++ replicate (length into - length part) 0))
+      (λ _. found ≢ Ok (length part))
   pub same : (new.len ≡ old.len) × (new.size ≡ old.size)
 
 -- the run that the words say

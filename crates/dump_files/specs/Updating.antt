@@ -1,4 +1,4 @@
--- A dump that is entered in a dumpdates file that lies in a store.
+-- A dump that is entered in a dumpdates file that lies in a store. Public contracts cite it.
 use Rattle.std.specs.Prelude.{◌≡◌, ◌⊎◌, Bool, true, false, ℕ, List, Option, Some, None, Result, Ok, Err}
 use Rattle.dumpdates.specs.Dates.{entered}
 use Rattle.dumpdates.specs.Entry.{DatesEntry}
@@ -15,7 +15,8 @@ Puts takes entry bytes old new done =
 
 -- What became of an entry for a file that was read: its text with the entry was put in place of it, or could not be. Or the file is no
 -- dumpdates file, or memory was refused, or it could not be read, and it is left alone.
-abbrev pub PutsInto : {S : Type 0} → (S → List ℕ → Bool → S → Type 0) → DatesEntry → Option (List ℕ) → S → S → Result Unit UpdateFault → Type 0
+abbrev pub PutsInto : {S : Type 0} → (S → List ℕ → Bool → S → Type 0) → DatesEntry → Option (List ℕ) → S → S
+    → Result Unit UpdateFault → Type 0
 PutsInto takes entry (Some bytes) old new (Ok x) = Puts takes entry bytes old new true
 PutsInto takes entry (Some bytes) old new (Err Unwritten) = Puts takes entry bytes old new false
 PutsInto takes entry (Some bytes) old new (Err (Dates fault)) = (new ≡ old) × (HasDatesFault bytes fault ⊎ (fault ≡ OutOfMemory))

@@ -1,4 +1,4 @@
--- Where the blocks of a run come from.
+-- Where the blocks of a run come from. Public contracts cite it.
 use Rattle.std.specs.Prelude.{◌≡◌, ℕ, zero, suc, ◌<◌, Bool, true, false, List, [], ◌∷◌, length, get_or, take, drop, Result, Ok, Err}
 use Rattle.rmt_wire.specs.Counted.{raised}
 use Rattle.dump_run.specs.declared.blocks.SourceFailed.{SourceFailed}

@@ -1,4 +1,5 @@
 -- The record that begins a volume: of which run it is, its number, and from which block on (the form is this project's).
+-- Public contracts cite it.
 use Rattle.std.specs.Prelude.{ℕ, ◌-◌, List, [], ◌∷◌, ◌++◌, codes, length, replicate, decimal}
 use Rattle.rmt_wire.specs.Number.{line_feed, space}
 use Rattle.dump_run.specs.Run.{PlainRun}

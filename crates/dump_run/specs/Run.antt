@@ -1,4 +1,4 @@
--- A run: what is dumped, to which drive, and in how many blocks (dump(8)).
+-- A run: what is dumped, to which drive, and in how many blocks (dump(8)). Public contracts cite it.
 use Rattle.std.specs.Prelude.{◌⊎◌, ℕ, ◌<◌, ◌≤◌, List, length}
 use Rattle.std.specs.Int.{IsInRange}
 use Rattle.rmt_wire.specs.Number.{HasNoLineFeed}

@@ -1,3 +1,5 @@
+//! What the blocks of a run are read from.
+
 ghost use Rattle.std.specs.Prelude.{◌≡◌, ◌↔◌, ℕ, List, Result, IsErr, length};
 ghost use Rattle.dump_run.specs.Blocks.{HasBlock, GivesBlock, counted_after};
 

@@ -1,3 +1,5 @@
+//! Why something is no run.
+
 use thiserror::Error;
 
 /// Why something is no run: the first limit, in this order, that it breaks.

@@ -1,3 +1,5 @@
+//! The label that begins a volume, line by line.
+
 ghost use Rattle.std.specs.Prelude.{◌≡◌, ◌+◌, ◌-◌, ◌≤◌, ◌++◌, [], length, replicate, decimal};
 ghost use Rattle.dump_run.specs.Label as labels;
 ghost use Rattle.dump_run.specs.Label.{line_of, label_bytes, label_text};

@@ -1,3 +1,5 @@
+//! Blocks of a payload in memory.
+
 ghost use Rattle.std.specs.Prelude.{◌≡◌, ℕ, ◌*◌, ◌<◌, IsTrue, [], length, get_or, false};
 ghost use Rattle.std.proofs.Common.{sym, ◌∙◌};
 ghost use Rattle.dump_run.specs.Blocks.{HasBlock, AreBlocksOf, ListedRead, cut_blocks, listed};

@@ -1,3 +1,5 @@
+//! A short text in a fixed row.
+
 ghost use Rattle.std.specs.Prelude.{◌≡◌, ◌≤◌, length};
 
 use rmt_wire::LINE_LIMIT;

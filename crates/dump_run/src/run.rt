@@ -1,3 +1,5 @@
+//! A run: what is dumped, to which drive, and in how many blocks.
+
 ghost use Rattle.std.specs.Prelude.{◌≡◌, ◌≤◌, ◌↔◌, IsTrue, IfOk, MatchResult, Ok};
 ghost use Rattle.dumpdates.specs.Entry.{IsName, last_second};
 ghost use Rattle.dump_run.specs.Run.{IsDevice, IsBlockSize, IsRun, IsFirstBroken, plain_run};

@@ -1,4 +1,4 @@
--- A moment in memory, as the plain moment that it is.
+-- A moment in memory, as the plain moment that it is. No public contract needs it.
 use Rattle.dumpdates.specs.Moment.{PlainMoment}
 use Rattle.dumpdates.specs.declared.moment.Moment.{Moment}
 

@@ -1,4 +1,4 @@
--- What is asked of dumpdates, and how it is changed (dump(8)).
+-- What is asked of dumpdates, and how it is changed (dump(8)). Public contracts cite it.
 use Rattle.std.specs.Prelude.{ℕ, max, Bool, ◌&&◌, ◌==◌, not, if◌then◌else◌, nat_lt, List, [], ◌∷◌, map, filter, bytes_eq}
 use Rattle.dumpdates.specs.Entry.{DatesEntry}
 

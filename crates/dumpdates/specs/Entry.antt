@@ -1,4 +1,4 @@
--- The entries of dumpdates (dump(8)): which file system was dumped at which level, and when.
+-- The entries of dumpdates (dump(8)): which file system was dumped at which level, and when. Public contracts cite it.
 use Rattle.std.specs.Prelude.{ℕ, ◌≤◌, List, length}
 use Rattle.std.specs.Int.{IsInRange}
 use Rattle.std.specs.List.{AllByRecursion}

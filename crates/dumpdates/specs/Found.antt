@@ -1,4 +1,4 @@
--- What was found in a line, as plain values.
+-- What was found in a line, as plain values. No public contract needs it.
 use Rattle.std.specs.Prelude.{◌≡◌, ◌⊎◌, ◌++◌, [], ◌∷◌, List, ℕ, Option, Some, None, Result, Ok, Err}
 use Rattle.dumpdates.specs.Entry.{DatesEntry}
 use Rattle.dumpdates.specs.Clock.{plain_moment}

@@ -1,4 +1,4 @@
--- The words of a line, computed from its front. `Line` says the same of whole lines.
+-- The words of a line, computed from its front. `Line` says the same of whole lines. No public contract needs it.
 use Rattle.std.specs.Prelude.{ℕ, if◌then◌else◌, List, take, drop, Option, Some, None}
 use Rattle.std.specs.List.{prefix_len, position_or_len, list_all}
 use Rattle.dumpdates.specs.Line.{PlainWords, is_space}

@@ -1,3 +1,4 @@
+-- In reading order: Entry, Dates (a list); Moment, Names, Text (as written); Line, Lines (as read); Stored, Clock, Front, Found (in code).
 pub mod Entry
 pub mod Moment
 pub mod Names

@@ -1,4 +1,5 @@
 -- What a line of dumpdates is: blank, an entry, or bad. An entry is seven words: the name, the level, and a date as ctime(3) has it.
+-- Public contracts stand on it (through Lines).
 use Rattle.std.specs.Prelude.{◌≡◌, ℕ, ◌<◌, Bool, true, ◌==◌, ◌||◌, List, [], ◌∷◌, ◌++◌, length, get_or}
 use Rattle.std.specs.Int.{IsInRange}
 use Rattle.std.specs.List.{AllByRecursion}

@@ -1,4 +1,4 @@
--- How dumpdates is read: line by line.
+-- How dumpdates is read: line by line. Public contracts cite it.
 use Rattle.std.specs.Prelude.{◌≡◌, ◌⊎◌, ℕ, ◌+◌, ◌==◌, List, [], ◌∷◌, ◌++◌, length}
 use Rattle.std.specs.List.{slice_split}
 use Rattle.dumpdates.specs.Entry.{DatesEntry}

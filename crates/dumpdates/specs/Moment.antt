@@ -1,4 +1,4 @@
--- Dates and times of day in UTC, from 1970 to 9999, on the calendar of `jiff`.
+-- Dates and times of day in UTC, from 1970 to 9999, on the calendar of `jiff`. Public contracts cite it.
 use Rattle.std.specs.Prelude.{ℕ, zero, suc, ◌+◌, ◌*◌, ◌/◌, ◌%◌, ◌≤◌, if◌then◌else◌, nat_lt, pos, unsigned_abs}
 use Rattle.std.specs.Int.{IsInRange}
 use Rattle.jiff_core.specs.Calendar.{IsCivilDate, days_from_civil, days_in_month}

@@ -1,4 +1,4 @@
--- The English names of ctime(3).
+-- The English names of ctime(3). Public contracts stand on it (through Text).
 use Rattle.std.specs.Prelude.{ℕ, ◌-◌, List, [], ◌∷◌, codes, get_or, pos}
 use Rattle.jiff_core.specs.Calendar.{weekday_number}
 

@@ -1,4 +1,4 @@
--- Entries in memory, as the plain entries that they are.
+-- Entries in memory, as the plain entries that they are. Public contracts cite it.
 use Rattle.std.specs.Prelude.{Bool, not, List, map}
 use Rattle.dumpdates.specs.Entry.{DatesEntry}
 use Rattle.dumpdates.specs.Dates.{is_same}

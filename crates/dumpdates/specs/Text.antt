@@ -1,4 +1,4 @@
--- How dumpdates is written: a line for each entry, with its date as ctime(3) has it.
+-- How dumpdates is written: a line for each entry, with its date as ctime(3) has it. Public contracts cite it.
 use Rattle.std.specs.Prelude.{ℕ, ◌+◌, ◌-◌, ◌/◌, ◌%◌, if◌then◌else◌, nat_lt, List, [], ◌∷◌, ◌++◌, length, replicate, flat_map, decimal}
 use Rattle.dumpdates.specs.Entry.{DatesEntry}
 use Rattle.dumpdates.specs.Moment.{PlainMoment, moment_of}

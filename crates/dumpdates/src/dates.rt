@@ -1,3 +1,5 @@
+//! The list of entries that a file holds: read, asked, changed, and written again.
+
 ghost use Rattle.std.specs.Prelude.{◌≡◌, ◌≤◌, [], List, length, slice_get, option_map, IsOk, IfOk, OnOk, OnErr, IfErr, MatchResult};
 ghost use Rattle.dumpdates.specs.Dates as spec;
 ghost use Rattle.dumpdates.specs.Entry.{DatesEntry, AreEntries, last_second};

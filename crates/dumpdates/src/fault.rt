@@ -1,3 +1,5 @@
+//! Why a file is not read, or a list not written or not changed.
+
 use std::alloc::AllocError;
 use thiserror::Error;
 

@@ -1,3 +1,5 @@
+//! Laws of the file's definitions, each the contract of a call that does nothing.
+
 ghost use Rattle.std.specs.Prelude.{◌≡◌, ◌⊎◌, ℕ, ◌≤◌, List, [], ◌∷◌, filter};
 ghost use Rattle.dumpdates.specs.Dates.{is_same, others, entered};
 ghost use Rattle.dumpdates.specs.Entry.{DatesEntry, IsEntry, AreEntries, last_second};

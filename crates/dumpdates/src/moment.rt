@@ -1,3 +1,5 @@
+//! A moment: what a calendar and a clock of UTC show, and the seconds that it stands for.
+
 ghost use Rattle.std.specs.Prelude.{◌≡◌, ◌↔◌, ◌≤◌, ◌/◌, pos, IsSome, IfSome};
 ghost use Rattle.jiff_core.specs.Calendar.{weekday_number};
 ghost use Rattle.dumpdates.specs.Moment as spec;

@@ -1,3 +1,5 @@
+//! An entry that owns its name.
+
 ghost use Rattle.std.specs.Prelude.{◌≤◌};
 ghost use Rattle.std.proofs.Props.{props};
 ghost use Rattle.dumpdates.specs.Entry.{IsName, last_second};

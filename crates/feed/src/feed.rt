@@ -1,3 +1,5 @@
+//! What a reader is fed, and whether it gives all of it again.
+
 ghost use Rattle.std.specs.Prelude.{◌<◌};
 
 use rmt_wire::{DATA_LIMIT, ReplyReader, RequestReader, Wanted};

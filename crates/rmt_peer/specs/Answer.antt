@@ -1,4 +1,4 @@
--- A reply that is kept, as the value that it is.
+-- A reply that is kept, as the value that it is. Public contracts stand on it (through Operation).
 use Rattle.std.specs.Prelude.{ℕ, Option, Some, None, Result, Ok, Err}
 use Rattle.rmt_wire.specs.Reply.{PlainReply}
 use Rattle.rmt_wire.specs.Reply.PlainReply.{Done, Data, Error}

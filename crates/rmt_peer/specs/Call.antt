@@ -1,4 +1,4 @@
--- A request that is sent to a peer, and what comes back.
+-- A request that is sent to a peer, and what comes back. Public contracts stand on it (through Calls).
 use Rattle.std.specs.Prelude.{◌≡◌, ◌≢◌, ◌⊎◌, ◌≤◌, ◌<◌, ◌-◌, ◌^◌, ℕ, false, List, [], ◌∷◌, ◌++◌, map, length, Option, Some, None, Result, Ok, Err}
 use Rattle.rmt_wire.specs.Limits.{reader_limit}
 use Rattle.rmt_wire.specs.Reply.{PlainReply, Wanted, SpellsReply}

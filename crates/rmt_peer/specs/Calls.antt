@@ -1,4 +1,4 @@
--- Calls over a peer, one after the other, each after the reply to the one before.
+-- Calls over a peer, one after the other, each after the reply to the one before. Public contracts stand on it (through Reading).
 use Rattle.std.specs.Prelude.{◌≡◌, ◌⊎◌, ℕ, Bool, true, false, List, [], ◌∷◌, ◌++◌, Option, Some, None, Result, Ok, Err}
 use Rattle.rmt_wire.specs.Reply.{PlainReply}
 use Rattle.rmt_wire.specs.Reply.PlainReply.{Done, Data, Error}

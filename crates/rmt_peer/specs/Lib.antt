@@ -1,3 +1,4 @@
+-- In reading order: Peer, Talk, Print, Lines (a dump); Answer, Call, Calls (requests); Operation (mtio); Reading (a volume).
 pub mod Peer
 pub mod Talk
 pub mod Print

@@ -1,4 +1,4 @@
--- The lines that a dump prints.
+-- The lines that a dump prints. Public contracts cite it.
 use Rattle.std.specs.Prelude.{◌≡◌, ◌≢◌, ◌⊎◌, ℕ, Bool, true, false, List, [], ◌++◌, length, drop, codes, decimal, Option, Some, None}
 use Rattle.std.specs.List.{flat_map}
 use Rattle.rmt_wire.specs.Counted.{Counting}

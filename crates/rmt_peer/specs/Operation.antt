@@ -1,4 +1,4 @@
--- One operation of mtio: its requests, what is printed, and the status.
+-- One operation of mtio: its requests, what is printed, and the status. Public contracts cite it.
 use Rattle.std.specs.Prelude.{◌≡◌, ◌&&◌, ℕ, Bool, true, false, List, [], ◌∷◌, ◌++◌, length, codes, decimal, Option, Some, None, Result, Ok, Err, if◌then◌else◌, nat_eq}
 use Rattle.rmt_wire.specs.Counted.{Counting}
 use Rattle.rmt_wire.specs.Reply.{PlainReply}

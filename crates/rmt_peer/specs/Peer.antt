@@ -1,4 +1,4 @@
--- What passes between a caller and a peer, where the peer tells.
+-- What passes between a caller and a peer, where the peer tells. Public contracts cite it.
 use Rattle.std.specs.Prelude.{◌≡◌, ℕ, Bool, true, false, List, [], ◌∷◌, ◌++◌, map, take}
 use Rattle.rmt_peer.specs.declared.peer.Passed.{Passed}
 use Rattle.rmt_peer.specs.declared.peer.Passed.TheVariants.{Connected, Sent, Given, Ended}

@@ -1,4 +1,4 @@
--- What is printed.
+-- What is printed. Public contracts cite it.
 use Rattle.std.specs.Prelude.{◌≡◌, ℕ, Bool, true, false, List, Option}
 use Rattle.std.specs.Io.KnownBytes.{Appends}
 use Rattle.rmt_wire.specs.Counted.{Counting, HasRisen}

@@ -1,4 +1,4 @@
--- A volume that is read over a peer: its requests, what is printed and written, and how it ends.
+-- A volume that is read over a peer: its requests, what is printed and written, and how it ends. Public contracts cite it.
 use Rattle.std.specs.Prelude.{◌≡◌, ◌≢◌, ◌⊎◌, ◌≤◌, ◌-◌, ◌^◌, ◌&&◌, ℕ, Bool, true, false, List, [], ◌∷◌, ◌++◌, length, take, position, nat_eq, Option, Some, None, Result, Ok, Err, if◌then◌else◌, Vec}
 use Rattle.std.specs.Global.{Global}
 use Rattle.std.specs.List.{concat}
@@ -143,7 +143,8 @@ Steps next tells p p' replies (Err fault) =
 -- a call that is to be done
 abbrev pub IsDone : {P : Type 0} → (List PlainReply → Option PlainRequest) → (P → List Passed → Type 0) → P → P → List PlainReply
     → Result Unit ReadFault → Type 0
-IsDone next tells p p' replies (Ok x) = (reply : PlainReply) × (is_done reply ≡ true) × (records_of (reply ∷ []) ≡ []) × Steps next tells p p' replies (Ok reply)
+IsDone next tells p p' replies (Ok x) =
+    (reply : PlainReply) × (is_done reply ≡ true) × (records_of (reply ∷ []) ≡ []) × Steps next tells p p' replies (Ok reply)
 IsDone next tells p p' replies (Err fault) = Steps next tells p p' replies (Err fault)
 
 -- calls up to the mark
@@ -154,7 +155,8 @@ Reads next tells p p' replies (Err fault) later = Breaks next tells p p' replies
 
 -- the records up to the mark are written
 pub record IsWritten {P F : Type 0} (next : List PlainReply → Option PlainRequest) (tells : P → List Passed → Type 0)
-    (filed : F → Option (List ℕ)) (replies : List PlainReply) (p p' : P) (file file' : Counting F) (result : Result Unit ReadFault) : Type 0 where
+    (filed : F → Option (List ℕ)) (replies : List PlainReply) (p p' : P)
+    (file file' : Counting F) (result : Result Unit ReadFault) : Type 0 where
   pub later : List PlainReply
   pub more : List (List ℕ)
   pub adds : records_of later ≡ records_of replies ++ more

@@ -1,4 +1,4 @@
--- What a client does over a peer: each call of the client, with what passed in it.
+-- What a client does over a peer: each call of the client, with what passed in it. Public contracts cite it.
 use Rattle.std.specs.Prelude.{◌≡◌, ◌≢◌, ℕ, Bool, true, false, List, [], ◌∷◌, ◌++◌, map, Result, Ok, Err}
 use Rattle.dump_client.specs.Standing.{Standing, StartedAt, AnsweredAt, FedAt, CutAt}
 use Rattle.dump_client.specs.Client.{ClientHeld, HasFed, AskedAt, unanswered}

@@ -1,4 +1,4 @@
--- A peer in memory, and the log that it keeps of what passed.
+-- A peer in memory, and the log that it keeps of what passed. Public contracts cite it.
 use Rattle.std.specs.Prelude.{◌≡◌, ℕ, ◌-◌, ◌^◌, min, Bool, true, false, List, [], ◌++◌, replicate, None}
 use Rattle.tape.specs.Trouble.{TroubledTape}
 use Rattle.drives.specs.declared.table.DriveTable.{DriveTable}

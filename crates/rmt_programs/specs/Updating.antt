@@ -1,4 +1,4 @@
--- A dump that is entered in a dumpdates file.
+-- A dump that is entered in a dumpdates file. Public contracts cite it.
 use Rattle.std.specs.Prelude.{◌≡◌, ℕ, zero, suc, Bool, List, Option, Result, Ok, Err, codes}
 use Rattle.rmt_wire.specs.Counted.{Counting}
 use Rattle.dumpdates.specs.Entry.{DatesEntry}

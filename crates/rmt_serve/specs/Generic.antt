@@ -1,4 +1,4 @@
--- What drives of any kind serve, one stream after the other.
+-- What drives of any kind serve, one stream after the other. Public contracts cite it.
 use Rattle.std.specs.Prelude.{◌≡◌, ℕ, List, Option, None, OnOk, Result}
 use Rattle.std.specs.Result.{result_ok}
 use Rattle.rmt_wire.specs.Counted.{Counting}

@@ -1,4 +1,4 @@
--- What a drive in memory serves, one stream after the other.
+-- What a drive in memory serves, one stream after the other. Public contracts cite it.
 use Rattle.std.specs.Prelude.{◌≡◌, ℕ, ◌<◌, ◌≤◌, false, true, List, length, slice_index, Option}
 use Rattle.std.specs.Io.KnownBytes.{Consumes}
 use Rattle.rmt_wire.specs.Counted.{Counting}

@@ -1,4 +1,4 @@
--- What a server of one stream does, and the status that it ends with.
+-- What a server of one stream does, and the status that it ends with. Public contracts cite it.
 use Rattle.std.specs.Prelude.{◌≡◌, ◌⊎◌, ℕ, false, true, List, [], ◌∷◌, codes, Option, Some, None, Ok, Err}
 use Rattle.std.specs.Io.KnownBytes.{Consumes}
 use Rattle.rmt_wire.specs.Counted.{Counting}

@@ -1,4 +1,4 @@
--- Streams whose failures are counted.
+-- Streams whose failures are counted. Public contracts cite it.
 use Rattle.std.specs.Prelude.{ℕ, ◌+◌, ◌-◌, ◌^◌, ◌≤◌, min, max, refl}
 use Rattle.std.specs.Coded.{Coded, code_by, coded×, coded_ℕ}
 

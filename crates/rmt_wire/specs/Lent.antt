@@ -1,4 +1,4 @@
--- A request or a reply that lends bytes, as the value that it is.
+-- A request or a reply that lends bytes, as the value that it is. Public contracts cite it.
 use Rattle.std.specs.Prelude.{ℕ, Option, Some, None, Result, Ok, Err}
 use Rattle.rmt_wire.specs.Request.{PlainRequest}
 use Rattle.rmt_wire.specs.Request.PlainRequest.{Open, Close, Write, WriteDropped, Read, Op}

@@ -1,3 +1,5 @@
+-- In reading order: Number, Limits, Request, Reply, RequestParts, ReplyParts (the grammar); Counted, Lent, Seen, RequestReader,
+-- ReplyFront, ReplyReader, ReplyWriter (what reads and writes it); RequestFront (in code).
 pub mod Number
 pub mod Limits
 pub mod Seen

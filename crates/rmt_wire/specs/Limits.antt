@@ -1,4 +1,4 @@
--- How many bytes a record has, and how many a reader keeps (this project's).
+-- How many bytes a record has, and how many a reader keeps (this project's). Public contracts cite it.
 use Rattle.std.specs.Prelude.{ℕ, ◌+◌}
 
 -- the greatest number of bytes of a record: those that a write brings to a drive, or that are waited for after a read

@@ -1,4 +1,4 @@
--- Numbers and lines as they stand in a stream (rmt(8); the limits are this project's).
+-- Numbers and lines as they stand in a stream (rmt(8); the limits are this project's). Public contracts cite it.
 use Rattle.std.specs.Prelude.{◌≡◌, ◌≢◌, ℕ, ◌≤◌, List, length}
 use Rattle.std.specs.List.{AllByRecursion}
 use Rattle.std.specs.Str.Parse.{IsNumeral, digits_value}

@@ -1,4 +1,4 @@
--- Replies as values, and how each is spelled (rmt(8)).
+-- Replies as values, and how each is spelled (rmt(8)). Public contracts cite it.
 use Rattle.std.specs.Prelude.{◌≡◌, ℕ, ◌≤◌, List, [], ◌∷◌, ◌++◌, length, take, decimal}
 use Rattle.rmt_wire.specs.Number.{SpellsNumber, HasNoLineFeed, line_feed}
 

@@ -1,5 +1,5 @@
 -- What the bytes of a stream begin with where a reply is waited for, computed from the front. `ReplyParts` says the same of whole
--- texts.
+-- texts. Public contracts cite it.
 use Rattle.std.specs.Prelude.{ℕ, suc, ◌+◌, ◌==◌, if◌then◌else◌, nat_lt, min, List, [], ◌∷◌, ◌++◌, length, take, drop, Some, None, Ok, Err}
 use Rattle.rmt_wire.specs.Number.{line_feed}
 use Rattle.rmt_wire.specs.Seen.{Seen, after, number_front}

@@ -1,4 +1,5 @@
 -- How the bytes that answer one request fall into a reply and what follows it: whole texts, told by the grammar alone.
+-- Public contracts cite it.
 use Rattle.std.specs.Prelude.{◌≡◌, ◌≢◌, ◌⊎◌, ℕ, ◌<◌, ◌≤◌, List, [], ◌∷◌, ◌++◌, length, Option, Some, None, Result, Ok, Err}
 use Rattle.std.specs.Str.Parse.{AllDigits, digits_value}
 use Rattle.rmt_wire.specs.Reply.{PlainReply, Wanted, SpellsReply}

@@ -1,4 +1,4 @@
--- What a reader of replies holds of a stream.
+-- What a reader of replies holds of a stream. Public contracts cite it.
 use Rattle.std.specs.Prelude.{◌≡◌, ◌≤◌, ℕ, ◌<◌, List, ◌∷◌, ◌++◌, length, drop, Option, Some, None, Result, Ok, Err}
 use Rattle.rmt_wire.specs.Number.{SpellsNumber, line_feed}
 use Rattle.rmt_wire.specs.Limits.{data_limit, reader_limit}

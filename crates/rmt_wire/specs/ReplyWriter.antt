@@ -1,4 +1,4 @@
--- What a writer of replies leaves in its stream.
+-- What a writer of replies leaves in its stream. Public contracts cite it.
 use Rattle.std.specs.Prelude.{ℕ, Option, List, take}
 use Rattle.std.specs.Io.KnownBytes.{Appends}
 

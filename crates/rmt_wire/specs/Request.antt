@@ -1,4 +1,4 @@
--- Requests as values, and how each is spelled (rmt(8)).
+-- Requests as values, and how each is spelled (rmt(8)). Public contracts cite it.
 use Rattle.std.specs.Prelude.{◌≡◌, ◌⊎◌, ℕ, ◌<◌, ◌≤◌, List, [], ◌∷◌, ◌++◌, length, decimal}
 use Rattle.rmt_wire.specs.Limits.{data_limit}
 use Rattle.rmt_wire.specs.Number.{SpellsNumber, IsLine, line_feed, space}

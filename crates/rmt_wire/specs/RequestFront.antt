@@ -1,4 +1,4 @@
--- What the bytes of a stream begin with, computed from the front. `RequestParts` says the same of whole texts.
+-- What the bytes of a stream begin with, computed from the front. `RequestParts` says the same of whole texts. No public contract needs it.
 use Rattle.std.specs.Prelude.{ℕ, ◌≤◌, ◌+◌, ◌==◌, if◌then◌else◌, nat_lt, List, [], ◌∷◌, length, take, drop, Some, None, Ok, Err}
 use Rattle.rmt_wire.specs.Number.{line_feed}
 use Rattle.rmt_wire.specs.Seen.{Seen, after, number_front}
@@ -22,7 +22,8 @@ line_front bytes = line_from 0 bytes
 -- the mode line after a device line of this length: a number first, and then an end as of any line
 unfoldable pub mode_head : ℕ → List ℕ → Seen Head
 mode_head device bytes =
-    after (number_front places.Mode bytes) (λ mode. after (line_front bytes) (λ len. Ok (Some (head.Open device mode.0 (device + len + 3)))))
+    after (number_front places.Mode bytes) (λ mode.
+    after (line_front bytes) (λ len. Ok (Some (head.Open device mode.0 (device + len + 3)))))
 
 unfoldable pub open_head : List ℕ → Seen Head
 open_head bytes = after (line_front bytes) (λ device. mode_head device (drop (device + 1) bytes))

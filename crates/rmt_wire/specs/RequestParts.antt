@@ -1,4 +1,4 @@
--- How a stream falls into requests: whole texts, told by the grammar alone.
+-- How a stream falls into requests: whole texts, told by the grammar alone. Public contracts cite it.
 use Rattle.std.specs.Prelude.{◌≡◌, ◌≢◌, ◌⊎◌, ℕ, ◌+◌, ◌<◌, ◌≤◌, List, [], ◌∷◌, ◌++◌, length, Option, Some, None, Result, Ok, Err}
 use Rattle.std.specs.Str.Parse.{AllDigits}
 use Rattle.rmt_wire.specs.Number.{SpellsNumber, HasNoLineFeed, IsLine, line_feed}

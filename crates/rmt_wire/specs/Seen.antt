@@ -1,4 +1,5 @@
 -- What is seen of the beginning of some bytes, computed from the front, and the numbers there.
+-- Public contracts stand on it (through RequestReader).
 use Rattle.std.specs.Prelude.{ℕ, ◌+◌, ◌-◌, ◌*◌, ◌==◌, ◌&&◌, ◌||◌, Bool, false, if◌then◌else◌, nat_lt, nat_le, List, [], ◌∷◌, Option, Some, None, Result, Ok, Err}
 use Rattle.rmt_wire.specs.Number.{line_feed, space}
 use Rattle.rmt_wire.specs.declared.fault.WireFault.{WireFault}

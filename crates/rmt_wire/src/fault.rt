@@ -1,3 +1,5 @@
+//! Why bytes are no request, or no reply.
+
 use thiserror::Error;
 
 /// Why bytes are no request, or no reply. Each is known at the first byte that rules every spelling out.

@@ -1,3 +1,5 @@
+//! Laws of the grammar, each the contract of a call that does nothing.
+
 ghost use Rattle.std.specs.Prelude.{◌≡◌, ◌⊎◌, ◌↔◌, ◌≤◌, ℕ, List, [], ◌∷◌, ◌++◌, length, take, Option, Some, Result};
 ghost use Rattle.rmt_wire.specs.Number.{HasNoLineFeed, line_feed};
 ghost use Rattle.rmt_wire.specs.Request.{PlainRequest};

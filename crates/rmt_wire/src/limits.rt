@@ -1,3 +1,5 @@
+//! The greatest numbers, lines and records of the wire, and what a reader keeps.
+
 /// The greatest number that a request or a reply can say.
 pub const NUMBER_LIMIT: u32 = 2147483647;
 

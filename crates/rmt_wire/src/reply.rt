@@ -1,3 +1,5 @@
+//! A reply of a tape server, and what appends, reads and writes it.
+
 mod append;
 mod front;
 mod reader;

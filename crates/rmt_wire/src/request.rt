@@ -1,3 +1,5 @@
+//! A request to a tape server, and what appends and reads it.
+
 mod append;
 mod front;
 mod head;

@@ -1,3 +1,5 @@
+//! A short text on the stack: the head of a request or a reply, or an error whole.
+
 ghost use Rattle.std.specs.Prelude.{◌≡◌, ◌+◌, ◌<◌, ◌≤◌, [], ◌∷◌, ◌++◌, length, decimal};
 ghost use Rattle.rmt_wire.specs.Number.{line_feed};
 

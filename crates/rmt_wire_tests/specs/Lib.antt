@@ -1,1 +1,2 @@
+-- One file: Listener (a reader of replies, in tests).
 pub mod Listener

@@ -1,4 +1,4 @@
--- What is known of a reader of replies without a look at it.
+-- What is known of a reader of replies without a look at it. Tests alone need it.
 use Rattle.std.specs.Prelude.{◌≡◌, ℕ, Bool, false, List, Option, None}
 use Rattle.rmt_wire.specs.Reply.{Wanted}
 use Rattle.rmt_wire.specs.ReplyReader.{ReplyHeld, ReplyUnread}

@@ -1,4 +1,4 @@
--- The words DEVICE=DIR of `rmtd`: drives whose stacks are folders.
+-- The words DEVICE=DIR of `rmtd`: drives whose stacks are folders. Public contracts cite it.
 use Rattle.std.specs.Prelude.{◌≤◌, ◌<◌, ◌==◌, ◌≢◌, ℕ, Option, IsSome, List, length}
 use Rattle.std.specs.List.{All, AllPairs, before_first, after_first}
 use Rattle.clap.specs.Words.{Text}

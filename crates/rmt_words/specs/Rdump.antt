@@ -1,4 +1,4 @@
--- What the words of `rdump` may ask.
+-- What the words of `rdump` may ask. Public contracts cite it.
 use Rattle.std.specs.Prelude.{ℕ, ◌≤◌, List, Option, None, Some, IfSome, ⊤}
 use Rattle.std.specs.Borrow.{Bor}
 use Rattle.dumpdates.specs.Entry.{IsName}

@@ -1,4 +1,4 @@
--- A text that is cut at a byte.
+-- A text that is cut at a byte. No public contract needs it.
 use Rattle.std.specs.Prelude.{◌≡◌, ℕ, ◌+◌, List, ◌∷◌, ◌++◌, length, Option, Some, None}
 use Rattle.std.specs.Borrow.{Bor}
 

@@ -1,4 +1,4 @@
--- The drives of a schedule.
+-- The drives of a schedule. No public contract needs it.
 use Rattle.std.specs.Prelude.{map}
 use Rattle.tape_events.specs.First.{PlainDrive}
 use Rattle.schedules.specs.declared.drive_line.DriveLine.{DriveLine}

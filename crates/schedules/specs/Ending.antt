@@ -1,4 +1,4 @@
--- How a schedule ends: what it prints, and its status.
+-- How a schedule ends: what it prints, and its status. Public contracts cite it.
 use Rattle.std.specs.Prelude.{◌≡◌, ◌≢◌, ◌⊎◌, ◌≤◌, ℕ, Bool, true, false, List, [], ◌++◌, codes, decimal, if◌then◌else◌, Option, Result, Ok, Err}
 use Rattle.rmt_wire.specs.Counted.{Counting}
 use Rattle.rmt_peer.specs.Print.{IsPrinted}

@@ -1,3 +1,4 @@
+-- In reading order: Playing, Report, Ending (what is printed, and the status); Number, Cut, Drives (lines and their fields).
 pub mod Number
 pub mod Cut
 pub mod Drives

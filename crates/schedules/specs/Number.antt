@@ -1,4 +1,4 @@
--- Numbers in fields.
+-- Numbers in fields. No public contract needs it.
 use Rattle.std.specs.Prelude.{◌≡◌, ℕ, ◌≤◌, List, Option, MatchOption}
 use Rattle.std.specs.Str.Parse.{IsNumeral, digits_value}
 

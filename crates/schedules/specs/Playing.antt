@@ -1,4 +1,4 @@
--- What events print.
+-- What events print. Public contracts stand on it (through Ending).
 use Rattle.std.specs.Prelude.{ℕ, Bool, true, false, List, [], ◌∷◌, ◌++◌, codes, decimal, Option, Some, None, Result, Err}
 use Rattle.rmt_wire.specs.Counted.{Counting}
 use Rattle.dump_client.specs.declared.fault.AttemptFault.{AttemptFault}

@@ -1,4 +1,4 @@
--- What a world has come to, in lines.
+-- What a world has come to, in lines. Public contracts stand on it (through Ending).
 use Rattle.std.specs.Prelude.{ℕ, List, [], ◌∷◌, ◌++◌, length, codes, decimal, unwrap_or, nat_eq, if◌then◌else◌}
 use Rattle.std.specs.List.{flat_map}
 use Rattle.std.specs.Str.{bytes_eq}

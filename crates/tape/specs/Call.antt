@@ -1,4 +1,4 @@
--- One call of a reel.
+-- One call of a reel. Public contracts cite it.
 use Rattle.std.specs.Prelude.{◌≡◌, ◌⊎◌, ℕ, ◌<◌, ◌≤◌, List, Bool, IsTrue, length}
 use Rattle.tape.specs.Failures.{HasRisen, Steps}
 use Rattle.tape.specs.Tape.{Tape, TapeRequest, TapeAnswer, TapeStep}

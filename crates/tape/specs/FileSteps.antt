@@ -1,4 +1,4 @@
--- What the parts of a reel on a medium do: to the medium, and to the tape that its bytes spell.
+-- What the parts of a reel on a medium do: to the medium, and to the tape that its bytes spell. No public contract needs it.
 use Rattle.std.specs.Prelude.{◌≡◌, ◌⊎◌, ◌==◌, if◌then◌else◌, ℕ, ◌+◌, ◌-◌, ◌^◌, ◌<◌, ◌≤◌, Bool, List, [], ◌∷◌, ◌++◌, length, reverse, take, drop, Option, Some, None, Result, Ok, Err, MatchResult}
 use Rattle.tape.specs.Failures.{HasRisen, Steps}
 use Rattle.tape.specs.Tape.{PlainEntry, Tape, TapeRequest, IsTapeEntry, entries_of, tape, stands_at, mark_count}
@@ -23,7 +23,8 @@ pub record IsRun {S : Type 0} (m : MediumKind S) (does : List ℕ → List ℕ �
   pub room : m.spare old ≤ m.spare new + added
 
 -- the same of a reel on the medium, and of its tape
-pub record IsReelRun {M : Type 0} (m : MediumKind M) (does : Tape → Tape → Type 0) (added : ℕ) (fails : Type 0) (old new : FileTape M) : Type 0 where
+pub record IsReelRun {M : Type 0} (m : MediumKind M) (does : Tape → Tape → Type 0) (added : ℕ) (fails : Type 0)
+    (old new : FileTape M) : Type 0 where
   pub step : Steps (HoldsTape m.holds) old new does
   pub calls : IsRun m (λ _ _. Unit {0}) added fails old.medium new.medium
   pub same_capacity : new.capacity ≡ old.capacity
@@ -75,7 +76,9 @@ pub record IsWalked (way : Way) (count met passed : ℕ) (bytes : List ℕ) (t :
 -- These bytes stand from the offset on, and nothing behind them. Or the medium failed: the bytes are the same, or from
 -- the offset on stand the first of them.
 abbrev pub IsWritten : ℕ → List ℕ → Result Unit MediumFailed → List ℕ → List ℕ → Type 0
-IsWritten at image result old new = MatchResult result (λ _. new ≡ take at old ++ image) (λ _. (new ≡ old) ⊎ ((n : ℕ) × (new ≡ take at old ++ take n image)))
+IsWritten at image result old new =
+    MatchResult result (λ _. new ≡ take at old ++ image)
+    (λ _. (new ≡ old) ⊎ ((n : ℕ) × (new ≡ take at old ++ take n image)))
 
 -- These entries stand at the place, nothing behind them, and the place is behind them. Or the medium failed: the place
 -- and what is before it stand, and from it on what stood, or the first of them.

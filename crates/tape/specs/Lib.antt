@@ -1,3 +1,4 @@
+-- In reading order: Tape, Failures, Call, Trouble (any reel); Medium, RecordFile, Media (its bytes); List (in memory); FileSteps, Scan.
 pub mod Tape
 pub mod Call
 pub mod Failures

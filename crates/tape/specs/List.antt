@@ -1,4 +1,4 @@
--- A reel in memory: what it is seen as, and what is told of its entries.
+-- A reel in memory: what it is seen as, and what is told of its entries. Public contracts cite it.
 use Rattle.std.specs.Prelude.{◌≡◌, ℕ, List, [], ◌++◌, length, take, drop, map, true, Option, Some, None}
 use Rattle.std.specs.List.{slice_get}
 use Rattle.std.specs.Option.{option_map}

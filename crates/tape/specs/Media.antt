@@ -1,4 +1,4 @@
--- A medium in memory, and one that is a file.
+-- A medium in memory, and one that is a file. Public contracts cite it.
 use Rattle.std.specs.Prelude.{◌≡◌, ℕ, ◌^◌, ◌<◌, List, length}
 use Rattle.tape.specs.Medium.{MediumKind, medium_kind}
 

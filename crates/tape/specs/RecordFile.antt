@@ -1,4 +1,4 @@
--- A record file: a reel's entries as bytes (the format is this project's own).
+-- A record file: a reel's entries as bytes (the format is this project's own). Public contracts cite it.
 use Rattle.std.specs.Prelude.{◌≡◌, ◌≢◌, ◌⊎◌, ◌&&◌, ◌==◌, if◌then◌else◌, ℕ, zero, suc, ◌+◌, ◌*◌, ◌<◌, ◌≤◌, List, [], ◌∷◌, ◌++◌, length, take, drop, flat_map, nat_eq, nat_le, Option, Some, None, refl}
 use Rattle.std.specs.Coded.{Coded, code_by, coded×, coded_ℕ}
 use Rattle.std.specs.Int.{w32, to_le_bytes, from_le_bytes}
@@ -49,7 +49,8 @@ first_in bytes =
 -- the entries whose images begin the bytes, one after the other, and so many at most
 unfoldable pub entries_within : ℕ → List ℕ → List PlainEntry
 entries_within zero bytes = []
-entries_within (suc most) bytes = elim (first_in bytes) [ None ↦ [] | Some entry ↦ entry ∷ entries_within most (drop (length (image_of entry)) bytes) ]
+entries_within (suc most) bytes =
+    elim (first_in bytes) [ None ↦ [] | Some entry ↦ entry ∷ entries_within most (drop (length (image_of entry)) bytes) ]
 
 -- the entries that the bytes spell: of so many bytes there are no more than so many
 abbrev pub entries_in : List ℕ → List PlainEntry

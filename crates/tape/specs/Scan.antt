@@ -1,4 +1,4 @@
--- The entries of a record file, one after the other.
+-- The entries of a record file, one after the other. No public contract needs it.
 use Rattle.std.specs.Prelude.{◌≡◌, ℕ, List, ◌++◌, Some}
 use Rattle.std.specs.List.{slice_get}
 use Rattle.tape.specs.Tape.{PlainEntry, IsTapeEntry}

@@ -1,4 +1,4 @@
--- A reel of tape, and what each call does to it (the operations are mtio's, their effects this project's).
+-- A reel of tape, and what each call does to it (the operations are mtio's, their effects this project's). Public contracts cite it.
 use Rattle.std.specs.Prelude.{◌≡◌, ◌⊎◌, ℕ, zero, suc, ◌+◌, ◌-◌, ◌*◌, ◌<◌, ◌≤◌, ◌==◌, if◌then◌else◌, List, [], ◌∷◌, ◌++◌, length, reverse, sum_by, take, drop, replicate, Result, Ok, Err}
 use Rattle.tape.specs.declared.fault.TapeFault.{TapeFault}
 use Rattle.tape.specs.declared.fault.TapeFault.TheVariants.{Device, Full, EndOrMark, BadOperation, OutOfMemory}

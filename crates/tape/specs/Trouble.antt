@@ -1,4 +1,4 @@
--- A device that is told how its next call fails: which calls come to it, and what a failed one leaves.
+-- A device that is told how its next call fails: which calls come to it, and what a failed one leaves. Public contracts cite it.
 use Rattle.std.specs.Prelude.{◌≡◌, ◌≢◌, ◌⊎◌, ℕ, ◌+◌, ◌*◌, ◌<◌, ◌≤◌, List, [], ◌∷◌, ◌++◌, length, take, replicate, true, Option, MatchOption}
 use Rattle.tape.specs.Failures.{raised}
 use Rattle.tape.specs.Tape.{PlainEntry, Tape, TapeRequest, TapeAnswer, TapeStep, tape, offset_of}

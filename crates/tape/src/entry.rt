@@ -1,3 +1,5 @@
+//! An entry of a reel: a record or a mark, and the room that it takes.
+
 /// What a record takes of a reel beside its bytes, in bytes.
 pub(crate) const RECORD_FRAME: u64 = 8;
 

@@ -1,3 +1,5 @@
+//! Why a call of a reel is not carried out.
+
 use crate::MediumFailed;
 use std::alloc::AllocError;
 use thiserror::Error;

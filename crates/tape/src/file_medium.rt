@@ -1,3 +1,5 @@
+//! A medium that is a file of the system.
+
 ghost use Rattle.std.specs.Prelude.{◌≡◌, ◌++◌, ◌≤◌, IfOk, Ok, OnErr, OnOk, length};
 ghost use Rattle.tape.specs.Failures.{raised};
 ghost use Rattle.tape.specs.Medium.{IsMediumCall};

@@ -1,3 +1,5 @@
+//! A reel whose entries lie on a medium.
+
 ghost use Rattle.std.specs.Prelude.{◌≡◌, ◌+◌, ◌*◌, ◌^◌, ◌<◌, ◌≤◌, ◌↔◌, List, ℕ, IfOk, IfErr, IsErr, IsTrue, MatchResult, [], ◌∷◌, length, replicate, false};
 ghost use Rattle.tape.specs.Tape.{PlainEntry, IsRecord, tape, done_answer, given_answer, op_request};
 ghost use Rattle.tape.specs.Tape.PlainEntry.{Record, Mark};
@@ -52,7 +54,8 @@ impl<M: Medium> FileReel<M> {
     /// What the medium has beyond the last whole entry is ignored, until the next write cuts it off. Entries beyond the
     /// capacity are there like others.
     pub fn open(medium: M, capacity: u64) -> FileReel<M>
-        ensures told { (bytes : List ℕ) (entries : List PlainEntry) → M.holds medium bytes → SpellsReel bytes entries → HoldsTape M.holds result (tape [] entries) }
+        ensures told { (bytes : List ℕ) (entries : List PlainEntry) →
+            M.holds medium bytes → SpellsReel bytes entries → HoldsTape M.holds result (tape [] entries) }
         ensures medium { result.medium ≡ medium }
         ensures capacity { result.capacity ≡ capacity }
         ensures offset { result.offset ≡ 0 }

@@ -1,3 +1,5 @@
+//! Laws of tapes and record files, each the contract of a call that does nothing.
+
 ghost use Rattle.std.specs.Prelude.{◌≡◌, ◌≢◌, ◌↔◌, ℕ, List};
 ghost use Rattle.tape.specs.Tape.{PlainEntry, Tape, TapeRequest, TapeAnswer, TapeStep};
 ghost use Rattle.tape.specs.Tape.TapeAnswer.{Fault};

@@ -1,3 +1,5 @@
+//! A reel in memory.
+
 ghost use Rattle.std.specs.Prelude.{◌≡◌, ◌≢◌, ◌≤◌, ◌↔◌, IfOk, [], length, true};
 ghost use Rattle.std.specs.List.{All};
 ghost use Rattle.tape.specs.Tape.{IsRecord, IsTapeEntry, entries_of, TapeStep, op_request, done_answer, given_answer, tape};

@@ -1,3 +1,5 @@
+//! A medium in memory.
+
 ghost use Rattle.std.specs.Prelude.{◌≡◌, ◌↔◌, ◌+◌, ◌++◌, ◌≤◌, ◌<◌, ◌^◌, IsErr, OnErr, MatchResult, [], length, take};
 ghost use Rattle.tape.specs.Failures.{raised};
 ghost use Rattle.tape.specs.Medium.{IsMediumCall, IsReadAt};

@@ -1,3 +1,5 @@
+//! The operations of mtio, by their numbers.
+
 /// Writes `count` file marks, of 4 bytes each (mtio).
 pub const MTWEOF: u32 = 0;
 

@@ -1,3 +1,5 @@
+//! How long a record is.
+
 ghost use Rattle.std.specs.Prelude.{◌≡◌, ◌↔◌, IsTrue};
 ghost use Rattle.tape.specs.Tape.{IsRecord, record_limit};
 

@@ -1,3 +1,5 @@
+//! A reel: what every kind of reel does.
+
 ghost use Rattle.std.specs.Prelude.{◌≡◌, ◌≤◌, ℕ, Bool, IfOk, length};
 ghost use Rattle.tape.specs.Tape.{Tape, TapeRequest, TapeAnswer, IsRecord, op_request, done_answer, given_answer};
 ghost use Rattle.tape.specs.Tape.TapeRequest.{Write, Read, Rewind};

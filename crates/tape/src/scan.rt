@@ -1,3 +1,5 @@
+//! The entries that the bytes of a record file spell.
+
 ghost use Rattle.std.specs.Prelude.{◌≡◌, ◌++◌, ◌<◌, ◌^◌, IfOk, MatchOption, length};
 ghost use Rattle.std.specs.List.{slice_get};
 ghost use Rattle.tape.specs.Tape.{PlainEntry, IsTapeEntry};

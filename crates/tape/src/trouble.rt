@@ -1,3 +1,5 @@
+//! A trouble: how the next device call fails.
+
 ghost use Rattle.std.specs.Prelude.{◌≡◌, ◌≢◌, ◌≤◌, IfSome, MatchResult};
 ghost use Rattle.tape.specs.Trouble.{IsTroubleLeft};
 ghost use Rattle.tape.specs.declared.trouble.Trouble.TheVariants.{None};

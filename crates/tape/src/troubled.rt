@@ -1,3 +1,5 @@
+//! A reel in memory whose device calls can be told to fail.
+
 ghost use Rattle.std.specs.Prelude.{◌≡◌, ◌≢◌, ◌≤◌, ◌↔◌, IfOk, MatchBool, length, true};
 ghost use Rattle.std.specs.List.{All};
 ghost use Rattle.tape.specs.Failures.{raised};

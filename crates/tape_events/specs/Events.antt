@@ -1,4 +1,4 @@
--- What can happen in the world.
+-- What can happen in the world. Public contracts cite it.
 use Rattle.std.specs.Prelude.{ℕ, Bool, List}
 use Rattle.tape.specs.declared.trouble.Trouble.{Trouble}
 use Rattle.dump_run.specs.Run.{PlainRun}

@@ -1,4 +1,4 @@
--- The world before any event.
+-- The world before any event. Public contracts cite it.
 use Rattle.std.specs.Prelude.{◌≡◌, ℕ, IsTrue, List, [], length, map, flat_map, replicate, Some, None}
 use Rattle.std.specs.Int.{IsInRange}
 use Rattle.drives.specs.Shop.{KeptReel, kept_reel, slot, Rack, rack, shop}

@@ -1,4 +1,4 @@
--- What stays so, whatever happens.
+-- What stays so, whatever happens. Public contracts cite it.
 use Rattle.std.specs.Prelude.{◌≡◌, ◌⊎◌, ℕ, suc, ◌+◌, ◌<◌, ◌==◌, Bool, true, false, List, [], ◌∷◌, length, slice_get, Contains, Option, Some, None}
 use Rattle.rmt_server.specs.Hall.{Hall, Side}
 use Rattle.rmt_server.specs.Session.{PlainSession}

@@ -1,3 +1,4 @@
+-- In reading order: World, Events, Changes, Rows, Steps, First; Owning, Naming, Sending, Standing, Written, Kept; Serving, Smooth.
 pub mod World
 pub mod Events
 pub mod Changes

@@ -1,4 +1,4 @@
--- What stays so of the names of reels, and of the openings.
+-- What stays so of the names of reels, and of the openings. Public contracts cite it.
 use Rattle.std.specs.Prelude.{◌≡◌, ◌≢◌, ℕ, ◌<◌, ◌≤◌, List, length, Contains, Some}
 use Rattle.drives.specs.Shop.{Shop, names_in, times, EachReelOnce}
 use Rattle.rmt_server.specs.Hall.{Side}

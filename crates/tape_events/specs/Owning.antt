@@ -1,4 +1,4 @@
--- Whose connection is the client's own, and which run is its.
+-- Whose connection is the client's own, and which run is its. Public contracts stand on it (through Kept).
 use Rattle.std.specs.Prelude.{◌≡◌, ℕ, IsTrue, Bool, true, false, Some}
 use Rattle.dump_client.specs.declared.stage.Stage.{Stage}
 use Rattle.dump_client.specs.declared.stage.Stage.TheVariants.{ToSend, Waiting}

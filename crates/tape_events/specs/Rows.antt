@@ -1,4 +1,4 @@
--- Which events are possible, and what each does.
+-- Which events are possible, and what each does. Public contracts stand on it (through Steps).
 use Rattle.std.specs.Prelude.{◌≡◌, ◌⊎◌, ◌≢◌, ℕ, ◌+◌, ◌*◌, ◌≤◌, Bool, true, false, IsTrue, List, length, slice_index_or, Contains, Option, Some, None, Result, Ok}
 use Rattle.rmt_wire.specs.Request.{PlainRequest}
 use Rattle.rmt_wire.specs.RequestParts.{Gives}

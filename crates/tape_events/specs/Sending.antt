@@ -1,4 +1,4 @@
--- What was sent on a connection of the client's, and what the server did of it.
+-- What was sent on a connection of the client's, and what the server did of it. Public contracts stand on it (through Kept).
 use Rattle.std.specs.Prelude.{◌≡◌, ◌⊎◌, ℕ, ◌+◌, ◌^◌, ◌<◌, ◌≤◌, Bool, true, false, List, [], ◌++◌, length, get_or, Option, Some, None}
 use Rattle.rmt_wire.specs.Limits.{data_limit}
 use Rattle.rmt_wire.specs.Request.{PlainRequest, SpellsRequest, request_text}

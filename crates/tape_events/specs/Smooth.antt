@@ -1,4 +1,4 @@
--- A link without faults, at a server of one drive, and what it leaves on the volumes.
+-- A link without faults, at a server of one drive, and what it leaves on the volumes. Public contracts cite it.
 use Rattle.std.specs.Prelude.{◌≡◌, ◌≢◌, ◌⊎◌, ℕ, ◌+◌, ◌<◌, ◌≤◌, Bool, true, false, List, [], ◌∷◌, ◌++◌, length, map, take, drop, slice_get, Contains, Option, Some, None}
 use Rattle.tape.specs.Tape.{PlainEntry, tape, offset_of}
 use Rattle.tape.specs.declared.trouble.Trouble.TheVariants.{None as NoTrouble}

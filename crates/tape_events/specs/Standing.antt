@@ -1,4 +1,4 @@
--- Where a reel is, and what stands on it.
+-- Where a reel is, and what stands on it. Public contracts stand on it (through Written).
 use Rattle.std.specs.Prelude.{◌≡◌, ◌⊎◌, ℕ, List, [], ◌∷◌, Some}
 use Rattle.tape.specs.Tape.{PlainEntry, entries_of}
 use Rattle.drives.specs.Shop.{KeptReel, Slot, Shop, rack_at}

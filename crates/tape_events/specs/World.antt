@@ -1,4 +1,4 @@
--- A client, a server, and all that ever passed between them: what the headline speaks of.
+-- A client, a server, and all that ever passed between them: what the headline speaks of. Public contracts cite it.
 use Rattle.std.specs.Prelude.{ℕ, zero, suc, Bool, List, slice_get, slice_set, Option, None}
 use Rattle.rmt_wire.specs.ReplyReader.{ReplyHeld}
 use Rattle.dumpdates.specs.Entry.{DatesEntry}

@@ -1,4 +1,4 @@
--- What attempts of the client wrote on their reels, and what stands on the reels that were counted.
+-- What attempts of the client wrote on their reels, and what stands on the reels that were counted. Public contracts cite it.
 use Rattle.std.specs.Prelude.{◌≡◌, ℕ, zero, suc, ◌+◌, ◌≤◌, Bool, true, false, List, [], ◌∷◌, ◌++◌, length, get_or, Contains, Some}
 use Rattle.tape.specs.Tape.{PlainEntry}
 use Rattle.tape.specs.Tape.PlainEntry.{Record, Mark}

@@ -1,3 +1,5 @@
+//! What stays so whatever happens, and what one request comes to: laws, each the contract of a call that does nothing.
+
 ghost use Rattle.std.specs.Prelude.{◌≡◌, ◌⊎◌, ℕ, List, ◌++◌, Some};
 ghost use Rattle.tape.specs.declared.trouble.Trouble.{Trouble};
 ghost use Rattle.tape_events.specs.World.{World, Link, Dumping};

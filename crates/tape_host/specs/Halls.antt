@@ -1,4 +1,4 @@
--- Sides of connections by their numbers, and what each call of a host makes of its hall.
+-- Sides of connections by their numbers, and what each call of a host makes of its hall. Public contracts cite it.
 use Rattle.std.specs.Prelude.{◌≡◌, ℕ, zero, suc, ◌+◌, ◌-◌, ◌<◌, ◌↔◌, min, take, Bool, List, [], ◌∷◌, ◌++◌, length, slice_set, slice_index, slice_index_or, Option, Some, None}
 use Rattle.rmt_wire.specs.RequestReader.{RequestHeld, held, Unread, taken_of}
 use Rattle.rmt_wire.specs.Limits.{reader_limit}

@@ -1,4 +1,4 @@
--- What a host has in memory, and what ties its drives to the sessions of its connections.
+-- What a host has in memory, and what ties its drives to the sessions of its connections. No public contract needs it.
 use Rattle.std.specs.Prelude.{◌≡◌, ◌⊎◌, ℕ, ◌+◌, ◌<◌, Bool, true, false, List, [], length, map, option_map, Option, Some, None, MatchOption}
 use Rattle.rmt_wire.specs.Request.{PlainRequest}
 use Rattle.rmt_wire.specs.Reply.{PlainReply, reply_text}
@@ -112,8 +112,10 @@ pub record IsCalmAt (x : MemoryState) : Type 0 where
   pub calm : IsTroubled NoTrouble false x
 
 -- One request was carried out. It leaves the drives those of other sessions.
-pub record IsCarried (trouble : Trouble) (old : MemoryState) (request : PlainRequest) (reply : PlainReply) (new : MemoryState) : Type 0 where
-  pub served : TroubledServe trouble old.drives.holds.numbers old.seat.number (scene_seen old) request reply (scene_seen new) new.drives.holds.numbers
+pub record IsCarried (trouble : Trouble) (old : MemoryState) (request : PlainRequest) (reply : PlainReply)
+    (new : MemoryState) : Type 0 where
+  pub served : TroubledServe trouble old.drives.holds.numbers old.seat.number (scene_seen old) request reply
+      (scene_seen new) new.drives.holds.numbers
   pub calm : IsCalmAt new
   pub kept : KeepsDrives in_memory old new
   pub same_seats : new.drives.holds.last ≡ old.drives.holds.last

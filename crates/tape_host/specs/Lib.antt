@@ -1,3 +1,4 @@
+-- In reading order: Halls (sides of connections), Lying (reels), Turns (one request each); Hosting (in memory).
 pub mod Halls
 pub mod Lying
 pub mod Hosting

@@ -1,4 +1,4 @@
--- Which reels lie on the stacks and in the bin, and which are away.
+-- Which reels lie on the stacks and in the bin, and which are away. Public contracts cite it.
 use Rattle.std.specs.Prelude.{◌≡◌, ℕ, drop, List, [], ◌∷◌, Option, Some, None, IsSome}
 use Rattle.drives.specs.Shop.{Slot, Rack, ShopOf, rack_at, latched_at}
 use Rattle.rmt_server.specs.Session.{PlainSession}

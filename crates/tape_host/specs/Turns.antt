@@ -1,4 +1,4 @@
--- One turn of a connection: one request of what was pushed there, with its reply.
+-- One turn of a connection: one request of what was pushed there, with its reply. Public contracts cite it.
 use Rattle.std.specs.Prelude.{◌≡◌, ℕ, ◌==◌, Bool, true, false, if◌then◌else◌, List, ◌++◌, Option, Some, None, Result, Ok, Err}
 use Rattle.rmt_wire.specs.Request.{PlainRequest}
 use Rattle.rmt_wire.specs.Request.PlainRequest.{Open, Write, Op}
@@ -65,7 +65,8 @@ GivesRequest reached request after =
 
 -- The side of connection k carries out this request with this reply. The device call that the request makes fails as the
 -- trouble says.
-pub record Carries (trouble : Trouble) (old : Hall) (k : ℕ) (s : Side) (request : PlainRequest) (reply : PlainReply) (new : Hall) : Type 0 where
+pub record Carries (trouble : Trouble) (old : Hall) (k : ℕ) (s : Side) (request : PlainRequest) (reply : PlainReply)
+    (new : Hall) : Type 0 where
   pub reached : RequestHeld
   pub shop : Shop
   pub session : PlainSession

@@ -218,7 +218,8 @@ impl Host {
 
     /// The session of a connection, while the server's side is live.
     pub fn session(&self, connection: usize) -> Option<&Session<LocalHolds, ListStacks>>
-        ensures seen { option_map (λ s. session_seen s.opened) (option_copied result) ≡ option_map (λ s. s.session) (side_at self.now.hall.sides connection) }
+        ensures seen { option_map (λ s. session_seen s.opened) (option_copied result)
+            ≡ option_map (λ s. s.session) (side_at self.now.hall.sides connection) }
         ensures number { IfSome (option_copied result) (λ s. s.seat.number ≡ connection) }
     {
         let live = find_side(&self.sides, connection)?;

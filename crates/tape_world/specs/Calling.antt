@@ -1,4 +1,4 @@
--- What calls of the client, if there is one, make of it.
+-- What calls of the client, if there is one, make of it. No public contract needs it.
 use Rattle.std.specs.Prelude.{◌≡◌, ◌≤◌, ℕ, List, [], Option, Some, None, Result, Ok, Err}
 use Rattle.dump_run.specs.Run.{PlainRun}
 use Rattle.dump_run.specs.Blocks.{cut_blocks}
@@ -39,7 +39,8 @@ IsPlaced (Some k) n = (1 ≤ k) × (k ≤ n)
 abbrev pub Answers : Option Caller → Answer → Option Caller → Type 0
 Answers None answer new = new ≡ None
 Answers (Some c) answer new =
-    (d : Caller) × (result : Result Unit StartFault) × (new ≡ Some d) × IsSameRun c d × AnsweredAt c.client.at.stage c.client.at answer result d.client.at
+    (d : Caller) × (result : Result Unit StartFault) × (new ≡ Some d) × IsSameRun c d
+    × AnsweredAt c.client.at.stage c.client.at answer result d.client.at
 
 -- what a call made fail: the volume, and why
 abbrev pub failure_of : Standing → Progress → Option (ℕ × AttemptFault)

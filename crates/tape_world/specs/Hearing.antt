@@ -1,4 +1,4 @@
--- What bytes on the way back make of the client, and of its connection.
+-- What bytes on the way back make of the client, and of its connection. No public contract needs it.
 use Rattle.std.specs.Prelude.{◌≡◌, ℕ, Bool, true, false, IsTrue, List, ◌++◌, length, drop, option_to_list, Option, Some, None}
 use Rattle.dump_client.specs.Standing.{FedAt}
 use Rattle.dump_client.specs.Client.{HasFedAt, unanswered}

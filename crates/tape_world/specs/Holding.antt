@@ -1,4 +1,4 @@
--- What a world in memory holds at any time, and what an event makes of it.
+-- What a world in memory holds at any time, and what an event makes of it. No public contract needs it.
 use Rattle.std.specs.Prelude.{◌≡◌, ℕ, false, List, Option, Some, Result, Ok, Err}
 use Rattle.dump_run.specs.Blocks.{listed}
 use Rattle.tape_events.specs.World.{World, numbered}

@@ -1,3 +1,4 @@
+-- In reading order: Making, Running, Telling, Entries, Volumes; Seen, Parts, Holding, Linking, Calling, Talking, Hearing, Serving.
 pub mod Parts
 pub mod Seen
 pub mod Linking

@@ -1,4 +1,4 @@
--- What becomes of a connection.
+-- What becomes of a connection. No public contract needs it.
 use Rattle.std.specs.Prelude.{ℕ, true, List, drop}
 use Rattle.tape_events.specs.World.{Link}
 use Rattle.tape_events.specs.Changes.{sent_on}

@@ -1,4 +1,4 @@
--- What a new world is made of.
+-- What a new world is made of. Public contracts cite it.
 use Rattle.std.specs.Prelude.{ℕ, Bool, false, not, ◌||◌, List, [], ◌∷◌, ◌++◌, map, Some}
 use Rattle.std.specs.List.{list_any}
 use Rattle.std.specs.Str.{bytes_eq}

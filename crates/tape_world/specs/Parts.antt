@@ -1,4 +1,4 @@
--- Parts of a world that need no part in memory.
+-- Parts of a world that need no part in memory. No public contract needs it.
 use Rattle.std.specs.Prelude.{ℕ, false, List}
 use Rattle.tape_events.specs.World.{Dumping}
 

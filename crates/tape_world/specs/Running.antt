@@ -1,4 +1,4 @@
--- Events as values, and what a list of them makes of a world.
+-- Events as values, and what a list of them makes of a world. Public contracts cite it.
 use Rattle.std.specs.Prelude.{◌≡◌, ℕ, ◌<◌, List, [], ◌∷◌, length, map, take, slice_get, Some}
 use Rattle.tape_events.specs.World.{World}
 use Rattle.tape_events.specs.Events.{PlainEvent}

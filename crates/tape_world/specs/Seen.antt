@@ -1,4 +1,4 @@
--- What the parts of a world in memory are seen as.
+-- What the parts of a world in memory are seen as. No public contract needs it.
 use Rattle.std.specs.Prelude.{ℕ, List, [], map, get_or, option_map, Option}
 use Rattle.dumpdates.specs.Entry.{DatesEntry}
 use Rattle.rmt_server.specs.Hall.{Hall}

@@ -1,4 +1,4 @@
--- What a turn of the server makes of a connection, and which reel it opened for writing.
+-- What a turn of the server makes of a connection, and which reel it opened for writing. No public contract needs it.
 use Rattle.std.specs.Prelude.{◌≡◌, ◌⊎◌, ℕ, zero, suc, ◌<◌, true, List, [], length, All, Contains, option_map, Option, Some, None}
 use Rattle.rmt_wire.specs.Counted.{raised}
 use Rattle.rmt_wire.specs.Request.{PlainRequest}

@@ -1,4 +1,4 @@
--- What the client's next request makes of it, and of its connection.
+-- What the client's next request makes of it, and of its connection. No public contract needs it.
 use Rattle.std.specs.Prelude.{◌≡◌, ◌≤◌, ℕ, Bool, true, false, List, [], length, Option, Some, None}
 use Rattle.rmt_wire.specs.Limits.{reader_limit}
 use Rattle.rmt_wire.specs.Request.{request_text}
@@ -22,13 +22,17 @@ IsToSend o = (c : Caller) × (step : Step) × (o ≡ Some c) × (c.client.at.sta
 -- the attempt failed, where that is true; or this is the text of the request
 abbrev pub AskedOf : Bool → Caller → Step → List ℕ → Option (ℕ × AttemptFault) → Caller → Type 0
 AskedOf true c step text failure d =
-    (failure ≡ Some ((checkpoint_of c.client.at.counts).0, SourceFault)) × (d.client.at ≡ standing c.client.at.run c.client.at.counts Asking)
+    (failure ≡ Some ((checkpoint_of c.client.at.counts).0, SourceFault))
+    × (d.client.at ≡ standing c.client.at.run c.client.at.counts Asking)
 AskedOf false c step text failure d =
-    (failure ≡ None) × (d.client.at ≡ standing c.client.at.run c.client.at.counts (Waiting step)) × HasFedAt (Waiting step) d.client.reader []
-    × (text ≡ request_text (request_of c.client.at.run c.client.source.blocks (checkpoint_of c.client.at.counts).0 (checkpoint_of c.client.at.counts).1 step))
+    (failure ≡ None) × (d.client.at ≡ standing c.client.at.run c.client.at.counts (Waiting step))
+    × HasFedAt (Waiting step) d.client.reader []
+    × (text ≡ request_text (request_of c.client.at.run c.client.source.blocks
+    (checkpoint_of c.client.at.counts).0 (checkpoint_of c.client.at.counts).1 step))
 
 -- the client was asked for its next request
-pub record Asks (o : Option Caller) (fails : Bool) (text : List ℕ) (failure : Option (ℕ × AttemptFault)) (new : Option Caller) : Type 0 where
+pub record Asks (o : Option Caller) (fails : Bool) (text : List ℕ) (failure : Option (ℕ × AttemptFault))
+    (new : Option Caller) : Type 0 where
   pub before : Caller
   pub after : Caller
   pub step : Step

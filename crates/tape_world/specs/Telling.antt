@@ -1,4 +1,4 @@
--- What a world tells.
+-- What a world tells. Public contracts cite it.
 use Rattle.std.specs.Prelude.{◌≡◌, ◌↔◌, ℕ, ◌≤◌, false, List, Option, Some, None}
 use Rattle.rmt_wire.specs.ReplyReader.{ReplyHeld}
 use Rattle.drives.specs.Shop.{KeptReel, Slot, Shop, IsDriveNamed, rack_at}

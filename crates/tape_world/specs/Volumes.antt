@@ -1,4 +1,4 @@
--- What `entry` tells of reels that were counted.
+-- What `entry` tells of reels that were counted. Public contracts cite it.
 use Rattle.std.specs.Prelude.{◌≡◌, Contains, Some}
 use Rattle.tape_events.specs.World.{World, Begun, Count, numbered}
 use Rattle.tape_events.specs.Naming.{IsLastOpening}

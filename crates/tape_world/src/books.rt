@@ -1,3 +1,5 @@
+//! What is kept of all that passed in a world.
+
 use dump_client::AttemptFault;
 
 /// A volume that was counted: of the run of this number, by this connection. The reel is told by its place among all names.

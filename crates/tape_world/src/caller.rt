@@ -1,3 +1,5 @@
+//! The client of a world, and the runs that were begun.
+
 use dump_client::{Client, ListBlocks, Run};
 
 /// A run that was begun, and its payload.

@@ -1,3 +1,5 @@
+//! What is noted of an attempt of the client on its connection.
+
 ghost use Rattle.std.specs.Prelude.{◌≡◌};
 ghost use Rattle.tape_events.specs.Changes.{noted_sent, accepted, noted_error};
 ghost use Rattle.tape_world.specs.Parts.{new_dumping};

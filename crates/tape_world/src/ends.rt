@@ -1,3 +1,5 @@
+//! Both ends of all connections: what events change.
+
 mod client;
 mod connection;
 mod event;

@@ -1,3 +1,5 @@
+//! An event: one thing that can happen in a world.
+
 use dump_client::{Answer, Run};
 use tape::Trouble;
 

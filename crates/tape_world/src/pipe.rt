@@ -1,3 +1,5 @@
+//! The bytes on the way to one side of a connection.
+
 ghost use Rattle.std.specs.Prelude.{◌≡◌, ◌≤◌, ◌++◌, [], length, drop, OnErr, OnOk};
 ghost use Rattle.tape_host.specs.Turns.{ServesAt};
 

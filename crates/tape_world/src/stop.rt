@@ -1,3 +1,5 @@
+//! Why one event is not made.
+
 use std::alloc::AllocError;
 
 /// Why an event was not made. The world is as it was.

@@ -1,3 +1,5 @@
+//! A world: a server with its drives, all connections, and a client.
+
 mod reels;
 mod telling;
 

@@ -1,3 +1,5 @@
+//! A reply at the end of a vector, as it is sent.
+
 ghost use Rattle.std.specs.Prelude.{◌≡◌, ◌+◌, ◌<◌, ◌++◌, length, OnOk, OnErr};
 ghost use Rattle.std.specs.Vec.{vec_capacity, vec_len};
 ghost use Rattle.rmt_wire.specs.Lent.{plain_reply};

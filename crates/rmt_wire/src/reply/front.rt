@@ -1,3 +1,5 @@
+//! The reply that bytes begin with.
+
 ghost use Rattle.std.specs.Prelude.{◌≡◌, ◌+◌, ◌<◌, ◌≤◌, ◌^◌, ◌++◌, length, take, drop, IfOk, IfSome};
 ghost use Rattle.rmt_wire.specs.Lent.{plain_wanted, lent_reply};
 ghost use Rattle.rmt_wire.specs.Seen.{number_front};

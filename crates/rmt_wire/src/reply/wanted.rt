@@ -1,3 +1,5 @@
+//! What a client waits for.
+
 /// What a client waits for after a request (rmt(8)). An error, `Reply::Error`, may come in place of each.
 #[derive(Clone, Copy, Debug, PartialEq, Eq)]
 pub enum Wanted {

@@ -1,3 +1,5 @@
+//! A writer of replies.
+
 ghost use Rattle.std.specs.Prelude.{◌≡◌, ◌≤◌, OnOk, OnErr};
 ghost use Rattle.std.specs.Io.KnownBytes.{Appends};
 ghost use Rattle.rmt_wire.specs.Counted.{HasRisen};

@@ -1,3 +1,5 @@
+//! The request that bytes begin with.
+
 ghost use Rattle.std.specs.Prelude.{◌≡◌, ◌≤◌, length, IfOk, IfSome};
 ghost use Rattle.rmt_wire.specs.RequestFront as spec;
 ghost use Rattle.rmt_wire.specs.Lent.{lent_front};

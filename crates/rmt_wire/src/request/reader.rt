@@ -1,3 +1,5 @@
+//! A reader of requests.
+
 ghost use Rattle.std.specs.Prelude.{◌≡◌, ℕ, ◌+◌, ◌-◌, ◌≤◌, ◌<◌, ◌↔◌, List, [], ◌++◌, length, take, drop, min, IfOk, IfSome, IsTrue};
 ghost use Rattle.rmt_wire.specs.RequestReader as spec;
 ghost use Rattle.rmt_wire.specs.RequestReader.{Unread, IsDropped, taken_of, told, IsNext, StaysFaulty};

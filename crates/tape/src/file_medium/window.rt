@@ -1,3 +1,5 @@
+//! What was read of a file where a length was asked for.
+
 ghost use Rattle.std.specs.Prelude.{◌≡◌, IfSome, length};
 
 /// How many bytes a length in a record file has.

@@ -1,3 +1,5 @@
+//! The image of an entry on a medium: how it is found there, and how it is put there.
+
 ghost use Rattle.std.specs.Prelude.{◌≡◌, ◌+◌, ◌*◌, ◌<◌, ◌≤◌, ◌^◌, IfOk, OnSome, IfSome, IsErr, length, drop, replicate, OnOk};
 ghost use Rattle.tape.specs.Tape.{Tape, IsRecord};
 ghost use Rattle.tape.specs.Tape.PlainEntry.{Record, Mark};

@@ -1,3 +1,5 @@
+//! The device of a reel in memory, which can fail in a write.
+
 ghost use Rattle.std.specs.Prelude.{◌≡◌, ◌≢◌, ◌+◌, ◌*◌, ◌≤◌, ◌<◌, ◌^◌, MatchResult, [], ◌∷◌, length, replicate};
 ghost use Rattle.tape.specs.Failures.{Steps};
 ghost use Rattle.tape.specs.Tape.{IsRecord};
