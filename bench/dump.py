@@ -22,6 +22,8 @@ from contextlib import contextmanager
 from pathlib import Path
 from typing import Callable, Iterator
 
+from told import ratio, ratio_of_times
+
 CRATES = Path(__file__).resolve().parent.parent / "crates"
 
 ROUNDS = 5
@@ -158,6 +160,7 @@ def operations(rmtd: str) -> None:
     with connected(echo()) as stream:
         plain, _ = min(asked(stream, NO_OPERATION, NO_OPERATION) for _ in range(ROUNDS))
     os.wait()
+    ratio_of_times("nop over TCP / an echo of lines", served / OPERATIONS, plain / OPERATIONS)
     print(f"nop on one connection: {OPERATIONS / served:,.0f} a second, {served / plain:.2f} times the time of a plain echo;", end=" ")
     print(f"the longest took {longest * 1000:.1f} ms")
 
@@ -176,9 +179,12 @@ def main() -> int:
         for block in BLOCKS:
             rounds = [dumped(programs.rmtd, programs.rdump, path, block) for _ in range(ROUNDS)]
             seconds = min(it[0] for it in rounds)
+            told = f"{PAYLOAD / seconds / 1e6:,.0f} MB/s; client {rounds[0][1]:.0f} MiB, server {rounds[0][2]:.0f} MiB"
+            ratio(f"256 MiB dumped in blocks of {block:,} / cat", seconds / floor, None, told)
             print(f"256 MiB in blocks of {block:,} bytes: dumped in {seconds / floor:.1f} times the time of cat;", end=" ")
             print(f"client {rounds[0][1]:.0f} MiB, server {rounds[0][2]:.0f} MiB at most")
             seconds = read_back(programs.rmtd, programs.rdump, path, block)
+            ratio(f"256 MiB read back in blocks of {block:,} / cat", seconds / floor, None, f"{PAYLOAD / seconds / 1e6:,.0f} MB/s")
             print(f"256 MiB in blocks of {block:,} bytes: read back in {seconds / floor:.1f} times the time of cat")
     operations(programs.rmtd)
     return 0

@@ -13,7 +13,8 @@ import subprocess
 import sys
 from pathlib import Path
 
-from stdio import Words, least_times
+from stdio import LINEAR, Words, least_times
+from told import ratio, seconds
 
 BUILT = Path(__file__).resolve().parent.parent / "crates/feed/out/feed"
 
@@ -45,6 +46,8 @@ def ratios(program: str, kind: str, title: str) -> str:
     single = once - none
     one_piece = MORE * single / (whole - none)
     nanoseconds = single / (FEW * 65_536) * 1e9
+    ratio(f"fed {title} / half of them", (twice - none) / single, LINEAR, f"{seconds(twice - none)} / {seconds(single)}")
+    ratio(f"fed {title} / in one piece", one_piece, None, f"{nanoseconds:.0f} ns a byte")
     return f"{title:<36}{(twice - none) / single:>16.2f}{single / (pairs - none):>20.2f}{one_piece:>16.0f}{nanoseconds:>12.0f}"
 
 

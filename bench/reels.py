@@ -25,7 +25,8 @@ from collections import Counter
 from pathlib import Path
 from typing import Callable, Iterable, NamedTuple, Sequence
 
-from stdio import BUILT, Words, gnu_rmt, kilobytes, seconds_of, from_file
+from stdio import BUILT, LINEAR, SAME, Words, gnu_rmt, kilobytes, seconds_of, from_file
+from told import ratio, ratio_of_times, seconds
 
 FLOOR = Path(__file__).resolve().parent / "floor.c"
 
@@ -215,6 +216,9 @@ def bytes_through(drive: Drive, others: Others, size: int, total: int) -> bool:
 def table_line(title: str, runs: dict[str, Run], wanted: float) -> None:
     """Prints what the server takes beside the others."""
     times = dict(zip(runs, least(list(runs.values()))))
+    names = {"cat": "cat", "rmt": "GNU rmt", "floor": "the floor"}
+    for other in names.keys() & times.keys():
+        ratio_of_times(f"folder, {title} / {names[other]}", times["ours"], times[other], wanted if other == "cat" else None)
     beside = {name: f"{times['ours'] / time:.2f}" for name, time in times.items()}
     print(f"{title:<38}{beside['cat']:>10}{wanted:>12.1f}{beside.get('rmt', '-'):>14}{beside.get('floor', '-'):>12}", flush=True)
 
@@ -259,7 +263,9 @@ def spacings(drive: Drive) -> bool:
                 return False
         whole, half, none = least([Run(nothing, drive.words, it) for it in streams])
         passed = LONG_WAYS * RECORDS * (2 if back else 1)
-        print(f"{title:<38}{(whole - none) / (half - none):>10.2f}{(whole - none) / passed * 1e9:>12.0f} ns a record", flush=True)
+        beside_half, times = (whole - none) / (half - none), f"{seconds(whole - none)} / {seconds(half - none)}"
+        ratio(f"folder, spacing {title} / over half", beside_half, LINEAR, times)
+        print(f"{title:<38}{beside_half:>10.2f}{(whole - none) / passed * 1e9:>12.0f} ns a record", flush=True)
     print("About 2 says that the time grows with the records that are passed, and no faster.")
     return True
 
@@ -285,6 +291,7 @@ def at_the_end(drive: Drive) -> bool:
             if not answered(drive.words, drive.stream("few", 2, [there, *requests * 9]), b"A%d\n%s" % (place, replies * 9), 1):
                 return False
             times.append(least([Run(nothing, drive.words, many)])[0] - arrived)
+        ratio(f"folder, {title}: at the end / at the beginning", times[0] / times[1], SAME, f"{seconds(times[0] / SHORT_WAYS)} for both")
         print(f"{title:<38}{times[0] / times[1]:>10.2f}{times[0] / SHORT_WAYS * 1e9:>12.0f} ns for both", flush=True)
     drive.wipe()
     return True

@@ -15,6 +15,8 @@ import time
 from pathlib import Path
 from typing import Callable
 
+from told import ratio
+
 SHORT, LONG = 100_000, 1_000_000
 HEAD = "drive /dev/st0 9000000000 r1\n"
 
@@ -45,6 +47,7 @@ def main() -> None:
     kinds: list[tuple[str, Callable[[int], str]]] = [("comments", comments), ("a stranger's requests", words)]
     for title, made in kinds:
         short, long = (seconds(program, made(lines)) / lines for lines in (SHORT, LONG))
+        ratio(f"rsim, a line of 10 times the lines: {title}", long / short, 1.5, f"{long * 1e6:.2f} us a line")
         print(f"rsim, {title}: {long * 1e6:.2f} microseconds a line of {LONG}; {long / short:.2f} times that of {SHORT}")
 
 

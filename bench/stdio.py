@@ -25,12 +25,19 @@ from dataclasses import dataclass
 from pathlib import Path
 from typing import Callable, Iterator, NamedTuple, Sequence
 
+from told import ratio, ratio_of_times, seconds
+
 BUILT = Path(__file__).resolve().parent.parent / "crates/rmtd/out/rmtd"
 
 REPEATS = 5
 # The streams that space are short, so more of their times are cheap, and the least of them is steadier.
 SPACING_REPEATS = 20
 PIECE = 1 << 20
+
+# What is wanted at most of twice the work beside the work, where the time grows with it and no faster, and of an operation beside the
+# same operation elsewhere, where both take the same time.
+LINEAR = 2.4
+SAME = 1.3
 
 DRIVE = b"/dev/st0"
 NULL_DEVICE = b"/dev/null"
@@ -155,8 +162,11 @@ def ratios(server: Words, rmt: Words | None, workload: Workload, streams: Stream
     if rmt:
         runs.append((rmt, streams.to_null))
     whole, half, cat, *others = least_times(workload.feed, runs)
-    beside_rmt = f"{whole / others[0]:.2f}" if others else "-"
-    return f"{workload.title:<38}{whole / cat:>10.2f}{beside_rmt:>14}{whole / half:>16.2f}"
+    name = f"stdio, {workload.title}"
+    beside_cat = ratio_of_times(f"{name} / cat", whole, cat)
+    beside_rmt = f"{ratio_of_times(f'{name} / GNU rmt', whole, others[0]):.2f}" if others else "-"
+    beside_half = ratio_of_times(f"{name} / half of it", whole, half, LINEAR)
+    return f"{workload.title:<38}{beside_cat:>10.2f}{beside_rmt:>14}{beside_half:>16.2f}"
 
 
 @dataclass(frozen=True)
@@ -219,6 +229,9 @@ def spacing_ratios(server: Words, spacing: Spacing, folder: Path) -> str | None:
     runs = [(server, it.source) for it in streams]
     everything, half, nothing, of_many, of_few = least_times(from_file, runs, SPACING_REPEATS)
     passing = (everything - nothing) / (half - nothing)
+    name = f"spacing, {spacing.title}"
+    ratio(f"{name} / over half", passing, LINEAR, f"{seconds(everything - nothing)} / {seconds(half - nothing)}")
+    ratio_of_times(f"{name}: one of many / one of few", of_many, of_few, SAME)
     return f"{spacing.title:<38}{passing:>12.2f}{of_many / of_few:>22.2f}"
 
 

@@ -1,4 +1,5 @@
-"""Conversations with `rmtd --stdio`, written by hand: what is sent, and what is to be answered.
+"""Conversations with `rmtd --stdio`, written by hand: what is sent, and what is to be answered. Those of docs/PROTOCOL.md are read
+from there.
 
 The server has one drive, `/dev/st0`, with one empty reel of 1,048,576 bytes in memory. Each line of text ends with LF.
 """
@@ -7,6 +8,8 @@ from __future__ import annotations
 
 from dataclasses import dataclass
 from typing import NamedTuple
+
+from examples import examples
 
 END_OF_INPUT = 0
 FAILED = 1
@@ -53,19 +56,11 @@ class Conversation:
 OPENED = Exchange(OPEN, b"A0\n")
 CLOSED = Exchange(b"C\n", b"A0\n")
 
-# A record and a mark are written, and read back after a rewind. The read of the mark gives no bytes.
-WRITTEN_AND_READ_BACK = Conversation(
-    "a record and a mark, read back",
-    (
-        OPENED,
-        Exchange(b"W5\nhello", b"A5\n"),
-        Exchange(b"I0\n1\n", b"A1\n"),
-        Exchange(b"I5\n1\n", b"A1\n"),
-        Exchange(b"R10\n", b"A5\nhello"),
-        Exchange(b"R10\n", b"A0\n"),
-        CLOSED,
-    ),
-)
+# Those of docs/PROTOCOL.md, each row an exchange.
+EXAMPLES = tuple(Conversation(it.name, tuple(Exchange(*turn[:2]) for turn in it.turns)) for it in examples())
+
+# The first of them: a record and a mark are written, and read back after a rewind. The read of the mark gives no bytes.
+WRITTEN_AND_READ_BACK = EXAMPLES[0]
 
 # Spacing over marks (1 forward, 2 back) and records (3 forward, 4 back), and all that ends it before its count.
 SPACING = (
@@ -209,19 +204,6 @@ SPACING = (
             Exchange(b"R1\n", b"A0\n"),
         ),
     ),
-    # Operation 6 takes the reel away. The drive stays open, and all that asks for the reel is refused; once it is closed
-    # no reel is left to open it with.
-    Conversation(
-        "the reel is taken away",
-        (
-            OPENED,
-            Exchange(b"I6\n1\n", b"A1\n"),
-            Exchange(b"W1\nx", NOT_CONFIGURED),
-            Exchange(b"I7\n1\n", NOT_CONFIGURED),
-            CLOSED,
-            Exchange(b"O/dev/st0\n2\n", NOT_CONFIGURED),
-        ),
-    ),
     # With no reel in the drive that comes before every other check of a request: the access, the count, the operation's
     # number, and a write that is too long.
     Conversation(
@@ -332,7 +314,7 @@ FULL_REELS = (
 )
 
 CONVERSATIONS = (
-    WRITTEN_AND_READ_BACK,
+    *EXAMPLES,
     *SPACING,
     *FULL_REELS,
     # No request, so no answer; the input ends between requests.

@@ -1,6 +1,7 @@
 #!/usr/bin/env python3
-"""Checks docs/PROMISES.md against the crates: each edit that it names is there, each edit that is there is named, and each call and
-clause that it names is one of a crate.
+"""Checks docs/PROMISES.md against the crates. Each heading names calls or laws of the crate of its section, each line the clauses
+of their contracts, and each `refused` an edit that is there. Each public call with a contract, each of its clauses, and each
+edit is named. No line has more than 120 characters.
 
     promises.py
 """
@@ -9,74 +10,184 @@ from __future__ import annotations
 
 import re
 import sys
+from functools import lru_cache
 from pathlib import Path
-from typing import Iterator
+from typing import Iterator, NamedTuple
 
 TOP = Path(__file__).resolve().parent.parent
 PROMISES = TOP / "docs" / "PROMISES.md"
-# A row of a table of promises: what is promised, the contract, the edits.
-HEADING = ["Promise", "Contract", "Edits"]
+LONGEST = 120
 QUOTED = re.compile(r"`([^`]+)`")
-# `Type::{one, two}` stands for `Type::one` and `Type::two`.
-BRACES = re.compile(r"^(.*)\{([^}]*)\}$")
+SECTION = re.compile(r"## `(\w+)`")
+# The clauses that a line is about: `- ` and names up to the first colon.
+CLAUSES = re.compile(r"- ((?:`\w+`, )*`\w+`):")
+REFUSED = "  - refused: "
+
+
+class Call(NamedTuple):
+    """A call of a crate, or the trait's part of a type: what its heading is, and the names of its clauses."""
+
+    heading: str
+    method: str
+    clauses: frozenset[str]
+    public: bool
+    has_contract: bool
+
+
+@lru_cache
+def libraries() -> list[str]:
+    names = [line.split(":")[0].split()[0] for line in (TOP / "crates.txt").read_text().splitlines() if line.strip()]
+    return [it for it in names if not it.endswith("_tests") and (TOP / "crates" / it / "src" / "lib.rt").exists()]
 
 
 def edits() -> set[str]:
-    return {it.stem for it in TOP.glob("crates/*/must-fail/*.edit")}
+    return {f"{it.parent.parent.name}/{it.stem}" for it in TOP.glob("crates/*/must-fail/*.edit")}
 
 
-def sources() -> str:
-    return "\n".join(it.read_text() for it in sorted(TOP.glob("crates/*/src/**/*.rt")))
+def exported(crate: str) -> set[str]:
+    text = (TOP / "crates" / crate / "src" / "lib.rt").read_text()
+    return {name for used in re.findall(r"pub use ([^;]+);", text) for name in re.findall(r"\w+", used)}
 
 
-def known_names(text: str) -> set[str]:
-    """The names of functions, types, constants and clauses."""
-    found = set(re.findall(r"\b(?:fn|struct|enum|trait|const|type|mod)\s+(\w+)", text))
-    found |= set(re.findall(r"\b(?:ensures|requires|ghost)\*?\s+(\w+)\b", text))
-    found |= {it.name for it in TOP.glob("crates/*")}
-    return found | {word for it in TOP.glob("crates/*/specs/**/*.antt") for word in re.findall(r"^\s*(?:(?:abbrev|pub|record|data)\s+)*(\w+)\s", it.read_text(), re.M)}
+def without_generics(text: str) -> str:
+    """What follows the parameters `<..>` at the front of a text."""
+    depth = 0
+    for i, it in enumerate(text):
+        depth += (it == "<") - (it == ">" and text[i - 1] not in "-=")
+        if depth == 0:
+            return text[i + 1 :].strip() if text.startswith("<") else text.strip()
+    return text
 
 
-def rows(text: str) -> Iterator[tuple[int, list[str]]]:
-    """The rows of the tables of promises, with their lines' numbers."""
-    inside = False
-    for number, line in enumerate(text.split("\n"), 1):
-        cells = [it.strip().strip("|").strip() for it in line.strip("|").split(" | ")]
-        inside = cells == HEADING or inside and line.startswith("|")
-        if inside and cells != HEADING and not set(line) <= set("|- "):
-            yield number, cells
+def owner_of(line: str) -> tuple[str, bool] | None:
+    """The type or trait whose calls follow a line, and whether they are as public as that; None where the line begins none."""
+    if found := re.match(r"(?:pub )?trait (\w+)", line):
+        return found[1], True
+    if re.match(r"impl\b", line):
+        rest = without_generics(line[4:].strip())
+        held = re.match(r"(\w+).*? for &?(?:'\w+ )?(\w+)", rest)
+        return (f"{held[2]} as {held[1]}", True) if held else (re.match(r"\w+", rest)[0], False)
+    return ("", False) if re.match(r"(?:pub(?:\([^)]*\))? )?(?:const |unsafe )*fn ", line) else None
 
 
-def parts_of(name: str) -> Iterator[str]:
-    """The names in a name: `A::{b, c}` has A, b and c."""
-    held = BRACES.match(name)
-    if held:
-        for part in held.group(2).split(","):
-            yield from parts_of(held.group(1) + part.strip())
-        return
-    yield from (it for it in name.split("::") if it)
+def contract(lines: list[str]) -> list[str]:
+    """The clauses' names of the contract at the head of a call, "" for one without a name."""
+    names = []
+    for line in lines:
+        if re.match(r"\s*(///|\{$|\}|#\[)|.*\bfn \w|\s*$", line):
+            break
+        if found := re.match(r"\s*ensures\*?\s+(\w+)?\s*\{", line):
+            names.append(found[1] or "")
+    return names
+
+
+@lru_cache
+def calls_of(crate: str) -> list[Call]:
+    return list(read_calls(crate))
+
+
+def read_calls(crate: str) -> Iterator[Call]:
+    shown = exported(crate)
+    for file in sorted((TOP / "crates" / crate / "src").glob("**/*.rt")):
+        owner, of_trait = "", False
+        lines = file.read_text().split("\n")
+        for i, line in enumerate(lines):
+            owner, of_trait = owner_of(line) or (owner, of_trait)
+            if found := re.match(r"    ghost (\w+):?", line):
+                yield Call(owner, found[1], frozenset([found[1]]), False, False)
+            if not (found := re.match(r"(?: {4})?(pub(?:\([^)]*\))? )?(?:const |unsafe )*fn (\w+)", line)):
+                continue
+            names = contract(lines[i + 1 :])
+            head = owner if " as " in owner else f"{owner}::{found[2]}" if owner else found[2]
+            public = (of_trait or found[1] == "pub ") and (owner.split(" ")[0] or found[2]) in shown
+            yield Call(head, found[2], frozenset(names) - {""}, public, bool(names))
+
+
+@lru_cache
+def facts(crate: str) -> set[str]:
+    """The names of the specs, whose fields a line may name."""
+    texts = [it.read_text() for it in (TOP / "crates" / crate / "specs").glob("**/*.antt")]
+    return {word for text in texts for word in re.findall(r"[A-Za-z_]\w*", text)}
+
+
+class Section:
+    """The part of the document about one crate, as it is read."""
+
+    def __init__(self, crate: str) -> None:
+        self.crate = crate
+        self.calls = list(calls_of(crate)) if crate in libraries() else []
+        self.heading = ""
+        self.named: dict[str, set[str]] = {}
+
+    def traits(self, name: str) -> set[str]:
+        """The clauses that a trait's methods have, where a heading is that of the trait or of a type with it."""
+        trait = name.split(" as ")[-1]
+        every = [it for crate in libraries() for it in calls_of(crate)] if name not in {it.heading for it in self.calls if it.has_contract} or " as " in name else []
+        return {one for it in every if it.heading.split("::")[0].split(" as ")[-1] == trait for one in it.clauses | {it.method}}
+
+    def open(self, line: str) -> str | None:
+        """Reads a heading; answers what is wrong with it."""
+        self.heading = " as ".join(QUOTED.findall(line))
+        self.named.setdefault(self.heading, set())
+        known = {it.heading for it in self.calls} | {it.heading.split("::")[0] for it in self.calls}
+        return None if self.heading in known | self.definitions() else f"{self.crate} has no {self.heading}"
+
+    def definitions(self) -> set[str]:
+        """The records of the crate's specs: a heading may be one, with its fields below."""
+        return {it for it in facts(self.crate) if re.match(r"Is[A-Z]", it)}
+
+    def clauses(self) -> set[str]:
+        if self.heading in self.definitions():
+            return facts(self.crate)
+        own = {one for it in self.calls if it.heading == self.heading for one in it.clauses}
+        if " as " in self.heading or self.heading in {it.heading.split("::")[0] for it in self.calls if "::" in it.heading}:
+            own |= {it.method for it in self.calls if it.heading == self.heading} | self.traits(self.heading) | facts(self.crate) | facts("tape")
+        return own
+
+    def line(self, line: str) -> list[str]:
+        """Reads a line of clauses; answers the names that are none of the call's contract."""
+        found = CLAUSES.match(line)
+        names = QUOTED.findall(found[1]) if found else []
+        self.named.setdefault(self.heading, set()).update(names)
+        allowed = self.clauses() if names else set()
+        return [f"{self.heading} of {self.crate} has no clause {it}" for it in names if it not in allowed]
+
+    def missing(self) -> list[str]:
+        wrong = []
+        for it in self.calls:
+            if not it.public or not it.has_contract:
+                continue
+            if it.heading not in self.named:
+                wrong.append(f"docs/PROMISES.md does not name {it.heading} of {self.crate}")
+                continue
+            unsaid = it.clauses - self.named[it.heading]
+            wrong += [f"docs/PROMISES.md does not name {one} of {it.heading} of {self.crate}" for one in sorted(unsaid)]
+        return wrong
 
 
 def main() -> int:
-    text = PROMISES.read_text()
-    there, names = edits(), known_names(sources())
-    wrong: list[str] = []
-    told: set[str] = set()
-    for number, cells in rows(text):
-        if len(cells) != len(HEADING):
-            wrong.append(f"line {number}: a row of {len(cells)} cells")
-            continue
-        _, contract, refused = cells
-        for name in QUOTED.findall(refused):
-            told.add(name)
-            if name not in there:
-                wrong.append(f"line {number}: there is no edit {name}")
-        for name in QUOTED.findall(contract):
-            missing = [it for it in parts_of(name) if re.fullmatch(r"\w+", it) and it not in names]
-            wrong += [f"line {number}: no crate has {it}, of {name}" for it in missing]
-    everywhere = set(QUOTED.findall(text))
-    wrong += [f"docs/PROMISES.md does not name the edit {it}" for it in sorted(there - everywhere)]
-    print("\n".join(wrong) if wrong else f"promises: {len(told)} edits and their contracts are as the crates have them")
+    there, told, wrong = edits(), set[str](), []
+    sections: dict[str, Section] = {}
+    section: Section | None = None
+    for number, line in enumerate(PROMISES.read_text().split("\n"), 1):
+        faults: list[str] = [f"{len(line)} characters"] if len(line) > LONGEST else []
+        if line.startswith("## "):
+            found = SECTION.match(line)
+            section = sections.setdefault(found[1], Section(found[1])) if found else None
+        elif section and line.startswith("### "):
+            faults += filter(None, [section.open(line)])
+        elif section and section.heading and line.startswith("- "):
+            faults += section.line(line)
+        elif line.startswith(REFUSED):
+            names = QUOTED.findall(line)
+            told |= set(names)
+            faults += [f"there is no edit {it}" for it in names if it not in there]
+        wrong += [f"line {number}: {it}" for it in faults]
+    for crate in libraries():
+        wrong += sections[crate].missing() if crate in sections else Section(crate).missing()
+    wrong += [f"docs/PROMISES.md does not name the edit {it}" for it in sorted(there - told)]
+    count = sum(len(it.named) for it in sections.values())
+    print("\n".join(wrong) if wrong else f"promises: {count} calls and laws and {len(told)} edits are as the crates have them")
     return 1 if wrong else 0
 
 

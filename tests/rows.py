@@ -1,5 +1,6 @@
 #!/usr/bin/env python3
-"""Checks the built server from outside: hand-written conversations, in several forms, to the byte and the exit status.
+"""Checks the built server from outside: the conversations of docs/PROTOCOL.md and others written by hand, in several forms, to the byte
+and the exit status.
 
     rows.py [PROGRAM]
 
@@ -24,6 +25,7 @@ from conversations import (
     first_byte_after_an_open,
     first_byte_alone,
 )
+from examples import streams
 from forms import Ended, in_lock_step, in_one_piece, one_byte_a_piece, started
 
 BUILT = Path(__file__).resolve().parent.parent / "crates/rmtd/out/rmtd"
@@ -101,6 +103,14 @@ def checks_of_conversations(words: Sequence[str]) -> Iterator[Check]:
         yield Check(it.name, "one byte a piece", wanted_of(it), one_byte_a_piece(words, it))
 
 
+def checks_of_examples(words: Sequence[str]) -> Iterator[Check]:
+    """Each whole stream of docs/PROTOCOL.md."""
+    for it in streams():
+        whole, wanted = Conversation("", (), it.sent), Ended(it.answers, it.status)
+        yield Check(f"the stream {it.sent!r}", "in one piece", wanted, in_one_piece(words, whole))
+        yield Check(f"the stream {it.sent!r}", "one byte a piece", wanted, one_byte_a_piece(words, whole))
+
+
 def checks_of_words(program: str) -> Iterator[Check]:
     """Words other than the lawful ones: nothing is answered, though the input has requests."""
     for words in BAD_WORDS:
@@ -130,6 +140,7 @@ def all_checks(program: str) -> Iterator[Check]:
     """Every check, each made as it is asked for."""
     words = (program, "--stdio")
     yield from checks_of_conversations(words)
+    yield from checks_of_examples(words)
     yield from checks_of_words(program)
     yield from checks_of_streams(words)
 
