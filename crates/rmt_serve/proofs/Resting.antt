@@ -32,9 +32,6 @@ use Rattle.tape.specs.contracts.troubled.TroubledReelReel.TheImpl.{ghosts as of_
 use Rattle.rmt_server.specs.Stream.CarryRun.{none, one_more}
 use Rattle.rmt_serve.specs.Serving.{AllFree, IsAtRest, ServedInTurn}
 use Rattle.rmt_serve.specs.Serving.ServedInTurn.{none as none_served, one_more as one_more_served}
-use Rattle.rmt_serve.specs.Generic.{IsServedAt, ServedFrom}
-use Rattle.rmt_serve.specs.Generic.IsServedAt.{none_served, one_served}
-use Rattle.rmt_serve.specs.Generic.ServedFrom.{nothing_yet, one_stream}
 use Rattle.rmt_serve.proofs.Endings.{none_fails}
 
 -- a word that is 0 or this number is so after a close
@@ -188,17 +185,3 @@ seated_rest new stacks rest e = rw e (record { free = rest.free; enough = rest.e
 pub in_turn : {first between last : Shop} → ServedInTurn first between → ServedInTurn between last → ServedInTurn first last
 in_turn some none_served = some
 in_turn some (one_more_served done finish more run) = one_more_served done finish (in_turn some more) run
-
--- one stream that is served is served first
-pub first_served : {S R In Out : Type 0} (s : StacksPromise S R) (r : ReelPromise R) (remaining : In → Option (List ℕ)) (contents : Out → Option (List ℕ))
-    {before after : S} {input input' : Counting In} {output output' : Counting Out} {ending : Option Served}
-    → IsServedAt (kinds of_holds s r) remaining contents before after input input' output output' ending → ServedFrom (kinds of_holds s r) before after
-first_served s r remaining contents {before} (none_served same i o) = subst (ServedFrom (kinds of_holds s r) before) (sym same) nothing_yet
-first_served s r remaining contents {before} (one_served start finish result at shut left over is steady) =
-    subst (ServedFrom (kinds of_holds s r) before) left (one_stream is.done start is.last finish nothing_yet at shut is.run is.ended)
-
--- streams served after others that were
-pub served_on : {S R : Type 0} {s : StacksPromise S R} {r : ReelPromise R} {first between last : S}
-    → ServedFrom (kinds of_holds s r) first between → ServedFrom (kinds of_holds s r) between last → ServedFrom (kinds of_holds s r) first last
-served_on some nothing_yet = some
-served_on some (one_stream done start last finish more at shut run ended) = one_stream done start last finish (served_on some more) at shut run ended

@@ -1,4 +1,2 @@
--- In reading order: Drive (one word), Rmtd, Rdump (the words of a program each).
-pub mod Drive
-pub mod Rmtd
+-- What the words of `rdump` may ask.
 pub mod Rdump

@@ -3,7 +3,7 @@ use Rattle.std.specs.Prelude.{ℕ, ◌≤◌, List, Option, None, Some, IfSome, 
 use Rattle.std.specs.Borrow.{Bor}
 use Rattle.dumpdates.specs.Entry.{IsName}
 use Rattle.dump_run.specs.Run.{IsDevice}
-use Rattle.rmt_words.specs.Rmtd.{number_limit}
+use Rattle.rmtd_words.specs.Rmtd.{number_limit}
 use Rattle.rmt_words.specs.declared.rdump_line.RdumpLine.{RdumpLine}
 use Rattle.rmt_words.specs.declared.rdump_line.RdumpLine.TheVariants.{Dump, Read, Mt, Dates}
 use Rattle.rmt_words.specs.declared.run_line.DumpLine.{DumpLine}

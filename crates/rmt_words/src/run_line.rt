@@ -1,11 +1,11 @@
 //! The words of `rdump dump`.
 ghost use Rattle.std.specs.Prelude.{◌≤◌, IfOk, IfSome};
 ghost use Rattle.rmt_words.specs.Rdump.{IsDumpLine};
-ghost use Rattle.rmt_words.specs.Rmtd.{number_limit};
+ghost use Rattle.rmtd_words.specs.Rmtd.{number_limit};
 
-use crate::number::number_of;
 use crate::rdump_line::{WordFault, required, value_in};
 use clap::{Arg, ArgAction, ArgMatches, Command};
+use rmtd_words::number_of;
 use std::alloc::{AllocError, Global};
 
 /// What the words ask of `rdump dump`. The device, the name and the numbers may be none that a run can have: numbers are 0

@@ -1,12 +1,12 @@
 //! The words of `rdump read` and `rdump mt`.
-ghost use Rattle.std.specs.Prelude.{◌≡◌, ◌≤◌, ◌↔◌, IfOk, IfSome, IsTrue};
+ghost use Rattle.std.specs.Prelude.{◌≤◌, IfOk, IfSome};
 ghost use Rattle.dump_run.specs.Run.{IsDevice};
 ghost use Rattle.rmt_words.specs.Rdump.{IsMtLine, IsReadLine, count_limit};
 
-use crate::number::number_of;
 use crate::rdump_line::{WordFault, required, value_in};
 use clap::{Arg, ArgAction, ArgMatches, Command};
-use rmt_wire::{LINE_LIMIT, NUMBER_LIMIT};
+use rmt_wire::NUMBER_LIMIT;
+use rmtd_words::{is_device, number_of};
 use std::alloc::{AllocError, Global};
 
 /// What the words ask of `rdump read`.
@@ -86,13 +86,6 @@ fn device_in<'a>(matches: &ArgMatches<'a>) -> Result<&'a str, WordFault>
     } else {
         Err(WordFault::Value(BAD_DEVICE))
     }
-}
-
-/// Whether the bytes are a device: 1 to 255 of them, and none a line feed.
-pub(crate) fn is_device(device: &[u8]) -> bool
-    ensures { IsTrue result ↔ IsDevice device.now }
-{
-    !device.is_empty() && device.len() <= LINE_LIMIT && device.iter().all(|b| *b != b'\n')
 }
 
 /// The number of an operation (mtio), by its word in mt(1).

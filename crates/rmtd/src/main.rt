@@ -1,16 +1,20 @@
 //! The tape server.
 #![tactic(auto)]
 
+mod site;
+
 ghost use Rattle.std.specs.Prelude.{◌≤◌, Some, length, map, option_map};
-ghost use Rattle.rmt_words.specs.Drive.{KeepsDriveRules, plain_drive};
+ghost use Rattle.rmtd_words.specs.Drive.{KeepsDriveRules, plain_drive};
 
 use clap::Error;
 use clap::error::ErrorKind;
-use rmt_programs::{
-    MemoryServer, ServerLine, TapeServer, exit_status, folder_stacks, run_stdio, serve_connections,
-    serve_in_turn, server_line,
+use rmt_many::{Connections, serve_many};
+use rmt_serve::{
+    MemoryServer, TapeServer, exit_status, folder_stacks, run_stdio, serve_connections,
 };
 use rmt_wire::Counted;
+use rmtd_words::{ServerLine, server_line};
+use site::Site;
 use std::net::TcpListener;
 use std::process::ExitCode;
 use std::{env, io};
@@ -18,16 +22,43 @@ use std::{env, io};
 /// What the program ends with where its words are wrong, or it can't start.
 const FAILED: u8 = 1;
 
+/// What is left to do once the words were read.
+enum Next {
+    /// To end with this status.
+    End(u8),
+    /// To serve the connections of a listener at once.
+    Serve(Site),
+}
+
 /// Does what the words ask, and ends with its status.
+///
+/// It starts the threads of the connections itself: the runtime has threads in `main` alone.
 fn main(rt: HostRuntime) -> io::Result<ExitCode> {
     let words = words(&rt)?;
     let lent = words.iter().map(|word| word.as_str());
     let lent: Vec<&str> = lent.collect(rt.alloc())?;
-    let status = match server_line(rt.alloc(), lent.as_slice()) {
+    let next = match server_line(rt.alloc(), lent.as_slice()) {
         Ok(line) => run(&rt, &line)?,
-        Err(error) => refuse(&rt, error)?,
+        Err(error) => Next::End(refuse(&rt, error)?),
     };
-    Ok(ExitCode::from(status))
+    match next {
+        Next::End(status) => Ok(ExitCode::from(status)),
+        Next::Serve(site) => {
+            let Site {
+                listener,
+                left,
+                table,
+                seats,
+                stacks,
+            } = site;
+            let connections = Connections {
+                listener: &listener,
+                left,
+            };
+            serve_many(&rt, rt.alloc(), connections, &table, seats, stacks);
+            Ok(ExitCode::from(0))
+        }
+    }
 }
 
 /// The words that the program was called with, its own name first.
@@ -35,8 +66,8 @@ fn words(rt: &HostRuntime) -> io::Result<Vec<String>> {
     Ok(env::args(rt)?.collect(rt.alloc())?)
 }
 
-/// Serves as the line says, and answers the status.
-fn run(rt: &HostRuntime, line: &ServerLine<'_>) -> io::Result<u8>
+/// Serves as the line says, but for connections at drives in folders: it tells what is left to do.
+fn run(rt: &HostRuntime, line: &ServerLine<'_>) -> io::Result<Next>
     requires { KeepsDriveRules (option_map (λ s. s.now) line.now.bin) (map plain_drive line.now.drives.items) }
 {
     if let Some(bin) = line.bin
@@ -45,17 +76,17 @@ fn run(rt: &HostRuntime, line: &ServerLine<'_>) -> io::Result<u8>
         return serve_folders(rt, line, bin);
     }
     let Some(address) = line.listen else {
-        return Ok(serve_stdio(rt, line.capacity));
+        return Ok(Next::End(serve_stdio(rt, line.capacity)));
     };
     match listen(rt, address, line) {
-        Ok(status) => Ok(status),
+        Ok(status) => Ok(Next::End(status)),
         Err(error) => say(rt, address, error),
     }
 }
 
-/// Serves drives whose reels are files in folders, and answers the status. A folder that cannot be used is told before
-/// anything is read.
-fn serve_folders(rt: &HostRuntime, line: &ServerLine<'_>, bin: &str) -> io::Result<u8>
+/// Serves standard input at drives whose reels are files in folders, or makes ready for connections. A folder that cannot be
+/// used is told before anything is read.
+fn serve_folders(rt: &HostRuntime, line: &ServerLine<'_>, bin: &str) -> io::Result<Next>
     requires some { 1 ≤ length line.now.drives.items }
     requires rules { KeepsDriveRules (Some bin.now) (map plain_drive line.now.drives.items) }
 {
@@ -64,27 +95,24 @@ fn serve_folders(rt: &HostRuntime, line: &ServerLine<'_>, bin: &str) -> io::Resu
     if let Some(fault) = stacks.find_fault() {
         return say(rt, fault.folder, fault.reason);
     }
-    let Some(mut server) = TapeServer::new(rt.alloc(), drives.len(), stacks) else {
-        return Err(io::ErrorKind::OutOfMemory.into());
-    };
     let Some(address) = line.listen else {
+        let Some(mut server) = TapeServer::new(rt.alloc(), drives.len(), stacks) else {
+            return Err(io::ErrorKind::OutOfMemory.into());
+        };
         let mut input = Counted::new(rt.stdin());
         let mut output = Counted::new(rt.stdout());
-        return Ok(exit_status(server.serve(&mut input, &mut output)));
+        return Ok(Next::End(exit_status(server.serve(&mut input, &mut output))));
     };
     match bind(rt, address) {
-        Ok(listener) => {
-            serve_in_turn(&mut server, &listener, line.connections);
-            Ok(0)
-        }
+        Ok(listener) => Ok(Next::Serve(Site::new(rt, listener, line, bin)?)),
         Err(error) => say(rt, address, error),
     }
 }
 
-/// Tells on standard error what is at fault and why, and answers the status.
-fn say(rt: &HostRuntime, what: &str, why: io::Error) -> io::Result<u8> {
+/// Tells on standard error what is at fault and why; what is left is to end.
+fn say(rt: &HostRuntime, what: &str, why: io::Error) -> io::Result<Next> {
     eprintln!(rt; "rmtd: {what}: {why}")?;
-    Ok(FAILED)
+    Ok(Next::End(FAILED))
 }
 
 /// Serves standard input, and answers the status.

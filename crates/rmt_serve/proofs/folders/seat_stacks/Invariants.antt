@@ -1,0 +1,12 @@
+use Rattle.std.proofs.Common.{◌≡◌, ℕ, ◌-◌, ◌≤◌, All, length}
+use Rattle.rmt_serve.specs.Folders.{stacks_of}
+use Rattle.rmt_serve.proofs.folders.seat_stacks.Given as goal
+
+-- the stacks made so far
+abbrev pub invariant-loop-all : goal.invariant-loop-all
+invariant-loop-all g l = (length l.all.items ≤ 32)
+    × All (λ s. length s.rows ≡ length l.words) l.all.items
+    × All (λ s. s ≡ stacks_of l.words l.bin l.capacity) l.all.items
+
+abbrev pub decreases-loop-all : goal.decreases-loop-all
+decreases-loop-all g l = 32 - length l.all.items

@@ -1,0 +1,60 @@
+//! Drives whose reels are files in folders, as the words of `rmtd` name them.
+ghost use Rattle.std.specs.Prelude.{◌≡◌, ◌≤◌, All, IfOk, length};
+ghost use Rattle.rmt_serve.specs.Folders.{stacks_of};
+
+use drives::{FolderDrive, FolderStacks};
+use rmtd_words::DriveWord;
+use std::alloc::AllocError;
+use std::fs::File;
+use std::rt::Files;
+
+/// How many seats a table has.
+const SEATS: usize = 32;
+
+/// The stacks of these drives and the bin, in their folders. Each reel takes so many bytes. It reads no folder, and fails only
+/// where memory is refused.
+///
+/// There are from 1 to 64 of them.
+pub fn folder_stacks<R: Files<File = File> + AllocGlobal + Clone + Drop>(
+    rt: R,
+    words: &[DriveWord<'_>],
+    bin: &str,
+    capacity: u64,
+) -> Result<FolderStacks<R>, AllocError>
+    requires some { 1 ≤ length words.now }
+    requires few { length words.now ≤ 64 }
+    ensures named { IfOk result (λ s. s ≡ stacks_of words.now bin.now capacity) }
+    ensures count { IfOk result (λ s. length s.rows ≡ length words.now) }
+{
+    let mut drives = Vec::new(rt.alloc());
+    for word in words {
+        drives.push(FolderDrive {
+            name: word.device,
+            folder: word.folder,
+        })?;
+    }
+    FolderStacks::open(rt, &drives, bin, capacity)
+}
+
+/// Stacks of these drives for each of the 32 seats of a table: each looks at the same folders, by itself. It reads no folder,
+/// and fails only where memory is refused.
+///
+/// There are from 1 to 64 drives.
+pub fn seat_stacks<R: Files<File = File> + AllocGlobal + Clone + Drop>(
+    rt: R,
+    words: &[DriveWord<'_>],
+    bin: &str,
+    capacity: u64,
+) -> Result<Vec<FolderStacks<R>>, AllocError>
+    requires some { 1 ≤ length words.now }
+    requires few { length words.now ≤ 64 }
+    ensures count { IfOk result (λ all. length all.items ≡ 32) }
+    ensures drives { IfOk result (λ all. All (λ s. length s.rows ≡ length words.now) all.items) }
+    ensures named { IfOk result (λ all. All (λ s. s ≡ stacks_of words.now bin.now capacity) all.items) }
+{
+    let mut all = Vec::with_capacity(rt.alloc(), SEATS)?;
+    while all.len() < SEATS {
+        all.push(folder_stacks(rt.clone()?, words, bin, capacity)?)?;
+    }
+    Ok(all)
+}

@@ -1,0 +1,39 @@
+-- The words DEVICE=DIR of `rmtd`: drives whose stacks are folders. Public contracts cite it.
+use Rattle.std.specs.Prelude.{◌≤◌, ◌<◌, ◌==◌, ◌≢◌, ℕ, Option, IsSome, List, length}
+use Rattle.std.specs.Int.{IsInRange}
+use Rattle.std.specs.List.{All, AllPairs, before_first, after_first}
+use Rattle.clap.specs.Words.{Text}
+use Rattle.rmt_wire.specs.Number.{HasNoLineFeed}
+use Rattle.rmtd_words.specs.declared.drive_word.DriveWord.{DriveWord}
+
+-- what clients name a drive by, and the folder of its stack
+pub record PlainDrive : Type 0 where
+  pub device : Text
+  pub folder : Text
+
+abbrev pub plain_drive : DriveWord → PlainDrive
+plain_drive d = record { device = d.device.now; folder = d.folder.now }
+
+abbrev pub equals_sign : ℕ
+equals_sign = 61
+
+-- what stands before the first `=` of a word, and what stands after it: nothing where there is no `=`
+abbrev pub split_of : Text → PlainDrive
+split_of word = record {
+  device = before_first (λ b. b == equals_sign) word;
+  folder = after_first (λ b. b == equals_sign) word;
+}
+
+-- the device is 1 to 255 bytes of one line, and the folder is not empty
+abbrev pub IsDrive : PlainDrive → Type 0
+IsDrive d = IsInRange 1 255 (length d.device) × HasNoLineFeed d.device × (0 < length d.folder)
+
+abbrev pub drive_limit : ℕ
+drive_limit = 64
+
+-- the drives and the folder of the bin, if one is given, keep the rules
+pub record KeepsDriveRules (bin : Option Text) (drives : List PlainDrive) : Type 0 where
+  pub each : All IsDrive drives
+  pub differ : AllPairs (λ d e. d.device ≢ e.device) drives
+  pub few : length drives ≤ drive_limit
+  pub has_bin : 0 < length drives → IsSome bin

@@ -1,0 +1,118 @@
+-- The words of `rmtd`, as clap reads them. Public contracts cite it.
+use Rattle.std.specs.Prelude.{◌≡◌, ◌≤◌, ◌⊎◌, ℕ, ◌&&◌, ◌||◌, Bool, true, false, not, is_some, List, [], Option, Some, None, MatchOption, codes, map, option_map, unwrap_or}
+use Rattle.std.specs.Option.{option_map_or}
+use Rattle.std.specs.Str.{bytes_eq}
+use Rattle.std.specs.Str.Parse.{IsNumeral, digits_value}
+use Rattle.clap.specs.Words.{App, Row, Rule, Text, Kinds, all_of, fault_of, first_of, matches_of, new_app, new_rule, with_rule}
+use Rattle.clap.specs.declared.builder.action.ArgAction.TheVariants.{Set, SetTrue, Append}
+use Rattle.rmtd_words.specs.Drive.{PlainDrive, KeepsDriveRules, plain_drive, split_of}
+use Rattle.rmtd_words.specs.declared.rmtd_line.ServerLine.{ServerLine}
+
+-- `--NAME`, which takes no value
+abbrev pub flag_rule : Text → Rule
+flag_rule name = record (new_rule name) { long = Some name; action = Some SetTrue }
+
+-- `--NAME VALUE`
+abbrev pub option_rule : Text → Rule
+option_rule name = record (new_rule name) { long = Some name; value_names = 1; action = Some Set }
+
+-- each word that is no option
+abbrev pub words_rule : Text → Rule
+words_rule name = record (new_rule name) { value_names = 1; action = Some Append }
+
+-- a command that knows its version, as clap's own `--version` prints it
+abbrev pub with_version : App → App
+with_version app = record app { top = record app.top { has_version = true } }
+
+-- the command `rmtd`
+unfoldable pub app : App
+app = with_rule (with_rule (with_rule (with_rule (with_rule (with_rule (with_version (new_app (codes "rmtd")))
+    (flag_rule (codes "stdio"))) (option_rule (codes "listen")))
+    (option_rule (codes "capacity"))) (option_rule (codes "connections")))
+    (option_rule (codes "bin"))) (words_rule (codes "drive"))
+
+-- clap's matches of the words
+unfoldable pub matches_in : List Text → List Row
+matches_in words = matches_of app words
+
+-- the kinds of error with which clap refuses the words
+unfoldable pub faults_in : List Text → Kinds
+faults_in words = fault_of app words
+
+-- the values of clap's matches
+abbrev pub has_stdio : List Row → Bool
+has_stdio rows = option_map_or (λ t. bytes_eq t (codes "true")) (first_of (codes "stdio") rows) false
+
+abbrev pub address_in : List Row → Option Text
+address_in rows = first_of (codes "listen") rows
+
+abbrev pub bin_in : List Row → Option Text
+bin_in rows = first_of (codes "bin") rows
+
+-- the words that are no options
+abbrev pub words_in : List Row → List Text
+words_in rows = unwrap_or (all_of (codes "drive") rows) []
+
+-- each of them, split at its first `=`
+abbrev pub drives_in : List Row → List PlainDrive
+drives_in rows = map split_of (words_in rows)
+
+-- just one of --stdio and --listen
+abbrev pub is_one_way : Bool → Bool → Bool
+is_one_way stdio listens = (stdio && not listens) || (not stdio && listens)
+
+abbrev pub number_limit : ℕ
+number_limit = 9223372036854775807
+
+abbrev pub usual_capacity : ℕ
+usual_capacity = 1048576
+
+-- a number within its limit, in digits alone
+abbrev pub IsNumber : Text → Type 0
+IsNumber text = IsNumeral 10 text × (digits_value 10 text ≤ number_limit)
+
+-- the number that a text says, or none where it says none
+abbrev pub SaysNumber : Text → Option ℕ → Type 0
+SaysNumber text found = MatchOption found (¬ (IsNumber text)) (λ n. IsNumber text × (n ≡ digits_value 10 text))
+
+-- the capacity is that of its text, and the usual one where no text says it
+abbrev pub ReadsCapacity : Option Text → ℕ → Type 0
+ReadsCapacity None capacity = capacity ≡ usual_capacity
+ReadsCapacity (Some text) capacity = IsNumber text × (capacity ≡ digits_value 10 text)
+
+-- the number of connections is that of its text, and there is none without a text
+abbrev pub ReadsConnections : Option Text → Option ℕ → Type 0
+ReadsConnections None connections = connections ≡ None
+ReadsConnections (Some text) connections = IsNumber text × (connections ≡ Some (digits_value 10 text))
+
+-- a text that is given says a number
+abbrev pub IsNumberIfGiven : Option Text → Type 0
+IsNumberIfGiven None = Unit {0}
+IsNumberIfGiven (Some text) = IsNumber text
+
+-- what clap's matches say keeps the rules
+pub record KeepsRules (rows : List Row) : Type 0 where
+  pub one_way : is_one_way (has_stdio rows) (is_some (address_in rows)) ≡ true
+  pub capacity : IsNumberIfGiven (first_of (codes "capacity") rows)
+  pub connections : IsNumberIfGiven (first_of (codes "connections") rows)
+  pub drives : KeepsDriveRules (bin_in rows) (drives_in rows)
+
+-- the line says what these matches say, and keeps the rules
+pub record IsLineIn (rows : List Row) (line : ServerLine) : Type 0 where
+  pub stdio : line.stdio ≡ has_stdio rows
+  pub listen : option_map (λ s. s.now) line.listen ≡ address_in rows
+  pub capacity : ReadsCapacity (first_of (codes "capacity") rows) line.capacity
+  pub connections : ReadsConnections (first_of (codes "connections") rows) line.connections
+  pub bin : option_map (λ s. s.now) line.bin ≡ bin_in rows
+  pub drives : map plain_drive line.drives.items ≡ drives_in rows
+  pub one_way : is_one_way (has_stdio rows) (is_some (address_in rows)) ≡ true
+  pub drive_rules : KeepsDriveRules (bin_in rows) (drives_in rows)
+
+-- clap takes the words, and the line says what its matches of them say
+pub record IsLineOf (words : List Text) (line : ServerLine) : Type 0 where
+  pub says : IsLineIn (matches_in words) line
+  pub taken : faults_in words ≡ []
+
+-- clap refuses the words, or their matches break a rule
+abbrev pub IsRefused : List Text → Type 0
+IsRefused words = faults_in words ≡ [] → ¬ (KeepsRules (matches_in words))

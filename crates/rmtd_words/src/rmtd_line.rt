@@ -1,0 +1,261 @@
+//! The words of `rmtd`.
+
+ghost use Rattle.std.specs.Prelude.{◌≡◌, map, codes, false, [], IfOk, IfErr, IsErrOf, MatchOption, MatchResult, option_map};
+ghost use Rattle.clap.specs.Words.{app_of, first_of, found_of, kind_of, new_app, rows_of, rule_of};
+ghost use Rattle.rmtd_words.specs.Drive.{plain_drive, split_of};
+ghost use Rattle.rmtd_words.specs.Rmtd.{app, words_in, words_rule, faults_in, flag_rule, has_stdio, matches_in, option_rule, with_version, IsLineIn, IsLineOf, IsRefused, KeepsRules, ReadsCapacity, ReadsConnections, SaysNumber, IsNumberIfGiven};
+
+use crate::drive_word::{DriveWord, check_drives, drives_of};
+use crate::number::number_of;
+use crate::wrong::Wrong;
+use clap::error::ErrorKind;
+use clap::{Arg, ArgAction, ArgMatches, Command, Error};
+use std::alloc::{AllocError, Global};
+
+/// How many bytes the reel in memory holds where no word says it.
+const USUAL_CAPACITY: u64 = 1_048_576;
+
+/// What the words ask of `rmtd`: to serve its standard input, or to listen at an address.
+#[derive(Debug, Drop)]
+pub struct ServerLine<'a> {
+    /// Whether to serve standard input and standard output.
+    pub stdio: bool,
+    /// Where to listen: a host and a port.
+    pub listen: Option<&'a str>,
+    /// How many bytes the reel in memory holds.
+    pub capacity: u64,
+    /// After how many connections to end.
+    pub connections: Option<u64>,
+    /// The folder of the bin, which is given where there is a drive.
+    pub bin: Option<&'a str>,
+    /// The drives whose stacks are folders, in the order of their words: at most 64, with distinct devices. With none
+    /// there is one drive in memory.
+    pub drives: Vec<DriveWord<'a>>,
+}
+
+/// Why there is no line.
+#[derive(Clone, Copy, Debug, PartialEq, Eq)]
+pub enum LineFault {
+    /// The words are wrong, or ask for help or the version.
+    BadWords,
+    /// Memory was refused.
+    OutOfMemory,
+}
+
+/// Reads the words of `rmtd`, of which the first is the name of the program itself:
+/// `--stdio` or `--listen ADDRESS`, with `[--capacity BYTES] [--connections N] [--bin DIR] [DEVICE=DIR]...`.
+///
+/// Just one of `--stdio` and `--listen` is given. A number is 0 to 9223372036854775807, in digits. Without
+/// `--capacity` it is 1048576 bytes. A word `DEVICE=DIR` is a drive: the device ends before the first `=` and is 1 to
+/// 255 bytes of one line, and the rest is a folder, not empty. There are at most 64, no two of one device, and
+/// `--bin` is given where there is one.
+pub fn server_words<'a>(alloc: Global, words: &'a [&'a str]) -> Result<ServerLine<'a>, LineFault>
+    ensures line { IfOk result (IsLineOf (map (λ s. s.now) words.entry.now)) }
+    ensures refused { IsErrOf result LineFault.BadWords → IsRefused (map (λ s. s.now) words.entry.now) }
+{
+    match server_line(alloc, words) {
+        Ok(line) => Ok(line),
+        Err(error) => Err(fault_from(&error)),
+    }
+}
+
+/// The same, with clap's text for the user in place of the fault: what is wrong with the words, or the help or the
+/// version where they ask for it. Where memory was refused its kind is `OutOfMemory`.
+pub fn server_line<'a>(alloc: Global, words: &'a [&'a str]) -> Result<ServerLine<'a>, Error>
+    ensures line { IfOk result (IsLineOf (map (λ s. s.now) words.entry.now)) }
+    ensures refused { IfErr result (λ e. ¬ (kind_of e ≡ ErrorKind.OutOfMemory) → IsRefused (map (λ s. s.now) words.entry.now)) }
+{
+    let mut rmtd = command(alloc)?;
+    let matches = matched(&mut rmtd, words)?;
+    let given = drive_words(alloc, &matches)?;
+    let drives = drives_of(alloc, given.as_slice())?;
+    match line_in(&matches, given.as_slice(), drives) {
+        Ok(line) => Ok(line),
+        Err(wrong) => Err(refusal(alloc, &mut rmtd, wrong)?),
+    }
+}
+
+/// What clap makes of the words.
+fn matched<'a>(rmtd: &mut Command<'a>, words: &'a [&'a str]) -> Result<ArgMatches<'a>, Error>
+    requires { app_of rmtd.old ≡ app }
+    ensures rows { IfOk result (λ m. rows_of (found_of m) ≡ matches_in (map (λ s. s.now) words.entry.now)) }
+    ensures taken { IfOk result (λ _. faults_in (map (λ s. s.now) words.entry.now) ≡ []) }
+    ensures refused { IfErr result (λ e. ¬ (kind_of e ≡ ErrorKind.OutOfMemory) → ¬ (faults_in (map (λ s. s.now) words.entry.now) ≡ [])) }
+{
+    rmtd.try_get_matches_from_mut(words)
+}
+
+/// What a user is told of words that clap takes and that break a rule.
+fn refusal(alloc: Global, rmtd: &mut Command<'_>, wrong: Wrong<'_>) -> Result<Error, AllocError> {
+    let text = format!(in alloc; "{wrong}")?;
+    rmtd.error(wrong.kind(), text.as_str())
+}
+
+/// What an error is to a caller that wants no text.
+fn fault_from(error: &Error) -> LineFault
+    ensures { result ≡ LineFault.BadWords → ¬ (kind_of error.now ≡ ErrorKind.OutOfMemory) }
+{
+    match error.kind() {
+        ErrorKind::OutOfMemory => LineFault::OutOfMemory,
+        _ => LineFault::BadWords,
+    }
+}
+
+/// The line that clap's matches say, of which these words are no options and say these drives.
+fn line_in<'a>(
+    matches: &ArgMatches<'a>,
+    given: &[&'a str],
+    drives: Vec<DriveWord<'a>>,
+) -> Result<ServerLine<'a>, Wrong<'a>>
+    requires given { map (λ s. s.now) given.now ≡ words_in (rows_of (found_of matches.now)) }
+    requires drives { map plain_drive drives.items ≡ map split_of (map (λ s. s.now) given.now) }
+    ensures { MatchResult result (IsLineIn (rows_of (found_of matches.now))) (λ _. ¬ (KeepsRules (rows_of (found_of matches.now)))) }
+{
+    let stdio = stdio_of(matches);
+    let listen = text_of(matches, "listen");
+    if stdio == listen.is_some() {
+        return Err(Wrong::Ways);
+    }
+    let Some(capacity) = capacity_of(text_of(matches, "capacity")) else {
+        return Err(Wrong::Capacity);
+    };
+    let Ok(connections) = connections_of(text_of(matches, "connections")) else {
+        return Err(Wrong::Connections);
+    };
+    let bin = text_of(matches, "bin");
+    if let Err(wrong) = check_drives(given, bin) {
+        return Err(wrong);
+    }
+    Ok(ServerLine {
+        stdio,
+        listen,
+        capacity,
+        connections,
+        bin,
+        drives,
+    })
+}
+
+/// Whether `--stdio` is given.
+fn stdio_of(matches: &ArgMatches<'_>) -> bool
+    ensures { result ≡ has_stdio (rows_of (found_of matches.now)) }
+{
+    match matches.get_str("stdio") {
+        Some(text) => text == "true",
+        None => false,
+    }
+}
+
+/// The value of an option.
+fn text_of<'a>(matches: &ArgMatches<'a>, id: &str) -> Option<&'a str>
+    ensures { option_map (λ s. s.now) result ≡ first_of id.now (rows_of (found_of matches.now)) }
+{
+    matches.get_str(id)
+}
+
+/// The words that are no options, in order.
+fn drive_words<'a>(alloc: Global, matches: &ArgMatches<'a>) -> Result<Vec<&'a str>, AllocError>
+    ensures { IfOk result (λ v. map (λ s. s.now) v.items ≡ words_in (rows_of (found_of matches.now))) }
+{
+    match matches.get_strs("drive") {
+        Some(given) => Vec::from_slice(alloc, given),
+        None => Ok(Vec::new(alloc)),
+    }
+}
+
+/// The capacity that a text says, if one is given.
+fn capacity_of(text: Option<&str>) -> Option<u64>
+    ensures { MatchOption result (¬ (IsNumberIfGiven (option_map (λ s. s.now) text.entry)))
+        (ReadsCapacity (option_map (λ s. s.now) text.entry)) }
+{
+    match text {
+        Some(text) => number_of(text),
+        None => Some(USUAL_CAPACITY),
+    }
+}
+
+/// The number of connections that a text says, if one is given.
+fn connections_of(text: Option<&str>) -> Result<Option<u64>, Wrong<'static>>
+    ensures { MatchResult result (ReadsConnections (option_map (λ s. s.now) text.entry))
+        (λ _. ¬ (IsNumberIfGiven (option_map (λ s. s.now) text.entry))) }
+{
+    let Some(text) = text else {
+        return Ok(None);
+    };
+    match number_of(text) {
+        Some(number) => Ok(Some(number)),
+        None => Err(Wrong::Connections),
+    }
+}
+
+/// The command `rmtd` with all of its words.
+fn command<'a>(alloc: Global) -> Result<Command<'a>, AllocError>
+    ensures { IfOk result (λ c. app_of c ≡ app) }
+{
+    let rmtd = named(alloc)
+        .arg(flag(alloc, "stdio", "Serve standard input and standard output"))?
+        .arg(valued(alloc, "listen", "ADDRESS", "Listen at this host and port"))?
+        .arg(valued(
+            alloc,
+            "capacity",
+            "BYTES",
+            "What a reel holds [default: 1048576]",
+        ))?
+        .arg(valued(alloc, "connections", "N", "End after so many connections"))?
+        .arg(valued(
+            alloc,
+            "bin",
+            "DIR",
+            "The folder of the reels that are taken away",
+        ))?
+        .arg(repeated(
+            alloc,
+            "drive",
+            "DEVICE=DIR",
+            "A drive and the folder of its reels [default: /dev/st0 in memory]",
+        ))?;
+    Ok(rmtd)
+}
+
+/// The command `rmtd` without its words.
+fn named<'a>(alloc: Global) -> Command<'a>
+    ensures { app_of result ≡ with_version (new_app (codes "rmtd")) }
+{
+    Command::new(alloc, "rmtd")
+        .about("Tape server for the remote magtape protocol of rmt(8)")
+        .version("0.1.0")
+}
+
+/// `--NAME`.
+fn flag<'a>(alloc: Global, name: &'a str, help: &'a str) -> Arg<'a>
+    ensures rule { rule_of result ≡ flag_rule name.entry.now }
+    ensures local { result.global ≡ false }
+{
+    Arg::new(alloc, name)
+        .long(name)
+        .action(ArgAction::SetTrue)
+        .help(help)
+}
+
+/// `--NAME VALUE`.
+fn valued<'a>(alloc: Global, name: &'a str, value: &'a str, help: &'a str) -> Arg<'a>
+    ensures rule { rule_of result ≡ option_rule name.entry.now }
+    ensures local { result.global ≡ false }
+{
+    Arg::new(alloc, name)
+        .long(name)
+        .value_name(value)
+        .action(ArgAction::Set)
+        .help(help)
+}
+
+/// A word that is no option, as often as it is given.
+fn repeated<'a>(alloc: Global, id: &'a str, value: &'a str, help: &'a str) -> Arg<'a>
+    ensures rule { rule_of result ≡ words_rule id.entry.now }
+    ensures local { result.global ≡ false }
+{
+    Arg::new(alloc, id)
+        .value_name(value)
+        .action(ArgAction::Append)
+        .help(help)
+}
