@@ -1,7 +1,7 @@
 //! The words of `rmtd`.
 
 use clap::error::ErrorKind;
-use rmt_words::{LineFault, ServerLine, server_line, server_words};
+use rmtd_words::{LineFault, ServerLine, is_device, number_of, server_line, server_words};
 use std::test::Fail;
 
 /// Words of a program.
@@ -175,4 +175,17 @@ fn what_a_user_is_told(rt: HostRuntime) -> Result<(), Fail> {
         assert_eq!(rt; error.kind(), kind);
     }
     Ok(())
+}
+
+#[test]
+fn devices_and_numbers(rt: HostRuntime) {
+    let longest = [b'd'; 255];
+    let longer = [b'd'; 256];
+    assert!(rt; is_device(b"d") && is_device(&longest));
+    assert!(rt; !is_device(b"") && !is_device(&longer) && !is_device(b"a\nb"));
+    assert_eq!(rt; number_of("9223372036854775807"), Some(9_223_372_036_854_775_807));
+    assert_eq!(rt; number_of("007"), Some(7));
+    for text in ["9223372036854775808", "+1", "", "1k"] {
+        assert_eq!(rt; number_of(text), None);
+    }
 }

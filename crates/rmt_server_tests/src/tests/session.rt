@@ -1,5 +1,6 @@
 //! A session from its beginning to its end, and the steps between.
 
+ghost use Rattle.std.specs.Prelude.{IfOk};
 ghost use Rattle.tape.specs.contracts.troubled.TroubledReelReel.TheImpl.{ghosts as of_reel};
 ghost use Rattle.drives.specs.Opening.{kinds};
 ghost use Rattle.rmt_server.specs.State.{state, IsAt};
@@ -8,6 +9,7 @@ ghost use Rattle.drives.specs.contracts.list.ListStacksStacks.TheImpl.{ghosts as
 
 use super::fixture::{Client, Drives, begin, first_holder};
 use super::talk::check_talk;
+use rmt_server::Session;
 use std::alloc::Global;
 use std::process::Abort;
 use std::test::Fail;
@@ -91,4 +93,36 @@ const READ_BACK: [Step; 1] = [(
 #[test]
 fn a_session_from_beginning_to_end(rt: HostRuntime) -> Result<(), Fail> {
     check_steps(&rt, rt.alloc(), &READ_BACK)
+}
+
+/// Ends a session, and begins another at its seat.
+fn begin_again(alloc: Global, drives: &mut Drives, session: Client) -> Result<Client, Fail>
+    requires { IsAt (kinds of_holds of_stacks of_reel) (state drives.old session) }
+    ensures { IfOk result (λ s. IsAt (kinds of_holds of_stacks of_reel) (state drives.new s)) }
+{
+    let mut session = session;
+    session.end(drives);
+    match Session::new(alloc, session.into_seat()) {
+        Ok(session) => Ok(session),
+        Err(_) => Err(Fail::new("no session")),
+    }
+}
+
+#[test]
+fn a_seat_serves_again(rt: HostRuntime) -> Result<(), Fail> {
+    let alloc = rt.alloc();
+    let (mut drives, mut session) = begin(alloc, 100)?;
+    let written = b"O/dev/st0\n2\nW3\nabc";
+    check_talk(&rt, alloc, &mut session, &mut drives, written, b"A0\nA3\n")?;
+    let mut session = begin_again(alloc, &mut drives, session)?;
+    check_talk(
+        &rt,
+        alloc,
+        &mut session,
+        &mut drives,
+        b"R9\n",
+        b"E9\nBad file descriptor\n",
+    )?;
+    let read = b"O/dev/st0\n0\nR9\n";
+    check_talk(&rt, alloc, &mut session, &mut drives, read, b"A0\nA3\nabc")
 }

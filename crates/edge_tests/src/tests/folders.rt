@@ -1,0 +1,37 @@
+//! Stacks of drives in folders.
+
+use drives::Stacks;
+use rmt_serve::{folder_stacks, seat_stacks};
+use rmtd_words::DriveWord;
+use std::alloc::AllocError;
+
+/// Two drives, whose folders are not there.
+const WORDS: [DriveWord<'static>; 2] = [
+    DriveWord {
+        device: "/dev/st0",
+        folder: "none/st0",
+    },
+    DriveWord {
+        device: "tape",
+        folder: "none/tape",
+    },
+];
+
+#[test]
+fn stacks_have_the_drives_of_the_words(rt: HostRuntime) -> Result<(), AllocError> {
+    let stacks = folder_stacks(rt, &WORDS, "none/bin", 100)?;
+    assert_eq!(rt; stacks.drive(b"/dev/st0"), Some(0));
+    assert_eq!(rt; stacks.drive(b"tape"), Some(1));
+    assert_eq!(rt; stacks.drive(b"st1"), None);
+    Ok(())
+}
+
+#[test]
+fn there_are_stacks_for_each_seat(rt: HostRuntime) -> Result<(), AllocError> {
+    let all = seat_stacks(rt, &WORDS, "none/bin", 100)?;
+    assert_eq!(rt; all.len(), 32);
+    for stacks in &all {
+        assert_eq!(rt; stacks.drive(b"tape"), Some(1));
+    }
+    Ok(())
+}
