@@ -9,8 +9,7 @@ pub use rmt_programs::{
     read_or_empty, read_steady, read_volume, seconds_now, update,
 };
 pub use rmt_serve::{
-    MemoryServer, TapeServer, exit_status, folder_stacks, run_stdio, seat_stacks,
-    serve_connections,
+    MemoryServer, TapeServer, exit_status, folder_stacks, run_stdio, seat_stacks, serve_connections,
 };
 pub use rmtd_words::{DriveWord, LineFault, ServerLine, server_line, server_words};
 pub use schedules::schedule;

@@ -183,7 +183,10 @@ fn devices_and_numbers(rt: HostRuntime) {
     let longer = [b'd'; 256];
     assert!(rt; is_device(b"d") && is_device(&longest));
     assert!(rt; !is_device(b"") && !is_device(&longer) && !is_device(b"a\nb"));
-    assert_eq!(rt; number_of("9223372036854775807"), Some(9_223_372_036_854_775_807));
+    assert_eq!(rt;
+        number_of("9223372036854775807"),
+        Some(9_223_372_036_854_775_807)
+    );
     assert_eq!(rt; number_of("007"), Some(7));
     for text in ["9223372036854775808", "+1", "", "1k"] {
         assert_eq!(rt; number_of(text), None);

@@ -9,8 +9,9 @@ loop-all-preserved g c =
     let before = c.loop-all.all.items in
     let counted = All-push (λ s. length s.rows ≡ length c.args.words.now) before made c.loop-all.invariant.1 c.in_ok-folder_stacks.ensures.count in
     let named = All-push (λ s. s ≡ stacks_of c.args.words.now c.args.bin.now c.args.capacity) before made c.loop-all.invariant.2
-        c.in_ok-folder_stacks.ensures.named in
-    let few : length c.push.new.self.items ≤ 32 = search rules in
-    (few,
-        subst (All (λ s. length s.rows ≡ length c.args.words.now)) (sym c.in_ok-push.ensures.items) counted,
-        subst (All (λ s. s ≡ stacks_of c.args.words.now c.args.bin.now c.args.capacity)) (sym c.in_ok-push.ensures.items) named)
+    c.in_ok-folder_stacks.ensures.named in
+    let few : length c.push.new.self.items ≤ 32 = search rules in (
+      few,
+      subst (All (λ s. length s.rows ≡ length c.args.words.now)) (sym c.in_ok-push.ensures.items) counted,
+      subst (All (λ s. s ≡ stacks_of c.args.words.now c.args.bin.now c.args.capacity)) (sym c.in_ok-push.ensures.items) named,
+    )
