@@ -144,7 +144,10 @@ impl SlowWorld {
     /// How many of the bytes on the way can reach the server now, and how many the other side.
     pub(crate) fn on_way(&self, connection: usize) -> Option<(usize, usize)> {
         let link = self.link(connection)?;
-        let room = link.side.as_ref().map_or(0, |side| side.reader.room());
+        let room = match &link.side {
+            Some(side) => side.reader.room(),
+            None => 0,
+        };
         let back = if link.other { link.back.len() } else { 0 };
         Some((link.toward.len().min(room), back))
     }

@@ -2,7 +2,7 @@
 
 ghost use Rattle.std.specs.Prelude.{◌≡◌, ◌<◌, length};
 
-use super::reels::{are, lie, move_first, two_drives};
+use super::reels::{are, lie, lie_there, move_first, two_drives};
 use drives::{DriveFault, ListStacks, Stacks, lying_troubles};
 use std::test::Fail;
 use tape::Reel;
@@ -37,14 +37,6 @@ fn drives_are_numbered_in_order(rt: HostRuntime) -> Result<(), Fail> {
 }
 
 #[test]
-fn reels_are_added_at_the_end(rt: HostRuntime) -> Result<(), Fail> {
-    let stacks = two_drives(rt.alloc())?;
-    let all_lie = stacks.stack(0).iter().all(|reel| reel.reel().is_some());
-    assert!(rt; all_lie && lie(&stacks, b"ab", b"c", b""));
-    Ok(())
-}
-
-#[test]
 fn a_reel_goes_round(rt: HostRuntime) -> Result<(), Fail> {
     lying_troubles();
     let mut stacks = two_drives(rt.alloc())?;
@@ -61,22 +53,12 @@ fn a_reel_goes_round(rt: HostRuntime) -> Result<(), Fail> {
 }
 
 #[test]
-fn a_latched_reel_stays_first(rt: HostRuntime) -> Result<(), Fail> {
+fn one_reel_of_a_drive_is_latched_and_stays_first(rt: HostRuntime) -> Result<(), Fail> {
     let mut stacks = two_drives(rt.alloc())?;
     let reel = stacks.latch(0)?;
-    let stack = stacks.stack(0);
-    let first_is_away = stack.first().is_some_and(|first| first.reel().is_none());
-    let last_lies = stack.last().is_some_and(|last| last.reel().is_some());
-    assert!(rt; first_is_away && last_lies && lie(&stacks, b"ab", b"c", b""));
+    assert!(rt; lie_there(stacks.stack(0), true) && lie(&stacks, b"ab", b"c", b""));
     stacks.unlatch(0, reel);
-    let all_lie = stacks.stack(0).iter().all(|reel| reel.reel().is_some());
-    assert!(rt; all_lie && are(stacks.stack(0), b"ab"));
-    Ok(())
-}
-
-#[test]
-fn one_reel_of_a_drive_is_latched(rt: HostRuntime) -> Result<(), Fail> {
-    let mut stacks = two_drives(rt.alloc())?;
+    assert!(rt; lie_there(stacks.stack(0), false) && are(stacks.stack(0), b"ab"));
     let first = stacks.latch(0).is_ok();
     let again = matches!(stacks.latch(0), Err(DriveFault::NoReel));
     let other = stacks.latch(1).is_ok();
@@ -85,8 +67,9 @@ fn one_reel_of_a_drive_is_latched(rt: HostRuntime) -> Result<(), Fail> {
 }
 
 #[test]
-fn reels_are_moved_to_the_end_of_the_bin(rt: HostRuntime) -> Result<(), Fail> {
+fn reels_are_added_at_the_end_and_moved_to_the_end_of_the_bin(rt: HostRuntime) -> Result<(), Fail> {
     let mut stacks = two_drives(rt.alloc())?;
+    assert!(rt; lie_there(stacks.stack(0), false) && lie(&stacks, b"ab", b"c", b""));
     move_first(&mut stacks, 0)?;
     assert!(rt; lie(&stacks, b"b", b"c", b"a"));
     move_first(&mut stacks, 1)?;
@@ -105,17 +88,12 @@ fn refuses(stacks: &mut ListStacks, drive: usize, name: &[u8]) -> bool
 }
 
 #[test]
-fn a_reel_name_is_taken_on_each_stack(rt: HostRuntime) -> Result<(), Fail> {
+fn a_reel_name_is_taken_on_each_stack_and_in_the_bin(rt: HostRuntime) -> Result<(), Fail> {
     let mut stacks = two_drives(rt.alloc())?;
     let taken = refuses(&mut stacks, 0, b"a") && refuses(&mut stacks, 1, b"b");
     let reel = stacks.latch(0)?;
     assert!(rt; taken && refuses(&mut stacks, 1, b"a"));
     drop(reel);
-    Ok(())
-}
-
-#[test]
-fn a_reel_name_is_taken_in_the_bin(rt: HostRuntime) -> Result<(), Fail> {
     let mut stacks = two_drives(rt.alloc())?;
     move_first(&mut stacks, 0)?;
     assert!(rt; refuses(&mut stacks, 1, b"a") && are(stacks.stack(1), b"c"));
@@ -125,7 +103,7 @@ fn a_reel_name_is_taken_in_the_bin(rt: HostRuntime) -> Result<(), Fail> {
 }
 
 #[test]
-fn a_trouble_meets_one_latch(rt: HostRuntime) -> Result<(), Fail> {
+fn a_trouble_meets_one_latch_or_waits_for_a_reel(rt: HostRuntime) -> Result<(), Fail> {
     let mut stacks = two_drives(rt.alloc())?;
     stacks.trouble(true);
     let failed = matches!(stacks.latch(0), Err(DriveFault::Device)) && stacks.failures() == 1;
@@ -133,6 +111,13 @@ fn a_trouble_meets_one_latch(rt: HostRuntime) -> Result<(), Fail> {
     stacks.trouble(true);
     stacks.trouble(false);
     assert!(rt; failed && latched && stacks.latch(1).is_ok());
+    let mut stacks = two_drives(rt.alloc())?;
+    let reel = stacks.latch(1)?;
+    stacks.trouble(true);
+    let none = matches!(stacks.latch(1), Err(DriveFault::NoReel)) && stacks.failures() == 0;
+    let failed = matches!(stacks.latch(0), Err(DriveFault::Device)) && stacks.failures() == 1;
+    assert!(rt; none && failed);
+    drop(reel);
     Ok(())
 }
 
@@ -147,17 +132,5 @@ fn a_trouble_meets_one_move(rt: HostRuntime) -> Result<(), Fail> {
     assert!(rt; stacks.failures() == 1 && are(stacks.stack(0), b"ab"));
     let moved = stacks.offline(0, reel).is_ok();
     assert!(rt; moved && stacks.failures() == 1 && are(stacks.bin(), b"a"));
-    Ok(())
-}
-
-#[test]
-fn a_trouble_waits_for_a_reel(rt: HostRuntime) -> Result<(), Fail> {
-    let mut stacks = two_drives(rt.alloc())?;
-    let reel = stacks.latch(1)?;
-    stacks.trouble(true);
-    let none = matches!(stacks.latch(1), Err(DriveFault::NoReel)) && stacks.failures() == 0;
-    let failed = matches!(stacks.latch(0), Err(DriveFault::Device)) && stacks.failures() == 1;
-    assert!(rt; none && failed);
-    drop(reel);
     Ok(())
 }

@@ -2,7 +2,7 @@
 
 ghost use Rattle.std.specs.Prelude.{◌≡◌, ◌<◌, length};
 
-use super::reels::{are, two_drives};
+use super::reels::{are, lie_there, two_drives};
 use super::slow_shop::{Round, SlowDrive, SlowShop};
 use drives::{DriveFault, ListStacks, ListedReel, Stacks};
 use std::alloc::Global;
@@ -28,11 +28,6 @@ fn act(stacks: &mut ListStacks, drive: usize, round: Round) -> Result<bool, Fail
         Round::Latched => drop(reel),
     }
     Ok(true)
-}
-
-/// Whether the first of the reels alone is away, or none.
-fn lie_there(reels: &[ListedReel], latched: bool) -> bool {
-    reels.iter().enumerate().all(|(place, reel)| reel.reel().is_some() != (latched && place == 0))
 }
 
 /// Whether the drive has the reels that the plain one has.

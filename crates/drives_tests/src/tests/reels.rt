@@ -21,11 +21,22 @@ pub(super) fn two_drives(alloc: Global) -> Result<ListStacks, Fail>
 
 /// Whether these are reels of these names, in order.
 pub(super) fn are(reels: &[ListedReel], names: &[u8]) -> bool {
+    for (reel, name) in reels.iter().zip(names) {
+        if reel.name() != [*name].as_slice() {
+            return false;
+        }
+    }
     reels.len() == names.len()
-        && reels
-            .iter()
-            .zip(names)
-            .all(|(reel, name)| reel.name() == [*name].as_slice())
+}
+
+/// Whether the first of the reels alone is away, where it is latched, or else none.
+pub(super) fn lie_there(reels: &[ListedReel], latched: bool) -> bool {
+    for (place, reel) in reels.iter().enumerate() {
+        if reel.reel().is_some() == (latched && place == 0) {
+            return false;
+        }
+    }
+    true
 }
 
 /// Whether the drives and the bin have reels of these names, in order.

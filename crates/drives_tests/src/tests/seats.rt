@@ -9,15 +9,6 @@ use drives::{Holds, LocalHolds, LocalSeat, Taken};
 use std::alloc::Global;
 use std::test::Fail;
 
-/// What a take that found this number answers.
-fn taken(found: u64) -> Taken {
-    if found == 0 {
-        Taken::Held
-    } else {
-        Taken::Busy(found)
-    }
-}
-
 /// Has the seat of this number and the plain one take the drive, give it back where the seat holds it, or look. Answers
 /// whether both answer alike.
 fn act(
@@ -39,13 +30,16 @@ fn act(
 {
     match kind {
         0 => {
-            let found = slow.take(slow_seat, drive)?;
-            Ok(holds.take(seat, drive) == taken(found))
+            let wanted = match slow.take(slow_seat, drive)? {
+                0 => Taken::Held,
+                found => Taken::Busy(found),
+            };
+            Ok(holds.take(seat, drive) == wanted)
         }
         1 => {
             if holds.number_at(drive) == number {
                 holds.give(seat, drive);
-                slow.give(slow_seat, drive);
+                slow.give(slow_seat, drive)?;
             }
             Ok(true)
         }

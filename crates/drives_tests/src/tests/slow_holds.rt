@@ -3,11 +3,11 @@
 use std::alloc::Global;
 use std::test::Fail;
 
-/// A seat: its number, and the drives that it holds as it took them.
+/// A seat: its number, and the drives that it took (true) and gave back (false), in order.
 #[derive(Drop)]
 pub(crate) struct SlowSeat {
     pub(crate) number: u64,
-    held: Vec<usize>,
+    done: Vec<(usize, bool)>,
 }
 
 impl SlowSeat {
@@ -15,13 +15,19 @@ impl SlowSeat {
     pub(crate) fn new(alloc: Global, number: u64) -> SlowSeat {
         SlowSeat {
             number,
-            held: Vec::new(alloc),
+            done: Vec::new(alloc),
         }
     }
 
-    /// Whether the drive is among those that it holds.
+    /// Whether it took the drive, and has not given it back since.
     pub(crate) fn has(&self, drive: usize) -> bool {
-        self.held.contains(&drive)
+        let mut has = false;
+        for (other, takes) in &self.done {
+            if *other == drive {
+                has = *takes;
+            }
+        }
+        has
     }
 }
 
@@ -48,15 +54,16 @@ impl SlowHolds {
         let found = self.holder(drive);
         if found == 0 {
             self.write(drive, seat.number);
-            seat.held.push(drive)?;
+            seat.done.push((drive, true))?;
         }
         Ok(found)
     }
 
     /// Gives back a drive that the seat holds.
-    pub(crate) fn give(&mut self, seat: &mut SlowSeat, drive: usize) {
+    pub(crate) fn give(&mut self, seat: &mut SlowSeat, drive: usize) -> Result<(), Fail> {
         self.write(drive, 0);
-        seat.held.retain(|held| *held != drive);
+        seat.done.push((drive, false))?;
+        Ok(())
     }
 
     fn write(&mut self, drive: usize, number: u64) {

@@ -4,7 +4,7 @@ use std::alloc::Global;
 use std::test::Fail;
 
 /// What is done with the first reel of a drive, once it is latched.
-#[derive(Clone, Copy, Debug, PartialEq, Eq)]
+#[derive(Clone, Copy)]
 pub(crate) enum Round {
     /// It is laid back.
     LaidBack,
@@ -25,13 +25,14 @@ impl SlowDrive {
     /// Whether the reel lies on the stack: the first does not while it is latched.
     fn lies(&self, name: u8) -> bool {
         let away = if self.latched { 1 } else { 0 };
-        self.names.iter().skip(away).any(|lying| *lying == name)
+        self.names.get(away..).unwrap_or(&[]).contains(&name)
     }
 }
 
 /// Two drives, and the names in the bin.
 #[derive(Drop)]
 pub(crate) struct SlowShop {
+    alloc: Global,
     pub(crate) first: SlowDrive,
     pub(crate) second: SlowDrive,
     pub(crate) bin: Vec<u8>,
@@ -41,6 +42,7 @@ impl SlowShop {
     /// The drives with these reels on their stacks.
     pub(crate) fn new(alloc: Global, first: &[u8], second: &[u8]) -> Result<SlowShop, Fail> {
         Ok(SlowShop {
+            alloc,
             first: SlowDrive {
                 names: Vec::from_slice(alloc, first)?,
                 latched: false,
@@ -94,12 +96,13 @@ impl SlowShop {
     /// The stack of the first drive becomes these reels. Those of the bin among them leave it, and what was on the
     /// stack and is not among them comes to its end.
     pub(crate) fn arrange(&mut self, names: &[u8]) -> Result<(), Fail> {
-        self.bin.retain(|name| !names.contains(name));
-        for name in &self.first.names {
+        let mut bin = Vec::new(self.alloc);
+        for name in self.bin.iter().chain(self.first.names.iter()) {
             if !names.contains(name) {
-                self.bin.push(*name)?;
+                bin.push(*name)?;
             }
         }
+        self.bin = bin;
         self.first.names.clear();
         self.first.names.extend_from_slice(names)?;
         Ok(())

@@ -81,8 +81,19 @@ impl SlowWorld {
         Ok(true)
     }
 
+    /// The place of the reel that the connection opened for writing, or 0.
+    fn reel_of(&self, connection: usize) -> usize {
+        for (opener, reel) in &self.opens {
+            if *opener == connection {
+                return *reel;
+            }
+        }
+        0
+    }
+
     /// The client hears this on its connection.
     fn hear(&mut self, connection: usize, piece: &[u8]) -> Result<(), Fail> {
+        let reel = self.reel_of(connection);
         let Some(client) = &mut self.client else {
             return Ok(());
         };
@@ -94,11 +105,7 @@ impl SlowWorld {
                 volume: last.volume,
                 first: last.first,
                 count: last.count,
-                reel: self
-                    .opens
-                    .iter()
-                    .find(|open| open.0 == connection)
-                    .map_or(0, |open| open.1),
+                reel,
                 connection,
             };
             self.counts.push(count)?;

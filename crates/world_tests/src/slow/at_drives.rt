@@ -5,36 +5,27 @@ use std::alloc::Global;
 use std::test::Fail;
 
 impl SlowShop {
-    /// The connection that holds the drive, or 0.
-    fn holder(&self, drive: usize) -> usize {
-        match self.drives.get(drive) {
-            Some(drive) => drive.holder,
-            None => 0,
-        }
-    }
-
-    /// Whether the reel lies on the stack of the drive, or in the bin.
-    fn is_near(&self, drive: usize, reel: usize) -> bool {
-        match self.drives.get(drive) {
-            Some(drive) => drive.stack.contains(&reel) || self.bin.contains(&reel),
-            None => false,
-        }
-    }
-
-    /// The places of the reels of these names, if the names are distinct, and each is that of a reel on the stack of
-    /// the drive or in the bin.
+    /// The places of the reels of these names, if no connection holds the drive, the names are distinct, and each is
+    /// that of a reel on the stack of the drive or in the bin.
     fn places(
         &self,
         alloc: Global,
         drive: usize,
         names: &[&[u8]],
     ) -> Result<Option<Vec<usize>>, Fail> {
+        let Some(drive) = self.drives.get(drive) else {
+            return Ok(None);
+        };
+        if drive.holder != 0 {
+            return Ok(None);
+        }
         let mut places = Vec::new(alloc);
         for name in names {
             let Some(place) = self.find_reel(name) else {
                 return Ok(None);
             };
-            if !self.is_near(drive, place) || places.contains(&place) {
+            let is_near = drive.stack.contains(&place) || self.bin.contains(&place);
+            if !is_near || places.contains(&place) {
                 return Ok(None);
             }
             places.push(place)?;
@@ -44,16 +35,17 @@ impl SlowShop {
 
     /// These reels are the stack. Of the old stack the others go to the bin's end.
     fn lay(&mut self, alloc: Global, drive: usize, reels: Vec<usize>) -> Result<(), Fail> {
-        self.bin.retain(|reel| !reels.contains(reel));
         let Some(drive) = self.drives.get_mut(drive) else {
             return Err(Fail::new("no such drive"));
         };
-        for reel in &drive.stack {
+        let mut bin = Vec::new(alloc);
+        for reel in self.bin.iter().chain(drive.stack.iter()) {
             if !reels.contains(reel) {
-                self.bin.push(*reel)?;
+                bin.push(*reel)?;
             }
         }
-        drive.stack = Vec::from_slice(alloc, reels.as_slice())?;
+        self.bin = bin;
+        drive.stack = reels;
         Ok(())
     }
 }
@@ -64,9 +56,6 @@ impl SlowWorld {
         let Some(place) = self.shop.find_drive(drive) else {
             return Ok(false);
         };
-        if self.shop.holder(place) != 0 {
-            return Ok(false);
-        }
         let Some(reels) = self.shop.places(alloc, place, names)? else {
             return Ok(false);
         };

@@ -68,12 +68,27 @@ impl SlowShop {
 
     /// The place of the drive of that name.
     pub(crate) fn find_drive(&self, name: &[u8]) -> Option<usize> {
-        self.drives.iter().position(|drive| drive.name == name)
+        for (place, drive) in self.drives.iter().enumerate() {
+            if drive.name == name {
+                return Some(place);
+            }
+        }
+        None
     }
 
     /// The place of the reel of that name.
     pub(crate) fn find_reel(&self, name: &[u8]) -> Option<usize> {
-        self.reels.iter().position(|reel| reel.name == name)
+        for (place, reel) in self.reels.iter().enumerate() {
+            if reel.name == name {
+                return Some(place);
+            }
+        }
+        None
+    }
+
+    /// The name of the reel at this place.
+    pub(crate) fn reel_name(&self, place: usize) -> Option<&'static [u8]> {
+        Some(self.reels.get(place)?.name)
     }
 
     /// What was open is closed.
@@ -156,7 +171,7 @@ impl SlowShop {
         Ok((answer, Some(Opened { place, ..opened })))
     }
 
-    /// The reel is rewound, and goes from its stack to the bin's end.
+    /// The reel is rewound, and goes from its stack, on which it is first, to the bin's end.
     fn unload(
         &mut self,
         opened: Opened,
@@ -167,8 +182,10 @@ impl SlowShop {
         if trouble != Trouble::None {
             return Ok((Answer::Error(5), Some(rewound)));
         }
-        if let Some(drive) = self.drives.get_mut(opened.drive) {
-            drive.stack.retain(|reel| *reel != opened.reel);
+        if let Some(drive) = self.drives.get_mut(opened.drive)
+            && drive.stack.first() == Some(&opened.reel)
+        {
+            drive.stack.remove(0);
         }
         self.bin.push(opened.reel)?;
         let offline = Opened {

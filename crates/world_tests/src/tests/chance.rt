@@ -80,15 +80,12 @@ fn onward(dice: &mut Dice, slow: &SlowWorld) -> Line {
         State::Abandoned => Line::Start,
         State::Finished if slow.entered.contains(&client.number) => Line::Start,
         State::Finished => Line::Enter,
-        State::Waiting => match (dice.pick(2), slow.on_way(own)) {
-            (_, Some((0, 0))) => Line::Serve(own, trouble(dice)),
-            (0, Some((0, _))) => Line::ToClient(own),
-            (_, Some((0, back))) => Line::BytesToClient(own, dice.pick(back).saturating_add(1)),
+        State::Waiting => match (dice.pick(2), slow.on_way(own).unwrap_or((0, 0))) {
+            (_, (0, 0)) => Line::Serve(own, trouble(dice)),
+            (0, (0, _)) => Line::ToClient(own),
+            (_, (0, back)) => Line::BytesToClient(own, dice.pick(back).saturating_add(1)),
             (0, _) => Line::ToServer(own),
-            (_, way) => {
-                let most = way.map_or(0, |way| way.0);
-                Line::BytesToServer(own, dice.pick(most).saturating_add(1))
-            }
+            (_, (toward, _)) => Line::BytesToServer(own, dice.pick(toward).saturating_add(1)),
         },
     }
 }

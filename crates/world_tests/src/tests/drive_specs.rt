@@ -17,28 +17,6 @@ const SECOND: DriveSpec<'_> = DriveSpec {
     reels: &[b"c"],
 };
 
-#[test]
-fn names_are_looked_at(rt: HostRuntime) {
-    let same_drive = DriveSpec {
-        name: FIRST.name,
-        ..SECOND
-    };
-    let same_reel = DriveSpec {
-        reels: &[b"c", b"b"],
-        ..SECOND
-    };
-    let doubled = DriveSpec {
-        reels: &[b"c", b"d", b"c"],
-        ..SECOND
-    };
-    assert!(rt; !good_drives(&[]));
-    assert!(rt; good_drives(&[FIRST]));
-    assert!(rt; good_drives(&[FIRST, SECOND]));
-    assert!(rt; !good_drives(&[FIRST, same_drive]));
-    assert!(rt; !good_drives(&[FIRST, same_reel]));
-    assert!(rt; !good_drives(&[FIRST, doubled]));
-}
-
 /// The bytes from 0 to 64.
 fn bytes() -> [u8; 65] {
     let mut bytes = [0; 65];
@@ -62,7 +40,25 @@ fn named_by(names: &[u8; 65]) -> [DriveSpec<'_>; 65] {
 }
 
 #[test]
-fn drives_are_counted(rt: HostRuntime) -> Result<(), Fail> {
+fn names_are_looked_at_and_drives_counted(rt: HostRuntime) -> Result<(), Fail> {
+    let same_drive = DriveSpec {
+        name: FIRST.name,
+        ..SECOND
+    };
+    let same_reel = DriveSpec {
+        reels: &[b"c", b"b"],
+        ..SECOND
+    };
+    let doubled = DriveSpec {
+        reels: &[b"c", b"d", b"c"],
+        ..SECOND
+    };
+    assert!(rt; !good_drives(&[]));
+    assert!(rt; good_drives(&[FIRST]));
+    assert!(rt; good_drives(&[FIRST, SECOND]));
+    assert!(rt; !good_drives(&[FIRST, same_drive]));
+    assert!(rt; !good_drives(&[FIRST, same_reel]));
+    assert!(rt; !good_drives(&[FIRST, doubled]));
     let names = bytes();
     let drives = named_by(&names);
     let Some((_, others)) = drives.split_first() else {

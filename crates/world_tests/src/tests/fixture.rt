@@ -90,7 +90,7 @@ impl Dump {
             Line::Send(fails) => Event::Send { fails },
             Line::ToServer(connection) => Event::ToServer {
                 connection,
-                count: slow.on_way(connection).map_or(0, |way| way.0),
+                count: slow.on_way(connection).unwrap_or((0, 0)).0,
             },
             Line::BytesToServer(connection, count) => Event::ToServer { connection, count },
             Line::Serve(connection, trouble) => Event::Serve {
@@ -99,7 +99,7 @@ impl Dump {
             },
             Line::ToClient(connection) => Event::ToClient {
                 connection,
-                count: slow.on_way(connection).map_or(0, |way| way.1),
+                count: slow.on_way(connection).unwrap_or((0, 0)).1,
             },
             Line::BytesToClient(connection, count) => Event::ToClient { connection, count },
             Line::Cut(connection) => Event::Cut { connection },

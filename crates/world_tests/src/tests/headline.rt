@@ -38,10 +38,18 @@ fn is_volume(
 
 /// The reel was not opened for writing behind the open of the count's own connection.
 fn is_quiet(slow: &SlowWorld, count: &SlowCount) -> bool {
-    match slow.opens.iter().rposition(|open| open.1 == count.reel) {
-        Some(last) => slow.opens.get(last).map(|open| open.0) == Some(count.connection),
-        None => false,
+    let mut is_own = false;
+    for (connection, reel) in &slow.opens {
+        if *reel == count.reel {
+            is_own = *connection == count.connection;
+        }
     }
+    is_own
+}
+
+/// The client of the run of this number, from 1, as it began.
+fn begun(slow: &SlowWorld, run: usize) -> Option<&SlowClient> {
+    slow.begun.get(run.checked_sub(1)?)
 }
 
 /// Each reel that was counted, and not opened for writing since, holds its volume and nothing else. It tells how many
@@ -49,11 +57,8 @@ fn is_quiet(slow: &SlowWorld, count: &SlowCount) -> bool {
 pub(crate) fn whole_reels(alloc: Global, slow: &SlowWorld) -> Result<Option<usize>, Fail> {
     let mut whole = 0usize;
     for count in &slow.counts {
-        let run = count
-            .run
-            .checked_sub(1)
-            .and_then(|place| slow.begun.get(place));
-        let (Some(client), Some(reel)) = (run, slow.shop.reels.get(count.reel)) else {
+        let reel = slow.shop.reels.get(count.reel);
+        let (Some(client), Some(reel)) = (begun(slow, count.run), reel) else {
             return Ok(None);
         };
         if is_quiet(slow, count) {
@@ -69,7 +74,7 @@ pub(crate) fn whole_reels(alloc: Global, slow: &SlowWorld) -> Result<Option<usiz
 /// The volumes that were counted of each run that was entered are all its blocks, in order.
 pub(crate) fn covers_entered(slow: &SlowWorld) -> bool {
     for run in &slow.entered {
-        let Some(client) = run.checked_sub(1).and_then(|place| slow.begun.get(place)) else {
+        let Some(client) = begun(slow, *run) else {
             return false;
         };
         if next_of(slow, *run) != Some(client.run.blocks()) {
@@ -82,7 +87,10 @@ pub(crate) fn covers_entered(slow: &SlowWorld) -> bool {
 /// The block after the volumes of that run, which follow one another from the first on.
 fn next_of(slow: &SlowWorld, run: usize) -> Option<u32> {
     let (mut volume, mut next) = (0u32, 0u32);
-    for count in slow.counts.iter().filter(|count| count.run == run) {
+    for count in &slow.counts {
+        if count.run != run {
+            continue;
+        }
         volume = volume.saturating_add(1);
         if count.volume != volume || count.first != next {
             return None;

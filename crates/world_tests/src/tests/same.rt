@@ -1,8 +1,8 @@
 //! Whether a world tells what the plain one has.
 
-use crate::slow::{Entries, SlowClient, SlowLink, SlowWorld};
+use crate::slow::{Entries, SlowClient, SlowWorld};
 use drives::ListedReel;
-use dump_client::{Client, ListBlocks};
+use dump_client::{Client, ListBlocks, State};
 use tape_world::World;
 
 /// What of them differs first, or nothing.
@@ -25,10 +25,17 @@ pub(crate) fn difference(real: &World, slow: &SlowWorld) -> &'static str {
     ""
 }
 
-/// The drive that is open with its reel online, where the side is live.
-fn online_of(link: &SlowLink) -> Option<Option<usize>> {
-    let side = link.side.as_ref()?;
-    match side.opened {
+/// The drive that is open on the connection with its reel online, where the server's side is live.
+fn online(real: &World, connection: usize) -> Option<Option<usize>> {
+    match real.session(connection)?.reel() {
+        Some((drive, _)) => Some(Some(drive)),
+        None => Some(None),
+    }
+}
+
+/// The same of the plain one.
+fn slow_online(slow: &SlowWorld, connection: usize) -> Option<Option<usize>> {
+    match slow.link(connection)?.side.as_ref()?.opened {
         Some(opened) if opened.online => Some(Some(opened.drive)),
         _ => Some(None),
     }
@@ -37,10 +44,9 @@ fn online_of(link: &SlowLink) -> Option<Option<usize>> {
 /// Connections from number 0 to one past the last are told alike.
 fn has_links(real: &World, slow: &SlowWorld) -> bool {
     for connection in 0..slow.links.len().saturating_add(2) {
-        let session = real.session(connection);
-        let online = session.map(|session| session.reel().map(|(drive, _)| drive));
-        let wanted = slow.link(connection).and_then(online_of);
-        if online != wanted || real.on_way(connection) != slow.on_way(connection) {
+        if online(real, connection) != slow_online(slow, connection)
+            || real.on_way(connection) != slow.on_way(connection)
+        {
             return false;
         }
     }
@@ -49,18 +55,18 @@ fn has_links(real: &World, slow: &SlowWorld) -> bool {
 
 /// The client stands so, and tells its entry exactly when it is finished.
 fn is_client(real: &Client<ListBlocks>, slow: &SlowClient) -> bool {
-    let told = real.finished();
-    let entry = told.map(|entry| (entry.name, entry.level, entry.date));
-    let wanted = match slow.state {
-        dump_client::State::Finished => {
-            Some((slow.run.name(), slow.run.level(), slow.run.date()))
+    let run = &slow.run;
+    let is_told = match real.finished() {
+        Some(entry) => {
+            slow.state == State::Finished
+                && (entry.name, entry.level, entry.date) == (run.name(), run.level(), run.date())
         }
-        _ => None,
+        None => slow.state != State::Finished,
     };
-    real.state() == slow.state
+    is_told
+        && real.state() == slow.state
         && real.checkpoint() == slow.checkpoint()
         && real.counted() == slow.counts.as_slice()
-        && entry == wanted
 }
 
 fn has_client(real: &World, slow: &SlowWorld) -> bool {
@@ -74,8 +80,7 @@ fn has_client(real: &World, slow: &SlowWorld) -> bool {
 /// These reels have the names of those.
 fn has_names(reels: &[ListedReel], slow: &SlowWorld, places: &[usize]) -> bool {
     for (reel, place) in reels.iter().zip(places) {
-        let wanted = slow.shop.reels.get(*place);
-        if wanted.map(|wanted| wanted.name) != Some(reel.name()) {
+        if slow.shop.reel_name(*place) != Some(reel.name()) {
             return false;
         }
     }
@@ -97,9 +102,10 @@ fn has_stacks(real: &World, slow: &SlowWorld) -> bool {
 fn has_entries(real: &World, name: &[u8], entries: &Entries) -> bool {
     let mut bytes = [0u8; 1100];
     for (place, entry) in entries.iter().enumerate() {
-        let wanted = entry
-            .as_ref()
-            .map_or([].as_slice(), |bytes| bytes.as_slice());
+        let wanted = match entry {
+            Some(bytes) => bytes.as_slice(),
+            None => &[],
+        };
         let told = real.entry(name, place, &mut bytes);
         let fits = wanted.len().min(bytes.len());
         if told != Some(wanted.len()) || bytes.get(..fits) != wanted.get(..fits) {
@@ -124,11 +130,10 @@ fn has_counts(real: &World, slow: &SlowWorld) -> bool {
         let Some(one) = told.get(place) else {
             return false;
         };
-        let reel = slow.shop.reels.get(count.reel);
         let is_one = one.run == count.run
             && (one.volume, one.first, one.count) == (count.volume, count.first, count.count)
             && one.connection == count.connection
-            && reel.map(|reel| reel.name) == Some(one.reel);
+            && slow.shop.reel_name(count.reel) == Some(one.reel);
         if !is_one {
             return false;
         }

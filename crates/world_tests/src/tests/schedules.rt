@@ -325,7 +325,11 @@ fn has_lengths(slow: &SlowWorld, place: usize, lengths: &[usize]) -> bool {
         return false;
     };
     for (entry, length) in reel.entries.iter().zip(lengths) {
-        if entry.as_ref().map_or(0, |bytes| bytes.len()) != *length {
+        let found = match entry {
+            Some(bytes) => bytes.len(),
+            None => 0,
+        };
+        if found != *length {
             return false;
         }
     }
@@ -359,12 +363,14 @@ fn has_counts(slow: &SlowWorld, wanted: &[(usize, u32, u32, u32, usize)]) -> boo
 
 /// All is as the schedule has it.
 fn is_met(both: &Both, schedule: &Schedule) -> Result<bool, Fail> {
-    let drive = both.slow.shop.drives.first();
+    let Some(drive) = both.slow.shop.drives.first() else {
+        return Ok(false);
+    };
     let has_dates = both.real.has_dates(schedule.dates)?;
     Ok(
         both.failures.as_slice() == schedule.failures
             && has_all_lengths(&both.slow, schedule.entries)
-            && drive.map(|drive| drive.stack.as_slice()) == Some(schedule.stack)
+            && drive.stack.as_slice() == schedule.stack
             && both.slow.shop.bin.as_slice() == schedule.bin
             && has_counts(&both.slow, schedule.counts)
             && has_dates,

@@ -20,21 +20,13 @@ pub(super) struct FakeNames {
     is_read: bool,
 }
 
-impl FakeNames {
-    fn names(&self) -> &[u8] {
-        if self.is_read {
-            b""
-        } else if self.has_no_text {
-            b"r\0\xff\0"
-        } else {
-            b"r\0"
-        }
-    }
-}
-
 impl Read for FakeNames {
     fn read(&mut self, buf: &mut [u8]) -> io::Result<usize> {
-        let names = self.names();
+        let names = match (self.is_read, self.has_no_text) {
+            (true, _) => b"".as_slice(),
+            (false, true) => b"r\0\xff\0",
+            (false, false) => b"r\0",
+        };
         let count = names.len().min(buf.len());
         buf[..count].copy_from_slice(&names[..count]);
         self.is_read = true;
