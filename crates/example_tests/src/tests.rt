@@ -1,0 +1,3 @@
+//! The examples against bytes that were written by hand.
+
+mod server;
