@@ -34,7 +34,7 @@ test: kit ## the gate: each proof from nothing, then the built programs from out
 	$(CHECK) tests/dump.py $(PROGRAM) $(CLIENT)
 	$(CHECK) tests/reels.py $(PROGRAM) $(CLIENT)
 	$(CHECK) tests/clients.py $(PROGRAM)
-	$(CHECK) tests/threads.py --in-turn $(PROGRAM) $(CLIENT)
+	$(CHECK) tests/threads.py $(PROGRAM) $(CLIENT)
 	$(CHECK) tests/recipes.py $(PROGRAM) $(CLIENT)
 	$(CHECK) tests/kills.py $(PROGRAM) $(CLIENT)
 	$(CHECK) tests/schedules.py $(SIMULATOR)

@@ -35,6 +35,8 @@ DRIVES = 4
 REELS_EACH = 3
 SECONDS = 30
 SEED = 20261124
+# How often a reel is taken away again, where the bin's lock was not had.
+MOVES = 1_000
 # What the server may hold more of memory at the end than behind the first clients.
 MORE_MEMORY = 2 << 20
 
@@ -138,6 +140,7 @@ class Books:
         self.counted: dict[int, str] = {}
         self.put_back: set[int] = set()
         self.waits = 0
+        self.moves_refused = 0
         self.faults: list[str] = []
         self.is_over = threading.Event()
 
@@ -194,13 +197,23 @@ def write_volume(talk: Talk, books: Books, source: random.Random) -> bool:
     if source.random() < 0.3:
         talk.ask(CLOSE)
         return True
-    if (got := talk.ask(OFFLINE)) != DONE_ONE:
+    if (got := take_away(talk, books)) != DONE_ONE:
         books.fault(f"volume {volume}: the move was answered with {got!r}")
         return False
     digest = hashlib.sha256(b"".join(map(image, records)) + bytes(4)).hexdigest()
     with books.holding:
         books.counted[volume] = digest
     return True
+
+
+def take_away(talk: Talk, books: Books) -> bytes:
+    """Takes the reel away, again and again where the bin's lock was not had, and answers the last reply."""
+    for _ in range(MOVES):
+        if (answer := talk.ask(OFFLINE)) != b"E5\n":
+            break
+        with books.holding:
+            books.moves_refused += 1
+    return answer
 
 
 def operator(server: Server, books: Books, source: random.Random) -> None:
@@ -246,7 +259,8 @@ def soak(program: str, seconds: float, seed: int) -> bool:
         run_soak(server, books, seconds, seed)
         time.sleep(0.5)
         after = server.held()
-        print(f"  {books.volumes} volumes, {len(books.counted)} counted, {books.waits} times a drive was busy or empty")
+        print(f"  {books.volumes} volumes, {len(books.counted)} counted, {books.waits} times a drive was busy or empty,", end=" ")
+        print(f"{books.moves_refused} times a move did not get the bin's lock")
         good = told("each request was answered as it has to be", not books.faults, *books.faults[:5])
         good &= told("each counted reel is whole", whole(server, books))
         good &= told("no drive is held", all(is_free(server, number) for number in range(DRIVES)))

@@ -5,7 +5,8 @@
     model_rmtd.py --listen ADDRESS --bin DIR [--capacity BYTES] [--connections N] DEVICE=DIR...
 
 A reel is a list of entries: a record as its bytes, a mark as None. It is read from a file whole and at once, and a list says what each
-request does. Faults of the wire end a session as those of `rmtd` do.
+request does. Faults of the wire end a session as those of `rmtd` do. Each connection has a thread; which drives are held is a set behind a
+lock.
 """
 
 from __future__ import annotations
@@ -16,6 +17,7 @@ import os
 import socket
 import stat
 import sys
+import threading
 from contextlib import suppress
 from pathlib import Path
 from typing import IO, Iterator, NamedTuple, NoReturn
@@ -26,6 +28,10 @@ GREATEST_RECORD = 65_536
 GREATEST_NUMBER = 2_147_483_647
 LONGEST_LINE = 255
 CAPACITY = 1_048_576
+# So many connections are served at once.
+SEATS = 32
+# So often the lock of the bin's folder is asked for.
+LOCK_TURNS = 1_000
 END, FAILED, TRUNCATED, BROKEN = range(4)
 
 TEXTS = {
@@ -200,7 +206,7 @@ class Drives:
         bin = os.open(self.bin, os.O_RDONLY | os.O_DIRECTORY)
         stack = os.open(self.folders[device], os.O_RDONLY | os.O_DIRECTORY)
         try:
-            fcntl.flock(bin, fcntl.LOCK_EX | fcntl.LOCK_NB)
+            lock(bin)
             if os.path.lexists(self.bin / reel.name):
                 raise FileExistsError(reel.name)
             os.rename(self.folders[device] / reel.name, self.bin / reel.name)
@@ -210,6 +216,15 @@ class Drives:
         finally:
             os.close(stack)
             os.close(bin)
+
+
+def lock(folder: int) -> None:
+    """Takes the lock of a folder, which others of this program may have, too."""
+    for _ in range(LOCK_TURNS - 1):
+        with suppress(BlockingIOError):
+            return fcntl.flock(folder, fcntl.LOCK_EX | fcntl.LOCK_NB)
+        os.sched_yield()
+    fcntl.flock(folder, fcntl.LOCK_EX | fcntl.LOCK_NB)
 
 
 class Files:
@@ -263,11 +278,31 @@ def done(number: int) -> bytes:
     return b"A%d\n" % number
 
 
+class Holders:
+    """Which devices sessions hold."""
+
+    def __init__(self) -> None:
+        self.looking = threading.Lock()
+        self.held: set[bytes] = set()
+
+    def take(self, device: bytes) -> bool:
+        """Whether nobody held it. Then it is held."""
+        with self.looking:
+            was_free = device not in self.held
+            self.held.add(device)
+            return was_free
+
+    def give(self, device: bytes) -> None:
+        with self.looking:
+            self.held.remove(device)
+
+
 class Session:
     """One client, with nothing open or one device, whose reel is there or has been taken away."""
 
-    def __init__(self, drives: Drives | Files) -> None:
+    def __init__(self, drives: Drives | Files, holders: Holders | None = None) -> None:
         self.drives = drives
+        self.holders = holders or Holders()
         self.device: bytes | None = None
         self.access = 0
         self.reel: Tape | None = None
@@ -279,6 +314,8 @@ class Session:
         elif self.reel:
             self.drives.stack[self.drives.name] = self.reel.data()
             self.drives.reel = None
+        if self.device is not None:
+            self.holders.give(self.device)
         self.device = self.reel = None
 
     def reply(self, request: Request) -> bytes:
@@ -307,13 +344,17 @@ class Session:
             return error(22)
         if device not in self.drives.folders:
             return error(2)
+        if not self.holders.take(device):
+            return error(16)
+        self.device, self.access = device, access
         try:
-            reel = self.drives.latch(device)
+            self.reel = self.drives.latch(device)
         except OSError:
+            self.end()
             return error(5)
-        if reel is None:
+        if self.reel is None:
+            self.end()
             return error(6)
-        self.device, self.access, self.reel = device, access, reel
         return done(0)
 
     def write(self, count: int, data: bytes) -> bytes:
@@ -442,9 +483,9 @@ def answers(drives: Drives | Files, text: bytes) -> bytes:
     return answered
 
 
-def serve(drives: Drives, requests: IO[bytes], replies: IO[bytes]) -> int:
+def serve(drives: Drives, requests: IO[bytes], replies: IO[bytes], holders: Holders | None = None) -> int:
     """Serves one client, and answers the exit status."""
-    session = Session(drives)
+    session = Session(drives, holders)
     try:
         for request in Wire(requests).requests():
             replies.write(session.reply(request))
@@ -498,20 +539,33 @@ def drives_of(words: argparse.Namespace) -> Drives:
     return Drives(folders, Path(words.bin), words.capacity)
 
 
+def serve_connection(drives: Drives, stream: socket.socket, holders: Holders, seats: threading.Semaphore) -> None:
+    """Serves a connection, and ends it."""
+    with stream, suppress(OSError), stream.makefile("rb") as requests, stream.makefile("wb") as replies:
+        serve(drives, requests, replies, holders)
+    seats.release()
+
+
 def listen(drives: Drives, address: str, connections: int | None) -> int:
-    """Serves connections one after the other."""
+    """Serves each connection in a thread of its own. One that comes while as many as there are seats are served is closed, and so is one
+    that gets no thread."""
     host, _, port = address.rpartition(":")
+    holders, seats = Holders(), threading.Semaphore(SEATS)
     with socket.create_server((host, int(port))) as listener:
         print("listening on %s:%d" % listener.getsockname(), flush=True)
         while connections is None or connections > 0:
             stream, _ = listener.accept()
-            with stream, stream.makefile("rb") as requests, stream.makefile("wb") as replies:
-                try:
-                    serve(drives, requests, replies)
-                    replies.flush()
-                except OSError:
-                    pass
             connections = None if connections is None else connections - 1
+            if not seats.acquire(blocking=False):
+                stream.close()
+                continue
+            try:
+                threading.Thread(target=serve_connection, args=(drives, stream, holders, seats)).start()
+            except RuntimeError:
+                stream.close()
+                seats.release()
+        for _ in range(SEATS):
+            seats.acquire()
     return END
 
 

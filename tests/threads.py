@@ -1,9 +1,9 @@
 #!/usr/bin/env python3
 """Checks the built server where many connections come to its folder drives at once, on the loopback.
 
-    threads.py [RMTD [RDUMP]] [--in-turn] [--seed N]
+    threads.py [RMTD [RDUMP]] [--seed N]
 
-With `--in-turn` only what a server keeps that serves one connection after the other is checked. The seed is printed where a check failed.
+The seed is that of the connections that are cut. It is printed where a check failed.
 """
 
 from __future__ import annotations
@@ -12,6 +12,7 @@ import argparse
 import os
 import random
 import re
+import resource
 import socket
 import struct
 import subprocess
@@ -19,7 +20,7 @@ import sys
 import tempfile
 import threading
 import time
-from contextlib import ExitStack, contextmanager
+from contextlib import ExitStack, contextmanager, suppress
 from pathlib import Path
 from typing import Callable, Iterator
 
@@ -30,15 +31,24 @@ CRATES = Path(__file__).resolve().parent.parent / "crates"
 GUARD_SECONDS = 60
 # After a client has seen the end of its connection, the server may take so long to have room for another one.
 SOON_SECONDS = 5
+# What a server does of itself, as to end too early, it has done after this time.
+PAUSE_SECONDS = 0.5
 
 CONNECTIONS = 32
 CUTS = 1_000
+CUT_DRIVES = 4
+# How often all connections open one drive at the same moment.
+RACES = 50
+# Less than a thread takes for its stack, and more than the server takes beside that.
+SPARE_MEMORY = 512 << 10
 SEED = 20261124
 
 BLOCK = 512
 DAY = 951_782_400
 CLOSE, REWIND, MARK, OFFLINE, NOTHING = b"C\n", b"I5\n1\n", b"I0\n1\n", b"I6\n1\n", b"I7\n1\n"
+READ = b"R65536\n"
 DONE, DONE_ONE = b"A0\n", b"A1\n"
+IO_ERROR = b"E5\nInput/output error\n"
 NO_REEL = b"E6\nDevice not configured\n"
 NOTHING_OPEN = b"E9\nBad file descriptor\n"
 BUSY = b"E16\nDevice busy\n"
@@ -65,12 +75,12 @@ def label(volume: int, first: int) -> bytes:
 class Server:
     """A server that listens, its drives, and its bin."""
 
-    def __init__(self, program: str, folder: Path, drives: int, capacity: int) -> None:
+    def __init__(self, program: str, folder: Path, drives: int, capacity: int, more: tuple[str, ...]) -> None:
         self.bin = folder / "bin"
         self.stacks = [folder / f"st{number}" for number in range(drives)]
         for it in (self.bin, *self.stacks):
             it.mkdir()
-        words = [program, "--listen", "127.0.0.1:0", "--capacity", str(capacity), "--bin", str(self.bin)]
+        words = [program, "--listen", "127.0.0.1:0", "--capacity", str(capacity), "--bin", str(self.bin), *more]
         words += [f"{device(number)}={it}" for number, it in enumerate(self.stacks)]
         self.process = subprocess.Popen(words, stdout=subprocess.PIPE)
         line = self.process.stdout.readline().decode()
@@ -83,9 +93,26 @@ class Server:
         path.write_bytes(images([*entries]))
         return path
 
-    def open_files(self) -> int:
-        """How many files and connections the server has open."""
-        return len(os.listdir(f"/proc/{self.process.pid}/fd"))
+    def held(self) -> tuple[int, int]:
+        """How many files and connections the server has open, and how many threads it has."""
+        own = Path(f"/proc/{self.process.pid}")
+        return len(os.listdir(own / "fd")), len(os.listdir(own / "task"))
+
+    def may_take(self, more: int | None) -> None:
+        """From now on the server can take so many bytes of memory more than it has; as many as it wants at None."""
+        pages = int(Path(f"/proc/{self.process.pid}/statm").read_text().split()[0])
+        most = resource.RLIM_INFINITY if more is None else pages * resource.getpagesize() + more
+        resource.prlimit(self.process.pid, resource.RLIMIT_AS, (most, resource.RLIM_INFINITY))
+
+    def is_there(self) -> bool:
+        """Whether the server has not ended."""
+        return self.process.poll() is None
+
+    def ends_well(self) -> bool:
+        """Whether it ends soon, with status 0."""
+        with suppress(subprocess.TimeoutExpired):
+            return self.process.wait(SOON_SECONDS) == 0
+        return False
 
     def stop(self) -> None:
         self.process.kill()
@@ -94,10 +121,10 @@ class Server:
 
 
 @contextmanager
-def serving(program: str, drives: int = 1, capacity: int = 1 << 20) -> Iterator[Server]:
-    """A server over empty folders, which are taken away at the end."""
+def serving(program: str, *more: str, drives: int = 1, capacity: int = 1 << 20) -> Iterator[Server]:
+    """A server with these words more over empty folders, which are taken away at the end."""
     with tempfile.TemporaryDirectory() as folder:
-        server = Server(program, Path(folder), drives, capacity)
+        server = Server(program, Path(folder), drives, capacity, more)
         try:
             yield server
         finally:
@@ -169,6 +196,12 @@ def talking(server: Server) -> Iterator[Talk]:
         talk.end()
 
 
+def is_served(server: Server) -> bool:
+    """Whether a new connection is answered."""
+    with talking(server) as talk:
+        return talk.ask(NOTHING) == NOTHING_OPEN
+
+
 def soon(holds: Callable[[], bool]) -> bool:
     """Whether it holds now or within some seconds."""
     until = time.monotonic() + SOON_SECONDS
@@ -228,6 +261,16 @@ def dump_words(rdump: str, address: str, payload: Path) -> list[str]:
     return [rdump, *words, "--block", str(BLOCK), "--dumpdates", str(payload) + ".dates", "--date", str(DAY)]
 
 
+def said_by(words: list[str]) -> tuple[int, str]:
+    """The status of a client to which an operator says nothing, and what it prints."""
+    got = subprocess.run(words, stdin=subprocess.DEVNULL, capture_output=True, text=True, check=False, timeout=GUARD_SECONDS)
+    return got.returncode, got.stdout
+
+
+def mt_words(rdump: str, server: Server) -> list[str]:
+    return [rdump, "mt", "--to", "%s:%d" % server.address, "--device", device(0), "nop", "1"]
+
+
 def volumes_of(payload: bytes, counts: list[int]) -> list[bytes]:
     """The files of the reels of a dump whose volumes have so many blocks."""
     blocks = [payload[at : at + BLOCK].ljust(BLOCK, b"\0") for at in range(0, len(payload), BLOCK)]
@@ -260,6 +303,10 @@ def busy(rmtd: str, rdump: str) -> None:
             with talking(server) as other:
                 other.asks("busy: another connection", (opened(), BUSY), (write(b"x"), NOTHING_OPEN))
                 other.asks("busy: another connection again", (opened(mode=0), BUSY), (CLOSE, NOTHING_OPEN))
+            got = said_by(mt_words(rdump, server))
+            check("busy: an operation of another client", got == (3, "E16 Device busy\n"), got)
+            got = said_by(dump_words(rdump, "%s:%d" % server.address, payload))
+            check("busy: a dump of another client", got == (3, "volume 1 failed: Refused 16\nretry?\ndump abandoned\n"), got)
             gate.is_open.set()
             told = client.communicate(timeout=GUARD_SECONDS)[0]
         gate.listener.close()
@@ -289,7 +336,7 @@ def all_at_once(rmtd: str) -> None:
             barrier.wait()
             blocks = [payloads[number][at : at + BLOCK] for at in range(0, len(payloads[number]), BLOCK)]
             said = [talk.ask(write(it)) == b"A%d\n" % len(it) for it in (label(1, 0), *blocks)]
-            last = [talk.ask(it) for it in (MARK, OFFLINE, CLOSE)] == [DONE_ONE, DONE_ONE, DONE]
+            last = talk.ask(MARK) == DONE_ONE and is_taken_away(talk, label(1, 0)) and talk.ask(CLOSE) == DONE
             talk.end()
             good[number] = first and all(said) and last
 
@@ -301,6 +348,16 @@ def all_at_once(rmtd: str) -> None:
             check(f"all at once: the reel of drive {number}", is_whole)
 
 
+def is_taken_away(talk: Talk, first: bytes) -> bool:
+    """Whether the reel with this first record goes to the bin. A move that does not get the bin's lock is answered with an error, and leaves
+    the reel open, at its beginning: the record is read there, and the move is asked for again."""
+    until = time.monotonic() + GUARD_SECONDS
+    while (answer := talk.ask(OFFLINE)) == IO_ERROR and time.monotonic() < until:
+        if talk.ask(READ) != b"A%d\n%s" % (len(first), first):
+            return False
+    return answer == DONE_ONE
+
+
 def run_all(workers: list[threading.Thread]) -> None:
     for it in workers:
         it.start()
@@ -308,7 +365,7 @@ def run_all(workers: list[threading.Thread]) -> None:
         it.join(GUARD_SECONDS)
 
 
-def one_too_many(rmtd: str) -> None:
+def one_too_many(rmtd: str, rdump: str) -> None:
     """A connection above the most is closed without an answer. Once another one has ended there is room again."""
     with serving(rmtd, drives=CONNECTIONS + 1) as server, ExitStack() as stack:
         for number in range(CONNECTIONS + 1):
@@ -319,6 +376,11 @@ def one_too_many(rmtd: str) -> None:
         for title in ("one more", "and one more"):
             with talking(server) as other:
                 check(f"one too many: {title} is closed without an answer", other.is_closed())
+        with talking(server) as other:
+            got = other.ask(opened(CONNECTIONS))
+            check("one too many: a request there is not answered", got == b"", got)
+        got = said_by(mt_words(rdump, server))
+        check("one too many: what a client tells", got == (3, ""), got)
         talks[5].asks("one too many: those before are served", (write(b"x"), DONE_ONE))
         talks[7].end()
         check("one too many: there is room again", soon(lambda: is_served(server)))
@@ -326,12 +388,6 @@ def one_too_many(rmtd: str) -> None:
             other.asks("one too many: its drive is free", (opened(7), DONE), (NOTHING, DONE_ONE))
             with talking(server) as another:
                 check("one too many: then there is none", another.is_closed())
-
-
-def is_served(server: Server) -> bool:
-    """Whether a new connection is answered."""
-    with talking(server) as talk:
-        return talk.ask(NOTHING) == NOTHING_OPEN
 
 
 def interleaved(rmtd: str) -> None:
@@ -357,52 +413,169 @@ def interleaved(rmtd: str) -> None:
             first.asks("interleaved, and is empty then", (opened(0), NO_REEL), (opened(1), DONE))
 
 
-# One connection after the other.
+def one_has_it(rmtd: str) -> None:
+    """All connections open one drive at the same moment, over and over: each time one has it, and each other one is told that it is busy."""
+    with serving(rmtd) as server, ExitStack() as stack:
+        server.reel("r1")
+        talks = [stack.enter_context(talking(server)) for _ in range(CONNECTIONS)]
+        check("one has it: all are served", all([talk.ask(NOTHING) == NOTHING_OPEN for talk in talks]))
+        for turn in range(RACES):
+            for talk in talks:
+                talk.stream.sendall(opened())
+            answers = [talk.reply() for talk in talks]
+            check(f"one has it: turn {turn}", sorted(answers) == [DONE] + [BUSY] * (CONNECTIONS - 1), answers)
+            for talk, answer in zip(talks, answers):
+                wanted = DONE if answer == DONE else NOTHING_OPEN
+                talk.asks(f"one has it: turn {turn}, they close", (CLOSE, wanted))
+
+
+def silent(rmtd: str) -> None:
+    """Clients that send nothing, half of a request, or nothing more while they hold a drive, and one that reads no reply, hold up no other
+    one. They are served when they go on."""
+    record = bytes(65_536)
+    with serving(rmtd, drives=3) as server, ExitStack() as stack:
+        for number in range(3):
+            server.reel(f"r{number}", number, record)
+        mute, slow, holder, deaf = (stack.enter_context(talking(server)) for _ in range(4))
+        slow.stream.sendall(write(b"hello")[:-1])
+        holder.asks("silent: one holds a drive", (opened(0), DONE))
+        # The replies are more than the system keeps for one who does not read them.
+        deaf.stream.sendall(opened(1) + (REWIND + READ) * 500)
+        with talking(server) as other:
+            other.asks("silent: another client opens", (opened(2), DONE), (READ, b"A65536\n" + record))
+            other.asks("silent: it writes", *[(write(b"%d" % number), b"A%d\n" % len(b"%d" % number)) for number in range(200)])
+            other.asks("silent: it takes the reel away", (MARK, DONE_ONE), (OFFLINE, DONE_ONE), (CLOSE, DONE))
+            other.asks("silent: the drives of the others are busy", (opened(0), BUSY), (opened(1), BUSY))
+        mute.asks("silent: the first goes on", (NOTHING, NOTHING_OPEN))
+        slow.asks("silent: the second goes on", (b"o", NOTHING_OPEN))
+        holder.asks("silent: the third goes on", (write(b"x"), DONE_ONE), (REWIND, DONE_ONE), (b"R9\n", b"A1\nx"))
+        good = deaf.reply() == DONE
+        good &= all([(deaf.reply(), deaf.reply(wants_data=True)) == (DONE_ONE, b"A65536\n" + record) for _ in range(500)])
+        check("silent: the last goes on", good)
+        reset(holder.stream)
+        holder.close()
+        check("silent: a drive is free once its holder is gone", soon(lambda: is_free(server, 0)))
+
+
+def is_free(server: Server, number: int) -> bool:
+    """Whether a drive can be opened."""
+    with talking(server) as talk:
+        return talk.ask(opened(number)) == DONE
+
+
+def counted(rmtd: str) -> None:
+    """With `--connections` so many are accepted. The server ends well when the last of them has ended. One that is closed without an answer
+    is one of them."""
+    with serving(rmtd, "--connections", "3", drives=2) as server, ExitStack() as stack:
+        server.reel("a")
+        server.reel("b", 1)
+        first, second, third = (stack.enter_context(talking(server)) for _ in range(3))
+        first.asks("counted: the first", (opened(0), DONE))
+        second.asks("counted: the second", (opened(1), DONE))
+        third.asks("counted: the third", (opened(0), BUSY))
+        check("counted: a fourth is not served", is_not_served(server))
+        for talk in (third, first):
+            talk.end()
+            time.sleep(PAUSE_SECONDS)
+            check("counted: it waits for the others", server.is_there())
+            second.asks("counted: they are served", (write(b"x"), DONE_ONE))
+        second.end()
+        check("counted: it ends", server.ends_well(), server.process.returncode)
+    with serving(rmtd, "--connections", str(CONNECTIONS + 1)) as server, ExitStack() as stack:
+        talks = [stack.enter_context(talking(server)) for _ in range(CONNECTIONS)]
+        check("counted: all are served", all([talk.ask(NOTHING) == NOTHING_OPEN for talk in talks]))
+        with talking(server) as other:
+            check("counted: one more is closed without an answer", other.is_closed())
+        check("counted: it waits for all", all([talk.ask(NOTHING) == NOTHING_OPEN for talk in talks]) and server.is_there())
+        for talk in talks:
+            talk.end()
+        check("counted: the one more was the last", server.ends_well(), server.process.returncode)
+    with serving(rmtd, "--connections", "0") as server:
+        check("counted: none", server.ends_well(), server.process.returncode)
+
+
+def is_not_served(server: Server) -> bool:
+    """Whether a new connection is not had, or not answered for some time."""
+    with suppress(ConnectionError):
+        talk = Talk(server.address)
+        talk.stream.settimeout(PAUSE_SECONDS)
+        answer = talk.ask(NOTHING)
+        talk.close()
+        return answer in (b"", b"(nothing in time)")
+    return True
+
+
+def no_thread(rmtd: str) -> None:
+    """A connection for which no thread can be had is closed without an answer, and the server goes on."""
+    with serving(rmtd) as server:
+        server.reel("r1")
+        server.may_take(SPARE_MEMORY)
+        for title in ("one", "another one"):
+            with talking(server) as talk:
+                check(f"no thread: {title} is closed without an answer", talk.is_closed())
+        server.may_take(None)
+        check("no thread: the server is there", server.is_there())
+        with talking(server) as talk:
+            talk.asks("no thread: the next one is served", (opened(), DONE), (write(b"x"), DONE_ONE))
+
+
+# Connections that are cut.
 
 
 def cut_connections(rmtd: str, rdump: str, seed: int) -> None:
-    """Connections that end at a random byte, some at once and some by a reset, and then a dump that succeeds."""
+    """Connections that end at a random byte, and then a dump that succeeds."""
     source = random.Random(seed)
-    with serving(rmtd) as server, tempfile.TemporaryDirectory() as folder:
-        reel = server.reel("r1")
+    with serving(rmtd, drives=CUT_DRIVES) as server, tempfile.TemporaryDirectory() as folder:
+        reels = [server.reel(f"r{number}", number) for number in range(CUT_DRIVES)]
         is_served(server)
-        files = server.open_files()
+        time.sleep(PAUSE_SECONDS)
+        before = server.held()
         for _ in range(CUTS):
-            record = source.randbytes(source.randrange(1, 3_000))
-            stream = b"".join([opened(), write(record), MARK, REWIND, b"R100\n", opened(mode=0), CLOSE])
-            cut_at(server.address, stream[: source.randrange(len(stream) + 1)], source.random() < 0.3)
-        check("cut connections: the server is there", soon(lambda: is_served(server)) and server.process.poll() is None)
-        check("cut connections: no file is left open", soon(lambda: server.open_files() == files), server.open_files(), files)
+            number, record = source.randrange(CUT_DRIVES), source.randbytes(source.randrange(1, 3_000))
+            stream = b"".join([opened(number), write(record), MARK, REWIND, b"R100\n", opened(number, mode=0), CLOSE])
+            cut_at(server.address, stream[: source.randrange(len(stream) + 1)], source.choice(("reset", "close", "end")))
+        check("cut connections: the server is there", soon(lambda: is_served(server)) and server.is_there())
+        check("cut connections: no file or thread is left", soon(lambda: server.held() == before), server.held(), before)
+        for number in range(CUT_DRIVES):
+            check(f"cut connections: drive {number} is free", is_free(server, number))
         payload = Path(folder) / "usr"
         payload.write_bytes(source.randbytes(30 * BLOCK))
-        words = dump_words(rdump, "%s:%d" % server.address, payload)
-        got = subprocess.run(words, capture_output=True, stdin=subprocess.DEVNULL, text=True, check=False, timeout=GUARD_SECONDS)
-        check("cut connections: the dump is complete", (got.returncode, got.stdout) == (0, told_of([30])), got)
+        got = said_by(dump_words(rdump, "%s:%d" % server.address, payload))
+        check("cut connections: the dump is complete", got == (0, told_of([30])), got)
         wanted = volumes_of(payload.read_bytes(), [30])
-        check("cut connections: the reel", not reel.exists() and [it.read_bytes() for it in server.bin.iterdir()] == wanted)
+        check("cut connections: the reel", not reels[0].exists() and [it.read_bytes() for it in server.bin.iterdir()] == wanted)
 
 
-def cut_at(address: tuple[str, int], stream: bytes, is_reset: bool) -> None:
-    """A connection that ends behind these bytes, before its replies are read."""
-    with socket.create_connection(address, timeout=GUARD_SECONDS) as it:
+def cut_at(address: tuple[str, int], stream: bytes, way: str) -> None:
+    """A connection that ends behind these bytes: by a reset, by a close before its replies are read, or by the end of what is sent, and the
+    replies are read up to their end. The server may have closed it before."""
+    with suppress(ConnectionError), socket.create_connection(address, timeout=GUARD_SECONDS) as it:
         it.sendall(stream)
-        if is_reset:
-            it.setsockopt(socket.SOL_SOCKET, socket.SO_LINGER, struct.pack("ii", 1, 0))
+        if way == "reset":
+            reset(it)
+        elif way == "end":
+            it.shutdown(socket.SHUT_WR)
+            while it.recv(1 << 16):
+                pass
+
+
+def reset(stream: socket.socket) -> None:
+    """What is on the way is dropped when the connection is closed."""
+    stream.setsockopt(socket.SOL_SOCKET, socket.SO_LINGER, struct.pack("ii", 1, 0))
 
 
 def main() -> int:
     parser = argparse.ArgumentParser(description="Checks the built server where many connections come at once.")
     parser.add_argument("rmtd", nargs="?", default=str(CRATES / "rmtd/out/rmtd"))
     parser.add_argument("rdump", nargs="?", default=str(CRATES / "rdump/out/rdump"))
-    parser.add_argument("--in-turn", action="store_true", help="check only what needs no threads")
     parser.add_argument("--seed", type=int, default=SEED)
     words = parser.parse_args()
     rmtd, rdump = os.path.abspath(words.rmtd), os.path.abspath(words.rdump)
+    busy(rmtd, rdump)
+    one_too_many(rmtd, rdump)
+    for part in (all_at_once, interleaved, one_has_it, silent, counted, no_thread):
+        part(rmtd)
     cut_connections(rmtd, rdump, words.seed)
-    if not words.in_turn:
-        busy(rmtd, rdump)
-        for part in (all_at_once, one_too_many, interleaved):
-            part(rmtd)
     if COUNT[1]:
         print(f"seed {words.seed}")
     return ended()
