@@ -1,17 +1,12 @@
 -- How a server of one stream ends.
-use Rattle.std.proofs.Common.{◌≡◌, ℕ, false, List, [], ◌∷◌, length, slice_index, Option, Some, None, IfOk, OnOk, Result, Ok, Err, refl, sym, ap, subst, ◌∙◌, inl, inr, arith}
+use Rattle.std.proofs.Common.{◌≡◌, ℕ, false, List, [], Option, Some, None, IfOk, OnOk, Result, Ok, Err, refl, sym, subst, inl, inr}
 use Rattle.std.proofs.KnownBytes.{Appends-nil, Consumes-nil}
 use Rattle.std.specs.Result.{result_ok}
 use Rattle.rmt_wire.specs.Counted.{Counting}
-use Rattle.tape.specs.declared.reel.Reel.{Ghosts as ReelPromise}
-use Rattle.drives.specs.Local.{Holders}
-use Rattle.drives.specs.contracts.local.LocalHoldsHolds.TheImpl as LocalHoldsPromise
-use Rattle.drives.specs.declared.stacks.Stacks.{Ghosts as StacksPromise}
-use Rattle.drives.specs.declared.view.View.{View}
-use Rattle.drives.specs.Opening.{Kinds, kinds}
+use Rattle.drives.specs.Opening.{Kinds}
 use Rattle.drives.specs.Stacking.{ReelCanFail}
 use Rattle.rmt_server.specs.State.{State, reel_of}
-use Rattle.rmt_server.specs.Carrying.{MayFail, IsAlone}
+use Rattle.rmt_server.specs.Carrying.{MayFail}
 use Rattle.rmt_server.specs.Session.{none}
 use Rattle.rmt_server.specs.Stream.{Exchange, EndsAs, NoneFailed}
 use Rattle.drives.specs.Shop.{Shop}

@@ -1,5 +1,5 @@
 -- A drive that no seat holds before a stream is held by none after it, and where no device can fail before, none can after.
-use Rattle.std.proofs.Common.{◌≡◌, ◌⊎◌, ℕ, ◌<◌, ◌==◌, Bool, true, false, List, [], ◌∷◌, length, slice_index, Option, Some, None, MatchOption, Result, Ok, Err, refl, sym, ap, subst, ◌∙◌, inl, inr, arith}
+use Rattle.std.proofs.Common.{◌≡◌, ◌⊎◌, ℕ, ◌<◌, ◌==◌, Bool, true, false, List, length, slice_index, Option, Some, None, MatchOption, Result, Ok, Err, refl, sym, ap, subst, ◌∙◌, inl, inr, arith}
 use Rattle.std.proofs.lemmas.Grind.{common_steps}
 use Rattle.rmt_wire.specs.Request.{PlainRequest}
 use Rattle.rmt_wire.specs.Request.PlainRequest.{Open, Close, Write, WriteDropped, Read, Op}
@@ -19,7 +19,7 @@ use Rattle.rmt_server.specs.Session.PlainSession.{Idle}
 use Rattle.rmt_server.specs.State.{State, drive_of, SessionCanFail, IsSeenAs, status_at}
 use Rattle.rmt_server.specs.Opening.{word_after_close, IsClosed, OpensFor}
 use Rattle.rmt_server.specs.Moving.{MovesIn, MovesReel}
-use Rattle.rmt_server.specs.Carrying.{Operates, CarriesOut, IsAlone, IsCarriedOut, MayFail}
+use Rattle.rmt_server.specs.Carrying.{Operates, CarriesOut, IsAlone, MayFail}
 use Rattle.rmt_server.specs.Stream.{Exchange, CarryRun, IsServedAs}
 use Rattle.rmt_server.specs.declared.stream.Served.{Served}
 use Rattle.rmt_server.specs.declared.stream.ServeFault.{ServeFault}

@@ -1,4 +1,4 @@
-use Rattle.std.proofs.Common.{rules, ◌≡◌, ◌≤◌, ℕ, All, length, ◌∷◌, ◌++◌, [], sym, subst}
+use Rattle.std.proofs.Common.{rules, ◌≡◌, ◌≤◌, All, length, sym, subst}
 use Rattle.std.proofs.lemmas.List.Elements.{All-push}
 use Rattle.rmt_serve.specs.Folders.{stacks_of}
 use Rattle.rmt_serve.proofs.folders.seat_stacks.Goals as goal

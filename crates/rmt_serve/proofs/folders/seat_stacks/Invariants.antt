@@ -1,4 +1,4 @@
-use Rattle.std.proofs.Common.{◌≡◌, ℕ, ◌-◌, ◌≤◌, All, length}
+use Rattle.std.proofs.Common.{◌≡◌, ◌-◌, ◌≤◌, All, length}
 use Rattle.rmt_serve.specs.Folders.{stacks_of}
 use Rattle.rmt_serve.proofs.folders.seat_stacks.Given as goal
 

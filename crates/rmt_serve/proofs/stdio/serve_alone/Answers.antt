@@ -1,5 +1,4 @@
 use Rattle.std.proofs.Common.{rules, refl}
-use Rattle.rmt_serve.specs.Serving.{IsServedNext}
 use Rattle.rmt_serve.proofs.Endings.{alone, unserved}
 use Rattle.rmt_serve.proofs.stdio.serve_alone.Goals as goal
 

@@ -1,13 +1,7 @@
-use Rattle.std.proofs.Common.{rules, ◌≡◌, refl, sym, ap, subst}
+use Rattle.std.proofs.Common.{rules, refl, sym, ap, subst}
 use Rattle.rmt_server.specs.State.{state}
-use Rattle.rmt_server.specs.Memory.{MemoryState}
 use Rattle.drives.specs.ListShop.{shop_of}
-use Rattle.drives.specs.declared.table.DriveTable.{DriveTable}
-use Rattle.drives.specs.declared.view.View.{View}
-use Rattle.drives.specs.Local.{Holders, holders}
-use Rattle.drives.specs.ListShop.{ListShop}
-use Rattle.tape.specs.Trouble.{TroubledTape}
-use Rattle.rmt_serve.specs.Serving.{IsAtRest, IsServedNext}
+use Rattle.rmt_serve.specs.Serving.{IsServedNext}
 use Rattle.rmt_serve.proofs.Endings.{unserved, ends_with}
 use Rattle.rmt_serve.proofs.Resting.{seated_rest, served_from_rest}
 use Rattle.rmt_serve.proofs.memory_server.MemoryServer.serve.Goals as goal

@@ -1,7 +1,6 @@
-use Rattle.std.proofs.Common.{rules, ◌≡◌, None, refl, sym, ap, subst}
+use Rattle.std.proofs.Common.{rules, None, refl, sym, ap, subst}
 use Rattle.drives.specs.contracts.local.LocalHoldsHolds.TheImpl.{ghosts as of_holds}
 use Rattle.drives.specs.Opening.{kinds}
-use Rattle.drives.specs.declared.table.DriveTable.{DriveTable}
 use Rattle.rmt_server.specs.State.{state}
 use Rattle.rmt_serve.specs.Generic.{IsServedAt}
 use Rattle.rmt_serve.specs.Generic.IsServedAt.{one_served}
