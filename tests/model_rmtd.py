@@ -31,7 +31,7 @@ CAPACITY = 1_048_576
 # So many connections are served at once.
 SEATS = 32
 # So often the lock of the bin's folder is asked for.
-LOCK_TURNS = 1_000
+LOCK_TURNS = 1_000_000
 END, FAILED, TRUNCATED, BROKEN = range(4)
 
 TEXTS = {

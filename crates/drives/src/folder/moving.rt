@@ -6,8 +6,8 @@ use std::io::{self, ErrorKind};
 use std::rt::Files;
 use std::thread;
 
-/// How often the lock of the bin's folder is asked for.
-const LOCK_TURNS: u32 = 1000;
+/// How often the lock of the bin's folder is asked for: about a second long, while a rename under it takes some milliseconds.
+const LOCK_TURNS: u32 = 1_000_000;
 
 /// The file of a latched reel. Both paths are made at the latch, so that the move takes no memory.
 #[derive(Drop)]
@@ -31,7 +31,7 @@ pub(super) enum Moved {
 
 /// Takes the advisory lock of a folder, which goes with the handle.
 ///
-/// Answers an error also where others have it at each of 1,000 turns.
+/// Answers an error also where others have it at each of 1,000,000 turns.
 fn lock(folder: &File) -> io::Result<()> {
     for _ in 0..LOCK_TURNS {
         match folder.try_lock() {
