@@ -29,10 +29,12 @@ PARTS = ("src", "specs", "proofs")
 # A program is also run once, when `rt` has built it: with words with which it ends at once, and does nothing.
 VERSION = ("--version",)
 WORDS = {"feed": ("replies", "1", "1000")}
-# The seconds of one processor that a line took, in all of 10 crates that were measured; in one of them from 0.14 to 0.62.
-SECONDS_A_LINE = 0.23
+# The seconds of one processor that a crate took, a line of it, and a program beside that, as measured of the server and what it stands on.
+SECONDS_A_CRATE = 75.0
+SECONDS_A_LINE = 0.11
+SECONDS_A_PROGRAM = 120.0
 # How many processors one crate keeps busy at most.
-BUSY = 3.0
+BUSY = 2.0
 # What a crate runs with that no crate of the longest chain waits for.
 FEW_JOBS = 2
 NICE = 5
@@ -103,7 +105,8 @@ def lines_of(crate: Crate) -> int:
 
 def seconds_of(crates: Crates) -> dict[str, float]:
     """The processor seconds that each crate is likely to take."""
-    return {name: SECONDS_A_LINE * lines_of(it) for name, it in crates.items()}
+    own = {name: SECONDS_A_CRATE + SECONDS_A_LINE * lines_of(it) for name, it in crates.items()}
+    return {name: seconds + SECONDS_A_PROGRAM * crates[name].is_program() for name, seconds in own.items()}
 
 
 def chains(crates: Crates) -> dict[str, float]:

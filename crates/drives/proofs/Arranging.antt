@@ -23,8 +23,8 @@ use Rattle.drives.specs.Arranging.{slot_named, without, picked, left, pile_of, a
 use Rattle.drives.specs.Stacking.{HasLatched}
 use Rattle.drives.specs.declared.fault.DriveFault.{DriveFault}
 use Rattle.drives.specs.declared.fault.DriveFault.TheVariants.{NoSuchDrive, Busy, NoReel, Device, OutOfMemory, NameTaken}
-use Rattle.drives.proofs.Shops.{bit, named, times-named, length-sum, sum_by-slots, sum_by-with_rack}
-use Rattle.drives.proofs.ListShop.{told, rack_at-rest, read_at, stocked-same}
+use Rattle.drives.proofs.Shops.{bit, named, times_named, length_sum, sum_by_slots, sum_by_with_rack}
+use Rattle.drives.proofs.ListShop.{told, rack_at_rest, read_at, stocked_same}
 
 -- what is left where the first that passes is taken out by its place
 place_step : {X : Type 0} (p : X → Bool) (x : X) (xs : List X) (b : Bool) → p x ≡ b → remove_key p xs ≡ take (position_or_len p xs) xs ++ drop (suc (position_or_len p xs)) xs
@@ -53,22 +53,22 @@ sum_picked f (name ∷ names) slots =
 pub sum_arranged : {X : Type 0} (f : Slot X → ℕ) (s : ShopOf X) (d : ℕ) (names : List (List ℕ)) → d < length s.racks → sum_by f (slots_in (arranged s d names)) ≡ sum_by f (slots_in s)
 sum_arranged f s d names l =
     let r = rack (rack_at s d).name (picked names (pile_of s d)) in
-    let a = sum_by-with_rack f s d r l in
-    let b = sum_by-slots f (with_rack s d r) in
-    let c = sum_by-slots f (arranged s d names) in
+    let a = sum_by_with_rack f s d r l in
+    let b = sum_by_slots f (with_rack s d r) in
+    let c = sum_by_slots f (arranged s d names) in
     let m = sum_by-append f s.bin (rack_at s d).stack in
     let n = sum_picked f names (pile_of s d) in
     omega (arith, a, b, c, m, n)
 
 -- no name comes or goes
-pub times-arranged : {X : Type 0} (s : ShopOf X) (d : ℕ) (names : List (List ℕ)) → d < length s.racks → (name : List ℕ) → times name (names_in (arranged s d names)) ≡ times name (names_in s)
-times-arranged s d names l name = times-named name (slots_in (arranged s d names)) ∙ sum_arranged (named name) s d names l ∙ sym (times-named name (slots_in s))
+pub times_arranged : {X : Type 0} (s : ShopOf X) (d : ℕ) (names : List (List ℕ)) → d < length s.racks → (name : List ℕ) → times name (names_in (arranged s d names)) ≡ times name (names_in s)
+times_arranged s d names l name = times_named name (slots_in (arranged s d names)) ∙ sum_arranged (named name) s d names l ∙ sym (times_named name (slots_in s))
 
-pub once-arranged : {X : Type 0} (s : ShopOf X) (d : ℕ) (names : List (List ℕ)) → d < length s.racks → EachReelOnce s → EachReelOnce (arranged s d names)
-once-arranged s d names l once name = subst (λ n. n ≤ 1) (sym (times-arranged s d names l name)) (once name)
+pub once_arranged : {X : Type 0} (s : ShopOf X) (d : ℕ) (names : List (List ℕ)) → d < length s.racks → EachReelOnce s → EachReelOnce (arranged s d names)
+once_arranged s d names l once name = subst (λ n. n ≤ 1) (sym (times_arranged s d names l name)) (once name)
 
-pub length-arranged : {X : Type 0} (s : ShopOf X) (d : ℕ) (names : List (List ℕ)) → d < length s.racks → length (slots_in (arranged s d names)) ≡ length (slots_in s)
-length-arranged s d names l = length-sum (slots_in (arranged s d names)) ∙ sum_arranged (λ x. 1) s d names l ∙ sym (length-sum (slots_in s))
+pub length_arranged : {X : Type 0} (s : ShopOf X) (d : ℕ) (names : List (List ℕ)) → d < length s.racks → length (slots_in (arranged s d names)) ≡ length (slots_in s)
+length_arranged s d names l = length_sum (slots_in (arranged s d names)) ∙ sum_arranged (λ x. 1) s d names l ∙ sym (length_sum (slots_in s))
 
 -- a reel of that name is found among those that have one
 found_step : {X : Type 0} (name : List ℕ) (x : Slot X) (rest : List (Slot X)) (b : Bool) → bytes_eq name x.name ≡ b → (b || is_among rest name) ≡ true
@@ -115,13 +115,13 @@ all_stay name (other ∷ names) slots n h =
     rw (stays_among name other slots no.0 yes.0) (all_stay name names slots no.1 yes.1)
 
 -- the names of the reels that are taken are those that were asked for
-pub names-picked : {X : Type 0} (names : List (List ℕ)) (slots : List (Slot X)) → are_distinct names ≡ true → list_all (is_among slots) names ≡ true → names_of (picked names slots) ≡ names
-names-picked [] slots d h = refl
-names-picked (name ∷ names) slots d h =
+pub names_picked : {X : Type 0} (names : List (List ℕ)) (slots : List (Slot X)) → are_distinct names ≡ true → list_all (is_among slots) names ≡ true → names_of (picked names slots) ≡ names
+names_picked [] slots d h = refl
+names_picked (name ∷ names) slots d h =
     let apart = both (not (list_any (bytes_eq name) names)) (are_distinct names) d in
     let there = both (is_among slots name) (list_all (is_among slots) names) h in
     let w = found_among name slots there.0 in
-    let more = names-picked names (without name slots) apart.1 (all_stay name names slots (turned _ apart.0) there.1) in
+    let more = names_picked names (without name slots) apart.1 (all_stay name names slots (turned _ apart.0) there.1) in
     ap (λ o. names_of (cons_option o (picked names (without name slots)))) w.1 ∙ ap (λ n. n ∷ names_of (picked names (without name slots))) w.2 ∙ ap (λ rest. name ∷ rest) more
 
 piled : {X : Type 0} (s : ShopOf X) (d : ℕ) (names : List (List ℕ)) → list_all (is_piled s d) names ≡ true
@@ -134,15 +134,15 @@ piled s d (name ∷ names) h =
 is_true : (b : Bool) → IsTrue b → b ≡ true
 is_true b h = h
 
-pub order-arranged : {U : Type 0} (old new : ListShop) (d : ℕ) (names : List (List ℕ)) (result : Result U DriveFault) → d < length old.shop.racks → IsTrue (may_arrange old.shop d names)
+pub order_arranged : {U : Type 0} (old new : ListShop) (d : ℕ) (names : List (List ℕ)) (result : Result U DriveFault) → d < length old.shop.racks → IsTrue (may_arrange old.shop d names)
     → IsArranged old d names result new → IfOk result (λ _. names_of (rack_at new.shop d).stack ≡ names)
-order-arranged old new d names (Ok x) l may h =
+order_arranged old new d names (Ok x) l may h =
     let all = both (not (is_some (latched_at old.shop d)) && are_distinct names) (list_all (is_piled old.shop d) names) (is_true _ may) in
     let apart = both (not (is_some (latched_at old.shop d))) (are_distinct names) all.0 in
     ap (λ (x : ListShop). names_of (rack_at x.shop d).stack) h
     ∙ ap (λ (r : Rack TroubledTape). names_of r.stack) (get_or-set_same old.shop.racks d (rack (rack_at old.shop d).name (picked names (pile_of old.shop d))) (rack [] []) l)
-    ∙ names-picked names (pile_of old.shop d) apart.1 (piled old.shop d names all.1)
-order-arranged old new d names (Err fault) l may h = tt
+    ∙ names_picked names (pile_of old.shop d) apart.1 (piled old.shop d names all.1)
+order_arranged old new d names (Err fault) l may h = tt
 
 -- a fact of what an arrangement left, which holds where nothing changed
 after_arranged : {U : Type 0} (P : ListShop → Type 0) (old new : ListShop) (d : ℕ) (names : List (List ℕ)) (result : Result U DriveFault) → IsArranged old d names result new
@@ -158,12 +158,12 @@ after_arranged P old new d names (Err NameTaken) h made same = absurd h
 pub arrange_told : {U : Type 0} (old new : ListShop) (d : ℕ) (names : List (List ℕ)) (result : Result U DriveFault) → d < length old.shop.racks → EachReelOnce old.shop
     → IsArranged old d names result new → IsShop new (shop_of new)
 arrange_told old new d names result l once h =
-    after_arranged (λ (x : ListShop). IsShop x (shop_of x)) old new d names result h (told (with_shop old (arranged old.shop d names)) (once-arranged old.shop d names l once)) (told old once)
+    after_arranged (λ (x : ListShop). IsShop x (shop_of x)) old new d names result h (told (with_shop old (arranged old.shop d names)) (once_arranged old.shop d names l once)) (told old once)
 
 pub arrange_names : {U : Type 0} (old new : ListShop) (d : ℕ) (names : List (List ℕ)) (result : Result U DriveFault) → d < length old.shop.racks
     → IsArranged old d names result new → (name : List ℕ) → times name (names_in new.shop) ≡ times name (names_in old.shop)
 arrange_names old new d names result l h name =
-    after_arranged (λ (x : ListShop). times name (names_in x.shop) ≡ times name (names_in old.shop)) old new d names result h (times-arranged old.shop d names l name) refl
+    after_arranged (λ (x : ListShop). times name (names_in x.shop) ≡ times name (names_in old.shop)) old new d names result h (times_arranged old.shop d names l name) refl
 
 still_able : (old : ListShop) (d : ℕ) (names : List (List ℕ)) → d < length old.shop.racks → StacksCanFail (with_shop old (arranged old.shop d names)) → StacksCanFail old
 still_able old d names l (inl e) = inl e
@@ -183,15 +183,15 @@ on_rest : (stack : List (Slot TroubledTape)) → latched_on (map rest_slot stack
 on_rest [] = refl
 on_rest (first ∷ rest) = away_rest first.name first.reel
 
-pub latched-rest : (s : ListShop) (e : ℕ) → latched_at (shop_of s) e ≡ latched_at s.shop e
-latched-rest s e = ap (λ (r : Rack _). latched_on r.stack) (rack_at-rest s e) ∙ on_rest (rack_at s.shop e).stack
+pub latched_rest : (s : ListShop) (e : ℕ) → latched_at (shop_of s) e ≡ latched_at s.shop e
+latched_rest s e = ap (λ (r : Rack _). latched_on r.stack) (rack_at_rest s e) ∙ on_rest (rack_at s.shop e).stack
 
 other_latched : (old : ListShop) (d e : ℕ) (names : List (List ℕ)) → EachReelOnce old.shop → e ≢ d → HasLatched IsShop old e → HasLatched IsShop (with_shop old (arranged old.shop d names)) e
 other_latched old d e names once n h t tells =
     let new = with_shop old (arranged old.shop d names) in
     let same : latched_at new.shop e ≡ latched_at old.shop e =
     ap (λ (r : Rack _). latched_on r.stack) (get_or-set_other old.shop.racks d e (rack (rack_at old.shop d).name (picked names (pile_of old.shop d))) (rack [] []) n) in
-    subst (λ o. IsSome o) (sym (ap (λ (x : Shop). latched_at x e) tells.0 ∙ latched-rest new e ∙ same ∙ sym (latched-rest old e))) (h (shop_of old) (told old once))
+    subst (λ o. IsSome o) (sym (ap (λ (x : Shop). latched_at x e) tells.0 ∙ latched_rest new e ∙ same ∙ sym (latched_rest old e))) (h (shop_of old) (told old once))
 
 pub arrange_elsewhere : {U : Type 0} (old new : ListShop) (d : ℕ) (names : List (List ℕ)) (result : Result U DriveFault) → EachReelOnce old.shop
     → IsArranged old d names result new → (e : ℕ) → e ≢ d → HasLatched IsShop old e → HasLatched IsShop new e
@@ -315,20 +315,20 @@ may_is s now d old f names latched differ there v l e a b m n bin stack g h u =
     (sym (ap (λ b. (not b && are_distinct (map f names)) && list_all (is_piled s.shop d) (map f names)) ready ∙ ap (λ b. b && list_all (is_piled s.shop d) (map f names)) apart ∙ all))
 
 -- what the fields keep where a stack was arranged
-pub stocked-arranged : (s : ShopOf TroubledTape) (d : ℕ) (old new : Rack TroubledTape) (names : List (List ℕ)) (onto bin : List (Slot TroubledTape)) (reels room more : ℕ) → d < length s.racks
+pub stocked_arranged : (s : ShopOf TroubledTape) (d : ℕ) (old new : Rack TroubledTape) (names : List (List ℕ)) (onto bin : List (Slot TroubledTape)) (reels room more : ℕ) → d < length s.racks
     → old ≡ get_or s.racks d old → new ≡ rack old.name onto → onto ≡ picked names (s.bin ++ old.stack) → bin ≡ left names (s.bin ++ old.stack) → room ≤ more → IsStocked s reels room
     → IsStocked (shop (set s.racks d new) bin) reels more
-stocked-arranged s d old new names onto bin reels room more l e n o b m h =
+stocked_arranged s d old new names onto bin reels room more l e n o b m h =
     let is : old ≡ rack_at s d = read_at s d old l e in
     let put : shop (set s.racks d new) bin ≡ shop (set s.racks d (rack old.name (picked names (s.bin ++ old.stack)))) (left names (s.bin ++ old.stack)) =
     ap (λ r. shop (set s.racks d r) bin) (n ∙ ap (λ st. rack old.name st) o) ∙ ap (λ xs. shop (set s.racks d (rack old.name (picked names (s.bin ++ old.stack)))) xs) b in
     let same = put ∙ ap (λ (r : Rack TroubledTape). shop (set s.racks d (rack r.name (picked names (s.bin ++ r.stack)))) (left names (s.bin ++ r.stack))) is in
     let made : IsStocked (arranged s d names) reels room = record {
-      once = once-arranged s d names l h.once;
-      counted = h.counted ∙ sym (length-arranged s d names l);
+      once = once_arranged s d names l h.once;
+      counted = h.counted ∙ sym (length_arranged s d names l);
       fits = h.fits;
     } in
-    stocked-same (arranged s d names) (shop (set s.racks d new) bin) reels room more same m made
+    stocked_same (arranged s d names) (shop (set s.racks d new) bin) reels room more same m made
 
 -- a reel that is found on the stacks or in the bin
 pub found_or : {X : Type 0} (name : List ℕ) (above below : List (Slot X)) (o : Option (Slot X)) → o ≡ slot_named name above → IsSome o → o ≡ slot_named name (above ++ below)

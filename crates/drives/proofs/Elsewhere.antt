@@ -6,14 +6,14 @@ use Rattle.drives.specs.ListShop.{ListShop, with_shop, at_rest, shop_of, IsShop,
 use Rattle.drives.specs.Stacking.{HasLatched}
 use Rattle.drives.specs.declared.fault.DriveFault.{DriveFault}
 use Rattle.drives.specs.declared.fault.DriveFault.TheVariants.{NoSuchDrive, Busy, NoReel, Device, OutOfMemory, NameTaken}
-use Rattle.drives.proofs.ListShop.{told, same_told, at_first-rest, to_bin-rest}
+use Rattle.drives.proofs.ListShop.{told, same_told, at_first_rest, to_bin_rest}
 
-at_first-elsewhere : {X : Type 0} (s : ShopOf X) (d e : ℕ) (reel : Option X) → e ≢ d → latched_at (at_first s d reel) e ≡ latched_at s e
-at_first-elsewhere s d e reel n =
+at_first_elsewhere : {X : Type 0} (s : ShopOf X) (d e : ℕ) (reel : Option X) → e ≢ d → latched_at (at_first s d reel) e ≡ latched_at s e
+at_first_elsewhere s d e reel n =
     ap (λ (r : Rack _). latched_on r.stack) (get_or-set_other s.racks d e (rack (rack_at s d).name (with_first reel (rack_at s d).stack)) (rack [] []) n)
 
-to_bin-elsewhere : {X : Type 0} (s : ShopOf X) (d e : ℕ) (reel : X) → e ≢ d → latched_at (to_bin s d reel) e ≡ latched_at s e
-to_bin-elsewhere s d e reel n =
+to_bin_elsewhere : {X : Type 0} (s : ShopOf X) (d e : ℕ) (reel : X) → e ≢ d → latched_at (to_bin s d reel) e ≡ latched_at s e
+to_bin_elsewhere s d e reel n =
     ap (λ (r : Rack _). latched_on r.stack) (get_or-set_other s.racks d e (rack (rack_at s d).name (drop 1 (rack_at s d).stack)) (rack [] []) n)
 
 -- where nothing changed, the same reels are latched
@@ -23,8 +23,8 @@ same_latched old new s e h t tells = h t (same_told new old (sym s) t tells)
 first_elsewhere : (old new : ListShop) (d : ℕ) (reel : Option TroubledTape) → EachReelOnce old.shop → new ≡ with_shop old (at_first old.shop d reel)
     → (e : ℕ) → e ≢ d → HasLatched IsShop old e → HasLatched IsShop new e
 first_elsewhere old new d reel once is e n h t tells =
-    subst (λ (x : Shop). IsSome (latched_at x e)) (sym (tells.0 ∙ ap shop_of is ∙ at_first-rest old d reel))
-    (subst (λ o. IsSome o) (sym (at_first-elsewhere (shop_of old) d e _ n)) (h (shop_of old) (told old once)))
+    subst (λ (x : Shop). IsSome (latched_at x e)) (sym (tells.0 ∙ ap shop_of is ∙ at_first_rest old d reel))
+    (subst (λ o. IsSome o) (sym (at_first_elsewhere (shop_of old) d e _ n)) (h (shop_of old) (told old once)))
 
 pub latch_stays : (old new : ListShop) (d : ℕ) (result : Result TroubledTape DriveFault) → IsReelLatched old d result new
     → IfErr result (λ _. (e : ℕ) → HasLatched IsShop old e → HasLatched IsShop new e)
@@ -48,5 +48,5 @@ lay_elsewhere old new d reel once is e n l = first_elsewhere old new d (Some ree
 pub move_elsewhere : (old new : ListShop) (d : ℕ) (reel : TroubledTape) (x : Unit {0}) → EachReelOnce old.shop → IsReelMoved old d reel (Ok x) new
     → (e : ℕ) → e ≢ d → HasLatched IsShop old e → HasLatched IsShop new e
 move_elsewhere old new d reel x once h e n l t tells =
-    subst (λ (x : Shop). IsSome (latched_at x e)) (sym (tells.0 ∙ ap shop_of h.1 ∙ to_bin-rest old d reel))
-    (subst (λ o. IsSome o) (sym (to_bin-elsewhere (shop_of old) d e (at_rest reel) n)) (l (shop_of old) (told old once)))
+    subst (λ (x : Shop). IsSome (latched_at x e)) (sym (tells.0 ∙ ap shop_of h.1 ∙ to_bin_rest old d reel))
+    (subst (λ o. IsSome o) (sym (to_bin_elsewhere (shop_of old) d e (at_rest reel) n)) (l (shop_of old) (told old once)))

@@ -17,75 +17,75 @@ use Rattle.drives.specs.ListShop.{ListShop, with_shop, with_reel, blank_reel, at
 use Rattle.drives.specs.Stacking.{LatchStep, HasLatched}
 use Rattle.drives.specs.declared.fault.DriveFault.{DriveFault}
 use Rattle.drives.specs.declared.fault.DriveFault.TheVariants.{NoSuchDrive, Busy, NoReel, Device, OutOfMemory, NameTaken}
-use Rattle.drives.proofs.Shops.{bit, named, times-named, length-sum, sum_by-added, slots-drive, sum_by-at_first, sum_by-to_bin, once-at_first, once-to_bin, length-at_first, length-to_bin, bin_below, bin_within, length-waiting, length-latched, latched-at_first, first_of}
+use Rattle.drives.proofs.Shops.{bit, named, times_named, length_sum, sum_by_added, slots_drive, sum_by_at_first, sum_by_to_bin, once_at_first, once_to_bin, length_at_first, length_to_bin, bin_below, bin_within, length_waiting, length_latched, latched_at_first, first_of}
 
 -- a drive at rest
-pub rack_at-rest : (s : ListShop) (d : ℕ) → rack_at (shop_of s) d ≡ rest_rack (rack_at s.shop d)
-rack_at-rest s d = get_or-map rest_rack s.shop.racks d (rack [] [])
+pub rack_at_rest : (s : ListShop) (d : ℕ) → rack_at (shop_of s) d ≡ rest_rack (rack_at s.shop d)
+rack_at_rest s d = get_or-map rest_rack s.shop.racks d (rack [] [])
 
-length-rest : (s : ListShop) (d : ℕ) → d < length s.shop.racks → d < length (shop_of s).racks
-length-rest s d l = subst (λ n. d < n) (sym (length-map s.shop.racks rest_rack)) l
+length_rest : (s : ListShop) (d : ℕ) → d < length s.shop.racks → d < length (shop_of s).racks
+length_rest s d l = subst (λ n. d < n) (sym (length-map s.shop.racks rest_rack)) l
 
-first-rest : (stack : List (Slot TroubledTape)) → first_reel (map rest_slot stack) ≡ option_map at_rest (first_reel stack)
-first-rest [] = refl
-first-rest (first ∷ rest) = refl
+first_rest : (stack : List (Slot TroubledTape)) → first_reel (map rest_slot stack) ≡ option_map at_rest (first_reel stack)
+first_rest [] = refl
+first_rest (first ∷ rest) = refl
 
-with_first-rest : (reel : Option TroubledTape) (stack : List (Slot TroubledTape)) → map rest_slot (with_first reel stack) ≡ with_first (option_map at_rest reel) (map rest_slot stack)
-with_first-rest reel [] = refl
-with_first-rest reel (first ∷ rest) = refl
+with_first_rest : (reel : Option TroubledTape) (stack : List (Slot TroubledTape)) → map rest_slot (with_first reel stack) ≡ with_first (option_map at_rest reel) (map rest_slot stack)
+with_first_rest reel [] = refl
+with_first_rest reel (first ∷ rest) = refl
 
-drop-rest : (stack : List (Slot TroubledTape)) → map rest_slot (drop 1 stack) ≡ drop 1 (map rest_slot stack)
-drop-rest [] = refl
-drop-rest (first ∷ rest) = refl
+drop_rest : (stack : List (Slot TroubledTape)) → map rest_slot (drop 1 stack) ≡ drop 1 (map rest_slot stack)
+drop_rest [] = refl
+drop_rest (first ∷ rest) = refl
 
-take-rest : (stack : List (Slot TroubledTape)) → map rest_slot (take 1 stack) ≡ take 1 (map rest_slot stack)
-take-rest [] = refl
-take-rest (first ∷ rest) = refl
+take_rest : (stack : List (Slot TroubledTape)) → map rest_slot (take 1 stack) ≡ take 1 (map rest_slot stack)
+take_rest [] = refl
+take_rest (first ∷ rest) = refl
 
-waiting-rest : (s : ListShop) (d : ℕ) → waiting_reel (shop_of s) d ≡ option_map at_rest (waiting_reel s.shop d)
-waiting-rest s d = ap (λ (r : Rack KeptReel). first_reel r.stack) (rack_at-rest s d) ∙ first-rest (rack_at s.shop d).stack
+waiting_rest : (s : ListShop) (d : ℕ) → waiting_reel (shop_of s) d ≡ option_map at_rest (waiting_reel s.shop d)
+waiting_rest s d = ap (λ (r : Rack KeptReel). first_reel r.stack) (rack_at_rest s d) ∙ first_rest (rack_at s.shop d).stack
 
-length-stack-rest : (s : ListShop) (d : ℕ) → length (rack_at (shop_of s) d).stack ≡ length (rack_at s.shop d).stack
-length-stack-rest s d = ap (λ (r : Rack KeptReel). length r.stack) (rack_at-rest s d) ∙ length-map (rack_at s.shop d).stack rest_slot
+length_stack_rest : (s : ListShop) (d : ℕ) → length (rack_at (shop_of s) d).stack ≡ length (rack_at s.shop d).stack
+length_stack_rest s d = ap (λ (r : Rack KeptReel). length r.stack) (rack_at_rest s d) ∙ length-map (rack_at s.shop d).stack rest_slot
 
 -- the names of the reels at rest are theirs
-slots-rest : (racks : List (Rack TroubledTape)) → flat_map (λ r. r.stack) (map rest_rack racks) ≡ map rest_slot (flat_map (λ r. r.stack) racks)
-slots-rest [] = refl
-slots-rest (r ∷ racks) = ap (λ xs. map rest_slot r.stack ++ xs) (slots-rest racks) ∙ sym (map-append rest_slot r.stack (flat_map (λ r. r.stack) racks))
+slots_rest : (racks : List (Rack TroubledTape)) → flat_map (λ r. r.stack) (map rest_rack racks) ≡ map rest_slot (flat_map (λ r. r.stack) racks)
+slots_rest [] = refl
+slots_rest (r ∷ racks) = ap (λ xs. map rest_slot r.stack ++ xs) (slots_rest racks) ∙ sym (map-append rest_slot r.stack (flat_map (λ r. r.stack) racks))
 
-pub slots_in-rest : (s : ListShop) → slots_in (shop_of s) ≡ map rest_slot (slots_in s.shop)
-slots_in-rest s = ap (λ xs. xs ++ map rest_slot s.shop.bin) (slots-rest s.shop.racks) ∙ sym (map-append rest_slot (flat_map (λ r. r.stack) s.shop.racks) s.shop.bin)
+pub slots_in_rest : (s : ListShop) → slots_in (shop_of s) ≡ map rest_slot (slots_in s.shop)
+slots_in_rest s = ap (λ xs. xs ++ map rest_slot s.shop.bin) (slots_rest s.shop.racks) ∙ sym (map-append rest_slot (flat_map (λ r. r.stack) s.shop.racks) s.shop.bin)
 
-names-rest : (s : ListShop) → names_in (shop_of s) ≡ names_in s.shop
-names-rest s =
-    ap names_of (slots_in-rest s) ∙ map-map (λ x. x.name) rest_slot (slots_in s.shop)
+names_rest : (s : ListShop) → names_in (shop_of s) ≡ names_in s.shop
+names_rest s =
+    ap names_of (slots_in_rest s) ∙ map-map (λ x. x.name) rest_slot (slots_in s.shop)
 
-pub once-rest : (s : ListShop) → EachReelOnce s.shop → EachReelOnce (shop_of s)
-once-rest s once name = subst (λ names. times name names ≤ 1) (sym (names-rest s)) (once name)
+pub once_rest : (s : ListShop) → EachReelOnce s.shop → EachReelOnce (shop_of s)
+once_rest s once name = subst (λ names. times name names ≤ 1) (sym (names_rest s)) (once name)
 
 -- they tell their shop
 pub told : (s : ListShop) → EachReelOnce s.shop → IsShop s (shop_of s)
-told s once = (refl, once-rest s once)
+told s once = (refl, once_rest s once)
 
-pub at_first-rest : (s : ListShop) (d : ℕ) (reel : Option TroubledTape) → shop_of (with_shop s (at_first s.shop d reel)) ≡ at_first (shop_of s) d (option_map at_rest reel)
-at_first-rest s d reel =
+pub at_first_rest : (s : ListShop) (d : ℕ) (reel : Option TroubledTape) → shop_of (with_shop s (at_first s.shop d reel)) ≡ at_first (shop_of s) d (option_map at_rest reel)
+at_first_rest s d reel =
     let r = rack_at s.shop d in
     let racks = map rest_rack s.shop.racks in
     let bin = map rest_slot s.shop.bin in
     ap (λ rs. shop rs bin) (map-set rest_rack s.shop.racks d (rack r.name (with_first reel r.stack)))
-    ∙ ap (λ st. shop (set racks d (rack r.name st)) bin) (with_first-rest reel r.stack)
-    ∙ ap (λ (x : Rack KeptReel). shop (set racks d (rack x.name (with_first (option_map at_rest reel) x.stack))) bin) (sym (rack_at-rest s d))
+    ∙ ap (λ st. shop (set racks d (rack r.name st)) bin) (with_first_rest reel r.stack)
+    ∙ ap (λ (x : Rack KeptReel). shop (set racks d (rack x.name (with_first (option_map at_rest reel) x.stack))) bin) (sym (rack_at_rest s d))
 
-pub to_bin-rest : (s : ListShop) (d : ℕ) (reel : TroubledTape) → shop_of (with_shop s (to_bin s.shop d reel)) ≡ to_bin (shop_of s) d (at_rest reel)
-to_bin-rest s d reel =
+pub to_bin_rest : (s : ListShop) (d : ℕ) (reel : TroubledTape) → shop_of (with_shop s (to_bin s.shop d reel)) ≡ to_bin (shop_of s) d (at_rest reel)
+to_bin_rest s d reel =
     let r = rack_at s.shop d in
     let racks = map rest_rack s.shop.racks in
     let bin = map rest_slot s.shop.bin in
     ap (λ rs. shop rs (map rest_slot (s.shop.bin ++ with_first (Some reel) (take 1 r.stack)))) (map-set rest_rack s.shop.racks d (rack r.name (drop 1 r.stack)))
-    ∙ ap (λ st. shop (set racks d (rack r.name st)) (map rest_slot (s.shop.bin ++ with_first (Some reel) (take 1 r.stack)))) (drop-rest r.stack)
+    ∙ ap (λ st. shop (set racks d (rack r.name st)) (map rest_slot (s.shop.bin ++ with_first (Some reel) (take 1 r.stack)))) (drop_rest r.stack)
     ∙ ap (λ xs. shop (set racks d (rack r.name (drop 1 (map rest_slot r.stack)))) xs) (map-append rest_slot s.shop.bin (with_first (Some reel) (take 1 r.stack)))
-    ∙ ap (λ xs. shop (set racks d (rack r.name (drop 1 (map rest_slot r.stack)))) (bin ++ xs)) (with_first-rest (Some reel) (take 1 r.stack) ∙ ap (λ st. with_first (Some (at_rest reel)) st) (take-rest r.stack))
-    ∙ ap (λ (x : Rack KeptReel). shop (set racks d (rack x.name (drop 1 x.stack))) (bin ++ with_first (Some (at_rest reel)) (take 1 x.stack))) (sym (rack_at-rest s d))
+    ∙ ap (λ xs. shop (set racks d (rack r.name (drop 1 (map rest_slot r.stack)))) (bin ++ xs)) (with_first_rest (Some reel) (take 1 r.stack) ∙ ap (λ st. with_first (Some (at_rest reel)) st) (take_rest r.stack))
+    ∙ ap (λ (x : Rack KeptReel). shop (set racks d (rack x.name (drop 1 x.stack))) (bin ++ with_first (Some (at_rest reel)) (take 1 x.stack))) (sym (rack_at_rest s d))
 
 -- where all stays, what is told stays
 pub same_told : (old new : ListShop) → new.shop ≡ old.shop → (t : Shop) → IsShop old t → IsShop new t
@@ -123,7 +123,7 @@ latched_first s d r e = first_waits (rack_at s.shop d).stack r e
 some_waits : (s : ListShop) (t : Shop) (d : ℕ) → t ≡ shop_of s → (o : Option TroubledTape) → waiting_reel s.shop d ≡ o → IsSome o → waiting_reel t d ≢ None
 some_waits s t d e None w h = absurd cc
 some_waits s t d e (Some r) w h = λ none.
-    let is : waiting_reel t d ≡ Some (at_rest r) = ap (λ (x : Shop). waiting_reel x d) e ∙ waiting-rest s d ∙ ap (λ o. option_map at_rest o) w in
+    let is : waiting_reel t d ≡ Some (at_rest r) = ap (λ (x : Shop). waiting_reel x d) e ∙ waiting_rest s d ∙ ap (λ o. option_map at_rest o) w in
     absurd cc
 
 -- a latch is one of the shop that is told
@@ -131,12 +131,12 @@ pub latch_steps : (old new : ListShop) (d : ℕ) (result : Result TroubledTape D
     → Steps IsShop old new (LatchStep IsTapeOf (λ r. r.capacity) d result)
 latch_steps old new d (Ok reel) l h t tells =
     let r : TroubledTape = h.1.0 in
-    let waits : waiting_reel t d ≡ Some (at_rest r) = ap (λ (x : Shop). waiting_reel x d) tells.0 ∙ waiting-rest old d ∙ ap (λ o. option_map at_rest o) h.1.1 in
-    let is : at_first t d None ≡ shop_of new = ap (λ (x : Shop). at_first x d None) tells.0 ∙ sym (at_first-rest old d None) ∙ ap shop_of (sym h.2) in
-    let below : d < length t.racks = subst (λ (x : Shop). d < length x.racks) (sym tells.0) (length-rest old d l) in
-    (at_first t d None, (is, once-at_first t d None below tells.1), (at_rest r, waits, refl, ap (λ (x : TroubledTape). x.tape) h.1.2, ap (λ (x : TroubledTape). x.capacity) h.1.2))
+    let waits : waiting_reel t d ≡ Some (at_rest r) = ap (λ (x : Shop). waiting_reel x d) tells.0 ∙ waiting_rest old d ∙ ap (λ o. option_map at_rest o) h.1.1 in
+    let is : at_first t d None ≡ shop_of new = ap (λ (x : Shop). at_first x d None) tells.0 ∙ sym (at_first_rest old d None) ∙ ap shop_of (sym h.2) in
+    let below : d < length t.racks = subst (λ (x : Shop). d < length x.racks) (sym tells.0) (length_rest old d l) in
+    (at_first t d None, (is, once_at_first t d None below tells.1), (at_rest r, waits, refl, ap (λ (x : TroubledTape). x.tape) h.1.2, ap (λ (x : TroubledTape). x.capacity) h.1.2))
 latch_steps old new d (Err NoReel) l h t tells =
-    (t, same_told old new (ap (λ (x : ListShop). x.shop) h.1) t tells, (ap (λ (x : Shop). waiting_reel x d) tells.0 ∙ waiting-rest old d ∙ ap (λ o. option_map at_rest o) h.0, refl))
+    (t, same_told old new (ap (λ (x : ListShop). x.shop) h.1) t tells, (ap (λ (x : Shop). waiting_reel x d) tells.0 ∙ waiting_rest old d ∙ ap (λ o. option_map at_rest o) h.0, refl))
 latch_steps old new d (Err Device) l h t tells =
     (t, same_told old new (ap (λ (x : ListShop). x.shop) h.2) t tells, (some_waits old t d tells.0 (waiting_reel old.shop d) refl h.1, refl))
 latch_steps old new d (Err (Busy n)) l h t tells = absurd h
@@ -148,10 +148,10 @@ latch_steps old new d (Err NameTaken) l h t tells = absurd h
 pub latch_away : (old new : ListShop) (d : ℕ) (result : Result TroubledTape DriveFault) → d < length old.shop.racks → IsReelLatched old d result new
     → IfOk result (λ _. HasLatched IsShop new d)
 latch_away old new d (Ok reel) l h = λ t tells.
-    let some : 0 < length (rack_at old.shop d).stack = length-waiting (rack_at old.shop d).stack h.1.0 h.1.1 in
-    let rests : 0 < length (rack_at (shop_of old) d).stack = rw (length-stack-rest old d) some in
-    let is : t ≡ at_first (shop_of old) d None = tells.0 ∙ ap shop_of h.2 ∙ at_first-rest old d None in
-    subst (λ (x : Shop). IsSome (latched_at x d)) (sym is) (latched-at_first (shop_of old) d (length-rest old d l) rests)
+    let some : 0 < length (rack_at old.shop d).stack = length_waiting (rack_at old.shop d).stack h.1.0 h.1.1 in
+    let rests : 0 < length (rack_at (shop_of old) d).stack = rw (length_stack_rest old d) some in
+    let is : t ≡ at_first (shop_of old) d None = tells.0 ∙ ap shop_of h.2 ∙ at_first_rest old d None in
+    subst (λ (x : Shop). IsSome (latched_at x d)) (sym is) (latched_at_first (shop_of old) d (length_rest old d l) rests)
 latch_away old new d (Err fault) l h = tt
 
 -- no reel that can fail comes to the stacks in a latch
@@ -159,7 +159,7 @@ pub latch_quiet : (old new : ListShop) (d : ℕ) (result : Result TroubledTape D
 latch_quiet old new d (Ok reel) l h (inl e) = inl (sym (ap (λ (x : ListShop). x.trouble) h.2) ∙ e)
 latch_quiet old new d (Ok reel) l h (inr m) =
     let w = latched_first old d h.1.0 h.1.1 in
-    let sum = sum_by-at_first (λ x. bit (is_set_in x.reel)) old.shop d None w.0 w.1 l w.2 in
+    let sum = sum_by_at_first (λ x. bit (is_set_in x.reel)) old.shop d None w.0 w.1 l w.2 in
     let is : troubled_in new.shop ≡ troubled_in (at_first old.shop d None) = ap (λ (x : ListShop). troubled_in x.shop) h.2 in
     inr (omega (arith, sum, is, m))
 latch_quiet old new d (Err NoReel) l h f = subst StacksCanFail h.1 f
@@ -174,7 +174,7 @@ pub latch_quiet_reel : (old new : ListShop) (d : ℕ) (result : Result TroubledT
     → IfOk result (λ reel. reel.trouble ≢ NoTrouble → StacksCanFail old)
 latch_quiet_reel old new d (Ok reel) l h = λ troubled.
     let w = latched_first old d h.1.0 h.1.1 in
-    let sum = sum_by-at_first (λ x. bit (is_set_in x.reel)) old.shop d None w.0 w.1 l w.2 in
+    let sum = sum_by_at_first (λ x. bit (is_set_in x.reel)) old.shop d None w.0 w.1 l w.2 in
     let set : is_set_in w.0.reel ≡ true = ap is_set_in w.3 ∙ ap (λ (x : TroubledTape). is_set x.trouble) (sym h.1.2) ∙ set_is reel.trouble troubled in
     let one : bit (is_set_in w.0.reel) ≡ 1 = ap bit set in
     inr (omega (arith, sum, one))
@@ -184,16 +184,16 @@ latch_quiet_reel old new d (Err fault) l h = tt
 pub lay_steps : (old new : ListShop) (d : ℕ) (reel : TroubledTape) → d < length old.shop.racks → new ≡ with_shop old (at_first old.shop d (Some reel))
     → (t : Tape) → IsTapeOf reel t → Steps IsShop old new (λ s now. now ≡ after_unlatch s d (entries_of t) reel.capacity)
 lay_steps old new d reel l h tape on t tells =
-    let is : at_first t d (Some (at_rest reel)) ≡ shop_of new = ap (λ (x : Shop). at_first x d (Some (at_rest reel))) tells.0 ∙ sym (at_first-rest old d (Some reel)) ∙ ap shop_of (sym h) in
-    let below : d < length t.racks = subst (λ (x : Shop). d < length x.racks) (sym tells.0) (length-rest old d l) in
-    (at_first t d (Some (at_rest reel)), (is, once-at_first t d (Some (at_rest reel)) below tells.1), ap (λ x. at_first t d (Some (kept_reel (entries_of x) reel.capacity))) on)
+    let is : at_first t d (Some (at_rest reel)) ≡ shop_of new = ap (λ (x : Shop). at_first x d (Some (at_rest reel))) tells.0 ∙ sym (at_first_rest old d (Some reel)) ∙ ap shop_of (sym h) in
+    let below : d < length t.racks = subst (λ (x : Shop). d < length x.racks) (sym tells.0) (length_rest old d l) in
+    (at_first t d (Some (at_rest reel)), (is, once_at_first t d (Some (at_rest reel)) below tells.1), ap (λ x. at_first t d (Some (kept_reel (entries_of x) reel.capacity))) on)
 
 pub lay_quiet : (old new : ListShop) (d : ℕ) (reel : TroubledTape) → d < length old.shop.racks → 0 < length (rack_at old.shop d).stack → new ≡ with_shop old (at_first old.shop d (Some reel))
     → StacksCanFail new → StacksCanFail old ⊎ (reel.trouble ≢ NoTrouble)
 lay_quiet old new d reel l some h (inl e) = inl (inl (sym (ap (λ (x : ListShop). x.trouble) h) ∙ e))
 lay_quiet old new d reel l some h (inr m) =
     let w = first_of (rack_at old.shop d).stack some in
-    let sum = sum_by-at_first (λ x. bit (is_set_in x.reel)) old.shop d (Some reel) w.0 w.1 l w.2 in
+    let sum = sum_by_at_first (λ x. bit (is_set_in x.reel)) old.shop d (Some reel) w.0 w.1 l w.2 in
     let is : troubled_in new.shop ≡ troubled_in (at_first old.shop d (Some reel)) = ap (λ (x : ListShop). troubled_in x.shop) h in
     laid_or old reel (is_set reel.trouble) refl (omega (arith, sum, is, m))
 
@@ -201,58 +201,58 @@ lay_quiet old new d reel l some h (inr m) =
 pub move_steps : (old new : ListShop) (d : ℕ) (reel : TroubledTape) (x : Unit {0}) → d < length old.shop.racks → HasLatched IsShop old d → IsReelMoved old d reel (Ok x) new
     → (t : Tape) → IsTapeOf reel t → Steps IsShop old new (λ s now. now ≡ after_offline s d (entries_of t) reel.capacity)
 move_steps old new d reel x l latched h tape on t tells =
-    let is : to_bin t d (at_rest reel) ≡ shop_of new = ap (λ (x : Shop). to_bin x d (at_rest reel)) tells.0 ∙ sym (to_bin-rest old d reel) ∙ ap shop_of (sym h.1) in
-    let below : d < length t.racks = subst (λ (x : Shop). d < length x.racks) (sym tells.0) (length-rest old d l) in
-    let some : 0 < length (rack_at t d).stack = length-latched (rack_at t d).stack (latched t tells) in
-    (to_bin t d (at_rest reel), (is, once-to_bin t d (at_rest reel) below some tells.1), ap (λ x. to_bin t d (kept_reel (entries_of x) reel.capacity)) on)
+    let is : to_bin t d (at_rest reel) ≡ shop_of new = ap (λ (x : Shop). to_bin x d (at_rest reel)) tells.0 ∙ sym (to_bin_rest old d reel) ∙ ap shop_of (sym h.1) in
+    let below : d < length t.racks = subst (λ (x : Shop). d < length x.racks) (sym tells.0) (length_rest old d l) in
+    let some : 0 < length (rack_at t d).stack = length_latched (rack_at t d).stack (latched t tells) in
+    (to_bin t d (at_rest reel), (is, once_to_bin t d (at_rest reel) below some tells.1), ap (λ x. to_bin t d (kept_reel (entries_of x) reel.capacity)) on)
 
 pub move_quiet : (old new : ListShop) (d : ℕ) (reel : TroubledTape) (x : Unit {0}) → d < length old.shop.racks → 0 < length (rack_at old.shop d).stack
     → IsReelMoved old d reel (Ok x) new → StacksCanFail new → StacksCanFail old ⊎ (reel.trouble ≢ NoTrouble)
 move_quiet old new d reel x l some h (inl e) = inl (inl (sym (ap (λ (x : ListShop). x.trouble) h.1) ∙ e))
 move_quiet old new d reel x l some h (inr m) =
     let w = first_of (rack_at old.shop d).stack some in
-    let sum = sum_by-to_bin (λ x. bit (is_set_in x.reel)) old.shop d reel w.0 w.1 l w.2 in
+    let sum = sum_by_to_bin (λ x. bit (is_set_in x.reel)) old.shop d reel w.0 w.1 l w.2 in
     let is : troubled_in new.shop ≡ troubled_in (to_bin old.shop d reel) = ap (λ (x : ListShop). troubled_in x.shop) h.1 in
     laid_or old reel (is_set reel.trouble) refl (omega (arith, sum, is, m))
 
 -- where a reel is latched the stack is not empty
 pub some_latched : (s : ListShop) (d : ℕ) → EachReelOnce s.shop → HasLatched IsShop s d → 0 < length (rack_at s.shop d).stack
-some_latched s d once latched = rw (sym (length-stack-rest s d)) (length-latched (rack_at (shop_of s) d).stack (latched (shop_of s) (told s once)))
+some_latched s d once latched = rw (sym (length_stack_rest s d)) (length_latched (rack_at (shop_of s) d).stack (latched (shop_of s) (told s once)))
 
 -- what the fields keep
-pub stocked-at_first : (s : ShopOf TroubledTape) (d : ℕ) (reel : Option TroubledTape) (reels room : ℕ) → d < length s.racks → IsStocked s reels room → IsStocked (at_first s d reel) reels room
-stocked-at_first s d reel reels room l h = record {
-  once = once-at_first s d reel l h.once;
-  counted = h.counted ∙ sym (length-at_first s d reel l);
+pub stocked_at_first : (s : ShopOf TroubledTape) (d : ℕ) (reel : Option TroubledTape) (reels room : ℕ) → d < length s.racks → IsStocked s reels room → IsStocked (at_first s d reel) reels room
+stocked_at_first s d reel reels room l h = record {
+  once = once_at_first s d reel l h.once;
+  counted = h.counted ∙ sym (length_at_first s d reel l);
   fits = h.fits;
 }
 
-pub stocked-to_bin : (s : ShopOf TroubledTape) (d : ℕ) (reel : TroubledTape) (reels room : ℕ) → d < length s.racks → 0 < length (rack_at s d).stack → IsStocked s reels room
+pub stocked_to_bin : (s : ShopOf TroubledTape) (d : ℕ) (reel : TroubledTape) (reels room : ℕ) → d < length s.racks → 0 < length (rack_at s d).stack → IsStocked s reels room
     → IsStocked (to_bin s d reel) reels room
-stocked-to_bin s d reel reels room l some h = record {
-  once = once-to_bin s d reel l some h.once;
-  counted = h.counted ∙ sym (length-to_bin s d reel l some);
+stocked_to_bin s d reel reels room l some h = record {
+  once = once_to_bin s d reel l some h.once;
+  counted = h.counted ∙ sym (length_to_bin s d reel l some);
   fits = h.fits;
 }
 
-pub stocked-same : (s t : ShopOf TroubledTape) (reels room more : ℕ) → t ≡ s → room ≤ more → IsStocked s reels room → IsStocked t reels more
-stocked-same s t reels room more e m h = record {
+pub stocked_same : (s t : ShopOf TroubledTape) (reels room more : ℕ) → t ≡ s → room ≤ more → IsStocked s reels room → IsStocked t reels more
+stocked_same s t reels room more e m h = record {
   once = subst EachReelOnce (sym e) h.once;
   counted = h.counted ∙ ap (λ x. length (slots_in x)) (sym e);
   fits = (let f = h.fits in omega (arith, f, m));
 }
 
 -- a drive has the name that is told
-name-rest : (s : ListShop) (t : Shop) (k : ℕ) → t ≡ shop_of s → (rack_at t k).name ≡ (rack_at s.shop k).name
-name-rest s t k e = ap (λ (x : Shop). (rack_at x k).name) e ∙ ap (λ (r : Rack KeptReel). r.name) (rack_at-rest s k)
+name_rest : (s : ListShop) (t : Shop) (k : ℕ) → t ≡ shop_of s → (rack_at t k).name ≡ (rack_at s.shop k).name
+name_rest s t k e = ap (λ (x : Shop). (rack_at x k).name) e ∙ ap (λ (r : Rack KeptReel). r.name) (rack_at_rest s k)
 
-racks-rest : (s : ListShop) (t : Shop) → t ≡ shop_of s → length t.racks ≡ length s.shop.racks
-racks-rest s t e = ap (λ (x : Shop). length x.racks) e ∙ length-map s.shop.racks rest_rack
+racks_rest : (s : ListShop) (t : Shop) → t ≡ shop_of s → length t.racks ≡ length s.shop.racks
+racks_rest s t e = ap (λ (x : Shop). length x.racks) e ∙ length-map s.shop.racks rest_rack
 
-pub named-rest : (s : ListShop) (name : List ℕ) (found : Option ℕ) → IsDriveNamed name s.shop found → (t : Shop) → IsShop s t → IsDriveNamed name t found
-named-rest s name None h t tells = λ k l same. h k (subst (λ n. k < n) (racks-rest s t tells.0) l) (sym (name-rest s t k tells.0) ∙ same)
-named-rest s name (Some d) h t tells =
-    (subst (λ n. d < n) (sym (racks-rest s t tells.0)) h.0, name-rest s t d tells.0 ∙ h.1, λ k l same. h.2 k l (sym (name-rest s t k tells.0) ∙ same))
+pub named_rest : (s : ListShop) (name : List ℕ) (found : Option ℕ) → IsDriveNamed name s.shop found → (t : Shop) → IsShop s t → IsDriveNamed name t found
+named_rest s name None h t tells = λ k l same. h k (subst (λ n. k < n) (racks_rest s t tells.0) l) (sym (name_rest s t k tells.0) ∙ same)
+named_rest s name (Some d) h t tells =
+    (subst (λ n. d < n) (sym (racks_rest s t tells.0)) h.0, name_rest s t d tells.0 ∙ h.1, λ k l same. h.2 k l (sym (name_rest s t k tells.0) ∙ same))
 
 pub read_at : (s : ShopOf TroubledTape) (d : ℕ) (old : Rack TroubledTape) → d < length s.racks → old ≡ get_or s.racks d old → old ≡ rack_at s d
 read_at s d old l e = e ∙ get_or_default s.racks d old (rack [] []) l
@@ -268,11 +268,11 @@ once_more x name before after false e o free h =
     omega (arith, one, h, o)
 
 -- the same, for a drive that was read out of the list and is put back changed
-pub stocked-first : (s : ShopOf TroubledTape) (d : ℕ) (old new : Rack TroubledTape) (reel : Option TroubledTape) (reels room : ℕ) → d < length s.racks → old ≡ get_or s.racks d old
+pub stocked_first : (s : ShopOf TroubledTape) (d : ℕ) (old new : Rack TroubledTape) (reel : Option TroubledTape) (reels room : ℕ) → d < length s.racks → old ≡ get_or s.racks d old
     → new ≡ rack old.name (with_first reel old.stack) → IsStocked s reels room → IsStocked (shop (set s.racks d new) s.bin) reels room
-stocked-first s d old new reel reels room l e n h =
+stocked_first s d old new reel reels room l e n h =
     let is : new ≡ rack (rack_at s d).name (with_first reel (rack_at s d).stack) = n ∙ ap (λ (r : Rack TroubledTape). rack r.name (with_first reel r.stack)) (read_at s d old l e) in
-    stocked-same (at_first s d reel) (shop (set s.racks d new) s.bin) reels room room (ap (λ r. shop (set s.racks d r) s.bin) is) (omega arith) (stocked-at_first s d reel reels room l h)
+    stocked_same (at_first s d reel) (shop (set s.racks d new) s.bin) reels room room (ap (λ r. shop (set s.racks d r) s.bin) is) (omega arith) (stocked_at_first s d reel reels room l h)
 
 -- what the fields keep is so of the value
 pub value_some : (s now : ListShop) (d : ℕ) (reels room : ℕ) → s ≡ now → IsStocked s.shop reels room → HasLatched IsShop now d → 0 < length (rack_at now.shop d).stack
@@ -294,10 +294,10 @@ room_some s now d reels room v l h some =
     omega (arith, below, bin, all, counted, fits)
 
 -- the same, for a drive whose first reel was moved to the bin
-pub stocked-moved : (s now : ListShop) (d : ℕ) (old new : Rack TroubledTape) (first : Slot TroubledTape) (reel : TroubledTape) (bin : List (Slot TroubledTape)) (reels room more : ℕ)
+pub stocked_moved : (s now : ListShop) (d : ℕ) (old new : Rack TroubledTape) (first : Slot TroubledTape) (reel : TroubledTape) (bin : List (Slot TroubledTape)) (reels room more : ℕ)
     → s ≡ now → d < length now.shop.racks → 0 < length (rack_at now.shop d).stack → old ≡ get_or s.shop.racks d old → old.stack ≡ first ∷ new.stack → new.name ≡ old.name
     → bin ≡ s.shop.bin ++ slot first.name (Some reel) ∷ [] → more ≡ room → IsStocked s.shop reels room → IsStocked (shop (set s.shop.racks d new) bin) reels more
-stocked-moved s now d old new first reel bin reels room more v l some e f n b m h =
+stocked_moved s now d old new first reel bin reels room more v l some e f n b m h =
     let within : d < length s.shop.racks = subst (λ (x : ListShop). d < length x.shop.racks) (sym v) l in
     let is = read_at s.shop d old within e in
     let r = rack_at s.shop d in
@@ -307,46 +307,46 @@ stocked-moved s now d old new first reel bin reels room more v l some e f n b m 
     let put : bin ≡ s.shop.bin ++ with_first (Some reel) (take 1 r.stack) = b ∙ ap (λ st. s.shop.bin ++ with_first (Some reel) (take 1 st)) (sym top) in
     let same : shop (set s.shop.racks d new) bin ≡ to_bin s.shop d reel = ap (λ x. shop (set s.shop.racks d x) bin) left ∙ ap (λ xs. shop (set s.shop.racks d (rack r.name (drop 1 r.stack))) xs) put in
     let here : 0 < length r.stack = subst (λ (x : ListShop). 0 < length (rack_at x.shop d).stack) (sym v) some in
-    stocked-same (to_bin s.shop d reel) (shop (set s.shop.racks d new) bin) reels room more same (omega (arith, m)) (stocked-to_bin s.shop d reel reels room within here h)
+    stocked_same (to_bin s.shop d reel) (shop (set s.shop.racks d new) bin) reels room more same (omega (arith, m)) (stocked_to_bin s.shop d reel reels room within here h)
 
 -- a drive more
-pub stocked-drive : (racks : List (Rack TroubledTape)) (bin : List (Slot TroubledTape)) (name : List ℕ) (reels room : ℕ) → IsStocked (shop racks bin) reels room
+pub stocked_drive : (racks : List (Rack TroubledTape)) (bin : List (Slot TroubledTape)) (name : List ℕ) (reels room : ℕ) → IsStocked (shop racks bin) reels room
     → IsStocked (shop (racks ++ rack name [] ∷ []) bin) reels room
-stocked-drive racks bin name reels room h = record {
-  once = λ n. subst (λ slots. times n (names_of slots) ≤ 1) (sym (slots-drive racks bin name)) (h.once n);
-  counted = h.counted ∙ ap length (sym (slots-drive racks bin name));
+stocked_drive racks bin name reels room h = record {
+  once = λ n. subst (λ slots. times n (names_of slots) ≤ 1) (sym (slots_drive racks bin name)) (h.once n);
+  counted = h.counted ∙ ap length (sym (slots_drive racks bin name));
   fits = h.fits;
 }
 
 -- each reel stands once where one of a new name was added
-once-added : (s : ShopOf TroubledTape) (d : ℕ) (x : Slot TroubledTape) → d < length s.racks → times x.name (names_in s) ≡ 0 → EachReelOnce s
+once_added : (s : ShopOf TroubledTape) (d : ℕ) (x : Slot TroubledTape) → d < length s.racks → times x.name (names_in s) ≡ 0 → EachReelOnce s
     → EachReelOnce (with_rack s d (rack (rack_at s d).name ((rack_at s d).stack ++ x ∷ [])))
-once-added s d x l free once y =
+once_added s d x l free once y =
     let after = with_rack s d (rack (rack_at s d).name ((rack_at s d).stack ++ x ∷ [])) in
-    let a = sum_by-added (named y) s d x l in
-    let b = times-named y (slots_in s) in
-    let c = times-named y (slots_in after) in
+    let a = sum_by_added (named y) s d x l in
+    let b = times_named y (slots_in s) in
+    let c = times_named y (slots_in after) in
     once_more y x.name (times y (names_in s)) (times y (names_in after)) (bytes_eq y x.name) refl (once y) (λ e. subst (λ y. times y (names_in s) ≡ 0) (sym e) free) (omega (arith, a, b, c))
 
 -- a reel more, of a new name
-pub stocked-reel : (s : ShopOf TroubledTape) (d : ℕ) (old new : Rack TroubledTape) (name : List ℕ) (reel : Option TroubledTape) (reels room more : ℕ) → d < length s.racks → old ≡ get_or s.racks d old
+pub stocked_reel : (s : ShopOf TroubledTape) (d : ℕ) (old new : Rack TroubledTape) (name : List ℕ) (reel : Option TroubledTape) (reels room more : ℕ) → d < length s.racks → old ≡ get_or s.racks d old
     → new ≡ rack old.name (old.stack ++ slot name reel ∷ []) → times name (names_in s) ≡ 0 → reels + 1 ≤ more → IsStocked s reels room
     → IsStocked (shop (set s.racks d new) s.bin) (reels + 1) more
-stocked-reel s d old new name reel reels room more l e n free m h =
+stocked_reel s d old new name reel reels room more l e n free m h =
     let r = rack_at s d in
     let after = with_rack s d (rack r.name (r.stack ++ slot name reel ∷ [])) in
     let is : shop (set s.racks d new) s.bin ≡ after = ap (λ x. shop (set s.racks d x) s.bin) (n ∙ ap (λ (r : Rack TroubledTape). rack r.name (r.stack ++ slot name reel ∷ [])) (read_at s d old l e)) in
     let made : IsStocked after (reels + 1) more = record {
-      once = once-added s d (slot name reel) l free h.once;
+      once = once_added s d (slot name reel) l free h.once;
       counted = (
-          let a = sum_by-added (λ x. 1) s d (slot name reel) l in
-          let b = length-sum (slots_in s) in
-          let c = length-sum (slots_in after) in
+          let a = sum_by_added (λ x. 1) s d (slot name reel) l in
+          let b = length_sum (slots_in s) in
+          let c = length_sum (slots_in after) in
           let o = h.counted in
           omega (arith, a, b, c, o));
       fits = m;
     } in
-    stocked-same after (shop (set s.racks d new) s.bin) (reels + 1) more more is (omega arith) made
+    stocked_same after (shop (set s.racks d new) s.bin) (reels + 1) more more is (omega arith) made
 
 -- so many reels are there, and those of the bin are among them
 pub bin_fits : (s : ShopOf TroubledTape) (reels room : ℕ) → IsStocked s reels room → length s.bin ≤ reels
@@ -355,7 +355,7 @@ bin_fits s reels room h = let w = bin_within s in let n = h.counted in omega (ar
 -- they tell what they are after a drive was added
 pub drive_told : (old new : ListShop) (name : List ℕ) (result : Result ℕ DriveFault) → EachReelOnce old.shop → IsDriveAdded old name result new → IsShop new (shop_of new)
 drive_told old new name (Ok d) once h =
-    told new (subst (λ (x : ListShop). EachReelOnce x.shop) (sym h.2) (λ n. subst (λ slots. times n (names_of slots) ≤ 1) (sym (slots-drive old.shop.racks old.shop.bin name)) (once n)))
+    told new (subst (λ (x : ListShop). EachReelOnce x.shop) (sym h.2) (λ n. subst (λ slots. times n (names_of slots) ≤ 1) (sym (slots_drive old.shop.racks old.shop.bin name)) (once n)))
 drive_told old new name (Err NameTaken) once h = told new (subst (λ (x : ListShop). EachReelOnce x.shop) (sym h.1) once)
 drive_told old new name (Err OutOfMemory) once h = told new (subst (λ (x : ListShop). EachReelOnce x.shop) (sym h.1) once)
 drive_told old new name (Err (Busy n)) once h = absurd h
@@ -367,7 +367,7 @@ drive_told old new name (Err Device) once h = absurd h
 pub drive_quiet : (old new : ListShop) (name : List ℕ) (result : Result ℕ DriveFault) → IsDriveAdded old name result new → StacksCanFail new → StacksCanFail old
 drive_quiet old new name (Ok d) h (inl e) = inl (sym (ap (λ (x : ListShop). x.trouble) h.2) ∙ e)
 drive_quiet old new name (Ok d) h (inr m) =
-    let is : troubled_in new.shop ≡ troubled_in old.shop = ap (λ (x : ListShop). troubled_in x.shop) h.2 ∙ ap (λ slots. sum_by (λ x. bit (is_set_in x.reel)) slots) (slots-drive old.shop.racks old.shop.bin name) in
+    let is : troubled_in new.shop ≡ troubled_in old.shop = ap (λ (x : ListShop). troubled_in x.shop) h.2 ∙ ap (λ slots. sum_by (λ x. bit (is_set_in x.reel)) slots) (slots_drive old.shop.racks old.shop.bin name) in
     inr (omega (arith, is, m))
 drive_quiet old new name (Err NameTaken) h f = subst StacksCanFail h.1 f
 drive_quiet old new name (Err OutOfMemory) h f = subst StacksCanFail h.1 f
@@ -380,7 +380,7 @@ drive_quiet old new name (Err Device) h f = absurd h
 pub reel_told : {U : Type 0} (old new : ListShop) (d : ℕ) (name : List ℕ) (capacity : ℕ) (result : Result U DriveFault) → d < length old.shop.racks → EachReelOnce old.shop → IsReelAdded old d name capacity result new
     → IsShop new (shop_of new)
 reel_told old new d name capacity (Ok x) l once h =
-    told new (subst (λ (x : ListShop). EachReelOnce x.shop) (sym h.1) (once-added old.shop d (slot name (Some (blank_reel capacity))) l h.0 once))
+    told new (subst (λ (x : ListShop). EachReelOnce x.shop) (sym h.1) (once_added old.shop d (slot name (Some (blank_reel capacity))) l h.0 once))
 reel_told old new d name capacity (Err NameTaken) l once h = told new (subst (λ (x : ListShop). EachReelOnce x.shop) (sym h.1) once)
 reel_told old new d name capacity (Err OutOfMemory) l once h = told new (subst (λ (x : ListShop). EachReelOnce x.shop) (sym h.1) once)
 reel_told old new d name capacity (Err (Busy n)) l once h = absurd h
@@ -391,7 +391,7 @@ reel_told old new d name capacity (Err Device) l once h = absurd h
 pub reel_quiet : {U : Type 0} (old new : ListShop) (d : ℕ) (name : List ℕ) (capacity : ℕ) (result : Result U DriveFault) → d < length old.shop.racks → IsReelAdded old d name capacity result new → StacksCanFail new → StacksCanFail old
 reel_quiet old new d name capacity (Ok x) l h (inl e) = inl (sym (ap (λ (x : ListShop). x.trouble) h.1) ∙ e)
 reel_quiet old new d name capacity (Ok x) l h (inr m) =
-    let sum = sum_by-added (λ x. bit (is_set_in x.reel)) old.shop d (slot name (Some (blank_reel capacity))) l in
+    let sum = sum_by_added (λ x. bit (is_set_in x.reel)) old.shop d (slot name (Some (blank_reel capacity))) l in
     let is : troubled_in new.shop ≡ troubled_in (with_reel old.shop d name capacity) = ap (λ (x : ListShop). troubled_in x.shop) h.1 in
     inr (omega (arith, sum, is, m))
 reel_quiet old new d name capacity (Err NameTaken) l h f = subst StacksCanFail h.1 f

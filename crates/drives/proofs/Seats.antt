@@ -13,5 +13,5 @@ none_marked d = elim (le_or_lt d 64) [
 ]
 
 -- a seat that made no step holds none
-pub HoldsJust-newcomer : (number : ℕ) → HoldsJust (newcomer number) None
-HoldsJust-newcomer number d = (λ t. (let n : has (newcomer number) d ≡ false = none_marked d in absurd cc), λ n. cc)
+pub HoldsJust_newcomer : (number : ℕ) → HoldsJust (newcomer number) None
+HoldsJust_newcomer number d = (λ t. (let n : has (newcomer number) d ≡ false = none_marked d in absurd cc), λ n. cc)

@@ -9,21 +9,21 @@ use Rattle.std.specs.Str.{bytes_eq}
 use Rattle.drives.specs.Shop.{Slot, slot, Rack, rack, ShopOf, shop, rack_at, with_rack, slots_in, names_of, names_in, times, EachReelOnce, first_reel, latched_at, latched_on, with_first, at_first, to_bin}
 
 -- a sum over all reels, by drives
-sum_by-stacks : {X : Type 0} (f : Slot X → ℕ) (racks : List (Rack X)) → sum_by f (flat_map (λ r. r.stack) racks) ≡ sum_by (λ r. sum_by f r.stack) racks
-sum_by-stacks f [] = refl
-sum_by-stacks f (r ∷ racks) =
-    sum_by-append f r.stack (flat_map (λ r. r.stack) racks) ∙ ap (λ n. sum_by f r.stack + n) (sum_by-stacks f racks) ∙ sym (sum_by-cons (λ r. sum_by f r.stack) r racks)
+sum_by_stacks : {X : Type 0} (f : Slot X → ℕ) (racks : List (Rack X)) → sum_by f (flat_map (λ r. r.stack) racks) ≡ sum_by (λ r. sum_by f r.stack) racks
+sum_by_stacks f [] = refl
+sum_by_stacks f (r ∷ racks) =
+    sum_by-append f r.stack (flat_map (λ r. r.stack) racks) ∙ ap (λ n. sum_by f r.stack + n) (sum_by_stacks f racks) ∙ sym (sum_by-cons (λ r. sum_by f r.stack) r racks)
 
-pub sum_by-slots : {X : Type 0} (f : Slot X → ℕ) (s : ShopOf X) → sum_by f (slots_in s) ≡ sum_by (λ r. sum_by f r.stack) s.racks + sum_by f s.bin
-sum_by-slots f s = sum_by-append f (flat_map (λ r. r.stack) s.racks) s.bin ∙ ap (λ n. n + sum_by f s.bin) (sum_by-stacks f s.racks)
+pub sum_by_slots : {X : Type 0} (f : Slot X → ℕ) (s : ShopOf X) → sum_by f (slots_in s) ≡ sum_by (λ r. sum_by f r.stack) s.racks + sum_by f s.bin
+sum_by_slots f s = sum_by-append f (flat_map (λ r. r.stack) s.racks) s.bin ∙ ap (λ n. n + sum_by f s.bin) (sum_by_stacks f s.racks)
 
 -- a sum after the drive d was replaced
-pub sum_by-with_rack : {X : Type 0} (f : Slot X → ℕ) (s : ShopOf X) (d : ℕ) (r : Rack X) → d < length s.racks
+pub sum_by_with_rack : {X : Type 0} (f : Slot X → ℕ) (s : ShopOf X) (d : ℕ) (r : Rack X) → d < length s.racks
     → sum_by f (slots_in (with_rack s d r)) + sum_by f (rack_at s d).stack ≡ sum_by f (slots_in s) + sum_by f r.stack
-sum_by-with_rack f s d r l =
+sum_by_with_rack f s d r l =
     let moved = sum_by-set (λ r. sum_by f r.stack) s.racks d r (rack [] []) l in
-    let before = sum_by-slots f s in
-    let after = sum_by-slots f (with_rack s d r) in
+    let before = sum_by_slots f s in
+    let after = sum_by_slots f (with_rack s d r) in
     omega (arith, moved, before, after)
 
 first_more : {X : Type 0} (f : Slot X → ℕ) (reel : Option X) (stack : List (Slot X)) (first : Slot X) (rest : List (Slot X)) → stack ≡ first ∷ rest
@@ -35,24 +35,24 @@ first_more f reel stack first rest e =
     omega (arith, a, b))
 
 -- a sum after the first reel of the drive d was taken away or laid down
-pub sum_by-at_first : {X : Type 0} (f : Slot X → ℕ) (s : ShopOf X) (d : ℕ) (reel : Option X) (first : Slot X) (rest : List (Slot X)) → d < length s.racks
+pub sum_by_at_first : {X : Type 0} (f : Slot X → ℕ) (s : ShopOf X) (d : ℕ) (reel : Option X) (first : Slot X) (rest : List (Slot X)) → d < length s.racks
     → (rack_at s d).stack ≡ first ∷ rest → sum_by f (slots_in (at_first s d reel)) + f first ≡ sum_by f (slots_in s) + f (slot first.name reel)
-sum_by-at_first f s d reel first rest l e =
+sum_by_at_first f s d reel first rest l e =
     let r = rack_at s d in
-    let a = sum_by-with_rack f s d (rack r.name (with_first reel r.stack)) l in
+    let a = sum_by_with_rack f s d (rack r.name (with_first reel r.stack)) l in
     let b = first_more f reel r.stack first rest e in
     omega (arith, a, b)
 
 -- a sum after the first reel of the drive d was moved to the bin
-pub sum_by-to_bin : {X : Type 0} (f : Slot X → ℕ) (s : ShopOf X) (d : ℕ) (reel : X) (first : Slot X) (rest : List (Slot X)) → d < length s.racks
+pub sum_by_to_bin : {X : Type 0} (f : Slot X → ℕ) (s : ShopOf X) (d : ℕ) (reel : X) (first : Slot X) (rest : List (Slot X)) → d < length s.racks
     → (rack_at s d).stack ≡ first ∷ rest → sum_by f (slots_in (to_bin s d reel)) + f first ≡ sum_by f (slots_in s) + f (slot first.name (Some reel))
-sum_by-to_bin f s d reel first rest l e =
+sum_by_to_bin f s d reel first rest l e =
     let r = rack_at s d in
     let left = rack r.name (drop 1 r.stack) in
     let put = with_first (Some reel) (take 1 r.stack) in
-    let a = sum_by-with_rack f s d left l in
-    let b = sum_by-slots f (with_rack s d left) in
-    let c = sum_by-slots f (to_bin s d reel) in
+    let a = sum_by_with_rack f s d left l in
+    let b = sum_by_slots f (with_rack s d left) in
+    let c = sum_by_slots f (to_bin s d reel) in
     let m = sum_by-append f s.bin put in
     let n : sum_by f put ≡ 0 + f (slot first.name (Some reel)) = ap (λ st. sum_by f (with_first (Some reel) (take 1 st))) e in
     let o : sum_by f r.stack ≡ f first + sum_by f (drop 1 r.stack) = subst (λ st. sum_by f st ≡ f first + sum_by f (drop 1 st)) (sym e) (sum_by-cons f first rest) in
@@ -62,98 +62,98 @@ sum_by-to_bin f s d reel first rest l e =
 abbrev pub named : {X : Type 0} → List ℕ → Slot X → ℕ
 named name x = cond (bytes_eq name x.name) 1 0
 
-pub times-named : {X : Type 0} (name : List ℕ) (slots : List (Slot X)) → times name (names_of slots) ≡ sum_by (named name) slots
-times-named name [] = refl
-times-named name (x ∷ slots) =
-    sum_by-cons (λ n. cond (bytes_eq name n) 1 0) x.name (names_of slots) ∙ ap (λ n. named name x + n) (times-named name slots) ∙ sym (sum_by-cons (named name) x slots)
+pub times_named : {X : Type 0} (name : List ℕ) (slots : List (Slot X)) → times name (names_of slots) ≡ sum_by (named name) slots
+times_named name [] = refl
+times_named name (x ∷ slots) =
+    sum_by-cons (λ n. cond (bytes_eq name n) 1 0) x.name (names_of slots) ∙ ap (λ n. named name x + n) (times_named name slots) ∙ sym (sum_by-cons (named name) x slots)
 
 -- how many there are, as a sum
-pub length-sum : {X : Type 0} (xs : List X) → length xs ≡ sum_by (λ x. 1) xs
-length-sum [] = refl
-length-sum (x ∷ xs) = let a = length-sum xs in let b = sum_by-cons (λ x. 1) x xs in omega (arith, a, b)
+pub length_sum : {X : Type 0} (xs : List X) → length xs ≡ sum_by (λ x. 1) xs
+length_sum [] = refl
+length_sum (x ∷ xs) = let a = length_sum xs in let b = sum_by-cons (λ x. 1) x xs in omega (arith, a, b)
 
 -- a stack that has a first reel
 pub first_of : {X : Type 0} (stack : List (Slot X)) → 0 < length stack → (first : Slot X) × (rest : List (Slot X)) × (stack ≡ first ∷ rest)
 first_of [] l = absurd (omega arith)
 first_of (first ∷ rest) l = (first, rest, refl)
 
-pub length-waiting : {X : Type 0} (stack : List (Slot X)) (r : X) → first_reel stack ≡ Some r → 0 < length stack
-length-waiting [] r e = absurd cc
-length-waiting (first ∷ rest) r e = omega arith
+pub length_waiting : {X : Type 0} (stack : List (Slot X)) (r : X) → first_reel stack ≡ Some r → 0 < length stack
+length_waiting [] r e = absurd cc
+length_waiting (first ∷ rest) r e = omega arith
 
-pub length-latched : {X : Type 0} (stack : List (Slot X)) → IsSome (latched_on stack) → 0 < length stack
-length-latched [] h = absurd cc
-length-latched (first ∷ rest) h = omega arith
+pub length_latched : {X : Type 0} (stack : List (Slot X)) → IsSome (latched_on stack) → 0 < length stack
+length_latched [] h = absurd cc
+length_latched (first ∷ rest) h = omega arith
 
 -- a sum of what does not change at the first reel of the drive d stays
-same-at_first : {X : Type 0} (f : Slot X → ℕ) (same : (x : Slot X) (reel : Option X) → f (slot x.name reel) ≡ f x) (s : ShopOf X) (d : ℕ) (reel : Option X) (stack : List (Slot X))
+same_at_first : {X : Type 0} (f : Slot X → ℕ) (same : (x : Slot X) (reel : Option X) → f (slot x.name reel) ≡ f x) (s : ShopOf X) (d : ℕ) (reel : Option X) (stack : List (Slot X))
     → (rack_at s d).stack ≡ stack → d < length s.racks → sum_by f (slots_in (at_first s d reel)) ≡ sum_by f (slots_in s)
-same-at_first f same s d reel [] e l =
+same_at_first f same s d reel [] e l =
     let r = rack_at s d in
-    let a = sum_by-with_rack f s d (rack r.name (with_first reel r.stack)) l in
+    let a = sum_by_with_rack f s d (rack r.name (with_first reel r.stack)) l in
     let b : sum_by f (with_first reel r.stack) ≡ 0 = ap (λ st. sum_by f (with_first reel st)) e in
     let c : sum_by f r.stack ≡ 0 = ap (λ st. sum_by f st) e in
     omega (arith, a, b, c)
-same-at_first f same s d reel (first ∷ rest) e l =
-    let a = sum_by-at_first f s d reel first rest l e in
+same_at_first f same s d reel (first ∷ rest) e l =
+    let a = sum_by_at_first f s d reel first rest l e in
     let b = same first reel in
     omega (arith, a, b)
 
 -- no name comes or goes where the first reel of the drive d is taken away or laid down
-pub once-at_first : {X : Type 0} (s : ShopOf X) (d : ℕ) (reel : Option X) → d < length s.racks → EachReelOnce s → EachReelOnce (at_first s d reel)
-once-at_first s d reel l once name =
-    let a = same-at_first (named name) (λ x reel. refl) s d reel (rack_at s d).stack refl l in
-    let b = times-named name (slots_in s) in
-    let c = times-named name (slots_in (at_first s d reel)) in
+pub once_at_first : {X : Type 0} (s : ShopOf X) (d : ℕ) (reel : Option X) → d < length s.racks → EachReelOnce s → EachReelOnce (at_first s d reel)
+once_at_first s d reel l once name =
+    let a = same_at_first (named name) (λ x reel. refl) s d reel (rack_at s d).stack refl l in
+    let b = times_named name (slots_in s) in
+    let c = times_named name (slots_in (at_first s d reel)) in
     let o = once name in
     omega (arith, a, b, c, o)
 
 -- and none where it is moved to the bin
-pub once-to_bin : {X : Type 0} (s : ShopOf X) (d : ℕ) (reel : X) → d < length s.racks → 0 < length (rack_at s d).stack → EachReelOnce s → EachReelOnce (to_bin s d reel)
-once-to_bin s d reel l some once name =
+pub once_to_bin : {X : Type 0} (s : ShopOf X) (d : ℕ) (reel : X) → d < length s.racks → 0 < length (rack_at s d).stack → EachReelOnce s → EachReelOnce (to_bin s d reel)
+once_to_bin s d reel l some once name =
     let w = first_of (rack_at s d).stack some in
-    let a = sum_by-to_bin (named name) s d reel w.0 w.1 l w.2 in
-    let b = times-named name (slots_in s) in
-    let c = times-named name (slots_in (to_bin s d reel)) in
+    let a = sum_by_to_bin (named name) s d reel w.0 w.1 l w.2 in
+    let b = times_named name (slots_in s) in
+    let c = times_named name (slots_in (to_bin s d reel)) in
     let o = once name in
     omega (arith, a, b, c, o)
 
-pub length-at_first : {X : Type 0} (s : ShopOf X) (d : ℕ) (reel : Option X) → d < length s.racks → length (slots_in (at_first s d reel)) ≡ length (slots_in s)
-length-at_first s d reel l =
-    let a = same-at_first (λ x. 1) (λ x reel. refl) s d reel (rack_at s d).stack refl l in
-    let b = length-sum (slots_in s) in
-    let c = length-sum (slots_in (at_first s d reel)) in
+pub length_at_first : {X : Type 0} (s : ShopOf X) (d : ℕ) (reel : Option X) → d < length s.racks → length (slots_in (at_first s d reel)) ≡ length (slots_in s)
+length_at_first s d reel l =
+    let a = same_at_first (λ x. 1) (λ x reel. refl) s d reel (rack_at s d).stack refl l in
+    let b = length_sum (slots_in s) in
+    let c = length_sum (slots_in (at_first s d reel)) in
     omega (arith, a, b, c)
 
-pub length-to_bin : {X : Type 0} (s : ShopOf X) (d : ℕ) (reel : X) → d < length s.racks → 0 < length (rack_at s d).stack → length (slots_in (to_bin s d reel)) ≡ length (slots_in s)
-length-to_bin s d reel l some =
+pub length_to_bin : {X : Type 0} (s : ShopOf X) (d : ℕ) (reel : X) → d < length s.racks → 0 < length (rack_at s d).stack → length (slots_in (to_bin s d reel)) ≡ length (slots_in s)
+length_to_bin s d reel l some =
     let w = first_of (rack_at s d).stack some in
-    let a = sum_by-to_bin (λ x. 1) s d reel w.0 w.1 l w.2 in
-    let b = length-sum (slots_in s) in
-    let c = length-sum (slots_in (to_bin s d reel)) in
+    let a = sum_by_to_bin (λ x. 1) s d reel w.0 w.1 l w.2 in
+    let b = length_sum (slots_in s) in
+    let c = length_sum (slots_in (to_bin s d reel)) in
     omega (arith, a, b, c)
 
 -- the bin has less reels than there are
 pub bin_within : {X : Type 0} (s : ShopOf X) → length s.bin ≤ length (slots_in s)
 bin_within s =
-    let a = length-sum (slots_in s) in
-    let b = length-sum s.bin in
-    let c = sum_by-slots (λ x. 1) s in
+    let a = length_sum (slots_in s) in
+    let b = length_sum s.bin in
+    let c = sum_by_slots (λ x. 1) s in
     omega (arith, a, b, c)
 
 -- and less where one is on a stack
 pub bin_below : {X : Type 0} (s : ShopOf X) (d : ℕ) → d < length s.racks → 0 < length (rack_at s d).stack → length s.bin < length (slots_in s)
 bin_below s d l some =
-    let a = length-sum (slots_in s) in
-    let b = length-sum s.bin in
-    let c = sum_by-slots (λ x. 1) s in
-    let n = length-sum (rack_at s d).stack in
+    let a = length_sum (slots_in s) in
+    let b = length_sum s.bin in
+    let c = sum_by_slots (λ x. 1) s in
+    let n = length_sum (rack_at s d).stack in
     let e = sum_by-set (λ r. sum_by (λ x. 1) r.stack) s.racks d (rack [] []) (rack [] []) l in
     omega (arith, a, b, c, n, e)
 
 -- the reel that was latched at drive d is away
-pub latched-at_first : {X : Type 0} (s : ShopOf X) (d : ℕ) → d < length s.racks → 0 < length (rack_at s d).stack → IsSome (latched_at (at_first s d None) d)
-latched-at_first s d l some =
+pub latched_at_first : {X : Type 0} (s : ShopOf X) (d : ℕ) → d < length s.racks → 0 < length (rack_at s d).stack → IsSome (latched_at (at_first s d None) d)
+latched_at_first s d l some =
     let r = rack_at s d in
     let w = first_of r.stack some in
     let is : (rack_at (at_first s d None) d).stack ≡ with_first None r.stack = ap (λ x. x.stack) (get_or-set_same s.racks d (rack r.name (with_first None r.stack)) (rack [] []) l) in
@@ -163,53 +163,53 @@ latched-at_first s d l some =
 abbrev pub bit : Bool → ℕ
 bit b = cond b 1 0
 
-any-more : {X : Type 0} (p : X → Bool) (x : X) (xs : List X) (b : Bool) → p x ≡ b → MatchBool (list_any p xs) (0 < count_by p xs) (count_by p xs ≡ 0)
+any_more : {X : Type 0} (p : X → Bool) (x : X) (xs : List X) (b : Bool) → p x ≡ b → MatchBool (list_any p xs) (0 < count_by p xs) (count_by p xs ≡ 0)
     → MatchBool (list_any p (x ∷ xs)) (0 < count_by p (x ∷ xs)) (count_by p (x ∷ xs) ≡ 0)
-any-more p x xs true e h =
+any_more p x xs true e h =
     let a = sum_by-cons (λ x. bit (p x)) x xs in
     let b : bit (p x) ≡ 1 = ap bit e in
     subst (λ b. MatchBool (b || list_any p xs) (0 < count_by p (x ∷ xs)) (count_by p (x ∷ xs) ≡ 0)) (sym e) (omega (arith, a, b))
-any-more p x xs false e h =
+any_more p x xs false e h =
     let a = sum_by-cons (λ x. bit (p x)) x xs in
     let b : bit (p x) ≡ 0 = ap bit e in
     let same : count_by p (x ∷ xs) ≡ count_by p xs = omega (arith, a, b) in
     subst (λ b. MatchBool (b || list_any p xs) (0 < count_by p (x ∷ xs)) (count_by p (x ∷ xs) ≡ 0)) (sym e) (subst (λ n. MatchBool (list_any p xs) (0 < n) (n ≡ 0)) (sym same) h)
 
 -- an element passes the test, or the count is 0
-pub any-count : {X : Type 0} (p : X → Bool) (xs : List X) → MatchBool (list_any p xs) (0 < count_by p xs) (count_by p xs ≡ 0)
-any-count p [] = refl
-any-count p (x ∷ xs) = any-more p x xs (p x) refl (any-count p xs)
+pub any_count : {X : Type 0} (p : X → Bool) (xs : List X) → MatchBool (list_any p xs) (0 < count_by p xs) (count_by p xs ≡ 0)
+any_count p [] = refl
+any_count p (x ∷ xs) = any_more p x xs (p x) refl (any_count p xs)
 
 -- what is found on the stacks or in the bin stands among the names
-any-stacks : {X : Type 0} (p : Slot X → Bool) (racks : List (Rack X)) → list_any p (flat_map (λ r. r.stack) racks) ≡ list_any (λ r. list_any p r.stack) racks
-any-stacks p [] = refl
-any-stacks p (r ∷ racks) = list_any-append p r.stack (flat_map (λ r. r.stack) racks) ∙ ap (λ b. list_any p r.stack || b) (any-stacks p racks)
+any_stacks : {X : Type 0} (p : Slot X → Bool) (racks : List (Rack X)) → list_any p (flat_map (λ r. r.stack) racks) ≡ list_any (λ r. list_any p r.stack) racks
+any_stacks p [] = refl
+any_stacks p (r ∷ racks) = list_any-append p r.stack (flat_map (λ r. r.stack) racks) ∙ ap (λ b. list_any p r.stack || b) (any_stacks p racks)
 
 -- a name is found among all where it is found on the stacks or in the bin
-any-slots : {X : Type 0} (name : List ℕ) (s : ShopOf X) (found : Bool) → (list_any (λ r. list_any (λ x. bytes_eq name x.name) r.stack) s.racks || list_any (λ x. bytes_eq name x.name) s.bin) ≡ found
+any_slots : {X : Type 0} (name : List ℕ) (s : ShopOf X) (found : Bool) → (list_any (λ r. list_any (λ x. bytes_eq name x.name) r.stack) s.racks || list_any (λ x. bytes_eq name x.name) s.bin) ≡ found
     → MatchBool found (0 < times name (names_in s)) (times name (names_in s) ≡ 0)
-any-slots name s found e =
+any_slots name s found e =
     let all : list_any (λ x. bytes_eq name x.name) (slots_in s) ≡ found =
-    list_any-append (λ x. bytes_eq name x.name) (flat_map (λ r. r.stack) s.racks) s.bin ∙ ap (λ b. b || list_any (λ x. bytes_eq name x.name) s.bin) (any-stacks (λ x. bytes_eq name x.name) s.racks) ∙ e in
+    list_any-append (λ x. bytes_eq name x.name) (flat_map (λ r. r.stack) s.racks) s.bin ∙ ap (λ b. b || list_any (λ x. bytes_eq name x.name) s.bin) (any_stacks (λ x. bytes_eq name x.name) s.racks) ∙ e in
     subst (λ b. MatchBool b (0 < times name (names_in s)) (times name (names_in s) ≡ 0)) all
-    (subst (λ n. MatchBool (list_any (λ x. bytes_eq name x.name) (slots_in s)) (0 < n) (n ≡ 0)) (sym (times-named name (slots_in s))) (any-count (λ x. bytes_eq name x.name) (slots_in s)))
+    (subst (λ n. MatchBool (list_any (λ x. bytes_eq name x.name) (slots_in s)) (0 < n) (n ≡ 0)) (sym (times_named name (slots_in s))) (any_count (λ x. bytes_eq name x.name) (slots_in s)))
 
-pub any-stacked : {X : Type 0} (name : List ℕ) (s : ShopOf X) (found : Bool) → found ≡ list_any (λ r. list_any (λ x. bytes_eq name x.name) r.stack) s.racks → found ≡ true
+pub any_is_stacked : {X : Type 0} (name : List ℕ) (s : ShopOf X) (found : Bool) → found ≡ list_any (λ r. list_any (λ x. bytes_eq name x.name) r.stack) s.racks → found ≡ true
     → MatchBool found (0 < times name (names_in s)) (times name (names_in s) ≡ 0)
-any-stacked name s found e t = any-slots name s found (ap (λ b. b || list_any (λ x. bytes_eq name x.name) s.bin) (sym e ∙ t) ∙ sym t)
+any_is_stacked name s found e t = any_slots name s found (ap (λ b. b || list_any (λ x. bytes_eq name x.name) s.bin) (sym e ∙ t) ∙ sym t)
 
-pub any-binned : {X : Type 0} (name : List ℕ) (s : ShopOf X) (stacked found : Bool) → stacked ≡ list_any (λ r. list_any (λ x. bytes_eq name x.name) r.stack) s.racks → stacked ≡ false
+pub any_binned : {X : Type 0} (name : List ℕ) (s : ShopOf X) (stacked found : Bool) → stacked ≡ list_any (λ r. list_any (λ x. bytes_eq name x.name) r.stack) s.racks → stacked ≡ false
     → found ≡ list_any (λ x. bytes_eq name x.name) s.bin → MatchBool found (0 < times name (names_in s)) (times name (names_in s) ≡ 0)
-any-binned name s stacked found e f b = any-slots name s found (ap (λ x. x || list_any (λ x. bytes_eq name x.name) s.bin) (sym e ∙ f) ∙ sym b)
+any_binned name s stacked found e f b = any_slots name s found (ap (λ x. x || list_any (λ x. bytes_eq name x.name) s.bin) (sym e ∙ f) ∙ sym b)
 
 -- a drive more adds no reel
-pub slots-drive : {X : Type 0} (racks : List (Rack X)) (bin : List (Slot X)) (name : List ℕ) → slots_in (shop (racks ++ rack name [] ∷ []) bin) ≡ slots_in (shop racks bin)
-slots-drive racks bin name = ap (λ xs. xs ++ bin) (flat_map-append (λ r. r.stack) racks (rack name [] ∷ []) ∙ append-nil (flat_map (λ r. r.stack) racks))
+pub slots_drive : {X : Type 0} (racks : List (Rack X)) (bin : List (Slot X)) (name : List ℕ) → slots_in (shop (racks ++ rack name [] ∷ []) bin) ≡ slots_in (shop racks bin)
+slots_drive racks bin name = ap (λ xs. xs ++ bin) (flat_map-append (λ r. r.stack) racks (rack name [] ∷ []) ∙ append-nil (flat_map (λ r. r.stack) racks))
 
 -- a sum after a reel was added to the stack of the drive d
-pub sum_by-added : {X : Type 0} (f : Slot X → ℕ) (s : ShopOf X) (d : ℕ) (x : Slot X) → d < length s.racks
+pub sum_by_added : {X : Type 0} (f : Slot X → ℕ) (s : ShopOf X) (d : ℕ) (x : Slot X) → d < length s.racks
     → sum_by f (slots_in (with_rack s d (rack (rack_at s d).name ((rack_at s d).stack ++ x ∷ [])))) ≡ sum_by f (slots_in s) + f x
-sum_by-added f s d x l =
-    let a = sum_by-with_rack f s d (rack (rack_at s d).name ((rack_at s d).stack ++ x ∷ [])) l in
+sum_by_added f s d x l =
+    let a = sum_by_with_rack f s d (rack (rack_at s d).name ((rack_at s d).stack ++ x ∷ [])) l in
     let b = sum_by_push f (rack_at s d).stack x in
     omega (arith, a, b)

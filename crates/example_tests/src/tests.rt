@@ -1,3 +1,4 @@
 //! The examples against bytes that were written by hand.
 
+mod client;
 mod server;

@@ -3,14 +3,14 @@ use Rattle.std.proofs.Common.{◌≡◌, ℕ, ◌+◌, ◌≤◌, zero, suc, Lis
 use Rattle.std.proofs.lemmas.List.Elements.{All-nil, All-append}
 use Rattle.atomic_table.specs.Seated.{TableId}
 use Rattle.drives.specs.Holding.{newcomer, HoldsJust}
-use Rattle.drives.proofs.Seats.{HoldsJust-newcomer}
+use Rattle.drives.proofs.Seats.{HoldsJust_newcomer}
 use Rattle.hold_table.specs.Seats.{TableSeat, table_seat, dealt, IsSeatAt}
 
 abbrev IsIdleAt : TableId → TableSeat → Type 0
 IsIdleAt t s = IsSeatAt t s × HoldsJust s.view None
 
 idle_one : (t : TableId) (n : ℕ) → n + 1 ≤ 32 → IsIdleAt t (table_seat t (newcomer (n + 1)) 0)
-idle_one t n few = (record { same = refl; numbered = omega arith; dealt = few }, HoldsJust-newcomer (n + 1))
+idle_one t n few = (record { same = refl; numbered = omega arith; dealt = few }, HoldsJust_newcomer (n + 1))
 
 idle_seats : (t : TableId) (n : ℕ) → n ≤ 32 → All (IsIdleAt t) (dealt t n)
 idle_seats t zero few = All-nil (IsIdleAt t)

@@ -22,9 +22,9 @@ another n = elim (is_one n) [
 ]
 
 -- The table of the hand is as before, since other seats of it are so still.
-pub same-table : {S R : Type 0} (s : StacksPromise S R) (r : ReelPromise R) (start finish : State TableHand S TableSeat R)
+pub same_table : {S R : Type 0} (s : StacksPromise S R) (r : ReelPromise R) (start finish : State TableHand S TableSeat R)
     → KeepsSeats (kinds of_hand s r) start finish → start.drives.holds.table.now ≡ finish.drives.holds.table.now
-same-table s r start finish kept =
+same_table s r start finish kept =
     let other = another start.seat.view.number in
     (kept.others (table_seat start.drives.holds.table.now (newcomer other.0) 0) other.3 (record { same = refl; numbered = other.1; dealt = other.2 })).same
 
@@ -36,12 +36,12 @@ pub record IsBack {S R : Type 0} (drives : S → ℕ) (start : State TableHand S
   pub idle : HoldsJust seat.view None
   pub enough : drives stacks ≡ drives start.drives.stacks
 
-pub seat-back : {S R In Out : Type 0} (s : StacksPromise S R) (r : ReelPromise R) (remaining : In → Option (List ℕ)) (contents : Out → Option (List ℕ))
+pub seat_comes_back : {S R In Out : Type 0} (s : StacksPromise S R) (r : ReelPromise R) (remaining : In → Option (List ℕ)) (contents : Out → Option (List ℕ))
     (start : State TableHand S TableSeat R) {input input' : Counting In} {output output' : Counting Out} {seat : TableSeat} {stacks : S}
     → ComesBack (kinds of_hand s r) remaining contents start input input' output output' seat stacks
     → IsBack s.drives start seat stacks
-seat-back s r remaining contents start {seat = seat} {stacks} back =
-    let same = same-table s r start back.finish back.kept in
+seat_comes_back s r remaining contents start {seat = seat} {stacks} back =
+    let same = same_table s r start back.finish back.kept in
     let own : IsSeatAt back.finish.drives.holds.table.now seat = subst (IsSeatAt back.finish.drives.holds.table.now) (sym back.seat_back) back.at.own in record {
       same = own.same ∙ sym same;
       numbered = own.numbered;

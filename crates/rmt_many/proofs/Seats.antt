@@ -13,28 +13,28 @@ use Rattle.rmt_server.specs.Stream.CarryRun.{none, one_more}
 use Rattle.rmt_many.specs.Seating.{KeepsSeats, Serves, ComesBack}
 use Rattle.rmt_many.specs.Seating.Serves.{untouched, served}
 
-keeps-nothing : {H S Seat R : Type 0} (k : Kinds H Seat S R) (x : State H S Seat R) → KeepsSeats k x x
-keeps-nothing k x = record { number = refl; others = λ other apart own. own; same_holds = refl; same_stacks = refl }
+keeps_nothing : {H S Seat R : Type 0} (k : Kinds H Seat S R) (x : State H S Seat R) → KeepsSeats k x x
+keeps_nothing k x = record { number = refl; others = λ other apart own. own; same_holds = refl; same_stacks = refl }
 
-keeps-on : {H S Seat R : Type 0} (k : Kinds H Seat S R) (x y : State H S Seat R) {z : State H S Seat R}
+keeps_on : {H S Seat R : Type 0} (k : Kinds H Seat S R) (x y : State H S Seat R) {z : State H S Seat R}
     → KeepsSeats k x y → KeepsDrives k y z → KeepsSeats k x z
-keeps-on k x y a b = record {
+keeps_on k x y a b = record {
   number = b.number ∙ a.number;
   others = λ other apart own. b.others other (λ same. apart (same ∙ a.number)) (a.others other apart own);
   same_holds = b.same_holds ∙ a.same_holds;
   same_stacks = b.same_stacks ∙ a.same_stacks;
 }
 
-keeps-run : {H S Seat R : Type 0} (k : Kinds H Seat S R) (start : State H S Seat R) {done : List Exchange} {last : State H S Seat R}
+keeps_run : {H S Seat R : Type 0} (k : Kinds H Seat S R) (start : State H S Seat R) {done : List Exchange} {last : State H S Seat R}
     → CarryRun k start done last → KeepsSeats k start last
-keeps-run k start none = keeps-nothing k start
-keeps-run k start (one_more request reply run step spelled) = keeps-on k start _ (keeps-run k start run) step.kept
+keeps_run k start none = keeps_nothing k start
+keeps_run k start (one_more request reply run step spelled) = keeps_on k start _ (keeps_run k start run) step.kept
 
 -- a seat that holds no drive, while nothing is open
-pub idle-at : {H S Seat R : Type 0} (k : Kinds H Seat S R) (drives : DriveTable H S Seat R) (seat : Seat)
+pub idle_at : {H S Seat R : Type 0} (k : Kinds H Seat S R) (drives : DriveTable H S Seat R) (seat : Seat)
     → k.holds.belongs drives.holds seat → HoldsJust (k.holds.shows seat) None → k.stacks.drives drives.stacks ≤ k.holds.drives drives.holds
     → IsAt k (seated_at drives seat None)
-idle-at k drives seat own idle enough = record {
+idle_at k drives seat own idle enough = record {
   own = own;
   enough = enough;
   held = idle;
@@ -43,28 +43,28 @@ idle-at k drives seat own idle enough = record {
 }
 
 -- neither stream is touched
-pub untouched-back : {H S Seat R In Out : Type 0} (k : Kinds H Seat S R) (remaining : In → Option (List ℕ)) (contents : Out → Option (List ℕ))
+pub untouched_back : {H S Seat R In Out : Type 0} (k : Kinds H Seat S R) (remaining : In → Option (List ℕ)) (contents : Out → Option (List ℕ))
     (drives : DriveTable H S Seat R) (seat back : Seat) (input : Counting In) (output : Counting Out)
     → k.holds.belongs drives.holds seat → HoldsJust (k.holds.shows seat) None → k.stacks.drives drives.stacks ≤ k.holds.drives drives.holds
     → back ≡ seat → ComesBack k remaining contents (seated_at drives seat None) input input output output back drives.stacks
-untouched-back k remaining contents drives seat back input output own idle enough same = record {
+untouched_back k remaining contents drives seat back input output own idle enough same = record {
   finish = seated_at drives seat None;
   serves = untouched refl refl;
   seat_back = same;
   stacks_back = refl;
   nothing = refl;
-  at = idle-at k drives seat own idle enough;
-  kept = keeps-nothing k (seated_at drives seat None);
+  at = idle_at k drives seat own idle enough;
+  kept = keeps_nothing k (seated_at drives seat None);
 }
 
 -- a session with nothing open is served, and its seat comes back
-pub served-back : {H S Seat R In Out : Type 0} (k : Kinds H Seat S R) (remaining : In → Option (List ℕ)) (contents : Out → Option (List ℕ))
+pub served_back : {H S Seat R In Out : Type 0} (k : Kinds H Seat S R) (remaining : In → Option (List ℕ)) (contents : Out → Option (List ℕ))
     (drives drives' : DriveTable H S Seat R) (seat : Seat) (desk desk' : Desk Seat R) (input input' : Counting In) (output output' : Counting Out)
     (result : Result Served ServeFault) (back : Seat) → desk ≡ record { seat = seat; opened = None }
     → IsServedAs k remaining contents result input input' output output' (state drives desk) (state drives' desk')
     → OnOk result (NoneFailed input input' output output') → desk'.opened ≡ None → back ≡ desk'.seat
     → ComesBack k remaining contents (seated_at drives seat None) input input' output output' back drives'.stacks
-served-back k remaining contents drives drives' seat desk desk' input input' output output' result back new is steady nothing same =
+served_back k remaining contents drives drives' seat desk desk' input input' output output' result back new is steady nothing same =
     subst (λ d. ComesBack k remaining contents (state drives d) input input' output output' back drives'.stacks) new record {
       finish = state drives' desk';
       serves = served (state drives' desk') result is steady;
@@ -72,5 +72,5 @@ served-back k remaining contents drives drives' seat desk desk' input input' out
       stacks_back = refl;
       nothing = nothing;
       at = is.ended.at;
-      kept = keeps-on k (state drives desk) is.last (keeps-run k (state drives desk) is.run) is.ended.kept;
+      kept = keeps_on k (state drives desk) is.last (keeps_run k (state drives desk) is.run) is.ended.kept;
     }

@@ -22,7 +22,7 @@ use Rattle.rmt_server.specs.State.{State, Tells}
 use Rattle.rmt_server.specs.Replies.{IsSayable}
 use Rattle.rmt_server.specs.Opening.{IsClosed}
 use Rattle.rmt_server.specs.Carrying.{IsCarriedOut, MayFail, MayShare}
-use Rattle.rmt_server.proofs.Alone.{may-share, may-find}
+use Rattle.rmt_server.proofs.Alone.{may_share, may_find}
 use Rattle.rmt_server.specs.Session.{Scene, ServeRun, none as no_steps, one_more as one_step}
 use Rattle.rmt_server.specs.Stream.{Exchange, requests_of, replies_text, IsAnswered, IsCutOff, Advances, AnswersAs, CarryRun, IsSettled, IsFaulty, EndsAs, IsServedAs, none, one_more}
 use Rattle.rmt_server.specs.declared.stream.Served.{Served}
@@ -320,7 +320,7 @@ run_steps (one_more {between = between} request reply run carried spelling) fail
     let so_far = run_steps run fails shared may share start tells in
     let step = carried.step so_far.0 so_far.2 in
     let excused : IsTrue step.troubled → IsTrue fails = λ t. so_far.4 (step.able t) in
-    (step.after, one_step request reply step.troubled step.asked step.found so_far.1 excused (may-find so_far.3 step) step.step, step.tells, may-share so_far.3 carried, λ f. so_far.4 (carried.quiet f))
+    (step.after, one_step request reply step.troubled step.asked step.found so_far.1 excused (may_find so_far.3 step) step.step, step.tells, may_share so_far.3 carried, λ f. so_far.4 (carried.quiet f))
 
 -- a run keeps the seat's number, and uses up no number of a seat
 run_seats : {H S Seat R : Type 0} {k : Kinds H Seat S R} {old last : State H S Seat R} {done : List Exchange} → CarryRun k old done last
@@ -348,18 +348,18 @@ served_as remaining contents result input input' output output' {last = last} re
   steps = λ fails shared may share start tells. (let w = run_steps a.run fails shared may share start tells in (w.0, w.1, ended.step w.0 w.2));
 }
 
-no-letter : (b : ℕ) (bytes : List ℕ) → [] ≡ b ∷ bytes → ⊥
-no-letter b bytes e = absurd cc
+no_letter : (b : ℕ) (bytes : List ℕ) → [] ≡ b ∷ bytes → ⊥
+no_letter b bytes e = absurd cc
 
 -- each request begins with its letter
-no-text : (text rest : List ℕ) (request : PlainRequest) → [] ≡ text ++ rest → SpellsRequest text request → ⊥
-no-text (b ∷ text) rest request e s = absurd cc
-no-text [] rest (Open device mode) e s = absurd (no-letter _ _ s.3)
-no-text [] rest Close e s = absurd (no-letter _ _ s.2)
-no-text [] rest (Write bytes) e s = absurd (no-letter _ _ s.3)
-no-text [] rest (WriteDropped count) e s = absurd (no-letter _ _ s.5)
-no-text [] rest (Read count) e s = absurd (no-letter _ _ s.2)
-no-text [] rest (Op op count) e s = absurd (no-letter _ _ s.4)
+no_text : (text rest : List ℕ) (request : PlainRequest) → [] ≡ text ++ rest → SpellsRequest text request → ⊥
+no_text (b ∷ text) rest request e s = absurd cc
+no_text [] rest (Open device mode) e s = absurd (no_letter _ _ s.3)
+no_text [] rest Close e s = absurd (no_letter _ _ s.2)
+no_text [] rest (Write bytes) e s = absurd (no_letter _ _ s.3)
+no_text [] rest (WriteDropped count) e s = absurd (no_letter _ _ s.5)
+no_text [] rest (Read count) e s = absurd (no_letter _ _ s.2)
+no_text [] rest (Op op count) e s = absurd (no_letter _ _ s.4)
 
 -- a reader that holds nothing is at the beginning of a request
 pub settled_empty : (wire : RequestHeld) → Unread wire [] → IsSettled wire []
@@ -367,6 +367,6 @@ unfolding dropped_line
 settled_empty wire u = record {
   unread = u;
   begins = (67 ∷ 10 ∷ [], Close, ([], (omega arith, tt), refl));
-  none = no-text;
+  none = no_text;
   room = omega arith;
 }

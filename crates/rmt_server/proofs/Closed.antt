@@ -12,7 +12,7 @@ use Rattle.rmt_server.specs.declared.session.desk.Opened.{Opened}
 use Rattle.drives.specs.Holding.{HoldsJust, given, word_after_give}
 use Rattle.drives.specs.Opening.{Kinds}
 use Rattle.drives.specs.declared.view.View.{View}
-use Rattle.rmt_server.proofs.Seats.{HoldsJust-given}
+use Rattle.rmt_server.proofs.Seats.{HoldsJust_given}
 use Rattle.tape.specs.Tape.{entries_of}
 use Rattle.tape.specs.Tape.TapeRequest.{Rewind}
 use Rattle.tape.specs.Tape.TapeAnswer.{Done as Did}
@@ -27,13 +27,13 @@ pub record IsLaid {S R : Type 0} (s : StacksKind S R) (r : ReelPromise R) (old :
   pub quiet : s.can_fail new → s.can_fail old ⊎ ReelCanFail r reel
   pub step : (access : Access) (shop : Shop) (session : PlainSession) → s.holds old shop → IsSeenWith r drive access reel session → s.holds new (closed_shop shop session)
 
-some-is : {a b : ℕ} → Some a ≡ Some b → a ≡ b
-some-is e = cc
+some_is : {a b : ℕ} → Some a ≡ Some b → a ≡ b
+some_is e = cc
 
-laid-step : {S R : Type 0} (s : StacksKind S R) (r : ReelPromise R) (old : S) (drive : ℕ) (reel : R) (new : S) (rested : R)
+laid_step : {S R : Type 0} (s : StacksKind S R) (r : ReelPromise R) (old : S) (drive : ℕ) (reel : R) (new : S) (rested : R)
     → IsReelCall r reel Rewind Did rested → IsStacksCall s r old (LayBack drive rested) new
     → (access : Access) (shop : Shop) (session : PlainSession) → s.holds old shop → IsSeenWith r drive access (Some reel) session → s.holds new (closed_shop shop session)
-laid-step s r old drive reel new rested rewound call access shop session h (t, on, seen) =
+laid_step s r old drive reel new rested rewound call access shop session h (t, on, seen) =
     let rest = rewound.step t on in
     let laid = call.step rest.0 rest.1 shop h in
     subst (s.holds new) (laid.2 ∙ ap (λ c. after_unlatch shop drive (entries_of rest.0) c) rewound.same_capacity ∙ ap (λ u. after_unlatch shop drive (entries_of u) (r.capacity reel)) rest.2 ∙ sym (ap (closed_shop shop) seen)) laid.1
@@ -49,9 +49,9 @@ laid_kept s r old drive None new e = record {
 laid_kept s r old drive (Some reel) new (rested, rewound, call) = record {
   same_drives = call.same_drives;
   unfailed = elim call.failed [ inl e ↦ e | inr e ↦ absurd cc ];
-  elsewhere = λ d n l. call.elsewhere d (λ e. n (some-is (sym e))) l;
+  elsewhere = λ d n l. call.elsewhere d (λ e. n (some_is (sym e))) l;
   quiet = λ f. elim (call.quiet f) [ inl x ↦ inl x | inr x ↦ inr (rewound.quiet x) ];
-  step = λ access shop session h seen. laid-step s r old drive reel new rested rewound call access shop session h seen;
+  step = λ access shop session h seen. laid_step s r old drive reel new rested rewound call access shop session h seen;
 }
 
 -- what was open is closed: its reel was laid back, and its drive given back
@@ -72,7 +72,7 @@ closed_by k old new device at o none laid view told own others same_holds same_s
       at = record {
         own = own;
         enough = omega (arith, at.enough, same_holds, kept.same_drives);
-        held = rw (none, view) (HoldsJust-given (k.holds.shows old.seat) device.drive held);
+        held = rw (none, view) (HoldsJust_given (k.holds.shows old.seat) device.drive held);
         below = λ d e. (let n : None ≡ Some d = sym (ap drive_of none) ∙ e in absurd cc);
         latched = λ d e. (let n : None ≡ Some d = sym (ap online_drive none) ∙ e in absurd cc);
       };

@@ -15,33 +15,33 @@ module _ {H S Seat R : Type 0} (k : Kinds H Seat S R) (old : State H S Seat R) w
   with_opened : Option (Opened R) → State H S Seat R
   with_opened opened = record { drives = old.drives; seat = old.seat; opened = opened }
 
-  same-state : (device : Opened R) (after : Option R) → old.opened ≡ Some device → after ≡ device.reel → with_opened (Some (record device { reel = after })) ≡ old
+  same_state : (device : Opened R) (after : Option R) → old.opened ≡ Some device → after ≡ device.reel → with_opened (Some (record device { reel = after })) ≡ old
   unfolding with_opened
-  same-state device after o e =
+  same_state device after o e =
       ap (λ x. with_opened (Some (record device { reel = x }))) e ∙ ap with_opened (sym o)
 
-  refused-in : (device : Opened R) (lying : Option R) (count : ℕ) (reply : PlainReply) (new : State H S Seat R)
+  refused_in : (device : Opened R) (lying : Option R) (count : ℕ) (reply : PlainReply) (new : State H S Seat R)
       → lying ≡ None → reply ≡ refused NotConfigured → new ≡ old
       → MatchOption (refusal (status_in device.access lying) (Op 6 count)) (MovesIn k old device lying count reply new) (λ x. (reply ≡ refused x) × (new ≡ old))
-  refused-in device lying count reply new e x n = rw e (x, n)
+  refused_in device lying count reply new e x n = rw e (x, n)
 
   -- a drive whose reel is in the bin
-  pub moves-none : (device : Opened R) (after : Option R) (count : ℕ) → old.opened ≡ Some device → None ≡ device.reel → after ≡ None
+  pub moves_none : (device : Opened R) (after : Option R) (count : ℕ) → old.opened ≡ Some device → None ≡ device.reel → after ≡ None
       → MovesOff k old 6 count (refused NotConfigured) (record { drives = old.drives; seat = old.seat; opened = Some (record device { reel = after }) })
   unfolding with_opened
-  moves-none device after count o e a =
+  moves_none device after count o e a =
       subst (λ p. MatchOption (refusal (status_at p) (Op 6 count)) (MovesReel k old p count (refused NotConfigured) (with_opened (Some (record device { reel = after })))) (λ x. (refused NotConfigured ≡ refused x) × (with_opened (Some (record device { reel = after })) ≡ old)))
-      (sym o) (refused-in device device.reel count (refused NotConfigured) (with_opened (Some (record device { reel = after }))) (sym e) refl (same-state device after o (a ∙ e)))
+      (sym o) (refused_in device device.reel count (refused NotConfigured) (with_opened (Some (record device { reel = after }))) (sym e) refl (same_state device after o (a ∙ e)))
 
-  moves-in : (device : Opened R) (lying : Option R) (reel : R) (count : ℕ) (reply : PlainReply) (result : Result (Unit {0}) DriveFault) (new : State H S Seat R)
+  moves_in : (device : Opened R) (lying : Option R) (reel : R) (count : ℕ) (reply : PlainReply) (result : Result (Unit {0}) DriveFault) (new : State H S Seat R)
       → lying ≡ Some reel → reply ≡ move_reply count result → IsTakenOff k old device reel result new
       → MatchOption (refusal (status_in device.access lying) (Op 6 count)) (MovesIn k old device lying count reply new) (λ x. (reply ≡ refused x) × (new ≡ old))
-  moves-in device lying reel count reply result new e x m = rw e (result, x, m)
+  moves_in device lying reel count reply result new e x m = rw e (result, x, m)
 
   -- no check refuses a move while the reel is online
-  pub moves-some : (device : Opened R) (reel : R) (count : ℕ) (reply : PlainReply) (result : Result (Unit {0}) DriveFault) (new : State H S Seat R)
+  pub moves_some : (device : Opened R) (reel : R) (count : ℕ) (reply : PlainReply) (result : Result (Unit {0}) DriveFault) (new : State H S Seat R)
       → old.opened ≡ Some device → device.reel ≡ Some reel → reply ≡ move_reply count result → IsTakenOff k old device reel result new
       → MovesOff k old 6 count reply new
-  moves-some device reel count reply result new o e x m =
+  moves_some device reel count reply result new o e x m =
       subst (λ p. MatchOption (refusal (status_at p) (Op 6 count)) (MovesReel k old p count reply new) (λ x. (reply ≡ refused x) × (new ≡ old)))
-      (sym o) (moves-in device device.reel reel count reply result new e x m)
+      (sym o) (moves_in device device.reel reel count reply result new e x m)

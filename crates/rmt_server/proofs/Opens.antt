@@ -22,51 +22,51 @@ pub is_device : {R : Type 0} → Result (ℕ × R) DriveFault → Bool
 is_device (Err Device) = true
 is_device result = false
 
-pub is_device-is : {R : Type 0} (result : Result (ℕ × R) DriveFault) → IsTrue (is_device result) → result ≡ Err Device
+pub is_device_is : {R : Type 0} (result : Result (ℕ × R) DriveFault) → IsTrue (is_device result) → result ≡ Err Device
 unfolding is_device
-is_device-is (Ok taken) t = absurd cc
-is_device-is (Err NoSuchDrive) t = absurd cc
-is_device-is (Err (Busy n)) t = absurd cc
-is_device-is (Err NoReel) t = absurd cc
-is_device-is (Err Device) t = refl
-is_device-is (Err OutOfMemory) t = absurd cc
-is_device-is (Err NameTaken) t = absurd cc
+is_device_is (Ok taken) t = absurd cc
+is_device_is (Err NoSuchDrive) t = absurd cc
+is_device_is (Err (Busy n)) t = absurd cc
+is_device_is (Err NoReel) t = absurd cc
+is_device_is (Err Device) t = refl
+is_device_is (Err OutOfMemory) t = absurd cc
+is_device_is (Err NameTaken) t = absurd cc
 
 -- a count that has risen since later has risen since earlier
-pub HasRisen-earlier : (a b c : ℕ) → a ≤ b → HasRisen b c → HasRisen a c
-HasRisen-earlier a b c l h = omega arith
+pub HasRisen_earlier : (a b c : ℕ) → a ≤ b → HasRisen b c → HasRisen a c
+HasRisen_earlier a b c l h = omega arith
 
 -- what the drives answered has its cause
-pub is-excused : {R : Type 0} (result : Result (ℕ × R) DriveFault) (v w : View) → SeatStep result v w → IsOpenExcused (is_device result) result
+pub is_excused : {R : Type 0} (result : Result (ℕ × R) DriveFault) (v w : View) → SeatStep result v w → IsOpenExcused (is_device result) result
 unfolding is_device
-is-excused (Ok taken) v w s = tt
-is-excused (Err NoSuchDrive) v w s = tt
-is-excused (Err (Busy n)) v w s = s.0
-is-excused (Err NoReel) v w s = tt
-is-excused (Err Device) v w s = refl
-is-excused (Err OutOfMemory) v w s = tt
-is-excused (Err NameTaken) v w s = s
+is_excused (Ok taken) v w s = tt
+is_excused (Err NoSuchDrive) v w s = tt
+is_excused (Err (Busy n)) v w s = s.0
+is_excused (Err NoReel) v w s = tt
+is_excused (Err Device) v w s = refl
+is_excused (Err OutOfMemory) v w s = tt
+is_excused (Err NameTaken) v w s = s
 
 -- the drive that was asked for is that of the seat's last step
-pub asked-last : {R : Type 0} (result : Result (ℕ × R) DriveFault) (v : View) (d : ℕ) → drive_asked result v ≡ Some d → last_drive v ≡ Some d
-asked-last (Ok taken) v d e = e
-asked-last (Err NoSuchDrive) v d e = absurd cc
-asked-last (Err (Busy n)) v d e = e
-asked-last (Err NoReel) v d e = e
-asked-last (Err Device) v d e = e
-asked-last (Err OutOfMemory) v d e = e
-asked-last (Err NameTaken) v d e = e
+pub asked_last : {R : Type 0} (result : Result (ℕ × R) DriveFault) (v : View) (d : ℕ) → drive_asked result v ≡ Some d → last_drive v ≡ Some d
+asked_last (Ok taken) v d e = e
+asked_last (Err NoSuchDrive) v d e = absurd cc
+asked_last (Err (Busy n)) v d e = e
+asked_last (Err NoReel) v d e = e
+asked_last (Err Device) v d e = e
+asked_last (Err OutOfMemory) v d e = e
+asked_last (Err NameTaken) v d e = e
 
 -- a take that found another seat was of a drive, and is the seat's last step
-pub busy-asked : {R : Type 0} (result : Result (ℕ × R) DriveFault) (v w : View) → SeatStep result v w → 0 < found_in_open result
+pub busy_asked : {R : Type 0} (result : Result (ℕ × R) DriveFault) (v w : View) → SeatStep result v w → 0 < found_in_open result
     → (d : ℕ) × (drive_asked result w ≡ Some d) × (w.last ≡ Some (last_step Take d (found_in_open result)))
-busy-asked (Ok taken) v w s x = absurd (omega arith)
-busy-asked (Err NoSuchDrive) v w s x = absurd (omega arith)
-busy-asked (Err (Busy n)) v w s x = (s.1.0, ap last_drive s.1.1, ap (λ (v : View). v.last) s.1.1)
-busy-asked (Err NoReel) v w s x = absurd (omega arith)
-busy-asked (Err Device) v w s x = absurd (omega arith)
-busy-asked (Err OutOfMemory) v w s x = absurd (omega arith)
-busy-asked (Err NameTaken) v w s x = absurd (omega arith)
+busy_asked (Ok taken) v w s x = absurd (omega arith)
+busy_asked (Err NoSuchDrive) v w s x = absurd (omega arith)
+busy_asked (Err (Busy n)) v w s x = (s.1.0, ap last_drive s.1.1, ap (λ (v : View). v.last) s.1.1)
+busy_asked (Err NoReel) v w s x = absurd (omega arith)
+busy_asked (Err Device) v w s x = absurd (omega arith)
+busy_asked (Err OutOfMemory) v w s x = absurd (omega arith)
+busy_asked (Err NameTaken) v w s x = absurd (omega arith)
 
 -- what an open answered and left, as it is seen
 pub record OpenSeen {R : Type 0} (r : ReelPromise R) (device : List ℕ) (access : Access) (asked : Option ℕ) (result : Result (ℕ × R) DriveFault) (shop shop' : Shop) : Type 0 where
@@ -77,11 +77,11 @@ pub record OpenSeen {R : Type 0} (r : ReelPromise R) (device : List ℕ) (access
   pub reply : open_reply result ≡ open_reply plain
   pub seen : IsSeenAs r (opened_by access result) (session_after access plain)
 
-pub open-seen : {R : Type 0} (r : ReelPromise R) (device : List ℕ) (access : Access) (asked : Option ℕ) (result : Result (ℕ × R) DriveFault) (shop shop' : Shop)
+pub open_seen : {R : Type 0} (r : ReelPromise R) (device : List ℕ) (access : Access) (asked : Option ℕ) (result : Result (ℕ × R) DriveFault) (shop shop' : Shop)
     → IsOpenExcused (is_device result) result
     → OpenStep r.holds r.capacity device asked result shop shop' → OpenSeen r device access asked result shop shop'
 unfolding is_device
-open-seen r device access asked (Ok taken) shop shop' x h = record {
+open_seen r device access asked (Ok taken) shop shop' x h = record {
   plain = Ok (taken.0, plain_reel (tape [] h.2.0.entries) (r.capacity taken.1));
   step = (h.0, h.1, (h.2.0, h.2.1, h.2.2, refl, h.2.4));
   found = refl;
@@ -89,16 +89,16 @@ open-seen r device access asked (Ok taken) shop shop' x h = record {
   reply = refl;
   seen = (tape [] h.2.0.entries, h.2.3, refl);
 }
-open-seen r device access asked (Err NoSuchDrive) shop shop' x h = record { plain = Err NoSuchDrive; step = h; found = refl; excused = x; reply = refl; seen = refl }
-open-seen r device access asked (Err (Busy n)) shop shop' x h = record { plain = Err (Busy n); step = h; found = refl; excused = x; reply = refl; seen = refl }
-open-seen r device access asked (Err NoReel) shop shop' x h = record { plain = Err NoReel; step = h; found = refl; excused = x; reply = refl; seen = refl }
-open-seen r device access asked (Err Device) shop shop' x h = record { plain = Err Device; step = h; found = refl; excused = x; reply = refl; seen = refl }
-open-seen r device access asked (Err OutOfMemory) shop shop' x h = record { plain = Err OutOfMemory; step = h; found = refl; excused = x; reply = refl; seen = refl }
-open-seen r device access asked (Err NameTaken) shop shop' x h = record { plain = Err NameTaken; step = h; found = refl; excused = x; reply = refl; seen = refl }
+open_seen r device access asked (Err NoSuchDrive) shop shop' x h = record { plain = Err NoSuchDrive; step = h; found = refl; excused = x; reply = refl; seen = refl }
+open_seen r device access asked (Err (Busy n)) shop shop' x h = record { plain = Err (Busy n); step = h; found = refl; excused = x; reply = refl; seen = refl }
+open_seen r device access asked (Err NoReel) shop shop' x h = record { plain = Err NoReel; step = h; found = refl; excused = x; reply = refl; seen = refl }
+open_seen r device access asked (Err Device) shop shop' x h = record { plain = Err Device; step = h; found = refl; excused = x; reply = refl; seen = refl }
+open_seen r device access asked (Err OutOfMemory) shop shop' x h = record { plain = Err OutOfMemory; step = h; found = refl; excused = x; reply = refl; seen = refl }
+open_seen r device access asked (Err NameTaken) shop shop' x h = record { plain = Err NameTaken; step = h; found = refl; excused = x; reply = refl; seen = refl }
 
 -- what an open keeps of the stacks, by the latch that it asked for
-err-is : {X : Type 0} (r : Result X DriveFault) (a b : DriveFault) → r ≡ Err a → r ≡ Err b → a ≡ b
-err-is r a b e f = cc
+err_is : {X : Type 0} (r : Result X DriveFault) (a b : DriveFault) → r ≡ Err a → r ≡ Err b → a ≡ b
+err_is r a b e f = cc
 
 pub record IsLatching {H S Seat R : Type 0} (k : Kinds H Seat S R) (old : S) (result : Result (ℕ × R) DriveFault) (new : S) : Type 0 where
   pub device : result ≡ Err Device → HasRisen (k.stacks.failures old) (k.stacks.failures new)
@@ -111,10 +111,10 @@ pub record IsLatching {H S Seat R : Type 0} (k : Kinds H Seat S R) (old : S) (re
   pub elsewhere : (d : ℕ) → HasLatched k.stacks.holds old d → HasLatched k.stacks.holds new d
 
 -- where no latch was asked for
-no-latch : {H S Seat R : Type 0} (k : Kinds H Seat S R) (old : S) (fault : DriveFault) (new : S) → fault ≢ Device → new ≡ old → IsLatching k old (Err fault) new
-no-latch k old fault new n e = record {
-  device = λ x. absurd (n (err-is _ fault Device refl x));
-  able = λ x. absurd (n (err-is _ fault Device refl x));
+no_latch : {H S Seat R : Type 0} (k : Kinds H Seat S R) (old : S) (fault : DriveFault) (new : S) → fault ≢ Device → new ≡ old → IsLatching k old (Err fault) new
+no_latch k old fault new n e = record {
+  device = λ x. absurd (n (err_is _ fault Device refl x));
+  able = λ x. absurd (n (err_is _ fault Device refl x));
   quiet = λ f. subst k.stacks.can_fail e f;
   quiet_reel = λ access f. absurd f;
   counted = rw e (omega arith);
@@ -124,10 +124,10 @@ no-latch k old fault new n e = record {
 }
 
 -- where one was refused
-bad-latch : {H S Seat R : Type 0} (k : Kinds H Seat S R) (old : S) (d : ℕ) (fault : DriveFault) (new : S) → IsStacksCall k.stacks k.reels old (Latch d (Err fault)) new → IsLatching k old (Err fault) new
-bad-latch k old d fault new call = record {
-  device = λ x. call.device (ap Some (err-is _ fault Device refl x));
-  able = λ x. call.able (ap Some (err-is _ fault Device refl x));
+bad_latch : {H S Seat R : Type 0} (k : Kinds H Seat S R) (old : S) (d : ℕ) (fault : DriveFault) (new : S) → IsStacksCall k.stacks k.reels old (Latch d (Err fault)) new → IsLatching k old (Err fault) new
+bad_latch k old d fault new call = record {
+  device = λ x. call.device (ap Some (err_is _ fault Device refl x));
+  able = λ x. call.able (ap Some (err_is _ fault Device refl x));
   quiet = λ f. elim (call.quiet f) [ inl x ↦ x | inr x ↦ absurd x ];
   quiet_reel = λ access f. absurd f;
   counted = call.counted;
@@ -147,19 +147,19 @@ latching k old asked (Ok opened) new call = record {
   latched = λ access d x. call.latched d x;
   elsewhere = λ d l. call.elsewhere d (λ x. absurd cc) l;
 }
-latching k old asked (Err NoSuchDrive) new e = no-latch k old NoSuchDrive new (λ x. absurd cc) e
-latching k old asked (Err (Busy n)) new e = no-latch k old (Busy n) new (λ x. absurd cc) e
-latching k old asked (Err NoReel) new (d, a, call) = bad-latch k old d NoReel new call
-latching k old asked (Err Device) new (d, a, call) = bad-latch k old d Device new call
-latching k old asked (Err OutOfMemory) new (d, a, call) = bad-latch k old d OutOfMemory new call
-latching k old asked (Err NameTaken) new (d, a, call) = bad-latch k old d NameTaken new call
+latching k old asked (Err NoSuchDrive) new e = no_latch k old NoSuchDrive new (λ x. absurd cc) e
+latching k old asked (Err (Busy n)) new e = no_latch k old (Busy n) new (λ x. absurd cc) e
+latching k old asked (Err NoReel) new (d, a, call) = bad_latch k old d NoReel new call
+latching k old asked (Err Device) new (d, a, call) = bad_latch k old d Device new call
+latching k old asked (Err OutOfMemory) new (d, a, call) = bad_latch k old d OutOfMemory new call
+latching k old asked (Err NameTaken) new (d, a, call) = bad_latch k old d NameTaken new call
 
 -- an open leaves the seat its number
-pub open-number : {R : Type 0} (result : Result (ℕ × R) DriveFault) (rested after : View) → SeatStep result rested after → after.number ≡ rested.number
-open-number (Ok opened) rested after s = ap (λ (v : View). v.number) s.3
-open-number (Err NoSuchDrive) rested after s = ap (λ (v : View). v.number) s
-open-number (Err (Busy n)) rested after s = ap (λ (v : View). v.number) s.1.1
-open-number (Err NoReel) rested after s = ap (λ (v : View). v.number) s.1
-open-number (Err Device) rested after s = ap (λ (v : View). v.number) s.1
-open-number (Err OutOfMemory) rested after s = ap (λ (v : View). v.number) s.1
-open-number (Err NameTaken) rested after s = absurd s
+pub open_number : {R : Type 0} (result : Result (ℕ × R) DriveFault) (rested after : View) → SeatStep result rested after → after.number ≡ rested.number
+open_number (Ok opened) rested after s = ap (λ (v : View). v.number) s.3
+open_number (Err NoSuchDrive) rested after s = ap (λ (v : View). v.number) s
+open_number (Err (Busy n)) rested after s = ap (λ (v : View). v.number) s.1.1
+open_number (Err NoReel) rested after s = ap (λ (v : View). v.number) s.1
+open_number (Err Device) rested after s = ap (λ (v : View). v.number) s.1
+open_number (Err OutOfMemory) rested after s = ap (λ (v : View). v.number) s.1
+open_number (Err NameTaken) rested after s = absurd s

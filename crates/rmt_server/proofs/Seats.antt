@@ -17,22 +17,22 @@ unmarked held d = elim (le_or_lt d (length held)) [
 ]
 
 -- a drive that was given back is not held
-pub has-given : (v : View) (d : ℕ) → has (given v d) d ≡ false
-has-given v d = unmarked v.held d
+pub has_given : (v : View) (d : ℕ) → has (given v d) d ≡ false
+has_given v d = unmarked v.held d
 
 -- after its one drive was given back a seat holds none
-pub HoldsJust-given : (v : View) (d : ℕ) → HoldsJust v (Some d) → HoldsJust (given v d) None
-HoldsJust-given v d h e =
+pub HoldsJust_given : (v : View) (d : ℕ) → HoldsJust v (Some d) → HoldsJust (given v d) None
+HoldsJust_given v d h e =
     let none : IsTrue (has (given v d) e) → ⊥ = λ t. elim (eq_or_ne e d) [
-      | inl same ↦ (let n : has (given v d) e ≡ false = ap (has (given v d)) same ∙ has-given v d in cc)
+      | inl same ↦ (let n : has (given v d) e ≡ false = ap (has (given v d)) same ∙ has_given v d in cc)
       | inr other ↦ (let n : has (given v d) e ≡ has v e = get_or-set_other v.held d e false false other in
           let m : Some d ≡ Some e = (h e).0 (rw (← n) t) in let k : d ≡ e = cc in other (sym k))
     ] in
     (λ t. absurd (none t), λ n. cc)
 
 -- a seat that held none holds the one that it took
-pub HoldsJust-taken : (v : View) (d : ℕ) → HoldsJust v None → has (taken v d 0) d ≡ true → HoldsJust (taken v d 0) (Some d)
-HoldsJust-taken v d h own e = elim (eq_or_ne e d) [
+pub HoldsJust_taken : (v : View) (d : ℕ) → HoldsJust v None → has (taken v d 0) d ≡ true → HoldsJust (taken v d 0) (Some d)
+HoldsJust_taken v d h own e = elim (eq_or_ne e d) [
   | inl same ↦ (λ t. ap Some (sym same), λ n. (ap (has (taken v d 0)) same ∙ own))
   | inr other ↦ (let n : has (taken v d 0) e ≡ has v e = get_or-set_other v.held d e true false other in
       (λ t. (let m : None ≡ Some e = (h e).0 (rw (← n) t) in cc), λ k. (let q : d ≡ e = cc in absurd (other (sym q)))))

@@ -11,28 +11,28 @@ use Rattle.rmt_server.specs.Session.PlainSession.{Online}
 use Rattle.rmt_server.specs.State.{IsSeenWith, IsSeenAs, Tells}
 use Rattle.rmt_server.specs.Memory.{MemoryState, in_memory, session_with, session_seen, scene_seen}
 
-with-seen : (drive : ℕ) (access : Access) (reel : Option TroubledTape) → IsSeenWith of_reel drive access reel (session_with drive access reel)
-with-seen drive access None = refl
-with-seen drive access (Some reel) = (reel.tape, refl, refl)
+with_seen : (drive : ℕ) (access : Access) (reel : Option TroubledTape) → IsSeenWith of_reel drive access reel (session_with drive access reel)
+with_seen drive access None = refl
+with_seen drive access (Some reel) = (reel.tape, refl, refl)
 
-opened-seen : (opened : Option (Opened TroubledTape)) → IsSeenAs of_reel opened (session_seen opened)
-opened-seen None = refl
-opened-seen (Some device) = with-seen device.drive device.access device.reel
+opened_seen : (opened : Option (Opened TroubledTape)) → IsSeenAs of_reel opened (session_seen opened)
+opened_seen None = refl
+opened_seen (Some device) = with_seen device.drive device.access device.reel
 
-with-only : (drive : ℕ) (access : Access) (reel : Option TroubledTape) (session : PlainSession) → IsSeenWith of_reel drive access reel session
+with_only : (drive : ℕ) (access : Access) (reel : Option TroubledTape) (session : PlainSession) → IsSeenWith of_reel drive access reel session
     → session ≡ session_with drive access reel
-with-only drive access None session seen = seen
-with-only drive access (Some reel) session (t, held, seen) = seen ∙ ap (λ u. Online drive access (plain_reel u reel.capacity)) (sym held)
+with_only drive access None session seen = seen
+with_only drive access (Some reel) session (t, held, seen) = seen ∙ ap (λ u. Online drive access (plain_reel u reel.capacity)) (sym held)
 
-opened-only : (opened : Option (Opened TroubledTape)) (session : PlainSession) → IsSeenAs of_reel opened session → session ≡ session_seen opened
-opened-only None session seen = seen
-opened-only (Some device) session seen = with-only device.drive device.access device.reel session seen
+opened_only : (opened : Option (Opened TroubledTape)) (session : PlainSession) → IsSeenAs of_reel opened session → session ≡ session_seen opened
+opened_only None session seen = seen
+opened_only (Some device) session seen = with_only device.drive device.access device.reel session seen
 
 -- they tell it where each reel stands once
-pub seen-told : (x : MemoryState) → IsShop x.drives.stacks (shop_of x.drives.stacks) → Tells in_memory x (scene_seen x)
-seen-told x told = record { shop = told; session = opened-seen x.opened }
+pub seen_told : (x : MemoryState) → IsShop x.drives.stacks (shop_of x.drives.stacks) → Tells in_memory x (scene_seen x)
+seen_told x told = record { shop = told; session = opened_seen x.opened }
 
 -- and no other
-pub seen-only : (x : MemoryState) (v : Scene) → Tells in_memory x v → v ≡ scene_seen x
-seen-only x v tells =
-    ap (λ (s : Shop). scene s v.session) tells.shop.0 ∙ ap (λ (p : PlainSession). scene (shop_of x.drives.stacks) p) (opened-only x.opened v.session tells.session)
+pub seen_only : (x : MemoryState) (v : Scene) → Tells in_memory x v → v ≡ scene_seen x
+seen_only x v tells =
+    ap (λ (s : Shop). scene s v.session) tells.shop.0 ∙ ap (λ (p : PlainSession). scene (shop_of x.drives.stacks) p) (opened_only x.opened v.session tells.session)

@@ -22,38 +22,38 @@ use Rattle.rmt_server.specs.Opening.{view_after_close, IsClosed, OpensFor}
 use Rattle.rmt_server.specs.Moving.{IsTakenOff, MovesIn, MovesReel}
 use Rattle.rmt_server.specs.Serving.{Serves}
 use Rattle.rmt_server.specs.Carrying.{Operates, CarriesOut, HasTrouble, is_of_stacks, IsServed, TakesFor, SeatSteps, IsCarriedOut}
-use Rattle.rmt_server.proofs.Opens.{is_device, is_device-is, HasRisen-earlier, asked-last, busy-asked, is-excused, open-seen, latching}
-use Rattle.rmt_server.proofs.Sound.{carried-sound}
-use Rattle.rmt_server.proofs.Steps.{ReelServed, reel-serves, status-seen}
-use Rattle.rmt_server.proofs.Takes.{open-takes, invalid-takes}
+use Rattle.rmt_server.proofs.Opens.{is_device, is_device_is, HasRisen_earlier, asked_last, busy_asked, is_excused, open_seen, latching}
+use Rattle.rmt_server.proofs.Sound.{carried_sound}
+use Rattle.rmt_server.proofs.Steps.{ReelServed, reel_serves, status_seen}
+use Rattle.rmt_server.proofs.Takes.{open_takes, invalid_takes}
 
 -- the device of the stacks is at fault
 is_move_device : Result (Unit {0}) DriveFault → Bool
 is_move_device (Err Device) = true
 is_move_device result = false
 
-move-device : (why : DriveFault) → IsTrue (is_move_device (Err why)) → Some why ≡ Some Device
+move_device : (why : DriveFault) → IsTrue (is_move_device (Err why)) → Some why ≡ Some Device
 unfolding is_move_device
-move-device NoSuchDrive t = absurd cc
-move-device (Busy n) t = absurd cc
-move-device NoReel t = absurd cc
-move-device Device t = refl
-move-device OutOfMemory t = absurd cc
-move-device NameTaken t = absurd cc
+move_device NoSuchDrive t = absurd cc
+move_device (Busy n) t = absurd cc
+move_device NoReel t = absurd cc
+move_device Device t = refl
+move_device OutOfMemory t = absurd cc
+move_device NameTaken t = absurd cc
 
-move-excused : (why : DriveFault) → IsMoveFault (Some why) → IsMoveExcused (is_move_device (Err why)) why
+move_excused : (why : DriveFault) → IsMoveFault (Some why) → IsMoveExcused (is_move_device (Err why)) why
 unfolding is_move_device
-move-excused NoSuchDrive f = elim f [ inl e ↦ absurd cc | inr (inl e) ↦ absurd cc | inr (inr (inl e)) ↦ absurd cc | inr (inr (inr e)) ↦ absurd cc ]
-move-excused (Busy n) f = elim f [ inl e ↦ absurd cc | inr (inl e) ↦ absurd cc | inr (inr (inl e)) ↦ absurd cc | inr (inr (inr e)) ↦ absurd cc ]
-move-excused NoReel f = elim f [ inl e ↦ absurd cc | inr (inl e) ↦ absurd cc | inr (inr (inl e)) ↦ absurd cc | inr (inr (inr e)) ↦ absurd cc ]
-move-excused Device f = refl
-move-excused OutOfMemory f = tt
-move-excused NameTaken f = tt
+move_excused NoSuchDrive f = elim f [ inl e ↦ absurd cc | inr (inl e) ↦ absurd cc | inr (inr (inl e)) ↦ absurd cc | inr (inr (inr e)) ↦ absurd cc ]
+move_excused (Busy n) f = elim f [ inl e ↦ absurd cc | inr (inl e) ↦ absurd cc | inr (inr (inl e)) ↦ absurd cc | inr (inr (inr e)) ↦ absurd cc ]
+move_excused NoReel f = elim f [ inl e ↦ absurd cc | inr (inl e) ↦ absurd cc | inr (inr (inl e)) ↦ absurd cc | inr (inr (inr e)) ↦ absurd cc ]
+move_excused Device f = refl
+move_excused OutOfMemory f = tt
+move_excused NameTaken f = tt
 
 module _ {H S Seat R : Type 0} (k : Kinds H Seat S R) (old : State H S Seat R) (before : Scene) (tells : Tells k old before) where
   -- a refused request
-  refused-tells : (new : State H S Seat R) → new ≡ old → Tells k new before
-  refused-tells new n = subst (λ x. Tells k x before) (sym n) tells
+  refused_tells : (new : State H S Seat R) → new ≡ old → Tells k new before
+  refused_tells new n = subst (λ x. Tells k x before) (sym n) tells
 
   -- an open, once what was open is closed
   opens : (device : List ℕ) (mode : ℕ) (access : Option Access) → access_of mode ≡ access → (reply : PlainReply) (between new : State H S Seat R)
@@ -74,18 +74,18 @@ module _ {H S Seat R : Type 0} (k : Kinds H Seat S R) (old : State H S Seat R) (
   opens device mode (Some access) a reply between new c (result, e, o) =
       let st = o.opening.step (closed before).shop (c.step before tells) in
       let latch = latching k between.drives.stacks _ result new.drives.stacks o.opening.call in
-      let seen = open-seen k.reels device access (drive_asked result (k.holds.shows new.seat)) result (closed before).shop st.0 (is-excused result _ _ o.opening.view) st.2 in
+      let seen = open_seen k.reels device access (drive_asked result (k.holds.shows new.seat)) result (closed before).shop st.0 (is_excused result _ _ o.opening.view) st.2 in
       record {
         after = scene st.0 (session_after access seen.plain);
         tells = record { shop = st.1; session = rw o.opens seen.seen };
         troubled = is_device result;
-        trouble = λ t. HasRisen-earlier _ _ _ c.kept.counted (latch.device (is_device-is result t));
-        able = λ t. c.quiet (inl (latch.able (is_device-is result t)));
+        trouble = λ t. HasRisen_earlier _ _ _ c.kept.counted (latch.device (is_device_is result t));
+        able = λ t. c.quiet (inl (latch.able (is_device_is result t)));
         asked = drive_asked result (k.holds.shows new.seat);
         found = found_in_open result;
-        seat = asked-last result (k.holds.shows new.seat);
+        seat = asked_last result (k.holds.shows new.seat);
         told = λ d n x t. o.opening.found d _ x (c.told d n t);
-        taken = λ x. (let w = busy-asked result _ _ o.opening.view x in (w.0, w.1, subst (λ n. w.0 < n) c.kept.same_holds (o.opening.asked w.0 w.1), w.2));
+        taken = λ x. (let w = busy_asked result _ _ o.opening.view x in (w.0, w.1, subst (λ n. w.0 < n) c.kept.same_holds (o.opening.asked w.0 w.1), w.2));
         step = rw a (seen.plain, seen.step, seen.found, seen.excused, e ∙ seen.reply, refl);
       }
 
@@ -108,29 +108,29 @@ module _ {H S Seat R : Type 0} (k : Kinds H Seat S R) (old : State H S Seat R) (
   }
 
   -- nothing refuses the close of a device that is open
-  not-refused : (access : Access) (reel : Option R) → refusal (status_in access reel) Close ≡ None
-  not-refused access None = refl
-  not-refused access (Some reel) = refl
+  not_refused : (access : Access) (reel : Option R) → refusal (status_in access reel) Close ≡ None
+  not_refused access None = refl
+  not_refused access (Some reel) = refl
 
   closes : (opened : Option (Opened R)) (reply : PlainReply) (new : State H S Seat R) → old.opened ≡ opened
       → MatchOption opened ((reply ≡ refused BadDescriptor) × (new ≡ old)) (λ device. (reply ≡ Done 0) × IsClosed k old new)
       → IsServed k old Close reply new before
   closes None reply new o (e, n) =
-      let idle : status_of before.session ≡ status_at {R = R} None = status-seen k.reels None before.session (subst (λ p. IsSeenAs k.reels p before.session) o tells.session) in
-      served Close reply new before false (refused-tells new n) (λ t. absurd cc) (λ t. absurd cc) (rw idle (e, refl))
+      let idle : status_of before.session ≡ status_at {R = R} None = status_seen k.reels None before.session (subst (λ p. IsSeenAs k.reels p before.session) o tells.session) in
+      served Close reply new before false (refused_tells new n) (λ t. absurd cc) (λ t. absurd cc) (rw idle (e, refl))
   closes (Some device) reply new o (e, c) =
-      let open_at : status_of before.session ≡ status_at (Some device) = status-seen k.reels (Some device) before.session (subst (λ p. IsSeenAs k.reels p before.session) o tells.session) in
+      let open_at : status_of before.session ≡ status_at (Some device) = status_seen k.reels (Some device) before.session (subst (λ p. IsSeenAs k.reels p before.session) o tells.session) in
       served Close reply new (closed before) false (record { shop = c.step before tells; session = rw c.nothing refl }) (λ t. absurd cc) (λ t. absurd cc)
-      (rw (open_at, not-refused device.access device.reel) (e, refl))
+      (rw (open_at, not_refused device.access device.reel) (e, refl))
 
   -- a request that the reel serves
-  reel-parts : (request : PlainRequest) (reply : PlainReply) (new : State H S Seat R) → Serves k old request reply new
+  reel_parts : (request : PlainRequest) (reply : PlainReply) (new : State H S Seat R) → Serves k old request reply new
       → ReelServed k.reels (reel_of old.opened) new.opened before.shop before.session (refusal (status_of before.session) request) request reply
-  reel-parts request reply new (n, e, serves) = reel-serves k.reels old.opened new.opened before.shop before.session request reply serves tells.session
+  reel_parts request reply new (n, e, serves) = reel_serves k.reels old.opened new.opened before.shop before.session request reply serves tells.session
 
-  reel-tells : (request : PlainRequest) (reply : PlainReply) (new : State H S Seat R) (by : Option Refusal) → new.drives ≡ old.drives
+  reel_tells : (request : PlainRequest) (reply : PlainReply) (new : State H S Seat R) (by : Option Refusal) → new.drives ≡ old.drives
       → (p : ReelServed k.reels (reel_of old.opened) new.opened before.shop before.session by request reply) → Tells k new (scene before.shop p.after)
-  reel-tells request reply new by n p = record { shop = rw n tells.shop; session = p.seen }
+  reel_tells request reply new by n p = record { shop = rw n tells.shop; session = p.seen }
 
   -- a reel that was taken off its drive, or stays
   taken : (device : Opened R) (reel : R) (op count : ℕ) (reply : PlainReply) (result : Result (Unit {0}) DriveFault) (new : State H S Seat R)
@@ -157,7 +157,7 @@ module _ {H S Seat R : Type 0} (k : Kinds H Seat S R) (old : State H S Seat R) (
       let v = m.call.step before.shop tells.shop in
       served (Op op count) reply new (scene v.0 (Online device.drive device.access (plain_reel u.0 (k.reels.capacity m.rested)))) (is_move_device (Err why))
       (record { shop = v.1; session = rw m.opens (u.0, u.1, refl) })
-      (λ z. rw off (m.call.device (move-device why z))) (λ z. inl (m.call.able (move-device why z)))
+      (λ z. rw off (m.call.device (move_device why z))) (λ z. inl (m.call.able (move_device why z)))
       (rw (free, off) (
         device.drive,
         device.access,
@@ -165,100 +165,100 @@ module _ {H S Seat R : Type 0} (k : Kinds H Seat S R) (old : State H S Seat R) (
         Err why,
         seen,
         e,
-        (move-excused why m.call.can, v.2, rw (u.2, m.rewound.same_capacity) refl),
+        (move_excused why m.call.can, v.2, rw (u.2, m.rewound.same_capacity) refl),
       ))
 
-  moves-in : (device : Opened R) (lying : Option R) (op count : ℕ) (reply : PlainReply) (new : State H S Seat R)
+  moves_in : (device : Opened R) (lying : Option R) (op count : ℕ) (reply : PlainReply) (new : State H S Seat R)
       → old.opened ≡ Some device → is_offline op ≡ true → refusal (status_of before.session) (Op op count) ≡ None
       → MovesIn k old device lying count reply new → IsSeenWith k.reels device.drive device.access lying before.session
       → IsServed k old (Op op count) reply new before
-  moves-in device None op count reply new o off free m seen = absurd m
-  moves-in device (Some reel) op count reply new o off free (result, e, m) (t, held, seen) = taken device reel op count reply result new o off free e m t held seen
+  moves_in device None op count reply new o off free m seen = absurd m
+  moves_in device (Some reel) op count reply new o off free (result, e, m) (t, held, seen) = taken device reel op count reply result new o off free e m t held seen
 
-  moves-reel : (opened : Option (Opened R)) (op count : ℕ) (reply : PlainReply) (new : State H S Seat R)
+  moves_reel : (opened : Option (Opened R)) (op count : ℕ) (reply : PlainReply) (new : State H S Seat R)
       → old.opened ≡ opened → is_offline op ≡ true → refusal (status_of before.session) (Op op count) ≡ None
       → MovesReel k old opened count reply new → IsSeenAs k.reels opened before.session
       → IsServed k old (Op op count) reply new before
-  moves-reel None op count reply new o off free m seen = absurd m
-  moves-reel (Some device) op count reply new o off free m seen = moves-in device device.reel op count reply new o off free m seen
+  moves_reel None op count reply new o off free m seen = absurd m
+  moves_reel (Some device) op count reply new o off free m seen = moves_in device device.reel op count reply new o off free m seen
 
-  moves-by : (by : Option Refusal) (op count : ℕ) (reply : PlainReply) (new : State H S Seat R)
+  moves_by : (by : Option Refusal) (op count : ℕ) (reply : PlainReply) (new : State H S Seat R)
       → refusal (status_of before.session) (Op op count) ≡ by → is_offline op ≡ true
       → MatchOption by (MovesReel k old old.opened count reply new) (λ x. (reply ≡ refused x) × (new ≡ old))
       → IsServed k old (Op op count) reply new before
-  moves-by None op count reply new free off m = moves-reel old.opened op count reply new refl off free m tells.session
-  moves-by (Some x) op count reply new free off (e, n) =
-      served (Op op count) reply new before false (refused-tells new n) (λ t. absurd cc) (λ t. absurd cc) (rw free (e, refl))
+  moves_by None op count reply new free off m = moves_reel old.opened op count reply new refl off free m tells.session
+  moves_by (Some x) op count reply new free off (e, n) =
+      served (Op op count) reply new before false (refused_tells new n) (λ t. absurd cc) (λ t. absurd cc) (rw free (e, refl))
 
-  op-served : (offline : Bool) (op count : ℕ) (reply : PlainReply) (new : State H S Seat R) → is_offline op ≡ offline
+  op_served : (offline : Bool) (op count : ℕ) (reply : PlainReply) (new : State H S Seat R) → is_offline op ≡ offline
       → Operates k offline old op count reply new → IsServed k old (Op op count) reply new before
-  op-served true op count reply new off m =
-      moves-by (refusal (status_at old.opened) (Op op count)) op count reply new (ap (λ s. refusal s (Op op count)) (status-seen k.reels old.opened before.session tells.session)) off m
-  op-served false op count reply new off serves =
-      let p = reel-parts (Op op count) reply new serves in
-      served (Op op count) reply new (scene before.shop p.after) p.troubled (reel-tells (Op op count) reply new _ serves.0 p)
+  op_served true op count reply new off m =
+      moves_by (refusal (status_at old.opened) (Op op count)) op count reply new (ap (λ s. refusal s (Op op count)) (status_seen k.reels old.opened before.session tells.session)) off m
+  op_served false op count reply new off serves =
+      let p = reel_parts (Op op count) reply new serves in
+      served (Op op count) reply new (scene before.shop p.after) p.troubled (reel_tells (Op op count) reply new _ serves.0 p)
       (λ t. rw off (p.trouble t)) (λ t. inr (p.able t)) (rw off p.step)
 
-  pub serves-step : (request : PlainRequest) (reply : PlainReply) (new : State H S Seat R) → CarriesOut k old request reply new → IsServed k old request reply new before
-  serves-step (Open device mode) reply new (between, c, o) = opens device mode (access_of mode) refl reply between new c o
-  serves-step Close reply new c = closes old.opened reply new refl c
-  serves-step (Write bytes) reply new serves =
-      let p = reel-parts (Write bytes) reply new serves in
-      served (Write bytes) reply new (scene before.shop p.after) p.troubled (reel-tells (Write bytes) reply new _ serves.0 p) p.trouble (λ t. inr (p.able t)) p.step
-  serves-step (WriteDropped count) reply new serves =
-      let p = reel-parts (WriteDropped count) reply new serves in
-      served (WriteDropped count) reply new (scene before.shop p.after) p.troubled (reel-tells (WriteDropped count) reply new _ serves.0 p) p.trouble (λ t. inr (p.able t)) p.step
-  serves-step (Read count) reply new serves =
-      let p = reel-parts (Read count) reply new serves in
-      served (Read count) reply new (scene before.shop p.after) p.troubled (reel-tells (Read count) reply new _ serves.0 p) p.trouble (λ t. inr (p.able t)) p.step
-  serves-step (Op op count) reply new c = op-served (is_offline op) op count reply new refl c
+  pub serves_step : (request : PlainRequest) (reply : PlainReply) (new : State H S Seat R) → CarriesOut k old request reply new → IsServed k old request reply new before
+  serves_step (Open device mode) reply new (between, c, o) = opens device mode (access_of mode) refl reply between new c o
+  serves_step Close reply new c = closes old.opened reply new refl c
+  serves_step (Write bytes) reply new serves =
+      let p = reel_parts (Write bytes) reply new serves in
+      served (Write bytes) reply new (scene before.shop p.after) p.troubled (reel_tells (Write bytes) reply new _ serves.0 p) p.trouble (λ t. inr (p.able t)) p.step
+  serves_step (WriteDropped count) reply new serves =
+      let p = reel_parts (WriteDropped count) reply new serves in
+      served (WriteDropped count) reply new (scene before.shop p.after) p.troubled (reel_tells (WriteDropped count) reply new _ serves.0 p) p.trouble (λ t. inr (p.able t)) p.step
+  serves_step (Read count) reply new serves =
+      let p = reel_parts (Read count) reply new serves in
+      served (Read count) reply new (scene before.shop p.after) p.troubled (reel_tells (Read count) reply new _ serves.0 p) p.trouble (λ t. inr (p.able t)) p.step
+  serves_step (Op op count) reply new c = op_served (is_offline op) op count reply new refl c
 
 module _ {H S Seat R : Type 0} (k : Kinds H Seat S R) (old : State H S Seat R) where
   -- the steps of the seat
-  opens-steps : (between new : State H S Seat R) (access : Option Access) (device : List ℕ) (reply : PlainReply)
+  opens_steps : (between new : State H S Seat R) (access : Option Access) (device : List ℕ) (reply : PlainReply)
       → k.holds.shows between.seat ≡ view_after_close (k.holds.shows old.seat) (drive_of old.opened) → OpensFor k between device access reply new
       → TakesFor (k.holds.shows old.seat) (drive_of old.opened) reply (k.holds.shows new.seat) (drive_of new.opened)
-  opens-steps between new None device reply v (e, n) = rw e (invalid-takes _ _ _ _)
-  opens-steps between new (Some access) device reply v (result, e, o) =
-      rw (e, o.opens) (open-takes (k.holds.shows old.seat) (drive_of old.opened) access result (k.holds.shows between.seat) (k.holds.shows new.seat) v o.opening.view)
+  opens_steps between new None device reply v (e, n) = rw e (invalid_takes _ _ _ _)
+  opens_steps between new (Some access) device reply v (result, e, o) =
+      rw (e, o.opens) (open_takes (k.holds.shows old.seat) (drive_of old.opened) access result (k.holds.shows between.seat) (k.holds.shows new.seat) v o.opening.view)
 
-  closes-steps : (opened : Option (Opened R)) (reply : PlainReply) (new : State H S Seat R) → old.opened ≡ opened
+  closes_steps : (opened : Option (Opened R)) (reply : PlainReply) (new : State H S Seat R) → old.opened ≡ opened
       → MatchOption opened ((reply ≡ refused BadDescriptor) × (new ≡ old)) (λ device. (reply ≡ Done 0) × IsClosed k old new)
       → k.holds.shows new.seat ≡ view_after_close (k.holds.shows old.seat) (drive_of old.opened)
-  closes-steps None reply new o (e, n) = rw (n, o) refl
-  closes-steps (Some device) reply new o (e, c) = c.view
+  closes_steps None reply new o (e, n) = rw (n, o) refl
+  closes_steps (Some device) reply new o (e, c) = c.view
 
-  taken-seat : (device : Opened R) (lying : Option R) (count : ℕ) (reply : PlainReply) (new : State H S Seat R) → MovesIn k old device lying count reply new → new.seat ≡ old.seat
-  taken-seat device None count reply new m = absurd m
-  taken-seat device (Some reel) count reply new (result, e, m) = m.same_seat
+  taken_seat : (device : Opened R) (lying : Option R) (count : ℕ) (reply : PlainReply) (new : State H S Seat R) → MovesIn k old device lying count reply new → new.seat ≡ old.seat
+  taken_seat device None count reply new m = absurd m
+  taken_seat device (Some reel) count reply new (result, e, m) = m.same_seat
 
-  moved-seat : (opened : Option (Opened R)) (by : Option Refusal) (count : ℕ) (reply : PlainReply) (new : State H S Seat R)
+  moved_seat : (opened : Option (Opened R)) (by : Option Refusal) (count : ℕ) (reply : PlainReply) (new : State H S Seat R)
       → MatchOption by (MovesReel k old opened count reply new) (λ x. (reply ≡ refused x) × (new ≡ old)) → new.seat ≡ old.seat
-  moved-seat None None count reply new m = absurd m
-  moved-seat (Some device) None count reply new m = taken-seat device device.reel count reply new m
-  moved-seat opened (Some x) count reply new (e, n) = ap (λ (x : State H S Seat R). x.seat) n
+  moved_seat None None count reply new m = absurd m
+  moved_seat (Some device) None count reply new m = taken_seat device device.reel count reply new m
+  moved_seat opened (Some x) count reply new (e, n) = ap (λ (x : State H S Seat R). x.seat) n
 
-  op-seat : (offline : Bool) (op count : ℕ) (reply : PlainReply) (new : State H S Seat R) → Operates k offline old op count reply new → new.seat ≡ old.seat
-  op-seat true op count reply new m = moved-seat old.opened (refusal (status_at old.opened) (Op op count)) count reply new m
-  op-seat false op count reply new serves = serves.1
+  op_seat : (offline : Bool) (op count : ℕ) (reply : PlainReply) (new : State H S Seat R) → Operates k offline old op count reply new → new.seat ≡ old.seat
+  op_seat true op count reply new m = moved_seat old.opened (refusal (status_at old.opened) (Op op count)) count reply new m
+  op_seat false op count reply new serves = serves.1
 
-  carried-steps : (request : PlainRequest) (reply : PlainReply) (new : State H S Seat R) → CarriesOut k old request reply new
+  carried_steps : (request : PlainRequest) (reply : PlainReply) (new : State H S Seat R) → CarriesOut k old request reply new
       → SeatSteps request (k.holds.shows old.seat) (drive_of old.opened) reply (k.holds.shows new.seat) (drive_of new.opened)
-  carried-steps (Open device mode) reply new (between, c, o) = opens-steps between new (access_of mode) device reply c.view o
-  carried-steps Close reply new c = closes-steps old.opened reply new refl c
-  carried-steps (Write bytes) reply new serves = ap k.holds.shows serves.1
-  carried-steps (WriteDropped count) reply new serves = ap k.holds.shows serves.1
-  carried-steps (Read count) reply new serves = ap k.holds.shows serves.1
-  carried-steps (Op op count) reply new c = ap k.holds.shows (op-seat (is_offline op) op count reply new c)
+  carried_steps (Open device mode) reply new (between, c, o) = opens_steps between new (access_of mode) device reply c.view o
+  carried_steps Close reply new c = closes_steps old.opened reply new refl c
+  carried_steps (Write bytes) reply new serves = ap k.holds.shows serves.1
+  carried_steps (WriteDropped count) reply new serves = ap k.holds.shows serves.1
+  carried_steps (Read count) reply new serves = ap k.holds.shows serves.1
+  carried_steps (Op op count) reply new c = ap k.holds.shows (op_seat (is_offline op) op count reply new c)
 
   -- a request that was carried out, with all that follows
   pub carried : (request : PlainRequest) (reply : PlainReply) (new : State H S Seat R) → IsAt k old → CarriesOut k old request reply new → IsCarriedOut k old request reply new
   carried request reply new at c =
-      let sound = carried-sound k old request reply new at c in
+      let sound = carried_sound k old request reply new at c in
       record {
         effect = c;
-        step = λ before tells. serves-step k old before tells request reply new c;
-        steps = carried-steps request reply new c;
+        step = λ before tells. serves_step k old before tells request reply new c;
+        steps = carried_steps request reply new c;
         at = sound.at;
         kept = sound.kept;
         same_seats = sound.same_seats;

@@ -13,67 +13,67 @@ use Rattle.rmt_server.specs.declared.session.desk.Opened.{Opened}
 use Rattle.rmt_server.specs.declared.session.desk.Desk.{Desk}
 use Rattle.rmt_server.specs.State.{State, state, drive_of, online_in, online_drive, IsAt, KeepsDrives}
 
-same-number : (n a b : ℕ) → (n == a) ≡ true → (n == b) ≡ true → a ≡ b
-same-number n a b e f = grind (arith, nat_tests)
+same_number : (n a b : ℕ) → (n == a) ≡ true → (n == b) ≡ true → a ≡ b
+same_number n a b e f = grind (arith, nat_tests)
 
 -- two seats do not hold one drive
-two-seats : (all : Holders) (v w : View) (d : ℕ) → IsSeatOf all v → IsSeatOf all w → v.number ≢ w.number → d < length all.numbers
+two_seats : (all : Holders) (v w : View) (d : ℕ) → IsSeatOf all v → IsSeatOf all w → v.number ≢ w.number → d < length all.numbers
     → IsTrue (has v d) → IsTrue (has w d) → ⊥
-two-seats all v w d a b n l x y =
-    n (same-number (slice_index all.numbers d) v.number w.number (sym (a.agrees d l) ∙ x) (sym (b.agrees d l) ∙ y))
+two_seats all v w d a b n l x y =
+    n (same_number (slice_index all.numbers d) v.number w.number (sym (a.agrees d l) ∙ x) (sym (b.agrees d l) ∙ y))
 
-online-in : {R : Type 0} (drive : ℕ) (reel : Option R) (d : ℕ) → online_in drive reel ≡ Some d → Some drive ≡ Some d
-online-in drive None d e = absurd cc
-online-in drive (Some reel) d e = e
+stays_online_in : {R : Type 0} (drive : ℕ) (reel : Option R) (d : ℕ) → online_in drive reel ≡ Some d → Some drive ≡ Some d
+stays_online_in drive None d e = absurd cc
+stays_online_in drive (Some reel) d e = e
 
-pub online-drive : {R : Type 0} (opened : Option (Opened R)) (d : ℕ) → online_drive opened ≡ Some d → drive_of opened ≡ Some d
-online-drive None d e = absurd cc
-online-drive (Some device) d e = online-in device.drive device.reel d e
+pub drive_is_online : {R : Type 0} (opened : Option (Opened R)) (d : ℕ) → online_drive opened ≡ Some d → drive_of opened ≡ Some d
+drive_is_online None d e = absurd cc
+drive_is_online (Some device) d e = stays_online_in device.drive device.reel d e
 
 -- what one session does at its drives leaves those of another
-stays-at : {H S Seat R : Type 0} (k : Kinds H Seat S R) (old new : State H S Seat R) (other : Desk Seat R)
+stays_at : {H S Seat R : Type 0} (k : Kinds H Seat S R) (old new : State H S Seat R) (other : Desk Seat R)
     → IsAt k (state old.drives other) → KeepsDrives k old new → (k.holds.shows other.seat).number ≢ (k.holds.shows old.seat).number
     → ((d : ℕ) → drive_of other.opened ≡ Some d → drive_of old.opened ≢ Some d) → ((d : ℕ) → drive_of other.opened ≡ Some d → drive_of new.opened ≢ Some d)
     → IsAt k (state new.drives other)
-stays-at k old new other at kept n before after = record {
+stays_at k old new other at kept n before after = record {
   own = kept.others other.seat n at.own;
   enough = omega (arith, at.enough, kept.same_holds, kept.same_stacks);
   held = at.held;
   below = rw kept.same_stacks at.below;
-  latched = λ d e. kept.elsewhere d (before d (online-drive other.opened d e)) (after d (online-drive other.opened d e)) (at.latched d e);
+  latched = λ d e. kept.elsewhere d (before d (drive_is_online other.opened d e)) (after d (drive_is_online other.opened d e)) (at.latched d e);
 }
 
-number-is : (n a : ℕ) → (n == a) ≡ true → n ≡ a
-number-is n a e = grind (arith, nat_tests)
+number_is : (n a : ℕ) → (n == a) ≡ true → n ≡ a
+number_is n a e = grind (arith, nat_tests)
 
 module _ {S R : Type 0} (s : StacksPromise S R) (r : ReelPromise R) where
   abbrev local : Kinds Holders View S R
   local = kinds of_holds s r
 
   -- the open drive is held by the session's seat
-  pub open-held : (drives : DriveTable Holders S View R) (desk : Desk View R) (d : ℕ) → IsAt local (state drives desk) → drive_of desk.opened ≡ Some d
+  pub open_held : (drives : DriveTable Holders S View R) (desk : Desk View R) (d : ℕ) → IsAt local (state drives desk) → drive_of desk.opened ≡ Some d
       → IsHeldBy drives.holds d desk.seat.number
-  open-held drives desk d at e =
+  open_held drives desk d at e =
       let l : d < length drives.holds.numbers = omega (arith, at.below d e, at.enough) in
-      (l, number-is (slice_index drives.holds.numbers d) desk.seat.number (sym (at.own.agrees d l) ∙ (at.held d).1 e))
+      (l, number_is (slice_index drives.holds.numbers d) desk.seat.number (sym (at.own.agrees d l) ∙ (at.held d).1 e))
 
   -- so a drive that has no holder is not open
-  pub free-closed : (drives : DriveTable Holders S View R) (desk : Desk View R) (d : ℕ) → IsAt local (state drives desk) → IsHeldBy drives.holds d 0
+  pub free_closed : (drives : DriveTable Holders S View R) (desk : Desk View R) (d : ℕ) → IsAt local (state drives desk) → IsHeldBy drives.holds d 0
       → drive_of desk.opened ≢ Some d
-  free-closed drives desk d at free e = omega (arith, (open-held drives desk d at e).1, free.1, at.own.numbered)
+  free_closed drives desk d at free e = omega (arith, (open_held drives desk d at e).1, free.1, at.own.numbered)
 
   -- two sessions do not have one drive open
-  pub one-holder : (drives : DriveTable Holders S View R) (one other : Desk View R) (d : ℕ)
+  pub has_one_holder : (drives : DriveTable Holders S View R) (one other : Desk View R) (d : ℕ)
       → IsAt local (state drives one) → IsAt local (state drives other) → one.seat.number ≢ other.seat.number
       → drive_of one.opened ≡ Some d → drive_of other.opened ≡ Some d → ⊥
-  one-holder drives one other d a b n x y =
-      two-seats drives.holds one.seat other.seat d a.own b.own n (omega (arith, a.below d x, a.enough)) ((a.held d).1 x) ((b.held d).1 y)
+  has_one_holder drives one other d a b n x y =
+      two_seats drives.holds one.seat other.seat d a.own b.own n (omega (arith, a.below d x, a.enough)) ((a.held d).1 x) ((b.held d).1 y)
 
   -- at the drives of one thread no other session has one of those drives open
-  pub others-stay : (old new : DriveTable Holders S View R) (one after other : Desk View R)
+  pub others_stay : (old new : DriveTable Holders S View R) (one after other : Desk View R)
       → IsAt local (state old one) → IsAt local (state old other) → other.seat.number ≢ one.seat.number
       → IsAt local (state new after) → KeepsDrives local (state old one) (state new after) → IsAt local (state new other)
-  others-stay old new one after other a b n a' kept =
-      stays-at local (state old one) (state new after) other b kept n
-      (λ d x y. one-holder old one other d a b (λ z. n (sym z)) y x)
-      (λ d x y. two-seats new.holds after.seat other.seat d a'.own (kept.others other.seat n b.own) (λ z. n (sym z ∙ kept.number)) (omega (arith, a'.below d y, a'.enough)) ((a'.held d).1 y) ((b.held d).1 x))
+  others_stay old new one after other a b n a' kept =
+      stays_at local (state old one) (state new after) other b kept n
+      (λ d x y. has_one_holder old one other d a b (λ z. n (sym z)) y x)
+      (λ d x y. two_seats new.holds after.seat other.seat d a'.own (kept.others other.seat n b.own) (λ z. n (sym z ∙ kept.number)) (omega (arith, a'.below d y, a'.enough)) ((a'.held d).1 y) ((b.held d).1 x))

@@ -31,68 +31,68 @@ pub record IsSound {H S Seat R : Type 0} (k : Kinds H Seat S R) (old new : State
   pub quiet : SessionCanFail k new → SessionCanFail k old
 
 -- what a call of the reel leaves open
-calls-in-same : {R : Type 0} (r : ReelPromise R) (device : Opened R) (reel : Option R) (new : Option (Opened R)) (request : PlainRequest) (reply : PlainReply)
+calls_in_same : {R : Type 0} (r : ReelPromise R) (device : Opened R) (reel : Option R) (new : Option (Opened R)) (request : PlainRequest) (reply : PlainReply)
     → reel ≡ device.reel → CallsIn r device reel new request reply → (drive_of new ≡ Some device.drive) × (online_drive new ≡ online_drive (Some device))
-calls-in-same r device None new request reply e call = absurd call
-calls-in-same r device (Some reel) new request reply e (answer, moved, n, rest, call) = (ap drive_of n, rw (n, ← e) refl)
+calls_in_same r device None new request reply e call = absurd call
+calls_in_same r device (Some reel) new request reply e (answer, moved, n, rest, call) = (ap drive_of n, rw (n, ← e) refl)
 
-calls-same : {R : Type 0} (r : ReelPromise R) (opened new : Option (Opened R)) (request : PlainRequest) (reply : PlainReply)
+calls_same : {R : Type 0} (r : ReelPromise R) (opened new : Option (Opened R)) (request : PlainRequest) (reply : PlainReply)
     → CallsReel r opened new request reply → (drive_of new ≡ drive_of opened) × (online_drive new ≡ online_drive opened)
-calls-same r None new request reply call = absurd call
-calls-same r (Some device) new request reply call = calls-in-same r device device.reel new request reply refl call
+calls_same r None new request reply call = absurd call
+calls_same r (Some device) new request reply call = calls_in_same r device device.reel new request reply refl call
 
-serves-by : {R : Type 0} (r : ReelPromise R) (opened new : Option (Opened R)) (request : PlainRequest) (reply : PlainReply) (by : Option Refusal)
+serves_by : {R : Type 0} (r : ReelPromise R) (opened new : Option (Opened R)) (request : PlainRequest) (reply : PlainReply) (by : Option Refusal)
     → MatchOption by (CallsReel r opened new request reply) (λ x. (reply ≡ refused x) × (new ≡ opened))
     → (drive_of new ≡ drive_of opened) × (online_drive new ≡ online_drive opened)
-serves-by r opened new request reply None call = calls-same r opened new request reply call
-serves-by r opened new request reply (Some x) (e, n) = (ap drive_of n, ap online_drive n)
+serves_by r opened new request reply None call = calls_same r opened new request reply call
+serves_by r opened new request reply (Some x) (e, n) = (ap drive_of n, ap online_drive n)
 
-pub serves-same : {R : Type 0} (r : ReelPromise R) (opened new : Option (Opened R)) (request : PlainRequest) (reply : PlainReply)
+pub serves_same : {R : Type 0} (r : ReelPromise R) (opened new : Option (Opened R)) (request : PlainRequest) (reply : PlainReply)
     → ReelServes r opened new request reply → (drive_of new ≡ drive_of opened) × (online_drive new ≡ online_drive opened)
-serves-same r opened new request reply serves = serves-by r opened new request reply (refusal (status_at opened) request) serves
+serves_same r opened new request reply serves = serves_by r opened new request reply (refusal (status_at opened) request) serves
 
-calls-in-quiet : {R : Type 0} (r : ReelPromise R) (device : Opened R) (reel : Option R) (new : Option (Opened R)) (request : PlainRequest) (reply : PlainReply)
+calls_in_quiet : {R : Type 0} (r : ReelPromise R) (device : Opened R) (reel : Option R) (new : Option (Opened R)) (request : PlainRequest) (reply : PlainReply)
     → CallsIn r device reel new request reply → ReelCanFail r (reel_of new) → ReelCanFail r reel
-calls-in-quiet r device None new request reply call f = absurd call
-calls-in-quiet r device (Some reel) new request reply (answer, moved, n, e, call) f = call.quiet (subst (λ o. ReelCanFail r (reel_of o)) n f)
+calls_in_quiet r device None new request reply call f = absurd call
+calls_in_quiet r device (Some reel) new request reply (answer, moved, n, e, call) f = call.quiet (subst (λ o. ReelCanFail r (reel_of o)) n f)
 
-calls-quiet : {R : Type 0} (r : ReelPromise R) (opened new : Option (Opened R)) (request : PlainRequest) (reply : PlainReply)
+calls_quiet : {R : Type 0} (r : ReelPromise R) (opened new : Option (Opened R)) (request : PlainRequest) (reply : PlainReply)
     → CallsReel r opened new request reply → ReelCanFail r (reel_of new) → ReelCanFail r (reel_of opened)
-calls-quiet r None new request reply call f = absurd call
-calls-quiet r (Some device) new request reply call f = calls-in-quiet r device device.reel new request reply call f
+calls_quiet r None new request reply call f = absurd call
+calls_quiet r (Some device) new request reply call f = calls_in_quiet r device device.reel new request reply call f
 
-serves-quiet : {R : Type 0} (r : ReelPromise R) (opened new : Option (Opened R)) (request : PlainRequest) (reply : PlainReply) (by : Option Refusal)
+serves_quiet : {R : Type 0} (r : ReelPromise R) (opened new : Option (Opened R)) (request : PlainRequest) (reply : PlainReply) (by : Option Refusal)
     → MatchOption by (CallsReel r opened new request reply) (λ x. (reply ≡ refused x) × (new ≡ opened))
     → ReelCanFail r (reel_of new) → ReelCanFail r (reel_of opened)
-serves-quiet r opened new request reply None call f = calls-quiet r opened new request reply call f
-serves-quiet r opened new request reply (Some x) (e, n) f = subst (λ o. ReelCanFail r (reel_of o)) n f
+serves_quiet r opened new request reply None call f = calls_quiet r opened new request reply call f
+serves_quiet r opened new request reply (Some x) (e, n) f = subst (λ o. ReelCanFail r (reel_of o)) n f
 
-some-is : {a b : ℕ} → Some a ≡ Some b → a ≡ b
-some-is e = cc
+some_is : {a b : ℕ} → Some a ≡ Some b → a ≡ b
+some_is e = cc
 
-left-drive : {R : Type 0} (result : Result (Unit {0}) DriveFault) (reel : R) (drive d : ℕ) → online_in drive (reel_left result reel) ≡ Some d
+left_drive : {R : Type 0} (result : Result (Unit {0}) DriveFault) (reel : R) (drive d : ℕ) → online_in drive (reel_left result reel) ≡ Some d
     → (drive ≡ d) × ((fault : DriveFault) × (result ≡ Err fault))
-left-drive (Ok done) reel drive d e = absurd cc
-left-drive (Err why) reel drive d e = (some-is e, (why, refl))
+left_drive (Ok done) reel drive d e = absurd cc
+left_drive (Err why) reel drive d e = (some_is e, (why, refl))
 
-left-is : {R : Type 0} (result : Result (Unit {0}) DriveFault) (reel : R) (drive d : ℕ) → drive_left (Move drive reel result) ≡ Some d → Some drive ≡ Some d
-left-is (Ok done) reel drive d e = e
-left-is (Err why) reel drive d e = absurd cc
+left_is : {R : Type 0} (result : Result (Unit {0}) DriveFault) (reel : R) (drive d : ℕ) → drive_left (Move drive reel result) ≡ Some d → Some drive ≡ Some d
+left_is (Ok done) reel drive d e = e
+left_is (Err why) reel drive d e = absurd cc
 
-left-quiet : {R : Type 0} (r : ReelPromise R) (result : Result (Unit {0}) DriveFault) (reel : R) → ReelCanFail r (reel_left result reel) → r.can_fail reel
-left-quiet r (Ok done) reel f = absurd f
-left-quiet r (Err why) reel f = f
+left_quiet : {R : Type 0} (r : ReelPromise R) (result : Result (Unit {0}) DriveFault) (reel : R) → ReelCanFail r (reel_left result reel) → r.can_fail reel
+left_quiet r (Ok done) reel f = absurd f
+left_quiet r (Err why) reel f = f
 
 module _ {H S Seat R : Type 0} (k : Kinds H Seat S R) (old : State H S Seat R) (at : IsAt k old) where
-  pub kept-same : KeepsDrives k old old
-  kept-same = record { number = refl; others = λ other x b. b; same_holds = refl; same_stacks = refl; counted = omega arith; elsewhere = λ d x y l. l }
+  pub kept_same : KeepsDrives k old old
+  kept_same = record { number = refl; others = λ other x b. b; same_holds = refl; same_stacks = refl; counted = omega arith; elsewhere = λ d x y l. l }
 
-  pub sound-same : (new : State H S Seat R) → new ≡ old → IsSound k old new
-  sound-same new e = rw e (record { at = at; kept = kept-same; same_seats = refl; quiet = λ f. f })
+  pub sound_same : (new : State H S Seat R) → new ≡ old → IsSound k old new
+  sound_same new e = rw e (record { at = at; kept = kept_same; same_seats = refl; quiet = λ f. f })
 
-  serves-sound : (request : PlainRequest) (reply : PlainReply) (new : State H S Seat R) → Serves k old request reply new → IsSound k old new
-  serves-sound request reply new (n, e, serves) =
-      let same = serves-same k.reels old.opened new.opened request reply serves in
+  serves_sound : (request : PlainRequest) (reply : PlainReply) (new : State H S Seat R) → Serves k old request reply new → IsSound k old new
+  serves_sound request reply new (n, e, serves) =
+      let same = serves_same k.reels old.opened new.opened request reply serves in
       record {
         at = record {
           own = rw (n, e) at.own;
@@ -112,18 +112,18 @@ module _ {H S Seat R : Type 0} (k : Kinds H Seat S R) (old : State H S Seat R) (
         same_seats = rw n refl;
         quiet = λ f. elim f [
           | inl x ↦ inl (subst (λ (d : DriveTable H S Seat R). k.stacks.can_fail d.stacks) n x)
-          | inr x ↦ inr (serves-quiet k.reels old.opened new.opened request reply (refusal (status_at old.opened) request) serves x)
+          | inr x ↦ inr (serves_quiet k.reels old.opened new.opened request reply (refusal (status_at old.opened) request) serves x)
         ];
       }
 
-  closes-by : (opened : Option (Opened R)) (reply other : PlainReply) (new : State H S Seat R)
+  closes_by : (opened : Option (Opened R)) (reply other : PlainReply) (new : State H S Seat R)
       → MatchOption opened ((reply ≡ refused BadDescriptor) × (new ≡ old)) (λ device. (reply ≡ other) × IsClosed k old new) → IsSound k old new
-  closes-by None reply other new (e, n) = sound-same new n
-  closes-by (Some device) reply other new (e, c) = record { at = c.at; kept = c.kept; same_seats = c.same_seats; quiet = c.quiet }
+  closes_by None reply other new (e, n) = sound_same new n
+  closes_by (Some device) reply other new (e, c) = record { at = c.at; kept = c.kept; same_seats = c.same_seats; quiet = c.quiet }
 
-  taken-sound : (device : Opened R) (reel : R) (result : Result (Unit {0}) DriveFault) (new : State H S Seat R)
+  taken_sound : (device : Opened R) (reel : R) (result : Result (Unit {0}) DriveFault) (new : State H S Seat R)
       → old.opened ≡ Some device → device.reel ≡ Some reel → IsTakenOff k old device reel result new → IsSound k old new
-  taken-sound device reel result new o online m =
+  taken_sound device reel result new o online m =
       let drive : drive_of new.opened ≡ drive_of old.opened = ap drive_of m.opens ∙ sym (ap drive_of o) in
       record {
         at = record {
@@ -132,7 +132,7 @@ module _ {H S Seat R : Type 0} (k : Kinds H Seat S R) (old : State H S Seat R) (
           held = rw (m.same_seat, drive) at.held;
           below = rw (drive, m.call.same_drives) at.below;
           latched = λ d e.
-              let left = left-drive result m.rested device.drive d (sym (ap online_drive m.opens) ∙ e) in
+              let left = left_drive result m.rested device.drive d (sym (ap online_drive m.opens) ∙ e) in
               let before : online_drive old.opened ≡ Some d = ap online_drive o ∙ ap (online_in device.drive) online ∙ ap Some left.0 in
               m.call.elsewhere d (subst (λ x. drive_left (Move device.drive m.rested x) ≢ Some d) (sym left.1.1) (λ x. absurd cc)) (at.latched d before);
         };
@@ -142,43 +142,43 @@ module _ {H S Seat R : Type 0} (k : Kinds H Seat S R) (old : State H S Seat R) (
           same_holds = rw m.same_holds refl;
           same_stacks = m.call.same_drives;
           counted = m.call.counted;
-          elsewhere = λ d x y l. m.call.elsewhere d (λ z. x (ap drive_of o ∙ left-is result m.rested device.drive d z)) l;
+          elsewhere = λ d x y l. m.call.elsewhere d (λ z. x (ap drive_of o ∙ left_is result m.rested device.drive d z)) l;
         };
         same_seats = rw m.same_holds refl;
         quiet = λ f. elim f [
           | inl x ↦ elim (m.call.quiet x) [ inl y ↦ inl y | inr y ↦ inr (subst (λ p. ReelCanFail k.reels (reel_of p)) (sym o) (subst (ReelCanFail k.reels) (sym online) (m.rewound.quiet y))) ]
           | inr x ↦ inr (subst (λ p. ReelCanFail k.reels (reel_of p)) (sym o) (subst (ReelCanFail k.reels) (sym online)
-              (m.rewound.quiet (left-quiet k.reels result m.rested (subst (λ p. ReelCanFail k.reels (reel_of p)) m.opens x)))))
+              (m.rewound.quiet (left_quiet k.reels result m.rested (subst (λ p. ReelCanFail k.reels (reel_of p)) m.opens x)))))
         ];
       }
 
-  moves-in-sound : (device : Opened R) (lying : Option R) (count : ℕ) (reply : PlainReply) (new : State H S Seat R)
+  moves_in_sound : (device : Opened R) (lying : Option R) (count : ℕ) (reply : PlainReply) (new : State H S Seat R)
       → old.opened ≡ Some device → device.reel ≡ lying → MovesIn k old device lying count reply new → IsSound k old new
-  moves-in-sound device None count reply new o online m = absurd m
-  moves-in-sound device (Some reel) count reply new o online (result, e, m) = taken-sound device reel result new o online m
+  moves_in_sound device None count reply new o online m = absurd m
+  moves_in_sound device (Some reel) count reply new o online (result, e, m) = taken_sound device reel result new o online m
 
-  moves-reel-sound : (opened : Option (Opened R)) (count : ℕ) (reply : PlainReply) (new : State H S Seat R)
+  moves_reel_sound : (opened : Option (Opened R)) (count : ℕ) (reply : PlainReply) (new : State H S Seat R)
       → old.opened ≡ opened → MovesReel k old opened count reply new → IsSound k old new
-  moves-reel-sound None count reply new o m = absurd m
-  moves-reel-sound (Some device) count reply new o m = moves-in-sound device device.reel count reply new o refl m
+  moves_reel_sound None count reply new o m = absurd m
+  moves_reel_sound (Some device) count reply new o m = moves_in_sound device device.reel count reply new o refl m
 
-  moves-by : (by : Option Refusal) (count : ℕ) (reply : PlainReply) (new : State H S Seat R)
+  moves_by : (by : Option Refusal) (count : ℕ) (reply : PlainReply) (new : State H S Seat R)
       → MatchOption by (MovesReel k old old.opened count reply new) (λ x. (reply ≡ refused x) × (new ≡ old)) → IsSound k old new
-  moves-by None count reply new m = moves-reel-sound old.opened count reply new refl m
-  moves-by (Some x) count reply new (e, n) = sound-same new n
+  moves_by None count reply new m = moves_reel_sound old.opened count reply new refl m
+  moves_by (Some x) count reply new (e, n) = sound_same new n
 
-  op-sound : (offline : Bool) (op count : ℕ) (reply : PlainReply) (new : State H S Seat R) → Operates k offline old op count reply new → IsSound k old new
-  op-sound true op count reply new m = moves-by (refusal (status_at old.opened) (Op op count)) count reply new m
-  op-sound false op count reply new serves = serves-sound (Op op count) reply new serves
+  op_sound : (offline : Bool) (op count : ℕ) (reply : PlainReply) (new : State H S Seat R) → Operates k offline old op count reply new → IsSound k old new
+  op_sound true op count reply new m = moves_by (refusal (status_at old.opened) (Op op count)) count reply new m
+  op_sound false op count reply new serves = serves_sound (Op op count) reply new serves
 
-  opens-sound : (device : List ℕ) (access : Option Access) (reply : PlainReply) (new : State H S Seat R) → OpensFor k old device access reply new → IsSound k old new
-  opens-sound device None reply new (e, n) = sound-same new n
-  opens-sound device (Some access) reply new (result, e, o) = record { at = o.at; kept = o.kept; same_seats = o.opening.same_seats; quiet = o.quiet }
+  opens_sound : (device : List ℕ) (access : Option Access) (reply : PlainReply) (new : State H S Seat R) → OpensFor k old device access reply new → IsSound k old new
+  opens_sound device None reply new (e, n) = sound_same new n
+  opens_sound device (Some access) reply new (result, e, o) = record { at = o.at; kept = o.kept; same_seats = o.opening.same_seats; quiet = o.quiet }
 
 module _ {H S Seat R : Type 0} (k : Kinds H Seat S R) where
   -- what is done once what was open is closed
-  sound-then : (old between new : State H S Seat R) → IsClosed k old between → IsSound k between new → IsSound k old new
-  sound-then old between new c b =
+  sound_then : (old between new : State H S Seat R) → IsClosed k old between → IsSound k between new → IsSound k old new
+  sound_then old between new c b =
       let none : (d : ℕ) → drive_of between.opened ≢ Some d = λ d e. (let n : None ≡ Some d = sym (ap drive_of c.nothing) ∙ e in absurd cc) in
       record {
         at = b.at;
@@ -195,11 +195,11 @@ module _ {H S Seat R : Type 0} (k : Kinds H Seat S R) where
       }
 
   -- each request leaves it so
-  pub carried-sound : (old : State H S Seat R) (request : PlainRequest) (reply : PlainReply) (new : State H S Seat R)
+  pub carried_sound : (old : State H S Seat R) (request : PlainRequest) (reply : PlainReply) (new : State H S Seat R)
       → IsAt k old → CarriesOut k old request reply new → IsSound k old new
-  carried-sound old (Open device mode) reply new at (between, c, o) = sound-then old between new c (opens-sound k between c.at device (access_of mode) reply new o)
-  carried-sound old Close reply new at c = closes-by k old at old.opened reply (Done 0) new c
-  carried-sound old (Write bytes) reply new at c = serves-sound k old at (Write bytes) reply new c
-  carried-sound old (WriteDropped count) reply new at c = serves-sound k old at (WriteDropped count) reply new c
-  carried-sound old (Read count) reply new at c = serves-sound k old at (Read count) reply new c
-  carried-sound old (Op op count) reply new at c = op-sound k old at (is_offline op) op count reply new c
+  carried_sound old (Open device mode) reply new at (between, c, o) = sound_then old between new c (opens_sound k between c.at device (access_of mode) reply new o)
+  carried_sound old Close reply new at c = closes_by k old at old.opened reply (Done 0) new c
+  carried_sound old (Write bytes) reply new at c = serves_sound k old at (Write bytes) reply new c
+  carried_sound old (WriteDropped count) reply new at c = serves_sound k old at (WriteDropped count) reply new c
+  carried_sound old (Read count) reply new at c = serves_sound k old at (Read count) reply new c
+  carried_sound old (Op op count) reply new at c = op_sound k old at (is_offline op) op count reply new c

@@ -22,47 +22,47 @@ both : (b c : Bool) → cond b false c ≡ true → (b ≡ false) × (c ≡ true
 both true c e = absurd cc
 both false c e = (refl, e)
 
-is_line-means : (text : List ℕ) → is_line text ≡ true → HasNoLineFeed text
+is_line_means : (text : List ℕ) → is_line text ≡ true → HasNoLineFeed text
 unfolding is_line
-is_line-means [] e = tt
-is_line-means (b ∷ bs) e =
+is_line_means [] e = tt
+is_line_means (b ∷ bs) e =
     let p = both (b == 10) (is_line bs) e in
-    ((let f : (b == 10) ≡ false = p.0 in grind (arith, nat_tests)), is_line-means bs p.1)
+    ((let f : (b == 10) ≡ false = p.0 in grind (arith, nat_tests)), is_line_means bs p.1)
 
 -- the text of an error is one short line
-refused-spelled : (r : Refusal) → ReplyHasSpelling (refused r)
+refused_spelled : (r : Refusal) → ReplyHasSpelling (refused r)
 unfolding is_line
-refused-spelled NoSuchFile = (omega arith, omega arith, is_line-means (text_of NoSuchFile) refl)
-refused-spelled InputOutput = (omega arith, omega arith, is_line-means (text_of InputOutput) refl)
-refused-spelled NotConfigured = (omega arith, omega arith, is_line-means (text_of NotConfigured) refl)
-refused-spelled BadDescriptor = (omega arith, omega arith, is_line-means (text_of BadDescriptor) refl)
-refused-spelled NoMemory = (omega arith, omega arith, is_line-means (text_of NoMemory) refl)
-refused-spelled Permission = (omega arith, omega arith, is_line-means (text_of Permission) refl)
-refused-spelled Busy = (omega arith, omega arith, is_line-means (text_of Busy) refl)
-refused-spelled Invalid = (omega arith, omega arith, is_line-means (text_of Invalid) refl)
-refused-spelled NoSpace = (omega arith, omega arith, is_line-means (text_of NoSpace) refl)
+refused_spelled NoSuchFile = (omega arith, omega arith, is_line_means (text_of NoSuchFile) refl)
+refused_spelled InputOutput = (omega arith, omega arith, is_line_means (text_of InputOutput) refl)
+refused_spelled NotConfigured = (omega arith, omega arith, is_line_means (text_of NotConfigured) refl)
+refused_spelled BadDescriptor = (omega arith, omega arith, is_line_means (text_of BadDescriptor) refl)
+refused_spelled NoMemory = (omega arith, omega arith, is_line_means (text_of NoMemory) refl)
+refused_spelled Permission = (omega arith, omega arith, is_line_means (text_of Permission) refl)
+refused_spelled Busy = (omega arith, omega arith, is_line_means (text_of Busy) refl)
+refused_spelled Invalid = (omega arith, omega arith, is_line_means (text_of Invalid) refl)
+refused_spelled NoSpace = (omega arith, omega arith, is_line_means (text_of NoSpace) refl)
 
 pub outcome_spelled : (outcome : Result Given Refusal) (buffer : List ℕ) → length buffer ≡ data_limit → IsOutcomeSayable outcome → ReplyHasSpelling (outcome_reply outcome buffer)
 outcome_spelled (Ok (Number n)) buffer l h = h
 outcome_spelled (Ok (Bytes n)) buffer l h = omega (arith, length-take n buffer)
-outcome_spelled (Err r) buffer l h = refused-spelled r
+outcome_spelled (Err r) buffer l h = refused_spelled r
 
-decimal-short : (n : ℕ) → n ≤ 2147483647 → length (decimal n) ≤ 10
-decimal-short n small = length-decimal-le 10 n (omega arith) (omega arith) (omega arith)
+decimal_short : (n : ℕ) → n ≤ 2147483647 → length (decimal n) ≤ 10
+decimal_short n small = length-decimal-le 10 n (omega arith) (omega arith) (omega arith)
 
 -- a number's reply is short
 pub number_short : (n : ℕ) → n ≤ 2147483647 → length (reply_text (Done n)) ≤ reader_limit
-number_short n small = omega (arith, length-append (decimal n) (line_feed ∷ []), decimal-short n small)
+number_short n small = omega (arith, length-append (decimal n) (line_feed ∷ []), decimal_short n small)
 
-error-short : (n : ℕ) (text : List ℕ) → n ≤ 2147483647 → length text ≤ 255 → length (reply_text (Error n text)) ≤ reader_limit
-error-short n text small few = omega (arith, length-append (decimal n) (line_feed ∷ (text ++ line_feed ∷ [])), length-append text (line_feed ∷ []), decimal-short n small)
+error_short : (n : ℕ) (text : List ℕ) → n ≤ 2147483647 → length text ≤ 255 → length (reply_text (Error n text)) ≤ reader_limit
+error_short n text small few = omega (arith, length-append (decimal n) (line_feed ∷ (text ++ line_feed ∷ [])), length-append text (line_feed ∷ []), decimal_short n small)
 
 pub outcome_short : (outcome : Result Given Refusal) (buffer : List ℕ) → length buffer ≡ data_limit → IsOutcomeSayable outcome
     → length (reply_text (outcome_reply outcome buffer)) ≤ reader_limit
 outcome_short (Ok (Number n)) buffer l h = number_short n h
 outcome_short (Ok (Bytes n)) buffer l h =
     let few : length (take n buffer) ≤ data_limit = omega (arith, length-take n buffer) in
-    omega (arith, length-append (decimal (length (take n buffer))) (line_feed ∷ take n buffer), few, decimal-short (length (take n buffer)) (omega (arith, few)))
+    omega (arith, length-append (decimal (length (take n buffer))) (line_feed ∷ take n buffer), few, decimal_short (length (take n buffer)) (omega (arith, few)))
 outcome_short (Err r) buffer l h =
-    let s = refused-spelled r in
-    error-short _ _ s.0 s.1
+    let s = refused_spelled r in
+    error_short _ _ s.0 s.1

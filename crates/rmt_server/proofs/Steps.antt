@@ -22,15 +22,15 @@ pub is_device : TapeAnswer → Bool
 is_device (Fault fault.Device) = true
 is_device answer = false
 
-is_device-means : (answer : TapeAnswer) → IsTrue (is_device answer) → answer ≡ Fault fault.Device
+is_device_means : (answer : TapeAnswer) → IsTrue (is_device answer) → answer ≡ Fault fault.Device
 unfolding is_device
-is_device-means Did t = absurd cc
-is_device-means (Gave bytes) t = absurd cc
-is_device-means (Fault fault.Device) t = refl
-is_device-means (Fault fault.Full) t = absurd cc
-is_device-means (Fault fault.EndOrMark) t = absurd cc
-is_device-means (Fault fault.BadOperation) t = absurd cc
-is_device-means (Fault fault.OutOfMemory) t = absurd cc
+is_device_means Did t = absurd cc
+is_device_means (Gave bytes) t = absurd cc
+is_device_means (Fault fault.Device) t = refl
+is_device_means (Fault fault.Full) t = absurd cc
+is_device_means (Fault fault.EndOrMark) t = absurd cc
+is_device_means (Fault fault.BadOperation) t = absurd cc
+is_device_means (Fault fault.OutOfMemory) t = absurd cc
 
 is_excused : (grows : Bool) (answer : TapeAnswer) → (answer ≡ Fault fault.OutOfMemory → IsTrue grows) → IsExcused (is_device answer) grows answer
 unfolding is_device
@@ -53,19 +53,19 @@ pub record ReelServed {R : Type 0} (r : ReelPromise R) (reel : Option R) (new : 
   pub step : MatchOption refused_by (ReelStep troubled r.GROWS (scene shop session) request reply (scene shop after))
       (λ x. (reply ≡ refused x) × (scene shop after ≡ scene shop session))
 
-calls-in : {R : Type 0} (r : ReelPromise R) (device : Opened R) (reel : Option R) (new : Option (Opened R)) (shop : Shop) (session : PlainSession)
+calls_in : {R : Type 0} (r : ReelPromise R) (device : Opened R) (reel : Option R) (new : Option (Opened R)) (shop : Shop) (session : PlainSession)
     (request : PlainRequest) (reply : PlainReply)
     → CallsIn r device reel new request reply → IsSeenWith r device.drive device.access reel session
     → ReelServed r reel new shop session None request reply
-calls-in r device None new shop session request reply call seen = absurd call
-calls-in r device (Some reel) new shop session request reply (answer, moved, n, e, call) (t, held, s) =
+calls_in r device None new shop session request reply call seen = absurd call
+calls_in r device (Some reel) new shop session request reply (answer, moved, n, e, call) (t, held, s) =
     let u = call.step t held in
     record {
       after = Online device.drive device.access (plain_reel u.0 (r.capacity moved));
       seen = rw n (u.0, u.1, refl);
       troubled = is_device answer;
-      trouble = rw n (λ d. call.device (is_device-means answer d));
-      able = λ d. call.able (is_device-means answer d);
+      trouble = rw n (λ d. call.device (is_device_means answer d));
+      able = λ d. call.able (is_device_means answer d);
       step = (
         device.drive,
         device.access,
@@ -80,19 +80,19 @@ calls-in r device (Some reel) new shop session request reply (answer, moved, n, 
       );
     }
 
-calls-reel : {R : Type 0} (r : ReelPromise R) (old new : Option (Opened R)) (shop : Shop) (session : PlainSession)
+calls_reel : {R : Type 0} (r : ReelPromise R) (old new : Option (Opened R)) (shop : Shop) (session : PlainSession)
     (request : PlainRequest) (reply : PlainReply)
     → CallsReel r old new request reply → IsSeenAs r old session
     → ReelServed r (reel_of old) new shop session None request reply
-calls-reel r None new shop session request reply call seen = absurd call
-calls-reel r (Some device) new shop session request reply call seen = calls-in r device device.reel new shop session request reply call seen
+calls_reel r None new shop session request reply call seen = absurd call
+calls_reel r (Some device) new shop session request reply call seen = calls_in r device device.reel new shop session request reply call seen
 
-serves-by : {R : Type 0} (r : ReelPromise R) (old new : Option (Opened R)) (shop : Shop) (session : PlainSession)
+serves_by : {R : Type 0} (r : ReelPromise R) (old new : Option (Opened R)) (shop : Shop) (session : PlainSession)
     (request : PlainRequest) (reply : PlainReply) (by : Option Refusal)
     → MatchOption by (CallsReel r old new request reply) (λ x. (reply ≡ refused x) × (new ≡ old)) → IsSeenAs r old session
     → ReelServed r (reel_of old) new shop session by request reply
-serves-by r old new shop session request reply None call seen = calls-reel r old new shop session request reply call seen
-serves-by r old new shop session request reply (Some x) (e, n) seen = record {
+serves_by r old new shop session request reply None call seen = calls_reel r old new shop session request reply call seen
+serves_by r old new shop session request reply (Some x) (e, n) seen = record {
   after = session;
   seen = rw n seen;
   troubled = false;
@@ -101,20 +101,20 @@ serves-by r old new shop session request reply (Some x) (e, n) seen = record {
   step = (e, refl);
 }
 
-status-with : {R : Type 0} (r : ReelPromise R) (device : Opened R) (reel : Option R) (session : PlainSession)
+status_with : {R : Type 0} (r : ReelPromise R) (device : Opened R) (reel : Option R) (session : PlainSession)
     → IsSeenWith r device.drive device.access reel session → status_of session ≡ status_in device.access reel
-status-with r device None session seen = ap status_of seen
-status-with r device (Some reel) session seen = ap status_of seen.2
+status_with r device None session seen = ap status_of seen
+status_with r device (Some reel) session seen = ap status_of seen.2
 
 -- the checks see of a session what they see of what is open
-pub status-seen : {R : Type 0} (r : ReelPromise R) (opened : Option (Opened R)) (session : PlainSession) → IsSeenAs r opened session → status_of session ≡ status_at opened
-status-seen r None session seen = ap status_of seen
-status-seen r (Some device) session seen = status-with r device device.reel session seen
+pub status_seen : {R : Type 0} (r : ReelPromise R) (opened : Option (Opened R)) (session : PlainSession) → IsSeenAs r opened session → status_of session ≡ status_at opened
+status_seen r None session seen = ap status_of seen
+status_seen r (Some device) session seen = status_with r device device.reel session seen
 
 -- a request that the reel serves, where stacks and reel tell
-pub reel-serves : {R : Type 0} (r : ReelPromise R) (old new : Option (Opened R)) (shop : Shop) (session : PlainSession)
+pub reel_serves : {R : Type 0} (r : ReelPromise R) (old new : Option (Opened R)) (shop : Shop) (session : PlainSession)
     (request : PlainRequest) (reply : PlainReply)
     → ReelServes r old new request reply → IsSeenAs r old session
     → ReelServed r (reel_of old) new shop session (refusal (status_of session) request) request reply
-reel-serves r old new shop session request reply serves seen =
-    rw (status-seen r old session seen) (serves-by r old new shop session request reply (refusal (status_at old) request) serves seen)
+reel_serves r old new shop session request reply serves seen =
+    rw (status_seen r old session seen) (serves_by r old new shop session request reply (refusal (status_at old) request) serves seen)

@@ -20,45 +20,45 @@ pub record LyingLaw : Type 0 where
       → HasLatched IsShop old d → IsListStacksCall old new (Move d reel result)
       → MatchResult result (λ done. troubled_in new.shop ≡ troubled_in old.shop + troubles_of (Some reel)) (λ why. troubled_in new.shop ≡ troubled_in old.shop)
 
-none-left : (m n : ℕ) → m + n ≡ 0 → m ≡ 0
-none-left m n e = grind arith
+none_left : (m n : ℕ) → m + n ≡ 0 → m ≡ 0
+none_left m n e = grind arith
 
-none-right : (m n : ℕ) → m + n ≡ 0 → n ≡ 0
-none-right m n e = grind arith
+none_right : (m n : ℕ) → m + n ≡ 0 → n ≡ 0
+none_right m n e = grind arith
 
-unset-of : (trouble : Trouble) → ◌≡◌ {A = ℕ} (cond (is_set trouble) 1 0) 0 → trouble ≡ NoTrouble
-unset-of NoTrouble e = refl
-unset-of Kept e = absurd cc
-unset-of Lost e = absurd cc
-unset-of (Written count) e = absurd cc
+unset_of : (trouble : Trouble) → ◌≡◌ {A = ℕ} (cond (is_set trouble) 1 0) 0 → trouble ≡ NoTrouble
+unset_of NoTrouble e = refl
+unset_of Kept e = absurd cc
+unset_of Lost e = absurd cc
+unset_of (Written count) e = absurd cc
 
-none-both : (m n : ℕ) → m ≡ 0 → n ≡ 0 → m + n ≡ 0
-none-both m n e f = grind arith
+none_both : (m n : ℕ) → m ≡ 0 → n ≡ 0 → m + n ≡ 0
+none_both m n e f = grind arith
 
-no-trouble-of : (reel : TroubledTape) → reel.trouble ≡ NoTrouble → troubles_of (Some reel) ≡ 0
-no-trouble-of reel e = ap (λ t. cond (is_set t) 1 0) e
+no_trouble_of : (reel : TroubledTape) → reel.trouble ≡ NoTrouble → troubles_of (Some reel) ≡ 0
+no_trouble_of reel e = ap (λ t. cond (is_set t) 1 0) e
 
 module _ (law : LyingLaw) where
   -- a reel that is laid back
-  pub laid-lying : (old new : ListShop) (s : Shop) (d : ℕ) (reel : TroubledTape) → d < length old.shop.racks → IsShop old s → HasLatched IsShop old d
+  pub laid_lying : (old new : ListShop) (s : Shop) (d : ℕ) (reel : TroubledTape) → d < length old.shop.racks → IsShop old s → HasLatched IsShop old d
       → IsListStacksCall old new (LayBack d reel) → troubled_in old.shop ≡ 0 → reel.trouble ≡ NoTrouble → troubled_in new.shop ≡ 0
-  laid-lying old new s d reel l tells latched h none t =
-      law.laid_back old new s d reel l tells latched h ∙ none-both (troubled_in old.shop) (troubles_of (Some reel)) none (no-trouble-of reel t)
+  laid_lying old new s d reel l tells latched h none t =
+      law.laid_back old new s d reel l tells latched h ∙ none_both (troubled_in old.shop) (troubles_of (Some reel)) none (no_trouble_of reel t)
 
   -- a reel that is latched, or is not
-  pub latched-lying : (old new : ListShop) (d : ℕ) (result : Result TroubledTape DriveFault) → d < length old.shop.racks → IsListStacksCall old new (Latch d result)
+  pub latched_lying : (old new : ListShop) (d : ℕ) (result : Result TroubledTape DriveFault) → d < length old.shop.racks → IsListStacksCall old new (Latch d result)
       → troubled_in old.shop ≡ 0 → troubled_in new.shop ≡ 0
-  latched-lying old new d result l h none = none-left (troubled_in new.shop) (troubles_of (given_by result)) (law.latched old new d result l h ∙ none)
+  latched_lying old new d result l h none = none_left (troubled_in new.shop) (troubles_of (given_by result)) (law.latched old new d result l h ∙ none)
 
   -- and a reel that is latched has none
-  pub latched-calm : (old new : ListShop) (d : ℕ) (reel : TroubledTape) → d < length old.shop.racks → IsListStacksCall old new (Latch d (Ok reel))
+  pub latched_calm : (old new : ListShop) (d : ℕ) (reel : TroubledTape) → d < length old.shop.racks → IsListStacksCall old new (Latch d (Ok reel))
       → troubled_in old.shop ≡ 0 → reel.trouble ≡ NoTrouble
-  latched-calm old new d reel l h none =
-      unset-of reel.trouble (none-right (troubled_in new.shop) (troubles_of (Some reel)) (law.latched old new d (Ok reel) l h ∙ none))
+  latched_calm old new d reel l h none =
+      unset_of reel.trouble (none_right (troubled_in new.shop) (troubles_of (Some reel)) (law.latched old new d (Ok reel) l h ∙ none))
 
   -- a reel that is moved to the bin, or is not
-  pub moved-lying : (old new : ListShop) (s : Shop) (d : ℕ) (reel : TroubledTape) (result : Result (Unit {0}) DriveFault) → d < length old.shop.racks → IsShop old s
+  pub moved_lying : (old new : ListShop) (s : Shop) (d : ℕ) (reel : TroubledTape) (result : Result (Unit {0}) DriveFault) → d < length old.shop.racks → IsShop old s
       → HasLatched IsShop old d → IsListStacksCall old new (Move d reel result) → troubled_in old.shop ≡ 0 → reel.trouble ≡ NoTrouble → troubled_in new.shop ≡ 0
-  moved-lying old new s d reel (Ok done) l tells latched h none t =
-      law.moved old new s d reel (Ok done) l tells latched h ∙ none-both (troubled_in old.shop) (troubles_of (Some reel)) none (no-trouble-of reel t)
-  moved-lying old new s d reel (Err why) l tells latched h none t = law.moved old new s d reel (Err why) l tells latched h ∙ none
+  moved_lying old new s d reel (Ok done) l tells latched h none t =
+      law.moved old new s d reel (Ok done) l tells latched h ∙ none_both (troubled_in old.shop) (troubles_of (Some reel)) none (no_trouble_of reel t)
+  moved_lying old new s d reel (Err why) l tells latched h none t = law.moved old new s d reel (Err why) l tells latched h ∙ none

@@ -25,9 +25,9 @@ use Rattle.rmt_server.specs.Opening.{opened_by, IsClosed, OpensFor, IsOpenedFor}
 use Rattle.rmt_server.specs.Carrying.{Operates, CarriesOut}
 use Rattle.rmt_server.specs.Memory.{MemoryState, in_memory}
 use Rattle.rmt_server.specs.TroubledServe.{with_holder, holder_of, IsOpenCause, IsTroubled, IsSetAt, IsSetFor, IsSpent, IsNextSpent, IsServedUnder}
-use Rattle.rmt_server.proofs.TroubledHolders.{opened-numbers}
-use Rattle.rmt_server.proofs.TroubledLying.{LyingLaw, latched-lying, latched-calm}
-use Rattle.rmt_server.proofs.TroubledServing.{unset, set-means, drive-seen, reel-so, reel-parts, closed-lying, closed-held, closed-tells, close-so, offline-so}
+use Rattle.rmt_server.proofs.TroubledHolders.{opened_numbers}
+use Rattle.rmt_server.proofs.TroubledLying.{LyingLaw, latched_lying, latched_calm}
+use Rattle.rmt_server.proofs.TroubledServing.{unset, set_means, drive_seen, reel_so, reel_parts, closed_lying, closed_held, closed_tells, close_so, offline_so}
 
 -- what an open answered and left, as it is seen
 record OpenSeenSo (trouble : Trouble) (held : ℕ) (device : List ℕ) (access : Access) (asked : Option ℕ) (result : Result (ℕ × TroubledTape) DriveFault) (shop shop' : Shop) : Type 0 where
@@ -37,156 +37,156 @@ record OpenSeenSo (trouble : Trouble) (held : ℕ) (device : List ℕ) (access :
   reply : open_reply result ≡ open_reply plain
   seen : IsSeenAs of_reel (opened_by access result) (session_after access plain)
 
-open-seen-so : (trouble : Trouble) (held : ℕ) (device : List ℕ) (access : Access) (asked : Option ℕ) (result : Result (ℕ × TroubledTape) DriveFault) (shop shop' : Shop)
+open_seen_so : (trouble : Trouble) (held : ℕ) (device : List ℕ) (access : Access) (asked : Option ℕ) (result : Result (ℕ × TroubledTape) DriveFault) (shop shop' : Shop)
     → OpenStep of_reel.holds of_reel.capacity device asked result shop shop' → IsOpenCause trouble held result → OpenSeenSo trouble held device access asked result shop shop'
-open-seen-so trouble held device access asked (Ok taken) shop shop' h q = record {
+open_seen_so trouble held device access asked (Ok taken) shop shop' h q = record {
   plain = Ok (taken.0, plain_reel (tape [] h.2.0.entries) taken.1.capacity);
   step = (h.0, h.1, (h.2.0, h.2.1, h.2.2, refl, h.2.4));
   cause = q;
   reply = refl;
   seen = (tape [] h.2.0.entries, h.2.3, refl);
 }
-open-seen-so trouble held device access asked (Err NoSuchDrive) shop shop' h q = record { plain = Err NoSuchDrive; step = h; cause = q; reply = refl; seen = refl }
-open-seen-so trouble held device access asked (Err (Busy n)) shop shop' h q = record { plain = Err (Busy n); step = h; cause = q; reply = refl; seen = refl }
-open-seen-so trouble held device access asked (Err NoReel) shop shop' h q = record { plain = Err NoReel; step = h; cause = q; reply = refl; seen = refl }
-open-seen-so trouble held device access asked (Err Device) shop shop' h q = record { plain = Err Device; step = h; cause = q; reply = refl; seen = refl }
-open-seen-so trouble held device access asked (Err OutOfMemory) shop shop' h q = record { plain = Err OutOfMemory; step = h; cause = q; reply = refl; seen = refl }
-open-seen-so trouble held device access asked (Err NameTaken) shop shop' h q = absurd q
+open_seen_so trouble held device access asked (Err NoSuchDrive) shop shop' h q = record { plain = Err NoSuchDrive; step = h; cause = q; reply = refl; seen = refl }
+open_seen_so trouble held device access asked (Err (Busy n)) shop shop' h q = record { plain = Err (Busy n); step = h; cause = q; reply = refl; seen = refl }
+open_seen_so trouble held device access asked (Err NoReel) shop shop' h q = record { plain = Err NoReel; step = h; cause = q; reply = refl; seen = refl }
+open_seen_so trouble held device access asked (Err Device) shop shop' h q = record { plain = Err Device; step = h; cause = q; reply = refl; seen = refl }
+open_seen_so trouble held device access asked (Err OutOfMemory) shop shop' h q = record { plain = Err OutOfMemory; step = h; cause = q; reply = refl; seen = refl }
+open_seen_so trouble held device access asked (Err NameTaken) shop shop' h q = absurd q
 
 -- why an open answered so
-open-cause : (trouble : Trouble) (numbers device : List ℕ) (asked : Option ℕ) (result : Result (ℕ × TroubledTape) DriveFault) (v w : View) (old new : ListShop) (shop shop' : Shop)
+open_cause : (trouble : Trouble) (numbers device : List ℕ) (asked : Option ℕ) (result : Result (ℕ × TroubledTape) DriveFault) (v w : View) (old new : ListShop) (shop shop' : Shop)
     → OpenStep of_reel.holds of_reel.capacity device asked result shop shop' → SeatStep result v w → LatchesFor in_memory old asked result new
     → ((d : ℕ) → asked ≡ Some d → found_in_open result ≡ slice_index numbers d) → old.trouble ≡ is_set trouble
     → IsOpenCause trouble (holder_of numbers asked) result
-open-cause trouble numbers device asked (Ok taken) v w old new shop shop' h s call found set =
+open_cause trouble numbers device asked (Ok taken) v w old new shop shop' h s call found set =
     (ap (holder_of numbers) h.0 ∙ sym (found taken.0 h.0), unset trouble (sym set ∙ call.made.0))
-open-cause trouble numbers device asked (Err NoSuchDrive) v w old new shop shop' h s call found set = tt
-open-cause trouble numbers device asked (Err (Busy n)) v w old new shop shop' h s call found set =
+open_cause trouble numbers device asked (Err NoSuchDrive) v w old new shop shop' h s call found set = tt
+open_cause trouble numbers device asked (Err (Busy n)) v w old new shop shop' h s call found set =
     let is : n ≡ holder_of numbers asked = found h.0 h.1 ∙ sym (ap (holder_of numbers) h.1) in
     (subst (λ m. 0 < m) is s.0, is)
-open-cause trouble numbers device asked (Err NoReel) v w old new shop shop' h s call found set = ap (holder_of numbers) h.1 ∙ sym (found h.0 h.1)
-open-cause trouble numbers device asked (Err Device) v w old new shop shop' h s call found set =
-    (ap (holder_of numbers) h.1 ∙ sym (found h.0 h.1), set-means trouble (sym set ∙ call.2.made.0))
-open-cause trouble numbers device asked (Err OutOfMemory) v w old new shop shop' h s call found set = absurd call.2.made
-open-cause trouble numbers device asked (Err NameTaken) v w old new shop shop' h s call found set = absurd s
+open_cause trouble numbers device asked (Err NoReel) v w old new shop shop' h s call found set = ap (holder_of numbers) h.1 ∙ sym (found h.0 h.1)
+open_cause trouble numbers device asked (Err Device) v w old new shop shop' h s call found set =
+    (ap (holder_of numbers) h.1 ∙ sym (found h.0 h.1), set_means trouble (sym set ∙ call.2.made.0))
+open_cause trouble numbers device asked (Err OutOfMemory) v w old new shop shop' h s call found set = absurd call.2.made
+open_cause trouble numbers device asked (Err NameTaken) v w old new shop shop' h s call found set = absurd s
 
 -- a drive that was opened had no holder
-open-free : (numbers device : List ℕ) (asked : Option ℕ) (result : Result (ℕ × TroubledTape) DriveFault) (shop shop' : Shop)
+open_free : (numbers device : List ℕ) (asked : Option ℕ) (result : Result (ℕ × TroubledTape) DriveFault) (shop shop' : Shop)
     → OpenStep of_reel.holds of_reel.capacity device asked result shop shop' → ((d : ℕ) → asked ≡ Some d → found_in_open result ≡ slice_index numbers d)
     → IfOk result (λ opened. slice_index numbers opened.0 ≡ 0)
-open-free numbers device asked (Ok taken) shop shop' h found = sym (found taken.0 h.0)
-open-free numbers device asked (Err fault) shop shop' h found = tt
+open_free numbers device asked (Ok taken) shop shop' h found = sym (found taken.0 h.0)
+open_free numbers device asked (Err fault) shop shop' h found = tt
 
-some-below : (asked : Option ℕ) (d e n : ℕ) → asked ≡ Some d → asked ≡ Some e → d < n → e < n
-some-below asked d e n a b l = let same : d ≡ e = cc in subst (λ x. x < n) same l
+some_below : (asked : Option ℕ) (d e n : ℕ) → asked ≡ Some d → asked ≡ Some e → d < n → e < n
+some_below asked d e n a b l = let same : d ≡ e = cc in subst (λ x. x < n) same l
 
 -- no reel that lies there gets a trouble by a latch
-open-lying : (law : LyingLaw) (device : List ℕ) (asked : Option ℕ) (result : Result (ℕ × TroubledTape) DriveFault) (old new : ListShop) (shop shop' : Shop)
+open_lying : (law : LyingLaw) (device : List ℕ) (asked : Option ℕ) (result : Result (ℕ × TroubledTape) DriveFault) (old new : ListShop) (shop shop' : Shop)
     → OpenStep of_reel.holds of_reel.capacity device asked result shop shop' → LatchesFor in_memory old asked result new
     → length shop.racks ≡ length old.shop.racks → troubled_in old.shop ≡ 0 → troubled_in new.shop ≡ 0
-open-lying law device asked (Ok taken) old new shop shop' h call racks none =
-    latched-lying law old new taken.0 (Ok taken.1) (subst (λ n. taken.0 < n) racks h.1.0) call.made none
-open-lying law device asked (Err NoSuchDrive) old new shop shop' h call racks none = ap (λ (s : ListShop). troubled_in s.shop) call ∙ none
-open-lying law device asked (Err (Busy n)) old new shop shop' h call racks none = ap (λ (s : ListShop). troubled_in s.shop) call ∙ none
-open-lying law device asked (Err NoReel) old new shop shop' h call racks none =
-    latched-lying law old new call.0 (Err NoReel) (subst (λ n. call.0 < n) racks (some-below asked h.0 call.0 _ h.1 call.1 h.2.0)) call.2.made none
-open-lying law device asked (Err Device) old new shop shop' h call racks none =
-    latched-lying law old new call.0 (Err Device) (subst (λ n. call.0 < n) racks (some-below asked h.0 call.0 _ h.1 call.1 h.2.0)) call.2.made none
-open-lying law device asked (Err OutOfMemory) old new shop shop' h call racks none = absurd call.2.made
-open-lying law device asked (Err NameTaken) old new shop shop' h call racks none = absurd call.2.made
+open_lying law device asked (Ok taken) old new shop shop' h call racks none =
+    latched_lying law old new taken.0 (Ok taken.1) (subst (λ n. taken.0 < n) racks h.1.0) call.made none
+open_lying law device asked (Err NoSuchDrive) old new shop shop' h call racks none = ap (λ (s : ListShop). troubled_in s.shop) call ∙ none
+open_lying law device asked (Err (Busy n)) old new shop shop' h call racks none = ap (λ (s : ListShop). troubled_in s.shop) call ∙ none
+open_lying law device asked (Err NoReel) old new shop shop' h call racks none =
+    latched_lying law old new call.0 (Err NoReel) (subst (λ n. call.0 < n) racks (some_below asked h.0 call.0 _ h.1 call.1 h.2.0)) call.2.made none
+open_lying law device asked (Err Device) old new shop shop' h call racks none =
+    latched_lying law old new call.0 (Err Device) (subst (λ n. call.0 < n) racks (some_below asked h.0 call.0 _ h.1 call.1 h.2.0)) call.2.made none
+open_lying law device asked (Err OutOfMemory) old new shop shop' h call racks none = absurd call.2.made
+open_lying law device asked (Err NameTaken) old new shop shop' h call racks none = absurd call.2.made
 
 -- a reel that is opened has no trouble
-open-calm : (law : LyingLaw) (access : Access) (reply : PlainReply) (device : List ℕ) (asked : Option ℕ) (result : Result (ℕ × TroubledTape) DriveFault) (old new : ListShop) (shop shop' : Shop)
+open_calm : (law : LyingLaw) (access : Access) (reply : PlainReply) (device : List ℕ) (asked : Option ℕ) (result : Result (ℕ × TroubledTape) DriveFault) (old new : ListShop) (shop shop' : Shop)
     → OpenStep of_reel.holds of_reel.capacity device asked result shop shop' → LatchesFor in_memory old asked result new
     → length shop.racks ≡ length old.shop.racks → troubled_in old.shop ≡ 0
     → MatchOption (reel_of (opened_by access result)) (Unit {0}) (λ r. IsSpent NoTrouble reply r.trouble)
-open-calm law access reply device asked (Ok taken) old new shop shop' h call racks none =
-    inl (latched-calm law old new taken.0 taken.1 (subst (λ n. taken.0 < n) racks h.1.0) call.made none)
-open-calm law access reply device asked (Err fault) old new shop shop' h call racks none = tt
+open_calm law access reply device asked (Ok taken) old new shop shop' h call racks none =
+    inl (latched_calm law old new taken.0 taken.1 (subst (λ n. taken.0 < n) racks h.1.0) call.made none)
+open_calm law access reply device asked (Err fault) old new shop shop' h call racks none = tt
 
 -- the stacks' trouble is gone where a latch met it, and else left
-open-next : (asked : Option ℕ) (result : Result (ℕ × TroubledTape) DriveFault) (reply : PlainReply) (old new : ListShop) → LatchesFor in_memory old asked result new
+open_next : (asked : Option ℕ) (result : Result (ℕ × TroubledTape) DriveFault) (reply : PlainReply) (old new : ListShop) → LatchesFor in_memory old asked result new
     → reply ≡ open_reply result → IsNextSpent old.trouble reply new.trouble
-open-next asked (Ok taken) reply old new call e = inl (ap (λ (s : ListShop). s.trouble) call.made.2)
-open-next asked (Err NoSuchDrive) reply old new call e = inl (ap (λ (s : ListShop). s.trouble) call)
-open-next asked (Err (Busy n)) reply old new call e = inl (ap (λ (s : ListShop). s.trouble) call)
-open-next asked (Err NoReel) reply old new call e = inl (ap (λ (s : ListShop). s.trouble) call.2.made.1)
-open-next asked (Err Device) reply old new call e = inr (call.2.made.0, ap (λ (s : ListShop). s.trouble) call.2.made.2, e)
-open-next asked (Err OutOfMemory) reply old new call e = absurd call.2.made
-open-next asked (Err NameTaken) reply old new call e = absurd call.2.made
+open_next asked (Ok taken) reply old new call e = inl (ap (λ (s : ListShop). s.trouble) call.made.2)
+open_next asked (Err NoSuchDrive) reply old new call e = inl (ap (λ (s : ListShop). s.trouble) call)
+open_next asked (Err (Busy n)) reply old new call e = inl (ap (λ (s : ListShop). s.trouble) call)
+open_next asked (Err NoReel) reply old new call e = inl (ap (λ (s : ListShop). s.trouble) call.2.made.1)
+open_next asked (Err Device) reply old new call e = inr (call.2.made.0, ap (λ (s : ListShop). s.trouble) call.2.made.2, e)
+open_next asked (Err OutOfMemory) reply old new call e = absurd call.2.made
+open_next asked (Err NameTaken) reply old new call e = absurd call.2.made
 
 module _ (law : LyingLaw) (trouble : Trouble) (old : MemoryState) (before : Scene) (at : IsAt in_memory old) (tells : Tells in_memory old before) where
   -- an open of a drive, once what was open is closed
-  opened-so : (device : List ℕ) (mode : ℕ) (access : Access) (reply : PlainReply) (result : Result (ℕ × TroubledTape) DriveFault) (between new : MemoryState)
+  opened_so : (device : List ℕ) (mode : ℕ) (access : Access) (reply : PlainReply) (result : Result (ℕ × TroubledTape) DriveFault) (between new : MemoryState)
       → access_of mode ≡ Some access → reply ≡ open_reply result → IsClosed in_memory old between → IsOpenedFor in_memory between device access result new
       → IsTroubled NoTrouble (is_set trouble) old → IsServedUnder trouble old before (Open device mode) reply new
-  opened-so device mode access reply result between new a e c o set =
+  opened_so device mode access reply result between new a e c o set =
       let asked : Option ℕ = drive_asked result new.seat in
       let st = o.opening.step (closed before).shop (c.step before tells) in
-      let closed-numbers = closed-held law trouble old before at tells between c in
-      let rest = closed-lying law trouble old before at tells (is_set trouble) between c set in
+      let closed_numbers = closed_held law trouble old before at tells between c in
+      let rest = closed_lying law trouble old before at tells (is_set trouble) between c set in
       let found : (d : ℕ) → asked ≡ Some d → found_in_open result ≡ slice_index between.drives.holds.numbers d
       = λ d x. o.opening.found d (slice_index between.drives.holds.numbers d) x (o.opening.asked d x, refl) in
-      let cause = open-cause trouble between.drives.holds.numbers device asked result between.seat new.seat between.drives.stacks new.drives.stacks (closed before).shop st.0
+      let cause = open_cause trouble between.drives.holds.numbers device asked result between.seat new.seat between.drives.stacks new.drives.stacks (closed before).shop st.0
       st.2 o.opening.view o.opening.call found (rest.1 ∙ set.next) in
-      let seen = open-seen-so trouble (holder_of between.drives.holds.numbers asked) device access asked result (closed before).shop st.0 st.2 cause in
+      let seen = open_seen_so trouble (holder_of between.drives.holds.numbers asked) device access asked result (closed before).shop st.0 st.2 cause in
       let after : Scene = scene st.0 (session_after access seen.plain) in
       let told : Tells in_memory new after = record { shop = st.1; session = rw o.opens seen.seen } in
       let racks : length (closed before).shop.racks ≡ length between.drives.stacks.shop.racks
       = ap (λ (s : Shop). length s.racks) (c.step before tells).0 ∙ length-map between.drives.stacks.shop.racks rest_rack in
-      let free = open-free between.drives.holds.numbers device asked result (closed before).shop st.0 st.2 found in
+      let free = open_free between.drives.holds.numbers device asked result (closed before).shop st.0 st.2 found in
       let opened : new.drives.holds.numbers ≡ with_holder (drive_of (opened_by access result)) between.seat.number between.drives.holds.numbers
-      = opened-numbers access result between.seat.number between.drives.holds new.drives.holds o.opening.same_holds o.opening.told free in
+      = opened_numbers access result between.seat.number between.drives.holds new.drives.holds o.opening.same_holds o.opening.told free in
       record {
         after = after;
         tells = told;
         served = record {
-          step = rw a (seen.plain, asked, seen.step, subst (λ ns. IsOpenCause trouble (holder_of ns asked) seen.plain) closed-numbers seen.cause, e ∙ seen.reply, refl);
-          held = rw (drive-seen new.opened after.session told.session, o.opens, ← closed-numbers, ← c.kept.number) opened;
+          step = rw a (seen.plain, asked, seen.step, subst (λ ns. IsOpenCause trouble (holder_of ns asked) seen.plain) closed_numbers seen.cause, e ∙ seen.reply, refl);
+          held = rw (drive_seen new.opened after.session told.session, o.opens, ← closed_numbers, ← c.kept.number) opened;
         };
-        lying = open-lying law device asked result between.drives.stacks new.drives.stacks (closed before).shop st.0 st.2 o.opening.call racks rest.0;
-        online = rw o.opens (open-calm law access reply device asked result between.drives.stacks new.drives.stacks (closed before).shop st.0 st.2 o.opening.call racks rest.0);
-        next = subst (λ flag. IsNextSpent flag reply new.drives.stacks.trouble) rest.1 (open-next asked result reply between.drives.stacks new.drives.stacks o.opening.call e);
+        lying = open_lying law device asked result between.drives.stacks new.drives.stacks (closed before).shop st.0 st.2 o.opening.call racks rest.0;
+        online = rw o.opens (open_calm law access reply device asked result between.drives.stacks new.drives.stacks (closed before).shop st.0 st.2 o.opening.call racks rest.0);
+        next = subst (λ flag. IsNextSpent flag reply new.drives.stacks.trouble) rest.1 (open_next asked result reply between.drives.stacks new.drives.stacks o.opening.call e);
       }
 
   -- an open of a mode that is none
-  invalid-so : (device : List ℕ) (mode : ℕ) (reply : PlainReply) (between new : MemoryState) → access_of mode ≡ None → reply ≡ refused Invalid → new ≡ between
+  invalid_so : (device : List ℕ) (mode : ℕ) (reply : PlainReply) (between new : MemoryState) → access_of mode ≡ None → reply ≡ refused Invalid → new ≡ between
       → IsClosed in_memory old between → IsTroubled NoTrouble (is_set trouble) old → IsServedUnder trouble old before (Open device mode) reply new
-  invalid-so device mode reply between new a e n c set = rw n (record {
+  invalid_so device mode reply between new a e n c set = rw n (record {
     after = closed before;
-    tells = closed-tells law trouble old before at tells between c;
-    served = record { step = rw a (e, refl); held = closed-held law trouble old before at tells between c };
-    lying = (closed-lying law trouble old before at tells (is_set trouble) between c set).0;
+    tells = closed_tells law trouble old before at tells between c;
+    served = record { step = rw a (e, refl); held = closed_held law trouble old before at tells between c };
+    lying = (closed_lying law trouble old before at tells (is_set trouble) between c set).0;
     online = rw c.nothing tt;
-    next = inl ((closed-lying law trouble old before at tells (is_set trouble) between c set).1);
+    next = inl ((closed_lying law trouble old before at tells (is_set trouble) between c set).1);
   })
 
-  open-so : (device : List ℕ) (mode : ℕ) (access : Option Access) (reply : PlainReply) (between new : MemoryState) → access_of mode ≡ access
+  open_so : (device : List ℕ) (mode : ℕ) (access : Option Access) (reply : PlainReply) (between new : MemoryState) → access_of mode ≡ access
       → IsClosed in_memory old between → OpensFor in_memory between device access reply new → IsTroubled NoTrouble (is_set trouble) old
       → IsServedUnder trouble old before (Open device mode) reply new
-  open-so device mode None reply between new a c (e, n) set = invalid-so device mode reply between new a e n c set
-  open-so device mode (Some access) reply between new a c (result, e, o) set = opened-so device mode access reply result between new a e c o set
+  open_so device mode None reply between new a c (e, n) set = invalid_so device mode reply between new a e n c set
+  open_so device mode (Some access) reply between new a c (result, e, o) set = opened_so device mode access reply result between new a e c o set
 
   -- an operation, which is MTOFFL or not
-  op-so : (offline : Bool) (op count : ℕ) (reply : PlainReply) (new : MemoryState) → is_offline op ≡ offline → Operates in_memory offline old op count reply new
+  op_so : (offline : Bool) (op count : ℕ) (reply : PlainReply) (new : MemoryState) → is_offline op ≡ offline → Operates in_memory offline old op count reply new
       → IsSetAt offline trouble old → IsServedUnder trouble old before (Op op count) reply new
-  op-so true op count reply new off m set = offline-so law trouble old before at tells op count reply new off m set
-  op-so false op count reply new off serves set =
-      let p = reel-parts law trouble old before at tells (Op op count) reply new serves set in
-      reel-so law trouble old before at tells (Op op count) reply new serves set (rw off refl) p (rw off p.step)
+  op_so true op count reply new off m set = offline_so law trouble old before at tells op count reply new off m set
+  op_so false op count reply new off serves set =
+      let p = reel_parts law trouble old before at tells (Op op count) reply new serves set in
+      reel_so law trouble old before at tells (Op op count) reply new serves set (rw off refl) p (rw off p.step)
 
   -- each request
-  pub served-so : (request : PlainRequest) (reply : PlainReply) (new : MemoryState) → CarriesOut in_memory old request reply new → IsSetFor trouble request old
+  pub served_so : (request : PlainRequest) (reply : PlainReply) (new : MemoryState) → CarriesOut in_memory old request reply new → IsSetFor trouble request old
       → IsServedUnder trouble old before request reply new
-  served-so (Open device mode) reply new (between, c, o) set = open-so device mode (access_of mode) reply between new refl c o set
-  served-so Close reply new c set = close-so law trouble old before at tells reply new c set
-  served-so (Write bytes) reply new serves set =
-      let p = reel-parts law trouble old before at tells (Write bytes) reply new serves set in
-      reel-so law trouble old before at tells (Write bytes) reply new serves set refl p p.step
-  served-so (WriteDropped count) reply new serves set =
-      let p = reel-parts law trouble old before at tells (WriteDropped count) reply new serves set in
-      reel-so law trouble old before at tells (WriteDropped count) reply new serves set refl p p.step
-  served-so (Read count) reply new serves set =
-      let p = reel-parts law trouble old before at tells (Read count) reply new serves set in
-      reel-so law trouble old before at tells (Read count) reply new serves set refl p p.step
-  served-so (Op op count) reply new c set = op-so (is_offline op) op count reply new refl c set
+  served_so (Open device mode) reply new (between, c, o) set = open_so device mode (access_of mode) reply between new refl c o set
+  served_so Close reply new c set = close_so law trouble old before at tells reply new c set
+  served_so (Write bytes) reply new serves set =
+      let p = reel_parts law trouble old before at tells (Write bytes) reply new serves set in
+      reel_so law trouble old before at tells (Write bytes) reply new serves set refl p p.step
+  served_so (WriteDropped count) reply new serves set =
+      let p = reel_parts law trouble old before at tells (WriteDropped count) reply new serves set in
+      reel_so law trouble old before at tells (WriteDropped count) reply new serves set refl p p.step
+  served_so (Read count) reply new serves set =
+      let p = reel_parts law trouble old before at tells (Read count) reply new serves set in
+      reel_so law trouble old before at tells (Read count) reply new serves set refl p p.step
+  served_so (Op op count) reply new c set = op_so (is_offline op) op count reply new refl c set

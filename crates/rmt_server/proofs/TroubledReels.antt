@@ -19,7 +19,7 @@ use Rattle.rmt_server.specs.Session.PlainSession.{Online}
 use Rattle.rmt_server.specs.State.{IsSeenWith, IsSeenAs, reel_of, status_at}
 use Rattle.rmt_server.specs.Serving.{CallsIn, CallsReel, ReelServes}
 use Rattle.rmt_server.specs.TroubledServe.{TroubledReelStep, IsSpent}
-use Rattle.rmt_server.proofs.Steps.{status-seen}
+use Rattle.rmt_server.proofs.Steps.{status_seen}
 
 -- what a request that the reel serves leaves of a session that is seen so
 pub record ReelServedSo (trouble : Trouble) (new : Option (Opened TroubledTape)) (shop : Shop) (session : PlainSession) (by : Option Refusal)
@@ -30,37 +30,37 @@ pub record ReelServedSo (trouble : Trouble) (new : Option (Opened TroubledTape))
       (λ x. (reply ≡ refused x) × (scene shop after ≡ scene shop session))
   pub left : MatchOption (reel_of new) (Unit {0}) (λ r. IsSpent trouble reply r.trouble)
 
-device-reply : (request : PlainRequest) → reel_reply request (Fault fault.Device) ≡ refused InputOutput
-device-reply (Open device mode) = refl
-device-reply Close = refl
-device-reply (Write bytes) = refl
-device-reply (WriteDropped count) = refl
-device-reply (Read count) = refl
-device-reply (Op op count) = refl
+device_reply : (request : PlainRequest) → reel_reply request (Fault fault.Device) ≡ refused InputOutput
+device_reply (Open device mode) = refl
+device_reply Close = refl
+device_reply (Write bytes) = refl
+device_reply (WriteDropped count) = refl
+device_reply (Read count) = refl
+device_reply (Op op count) = refl
 
 -- a trouble is gone where the device call met it, and else left
-spent-by : (request : PlainRequest) (answer : TapeAnswer) (old new : TroubledTape) (reply : PlainReply) → reply ≡ reel_reply request answer → IsCounted answer old new
+spent_by : (request : PlainRequest) (answer : TapeAnswer) (old new : TroubledTape) (reply : PlainReply) → reply ≡ reel_reply request answer → IsCounted answer old new
     → DeviceStep old.capacity old.trouble old.tape (tape_request request) answer new.tape → IsSpent old.trouble reply new.trouble
-spent-by request Done old new reply e counted step = inl counted.0
-spent-by request (Gave bytes) old new reply e counted step = inl counted.0
-spent-by request (Fault fault.Device) old new reply e counted step = inr (step.0, counted.0, e ∙ device-reply request)
-spent-by request (Fault fault.Full) old new reply e counted step = inl counted.0
-spent-by request (Fault fault.EndOrMark) old new reply e counted step = inl counted.0
-spent-by request (Fault fault.BadOperation) old new reply e counted step = inl counted.0
-spent-by request (Fault fault.OutOfMemory) old new reply e counted step = inl counted.0
+spent_by request Done old new reply e counted step = inl counted.0
+spent_by request (Gave bytes) old new reply e counted step = inl counted.0
+spent_by request (Fault fault.Device) old new reply e counted step = inr (step.0, counted.0, e ∙ device_reply request)
+spent_by request (Fault fault.Full) old new reply e counted step = inl counted.0
+spent_by request (Fault fault.EndOrMark) old new reply e counted step = inl counted.0
+spent_by request (Fault fault.BadOperation) old new reply e counted step = inl counted.0
+spent_by request (Fault fault.OutOfMemory) old new reply e counted step = inl counted.0
 
 -- a reel that no call is made of has its trouble
-pub kept-left : (trouble : Trouble) (reply : PlainReply) (reel : Option TroubledTape) → MatchOption reel (Unit {0}) (λ r. r.trouble ≡ trouble)
+pub kept_left : (trouble : Trouble) (reply : PlainReply) (reel : Option TroubledTape) → MatchOption reel (Unit {0}) (λ r. r.trouble ≡ trouble)
     → MatchOption reel (Unit {0}) (λ r. IsSpent trouble reply r.trouble)
-kept-left trouble reply None set = tt
-kept-left trouble reply (Some reel) set = inl set
+kept_left trouble reply None set = tt
+kept_left trouble reply (Some reel) set = inl set
 
 module _ (trouble : Trouble) (new : Option (Opened TroubledTape)) (shop : Shop) (session : PlainSession) (request : PlainRequest) (reply : PlainReply) where
-  calls-in : (device : Opened TroubledTape) (reel : Option TroubledTape) → CallsIn of_reel device reel new request reply
+  calls_in : (device : Opened TroubledTape) (reel : Option TroubledTape) → CallsIn of_reel device reel new request reply
       → MatchOption reel (Unit {0}) (λ r. r.trouble ≡ trouble) → IsSeenWith of_reel device.drive device.access reel session
       → ReelServedSo trouble new shop session None request reply
-  calls-in device None call set seen = absurd call
-  calls-in device (Some reel) (answer, moved, n, e, call) set (t, held, s) = record {
+  calls_in device None call set seen = absurd call
+  calls_in device (Some reel) (answer, moved, n, e, call) set (t, held, s) = record {
     after = Online device.drive device.access (plain_reel moved.tape moved.capacity);
     seen = rw n (moved.tape, refl, refl);
     step = (
@@ -75,30 +75,30 @@ module _ (trouble : Trouble) (new : Option (Opened TroubledTape)) (shop : Shop) 
       e,
       ap (λ c. scene shop (Online device.drive device.access (plain_reel moved.tape c))) call.same_capacity,
     );
-    left = rw n (subst (λ x. IsSpent x reply moved.trouble) set (spent-by request answer reel moved reply e call.made.counted call.made.step));
+    left = rw n (subst (λ x. IsSpent x reply moved.trouble) set (spent_by request answer reel moved reply e call.made.counted call.made.step));
   }
 
-  calls-reel : (old : Option (Opened TroubledTape)) → CallsReel of_reel old new request reply
+  calls_reel : (old : Option (Opened TroubledTape)) → CallsReel of_reel old new request reply
       → MatchOption (reel_of old) (Unit {0}) (λ r. r.trouble ≡ trouble) → IsSeenAs of_reel old session
       → ReelServedSo trouble new shop session None request reply
-  calls-reel None call set seen = absurd call
-  calls-reel (Some device) call set seen = calls-in device device.reel call set seen
+  calls_reel None call set seen = absurd call
+  calls_reel (Some device) call set seen = calls_in device device.reel call set seen
 
-  serves-by : (old : Option (Opened TroubledTape)) (by : Option Refusal)
+  serves_by : (old : Option (Opened TroubledTape)) (by : Option Refusal)
       → MatchOption by (CallsReel of_reel old new request reply) (λ x. (reply ≡ refused x) × (new ≡ old))
       → MatchOption (reel_of old) (Unit {0}) (λ r. r.trouble ≡ trouble) → IsSeenAs of_reel old session
       → ReelServedSo trouble new shop session by request reply
-  serves-by old None call set seen = calls-reel old call set seen
-  serves-by old (Some x) (e, n) set seen = record {
+  serves_by old None call set seen = calls_reel old call set seen
+  serves_by old (Some x) (e, n) set seen = record {
     after = session;
     seen = rw n seen;
     step = (e, refl);
-    left = rw n (kept-left trouble reply (reel_of old) set);
+    left = rw n (kept_left trouble reply (reel_of old) set);
   }
 
   -- a request that the reel serves, where it tells
-  pub reel-serves-so : (old : Option (Opened TroubledTape)) → ReelServes of_reel old new request reply
+  pub reel_serves_so : (old : Option (Opened TroubledTape)) → ReelServes of_reel old new request reply
       → MatchOption (reel_of old) (Unit {0}) (λ r. r.trouble ≡ trouble) → IsSeenAs of_reel old session
       → ReelServedSo trouble new shop session (refusal (status_of session) request) request reply
-  reel-serves-so old serves set seen =
-      rw (status-seen of_reel old session seen) (serves-by old (refusal (status_at old) request) serves set seen)
+  reel_serves_so old serves set seen =
+      rw (status_seen of_reel old session seen) (serves_by old (refusal (status_at old) request) serves set seen)

@@ -27,11 +27,11 @@ use Rattle.rmt_server.specs.Moving.{IsTakenOff, MovesIn, MovesReel, MovesOff}
 use Rattle.rmt_server.specs.Serving.{Serves}
 use Rattle.rmt_server.specs.Memory.{MemoryState, in_memory}
 use Rattle.rmt_server.specs.TroubledServe.{drive_in, with_holder, TroubledServeStep, IsTroubled, set_online, IsSpent, IsServedUnder}
-use Rattle.rmt_server.proofs.Sound.{serves-same}
-use Rattle.rmt_server.proofs.Steps.{status-seen}
-use Rattle.rmt_server.proofs.TroubledHolders.{closed-numbers, kept-numbers, own-held}
-use Rattle.rmt_server.proofs.TroubledLying.{LyingLaw, laid-lying, moved-lying}
-use Rattle.rmt_server.proofs.TroubledReels.{ReelServedSo, kept-left, reel-serves-so}
+use Rattle.rmt_server.proofs.Sound.{serves_same}
+use Rattle.rmt_server.proofs.Steps.{status_seen}
+use Rattle.rmt_server.proofs.TroubledHolders.{closed_numbers, kept_numbers, own_held}
+use Rattle.rmt_server.proofs.TroubledLying.{LyingLaw, laid_lying, moved_lying}
+use Rattle.rmt_server.proofs.TroubledReels.{ReelServedSo, kept_left, reel_serves_so}
 
 -- a trouble that is set is one
 pub unset : (trouble : Trouble) → is_set trouble ≡ false → trouble ≡ NoTrouble
@@ -40,134 +40,134 @@ unset Kept e = absurd cc
 unset Lost e = absurd cc
 unset (Written count) e = absurd cc
 
-pub set-means : (trouble : Trouble) → is_set trouble ≡ true → trouble ≢ NoTrouble
-set-means trouble e n = let no : is_set NoTrouble ≡ true = ap is_set (sym n) ∙ e in cc
+pub set_means : (trouble : Trouble) → is_set trouble ≡ true → trouble ≢ NoTrouble
+set_means trouble e n = let no : is_set NoTrouble ≡ true = ap is_set (sym n) ∙ e in cc
 
-seen-with : (device : Opened TroubledTape) (reel : Option TroubledTape) (session : PlainSession) → IsSeenWith of_reel device.drive device.access reel session
+seen_with : (device : Opened TroubledTape) (reel : Option TroubledTape) (session : PlainSession) → IsSeenWith of_reel device.drive device.access reel session
     → drive_in session ≡ Some device.drive
-seen-with device None session seen = ap drive_in seen
-seen-with device (Some reel) session seen = ap drive_in seen.2
+seen_with device None session seen = ap drive_in seen
+seen_with device (Some reel) session seen = ap drive_in seen.2
 
 -- the drive that is open is seen as it is
-pub drive-seen : (opened : Option (Opened TroubledTape)) (session : PlainSession) → IsSeenAs of_reel opened session → drive_in session ≡ drive_of opened
-drive-seen None session seen = ap drive_in seen
-drive-seen (Some device) session seen = seen-with device device.reel session seen
+pub drive_seen : (opened : Option (Opened TroubledTape)) (session : PlainSession) → IsSeenAs of_reel opened session → drive_in session ≡ drive_of opened
+drive_seen None session seen = ap drive_in seen
+drive_seen (Some device) session seen = seen_with device device.reel session seen
 
 -- a reel that was laid back, or was not there
-pub lays-lying : (law : LyingLaw) (old new : ListShop) (t : Shop) (drive : ℕ) (reel : Option TroubledTape) → IsShop old t → drive < length old.shop.racks
+pub lays_lying : (law : LyingLaw) (old new : ListShop) (t : Shop) (drive : ℕ) (reel : Option TroubledTape) → IsShop old t → drive < length old.shop.racks
     → MatchOption reel (Unit {0}) (λ r. HasLatched IsShop old drive) → LaysBack in_memory.stacks of_reel old drive reel new
     → MatchOption reel (Unit {0}) (λ r. r.trouble ≡ NoTrouble) → troubled_in old.shop ≡ 0 → (troubled_in new.shop ≡ 0) × (new.trouble ≡ old.trouble)
-lays-lying law old new t drive None tells l latched e calm none = (ap (λ (s : ListShop). troubled_in s.shop) e ∙ none, ap (λ (s : ListShop). s.trouble) e)
-lays-lying law old new t drive (Some reel) tells l latched (rested, rewound, call) calm none = (
-  laid-lying law old new t drive rested l tells latched call.made none (rewound.made.counted.0 ∙ calm),
+lays_lying law old new t drive None tells l latched e calm none = (ap (λ (s : ListShop). troubled_in s.shop) e ∙ none, ap (λ (s : ListShop). s.trouble) e)
+lays_lying law old new t drive (Some reel) tells l latched (rested, rewound, call) calm none = (
+  laid_lying law old new t drive rested l tells latched call.made none (rewound.made.counted.0 ∙ calm),
   ap (λ (s : ListShop). s.trouble) call.made,
 )
 
 module _ (law : LyingLaw) (trouble : Trouble) (old : MemoryState) (before : Scene) (at : IsAt in_memory old) (tells : Tells in_memory old before) where
   -- where drives and seat are as before, and the same drive is open
-  held-same : (new : MemoryState) (after : Scene) → new.drives.holds ≡ old.drives.holds → drive_of new.opened ≡ drive_of old.opened → Tells in_memory new after
+  held_same : (new : MemoryState) (after : Scene) → new.drives.holds ≡ old.drives.holds → drive_of new.opened ≡ drive_of old.opened → Tells in_memory new after
       → new.drives.holds.numbers ≡ with_holder (drive_in after.session) old.seat.number (with_holder (drive_in before.session) 0 old.drives.holds.numbers)
-  held-same new after h d seen =
-      rw (h, drive-seen new.opened after.session seen.session, d, drive-seen old.opened before.session tells.session)
-      (kept-numbers (drive_of old.opened) old.seat.number old.drives.holds.numbers (own-held old at))
+  held_same new after h d seen =
+      rw (h, drive_seen new.opened after.session seen.session, d, drive_seen old.opened before.session tells.session)
+      (kept_numbers (drive_of old.opened) old.seat.number old.drives.holds.numbers (own_held old at))
 
   -- a refused request
-  refused-so : (request : PlainRequest) (reply : PlainReply) (new : MemoryState) (reel : Trouble) (stacks : Bool) → new ≡ old → IsTroubled reel stacks old
+  refused_so : (request : PlainRequest) (reply : PlainReply) (new : MemoryState) (reel : Trouble) (stacks : Bool) → new ≡ old → IsTroubled reel stacks old
       → reel ≡ set_online trouble request → TroubledServeStep trouble old.drives.holds.numbers before request reply before → IsServedUnder trouble old before request reply new
-  refused-so request reply new reel stacks n set same step = rw n (record {
+  refused_so request reply new reel stacks n set same step = rw n (record {
     after = before;
     tells = tells;
-    served = record { step = step; held = held-same old before refl refl tells };
+    served = record { step = step; held = held_same old before refl refl tells };
     lying = set.lying;
-    online = subst (λ t. MatchOption (reel_of old.opened) (Unit {0}) (λ r. IsSpent t reply r.trouble)) same (kept-left reel reply (reel_of old.opened) set.online);
+    online = subst (λ t. MatchOption (reel_of old.opened) (Unit {0}) (λ r. IsSpent t reply r.trouble)) same (kept_left reel reply (reel_of old.opened) set.online);
     next = inl refl;
   })
 
   -- a request that the reel serves
-  pub reel-so : (request : PlainRequest) (reply : PlainReply) (new : MemoryState) → Serves in_memory old request reply new → IsTroubled trouble false old
+  pub reel_so : (request : PlainRequest) (reply : PlainReply) (new : MemoryState) → Serves in_memory old request reply new → IsTroubled trouble false old
       → set_online trouble request ≡ trouble
       → (p : ReelServedSo trouble new.opened before.shop before.session (refusal (status_of before.session) request) request reply)
       → TroubledServeStep trouble old.drives.holds.numbers before request reply (scene before.shop p.after)
       → IsServedUnder trouble old before request reply new
-  reel-so request reply new (n, e, serves) set same p step =
+  reel_so request reply new (n, e, serves) set same p step =
       let seen : Tells in_memory new (scene before.shop p.after) = record { shop = rw n tells.shop; session = p.seen } in
       record {
         after = scene before.shop p.after;
         tells = seen;
         served = record {
           step = step;
-          held = held-same new (scene before.shop p.after) (ap (λ d. d.holds) n) (serves-same of_reel old.opened new.opened request reply serves).0 seen;
+          held = held_same new (scene before.shop p.after) (ap (λ d. d.holds) n) (serves_same of_reel old.opened new.opened request reply serves).0 seen;
         };
         lying = ap (λ d. troubled_in d.stacks.shop) n ∙ set.lying;
         online = rw same p.left;
         next = inl (ap (λ d. d.stacks.trouble) n);
       }
 
-  pub reel-parts : (request : PlainRequest) (reply : PlainReply) (new : MemoryState) → Serves in_memory old request reply new → IsTroubled trouble false old
+  pub reel_parts : (request : PlainRequest) (reply : PlainReply) (new : MemoryState) → Serves in_memory old request reply new → IsTroubled trouble false old
       → ReelServedSo trouble new.opened before.shop before.session (refusal (status_of before.session) request) request reply
-  reel-parts request reply new (n, e, serves) set = reel-serves-so trouble new.opened before.shop before.session request reply old.opened serves set.online tells.session
+  reel_parts request reply new (n, e, serves) set = reel_serves_so trouble new.opened before.shop before.session request reply old.opened serves set.online tells.session
 
-  latched-in : (device : Opened TroubledTape) (lying : Option TroubledTape) → old.opened ≡ Some device → device.reel ≡ lying
+  latched_in : (device : Opened TroubledTape) (lying : Option TroubledTape) → old.opened ≡ Some device → device.reel ≡ lying
       → MatchOption lying (Unit {0}) (λ r. HasLatched IsShop old.drives.stacks device.drive)
-  latched-in device None o e = tt
-  latched-in device (Some reel) o e = at.latched device.drive (ap online_drive o ∙ ap (online_in device.drive) e)
+  latched_in device None o e = tt
+  latched_in device (Some reel) o e = at.latched device.drive (ap online_drive o ∙ ap (online_in device.drive) e)
 
-  below-in : (device : Opened TroubledTape) → old.opened ≡ Some device → device.drive < length old.drives.stacks.shop.racks
-  below-in device o = at.below device.drive (ap drive_of o)
+  below_in : (device : Opened TroubledTape) → old.opened ≡ Some device → device.drive < length old.drives.stacks.shop.racks
+  below_in device o = at.below device.drive (ap drive_of o)
 
-  closed-by : (opened : Option (Opened TroubledTape)) (stacks : ListShop) → old.opened ≡ opened → LaysBackOpened in_memory.stacks of_reel old.drives.stacks opened stacks
+  closed_by : (opened : Option (Opened TroubledTape)) (stacks : ListShop) → old.opened ≡ opened → LaysBackOpened in_memory.stacks of_reel old.drives.stacks opened stacks
       → MatchOption (reel_of opened) (Unit {0}) (λ r. r.trouble ≡ NoTrouble) → troubled_in old.drives.stacks.shop ≡ 0
       → (troubled_in stacks.shop ≡ 0) × (stacks.trouble ≡ old.drives.stacks.trouble)
-  closed-by None stacks o e calm none = (ap (λ (s : ListShop). troubled_in s.shop) e ∙ none, ap (λ (s : ListShop). s.trouble) e)
-  closed-by (Some device) stacks o laid calm none =
-      lays-lying law old.drives.stacks stacks before.shop device.drive device.reel tells.shop (below-in device o) (latched-in device device.reel o refl) laid calm none
+  closed_by None stacks o e calm none = (ap (λ (s : ListShop). troubled_in s.shop) e ∙ none, ap (λ (s : ListShop). s.trouble) e)
+  closed_by (Some device) stacks o laid calm none =
+      lays_lying law old.drives.stacks stacks before.shop device.drive device.reel tells.shop (below_in device o) (latched_in device device.reel o refl) laid calm none
 
   -- what was open is closed
-  pub closed-lying : (stacks : Bool) (new : MemoryState) → IsClosed in_memory old new → IsTroubled NoTrouble stacks old
+  pub closed_lying : (stacks : Bool) (new : MemoryState) → IsClosed in_memory old new → IsTroubled NoTrouble stacks old
       → (troubled_in new.drives.stacks.shop ≡ 0) × (new.drives.stacks.trouble ≡ old.drives.stacks.trouble)
-  closed-lying stacks new c set = closed-by old.opened new.drives.stacks refl c.laid set.online set.lying
+  closed_lying stacks new c set = closed_by old.opened new.drives.stacks refl c.laid set.online set.lying
 
-  pub closed-held : (new : MemoryState) → IsClosed in_memory old new → new.drives.holds.numbers ≡ with_holder (drive_in before.session) 0 old.drives.holds.numbers
-  closed-held new c = rw (drive-seen old.opened before.session tells.session) (closed-numbers (drive_of old.opened) old.drives.holds new.drives.holds c.kept.same_holds c.told)
+  pub closed_held : (new : MemoryState) → IsClosed in_memory old new → new.drives.holds.numbers ≡ with_holder (drive_in before.session) 0 old.drives.holds.numbers
+  closed_held new c = rw (drive_seen old.opened before.session tells.session) (closed_numbers (drive_of old.opened) old.drives.holds new.drives.holds c.kept.same_holds c.told)
 
-  pub closed-tells : (new : MemoryState) → IsClosed in_memory old new → Tells in_memory new (closed before)
-  closed-tells new c = record { shop = c.step before tells; session = rw c.nothing refl }
+  pub closed_tells : (new : MemoryState) → IsClosed in_memory old new → Tells in_memory new (closed before)
+  closed_tells new c = record { shop = c.step before tells; session = rw c.nothing refl }
 
-  not-refused : (access : Access) (reel : Option TroubledTape) → refusal (status_in access reel) Close ≡ None
-  not-refused access None = refl
-  not-refused access (Some reel) = refl
+  not_refused : (access : Access) (reel : Option TroubledTape) → refusal (status_in access reel) Close ≡ None
+  not_refused access None = refl
+  not_refused access (Some reel) = refl
 
-  closes-by : (opened : Option (Opened TroubledTape)) (reply : PlainReply) (new : MemoryState) → old.opened ≡ opened
+  closes_by : (opened : Option (Opened TroubledTape)) (reply : PlainReply) (new : MemoryState) → old.opened ≡ opened
       → MatchOption opened ((reply ≡ refused BadDescriptor) × (new ≡ old)) (λ device. (reply ≡ Done 0) × IsClosed in_memory old new) → IsTroubled NoTrouble false old
       → IsServedUnder trouble old before Close reply new
-  closes-by None reply new o (e, n) set =
-      let idle : status_of before.session ≡ status_at {R = TroubledTape} None = status-seen of_reel None before.session (subst (λ p. IsSeenAs of_reel p before.session) o tells.session) in
-      refused-so Close reply new NoTrouble false n set refl (rw idle (e, refl))
-  closes-by (Some device) reply new o (e, c) set =
-      let online : status_of before.session ≡ status_at (Some device) = status-seen of_reel (Some device) before.session (subst (λ p. IsSeenAs of_reel p before.session) o tells.session) in
+  closes_by None reply new o (e, n) set =
+      let idle : status_of before.session ≡ status_at {R = TroubledTape} None = status_seen of_reel None before.session (subst (λ p. IsSeenAs of_reel p before.session) o tells.session) in
+      refused_so Close reply new NoTrouble false n set refl (rw idle (e, refl))
+  closes_by (Some device) reply new o (e, c) set =
+      let online : status_of before.session ≡ status_at (Some device) = status_seen of_reel (Some device) before.session (subst (λ p. IsSeenAs of_reel p before.session) o tells.session) in
       record {
         after = closed before;
-        tells = closed-tells new c;
-        served = record { step = rw (online, not-refused device.access device.reel) (e, refl); held = closed-held new c };
-        lying = (closed-lying false new c set).0;
+        tells = closed_tells new c;
+        served = record { step = rw (online, not_refused device.access device.reel) (e, refl); held = closed_held new c };
+        lying = (closed_lying false new c set).0;
         online = rw c.nothing tt;
-        next = inl ((closed-lying false new c set).1);
+        next = inl ((closed_lying false new c set).1);
       }
 
-  pub close-so : (reply : PlainReply) (new : MemoryState) → Closes in_memory old reply new → IsTroubled NoTrouble false old → IsServedUnder trouble old before Close reply new
-  close-so reply new c set = closes-by old.opened reply new refl c set
+  pub close_so : (reply : PlainReply) (new : MemoryState) → Closes in_memory old reply new → IsTroubled NoTrouble false old → IsServedUnder trouble old before Close reply new
+  close_so reply new c set = closes_by old.opened reply new refl c set
 
-  calm-in : (device : Opened TroubledTape) (reel : TroubledTape) (stacks : Bool) → old.opened ≡ Some device → device.reel ≡ Some reel → IsTroubled NoTrouble stacks old → reel.trouble ≡ NoTrouble
-  calm-in device reel stacks o online set =
+  calm_in : (device : Opened TroubledTape) (reel : TroubledTape) (stacks : Bool) → old.opened ≡ Some device → device.reel ≡ Some reel → IsTroubled NoTrouble stacks old → reel.trouble ≡ NoTrouble
+  calm_in device reel stacks o online set =
       subst (λ l. MatchOption l (Unit {0}) (λ r. r.trouble ≡ NoTrouble)) online (subst (λ p. MatchOption (reel_of p) (Unit {0}) (λ r. r.trouble ≡ NoTrouble)) o set.online)
 
   -- a reel that was taken off its drive, or stays
-  taken-so : (device : Opened TroubledTape) (reel : TroubledTape) (op count : ℕ) (reply : PlainReply) (result : Result (Unit {0}) DriveFault) (new : MemoryState)
+  taken_so : (device : Opened TroubledTape) (reel : TroubledTape) (op count : ℕ) (reply : PlainReply) (result : Result (Unit {0}) DriveFault) (new : MemoryState)
       → old.opened ≡ Some device → device.reel ≡ Some reel → is_offline op ≡ true → refusal (status_of before.session) (Op op count) ≡ None
       → reply ≡ move_reply count result → IsTakenOff in_memory old device reel result new → IsTroubled NoTrouble (is_set trouble) old
       → (t : Tape) → reel.tape ≡ t → before.session ≡ Online device.drive device.access (plain_reel t reel.capacity)
       → IsServedUnder trouble old before (Op op count) reply new
-  taken-so device reel op count reply (Ok x) new o online off free e m set t held seen =
+  taken_so device reel op count reply (Ok x) new o online off free e m set t held seen =
       let u = m.rewound.step t held in
       let v = m.call.step u.0 u.1 before.shop tells.shop in
       let after : Scene = scene v.0 (Offline device.drive device.access) in
@@ -186,14 +186,14 @@ module _ (law : LyingLaw) (trouble : Trouble) (old : MemoryState) (before : Scen
             e,
             ap (λ w. scene w (Offline device.drive device.access)) (v.2 ∙ rw (u.2, m.rewound.same_capacity) refl),
           );
-          held = held-same new after m.same_holds (ap drive_of m.opens ∙ sym (ap drive_of o)) told;
+          held = held_same new after m.same_holds (ap drive_of m.opens ∙ sym (ap drive_of o)) told;
         };
-        lying = moved-lying law old.drives.stacks new.drives.stacks before.shop device.drive m.rested (Ok x) (below-in device o) tells.shop
-            (latched-in device (Some reel) o online) m.call.made set.lying (m.rewound.made.counted.0 ∙ calm-in device reel (is_set trouble) o online set);
+        lying = moved_lying law old.drives.stacks new.drives.stacks before.shop device.drive m.rested (Ok x) (below_in device o) tells.shop
+            (latched_in device (Some reel) o online) m.call.made set.lying (m.rewound.made.counted.0 ∙ calm_in device reel (is_set trouble) o online set);
         online = rw m.opens tt;
         next = inl (ap (λ (x : ListShop). x.trouble) m.call.made.1);
       }
-  taken-so device reel op count reply (Err Device) new o online off free e m set t held seen =
+  taken_so device reel op count reply (Err Device) new o online off free e m set t held seen =
       let u = m.rewound.step t held in
       let v = m.call.step before.shop tells.shop in
       let after : Scene = scene v.0 (Online device.drive device.access (plain_reel u.0 m.rested.capacity)) in
@@ -208,46 +208,46 @@ module _ (law : LyingLaw) (trouble : Trouble) (old : MemoryState) (before : Scen
             plain_reel t reel.capacity,
             Err Device,
             seen,
-            set-means trouble (sym set.next ∙ m.call.made.0),
+            set_means trouble (sym set.next ∙ m.call.made.0),
             e,
             (sym set.next ∙ m.call.made.0, v.2, rw (u.2, m.rewound.same_capacity) refl),
           );
-          held = held-same new after m.same_holds (ap drive_of m.opens ∙ sym (ap drive_of o)) told;
+          held = held_same new after m.same_holds (ap drive_of m.opens ∙ sym (ap drive_of o)) told;
         };
-        lying = moved-lying law old.drives.stacks new.drives.stacks before.shop device.drive m.rested (Err Device) (below-in device o) tells.shop
-            (latched-in device (Some reel) o online) m.call.made set.lying (m.rewound.made.counted.0 ∙ calm-in device reel (is_set trouble) o online set);
-        online = rw (m.opens, off) (inl (m.rewound.made.counted.0 ∙ calm-in device reel (is_set trouble) o online set));
+        lying = moved_lying law old.drives.stacks new.drives.stacks before.shop device.drive m.rested (Err Device) (below_in device o) tells.shop
+            (latched_in device (Some reel) o online) m.call.made set.lying (m.rewound.made.counted.0 ∙ calm_in device reel (is_set trouble) o online set);
+        online = rw (m.opens, off) (inl (m.rewound.made.counted.0 ∙ calm_in device reel (is_set trouble) o online set));
         next = inr (m.call.made.0, ap (λ (x : ListShop). x.trouble) m.call.made.1, e);
       }
-  taken-so device reel op count reply (Err NoSuchDrive) new o online off free e m set t held seen = absurd m.call.made
-  taken-so device reel op count reply (Err (Busy n)) new o online off free e m set t held seen = absurd m.call.made
-  taken-so device reel op count reply (Err NoReel) new o online off free e m set t held seen = absurd m.call.made
-  taken-so device reel op count reply (Err OutOfMemory) new o online off free e m set t held seen = absurd m.call.made
-  taken-so device reel op count reply (Err NameTaken) new o online off free e m set t held seen = absurd m.call.made
+  taken_so device reel op count reply (Err NoSuchDrive) new o online off free e m set t held seen = absurd m.call.made
+  taken_so device reel op count reply (Err (Busy n)) new o online off free e m set t held seen = absurd m.call.made
+  taken_so device reel op count reply (Err NoReel) new o online off free e m set t held seen = absurd m.call.made
+  taken_so device reel op count reply (Err OutOfMemory) new o online off free e m set t held seen = absurd m.call.made
+  taken_so device reel op count reply (Err NameTaken) new o online off free e m set t held seen = absurd m.call.made
 
-  moves-in-so : (device : Opened TroubledTape) (lying : Option TroubledTape) (op count : ℕ) (reply : PlainReply) (new : MemoryState)
+  moves_in_so : (device : Opened TroubledTape) (lying : Option TroubledTape) (op count : ℕ) (reply : PlainReply) (new : MemoryState)
       → old.opened ≡ Some device → device.reel ≡ lying → is_offline op ≡ true → refusal (status_of before.session) (Op op count) ≡ None
       → MovesIn in_memory old device lying count reply new → IsTroubled NoTrouble (is_set trouble) old → IsSeenWith of_reel device.drive device.access lying before.session
       → IsServedUnder trouble old before (Op op count) reply new
-  moves-in-so device None op count reply new o online off free m set seen = absurd m
-  moves-in-so device (Some reel) op count reply new o online off free (result, e, m) set (t, held, seen) = taken-so device reel op count reply result new o online off free e m set t held seen
+  moves_in_so device None op count reply new o online off free m set seen = absurd m
+  moves_in_so device (Some reel) op count reply new o online off free (result, e, m) set (t, held, seen) = taken_so device reel op count reply result new o online off free e m set t held seen
 
-  moves-reel-so : (opened : Option (Opened TroubledTape)) (op count : ℕ) (reply : PlainReply) (new : MemoryState)
+  moves_reel_so : (opened : Option (Opened TroubledTape)) (op count : ℕ) (reply : PlainReply) (new : MemoryState)
       → old.opened ≡ opened → is_offline op ≡ true → refusal (status_of before.session) (Op op count) ≡ None
       → MovesReel in_memory old opened count reply new → IsTroubled NoTrouble (is_set trouble) old → IsSeenAs of_reel opened before.session
       → IsServedUnder trouble old before (Op op count) reply new
-  moves-reel-so None op count reply new o off free m set seen = absurd m
-  moves-reel-so (Some device) op count reply new o off free m set seen = moves-in-so device device.reel op count reply new o refl off free m set seen
+  moves_reel_so None op count reply new o off free m set seen = absurd m
+  moves_reel_so (Some device) op count reply new o off free m set seen = moves_in_so device device.reel op count reply new o refl off free m set seen
 
-  moves-by-so : (by : Option Refusal) (op count : ℕ) (reply : PlainReply) (new : MemoryState)
+  moves_by_so : (by : Option Refusal) (op count : ℕ) (reply : PlainReply) (new : MemoryState)
       → refusal (status_of before.session) (Op op count) ≡ by → is_offline op ≡ true
       → MatchOption by (MovesReel in_memory old old.opened count reply new) (λ x. (reply ≡ refused x) × (new ≡ old)) → IsTroubled NoTrouble (is_set trouble) old
       → IsServedUnder trouble old before (Op op count) reply new
-  moves-by-so None op count reply new free off m set = moves-reel-so old.opened op count reply new refl off free m set tells.session
-  moves-by-so (Some x) op count reply new free off (e, n) set = refused-so (Op op count) reply new NoTrouble (is_set trouble) n set (rw off refl) (rw free (e, refl))
+  moves_by_so None op count reply new free off m set = moves_reel_so old.opened op count reply new refl off free m set tells.session
+  moves_by_so (Some x) op count reply new free off (e, n) set = refused_so (Op op count) reply new NoTrouble (is_set trouble) n set (rw off refl) (rw free (e, refl))
 
   -- MTOFFL
-  pub offline-so : (op count : ℕ) (reply : PlainReply) (new : MemoryState) → is_offline op ≡ true → MovesOff in_memory old op count reply new → IsTroubled NoTrouble (is_set trouble) old
+  pub offline_so : (op count : ℕ) (reply : PlainReply) (new : MemoryState) → is_offline op ≡ true → MovesOff in_memory old op count reply new → IsTroubled NoTrouble (is_set trouble) old
       → IsServedUnder trouble old before (Op op count) reply new
-  offline-so op count reply new off m set =
-      moves-by-so (refusal (status_at old.opened) (Op op count)) op count reply new (ap (λ s. refusal s (Op op count)) (status-seen of_reel old.opened before.session tells.session)) off m set
+  offline_so op count reply new off m set =
+      moves_by_so (refusal (status_at old.opened) (Op op count)) op count reply new (ap (λ s. refusal s (Op op count)) (status_seen of_reel old.opened before.session tells.session)) off m set

@@ -20,22 +20,22 @@ use Rattle.rmt_server.specs.Refusals.{refused}
 use Rattle.rmt_server.specs.Session.{PlainReel, Scene, status_of, refusal, tape_request, closed, is_offline, IsExcused, ReelStep, IsOpenExcused, OpensAs, OpStep, DoneStep, ServeStep}
 use Rattle.rmt_server.specs.TroubledServe.{drive_in, with_holder, holder_of, IsOpenCause, TroubledReelStep, TroubledOpens, TroubledOpStep, TroubledDoneStep, TroubledServeStep}
 
-set-is : (trouble : Trouble) → trouble ≢ NoTrouble → IsTrue (is_set trouble)
-set-is NoTrouble n = absurd (n refl)
-set-is Kept n = refl
-set-is Lost n = refl
-set-is (Written count) n = refl
+set_is : (trouble : Trouble) → trouble ≢ NoTrouble → IsTrue (is_set trouble)
+set_is NoTrouble n = absurd (n refl)
+set_is Kept n = refl
+set_is Lost n = refl
+set_is (Written count) n = refl
 
 -- a reel's device is at fault only where a trouble is set
-call-excused : (capacity : ℕ) (trouble : Trouble) (t : Tape) (request : TapeRequest) (answer : TapeAnswer) (u : Tape)
+call_excused : (capacity : ℕ) (trouble : Trouble) (t : Tape) (request : TapeRequest) (answer : TapeAnswer) (u : Tape)
     → DeviceStep capacity trouble t request answer u → IsExcused (is_set trouble) true answer
-call-excused capacity trouble t request Done u h = tt
-call-excused capacity trouble t request (Gave bytes) u h = tt
-call-excused capacity trouble t request (Fault fault.Device) u h = set-is trouble h.0
-call-excused capacity trouble t request (Fault fault.Full) u h = tt
-call-excused capacity trouble t request (Fault fault.EndOrMark) u h = tt
-call-excused capacity trouble t request (Fault fault.BadOperation) u h = tt
-call-excused capacity trouble t request (Fault fault.OutOfMemory) u h = refl
+call_excused capacity trouble t request Done u h = tt
+call_excused capacity trouble t request (Gave bytes) u h = tt
+call_excused capacity trouble t request (Fault fault.Device) u h = set_is trouble h.0
+call_excused capacity trouble t request (Fault fault.Full) u h = tt
+call_excused capacity trouble t request (Fault fault.EndOrMark) u h = tt
+call_excused capacity trouble t request (Fault fault.BadOperation) u h = tt
+call_excused capacity trouble t request (Fault fault.OutOfMemory) u h = refl
 
 -- a call of a device that is told how it fails is a step of its tape, as `tape::device_steps` says
 abbrev pub DeviceLaw : Type 0
@@ -43,9 +43,9 @@ DeviceLaw =
     (capacity : ℕ) (trouble : Trouble) (t : Tape) (request : TapeRequest) (answer : TapeAnswer) (u : Tape)
     → DeviceStep capacity trouble t request answer u → TapeStep capacity t request answer u
 
-reel-step : (law : DeviceLaw) (trouble : Trouble) (before : Scene) (request : PlainRequest) (reply : PlainReply) (after : Scene)
+reel_step : (law : DeviceLaw) (trouble : Trouble) (before : Scene) (request : PlainRequest) (reply : PlainReply) (after : Scene)
     → TroubledReelStep trouble before request reply after → ReelStep (is_set trouble) true before request reply after
-reel-step law trouble before request reply after (drive, access, reel, answer, t, s, h, e, a) = (
+reel_step law trouble before request reply after (drive, access, reel, answer, t, s, h, e, a) = (
   drive,
   access,
   reel,
@@ -53,59 +53,59 @@ reel-step law trouble before request reply after (drive, access, reel, answer, t
   t,
   s,
   law reel.capacity trouble reel.tape (tape_request request) answer t h,
-  call-excused reel.capacity trouble reel.tape (tape_request request) answer t h,
+  call_excused reel.capacity trouble reel.tape (tape_request request) answer t h,
   e,
   a,
 )
 
 -- and the stacks' device too
-open-excused : (trouble : Trouble) (n : ℕ) (result : Result (ℕ × PlainReel) DriveFault) → IsOpenCause trouble n result → IsOpenExcused (is_set trouble) result
-open-excused trouble n (Ok opened) q = tt
-open-excused trouble n (Err NoSuchDrive) q = tt
-open-excused trouble n (Err (Busy m)) q = subst (λ x. 0 < x) (sym q.1) q.0
-open-excused trouble n (Err NoReel) q = tt
-open-excused trouble n (Err Device) q = set-is trouble q.1
-open-excused trouble n (Err OutOfMemory) q = tt
-open-excused trouble n (Err NameTaken) q = q
+open_excused : (trouble : Trouble) (n : ℕ) (result : Result (ℕ × PlainReel) DriveFault) → IsOpenCause trouble n result → IsOpenExcused (is_set trouble) result
+open_excused trouble n (Ok opened) q = tt
+open_excused trouble n (Err NoSuchDrive) q = tt
+open_excused trouble n (Err (Busy m)) q = subst (λ x. 0 < x) (sym q.1) q.0
+open_excused trouble n (Err NoReel) q = tt
+open_excused trouble n (Err Device) q = set_is trouble q.1
+open_excused trouble n (Err OutOfMemory) q = tt
+open_excused trouble n (Err NameTaken) q = q
 
-open-step : (trouble : Trouble) (holders : List ℕ) (before : Scene) (device : List ℕ) (access : Option Access) (reply : PlainReply) (after : Scene)
+open_step : (trouble : Trouble) (holders : List ℕ) (before : Scene) (device : List ℕ) (access : Option Access) (reply : PlainReply) (after : Scene)
     → TroubledOpens trouble holders before device access reply after
     → (asked : Option ℕ) × (found : ℕ) × OpensAs (is_set trouble) asked found before device access reply after
-open-step trouble holders before device None reply after (e, n) = (None, 0, (e, n))
-open-step trouble holders before device (Some access) reply after (result, asked, h, q, e, s) =
-    (asked, found_in_open result, (result, h, refl, open-excused trouble (holder_of holders asked) result q, e, s))
+open_step trouble holders before device None reply after (e, n) = (None, 0, (e, n))
+open_step trouble holders before device (Some access) reply after (result, asked, h, q, e, s) =
+    (asked, found_in_open result, (result, h, refl, open_excused trouble (holder_of holders asked) result q, e, s))
 
-op-step : (law : DeviceLaw) (offline : Bool) (trouble : Trouble) (before : Scene) (op count : ℕ) (reply : PlainReply) (after : Scene)
+op_step : (law : DeviceLaw) (offline : Bool) (trouble : Trouble) (before : Scene) (op count : ℕ) (reply : PlainReply) (after : Scene)
     → TroubledOpStep offline trouble before op count reply after → OpStep offline (is_set trouble) true before op count reply after
-op-step law true trouble before op count reply after (drive, access, reel, result, s, q, e, m) = (drive, access, reel, result, s, e, m)
-op-step law false trouble before op count reply after h = reel-step law trouble before (Op op count) reply after h
+op_step law true trouble before op count reply after (drive, access, reel, result, s, q, e, m) = (drive, access, reel, result, s, e, m)
+op_step law false trouble before op count reply after h = reel_step law trouble before (Op op count) reply after h
 
-done-step : (law : DeviceLaw) (trouble : Trouble) (before : Scene) (request : PlainRequest) (reply : PlainReply) (after : Scene)
+done_step : (law : DeviceLaw) (trouble : Trouble) (before : Scene) (request : PlainRequest) (reply : PlainReply) (after : Scene)
     → TroubledDoneStep trouble before request reply after → DoneStep (is_set trouble) true before request reply after
-done-step law trouble before (Open device mode) reply after h = reel-step law trouble before (Open device mode) reply after h
-done-step law trouble before Close reply after h = h
-done-step law trouble before (Write bytes) reply after h = reel-step law trouble before (Write bytes) reply after h
-done-step law trouble before (WriteDropped count) reply after h = reel-step law trouble before (WriteDropped count) reply after h
-done-step law trouble before (Read count) reply after h = reel-step law trouble before (Read count) reply after h
-done-step law trouble before (Op op count) reply after h = op-step law (is_offline op) trouble before op count reply after h
+done_step law trouble before (Open device mode) reply after h = reel_step law trouble before (Open device mode) reply after h
+done_step law trouble before Close reply after h = h
+done_step law trouble before (Write bytes) reply after h = reel_step law trouble before (Write bytes) reply after h
+done_step law trouble before (WriteDropped count) reply after h = reel_step law trouble before (WriteDropped count) reply after h
+done_step law trouble before (Read count) reply after h = reel_step law trouble before (Read count) reply after h
+done_step law trouble before (Op op count) reply after h = op_step law (is_offline op) trouble before op count reply after h
 
-step-by : (law : DeviceLaw) (by : Option Refusal) (trouble : Trouble) (before : Scene) (request : PlainRequest) (reply : PlainReply) (after : Scene)
+step_by : (law : DeviceLaw) (by : Option Refusal) (trouble : Trouble) (before : Scene) (request : PlainRequest) (reply : PlainReply) (after : Scene)
     → MatchOption by (TroubledDoneStep trouble before request reply after) (λ r. (reply ≡ refused r) × (after ≡ before))
     → MatchOption by (DoneStep (is_set trouble) true before request reply after) (λ r. (reply ≡ refused r) × (after ≡ before))
-step-by law None trouble before request reply after h = done-step law trouble before request reply after h
-step-by law (Some r) trouble before request reply after h = h
+step_by law None trouble before request reply after h = done_step law trouble before request reply after h
+step_by law (Some r) trouble before request reply after h = h
 
-pub serve-step : (law : DeviceLaw) (trouble : Trouble) (holders : List ℕ) (before : Scene) (request : PlainRequest) (reply : PlainReply) (after : Scene)
+pub serve_step : (law : DeviceLaw) (trouble : Trouble) (holders : List ℕ) (before : Scene) (request : PlainRequest) (reply : PlainReply) (after : Scene)
     → TroubledServeStep trouble holders before request reply after
     → (asked : Option ℕ) × (found : ℕ) × ServeStep (is_set trouble) true asked found before request reply after
-serve-step law trouble holders before (Open device mode) reply after h =
-    open-step trouble (with_holder (drive_in before.session) 0 holders) (closed before) device (access_of mode) reply after h
-serve-step law trouble holders before Close reply after h = (None, 0, step-by law (refusal (status_of before.session) Close) trouble before Close reply after h)
-serve-step law trouble holders before (Write bytes) reply after h =
-    (None, 0, step-by law (refusal (status_of before.session) (Write bytes)) trouble before (Write bytes) reply after h)
-serve-step law trouble holders before (WriteDropped count) reply after h =
-    (None, 0, step-by law (refusal (status_of before.session) (WriteDropped count)) trouble before (WriteDropped count) reply after h)
-serve-step law trouble holders before (Read count) reply after h =
-    (None, 0, step-by law (refusal (status_of before.session) (Read count)) trouble before (Read count) reply after h)
-serve-step law trouble holders before (Op op count) reply after h =
-    (None, 0, step-by law (refusal (status_of before.session) (Op op count)) trouble before (Op op count) reply after h)
+serve_step law trouble holders before (Open device mode) reply after h =
+    open_step trouble (with_holder (drive_in before.session) 0 holders) (closed before) device (access_of mode) reply after h
+serve_step law trouble holders before Close reply after h = (None, 0, step_by law (refusal (status_of before.session) Close) trouble before Close reply after h)
+serve_step law trouble holders before (Write bytes) reply after h =
+    (None, 0, step_by law (refusal (status_of before.session) (Write bytes)) trouble before (Write bytes) reply after h)
+serve_step law trouble holders before (WriteDropped count) reply after h =
+    (None, 0, step_by law (refusal (status_of before.session) (WriteDropped count)) trouble before (WriteDropped count) reply after h)
+serve_step law trouble holders before (Read count) reply after h =
+    (None, 0, step_by law (refusal (status_of before.session) (Read count)) trouble before (Read count) reply after h)
+serve_step law trouble holders before (Op op count) reply after h =
+    (None, 0, step_by law (refusal (status_of before.session) (Op op count)) trouble before (Op op count) reply after h)

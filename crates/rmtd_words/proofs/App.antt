@@ -7,13 +7,13 @@ use Rattle.clap.specs.declared.error.kind.ErrorKind.TheVariants.{OutOfMemory}
 use Rattle.clap.proofs.OnLiterals.{clap_on_literals}
 use Rattle.rmtd_words.specs.Rmtd.{app}
 
-pub app-is_simple : is_simple app ≡ true
+pub app_is_simple : is_simple app ≡ true
 unfolding app clap_on_literals
-app-is_simple = refl
+app_is_simple = refl
 
-pub app-is_simple_and_free : is_simple_and_free app ≡ true
+pub app_is_simple_and_free : is_simple_and_free app ≡ true
 unfolding app clap_on_literals
-app-is_simple_and_free = refl
+app_is_simple_and_free = refl
 
 -- an error of another kind than memory has one of the kinds, so there is one
 pub some_kind : (k : ErrorKind) (kinds : Kinds) → (k ≡ OutOfMemory → ⊥) → (k ≡ OutOfMemory) ⊎ IsAmong k kinds → kinds ≡ [] → ⊥

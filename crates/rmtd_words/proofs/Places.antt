@@ -18,14 +18,14 @@ any_lent h p (x ∷ xs) = ap (λ b. p (h x) || b) (any_lent h p xs)
 abbrev pub said : List (Bor (List ℕ)) → List PlainDrive
 said xs = map split_of (map (λ s. s.now) xs)
 
-length-said : (xs : List (Bor (List ℕ))) → length (said xs) ≡ length xs
-length-said xs = length-map (map (λ (s : Bor (List ℕ)). s.now) xs) split_of ∙ length-map xs (λ (s : Bor (List ℕ)). s.now)
+length_said : (xs : List (Bor (List ℕ))) → length (said xs) ≡ length xs
+length_said xs = length-map (map (λ (s : Bor (List ℕ)). s.now) xs) split_of ∙ length-map xs (λ (s : Bor (List ℕ)). s.now)
 
-take-said : (i : ℕ) (xs : List (Bor (List ℕ))) → take i (said xs) ≡ said (take i xs)
-take-said i xs = take-map split_of i (map (λ s. s.now) xs) ∙ ap (map split_of) (take-map (λ (s : Bor (List ℕ)). s.now) i xs)
+take_said : (i : ℕ) (xs : List (Bor (List ℕ))) → take i (said xs) ≡ said (take i xs)
+take_said i xs = take-map split_of i (map (λ s. s.now) xs) ∙ ap (map split_of) (take-map (λ (s : Bor (List ℕ)). s.now) i xs)
 
 within : (xs : List (Bor (List ℕ))) (i : ℕ) → i < length xs → i < length (said xs)
-within xs i l = subst (λ n. i < n) (sym (length-said xs)) l
+within xs i l = subst (λ n. i < n) (sym (length_said xs)) l
 
 said_at : (xs : List (Bor (List ℕ))) (i : ℕ) (d : Bor (List ℕ)) (z : PlainDrive) → i < length xs → get_or (said xs) i z ≡ split_of (get_or xs i d).now
 said_at xs i d z l =
@@ -35,11 +35,11 @@ said_at xs i d z l =
 -- the drives up to a place, with the one at it
 next : (xs : List (Bor (List ℕ))) (i : ℕ) (d : Bor (List ℕ)) → i < length xs → said (take (i + 1) xs) ≡ said (take i xs) ++ split_of (get_or xs i d).now ∷ []
 next xs i d l =
-    sym (take-said (i + 1) xs)
+    sym (take_said (i + 1) xs)
     ∙ ap (λ n. take n (said xs)) (let e : i + 1 ≡ suc i = omega arith in e)
     ∙ take-suc (said xs) i (split_of d.now) (within xs i l)
     ∙ ap (λ y. take i (said xs) ++ y ∷ []) (said_at xs i d (split_of d.now) l)
-    ∙ ap (λ ys. ys ++ split_of (get_or xs i d).now ∷ []) (take-said i xs)
+    ∙ ap (λ ys. ys ++ split_of (get_or xs i d).now ∷ []) (take_said i xs)
 
 pub all_said : (xs : List (Bor (List ℕ))) (i : ℕ) → length xs ≤ i → said (take i xs) ≡ said xs
 all_said xs i l = ap said (take_all i xs l)
@@ -79,7 +79,7 @@ pub apart_no : (xs : List (Bor (List ℕ))) (i : ℕ) (d : Bor (List ℕ)) (y : 
     → AllPairs (λ d e. d.device ≢ e.device) (said xs) → ⊥
 apart_no xs i d y found l e h some apart =
     let q : PlainDrive → Bool = λ z. bytes_eq z.device y.device in
-    let has : list_any q (take i (said xs)) ≡ true = ap (list_any q) (take-said i xs) ∙ any_said q (take i xs) ∙ sym h ∙ some in
+    let has : list_any q (take i (said xs)) ≡ true = ap (list_any q) (take_said i xs) ∙ any_said q (take i xs) ∙ sym h ∙ some in
     let there = Any-from_list_any q (take i (said xs)) has in
     let k = there.0 in
     let z = there.1 in

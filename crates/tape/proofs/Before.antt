@@ -10,8 +10,8 @@ use Rattle.tape.specs.Tape.PlainEntry.{Record, Mark}
 use Rattle.tape.specs.List.{bytes_of}
 use Rattle.tape.specs.RecordFile.{length_bytes, image_of, images_of, IsFile}
 use Rattle.tape.specs.FileSteps.{BeginsWith, size_by_length, first_length}
-use Rattle.tape.proofs.Spelling.{length-length_bytes, length_of, length_bound, image_size}
-use Rattle.tape.proofs.Places.{parted, All-back}
+use Rattle.tape.proofs.Spelling.{length_length_bytes, length_of, length_bound, image_size}
+use Rattle.tape.proofs.Places.{parted, All_back}
 use Rattle.tape.proofs.Images.{begins_one}
 use Rattle.tape.proofs.Writing.{image_length}
 
@@ -54,7 +54,7 @@ last_of x at t front e f is =
     let images : images_of t.before ≡ images_of front ++ image_of e
     = ap images_of is ∙ flat_map-append image_of front (e ∷ []) ∙ ap (λ l. images_of front ++ l) (append-nil (image_of e)) in
     let end = image_end e in
-    let size = length-length_bytes (length_of e) in
+    let size = length_length_bytes (length_of e) in
     let spelled : images_of t.before ≡ (images_of front ++ end.0) ++ length_bytes (length_of e)
     = images ∙ ap (λ l. images_of front ++ l) end.1 ∙ sym (append_assoc (images_of front) end.0 (length_bytes (length_of e))) in
     let behind = images_of t.after ++ p.tail in
@@ -63,7 +63,7 @@ last_of x at t front e f is =
     let four : length (images_of front ++ end.0) ≡ at - 4 = omega (arith, ap length spelled, length-append (images_of front ++ end.0) (length_bytes (length_of e)), size, o) in
     record {
       e = e;
-      lawful = All-head IsTapeEntry e [] (All-back IsTapeEntry front (e ∷ []) (subst (All IsTapeEntry) is p.before_is));
+      lawful = All-head IsTapeEntry e [] (All_back IsTapeEntry front (e ∷ []) (subst (All IsTapeEntry) is p.before_is));
       back = ap (λ l. first_length (reverse l)) is ∙ ap first_length (reverse-append front (e ∷ []));
       more = behind;
       begins = ap (drop (at - 4)) whole ∙ drop_at (images_of front ++ end.0) (length_bytes (length_of e) ++ behind) (at - 4) four;

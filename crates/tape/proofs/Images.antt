@@ -13,7 +13,7 @@ use Rattle.tape.specs.List.{bytes_of}
 use Rattle.tape.specs.Medium.{IsReadAt}
 use Rattle.tape.specs.RecordFile.{length_bytes, image_of, images_of, IsTail, IsFile, first_in}
 use Rattle.tape.specs.FileSteps.{BeginsWith, size_by_length, first_length}
-use Rattle.tape.proofs.Spelling.{length-length_bytes, from-length_bytes, length_of, length_bound, body_of, image_parts, image_size, first_image, first_none, first_some}
+use Rattle.tape.proofs.Spelling.{length_length_bytes, from_length_bytes, length_of, length_bound, body_of, image_parts, image_size, first_image, first_none, first_some}
 use Rattle.tape.proofs.Places.{IsParted, parted, back_is}
 
 -- ---- lengths
@@ -31,11 +31,11 @@ read_short at n given x four short read = let k = read.0 in omega (arith, length
 
 pub length_there : (bytes rest : List ℕ) (n : ℕ) → n < 2 ^ 32 → bytes ≡ length_bytes n ++ rest → from_le_bytes w32 (take 4 bytes) ≡ n
 length_there bytes rest n fits is =
-    ap (λ l. from_le_bytes w32 (take 4 l)) is ∙ ap (from_le_bytes w32) (take_at (length_bytes n) rest 4 (length-length_bytes n)) ∙ from-length_bytes n fits
+    ap (λ l. from_le_bytes w32 (take 4 l)) is ∙ ap (from_le_bytes w32) (take_at (length_bytes n) rest 4 (length_length_bytes n)) ∙ from_length_bytes n fits
 
 -- where a length stands, it is what the bytes begin with
 pub begins_one : (bytes rest : List ℕ) (n : ℕ) (o : Option ℕ) → n < 2 ^ 32 → bytes ≡ length_bytes n ++ rest → BeginsWith bytes o → o ≡ Some n
-begins_one bytes rest n None fits is short = absurd (omega (arith, ap length is, length-append (length_bytes n) rest, length-length_bytes n))
+begins_one bytes rest n None fits is short = absurd (omega (arith, ap length is, length-append (length_bytes n) rest, length_length_bytes n))
 begins_one bytes rest n (Some m) fits is begins =
     ap Some (sym (length_there bytes begins.1.0 m begins.0 begins.1.1) ∙ length_there bytes rest n fits is)
 
@@ -102,7 +102,7 @@ behind_of (Record bytes) rest n some is =
     let whole : image_of (Record bytes) ++ rest ≡ (length_bytes (length bytes) ++ bytes) ++ (length_bytes (length bytes) ++ rest)
     = image_parts (Record bytes) rest ∙ ap (λ l. length_bytes (length bytes) ++ l) (append_assoc bytes (length_bytes (length bytes)) rest)
     ∙ sym (append_assoc (length_bytes (length bytes)) bytes (length_bytes (length bytes) ++ rest)) in
-    let long : length (length_bytes (length bytes) ++ bytes) ≡ 4 + n = omega (arith, length-append (length_bytes (length bytes)) bytes, length-length_bytes (length bytes)) in
+    let long : length (length_bytes (length bytes) ++ bytes) ≡ 4 + n = omega (arith, length-append (length_bytes (length bytes)) bytes, length_length_bytes (length bytes)) in
     ap (drop (4 + n)) whole ∙ drop_at (length_bytes (length bytes) ++ bytes) (length_bytes (length bytes) ++ rest) (4 + n) long
     ∙ ap (λ k. length_bytes k ++ rest) is
 
@@ -127,9 +127,9 @@ record_there bytes at n to t f some small to_is begins ends =
     let one : to ≡ at + (4 + n) = omega arith in
     let two : drop to bytes ≡ drop n rest
     = ap (λ k. drop k bytes) one ∙ sym (drop-drop (4 + n) at bytes) ∙ sym (drop-drop n 4 (drop at bytes))
-    ∙ ap (λ l. drop n (drop 4 l)) begins.1.1 ∙ ap (drop n) (drop_at (length_bytes n) rest 4 (length-length_bytes n)) in
+    ∙ ap (λ l. drop n (drop 4 l)) begins.1.1 ∙ ap (drop n) (drop_at (length_bytes n) rest 4 (length_length_bytes n)) in
     let behind : drop n rest ≡ length_bytes n ++ ends.1.0 = sym two ∙ ends.1.1 in
-    let long : n ≤ length rest = omega (arith, ap length behind, length-drop n rest, length-append (length_bytes n) ends.1.0, length-length_bytes n) in
+    let long : n ≤ length rest = omega (arith, ap length behind, length-drop n rest, length-append (length_bytes n) ends.1.0, length_length_bytes n) in
     let size : length written ≡ n = omega (arith, length-take n rest) in
     let lawful : IsRecord written = (omega arith, omega arith) in
     let P : ℕ → Type 0 = λ k. drop at bytes ≡ length_bytes k ++ (written ++ (length_bytes k ++ ends.1.0)) in

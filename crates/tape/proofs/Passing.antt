@@ -12,7 +12,7 @@ use Rattle.tape.specs.List.{bytes_of}
 use Rattle.tape.specs.RecordFile.{IsFile, SpellsReel, image_of, images_of}
 use Rattle.tape.specs.FileSteps.{IsPassed, ahead, first_length, size_by_length}
 use Rattle.tape.specs.declared.file_reel.walk.Way.TheVariants.{Forward, Back}
-use Rattle.tape.proofs.Places.{All-back}
+use Rattle.tape.proofs.Places.{All_back}
 use Rattle.tape.proofs.Writing.{image_length}
 
 -- the size of an entry by its length
@@ -35,7 +35,7 @@ next_by : (bytes : List ℕ) (at n : ℕ) (before after : List PlainEntry) → I
 next_by bytes at n before [] f is = absurd cc
 next_by bytes at n before (e ∷ es) f is =
     let long : n ≡ length (bytes_of e) = cc in
-    let lawful = All-head IsTapeEntry e es (All-back IsTapeEntry before (e ∷ es) f.spelled.lawful) in
+    let lawful = All-head IsTapeEntry e es (All_back IsTapeEntry before (e ∷ es) f.spelled.lawful) in
     let whole : (before ++ e ∷ []) ++ es ≡ before ++ (e ∷ es) = append_assoc before (e ∷ []) es in (
       tape (before ++ e ∷ []) es,
       record {
@@ -64,7 +64,7 @@ last_by bytes at n before after (e ∷ es) turned f is =
     let split : before ≡ reverse es ++ e ∷ [] = sym (reverse-reverse before) ∙ ap reverse (sym turned) ∙ reverse-append (e ∷ []) es in
     let whole : reverse es ++ (e ∷ after) ≡ before ++ after = sym (append_assoc (reverse es) (e ∷ []) after) ∙ ap (λ l. l ++ after) (sym split) in
     let spelled = subst (SpellsReel bytes) (sym whole) f.spelled in
-    let lawful = All-head IsTapeEntry e after (All-back IsTapeEntry (reverse es) (e ∷ after) spelled.lawful) in
+    let lawful = All-head IsTapeEntry e after (All_back IsTapeEntry (reverse es) (e ∷ after) spelled.lawful) in
     let here : at ≡ length (images_of (reverse es ++ e ∷ [])) = f.offset_is ∙ ap (λ l. length (images_of l)) split in (
       tape (reverse es) (e ∷ after),
       record {

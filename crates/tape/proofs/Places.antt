@@ -8,11 +8,11 @@ use Rattle.tape.specs.Tape.{PlainEntry, Tape, IsTapeEntry, tape}
 use Rattle.tape.specs.RecordFile.{image_of, images_of, IsTail, SpellsReel, IsFile, tape_in}
 use Rattle.tape.proofs.Spelling.{spells_in, tail_short}
 
-pub All-front : (P : PlainEntry → Type 0) (xs ys : List PlainEntry) → All P (xs ++ ys) → All P xs
-All-front P xs ys all = subst (All P) (take_at xs ys (length xs) refl) (All-take P (length xs) (xs ++ ys) all)
+pub All_front : (P : PlainEntry → Type 0) (xs ys : List PlainEntry) → All P (xs ++ ys) → All P xs
+All_front P xs ys all = subst (All P) (take_at xs ys (length xs) refl) (All-take P (length xs) (xs ++ ys) all)
 
-pub All-back : (P : PlainEntry → Type 0) (xs ys : List PlainEntry) → All P (xs ++ ys) → All P ys
-All-back P xs ys all = subst (All P) (drop_at xs ys (length xs) refl) (All-drop P (length xs) (xs ++ ys) all)
+pub All_back : (P : PlainEntry → Type 0) (xs ys : List PlainEntry) → All P (xs ++ ys) → All P ys
+All_back P xs ys all = subst (All P) (drop_at xs ys (length xs) refl) (All-drop P (length xs) (xs ++ ys) all)
 
 -- a file, cut at the place
 pub record IsParted (bytes : List ℕ) (offset : ℕ) (before after : List PlainEntry) : Type 0 where
@@ -29,8 +29,8 @@ parted bytes offset t f = record {
   whole = f.spelled.whole ∙ ap (λ l. l ++ f.spelled.tail) (flat_map-append image_of t.before t.after)
       ∙ append_assoc (images_of t.before) (images_of t.after) f.spelled.tail;
   is_tail = f.spelled.is_tail;
-  before_is = All-front IsTapeEntry t.before t.after f.spelled.lawful;
-  after_is = All-back IsTapeEntry t.before t.after f.spelled.lawful;
+  before_is = All_front IsTapeEntry t.before t.after f.spelled.lawful;
+  after_is = All_back IsTapeEntry t.before t.after f.spelled.lawful;
   offset_is = f.offset_is;
 }
 

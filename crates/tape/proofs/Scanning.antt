@@ -12,16 +12,16 @@ use Rattle.tape.specs.RecordFile.{length_bytes, image_of, IsTail, SpellsReel, en
 use Rattle.tape.specs.Scan.{IsFirst, IsNth}
 use Rattle.tape.specs.declared.entry.Entry.{Entry}
 use Rattle.tape.specs.declared.entry.Entry.TheVariants as entry
-use Rattle.tape.proofs.Spelling.{image_size, spelling, length-length_bytes, from-length_bytes, length_of, length_bound, body_of, image_parts, tail_short, spells_in, found_in, tail_spells, more_spells}
+use Rattle.tape.proofs.Spelling.{image_size, spelling, length_length_bytes, from_length_bytes, length_of, length_bound, body_of, image_parts, tail_short, spells_in, found_in, tail_spells, more_spells}
 
 -- two lengths that begin the same bytes are one
 pub same_length : (n m : ℕ) (xs ys : List ℕ) → n < 2 ^ 32 → m < 2 ^ 32 → length_bytes n ++ xs ≡ length_bytes m ++ ys → (n ≡ m) × (xs ≡ ys)
 same_length n m xs ys small also is =
     let front : length_bytes n ≡ length_bytes m
-    = sym (take_at (length_bytes n) xs 4 (length-length_bytes n)) ∙ ap (take 4) is ∙ take_at (length_bytes m) ys 4 (length-length_bytes m) in
+    = sym (take_at (length_bytes n) xs 4 (length_length_bytes n)) ∙ ap (take 4) is ∙ take_at (length_bytes m) ys 4 (length_length_bytes m) in
     let back : xs ≡ ys
-    = sym (drop_at (length_bytes n) xs 4 (length-length_bytes n)) ∙ ap (drop 4) is ∙ drop_at (length_bytes m) ys 4 (length-length_bytes m) in
-    (sym (from-length_bytes n small) ∙ ap (from_le_bytes w32) front ∙ from-length_bytes m also, back)
+    = sym (drop_at (length_bytes n) xs 4 (length_length_bytes n)) ∙ ap (drop 4) is ∙ drop_at (length_bytes m) ys 4 (length_length_bytes m) in
+    (sym (from_length_bytes n small) ∙ ap (from_le_bytes w32) front ∙ from_length_bytes m also, back)
 
 -- the length of an entry whose image begins the bytes is the one that they begin with
 begun_by : (n : ℕ) (rest : List ℕ) (e : PlainEntry) (behind : List ℕ) → n < 2 ^ 32 → IsTapeEntry e → length_bytes n ++ rest ≡ image_of e ++ behind
@@ -55,7 +55,7 @@ tail_open n bytes rest small is some short e behind lawful whole =
     let same = begun_by n rest e behind small lawful (sym is ∙ whole) in
     let body = body_some n e rest behind some same.0 same.1 in
     let left : drop n rest ≡ length_bytes n ++ behind = ap (drop n) body.2 ∙ drop_at body.0 (length_bytes n ++ behind) n body.1 in
-    absurd (omega (arith, ap length left, length-append (length_bytes n) behind, length-length_bytes n))
+    absurd (omega (arith, ap length left, length-append (length_bytes n) behind, length_length_bytes n))
 
 -- nor where another length does
 pub tail_other : (n m : ℕ) (bytes rest others : List ℕ) → n < 2 ^ 32 → m < 2 ^ 32 → bytes ≡ length_bytes n ++ rest → 0 < n

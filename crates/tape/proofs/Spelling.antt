@@ -12,13 +12,13 @@ use Rattle.tape.specs.Tape.{PlainEntry, IsTapeEntry, record_limit}
 use Rattle.tape.specs.Tape.PlainEntry.{Record, Mark}
 use Rattle.tape.specs.RecordFile.{length_bytes, image_of, images_of, IsTail, SpellsReel, first_in, entries_within, entries_in}
 
-pub length-length_bytes : (n : ℕ) → length (length_bytes n) ≡ 4
+pub length_length_bytes : (n : ℕ) → length (length_bytes n) ≡ 4
 unfolding length_bytes
-length-length_bytes n = refl
+length_length_bytes n = refl
 
-pub from-length_bytes : (n : ℕ) → n < 2 ^ 32 → from_le_bytes w32 (length_bytes n) ≡ n
+pub from_length_bytes : (n : ℕ) → n < 2 ^ 32 → from_le_bytes w32 (length_bytes n) ≡ n
 unfolding length_bytes
-from-length_bytes n fits = from_le_bytes-to_le_bytes_4 n fits
+from_length_bytes n fits = from_le_bytes-to_le_bytes_4 n fits
 
 -- the length that an image begins with
 abbrev pub length_of : PlainEntry → ℕ
@@ -39,15 +39,15 @@ image_parts (Record bytes) rest = append_assoc (length_bytes (length bytes)) (by
 image_parts Mark rest = refl
 
 pub image_size : (e : PlainEntry) → 4 ≤ length (image_of e)
-image_size (Record bytes) = omega (arith, length-append (length_bytes (length bytes)) (bytes ++ length_bytes (length bytes)), length-length_bytes (length bytes))
-image_size Mark = omega (arith, length-length_bytes 0)
+image_size (Record bytes) = omega (arith, length-append (length_bytes (length bytes)) (bytes ++ length_bytes (length bytes)), length_length_bytes (length bytes))
+image_size Mark = omega (arith, length_length_bytes 0)
 
 -- the length at the beginning of an image
 head_length : (e : PlainEntry) (rest : List ℕ) → length_of e < 2 ^ 32 → from_le_bytes w32 (take 4 (image_of e ++ rest)) ≡ length_of e
 head_length e rest small =
     let front : take 4 (image_of e ++ rest) ≡ length_bytes (length_of e)
-    = ap (take 4) (image_parts e rest) ∙ take_at (length_bytes (length_of e)) (body_of e ++ rest) 4 (length-length_bytes (length_of e)) in
-    ap (from_le_bytes w32) front ∙ from-length_bytes (length_of e) small
+    = ap (take 4) (image_parts e rest) ∙ take_at (length_bytes (length_of e)) (body_of e ++ rest) 4 (length_length_bytes (length_of e)) in
+    ap (from_le_bytes w32) front ∙ from_length_bytes (length_of e) small
 
 -- the entry of that length
 abbrev told : ℕ → List ℕ → PlainEntry
@@ -58,7 +58,7 @@ told_image (Record bytes) rest lawful =
     let some : 0 < length bytes = lawful.0 in
     let whole = image_parts (Record bytes) rest ∙ ap (λ l. length_bytes (length bytes) ++ l) (append_assoc bytes (length_bytes (length bytes)) rest) in
     let behind : drop 4 (image_of (Record bytes) ++ rest) ≡ bytes ++ (length_bytes (length bytes) ++ rest)
-    = ap (drop 4) whole ∙ drop_at (length_bytes (length bytes)) (bytes ++ (length_bytes (length bytes) ++ rest)) 4 (length-length_bytes (length bytes)) in
+    = ap (drop 4) whole ∙ drop_at (length_bytes (length bytes)) (bytes ++ (length_bytes (length bytes) ++ rest)) 4 (length_length_bytes (length bytes)) in
     let is : take (length bytes) (drop 4 (image_of (Record bytes) ++ rest)) ≡ bytes
     = ap (take (length bytes)) behind ∙ take_at bytes (length_bytes (length bytes) ++ rest) (length bytes) refl in
     let record_is : told (length bytes) (image_of (Record bytes) ++ rest) ≡ Record (take (length bytes) (drop 4 (image_of (Record bytes) ++ rest))) = grind (arith, nat_tests) in

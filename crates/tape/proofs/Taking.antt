@@ -11,7 +11,7 @@ use Rattle.tape.specs.RecordFile.{length_bytes, image_of, images_of, IsFile, Fil
 use Rattle.tape.specs.FileSteps.{IsRun, IsReelRun, IsPassed, first_length, size_by_length}
 use Rattle.tape.specs.declared.fault.TapeFault.TheVariants.{Device}
 use Rattle.tape.specs.declared.file_reel.walk.Way.TheVariants.{Forward}
-use Rattle.tape.proofs.Spelling.{length-length_bytes, body_of, image_parts}
+use Rattle.tape.proofs.Spelling.{length_length_bytes, body_of, image_parts}
 use Rattle.tape.proofs.Places.{parted, back_is}
 use Rattle.tape.proofs.MediumRuns.{run_as}
 use Rattle.tape.proofs.ReelCalls.{FileCall, file_call}
@@ -80,10 +80,10 @@ after_four : (e : PlainEntry) (rest : List ℕ) → (more : List ℕ) × (drop 4
 after_four (Record bytes) rest = (
   length_bytes (length bytes) ++ rest,
   ap (drop 4) (image_parts (Record bytes) rest)
-      ∙ drop_at (length_bytes (length bytes)) (body_of (Record bytes) ++ rest) 4 (length-length_bytes (length bytes))
+      ∙ drop_at (length_bytes (length bytes)) (body_of (Record bytes) ++ rest) 4 (length_length_bytes (length bytes))
       ∙ append_assoc bytes (length_bytes (length bytes)) rest,
 )
-after_four Mark rest = (rest, drop_at (length_bytes 0) rest 4 (length-length_bytes 0))
+after_four Mark rest = (rest, drop_at (length_bytes 0) rest 4 (length_length_bytes 0))
 
 -- behind the leading length stand the record's bytes
 content : (x : List ℕ) (at n : ℕ) (t : Tape) (e : PlainEntry) (es : List PlainEntry) → IsFile x at t → Some n ≡ first_length t.after → t.after ≡ e ∷ es

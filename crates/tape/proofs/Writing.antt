@@ -15,7 +15,7 @@ use Rattle.tape.specs.RecordFile.{length_bytes, image_of, images_of, IsTail, Spe
 use Rattle.tape.specs.FileSteps.{IsWritten, Puts}
 use Rattle.tape.specs.declared.medium.MediumFailed.{MediumFailed}
 use Rattle.tape.specs.declared.fault.TapeFault.{TapeFault}
-use Rattle.tape.proofs.Spelling.{length-length_bytes, image_size, first_image, tail_spells, tail_short, more_spells}
+use Rattle.tape.proofs.Spelling.{length_length_bytes, image_size, first_image, tail_spells, tail_short, more_spells}
 use Rattle.tape.proofs.Places.{IsParted, parted, joined, front_is}
 
 -- ---- bytes that were added
@@ -144,8 +144,8 @@ zeros_part x y z row done size count e d zeros fits within first next =
 
 pub image_length : (e : PlainEntry) → length (image_of e) ≡ size_of e
 image_length (Record bytes) =
-    omega (arith, length-append (length_bytes (length bytes)) (bytes ++ length_bytes (length bytes)), length-append bytes (length_bytes (length bytes)), length-length_bytes (length bytes))
-image_length Mark = length-length_bytes 0
+    omega (arith, length-append (length_bytes (length bytes)) (bytes ++ length_bytes (length bytes)), length-append bytes (length_bytes (length bytes)), length_length_bytes (length bytes))
+image_length Mark = length_length_bytes 0
 
 pub images_length : (entries : List PlainEntry) → length (images_of entries) ≡ offset_of entries
 images_length [] = refl

@@ -9,7 +9,7 @@ use Rattle.std.proofs.lemmas.Option.{same_Some}
 use Rattle.std.proofs.lemmas.Slice.Eq.{bytes_eq-Decides}
 use Rattle.tape.specs.Tape.{PlainEntry, entries_of}
 use Rattle.drives.specs.Shop.{KeptReel, Slot, Rack, rack, Shop, rack_at, with_rack, slots_in, EachReelOnce}
-use Rattle.drives.proofs.Shops.{bit, named, times-named, sum_by-with_rack}
+use Rattle.drives.proofs.Shops.{bit, named, times_named, sum_by_with_rack}
 use Rattle.rmt_server.specs.declared.access.Access.{Access}
 use Rattle.rmt_server.specs.Hall.{Hall, Side}
 use Rattle.rmt_server.specs.Session.{PlainReel}
@@ -56,30 +56,30 @@ lies_nowhere : (s : Shop) (drive : ℕ) (name : List ℕ) (entries : List PlainE
     → first_name (rack_at s drive).stack ≡ name → LiesOn s name entries → ⊥
 lies_nowhere s drive name entries once within away is (inl (d, lies)) = elim (eqb_tells d drive) [
   | inl (equal, same) ↦
-      let whole = sum_by-with_rack (named name) s drive (rack [] []) within in
-      let all = times-named name (slots_in s) in
+      let whole = sum_by_with_rack (named name) s drive (rack [] []) within in
+      let all = times_named name (slots_in s) in
       let few = once name in
       away_alone (rack_at s drive).stack name entries away is (omega (arith, whole, all, few)) (subst (λ i. LiesIn (rack_at s i).stack name entries) same lies)
   | inr (unequal, other) ↦
       let t = with_rack s drive (rack [] []) in
       let there = lies_within s.racks d name entries lies in
       let still : rack_at t d ≡ rack_at s d = rack_other s.racks drive d (rack [] []) (rack [] []) other in
-      let one = sum_by-with_rack (named name) s drive (rack [] []) within in
-      let two = sum_by-with_rack (named name) t d (rack [] []) (let many = length-set s.racks drive (rack [] []) in omega (arith, there, many)) in
+      let one = sum_by_with_rack (named name) s drive (rack [] []) within in
+      let two = sum_by_with_rack (named name) t d (rack [] []) (let many = length-set s.racks drive (rack [] []) in omega (arith, there, many)) in
       let its : sum_by (named name) (rack_at t d).stack ≡ sum_by (named name) (rack_at s d).stack = ap (λ (r : Rack KeptReel). sum_by (named name) r.stack) still in
       let first : 0 < sum_by (named name) (rack_at s drive).stack = subst (λ n. 0 < sum_by (named n) (rack_at s drive).stack) is (first_times (rack_at s drive).stack away) in
       let second = lies_times (rack_at s d).stack name entries lies in
-      let all = times-named name (slots_in s) in
+      let all = times_named name (slots_in s) in
       let few = once name in
       omega (arith, one, two, its, first, second, all, few)
 ]
 lies_nowhere s drive name entries once within away is (inr lies) =
     let t = with_rack s drive (rack [] []) in
-    let one = sum_by-with_rack (named name) s drive (rack [] []) within in
+    let one = sum_by_with_rack (named name) s drive (rack [] []) within in
     let first : 0 < sum_by (named name) (rack_at s drive).stack = subst (λ n. 0 < sum_by (named n) (rack_at s drive).stack) is (first_times (rack_at s drive).stack away) in
     let second = lies_times s.bin name entries lies in
     let parts = sum_by-append (named name) (flat_map (λ r. r.stack) t.racks) s.bin in
-    let all = times-named name (slots_in s) in
+    let all = times_named name (slots_in s) in
     let few = once name in
     omega (arith, one, first, second, parts, all, few)
 

@@ -8,7 +8,7 @@ use Rattle.std.proofs.lemmas.Option.{same_Some}
 use Rattle.std.proofs.lemmas.Slice.Eq.{bytes_eq-Decides}
 use Rattle.tape.specs.Tape.{PlainEntry, entries_of}
 use Rattle.drives.specs.Shop.{KeptReel, Slot, Rack, rack, Shop, rack_at, slots_in}
-use Rattle.drives.proofs.Shops.{bit, named, times-named}
+use Rattle.drives.proofs.Shops.{bit, named, times_named}
 use Rattle.rmt_server.specs.Hall.{Hall, Side}
 use Rattle.rmt_server.specs.Session.{PlainSession}
 use Rattle.rmt_server.specs.TroubledServe.{drive_in}
@@ -110,7 +110,7 @@ stack_or_bin : (h : Hall) (name : List ℕ) (n : ℕ) → sum_by (named name) (f
     → (entries : List PlainEntry) × StandsOn h name entries
 stack_or_bin h name zero none a l has =
     let parts = sum_by-append (named name) (flat_map (λ x. x.stack) h.shop.racks) h.shop.bin in
-    let all = times-named name (slots_in h.shop) in
+    let all = times_named name (slots_in h.shop) in
     let on = there_lies h.shop.bin name (slot_among h.shop.bin name (omega (arith, none, parts, all, has))) l.bin in
     (on.0, inl (inr on.1))
 stack_or_bin h name (suc n) some a l has =

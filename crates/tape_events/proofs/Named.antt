@@ -5,9 +5,9 @@ use Rattle.std.proofs.lemmas.List.Sums.{sum_by-append, sum_by-cons}
 use Rattle.std.specs.Str.{bytes_eq}
 use Rattle.tape.specs.Tape.{entries_of}
 use Rattle.drives.specs.Shop.{KeptReel, kept_reel, Slot, slot, Rack, rack, Shop, shop, rack_at, with_rack, slots_in, names_of, names_in, times, with_first, at_first, to_bin}
-use Rattle.drives.proofs.Shops.{bit, named, times-named, sum_by-slots, sum_by-with_rack}
+use Rattle.drives.proofs.Shops.{bit, named, times_named, sum_by_slots, sum_by_with_rack}
 use Rattle.drives.specs.Arranging.{are_distinct}
-use Rattle.drives.proofs.Arranging.{times-arranged}
+use Rattle.drives.proofs.Arranging.{times_arranged}
 use Rattle.std.specs.Prelude.{if◌then◌else◌, option_to_list, option_and_then}
 use Rattle.std.specs.Option.{option_map}
 use Rattle.std.proofs.lemmas.List.{append-nil}
@@ -48,12 +48,12 @@ taken_names name reel (first ∷ rest) =
 
 -- names stay where sums of them do
 by_sums : (s u : Shop) → ((name : List ℕ) → sum_by (named name) (slots_in u) ≡ sum_by (named name) (slots_in s)) → SameNames s u
-by_sums s u sums name = times-named name (slots_in u) ∙ sums name ∙ sym (times-named name (slots_in s))
+by_sums s u sums name = times_named name (slots_in u) ∙ sums name ∙ sym (times_named name (slots_in s))
 
 pub at_first_names : (s : Shop) (d : ℕ) (reel : Option KeptReel) → d < length s.racks → SameNames s (at_first s d reel)
 at_first_names s d reel within = by_sums s (at_first s d reel) (λ name.
     (let r = rack_at s d in
-    let whole = sum_by-with_rack (named name) s d (rack r.name (with_first reel r.stack)) within in
+    let whole = sum_by_with_rack (named name) s d (rack r.name (with_first reel r.stack)) within in
     let part = first_names name reel r.stack in
     omega (arith, whole, part)))
 
@@ -62,9 +62,9 @@ to_bin_names s d reel within = by_sums s (to_bin s d reel) (λ name.
     (let r = rack_at s d in
     let less = rack r.name (drop 1 r.stack) in
     let put = with_first (Some reel) (take 1 r.stack) in
-    let whole = sum_by-with_rack (named name) s d less within in
-    let one = sum_by-slots (named name) (with_rack s d less) in
-    let all = sum_by-slots (named name) (to_bin s d reel) in
+    let whole = sum_by_with_rack (named name) s d less within in
+    let one = sum_by_slots (named name) (with_rack s d less) in
+    let all = sum_by_slots (named name) (to_bin s d reel) in
     let bin = sum_by-append (named name) s.bin put in
     let part = taken_names name reel r.stack in
     omega (arith, whole, one, all, bin, part)))
@@ -111,7 +111,7 @@ makes_names w u (serves k s x shop holders opened live comes is made links) a na
 makes_names w u (ends k is made links) a name = ap (λ (h : Hall). times name (names_in h.shop)) is ∙ ended_names w.hall k a name
 makes_names w u (restarts is made links) a name = ap (λ (h : Hall). times name (names_in h.shop)) is ∙ all_ended_names w.hall (length w.hall.sides) a name
 makes_names w u (arranges d names within free is made links) a name =
-    ap (λ (h : Hall). times name (names_in h.shop)) is ∙ times-arranged w.hall.shop d names within name
+    ap (λ (h : Hall). times name (names_in h.shop)) is ∙ times_arranged w.hall.shop d names within name
 
 pub names_after : (w : World) (event : PlainEvent) (u : World) → Happens w event u → AreHeld w.hall → SameNames w.hall.shop u.hall.shop
 names_after w event u happens a = makes_names w u (event_makes w event u happens) a
@@ -136,9 +136,9 @@ first_times (first ∷ rest) away =
 first_is_reel : (s : Shop) (d : ℕ) → d < length s.racks → IsFirstAway (rack_at s d).stack → HasReel s (first_name (rack_at s d).stack)
 first_is_reel s d within away =
     let name = first_name (rack_at s d).stack in
-    let part = sum_by-with_rack (named name) s d (rack [] []) within in
+    let part = sum_by_with_rack (named name) s d (rack [] []) within in
     let some = first_times (rack_at s d).stack away in
-    let all = times-named name (slots_in s) in
+    let all = times_named name (slots_in s) in
     omega (arith, part, some, all)
 
 written_if : (b : Bool) (name reel : List ℕ) → (if b then Some name else None) ≡ Some reel → name ≡ reel

@@ -9,7 +9,7 @@ use Rattle.std.proofs.lemmas.Option.{same_Some}
 use Rattle.rmt_wire.specs.RequestReader.{held}
 use Rattle.drives.specs.Shop.{KeptReel, Rack, rack, Shop, rack_at, with_rack, slots_in, EachReelOnce}
 use Rattle.drives.specs.Arranging.{arranged}
-use Rattle.drives.proofs.Shops.{named, times-named, sum_by-with_rack}
+use Rattle.drives.proofs.Shops.{named, times_named, sum_by_with_rack}
 use Rattle.rmt_server.specs.declared.access.Access.{Access}
 use Rattle.rmt_server.specs.Access.{writes}
 use Rattle.rmt_server.specs.Hall.{Hall, hall, Side, side}
@@ -145,13 +145,13 @@ names_differ s d e once other here away there gone same =
     let name = first_name (rack_at s d).stack in
     let t = with_rack s d (rack [] []) in
     let still : rack_at t e ≡ rack_at s e = rack_other s.racks d e (rack [] []) (rack [] []) (λ is. other (sym is)) in
-    let one = sum_by-with_rack (named name) s d (rack [] []) here in
-    let two = sum_by-with_rack (named name) t e (rack [] []) (let many = length-set s.racks d (rack [] []) in omega (arith, there, many)) in
+    let one = sum_by_with_rack (named name) s d (rack [] []) here in
+    let two = sum_by_with_rack (named name) t e (rack [] []) (let many = length-set s.racks d (rack [] []) in omega (arith, there, many)) in
     let its : sum_by (named name) (rack_at t e).stack ≡ sum_by (named name) (rack_at s e).stack = ap (λ (r : Rack KeptReel). sum_by (named name) r.stack) still in
     let first = first_times (rack_at s d).stack away in
     let second : 0 < sum_by (named name) (rack_at s e).stack
     = subst (λ n. 0 < sum_by (named n) (rack_at s e).stack) (sym same) (first_times (rack_at s e).stack gone) in
-    let all = times-named name (slots_in s) in
+    let all = times_named name (slots_in s) in
     let few = once name in
     omega (arith, one, two, its, first, second, all, few)
 

@@ -7,7 +7,7 @@ use Rattle.std.proofs.lemmas.Option.{same_Some}
 use Rattle.std.proofs.lemmas.Slice.Eq.{bytes_eq-Decides}
 use Rattle.tape.specs.Tape.{PlainEntry}
 use Rattle.drives.specs.Shop.{KeptReel, kept_reel, Slot, Rack, rack, Shop, rack_at, with_rack, slots_in, EachReelOnce, names_of}
-use Rattle.drives.proofs.Shops.{bit, named, times-named, sum_by-with_rack}
+use Rattle.drives.proofs.Shops.{bit, named, times_named, sum_by_with_rack}
 use Rattle.rmt_server.specs.Hall.{Hall}
 use Rattle.dump_client.specs.declared.stage.Stage.{Stage}
 use Rattle.dump_client.specs.declared.stage.Stage.TheVariants.{Ready, ToSend, Waiting, Asking, Finished, Abandoned}
@@ -157,16 +157,16 @@ bin_alone : (h : Hall) (name : List ℕ) (entries other : List PlainEntry) → A
     → other ≡ entries
 bin_alone h name entries other held laid once lies (inl (inl (d, two))) =
     let t = with_rack h.shop d (rack [] []) in
-    let one = sum_by-with_rack (named name) h.shop d (rack [] []) (rack_there h.shop.racks d name other two) in
+    let one = sum_by_with_rack (named name) h.shop d (rack [] []) (rack_there h.shop.racks d name other two) in
     let first = lies_named (rack_at h.shop d).stack name other two in
     let second = lies_named h.shop.bin name entries lies in
     let parts = sum_by-append (named name) (flat_map (λ r. r.stack) t.racks) h.shop.bin in
-    let all = times-named name (slots_in h.shop) in
+    let all = times_named name (slots_in h.shop) in
     let few = once name in
     absurd (omega (arith, one, first, second, parts, all, few))
 bin_alone h name entries other held laid once lies (inl (inr two)) =
     let parts = sum_by-append (named name) (flat_map (λ r. r.stack) h.shop.racks) h.shop.bin in
-    let all = times-named name (slots_in h.shop) in
+    let all = times_named name (slots_in h.shop) in
     let few = once name in
     one_lies h.shop.bin name entries other (omega (arith, parts, all, few)) lies two
 bin_alone h name entries other held laid once lies (inr (k, s, at, (drive, access, reel, online, first, holds))) =

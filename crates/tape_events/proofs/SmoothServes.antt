@@ -17,7 +17,7 @@ use Rattle.rmt_wire.specs.Reply.{PlainReply}
 use Rattle.rmt_wire.specs.Reply.PlainReply.{Done, Error}
 use Rattle.drives.specs.declared.fault.DriveFault.TheVariants.{NoSuchDrive, Busy as Taken, NoReel, Device, OutOfMemory, NameTaken}
 use Rattle.drives.specs.Shop.{KeptReel, kept_reel, Slot, slot, Shop, EachReelOnce, times, names_in, names_of, IsNameInBin, slots_in, waiting_reel, after_latch, after_offline, latched_at}
-use Rattle.drives.proofs.Shops.{bit, named, times-named}
+use Rattle.drives.proofs.Shops.{bit, named, times_named}
 use Rattle.rmt_server.specs.declared.access.Access.TheVariants.{Both}
 use Rattle.rmt_server.specs.Refusals.{refused, tape_refusal}
 use Rattle.rmt_server.specs.Session.{PlainReel, plain_reel, Scene, scene, tape_request, reel_reply}
@@ -208,11 +208,11 @@ serve_mark shop capacity before reply holders after room step = marked_by (calle
 name_free : (drive : PlainDrive) (stack bin : List (Slot KeptReel)) (name : List ℕ) → EachReelOnce (one_drive drive (slot name None ∷ stack) bin) → 0 < times name (names_of bin) → ⊥
 name_free drive stack bin name once among =
     let few : times name (names_in (one_drive drive (slot name None ∷ stack) bin)) ≤ 1 = once name in
-    let all = times-named name (slots_in (one_drive drive (slot name None ∷ stack) bin)) in
+    let all = times_named name (slots_in (one_drive drive (slot name None ∷ stack) bin)) in
     let one : named name (slot {X = KeptReel} name None) ≡ 1 = ap bit ((bytes_eq-Decides name name).1 refl) in
     let first = sum_by-cons (named name) (slot name None) (stack ++ []) in
     let parts = sum_by-append (named name) ((slot name None ∷ stack) ++ []) bin in
-    let there = times-named name bin in
+    let there = times_named name bin in
     omega (arith, few, all, one, first, parts, there, among)
 
 -- the reel went to the bin, or there is no memory, and it stays

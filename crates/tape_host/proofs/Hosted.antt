@@ -69,21 +69,21 @@ seen_drive : (opened : Option (Opened TroubledTape)) → drive_in (session_seen 
 seen_drive None = refl
 seen_drive (Some device) = seen_with device.drive device.access device.reel
 
-number-is : (n a : ℕ) → (n == a) ≡ true → n ≡ a
-number-is n a e = grind (arith, nat_tests)
+number_is : (n a : ℕ) → (n == a) ≡ true → n ≡ a
+number_is n a e = grind (arith, nat_tests)
 
-is-number : (n a : ℕ) → n ≡ a → (n == a) ≡ true
-is-number n a e = grind (arith, nat_tests)
+is_number : (n a : ℕ) → n ≡ a → (n == a) ≡ true
+is_number n a e = grind (arith, nat_tests)
 
 module _ {drives : MemoryDrives} {sides : List (Option RealSide)} {next : Next} (h : IsHosting drives sides next) where
   -- the holder of a drive is the number of the side that has it open
   pub holds_open : (d k : ℕ) (s : RealSide) → IsLive drives k s → IsHeldBy drives.holds d k → drive_of s.session.opened ≡ Some d
-  holds_open d k s live (l, e) = (live.at.held d).0 (live.at.own.agrees d l ∙ is-number (slice_index drives.holds.numbers d) s.session.seat.number (e ∙ sym live.number))
+  holds_open d k s live (l, e) = (live.at.held d).0 (live.at.own.agrees d l ∙ is_number (slice_index drives.holds.numbers d) s.session.seat.number (e ∙ sym live.number))
 
   open_holds : (d k : ℕ) (s : RealSide) → IsLive drives k s → drive_of s.session.opened ≡ Some d → IsHeldBy drives.holds d k
   open_holds d k s live o =
       let l : d < length drives.holds.numbers = omega (arith, live.at.below d o, h.paired) in
-      (l, number-is (slice_index drives.holds.numbers d) s.session.seat.number (sym (live.at.own.agrees d l) ∙ (live.at.held d).1 o) ∙ live.number)
+      (l, number_is (slice_index drives.holds.numbers d) s.session.seat.number (sym (live.at.own.agrees d l) ∙ (live.at.held d).1 o) ∙ live.number)
 
   open_back : (d k : ℕ) (side : Option RealSide) → side_at sides k ≡ side → drive_open_by (option_map seen side) ≡ Some d → IsHeldBy drives.holds d k
   open_back d k None e o = absurd cc

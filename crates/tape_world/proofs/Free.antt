@@ -14,7 +14,7 @@ use Rattle.drives.specs.ListShop.{ListShop, blank_reel, with_drive, IsDriveAdded
 use Rattle.drives.specs.Arranging.{are_distinct}
 use Rattle.drives.specs.declared.fault.DriveFault.{DriveFault}
 use Rattle.drives.specs.declared.fault.DriveFault.TheVariants.{NoSuchDrive, Busy, NoReel, Device, OutOfMemory, NameTaken}
-use Rattle.drives.proofs.Shops.{bit, named, times-named, sum_by-slots, sum_by-with_rack, any-count}
+use Rattle.drives.proofs.Shops.{bit, named, times_named, sum_by_slots, sum_by_with_rack, any_count}
 use Rattle.drives.proofs.Arranging.{names_from}
 use Rattle.tape_events.specs.First.{AreGoodDrives}
 use Rattle.tape_world.specs.declared.drive_spec.DriveSpec.{DriveSpec}
@@ -57,7 +57,7 @@ none_counted false n h e = h
 once_step : (name x : List ℕ) (xs : List (List ℕ)) (b : Bool) → bytes_eq name x ≡ b → list_any (bytes_eq x) xs ≡ false → times name xs ≤ 1 → times name (x ∷ xs) ≤ 1
 once_step name x xs true e apart less =
     let same : name ≡ x = (bytes_eq-Decides name x).0 e in
-    let none : times x xs ≡ 0 = none_counted (list_any (bytes_eq x) xs) (times x xs) (any-count (bytes_eq x) xs) apart in
+    let none : times x xs ≡ 0 = none_counted (list_any (bytes_eq x) xs) (times x xs) (any_count (bytes_eq x) xs) apart in
     let all = sum_by-cons (λ n. bit (bytes_eq name n)) x xs in
     let here : bit (bytes_eq name x) ≡ 1 = ap bit e in
     let other : times name xs ≡ times x xs = ap (λ n. times n xs) same in
@@ -108,11 +108,11 @@ name_free : (s : ShopOf TroubledTape) (d : ℕ) (x : Slot TroubledTape) (rest : 
     → 0 < times x.name (names_in s) → ⊥
 name_free s d x rest l once taken =
     let r = rack (rack_at s d).name ((rack_at s d).stack ++ x ∷ rest) in
-    let a = sum_by-with_rack (named x.name) s d r l in
+    let a = sum_by_with_rack (named x.name) s d r l in
     let b = sum_by-append (named x.name) (rack_at s d).stack (x ∷ rest) in
     let c = sum_by-cons (named x.name) x rest in
-    let e = times-named x.name (slots_in s) in
-    let g = times-named x.name (slots_in (with_rack s d r)) in
+    let e = times_named x.name (slots_in s) in
+    let g = times_named x.name (slots_in (with_rack s d r)) in
     let o = once x.name in
     let i = own_name x in
     absurd (omega (arith, a, b, c, e, g, o, i, taken))
@@ -165,10 +165,10 @@ reels_once old made d number added once =
 
 fewer : (name : List ℕ) (racks more : List (Rack TroubledTape)) (bin : List (Slot TroubledTape)) → times name (names_in (shop racks bin)) ≤ times name (names_in (shop (racks ++ more) bin))
 fewer name racks more bin =
-    let a = times-named name (slots_in (shop racks bin)) in
-    let b = times-named name (slots_in (shop (racks ++ more) bin)) in
-    let c = sum_by-slots (named name) (shop racks bin) in
-    let e = sum_by-slots (named name) (shop (racks ++ more) bin) in
+    let a = times_named name (slots_in (shop racks bin)) in
+    let b = times_named name (slots_in (shop (racks ++ more) bin)) in
+    let c = sum_by_slots (named name) (shop racks bin) in
+    let e = sum_by_slots (named name) (shop (racks ++ more) bin) in
     let g = sum_by-append (λ r. sum_by (named name) r.stack) racks more in
     omega (arith, a, b, c, e, g)
 

@@ -10,7 +10,7 @@ use Rattle.std.proofs.lemmas.Slice.Eq.{bytes_eq-Decides}
 use Rattle.tape.specs.Tape.{PlainEntry, Tape, entries_of}
 use Rattle.drives.specs.Shop.{KeptReel, Slot, Rack, rack, Shop, rack_at, slots_in, EachReelOnce}
 use Rattle.drives.specs.Arranging.{reel_named}
-use Rattle.drives.proofs.Shops.{bit, named, times-named}
+use Rattle.drives.proofs.Shops.{bit, named, times_named}
 use Rattle.rmt_server.specs.Hall.{Hall, Side}
 use Rattle.rmt_server.specs.Session.{PlainSession}
 use Rattle.rmt_server.specs.Session.PlainSession.{Idle, Offline, Online}
@@ -76,7 +76,7 @@ is_named (x ∷ xs) name o few has = first_named xs x name o (bytes_eq name x.na
 shop_named : (s : Shop) (name : List ℕ) (o : Option KeptReel) → EachReelOnce s → HasSlot (slots_in s) name o → reel_named name (slots_in s) ≡ o
 shop_named s name o once has =
     let few = once name in
-    let all = times-named name (slots_in s) in
+    let all = times_named name (slots_in s) in
     is_named (slots_in s) name o (omega (arith, few, all)) has
 
 -- what lies there

@@ -2,4 +2,4 @@ use Rattle.rmt_server.proofs.Staying as staying
 use Rattle.rmt_server.proofs.laws.stacks_trouble.Goals as goal
 
 pub returns : goal.returns
-returns g c = staying.still-troubled g.H.Holds
+returns g c = staying.still_troubled g.H.Holds

@@ -6,4 +6,4 @@ pub returns-clause-at : goal.returns-clause-at
 returns-clause-at g c = λ old new desk at. staying.still (kinds g.H.Holds g.S.Stacks g.S.Reel.Reel) old new desk at
 
 pub returns-clause-elsewhere : goal.returns-clause-elsewhere
-returns-clause-elsewhere g c = λ old new desk d at. staying.still-elsewhere (kinds g.H.Holds g.S.Stacks g.S.Reel.Reel) old new desk at d
+returns-clause-elsewhere g c = λ old new desk d at. staying.still_elsewhere (kinds g.H.Holds g.S.Stacks g.S.Reel.Reel) old new desk at d

@@ -1,5 +1,5 @@
 use Rattle.rmt_server.proofs.TroubledLying.{LyingLaw}
-use Rattle.rmt_server.proofs.TroubledOpening.{served-so}
+use Rattle.rmt_server.proofs.TroubledOpening.{served_so}
 use Rattle.rmt_server.proofs.laws.troubled_serve.Goals as goal
 
 pub returns : goal.returns
@@ -9,4 +9,4 @@ returns c = λ trouble old new before request reply at tells set carried.
       laid_back = c.lying_troubles.ensures.laid_back;
       moved = c.lying_troubles.ensures.moved;
     } in
-    served-so law trouble old before at tells request reply new carried.effect set
+    served_so law trouble old before at tells request reply new carried.effect set

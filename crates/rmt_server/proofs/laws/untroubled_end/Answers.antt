@@ -1,5 +1,5 @@
 use Rattle.rmt_server.proofs.TroubledLying.{LyingLaw}
-use Rattle.rmt_server.proofs.Troubles.{ended-so}
+use Rattle.rmt_server.proofs.Troubles.{ended_so}
 use Rattle.rmt_server.proofs.laws.untroubled_end.Goals as goal
 
 pub returns : goal.returns
@@ -9,4 +9,4 @@ returns c =
       laid_back = c.lying_troubles.ensures.laid_back;
       moved = c.lying_troubles.ensures.moved;
     } in
-    ended-so law
+    ended_so law

@@ -2,7 +2,7 @@ use Rattle.std.proofs.Common.{ap, sym, map, List, ℕ, Bor, ◌≡◌, ◌∙◌
 use Rattle.std.proofs.lemmas.Result.{IfOk-weaker}
 use Rattle.clap.specs.Words.{App, Text, FailsBy, fault_of, is_simple, is_simple_and_free, matches_of}
 use Rattle.rmtd_words.specs.Rmtd.{app, faults_in, matches_in}
-use Rattle.rmtd_words.proofs.App.{app-is_simple, app-is_simple_and_free, taken_where_ok, some_where_not_memory}
+use Rattle.rmtd_words.proofs.App.{app_is_simple, app_is_simple_and_free, taken_where_ok, some_where_not_memory}
 use Rattle.rmtd_words.proofs.rmtd_line.matched.Goals as goal
 
 pub returns-clause-rows : goal.returns-clause-rows
@@ -11,7 +11,7 @@ returns-clause-rows c =
     let e = c.requires in
     let words : List Text = map (λ (s : Bor (List ℕ)). s.now) c.args.words.now in
     IfOk-weaker c.try_get_matches_from_mut.result _ _
-    (λ m h. (h.2 (ap is_simple e ∙ app-is_simple)).0 ∙ ap (λ (a : App). matches_of a words) e)
+    (λ m h. (h.2 (ap is_simple e ∙ app_is_simple)).0 ∙ ap (λ (a : App). matches_of a words) e)
     c.try_get_matches_from_mut.ensures.ok
 
 pub returns-clause-taken : goal.returns-clause-taken
@@ -20,7 +20,7 @@ returns-clause-taken c =
     let e = c.requires in
     let words : List Text = map (λ (s : Bor (List ℕ)). s.now) c.args.words.now in
     taken_where_ok c.try_get_matches_from_mut.result _ _ (ap (λ (a : App). fault_of a words) e)
-    (c.try_get_matches_from_mut.ensures.kinds (ap is_simple_and_free e ∙ app-is_simple_and_free))
+    (c.try_get_matches_from_mut.ensures.kinds (ap is_simple_and_free e ∙ app_is_simple_and_free))
 
 pub returns-clause-refused : goal.returns-clause-refused
 unfolding faults_in
@@ -28,4 +28,4 @@ returns-clause-refused c =
     let e = c.requires in
     let words : List Text = map (λ (s : Bor (List ℕ)). s.now) c.args.words.now in
     some_where_not_memory c.try_get_matches_from_mut.result _ _ (ap (λ (a : App). fault_of a words) e)
-    (c.try_get_matches_from_mut.ensures.kinds (ap is_simple_and_free e ∙ app-is_simple_and_free))
+    (c.try_get_matches_from_mut.ensures.kinds (ap is_simple_and_free e ∙ app_is_simple_and_free))

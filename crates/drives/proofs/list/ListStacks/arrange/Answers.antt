@@ -1,15 +1,15 @@
 use Rattle.std.proofs.Common.{length, refl}
 use Rattle.drives.specs.ListShop.{ListShop}
-use Rattle.drives.proofs.Arranging.{order-arranged, arrange_told, arrange_names, arrange_elsewhere, arrange_quiet, arrange_same}
-use Rattle.drives.proofs.ToldOrder.{order-told}
+use Rattle.drives.proofs.Arranging.{order_arranged, arrange_told, arrange_names, arrange_elsewhere, arrange_quiet, arrange_same}
+use Rattle.drives.proofs.ToldOrder.{order_told}
 use Rattle.std.proofs.Math.ListN.{length-set}
 use Rattle.drives.proofs.list.ListStacks.arrange.Goals as goal
 
 pub returns-clause-order : goal.returns-clause-order
-returns-clause-order c = order-arranged c.args.self.now c.put_stack.new.self c.args.drive _ c.put_stack.result c.requires.drive c.requires.may c.put_stack.ensures.arranged
+returns-clause-order c = order_arranged c.args.self.now c.put_stack.new.self c.args.drive _ c.put_stack.result c.requires.drive c.requires.may c.put_stack.ensures.arranged
 
 pub returns-clause-told_order : goal.returns-clause-told_order
-returns-clause-told_order c = order-told c.args.self.now c.put_stack.new.self c.args.drive _ c.put_stack.result c.put_stack.ensures.arranged
+returns-clause-told_order c = order_told c.args.self.now c.put_stack.new.self c.args.drive _ c.put_stack.result c.put_stack.ensures.arranged
 
 pub returns-clause-told : goal.returns-clause-told
 returns-clause-told c = arrange_told c.args.self.now c.put_stack.new.self c.args.drive _ c.put_stack.result c.requires.drive c.put_stack.ensures.once c.put_stack.ensures.arranged

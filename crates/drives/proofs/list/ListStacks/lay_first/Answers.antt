@@ -3,7 +3,7 @@ use Rattle.std.proofs.Common.{◌<◌, length, Some, sym, subst}
 use Rattle.drives.specs.ListShop.{ListShop}
 use Rattle.drives.specs.Shop.{shop}
 use Rattle.drives.specs.contracts.list.ListStacks.{the_view}
-use Rattle.drives.proofs.ListShop.{stocked-first, value_some, read_some}
+use Rattle.drives.proofs.ListShop.{stocked_first, value_some, read_some}
 use Rattle.drives.proofs.list.ListStacks.lay_first.Goals as goal
 
 pub unlatch-requires : goal.unlatch-requires
@@ -13,7 +13,7 @@ unlatch-requires c =
 
 pub invariant_of-self : goal.invariant_of-self
 invariant_of-self c =
-    stocked-first (shop c.self.inside.racks.items c.self.inside.bin.items) c.args.drive c.index_mut-rack.result.now c.unlatch.new.self (Some c.args.reel) _ _
+    stocked_first (shop c.self.inside.racks.items c.self.inside.bin.items) c.args.drive c.index_mut-rack.result.now c.unlatch.new.self (Some c.args.reel) _ _
     (subst (λ (s : ListShop). c.args.drive < length s.shop.racks) (sym c.self.view_is) c.requires.drive) c.index_mut-rack.ensures.value c.unlatch.ensures c.self.invariant
 
 pub returns-clause-some : goal.returns-clause-some

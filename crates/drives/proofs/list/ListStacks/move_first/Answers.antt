@@ -2,7 +2,7 @@ use Rattle.drives.specs.Shop.{EachReelOnce}
 use Rattle.drives.specs.ListShop.{ListShop}
 use Rattle.std.proofs.Common.{◌<◌, vec_capacity, sym, subst, ap, ◌∙◌, ◌++◌, ◌∷◌, []}
 use Rattle.drives.specs.contracts.list.ListStacks.{the_view}
-use Rattle.drives.proofs.ListShop.{stocked-moved, value_some, read_some, room_some}
+use Rattle.drives.proofs.ListShop.{stocked_moved, value_some, read_some, room_some}
 use Rattle.drives.proofs.list.ListStacks.move_first.Goals as goal
 
 pub returns-then-self-clause-some : goal.returns-then-self-clause-some
@@ -20,7 +20,7 @@ push_reserved-requires c =
 
 pub invariant_of-self : goal.invariant_of-self
 invariant_of-self c =
-    stocked-moved (the_view c.self.inside) c.args.self.now c.args.drive c.index_mut-rack.result.now c.remove_first-listed.new.self c.remove_first-listed.result c.args.reel c.push_reserved.new.self.items _ _ _
+    stocked_moved (the_view c.self.inside) c.args.self.now c.args.drive c.index_mut-rack.result.now c.remove_first-listed.new.self c.remove_first-listed.result c.args.reel c.push_reserved.new.self.items _ _ _
     c.self.view_is c.requires.drive (value_some (the_view c.self.inside) c.args.self.now c.args.drive _ _ c.self.view_is c.self.invariant c.requires.latched)
     c.index_mut-rack.ensures.value c.remove_first-listed.ensures.first c.remove_first-listed.ensures.name
     (c.push_reserved.ensures.items ∙ ap (λ x. c.self.inside.bin.items ++ x ∷ []) c.put.ensures) c.push_reserved.ensures.capacity c.self.invariant

@@ -1,7 +1,7 @@
 use Rattle.std.proofs.Common.{◌≡◌, true, [], ◌∷◌, ◌++◌, not, is_ok, vec_capacity, subst, sym, ap, ◌∙◌}
 use Rattle.drives.specs.Shop.{shop, rack}
 use Rattle.drives.specs.ListShop.{IsStocked}
-use Rattle.drives.proofs.ListShop.{stocked-drive}
+use Rattle.drives.proofs.ListShop.{stocked_drive}
 use Rattle.drives.proofs.list.ListStacks.put_drive.Goals as goal
 
 pub invariant_of-self-2 : goal.invariant_of-self-2
@@ -10,4 +10,4 @@ invariant_of-self-2 c =
     let items = rw ok at c.push.ensures.items in
     let is : c.push.new.self.items ≡ c.self.inside.racks.items ++ rack c.args.name.now [] ∷ [] = items ∙ ap (λ r. c.self.inside.racks.items ++ r ∷ []) c.in_ok-rack.ensures in
     subst (λ racks. IsStocked (shop racks c.self.inside.bin.items) c.self.inside.reels (vec_capacity c.self.inside.bin)) (sym is)
-    (stocked-drive c.self.inside.racks.items c.self.inside.bin.items c.args.name.now _ _ c.self.invariant)
+    (stocked_drive c.self.inside.racks.items c.self.inside.bin.items c.args.name.now _ _ c.self.invariant)

@@ -3,7 +3,7 @@ use Rattle.std.proofs.lemmas.List.{set-get_or}
 use Rattle.std.proofs.Common.{set}
 use Rattle.drives.specs.Shop.{shop, rack, times, names_in}
 use Rattle.drives.specs.ListShop.{ListShop, IsStocked, blank_reel}
-use Rattle.drives.proofs.ListShop.{stocked-reel, stocked-same, bin_fits}
+use Rattle.drives.proofs.ListShop.{stocked_reel, stocked_same, bin_fits}
 use Rattle.drives.proofs.list.ListStacks.put_reel.Goals as goal
 
 pub invariant_of-self-in_err-push : goal.invariant_of-self-in_err-push
@@ -14,7 +14,7 @@ invariant_of-self-in_err-push c =
     ap (λ r. shop (set racks c.args.drive r) bin) (c.in_err-push.ensures ∙ c.index_mut-rack.ensures.value)
     ∙ ap (λ rs. shop rs bin) (set-get_or racks c.args.drive c.index_mut-rack.result.now)
     ∙ ap (λ b. shop racks b) c.reserve.ensures.items in
-    stocked-same (shop racks c.self.inside.bin.items) _ c.self.inside.reels _ _ same c.reserve.ensures.capacity c.self.invariant
+    stocked_same (shop racks c.self.inside.bin.items) _ c.self.inside.reels _ _ same c.reserve.ensures.capacity c.self.invariant
 
 pub invariant_of-self-2 : goal.invariant_of-self-2
 invariant_of-self-2 c =
@@ -30,4 +30,4 @@ invariant_of-self-2 c =
     let more : c.self.inside.reels + 1 ≤ vec_capacity c.reserve.new.self = omega (arith, few, counted, read, same_len, room) in
     let put = c.in_ok-push.ensures ∙ ap (λ x. rack c.index_mut-rack.result.now.name (c.index_mut-rack.result.now.stack ++ x ∷ [])) c.in_ok-reel.ensures in
     subst (λ bin. IsStocked (shop (set racks c.args.drive c.push.new.self) bin) (c.self.inside.reels + 1) (vec_capacity c.reserve.new.self)) (sym c.reserve.ensures.items)
-    (stocked-reel before c.args.drive c.index_mut-rack.result.now c.push.new.self c.args.name.now (Some (blank_reel c.args.capacity)) c.self.inside.reels _ _ within c.index_mut-rack.ensures.value put free more c.self.invariant)
+    (stocked_reel before c.args.drive c.index_mut-rack.result.now c.push.new.self c.args.name.now (Some (blank_reel c.args.capacity)) c.self.inside.reels _ _ within c.index_mut-rack.ensures.value put free more c.self.invariant)

@@ -3,8 +3,8 @@ use Rattle.std.proofs.lemmas.List.{set-get_or}
 use Rattle.drives.specs.Arranging.{picked, left}
 use Rattle.drives.specs.Shop.{shop, rack, EachReelOnce}
 use Rattle.drives.specs.ListShop.{ListShop}
-use Rattle.drives.proofs.ListShop.{stocked-same}
-use Rattle.drives.proofs.Arranging.{stocked-arranged}
+use Rattle.drives.proofs.ListShop.{stocked_same}
+use Rattle.drives.proofs.Arranging.{stocked_arranged}
 use Rattle.drives.proofs.list.ListStacks.put_stack.Goals as goal
 
 pub returns-in_err-stack-clause-once : goal.returns-in_err-stack-clause-once
@@ -24,7 +24,7 @@ invariant_of-self c =
     ap (λ r. shop (set racks c.args.drive r) bin) (c.in_err-lay_off.ensures.stack ∙ c.index_mut-rack.ensures.value)
     ∙ ap (λ rs. shop rs bin) (set-get_or racks c.args.drive c.index_mut-rack.result.now)
     ∙ ap (λ b. shop racks b) c.in_err-lay_off.ensures.bin in
-    stocked-same (shop racks c.self.inside.bin.items) _ c.self.inside.reels _ _ same c.lay_off.ensures.room c.self.invariant
+    stocked_same (shop racks c.self.inside.bin.items) _ c.self.inside.reels _ _ same c.lay_off.ensures.room c.self.invariant
 
 pub invariant_of-self-2 : goal.invariant_of-self-2
 invariant_of-self-2 c =
@@ -32,7 +32,7 @@ invariant_of-self-2 c =
     let names = map (λ n. n.now) c.args.names.now in
     let pile = c.in_ok-lay_off.ensures.bin in
     let within = subst (λ (s : ListShop). c.args.drive < length s.shop.racks) (sym c.self.view_is) c.requires in
-    stocked-arranged (shop racks c.self.inside.bin.items) c.args.drive c.index_mut-rack.result.now c.lay_on.new.self names c.pick.new.onto.items c.pick.new.reels.items c.self.inside.reels _ _
+    stocked_arranged (shop racks c.self.inside.bin.items) c.args.drive c.index_mut-rack.result.now c.lay_on.new.self names c.pick.new.onto.items c.pick.new.reels.items c.self.inside.reels _ _
     within c.index_mut-rack.ensures.value
     (c.lay_on.ensures ∙ ap (λ r. rack r.name c.pick.new.onto.items) c.in_ok-lay_off.ensures.stack)
     (c.pick.ensures.picked ∙ ap (λ xs. xs ++ picked names c.lay_off.new.bin.items) c.in_ok-stack.ensures.items ∙ ap (λ xs. picked names xs) pile)

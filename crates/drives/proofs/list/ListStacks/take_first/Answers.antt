@@ -2,17 +2,17 @@ use Rattle.drives.specs.Shop.{EachReelOnce}
 use Rattle.std.proofs.Common.{◌<◌, length, None, sym, subst}
 use Rattle.drives.specs.ListShop.{ListShop}
 use Rattle.drives.specs.Shop.{shop}
-use Rattle.drives.proofs.ListShop.{stocked-first}
+use Rattle.drives.proofs.ListShop.{stocked_first}
 use Rattle.drives.proofs.list.ListStacks.take_first.Goals as goal
 
 pub invariant_of-self : goal.invariant_of-self
 invariant_of-self c =
-    stocked-first (shop c.self.inside.racks.items c.self.inside.bin.items) c.args.drive c.index_mut-rack.result.now c.latch.new.self None _ _
+    stocked_first (shop c.self.inside.racks.items c.self.inside.bin.items) c.args.drive c.index_mut-rack.result.now c.latch.new.self None _ _
     (subst (λ (s : ListShop). c.args.drive < length s.shop.racks) (sym c.self.view_is) c.requires) c.index_mut-rack.ensures.value c.latch.ensures.away c.self.invariant
 
 pub invariant_of-self-2 : goal.invariant_of-self-2
 invariant_of-self-2 c =
-    stocked-first (shop c.self.inside.racks.items c.self.inside.bin.items) c.args.drive c.index_mut-rack.result.now c.latch.new.self None _ _
+    stocked_first (shop c.self.inside.racks.items c.self.inside.bin.items) c.args.drive c.index_mut-rack.result.now c.latch.new.self None _ _
     (subst (λ (s : ListShop). c.args.drive < length s.shop.racks) (sym c.self.view_is) c.requires) c.index_mut-rack.ensures.value c.latch.ensures.away c.self.invariant
 
 pub returns-then-is_ready-clause-once : goal.returns-then-is_ready-clause-once

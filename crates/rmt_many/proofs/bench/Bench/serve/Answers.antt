@@ -1,10 +1,10 @@
 use Rattle.std.proofs.Common.{refl, sym, subst, ◌∙◌, arith}
-use Rattle.rmt_many.proofs.Hands.{same-table, seat-back}
+use Rattle.rmt_many.proofs.Hands.{same_table, seat_comes_back}
 use Rattle.rmt_many.proofs.bench.Bench.serve.Goals as goal
 
 pub invariant_of-result : goal.invariant_of-result
 invariant_of-result g c =
-    let back = seat-back g.S.Stacks g.S.Reel.Reel _ _ _ c.serve_at-seat.ensures in record {
+    let back = seat_comes_back g.S.Stacks g.S.Reel.Reel _ _ _ c.serve_at-seat.ensures in record {
       same = back.same;
       numbered = back.numbered;
       dealt = back.dealt;

@@ -1,0 +1,2 @@
+-- Whole says when a dump is whole.
+pub mod Whole

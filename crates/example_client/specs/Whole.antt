@@ -1,0 +1,12 @@
+-- When a dump is whole. Public contracts cite it.
+use Rattle.std.specs.Prelude.{◌≡◌}
+use Rattle.dump_client.specs.Position.{Covers}
+use Rattle.dump_client.specs.Lawful.{AreVolumes}
+use Rattle.dump_client.specs.Standing.{Standing}
+use Rattle.dump_client.specs.declared.stage.Stage.TheVariants.{Finished}
+
+-- the run is finished: its counted volumes follow one another from the first block, and are all its blocks
+pub record IsWhole (at : Standing) : Type 0 where
+  pub finished : at.stage ≡ Finished
+  pub volumes : AreVolumes at.run 1 0 at.counts
+  pub covered : Covers at.run at.counts

@@ -1,0 +1,96 @@
+//! The loop round a client: an example to copy.
+ghost use Rattle.std.specs.Prelude.{OnOk};
+ghost use Rattle.example_client.specs.Whole.{IsWhole};
+
+use crate::server::Server;
+use dump_client::{AttemptFault, Blocks, Client, Progress, StartFault, State};
+use std::alloc::{AllocError, Global};
+
+/// Why a dump ended before all its blocks were counted. What was counted until then stays counted.
+#[derive(Clone, Copy, Debug, PartialEq, Eq)]
+pub enum Stopped {
+    /// An attempt failed so.
+    Failed(AttemptFault),
+    /// The run had stopped before: the client asks whether an attempt is tried again, or was told to abandon the run.
+    NotUnderWay,
+    /// Memory was refused.
+    OutOfMemory,
+}
+
+impl From<AllocError> for Stopped {
+    ghost use Rattle.std.specs.Prelude.{◌≡◌};
+    ghost use Rattle.example_client.specs.declared.volumes.Stopped.TheVariants.{OutOfMemory};
+
+    ghost from_gives = { λ _ e. e ≡ OutOfMemory };
+
+    fn from(_: AllocError) -> Self {
+        Stopped::OutOfMemory
+    }
+}
+
+impl From<StartFault> for Stopped {
+    ghost use Rattle.std.specs.Prelude.{◌≡◌};
+    ghost use Rattle.example_client.specs.declared.volumes.Stopped.TheVariants.{OutOfMemory, NotUnderWay};
+
+    ghost from_gives = { λ f e. Unit {0} };
+
+    fn from(fault: StartFault) -> Self {
+        match fault {
+            StartFault::OutOfMemory => Stopped::OutOfMemory,
+            _ => Stopped::NotUnderWay,
+        }
+    }
+}
+
+/// Sends the client's next request, and gives it the whole reply.
+fn exchange<B: Blocks + Drop, S: Server>(
+    client: &mut Client<B>,
+    server: &mut S,
+    request: &mut Vec<u8>,
+    reply: &mut Vec<u8>,
+) -> Result<(), Stopped> {
+    request.clear();
+    reply.clear();
+    match client.next_request(request) {
+        Ok(_) => server.answer(request.as_slice(), reply)?,
+        Err(fault) => return Err(Stopped::Failed(fault)),
+    }
+    match client.feed(reply.as_slice()) {
+        Progress::Failed(fault) => Err(Stopped::Failed(fault)),
+        Progress::Waiting => end(client),
+        _ => Ok(()),
+    }
+}
+
+/// Tells the client that no more comes.
+fn end<B: Blocks + Drop>(client: &mut Client<B>) -> Result<(), Stopped> {
+    match client.ended() {
+        Progress::Failed(fault) => Err(Stopped::Failed(fault)),
+        _ => Ok(()),
+    }
+}
+
+/// Has a client write all volumes that its run has left, each in one attempt.
+///
+/// Ok says that the run is finished: the volumes that the client counted, each whole, are all its blocks in order. It stops at the
+/// first attempt that fails.
+pub fn dump<B: Blocks + Drop, S: Server>(
+    alloc: Global,
+    client: &mut Client<B>,
+    server: &mut S,
+) -> Result<(), Stopped>
+    ensures { OnOk result (IsWhole client.new.at) }
+{
+    let mut request = Vec::new(alloc);
+    let mut reply = Vec::new(alloc);
+    for _ in 0..u64::MAX {
+        match client.state() {
+            State::Finished => return Ok(()),
+            State::Ready => client.start()?,
+            State::ToSend => exchange(client, server, &mut request, &mut reply)?,
+            State::Waiting => end(client)?,
+            State::Asking | State::Abandoned => return Err(Stopped::NotUnderWay),
+        }
+    }
+    Err(Stopped::NotUnderWay)
+}
