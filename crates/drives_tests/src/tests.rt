@@ -7,6 +7,5 @@ mod list_stacks;
 mod orders;
 mod reels;
 mod seats;
-mod slow_holds;
-mod slow_shop;
+mod slow;
 mod tables;

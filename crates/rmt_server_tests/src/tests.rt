@@ -17,7 +17,6 @@ mod script;
 mod served;
 mod session;
 mod slow;
-mod slow_shop;
 mod spelled;
 mod talk;
 mod three;

@@ -4,6 +4,4 @@
 #![tactic(auto)]
 
 #[cfg(test)]
-mod slow;
-#[cfg(test)]
 mod tests;

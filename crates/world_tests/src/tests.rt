@@ -11,3 +11,4 @@ mod real;
 mod rows;
 mod same;
 mod schedules;
+mod slow;

@@ -3,7 +3,7 @@
 ghost use Rattle.std.specs.Prelude.{◌≡◌, ◌<◌, IfOk, length};
 
 use super::reels::{lie, lie_there};
-use super::slow_shop::SlowShop;
+use super::slow::shop::SlowShop;
 use drives::{ListStacks, Stacks, told_orders};
 use std::alloc::Global;
 use std::test::Fail;

@@ -3,7 +3,7 @@
 ghost use Rattle.std.specs.Prelude.{◌≡◌, ◌<◌, length};
 
 use super::reels::{are, lie_there, two_drives};
-use super::slow_shop::{Round, SlowDrive, SlowShop};
+use super::slow::shop::{Round, SlowDrive, SlowShop};
 use drives::{DriveFault, ListStacks, ListedReel, Stacks};
 use std::alloc::Global;
 use std::test::Fail;

@@ -4,7 +4,7 @@ ghost use Rattle.std.specs.Prelude.{◌≡◌, ◌≢◌, ◌<◌, ◌≤◌, le
 ghost use Rattle.drives.specs.declared.view.View.{View};
 ghost use Rattle.drives.specs.Local.{IsSeatOf};
 
-use super::slow_holds::{SlowHolds, SlowSeat};
+use super::slow::holds::{SlowHolds, SlowSeat};
 use drives::{Holds, LocalHolds, LocalSeat, Taken};
 use std::alloc::Global;
 use std::test::Fail;

@@ -1,5 +1,7 @@
 //! A server of one drive with one reel, computed plainly from lists, to compare sessions with.
 
+pub(crate) mod shop;
+
 use rmt_wire::Request;
 use std::alloc::Global;
 use std::test::Fail;

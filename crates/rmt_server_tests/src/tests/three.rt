@@ -12,7 +12,7 @@ ghost use Rattle.std.specs.Prelude.{None};
 
 use super::CAPACITY;
 use super::slow::error_text;
-use super::slow_shop::{Event, SlowShop};
+use super::slow::shop::{Event, SlowShop};
 use drives::{DriveTable, Holds, ListStacks, ListedReel, LocalHolds, LocalSeat, Stacks};
 use rmt_server::{Session, more_seats, one_holder, stacks_trouble};
 use rmt_wire::{Reply, Request};

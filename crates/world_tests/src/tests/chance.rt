@@ -4,7 +4,7 @@ use super::dice::Dice;
 use super::fixture::{Both, Dump, Line};
 use super::headline::{covers_entered, whole_reels};
 use super::lists::PLANS;
-use crate::slow::SlowWorld;
+use super::slow::SlowWorld;
 use dump_client::{Answer, State};
 use std::alloc::Global;
 use std::test::Fail;

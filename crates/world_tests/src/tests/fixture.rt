@@ -1,7 +1,7 @@
 //! A world and the plain one, side by side.
 
 use super::real::Real;
-use crate::slow::{Plan, SlowWorld};
+use super::slow::{Plan, SlowWorld};
 use dump_client::{Answer, AttemptFault, Run};
 use std::alloc::Global;
 use std::test::Fail;

@@ -1,6 +1,6 @@
 //! What is promised of reels that were counted, and of dumpdates.
 
-use crate::slow::{Entries, SlowClient, SlowCount, SlowWorld};
+use super::slow::{Entries, SlowClient, SlowCount, SlowWorld};
 use std::alloc::Global;
 use std::test::Fail;
 

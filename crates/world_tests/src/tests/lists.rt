@@ -1,7 +1,7 @@
 //! Every list of up to three events, from several places in a dump.
 
 use super::fixture::{Both, Dump, Line, Part};
-use crate::slow::Plan;
+use super::slow::Plan;
 use dump_client::Answer;
 use std::alloc::Global;
 use std::process::Abort;

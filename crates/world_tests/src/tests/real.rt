@@ -1,7 +1,7 @@
 //! The world that is tested.
 
 use super::same::difference;
-use crate::slow::{Plan, SlowWorld};
+use super::slow::{Plan, SlowWorld};
 use std::alloc::Global;
 use std::test::Fail;
 use tape_world::{DriveSpec, Event, World, WorldFault, good_drives, run};

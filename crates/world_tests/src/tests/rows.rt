@@ -1,7 +1,7 @@
 //! Lists that stop at an event that is not possible there.
 
 use super::fixture::{Both, Dump, Line};
-use crate::slow::Plan;
+use super::slow::Plan;
 use dump_client::Answer;
 use std::alloc::Global;
 use std::test::Fail;

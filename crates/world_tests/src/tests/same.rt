@@ -1,6 +1,6 @@
 //! Whether a world tells what the plain one has.
 
-use crate::slow::{Entries, SlowClient, SlowWorld};
+use super::slow::{Entries, SlowClient, SlowWorld};
 use drives::ListedReel;
 use dump_client::{Client, ListBlocks, State};
 use tape_world::World;

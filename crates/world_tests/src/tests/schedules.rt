@@ -1,7 +1,7 @@
 //! Lists of events with what they come to, written by hand, and each volume that was counted.
 
 use super::fixture::{Both, Dump, Line, Part};
-use crate::slow::{Plan, SlowWorld};
+use super::slow::{Plan, SlowWorld};
 use dump_client::{Answer, AttemptFault};
 use std::alloc::Global;
 use std::test::Fail;
