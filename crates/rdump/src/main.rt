@@ -5,8 +5,9 @@ ghost use Rattle.std.specs.Prelude.{◌≡◌};
 ghost use Rattle.rmt_words.specs.Rdump.{IsMtLine, IsReadLine};
 
 use clap::error::ErrorKind;
+use dump_client::{Blocks, Client};
 use rmt_programs::{
-    Clearing, DatesFile, DumpLine, DumperFault, MtLine, PayloadFile, ProgressLine, RdumpLine,
+    Clearing, DatesFile, DumpLine, DumperFault, MtLine, PayloadFile, Peer, ProgressLine, RdumpLine,
     ReadFault, ReadLine, RunFault, SocketPeer, base_date, copy_volume, dates, dump,
     dump_and_update, dumper, mt, rdump_words, read_or_empty, read_steady, seconds_now,
 };
@@ -118,30 +119,43 @@ fn run_dump<M: Medium + Drop>(
         Err(DumperFault::Run(fault)) => return refuse_run(rt, fault),
         Err(DumperFault::OutOfMemory) => return tell(rt, "", io::ErrorKind::OutOfMemory.into()),
     };
+    dump_by(rt, line, &mut client)
+}
+
+/// Has a client dump to the server of the line, and answers the status.
+fn dump_by<B: Blocks>(
+    rt: &HostRuntime,
+    line: &DumpLine<'_>,
+    client: &mut Client<B>,
+) -> io::Result<u8> {
     let mut peer = SocketPeer::new(rt, line.to);
-    let mut operator = rt.stdin();
     let mut out = Counted::new(Clearing {
         lines: rt.stdout(),
         terminal: terminal(rt),
     });
     let status = if line.update {
-        let mut store = DatesFile::new(rt, rt.alloc(), line.dumpdates);
-        let status = dump_and_update(
-            rt.alloc(),
-            &mut client,
-            &mut peer,
-            &mut operator,
-            &mut out,
-            &mut store,
-        );
-        if let Some(error) = store.failure() {
-            eprintln!(rt; "rdump: {}: {error}", line.dumpdates)?;
-        }
-        status
+        dump_entered(rt, line.dumpdates, client, &mut peer, &mut out)?
     } else {
-        dump(rt.alloc(), &mut client, &mut peer, &mut operator, &mut out)
+        dump(rt.alloc(), client, &mut peer, &mut rt.stdin(), &mut out)
     };
     tell_failed(rt, &out)?;
+    Ok(status)
+}
+
+/// Has a client dump, enters the dump in a dumpdates file where it is complete, and answers the status.
+fn dump_entered<B: Blocks, P: Peer, W: Write>(
+    rt: &HostRuntime,
+    dumpdates: &str,
+    client: &mut Client<B>,
+    peer: &mut P,
+    out: &mut Counted<W>,
+) -> io::Result<u8> {
+    let mut store = DatesFile::new(rt, rt.alloc(), dumpdates);
+    let mut operator = rt.stdin();
+    let status = dump_and_update(rt.alloc(), client, peer, &mut operator, out, &mut store);
+    if let Some(error) = store.failure() {
+        eprintln!(rt; "rdump: {dumpdates}: {error}")?;
+    }
     Ok(status)
 }
 

@@ -2,6 +2,7 @@
 #![tactic(auto)]
 
 mod rdump_line;
+mod required;
 mod run_line;
 mod tape_line;
 

@@ -4,6 +4,7 @@ ghost use Rattle.std.specs.Prelude.{◌≡◌, ◌↔◌, ℕ, ◌≤◌, ◌+�
 ghost use Rattle.dumpdates.specs.Entry.{IsName};
 ghost use Rattle.rmt_words.specs.Rdump.{IsAsked, IsDumpLine, IsMtLine, IsRdumpLine, IsReadLine};
 
+use crate::required::{Required, with_required};
 use crate::run_line::{DumpLine, dump_command, dump_in};
 use crate::tape_line::{MtLine, ReadLine, mt_command, mt_in, read_command, read_in};
 use clap::error::ErrorKind;
@@ -168,33 +169,60 @@ fn is_name(name: &str) -> bool
 
 /// The command `rdump` with all of its words.
 fn rdump_command<'a>(alloc: Global) -> Result<Command<'a>, AllocError> {
-    Command::new(alloc, "rdump")
+    let rdump = Command::new(alloc, "rdump")
         .about("Dump client for the remote magtape protocol of rmt(8)")
         .version("0.1.0")
         .subcommand_required(true)
-        .arg_required_else_help(true)
-        .subcommand(dump_command(alloc)?)?
-        .subcommand(read_command(alloc)?)?
-        .subcommand(mt_command(alloc)?)?
-        .subcommand(dates_command(alloc)?)
+        .arg_required_else_help(true);
+    let rdump = with_command(rdump, dump_command(alloc))?;
+    let rdump = with_command(rdump, read_command(alloc))?;
+    let rdump = with_command(rdump, mt_command(alloc))?;
+    with_command(rdump, dates_command(alloc))
+}
+
+/// A command with one more of its own.
+fn with_command<'a>(
+    command: Command<'a>,
+    more: Result<Command<'a>, AllocError>,
+) -> Result<Command<'a>, AllocError> {
+    command.subcommand(more?)
 }
 
 /// The command `rdump dates`.
 fn dates_command<'a>(alloc: Global) -> Result<Command<'a>, AllocError> {
-    let file = option(alloc, "file", "FILE")
-        .required(true)
-        .help("The dumpdates file");
-    let name = option(alloc, "name", "NAME")
-        .requires_arg("level")?
-        .help("Ask for the base date of a dump of this file system");
-    let level = option(alloc, "level", "LEVEL")
-        .requires_arg("name")?
-        .help("The level of that dump, one digit");
-    Command::new(alloc, "dates")
-        .about("Print a dumpdates file anew, or the base date of a dump in seconds since 1970")
-        .arg(file)?
-        .arg(name)?
-        .arg(level)
+    let dates = Command::new(alloc, "dates").about(
+        "Print a dumpdates file anew, or the base date of a dump in seconds since 1970",
+    );
+    let file = Required {
+        name: "file",
+        value: "FILE",
+        help: "The dumpdates file",
+    };
+    let dates = with_required(alloc, dates, &[file])?;
+    let dates = with_arg(dates, name_option(alloc))?;
+    with_arg(dates, level_option(alloc))
+}
+
+/// A command with one more word.
+fn with_arg<'a>(
+    command: Command<'a>,
+    more: Result<Arg<'a>, AllocError>,
+) -> Result<Command<'a>, AllocError> {
+    command.arg(more?)
+}
+
+/// `--name` of `rdump dates`.
+fn name_option<'a>(alloc: Global) -> Result<Arg<'a>, AllocError> {
+    let name = option(alloc, "name", "NAME").help(
+        "Ask for the base date of a dump of this file system",
+    );
+    name.requires_arg("level")
+}
+
+/// `--level` of `rdump dates`.
+fn level_option<'a>(alloc: Global) -> Result<Arg<'a>, AllocError> {
+    let level = option(alloc, "level", "LEVEL").help("The level of that dump, one digit");
+    level.requires_arg("name")
 }
 
 /// `--NAME VALUE`.
@@ -203,9 +231,4 @@ fn option<'a>(alloc: Global, name: &'a str, value: &'a str) -> Arg<'a> {
         .long(name)
         .value_name(value)
         .action(ArgAction::Set)
-}
-
-/// `--NAME VALUE`, which is required.
-pub(crate) fn required<'a>(alloc: Global, name: &'a str, value: &'a str, help: &'a str) -> Arg<'a> {
-    option(alloc, name, value).required(true).help(help)
 }

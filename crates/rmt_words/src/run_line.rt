@@ -3,7 +3,8 @@ ghost use Rattle.std.specs.Prelude.{◌≤◌, IfOk, IfSome};
 ghost use Rattle.rmt_words.specs.Rdump.{IsDumpLine};
 ghost use Rattle.rmtd_words.specs.Rmtd.{number_limit};
 
-use crate::rdump_line::{WordFault, required, value_in};
+use crate::rdump_line::{WordFault, value_in};
+use crate::required::{Required, with_required};
 use clap::{Arg, ArgAction, ArgMatches, Command};
 use rmtd_words::number_of;
 use std::alloc::{AllocError, Global};
@@ -48,22 +49,42 @@ const BAD_DATE: &str =
 pub(crate) fn dump_in<'a>(matches: &ArgMatches<'a>) -> Result<DumpLine<'a>, WordFault>
     ensures { IfOk result IsDumpLine }
 {
+    let (level, block) = sizes_in(matches)?;
+    let date = date_in(matches.get_str("date"))?;
+    let (to, device, fs) = drive_in(matches)?;
+    let payload = value_in(matches, "payload", "--payload is required")?;
+    let dumpdates = value_in(matches, "dumpdates", "--dumpdates is required")?;
+    let update = matches.get_str("update") == Some("true");
+    Ok(DumpLine {
+        to,
+        device,
+        fs,
+        level,
+        payload,
+        block,
+        dumpdates,
+        date,
+        update,
+    })
+}
+
+/// The server, the drive, and the name of the file system.
+fn drive_in<'a>(matches: &ArgMatches<'a>) -> Result<(&'a str, &'a str, &'a str), WordFault> {
+    let to = value_in(matches, "to", "--to is required")?;
+    let device = value_in(matches, "device", "--device is required")?;
+    let fs = value_in(matches, "fs", "--fs is required")?;
+    Ok((to, device, fs))
+}
+
+/// The level, and the bytes of a block.
+fn sizes_in(matches: &ArgMatches<'_>) -> Result<(u64, u64), WordFault>
+    ensures { IfOk result (λ sizes. (sizes.0 ≤ number_limit) × (sizes.1 ≤ number_limit)) }
+{
     let level = value_in(matches, "level", "--level is required")?;
     let level = number_in(level, BAD_LEVEL)?;
     let block = value_in(matches, "block", "--block is required")?;
     let block = number_in(block, BAD_BLOCK)?;
-    let date = date_in(matches.get_str("date"))?;
-    Ok(DumpLine {
-        to: value_in(matches, "to", "--to is required")?,
-        device: value_in(matches, "device", "--device is required")?,
-        fs: value_in(matches, "fs", "--fs is required")?,
-        level,
-        payload: value_in(matches, "payload", "--payload is required")?,
-        block,
-        dumpdates: value_in(matches, "dumpdates", "--dumpdates is required")?,
-        date,
-        update: matches.get_str("update") == Some("true"),
-    })
+    Ok((level, block))
 }
 
 /// The number that a text says.
@@ -86,34 +107,60 @@ fn date_in(text: Option<&str>) -> Result<Option<u64>, WordFault>
     }
 }
 
+/// The words of `rdump dump` that are required.
+const REQUIRED: [Required; 7] = [
+    Required::TO,
+    Required::DEVICE,
+    Required {
+        name: "fs",
+        value: "NAME",
+        help: "The name of the file system",
+    },
+    Required {
+        name: "level",
+        value: "LEVEL",
+        help: "The level of the dump, 0 to 9",
+    },
+    Required {
+        name: "payload",
+        value: "FILE",
+        help: "What is dumped",
+    },
+    Required {
+        name: "block",
+        value: "BYTES",
+        help: "The size of a block, 1 to 65536",
+    },
+    Required {
+        name: "dumpdates",
+        value: "FILE",
+        help: "The dumpdates file; a missing one is empty",
+    },
+];
+
 /// The command `rdump dump`.
 pub(crate) fn dump_command<'a>(alloc: Global) -> Result<Command<'a>, AllocError> {
-    let date = Arg::new(alloc, "date")
+    let dump = Command::new(alloc, "dump").about(
+        "Dump a payload to a remote tape, and ask after each failure whether to retry",
+    );
+    let dump = with_required(alloc, dump, &REQUIRED)?;
+    let dump = dump.arg(date_option(alloc))?;
+    dump.arg(update_flag(alloc))
+}
+
+/// `--date`.
+fn date_option<'a>(alloc: Global) -> Arg<'a> {
+    Arg::new(alloc, "date")
         .long("date")
         .value_name("SECONDS")
         .action(ArgAction::Set)
-        .help("The date of the dump in seconds since 1970 [default: the clock's]");
-    let update = Arg::new(alloc, "update")
-        .long("update")
-        .action(ArgAction::SetTrue)
-        .help("Enter the dump in the dumpdates file once it is complete");
-    let dump = Command::new(alloc, "dump")
-        .about("Dump a payload to a remote tape, and ask after each failure whether to retry")
-        .arg(required(alloc, "to", "ADDRESS", "The server: a host and a port"))?
-        .arg(required(alloc, "device", "DEVICE", "The drive at the server"))?
-        .arg(required(alloc, "fs", "NAME", "The name of the file system"))?
-        .arg(required(alloc, "level", "LEVEL", "The level of the dump, 0 to 9"))?;
-    run_words(alloc, dump)?.arg(date)?.arg(update)
+        .help("The date of the dump in seconds since 1970 [default: the clock's]")
 }
 
-/// The words on the files of a dump and its blocks.
-fn run_words<'a>(alloc: Global, dump: Command<'a>) -> Result<Command<'a>, AllocError> {
-    dump.arg(required(alloc, "payload", "FILE", "What is dumped"))?
-        .arg(required(alloc, "block", "BYTES", "The size of a block, 1 to 65536"))?
-        .arg(required(
-            alloc,
-            "dumpdates",
-            "FILE",
-            "The dumpdates file; a missing one is empty",
-        ))
+/// `--update`.
+fn update_flag<'a>(alloc: Global) -> Arg<'a> {
+    Arg::new(alloc, "update")
+        .long("update")
+        .action(ArgAction::SetTrue)
+        .help("Enter the dump in the dumpdates file once it is complete")
 }

@@ -3,7 +3,8 @@ ghost use Rattle.std.specs.Prelude.{◌≤◌, IfOk, IfSome};
 ghost use Rattle.dump_run.specs.Run.{IsDevice};
 ghost use Rattle.rmt_words.specs.Rdump.{IsMtLine, IsReadLine, count_limit};
 
-use crate::rdump_line::{WordFault, required, value_in};
+use crate::rdump_line::{WordFault, value_in};
+use crate::required::{Required, with_required};
 use clap::{Arg, ArgAction, ArgMatches, Command};
 use rmt_wire::NUMBER_LIMIT;
 use rmtd_words::{is_device, number_of};
@@ -118,26 +119,31 @@ fn count_of(text: &str) -> Option<u32>
 
 /// The command `rdump read`.
 pub(crate) fn read_command<'a>(alloc: Global) -> Result<Command<'a>, AllocError> {
-    Command::new(alloc, "read")
-        .about("Read a volume of a remote tape: print its label, and write its blocks to a file")
-        .arg(required(alloc, "to", "ADDRESS", "The server: a host and a port"))?
-        .arg(required(alloc, "device", "DEVICE", "The drive at the server"))?
-        .arg(required(alloc, "out", "FILE", "What the blocks are written to"))
+    let read = Command::new(alloc, "read").about(
+        "Read a volume of a remote tape: print its label, and write its blocks to a file",
+    );
+    let out = Required {
+        name: "out",
+        value: "FILE",
+        help: "What the blocks are written to",
+    };
+    with_required(alloc, read, &[Required::TO, Required::DEVICE, out])
 }
 
 /// The command `rdump mt`.
 pub(crate) fn mt_command<'a>(alloc: Global) -> Result<Command<'a>, AllocError> {
-    Command::new(alloc, "mt")
-        .about("Do one operation of mt(1) at a remote tape, and print its answer")
-        .arg(required(alloc, "to", "ADDRESS", "The server: a host and a port"))?
-        .arg(required(alloc, "device", "DEVICE", "The drive at the server"))?
-        .arg(positional(
-            alloc,
-            "op",
-            "OP",
-            "weof, fsf, bsf, fsr, bsr, rewind, offline or nop",
-        ))?
-        .arg(positional(alloc, "count", "COUNT", "How many times, 0 to 2147483647"))
+    let mt = Command::new(alloc, "mt").about(
+        "Do one operation of mt(1) at a remote tape, and print its answer",
+    );
+    let mt = with_required(alloc, mt, &[Required::TO, Required::DEVICE])?;
+    let op = positional(
+        alloc,
+        "op",
+        "OP",
+        "weof, fsf, bsf, fsr, bsr, rewind, offline or nop",
+    );
+    let mt = mt.arg(op)?;
+    mt.arg(positional(alloc, "count", "COUNT", "How many times, 0 to 2147483647"))
 }
 
 /// A word that stands at its place.

@@ -24,12 +24,17 @@ words_rule name = record (new_rule name) { value_names = 1; action = Some Append
 abbrev pub with_version : App → App
 with_version app = record app { top = record app.top { has_version = true } }
 
+-- the command with the words that say where it serves
+abbrev pub app_with_ways : App
+app_with_ways = with_rule (with_rule (with_version (new_app (codes "rmtd"))) (flag_rule (codes "stdio"))) (option_rule (codes "listen"))
+
+-- and with those that say how much
+abbrev pub app_with_limits : App
+app_with_limits = with_rule (with_rule app_with_ways (option_rule (codes "capacity"))) (option_rule (codes "connections"))
+
 -- the command `rmtd`
 unfoldable pub app : App
-app = with_rule (with_rule (with_rule (with_rule (with_rule (with_rule (with_version (new_app (codes "rmtd")))
-    (flag_rule (codes "stdio"))) (option_rule (codes "listen")))
-    (option_rule (codes "capacity"))) (option_rule (codes "connections")))
-    (option_rule (codes "bin"))) (words_rule (codes "drive"))
+app = with_rule (with_rule app_with_limits (option_rule (codes "bin"))) (words_rule (codes "drive"))
 
 -- clap's matches of the words
 unfoldable pub matches_in : List Text → List Row

@@ -3,7 +3,7 @@
 ghost use Rattle.std.specs.Prelude.{◌≡◌, map, codes, false, [], IfOk, IfErr, IsErrOf, MatchOption, MatchResult, option_map};
 ghost use Rattle.clap.specs.Words.{app_of, first_of, found_of, kind_of, new_app, rows_of, rule_of};
 ghost use Rattle.rmtd_words.specs.Drive.{plain_drive, split_of};
-ghost use Rattle.rmtd_words.specs.Rmtd.{app, words_in, words_rule, faults_in, flag_rule, has_stdio, matches_in, option_rule, with_version, IsLineIn, IsLineOf, IsRefused, KeepsRules, ReadsCapacity, ReadsConnections, SaysNumber, IsNumberIfGiven};
+ghost use Rattle.rmtd_words.specs.Rmtd.{app, app_with_limits, app_with_ways, words_in, words_rule, faults_in, flag_rule, has_stdio, matches_in, option_rule, with_version, IsLineIn, IsLineOf, IsRefused, KeepsRules, ReadsCapacity, ReadsConnections, SaysNumber, IsNumberIfGiven};
 
 use crate::drive_word::{DriveWord, check_drives, drives_of};
 use crate::number::number_of;
@@ -67,9 +67,7 @@ pub fn server_line<'a>(alloc: Global, words: &'a [&'a str]) -> Result<ServerLine
 {
     let mut rmtd = command(alloc)?;
     let matches = matched(&mut rmtd, words)?;
-    let given = drive_words(alloc, &matches)?;
-    let drives = drives_of(alloc, given.as_slice())?;
-    match line_in(&matches, given.as_slice(), drives) {
+    match line_of(alloc, &matches)? {
         Ok(line) => Ok(line),
         Err(wrong) => Err(refusal(alloc, &mut rmtd, wrong)?),
     }
@@ -99,6 +97,19 @@ fn fault_from(error: &Error) -> LineFault
         ErrorKind::OutOfMemory => LineFault::OutOfMemory,
         _ => LineFault::BadWords,
     }
+}
+
+/// The line that clap's matches say, or the rule that they break.
+fn line_of<'a>(
+    alloc: Global,
+    matches: &ArgMatches<'a>,
+) -> Result<Result<ServerLine<'a>, Wrong<'a>>, AllocError>
+    ensures { IfOk result (λ read. MatchResult read (IsLineIn (rows_of (found_of matches.now)))
+        (λ _. ¬ (KeepsRules (rows_of (found_of matches.now))))) }
+{
+    let given = drive_words(alloc, matches)?;
+    let drives = drives_of(alloc, given.as_slice())?;
+    Ok(line_in(matches, given.as_slice(), drives))
 }
 
 /// The line that clap's matches say, of which these words are no options and say these drives.
@@ -192,16 +203,7 @@ fn connections_of(text: Option<&str>) -> Result<Option<u64>, Wrong<'static>>
 fn command<'a>(alloc: Global) -> Result<Command<'a>, AllocError>
     ensures { IfOk result (λ c. app_of c ≡ app) }
 {
-    let rmtd = named(alloc)
-        .arg(flag(alloc, "stdio", "Serve standard input and standard output"))?
-        .arg(valued(alloc, "listen", "ADDRESS", "Listen at this host and port"))?
-        .arg(valued(
-            alloc,
-            "capacity",
-            "BYTES",
-            "What a reel holds [default: 1048576]",
-        ))?
-        .arg(valued(alloc, "connections", "N", "End after so many connections"))?
+    let rmtd = with_limits(alloc)?
         .arg(valued(
             alloc,
             "bin",
@@ -214,6 +216,31 @@ fn command<'a>(alloc: Global) -> Result<Command<'a>, AllocError>
             "DEVICE=DIR",
             "A drive and the folder of its reels [default: /dev/st0 in memory]",
         ))?;
+    Ok(rmtd)
+}
+
+/// The command `rmtd` with the words that say where it serves, and how much.
+fn with_limits<'a>(alloc: Global) -> Result<Command<'a>, AllocError>
+    ensures { IfOk result (λ c. app_of c ≡ app_with_limits) }
+{
+    let rmtd = with_ways(alloc)?
+        .arg(valued(
+            alloc,
+            "capacity",
+            "BYTES",
+            "What a reel holds [default: 1048576]",
+        ))?
+        .arg(valued(alloc, "connections", "N", "End after so many connections"))?;
+    Ok(rmtd)
+}
+
+/// The command `rmtd` with the words that say where it serves.
+fn with_ways<'a>(alloc: Global) -> Result<Command<'a>, AllocError>
+    ensures { IfOk result (λ c. app_of c ≡ app_with_ways) }
+{
+    let rmtd = named(alloc)
+        .arg(flag(alloc, "stdio", "Serve standard input and standard output"))?
+        .arg(valued(alloc, "listen", "ADDRESS", "Listen at this host and port"))?;
     Ok(rmtd)
 }
 

@@ -1,6 +1,10 @@
 //! A schedule, from its first line to its report.
+ghost use Rattle.std.specs.Prelude.{◌≡◌, map};
+ghost use Rattle.tape_events.specs.First.{AreGoodDrives, first_world};
+ghost use Rattle.schedules.specs.Drives.{plain_line};
 ghost use Rattle.schedules.specs.Ending.{IsRun, IsScheduled};
 
+use crate::drive_line::DriveLine;
 use crate::halt::Halt;
 use crate::lines::Lines;
 use crate::player::play_all;
@@ -10,6 +14,7 @@ use crate::setup::{read_drives, world_of};
 use rmt_wire::Counted;
 use std::alloc::Global;
 use std::io::Write;
+use tape_world::World;
 
 /// Runs a schedule: a text of one command a line. Prints on `out` each attempt that fails, as it fails, and at the end what its
 /// world has come to: what stands on each reel, the stacks, the bin, the volumes that were counted, and dumpdates.
@@ -35,8 +40,35 @@ fn run_all<W: Write>(alloc: Global, lines: &mut Lines<'_>, out: &mut Counted<W>)
     ensures { IsRun W.contents out.old result out.new }
 {
     let drives = read_drives(alloc, lines)?;
-    let mut world = world_of(alloc, &drives)?;
-    play_all(alloc, &mut world, lines, out)?;
-    let report = report_of(alloc, &world, &drives)?;
+    run_at(alloc, &drives, lines, out)
+}
+
+/// Runs the lines that follow those of the drives, and prints the report.
+fn run_at<W: Write>(
+    alloc: Global,
+    drives: &[DriveLine<'_>],
+    lines: &mut Lines<'_>,
+    out: &mut Counted<W>,
+) -> Result<(), Halt>
+    requires { AreGoodDrives (map plain_line drives.now) }
+    ensures { IsRun W.contents out.old result out.new }
+{
+    let mut world = world_of(alloc, drives)?;
+    play_and_report(alloc, &mut world, drives, lines, out)
+}
+
+/// Plays what is left in a world where nothing has happened yet, and prints the report.
+fn play_and_report<W: Write>(
+    alloc: Global,
+    world: &mut World,
+    drives: &[DriveLine<'_>],
+    lines: &mut Lines<'_>,
+    out: &mut Counted<W>,
+) -> Result<(), Halt>
+    requires { AreGoodDrives (map plain_line drives.now) × (world.old ≡ first_world (map plain_line drives.now)) }
+    ensures { IsRun W.contents out.old result out.new }
+{
+    play_all(alloc, world, lines, out)?;
+    let report = report_of(alloc, world, drives)?;
     print_all(&report, out)
 }

@@ -1,6 +1,8 @@
 //! Attempts of a client at drives in memory, from its requests to the reels, as tables of moves. Capacities are in
 //! bytes.
 
+ghost use Rattle.std.specs.Prelude.{◌≤◌};
+
 use super::fixture::{BlocksDumper, FIRST_LABEL, THREE_RECORDS, blocks_dumper};
 use super::link::Link;
 use drives::{ListStacks, ListedReel, Stacks};
@@ -380,18 +382,38 @@ fn wrong_move(
     None
 }
 
+/// Where the moves of these parts are not as is wanted: the first such part and move, counted from 0.
+fn wrong_part(
+    alloc: Global,
+    link: &mut Link,
+    dumper: &mut BlocksDumper,
+    parts: &[&[Move]],
+) -> Option<(usize, usize)> {
+    for (part, moves) in parts.iter().enumerate() {
+        if let Some(at) = wrong_move(alloc, link, dumper, moves) {
+            return Some((part, at));
+        }
+    }
+    None
+}
+
+/// Where a dump does not go as the moves of its parts say.
+fn wrong_in(alloc: Global, case: &Case) -> Result<Option<(usize, usize)>, Fail>
+    requires { case.now.blocks ≤ 3 }
+{
+    let mut dumper = blocks_dumper(alloc, case.blocks)?;
+    let mut link = Link::new(alloc, case.capacity, case.reels)?;
+    Ok(wrong_part(alloc, &mut link, &mut dumper, case.parts))
+}
+
 /// A dump goes as the moves of its parts say.
 fn check_case(rt: &impl Abort, alloc: Global, case: &Case) -> Result<(), Fail> {
     if case.blocks > 3 {
         return Err(Fail::new("too many blocks"));
     }
-    let mut link = Link::new(alloc, case.capacity, case.reels)?;
-    let mut dumper = blocks_dumper(alloc, case.blocks)?;
+    let wrong = wrong_in(alloc, case)?;
     let name = case.name;
-    for (part, moves) in case.parts.iter().enumerate() {
-        let wrong = wrong_move(alloc, &mut link, &mut dumper, moves);
-        assert!(rt; wrong.is_none(), "{name}: part {part}, move {wrong:?}");
-    }
+    assert!(rt; wrong.is_none(), "{name}: part and move {wrong:?}");
     Ok(())
 }
 

@@ -3,7 +3,7 @@
 use super::fixture::{PayloadDumper, THREE_RECORDS, payload_dumper, peer};
 use super::store::{ENTERED, Kept, OLD};
 use rmt_peer::Peer;
-use rmt_programs::{dump, dump_and_update};
+use rmt_programs::{MemoryPeer, dump, dump_and_update};
 use rmt_wire::Counted;
 use std::alloc::Global;
 use std::process::Abort;
@@ -38,23 +38,32 @@ const ROWS: [Row; 2] = [
     ),
 ];
 
-/// A dump goes so.
-fn check_dump(rt: &impl Abort, alloc: Global, row: Row) -> Result<(), Fail> {
-    let (reels, wanted, status, dates) = row;
-    let mut peer = peer(alloc, THREE_RECORDS, reels)?;
-    let mut client = three_blocks(alloc)?;
-    let mut store = Kept::new(alloc, OLD, true, true)?;
+/// Dumps at a peer, and enters the dump where it is complete. Answers its status, and what it printed.
+fn entered(
+    alloc: Global,
+    client: &mut PayloadDumper,
+    peer: &mut MemoryPeer,
+    store: &mut Kept,
+) -> (u8, Vec<u8>) {
     let mut operator = b"".as_slice();
     let mut printed = Vec::new(alloc);
     let mut out = Counted::new(&mut printed);
-    let got = dump_and_update(
-        alloc,
-        &mut client,
-        &mut peer,
-        &mut operator,
-        &mut out,
-        &mut store,
-    );
+    let status = dump_and_update(alloc, client, peer, &mut operator, &mut out, store);
+    (status, printed)
+}
+
+/// Dumps three blocks to these reels, and enters the dump. Answers its status, and what it printed.
+fn dumped(alloc: Global, reels: &[&[u8]], store: &mut Kept) -> Result<(u8, Vec<u8>), Fail> {
+    let mut client = three_blocks(alloc)?;
+    let mut peer = peer(alloc, THREE_RECORDS, reels)?;
+    Ok(entered(alloc, &mut client, &mut peer, store))
+}
+
+/// A dump goes so.
+fn check_dump(rt: &impl Abort, alloc: Global, row: Row) -> Result<(), Fail> {
+    let (reels, wanted, status, dates) = row;
+    let mut store = Kept::new(alloc, OLD, true, true)?;
+    let (got, printed) = dumped(alloc, reels, &mut store)?;
     assert_eq!(rt; got, status);
     assert_eq!(rt; printed.as_slice(), wanted);
     assert_eq!(rt; store.text.as_slice(), dates);
@@ -69,19 +78,27 @@ fn two_reels_and_one(rt: HostRuntime) -> Result<(), Fail> {
     Ok(())
 }
 
-#[test]
-fn a_dump_without_dumpdates(rt: HostRuntime) -> Result<(), Fail> {
-    let alloc = rt.alloc();
-    let mut peer = peer(alloc, THREE_RECORDS, &[b"r1".as_slice()])?;
-    let mut client = three_blocks(alloc)?;
+/// Dumps at a peer, to an operator who says no. Answers the status of the dump, and what it printed.
+fn dumped_once(alloc: Global, client: &mut PayloadDumper, peer: &mut MemoryPeer) -> (u8, Vec<u8>) {
     let mut operator = b"no\n".as_slice();
     let mut printed = Vec::new(alloc);
     let mut out = Counted::new(&mut printed);
-    assert_eq!(&rt;
-        dump(alloc, &mut client, &mut peer, &mut operator, &mut out),
-        3
-    );
-    assert!(&rt; printed.as_slice().starts_with(FIRST));
+    let status = dump(alloc, client, peer, &mut operator, &mut out);
     peer.hang_up();
+    (status, printed)
+}
+
+/// Dumps three blocks to one reel. Answers the status of the dump, and what it printed.
+fn dumped_to_one(alloc: Global) -> Result<(u8, Vec<u8>), Fail> {
+    let mut client = three_blocks(alloc)?;
+    let mut peer = peer(alloc, THREE_RECORDS, &[b"r1".as_slice()])?;
+    Ok(dumped_once(alloc, &mut client, &mut peer))
+}
+
+#[test]
+fn a_dump_without_dumpdates(rt: HostRuntime) -> Result<(), Fail> {
+    let (status, printed) = dumped_to_one(rt.alloc())?;
+    assert_eq!(&rt; status, 3);
+    assert!(&rt; printed.as_slice().starts_with(FIRST));
     Ok(())
 }

@@ -143,16 +143,15 @@ fn next_line(dice: &mut Dice, slow: &SlowWorld) -> Line {
 }
 
 /// Makes so many events by chance in both, where two strangers are. Each reel that was counted holds its volume after
-/// each, until it is opened for writing, and what was entered is whole. It tells how many were counted, and how many
-/// entered.
+/// each, until it is opened for writing, and what was entered is whole.
 fn follow(
     alloc: Global,
+    both: &mut Both,
     dumps: &[Dump; 2],
     seed: usize,
     count: usize,
-) -> Result<(usize, usize), Fail> {
+) -> Result<(), Fail> {
     let mut dice = Dice::new(seed);
-    let mut both = Both::new(alloc, &PLANS, true)?;
     let [first, second] = dumps;
     both.follow(first, Line::Stranger)?;
     both.follow(first, Line::Stranger)?;
@@ -164,7 +163,20 @@ fn follow(
             return Err(Fail::new(format_args!("the headline fails at {at}")));
         }
     }
-    Ok((both.slow.counts.len(), both.slow.entered.len()))
+    Ok(())
+}
+
+/// Makes so many events by chance in a new world. It tells how many volumes were counted, and how many dumps entered.
+fn counts_after(
+    alloc: Global,
+    dumps: &[Dump; 2],
+    seed: usize,
+    count: usize,
+) -> Result<(usize, usize), Fail> {
+    let mut both = Both::new(alloc, &PLANS, true)?;
+    let followed = follow(alloc, &mut both, dumps, seed, count);
+    let counts = (both.slow.counts.len(), both.slow.entered.len());
+    followed.map(|()| counts)
 }
 
 /// How many lists there are.
@@ -176,7 +188,7 @@ fn lists_by_chance(rt: HostRuntime) -> Result<(), Fail> {
     let dumps = [Dump::new(alloc, 0, 3, 3)?, Dump::new(alloc, 1, 4, 1)?];
     let (mut counted, mut entered) = (0usize, 0usize);
     for seed in 0..LISTS {
-        let (counts, dates) = follow(alloc, &dumps, seed, 200)?;
+        let (counts, dates) = counts_after(alloc, &dumps, seed, 200)?;
         counted = counted.saturating_add(counts);
         entered = entered.saturating_add(dates);
     }

@@ -223,6 +223,11 @@ fn letter(place: &Place, number: usize) -> Line {
 /// this one on begin with the same events up to one that is not possible.
 fn follow(alloc: Global, dump: &Dump, place: &Place, list: usize) -> Result<usize, Fail> {
     let mut both = Both::new(alloc, &PLANS, false)?;
+    follow_in(&mut both, dump, place, list)
+}
+
+/// The same in a new world.
+fn follow_in(both: &mut Both, dump: &Dump, place: &Place, list: usize) -> Result<usize, Fail> {
     both.follow_parts(dump, place.parts)?;
     let lines = [
         letter(place, list / LETTERS / LETTERS),

@@ -126,11 +126,16 @@ const ROWS: [(&[Line], usize); 26] = [
     ),
 ];
 
-/// The lines stop at the last, and there are so many connections then.
-fn is_met(alloc: Global, dump: &Dump, lines: &[Line], links: usize) -> Result<bool, Fail> {
-    let mut both = Both::new(alloc, &PLANS, false)?;
+/// Whether the lines stop at the last, in a new world, and there are so many connections then.
+fn stops(both: &mut Both, dump: &Dump, lines: &[Line], links: usize) -> Result<bool, Fail> {
     let stop = both.follow_list(dump, lines)?;
     Ok(stop == lines.len().checked_sub(1) && both.slow.links.len() == links)
+}
+
+/// The same, with the world made.
+fn is_met(alloc: Global, dump: &Dump, lines: &[Line], links: usize) -> Result<bool, Fail> {
+    let mut both = Both::new(alloc, &PLANS, false)?;
+    stops(&mut both, dump, lines, links)
 }
 
 #[test]

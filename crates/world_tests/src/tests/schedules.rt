@@ -377,8 +377,17 @@ fn is_met(both: &Both, schedule: &Schedule) -> Result<bool, Fail> {
     )
 }
 
-/// Follows the schedule in both worlds.
-fn follow(alloc: Global, schedule: &Schedule) -> Result<Both, Fail> {
+/// Follows the schedule in both worlds. Whether they come to what was written.
+fn follow(both: &mut Both, dump: &Dump, schedule: &Schedule) -> Result<bool, Fail> {
+    if schedule.blocks.is_some() {
+        both.follow(dump, Line::Start)?;
+    }
+    both.follow_parts(dump, schedule.parts)?;
+    is_met(both, schedule)
+}
+
+/// Whether the schedule comes to what was written, in both worlds.
+fn comes_to(alloc: Global, schedule: &Schedule) -> Result<bool, Fail> {
     let plan = Plan {
         name: b"/dev/st0",
         capacity: schedule.capacity,
@@ -386,18 +395,13 @@ fn follow(alloc: Global, schedule: &Schedule) -> Result<Both, Fail> {
     };
     let dump = Dump::new(alloc, 0, 1024, schedule.blocks.unwrap_or(0))?;
     let mut both = Both::new(alloc, &[plan], true)?;
-    if schedule.blocks.is_some() {
-        both.follow(&dump, Line::Start)?;
-    }
-    both.follow_parts(&dump, schedule.parts)?;
-    Ok(both)
+    follow(&mut both, &dump, schedule)
 }
 
 #[test]
 fn schedules_come_to_what_was_written_by_hand(rt: HostRuntime) -> Result<(), Fail> {
     for (at, schedule) in SCHEDULES.iter().enumerate() {
-        let both = follow(rt.alloc(), schedule)?;
-        assert!(rt; is_met(&both, schedule)?, "schedule {at}");
+        assert!(rt; comes_to(rt.alloc(), schedule)?, "schedule {at}");
     }
     Ok(())
 }
