@@ -103,7 +103,6 @@ $ man -w rmtd rdump rsim
 # The messages of the tables that no recipe shows, each with the reason.
 UNSHOWN = {
     "OutOfMemory": "memory is refused in a dump, and not before it, only by chance",
-    "rdump: ADDRESS: out of memory": "memory is refused in a read, and not before it, only by chance",
     "its length could not be read": "it takes a disk that fails between two calls",
     "rdump: the clock: it tells no date": "it takes a clock before 1970, and all processes of a machine have one clock",
 }
