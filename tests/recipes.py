@@ -63,7 +63,8 @@ USER = "ann"
 USER_ENVIRONMENT = {"PATH": "/usr/local/bin:/usr/bin:/bin", "HOME": f"/home/{USER}", "USER": USER, "LANG": "C.UTF-8"}
 PAUSE = "sleep 1\n"
 
-INSTALLED = """\
+# Recipes that stand in no document: what is installed, and what the README says of tar.
+UNWRITTEN = """\
 ## What is installed
 
 All files under /usr/local are these, each folder can be entered, and the programs run for a user who is not root.
@@ -97,6 +98,15 @@ $ man -w rmtd rdump rsim
 /usr/local/share/man/man8/rmtd.8
 /usr/local/share/man/man8/rdump.8
 /usr/local/share/man/man1/rsim.1
+```
+
+## tar 1.34 of a user who is not root
+
+Needs `tar`.
+
+```console
+$ runuser -u nobody -- tar --rsh-command=/bin/true -tf localhost:/dev/st0 > told 2>&1; test $? = 2 && grep -c initgroups told > calls
+$ tar --version | head -n 1 | grep -qv ' 1.34$' || echo 1 | cmp - calls
 ```
 """
 
@@ -191,10 +201,10 @@ def recipes_of(text: str) -> dict[str, Recipe]:
 
 
 def all_recipes() -> dict[str, Recipe]:
-    """The recipes of the document, the README's, and those of what is installed."""
+    """The recipes of the document, the README's, and those that stand in none."""
     readme = recipes_of(README.read_text())
     used = {USED: readme[USED], WITH_TAR: readme[WITH_TAR]._replace(needs=("tar",))}
-    return used | recipes_of(INSTALLED) | recipes_of(DOCUMENT.read_text())
+    return used | recipes_of(UNWRITTEN) | recipes_of(DOCUMENT.read_text())
 
 
 def with_those_before(recipe: Recipe, recipes: dict[str, Recipe]) -> list[Recipe]:
