@@ -35,7 +35,7 @@ test: kit ## the gate: each proof from nothing, then the built programs from out
 	$(CHECK) tests/reels.py $(PROGRAM) $(CLIENT)
 	$(CHECK) tests/clients.py $(PROGRAM)
 	$(CHECK) tests/threads.py $(PROGRAM) $(CLIENT)
-	$(CHECK) tests/recipes.py $(PROGRAM) $(CLIENT)
+	$(CHECK) tests/recipes.py $(PROGRAM) $(CLIENT) $(SIMULATOR)
 	$(CHECK) tests/kills.py $(PROGRAM) $(CLIENT)
 	$(CHECK) tests/schedules.py $(SIMULATOR)
 	@cat $(MINUTES)

@@ -1,14 +1,20 @@
 #!/usr/bin/env python3
 """Runs the recipes of docs/OPERATING.md as they stand there, and compares what they print with what stands there.
 
-    recipes.py [RMTD [RDUMP]] [--only TITLE]
+    recipes.py [RMTD [RDUMP [RSIM]]] [--only TITLE]
 
 A section of the document with commands is a recipe. A block `sh` is commands of which each has to succeed; in a block `console` a line
-behind `$ ` is a command, and the lines below it are all that it prints. The line `After *TITLE*` names the recipe that is done before, and
+after `$ ` is a command, and the lines below it are all that it prints. The line `After *TITLE*` names the recipe that is done before, and
 `Needs` names programs. A recipe whose programs are not on this machine is named as skipped.
 
-Each recipe has a machine of its own: folders that it may change are empty or copies, the loopback is its own, and its processes end with it.
-That takes root and unshare(1). Where they are not to be had, all recipes are named as skipped.
+Two sections of README.md are recipes too. A user who is not root runs *Use it*, in a home of their own, with a pause of a second after each
+block, as a person takes it. Root runs *With tar*, as GNU tar 1.34 calls no remote shell for others.
+
+Each recipe has a machine of its own: its /usr/local is what `make install` leaves, other folders that it may change are empty or copies,
+the loopback is its own, and its processes end with it. That takes root, unshare(1) and make(1). Where they are not to be had, all recipes
+are named as skipped.
+
+Each message of the tables of docs/OPERATING.md stands in a block `console` with its status, or below with the reason why it does not.
 """
 
 from __future__ import annotations
@@ -16,6 +22,7 @@ from __future__ import annotations
 import argparse
 import fcntl
 import os
+import pwd
 import re
 import shutil
 import socket
@@ -23,6 +30,7 @@ import struct
 import subprocess
 import sys
 import tempfile
+import time
 from concurrent.futures import ThreadPoolExecutor
 from pathlib import Path
 from typing import Iterator, NamedTuple
@@ -32,9 +40,12 @@ from checks import check, ended
 TOP = Path(__file__).resolve().parent.parent
 CRATES = TOP / "crates"
 DOCUMENT = TOP / "docs/OPERATING.md"
+README = TOP / "README.md"
+# The programs, each with the Makefile's word for its place.
+PROGRAMS = {"rmtd": "PROGRAM", "rdump": "CLIENT", "rsim": "SIMULATOR"}
 
 # A recipe that takes longer is killed, so that the checks end.
-GUARD_SECONDS = 60
+GUARD_SECONDS = 120
 # So many recipes run at once.
 AT_ONCE = 4
 # What no command prints stands before each command, with the number of its line.
@@ -42,7 +53,69 @@ SIGN = "\1"
 
 UNSHARE = ("unshare", "--mount", "--net", "--pid", "--fork", "--kill-child", "--mount-proc")
 HOME = "/home/root"
-ENVIRONMENT = {"PATH": "/usr/local/sbin:/usr/sbin:/usr/bin:/sbin:/bin", "HOME": HOME, "USER": "root", "LANG": "C.UTF-8"}
+SYSTEM_PATH = "/usr/sbin:/usr/bin:/sbin:/bin"
+ENVIRONMENT = {"PATH": f"/usr/local/sbin:/usr/local/bin:{SYSTEM_PATH}", "HOME": HOME, "USER": "root", "LANG": "C.UTF-8"}
+
+# The recipes of the README, and the user of the first one.
+USED = "Use it"
+WITH_TAR = "With tar"
+USER = "ann"
+USER_ENVIRONMENT = {"PATH": "/usr/local/bin:/usr/bin:/bin", "HOME": f"/home/{USER}", "USER": USER, "LANG": "C.UTF-8"}
+PAUSE = "sleep 1\n"
+
+# Recipes that stand in no document: what is installed, and what the README says of tar.
+UNWRITTEN = """\
+## What is installed
+
+All files under /usr/local are these, each folder can be entered, and the programs run for a user who is not root.
+
+```console
+$ find /usr/local ! -type d -printf '%m %u %g %P\\n' | sort -k 4
+755 root root bin/rsim
+755 root root sbin/rdump
+755 root root sbin/rmtd
+644 root root share/man/man1/rsim.1
+644 root root share/man/man8/rdump.8
+644 root root share/man/man8/rmtd.8
+$ find /usr/local -type d ! -perm 755
+$ runuser -u nobody -- /usr/local/sbin/rmtd --help > help; echo $?; grep Usage help
+0
+Usage: rmtd [OPTIONS] [DEVICE=DIR]...
+$ runuser -u nobody -- /usr/local/sbin/rdump --help > help; echo $?; grep Usage help
+0
+Usage: rdump <COMMAND>
+$ runuser -u nobody -- /usr/local/bin/rsim --help > help; echo $?; grep Usage help
+0
+Usage: rsim <FILE>
+```
+
+## The manual pages that are installed
+
+Needs `man`.
+
+```console
+$ man -w rmtd rdump rsim
+/usr/local/share/man/man8/rmtd.8
+/usr/local/share/man/man8/rdump.8
+/usr/local/share/man/man1/rsim.1
+```
+
+## tar 1.34 of a user who is not root
+
+Needs `tar`.
+
+```console
+$ runuser -u nobody -- tar --rsh-command=/bin/true -tf localhost:/dev/st0 > told 2>&1; test $? = 2 && grep -c initgroups told > calls
+$ tar --version | head -n 1 | grep -qv ' 1.34$' || echo 1 | cmp - calls
+```
+"""
+
+# The messages of the tables that no recipe shows, each with the reason.
+UNSHOWN = {
+    "OutOfMemory": "memory is refused in a dump, and not before it, only by chance",
+    "its length could not be read": "it takes a disk that fails between two calls",
+    "rdump: the clock: it tells no date": "it takes a clock before 1970, and all processes of a machine have one clock",
+}
 
 
 # The document.
@@ -57,12 +130,16 @@ class Command(NamedTuple):
 
 
 class Recipe(NamedTuple):
-    """A section: the recipe before it, the programs that it needs, and its commands."""
+    """A section: the recipe before it, the programs that it needs, and the commands of each block."""
 
     title: str
     after: str | None
     needs: tuple[str, ...]
-    commands: tuple[Command, ...]
+    blocks: tuple[tuple[Command, ...], ...]
+
+    def commands(self) -> Iterator[Command]:
+        """The commands of all blocks."""
+        return (it for block in self.blocks for it in block)
 
 
 def sections(text: str) -> Iterator[tuple[str, int, list[str]]]:
@@ -87,7 +164,7 @@ def blocks(lines: list[str], first: int) -> Iterator[tuple[str, int, list[str]]]
 
 
 def console(first: int, lines: list[str]) -> Iterator[Command]:
-    """The commands of a console, each with what it prints. A command goes on behind a line that ends with a backslash."""
+    """The commands of a console, each with what it prints. A command goes on after a line that ends with a backslash."""
     command: list[str] = []
     printed: list[str] = []
     at = first
@@ -108,23 +185,30 @@ def recipe_of(title: str, first: int, lines: list[str]) -> Recipe:
     text = "\n".join(lines)
     after = re.search(r"^After \*([^*]+)\*", text, re.M)
     needs = re.search(r"^(?:After \*[^*]+\*\. )?Needs ([^.]+)\.", text, re.M)
-    commands: list[Command] = []
+    found: list[tuple[Command, ...]] = []
     for kind, at, block in blocks(lines, first):
         if kind == "sh":
-            commands.append(Command(at, "\n".join(block), None))
+            found.append((Command(at, "\n".join(block), None),))
         elif kind == "console":
-            commands.extend(console(at, block))
-    return Recipe(title, after and after[1], tuple(re.findall("`([^`]+)`", needs[1])) if needs else (), tuple(commands))
+            found.append(tuple(console(at, block)))
+    return Recipe(title, after and after[1], tuple(re.findall("`([^`]+)`", needs[1])) if needs else (), tuple(found))
 
 
 def recipes_of(text: str) -> dict[str, Recipe]:
     """The sections that have commands, by their titles."""
     found = [recipe_of(*it) for it in sections(text)]
-    return {it.title: it for it in found if it.commands}
+    return {it.title: it for it in found if it.blocks}
+
+
+def all_recipes() -> dict[str, Recipe]:
+    """The recipes of the document, the README's, and those that stand in none."""
+    readme = recipes_of(README.read_text())
+    used = {USED: readme[USED], WITH_TAR: readme[WITH_TAR]._replace(needs=("tar",))}
+    return used | recipes_of(UNWRITTEN) | recipes_of(DOCUMENT.read_text())
 
 
 def with_those_before(recipe: Recipe, recipes: dict[str, Recipe]) -> list[Recipe]:
-    """The recipe behind those that it comes after."""
+    """The recipe after those that come before it."""
     before = with_those_before(recipes[recipe.after], recipes) if recipe.after else []
     return [*before, recipe]
 
@@ -135,7 +219,7 @@ def is_there(program: str) -> bool:
         return Path("/run/systemd/system").is_dir()
     if program == "losetup" and not Path("/dev/loop-control").exists():
         return False
-    return shutil.which(program, path=ENVIRONMENT["PATH"]) is not None
+    return shutil.which(program, path=SYSTEM_PATH) is not None
 
 
 # A machine of its own. All below runs within it, up to the next line like this one.
@@ -152,16 +236,21 @@ def loopback() -> None:
         fcntl.ioctl(it, flags, struct.pack("16sh", b"lo", up))
 
 
+def install(programs: list[str], folder: str) -> None:
+    """Installs the programs and their manual pages below a folder. The target `build` is taken for done, so nothing is proved again."""
+    places = [f"{word}={program}" for word, program in zip(PROGRAMS.values(), programs)]
+    environment = {name: value for name, value in os.environ.items() if name not in ("MAKEFLAGS", "MFLAGS", "MAKELEVEL")}
+    words = ("make", "-s", "-C", str(TOP), "-o", "build", "install", *places, "PREFIX=/usr/local", f"DESTDIR={folder}")
+    subprocess.run(words, check=True, env=environment, umask=0o077)
+
+
 def furnish(programs: list[str]) -> None:
-    """Folders that a recipe may change: copies of /etc and of the programs' folder, and empty ones."""
+    """Folders that a recipe may change: a copy of /etc, what is installed, and empty ones."""
     mount("-t", "tmpfs", "-o", "mode=755", "machine", "/mnt")
     subprocess.run(("cp", "-a", "/etc", "/mnt/etc"), check=True)
-    sbin = Path("/mnt/sbin")
-    sbin.mkdir()
-    for program, name in zip(programs, ("rmtd", "rdump")):
-        shutil.copy(program, sbin / name)
+    install(programs, "/mnt/installed")
     mount("--bind", "/mnt/etc", "/etc")
-    mount("--bind", str(sbin), "/usr/local/sbin")
+    mount("--bind", "/mnt/installed/usr/local", "/usr/local")
     for folder, mode in (("/srv", "755"), ("/home", "755"), ("/run", "755"), ("/tmp", "1777")):
         mount("-t", "tmpfs", "-o", f"mode={mode}", "machine", folder)
     os.mkdir(HOME, 0o700)
@@ -178,30 +267,53 @@ def open_for_ssh() -> None:
     keys = [it.read_text() for it in Path("/etc/ssh").glob("ssh_host_*_key.pub")]
     Path("/etc/ssh/ssh_known_hosts").write_text("".join(f"tapehost {it}" for it in keys))
     subprocess.run(("/usr/sbin/sshd",), check=True)
+    wait_for(22)
 
 
-def script_of(recipes: list[Recipe]) -> str:
-    """What a shell is given: before each command its line is printed, behind the sign."""
+def wait_for(port: int) -> None:
+    """Waits until a server listens at this port. What runs it is killed where none does."""
+    while True:
+        try:
+            socket.create_connection(("127.0.0.1", port)).close()
+            return
+        except ConnectionRefusedError:
+            time.sleep(0.05)
+
+
+def script_of(recipes: list[Recipe], pause: str) -> str:
+    """What a shell is given: before each command its line is printed, after the sign, and each block ends with the pause."""
     parts = []
-    for recipe in recipes:
-        for it in recipe.commands:
+    for block in (it for recipe in recipes for it in recipe.blocks):
+        for it in block:
             parts.append(f"set {'-e' if it.wanted is None else '+e'}\nprintf '\\001%s\\n' {it.line}\n{it.text}\n")
+        parts.append(pause)
     return "".join(parts) + "exit 0\n"
+
+
+def add_user() -> None:
+    """Adds the user who runs the README's commands, with a home."""
+    subprocess.run(("useradd", "--create-home", "--shell", "/bin/sh", USER), check=True, stdout=subprocess.DEVNULL)
 
 
 def run_inside(titles: list[str], programs: list[str]) -> int:
     """Runs recipes on the machine that this process has for itself, and answers the status of the shell."""
-    recipes = recipes_of(DOCUMENT.read_text())
+    recipes = all_recipes()
     wanted = [recipes[it] for it in titles]
     loopback()
     furnish(programs)
     if any("sshd" in it.needs for it in wanted):
         open_for_ssh()
+    pause, environment, how = "", ENVIRONMENT, {}
+    if titles == [USED]:
+        add_user()
+        pause, environment = PAUSE, USER_ENVIRONMENT
+        how = {"user": USER, "group": pwd.getpwnam(USER).pw_gid, "extra_groups": ()}
     script = Path("/mnt/script")
-    script.write_text(script_of(wanted))
-    os.chdir(HOME)
-    sys.stdout.flush()
-    return subprocess.run(("sh", str(script)), stdin=subprocess.DEVNULL, stderr=subprocess.STDOUT, env=ENVIRONMENT, check=False).returncode
+    script.write_text(script_of(wanted, pause))
+    script.chmod(0o644)
+    os.chdir(environment["HOME"])
+    words = ("/bin/sh", str(script))
+    return subprocess.run(words, stdin=subprocess.DEVNULL, stderr=subprocess.STDOUT, env=environment, check=False, **how).returncode
 
 
 # Here the machine of its own ends.
@@ -209,7 +321,7 @@ def run_inside(titles: list[str], programs: list[str]) -> int:
 
 def has_machines() -> bool:
     """Whether a recipe can have a machine of its own."""
-    if os.geteuid() != 0 or not shutil.which("unshare"):
+    if os.geteuid() != 0 or not shutil.which("unshare") or not shutil.which("make"):
         return False
     words = (*UNSHARE, "mount", "-t", "tmpfs", "machine", "/mnt")
     return subprocess.run(words, capture_output=True, check=False).returncode == 0
@@ -223,7 +335,7 @@ class Ran(NamedTuple):
 
 
 def ran(recipe: Recipe, before: list[Recipe], programs: list[str]) -> Ran:
-    """Runs a recipe behind those before it, on a machine of its own."""
+    """Runs a recipe after those before it, on a machine of its own."""
     inside = [it for one in (*before, recipe) for it in ("--inside", one.title)]
     words = (*UNSHARE, sys.executable, str(Path(__file__).resolve()), *programs, *inside)
     with tempfile.TemporaryFile() as output:
@@ -241,7 +353,7 @@ def compare(recipe: Recipe, got: Ran) -> None:
     """Compares what a recipe printed with what stands in the document."""
     last, said = [*got.printed.items()][-1]
     check(f"{recipe.title}: it comes to its end", got.status == 0, got.status, f"line {last}", said)
-    for it in recipe.commands:
+    for it in recipe.commands():
         if it.wanted is not None:
             printed = got.printed.get(it.line)
             check(f"{recipe.title}, line {it.line}: {it.text.splitlines()[0]}", printed == it.wanted, printed, it.wanted)
@@ -256,24 +368,118 @@ def runnable(recipes: dict[str, Recipe], only: str | None) -> list[tuple[Recipe,
         *before, _ = with_those_before(recipe, recipes)
         missing = [it for one in (*before, recipe) for it in one.needs if not is_there(it)]
         if missing or not machines:
-            print(f"skipped: {recipe.title}: {', '.join(missing) or 'root and unshare'} cannot be used on this machine")
+            print(f"skipped: {recipe.title}: {', '.join(missing) or 'root, unshare and make'} cannot be used on this machine")
         else:
             found.append((recipe, before))
     return found
 
 
+# The tables of messages.
+
+
+class Row(NamedTuple):
+    """The program of a table, what a row says is told, and the statuses that it names."""
+
+    program: str
+    told: str
+    statuses: tuple[str, ...]
+
+
+class Message(NamedTuple):
+    """A code span of a row, as the document has it, the pattern of its lines, and whether those of other rows are not meant."""
+
+    span: str
+    pattern: re.Pattern[str]
+    others_are_not: bool
+
+
+# What stands in a message for what it names.
+NAMED = (("FOLDER", r"/\S+"), ("ADDRESS", r"[\w.-]+:\d+"), ("FILE", r"\S+"), (r"\bN\b", r"\d+"), (r"\\\.\\\.", ".*"))
+
+
+def rows_of(program: str, lines: list[str]) -> Iterator[Row]:
+    """The rows of the tables of a section whose first column is headed by `Told`."""
+    columns: list[str] = []
+    for line in lines:
+        cells = [it.strip() for it in line.strip("|").split("|")] if line.startswith("|") else []
+        if not cells or cells[0].startswith("Told"):
+            columns = cells
+        elif columns and not cells[0].startswith("---"):
+            yield Row(program, cells[0], tuple(re.findall(r"\d", cells[1])) if columns[1] == "Status" else ())
+
+
+def all_rows(text: str) -> list[Row]:
+    """The rows of the sections `What rmtd tells` and `What rdump tells`."""
+    titled = [(re.fullmatch(r"What (rmtd|rdump) tells", title), lines) for title, _, lines in sections(text)]
+    return [row for found, lines in titled if found for row in rows_of(found[1], lines)]
+
+
+def messages_of(row: Row) -> list[Message]:
+    """The messages that a row names. `and a reason` stands for one of the system's, `and another reason` and `and text` for any text."""
+    found = []
+    for span, more in re.findall(r"`([^`]+)`(?: and (a reason|another reason|text)\b)?", row.told):
+        pattern = re.escape(span).replace("\\ ", " ")
+        for word, named in NAMED:
+            pattern = re.sub(word, lambda _: named, pattern)
+        end = {"": r"(?: \(os error \d+\))?", "a reason": r" .+ \(os error \d+\)"}.get(more, " .+")
+        found.append(Message(span, re.compile(f"(?:^|: ){pattern}{end}$", re.M), more == "another reason"))
+    return found
+
+
+def is_of(command: Command, program: str) -> bool:
+    """Whether a command runs a program by its name, or by the name of a script of the document."""
+    return re.search(rf"\b({program}|{'tapes' if program == 'rmtd' else 'try|cat told'})\b", command.text) is not None
+
+
+def has_status(command: Command, status: str | None) -> bool:
+    """Whether a command prints its status, and it is this one. None is any."""
+    return status is None or ("echo $?" in command.text and status in (command.wanted or "").splitlines())
+
+
+def printed_with(commands: list[Command], program: str, status: str | None) -> Iterator[str]:
+    """What the commands of a program print that end with a status."""
+    return (it.wanted or "" for it in commands if is_of(it, program) and has_status(it, status))
+
+
+def is_shown(message: Message, printed: Iterator[str], others: list[Message]) -> bool:
+    """Whether a line that is printed is a message."""
+    lines = [line for text in printed for line in text.splitlines() if message.pattern.search(line)]
+    return any(not (message.others_are_not and any(it.pattern.search(line) for it in others)) for line in lines)
+
+
+def check_messages(text: str, commands: list[Command]) -> None:
+    """Each message of the tables is shown with its status, or is one of those that are not shown."""
+    rows = all_rows(text)
+    found = [(row, it) for row in rows for it in messages_of(row)]
+    exact = [it for _, it in found if not it.others_are_not]
+    check("the tables have rows", {it.program for it in rows} == {"rmtd", "rdump"}, rows)
+    for row, message in found:
+        for status in row.statuses or (None,):
+            shown = is_shown(message, printed_with(commands, row.program, status), exact)
+            name = f"{row.program} tells `{message.span}`, status {status}"
+            check(f"{name}: a recipe shows it, or it is named as not shown", shown != (message.span in UNSHOWN), row)
+    for row in (it for it in rows if it.told == "nothing"):
+        shown = f"{row.statuses[0]}\n" in printed_with(commands, row.program, row.statuses[0])
+        check(f"{row.program} tells nothing, status {row.statuses[0]}: a recipe shows it", shown)
+    check("each row names a message", all(it.told == "nothing" or messages_of(it) for it in rows), rows)
+    check("what is not shown stands in the tables", set(UNSHOWN) <= {it.span for _, it in found}, UNSHOWN)
+
+
 def main() -> int:
-    parser = argparse.ArgumentParser(description="Runs the recipes of docs/OPERATING.md as they stand there.")
-    parser.add_argument("rmtd", nargs="?", default=str(CRATES / "rmtd/out/rmtd"))
-    parser.add_argument("rdump", nargs="?", default=str(CRATES / "rdump/out/rdump"))
+    parser = argparse.ArgumentParser(description="Runs the recipes of docs/OPERATING.md and of README.md as they stand there.")
+    for name in PROGRAMS:
+        parser.add_argument(name, nargs="?", default=str(CRATES / name / "out" / name))
     parser.add_argument("--only", help="the title of one recipe")
     parser.add_argument("--inside", action="append", help=argparse.SUPPRESS)
     words = parser.parse_args()
-    programs = [os.path.abspath(words.rmtd), os.path.abspath(words.rdump)]
+    programs = [os.path.abspath(getattr(words, name)) for name in PROGRAMS]
+    for it in programs:
+        if not os.path.isfile(it):
+            parser.error(f"there is no program {it}: make build builds it")
     if words.inside:
         return run_inside(words.inside, programs)
-    recipes = recipes_of(DOCUMENT.read_text())
-    check("the document has recipes", len(recipes) > 0)
+    recipes = all_recipes()
+    check_messages(DOCUMENT.read_text(), [it for recipe in recipes.values() for it in recipe.commands()])
     found = runnable(recipes, words.only)
     with ThreadPoolExecutor(AT_ONCE) as pool:
         for (recipe, _), got in zip(found, pool.map(lambda it: ran(*it, programs), found)):

@@ -30,14 +30,14 @@ impl From<AllocError> for Stopped {
 
 impl From<StartFault> for Stopped {
     ghost use Rattle.std.specs.Prelude.{◌≡◌};
-    ghost use Rattle.example_client.specs.declared.volumes.Stopped.TheVariants.{OutOfMemory, NotUnderWay};
+    ghost use Rattle.example_client.specs.Whole.{stopped_by};
 
-    ghost from_gives = { λ f e. Unit {0} };
+    ghost from_gives = { λ fault stopped. stopped ≡ stopped_by fault };
 
     fn from(fault: StartFault) -> Self {
         match fault {
             StartFault::OutOfMemory => Stopped::OutOfMemory,
-            _ => Stopped::NotUnderWay,
+            StartFault::WrongState => Stopped::NotUnderWay,
         }
     }
 }

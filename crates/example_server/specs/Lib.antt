@@ -1,1 +1,2 @@
+-- Serving says what the tape answers, and what serving it does.
 pub mod Serving

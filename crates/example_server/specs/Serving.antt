@@ -1,5 +1,5 @@
 -- What a tape that keeps nothing answers, and what serving it does to both streams. Public contracts cite it.
-use Rattle.std.specs.Prelude.{◌≡◌, ◌≢◌, ◌<◌, ℕ, List, [], ◌∷◌, length, Option, Result, Ok, Err}
+use Rattle.std.specs.Prelude.{◌≡◌, ◌≢◌, ◌<◌, ℕ, List, [], ◌∷◌, length, codes, Option, Result, Ok, Err}
 use Rattle.std.specs.List.{flat_map}
 use Rattle.std.specs.Io.KnownBytes.{Appends, Consumes, IsAtEnd}
 use Rattle.rmt_wire.specs.Request.{PlainRequest}
@@ -14,9 +14,8 @@ use Rattle.rmt_wire.specs.Limits.{reader_limit}
 use Rattle.example_server.specs.declared.stream.Stop.{Stop}
 use Rattle.example_server.specs.declared.stream.Stop.TheVariants.{Truncated, Broken, Input, Output}
 
--- `Invalid argument`
 abbrev pub invalid_text : List ℕ
-invalid_text = 73 ∷ 110 ∷ 118 ∷ 97 ∷ 108 ∷ 105 ∷ 100 ∷ 32 ∷ 97 ∷ 114 ∷ 103 ∷ 117 ∷ 109 ∷ 101 ∷ 110 ∷ 116 ∷ []
+invalid_text = codes "Invalid argument"
 
 -- what the tape answers: it takes what is written, and has nothing to read
 abbrev pub answer_to : PlainRequest → PlainReply
@@ -46,8 +45,8 @@ StopsAnswering (Err Output) held failures failures' rest = HasRisen failures fai
 StopsAnswering (Err stop) held failures failures' rest = ⊥
 
 -- the bytes are the spellings of requests and then a rest, and just their answers were written
-pub record Answers {W : Type 0} (contents : W → Option (List ℕ)) (result : Result Unit Stop) (held : RequestHeld) (output output' : Counting W)
-    (bytes : List ℕ) : Type 0 where
+pub record Answers {W : Type 0} (contents : W → Option (List ℕ)) (result : Result Unit Stop) (held : RequestHeld)
+    (output output' : Counting W) (bytes : List ℕ) : Type 0 where
   pub requests : List PlainRequest
   pub rest : List ℕ
   pub spelled : Spelled bytes requests rest
