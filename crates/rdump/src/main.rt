@@ -54,7 +54,9 @@ fn refuse(rt: &HostRuntime, error: clap::Error) -> io::Result<u8> {
     if error.kind() == ErrorKind::OutOfMemory {
         return tell(rt, "", io::ErrorKind::OutOfMemory.into());
     }
-    error.print(rt)?;
+    if error.print(rt).is_err() {
+        return unwritten(rt, FAILED);
+    }
     Ok(if error.use_stderr() { FAILED } else { 0 })
 }
 
@@ -222,14 +224,22 @@ fn operate(rt: &HostRuntime, line: MtLine<'_>) -> io::Result<u8>
             line.to
         )?;
     }
-    rt.stdout().write_all(&answer)?;
+    if rt.stdout().write_all(&answer).is_err() {
+        return unwritten(rt, ABNORMAL);
+    }
+    Ok(status)
+}
+
+/// Tells that standard output could not be written, and answers this status.
+fn unwritten(rt: &HostRuntime, status: u8) -> io::Result<u8> {
+    eprintln!(rt; "rdump: standard output could not be written")?;
     Ok(status)
 }
 
 /// Tells where standard output could not be written.
 fn tell_failed<W: io::Write>(rt: &HostRuntime, out: &Counted<W>) -> io::Result<()> {
     if out.failures() > 0 {
-        eprintln!(rt; "rdump: standard output could not be written")?;
+        unwritten(rt, ABNORMAL)?;
     }
     Ok(())
 }

@@ -34,12 +34,9 @@ enum Next {
 ///
 /// It starts the threads of the connections itself: the runtime has threads in `main` alone.
 fn main(rt: HostRuntime) -> io::Result<ExitCode> {
-    let words = words(&rt)?;
-    let lent = words.iter().map(|word| word.as_str());
-    let lent: Vec<&str> = lent.collect(rt.alloc())?;
-    let next = match server_line(rt.alloc(), lent.as_slice()) {
-        Ok(line) => run(&rt, &line)?,
-        Err(error) => Next::End(refuse(&rt, error)?),
+    let next = match begin(&rt) {
+        Ok(next) => next,
+        Err(error) => say(&rt, "it did not start", error)?,
     };
     match next {
         Next::End(status) => Ok(ExitCode::from(status)),
@@ -58,6 +55,24 @@ fn main(rt: HostRuntime) -> io::Result<ExitCode> {
             serve_many(&rt, rt.alloc(), connections, &table, seats, stacks);
             Ok(ExitCode::from(0))
         }
+    }
+}
+
+/// Reads the words, and does what they ask until connections are served at once.
+fn begin(rt: &HostRuntime) -> io::Result<Next> {
+    match words(rt) {
+        Ok(words) => run_words(rt, &words),
+        Err(error) => say(rt, "the words could not be read", error),
+    }
+}
+
+/// Does what these words ask, until connections are served at once.
+fn run_words(rt: &HostRuntime, words: &[String]) -> io::Result<Next> {
+    let lent = words.iter().map(|word| word.as_str());
+    let lent: Vec<&str> = lent.collect(rt.alloc())?;
+    match server_line(rt.alloc(), lent.as_slice()) {
+        Ok(line) => run(rt, &line),
+        Err(error) => refuse(rt, error),
     }
 }
 
@@ -140,12 +155,13 @@ fn bind(rt: &HostRuntime, address: &str) -> io::Result<TcpListener> {
     Ok(listener)
 }
 
-/// Tells why words gave nothing to do, and answers the status. Help and the version go to standard output.
-fn refuse(rt: &HostRuntime, error: Error) -> io::Result<u8> {
+/// Tells why words gave nothing to do; what is left is to end. Help and the version go to standard output.
+fn refuse(rt: &HostRuntime, error: Error) -> io::Result<Next> {
     if error.kind() == ErrorKind::OutOfMemory {
-        eprintln!(rt; "rmtd: the words: out of memory")?;
-        return Ok(FAILED);
+        return say(rt, "the words", io::ErrorKind::OutOfMemory.into());
     }
-    error.print(rt)?;
-    Ok(if error.use_stderr() { FAILED } else { 0 })
+    if let Err(why) = error.print(rt) {
+        return say(rt, "standard output", why);
+    }
+    Ok(Next::End(if error.use_stderr() { FAILED } else { 0 }))
 }

@@ -15,24 +15,39 @@ const FAILED: u8 = 1;
 
 /// Runs the schedule that the words name, and ends with its status.
 fn main(rt: HostRuntime) -> io::Result<ExitCode> {
-    let words: Vec<String> = env::args(&rt)?.collect(rt.alloc())?;
-    let lent = words.iter().map(|word| word.as_str());
-    let lent: Vec<&str> = lent.collect(rt.alloc())?;
-    let status = match file_in(rt.alloc(), lent.as_slice()) {
-        Ok(file) => run(&rt, file)?,
-        Err(error) => refuse(&rt, error)?,
+    let status = match words(&rt) {
+        Ok(words) => run_words(&rt, &words)?,
+        Err(error) => say(&rt, "the words could not be read", error)?,
     };
     Ok(ExitCode::from(status))
+}
+
+/// The words that the program was called with, its own name first.
+fn words(rt: &HostRuntime) -> io::Result<Vec<String>> {
+    Ok(env::args(rt)?.collect(rt.alloc())?)
+}
+
+/// Runs the schedule that these words name, and answers the status.
+fn run_words(rt: &HostRuntime, words: &[String]) -> io::Result<u8> {
+    let lent = words.iter().map(|word| word.as_str());
+    let lent: Vec<&str> = lent.collect(rt.alloc())?;
+    match file_in(rt.alloc(), lent.as_slice()) {
+        Ok(file) => run(rt, file),
+        Err(error) => refuse(rt, error),
+    }
+}
+
+/// Tells on standard error what is at fault and why, and answers the status.
+fn say(rt: &HostRuntime, what: &str, why: io::Error) -> io::Result<u8> {
+    eprintln!(rt; "rsim: {what}: {why}")?;
+    Ok(FAILED)
 }
 
 /// Runs the schedule in a file, and answers the status.
 fn run(rt: &HostRuntime, file: &str) -> io::Result<u8> {
     let text = match fs::read(rt, file) {
         Ok(text) => text,
-        Err(error) => {
-            eprintln!(rt; "rsim: {file}: {error}")?;
-            return Ok(FAILED);
-        }
+        Err(error) => return say(rt, file, error),
     };
     let mut out = Counted::new(rt.stdout());
     Ok(schedule(rt.alloc(), &text, &mut out))
@@ -41,13 +56,14 @@ fn run(rt: &HostRuntime, file: &str) -> io::Result<u8> {
 /// Tells in one line that the words are wrong, and answers the status. Help and the version go to standard output.
 fn refuse(rt: &HostRuntime, error: clap::Error) -> io::Result<u8> {
     if error.kind() == ErrorKind::OutOfMemory {
-        eprintln!(rt; "rsim: the words: out of memory")?;
-        return Ok(FAILED);
+        return say(rt, "the words", io::ErrorKind::OutOfMemory.into());
     }
     if error.use_stderr() {
         eprintln!(rt; "rsim: wrong words: one FILE is wanted, see rsim --help")?;
         return Ok(FAILED);
     }
-    error.print(rt)?;
-    Ok(0)
+    match error.print(rt) {
+        Ok(()) => Ok(0),
+        Err(why) => say(rt, "standard output", why),
+    }
 }
