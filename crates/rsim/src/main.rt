@@ -15,7 +15,7 @@ const FAILED: u8 = 1;
 
 /// Runs the schedule that the words name, and ends with its status.
 fn main(rt: HostRuntime) -> io::Result<ExitCode> {
-    let status = match words(&rt) {
+    let status = match arguments(&rt) {
         Ok(words) => run_words(&rt, &words)?,
         Err(error) => say(&rt, "the words could not be read", error)?,
     };
@@ -23,7 +23,7 @@ fn main(rt: HostRuntime) -> io::Result<ExitCode> {
 }
 
 /// The words that the program was called with, its own name first.
-fn words(rt: &HostRuntime) -> io::Result<Vec<String>> {
+fn arguments(rt: &HostRuntime) -> io::Result<Vec<String>> {
     Ok(env::args(rt)?.collect(rt.alloc())?)
 }
 

@@ -55,20 +55,21 @@ pub(crate) enum Line<'a> {
 /// What a command says, of a line that is no comment. None where it is none of a schedule.
 pub(crate) fn read_command(text: &[u8]) -> Option<Line<'_>> {
     let mut fields = Fields::new(Some(text));
-    let line = read_words(fields.field()?, &mut fields)?;
+    let command = str::from_utf8(fields.field()?).ok()?;
+    let line = read_words(command, &mut fields)?;
     if fields.is_over() { Some(line) } else { None }
 }
 
 /// What a command says with the fields that it takes.
-fn read_words<'a>(command: &[u8], fields: &mut Fields<'a>) -> Option<Line<'a>> {
+fn read_words<'a>(command: &str, fields: &mut Fields<'a>) -> Option<Line<'a>> {
     match command {
-        b"drive" => read_drive(fields),
-        b"run" => read_run(fields),
-        b"arrange" => read_arrange(fields),
-        b"says" => read_says(fields),
-        b"to-server" => read_to_server(fields),
-        b"to-client" => read_to_client(fields),
-        b"pump" => read_pump(fields),
+        "drive" => read_drive(fields),
+        "run" => read_run(fields),
+        "arrange" => read_arrange(fields),
+        "says" => read_says(fields),
+        "to-server" => read_to_server(fields),
+        "to-client" => read_to_client(fields),
+        "pump" => read_pump(fields),
         _ => Some(Line::Event {
             event: read_event(command, fields)?,
         }),
@@ -91,13 +92,18 @@ fn read_drive<'a>(fields: &mut Fields<'a>) -> Option<Line<'a>> {
 fn read_run<'a>(fields: &mut Fields<'a>) -> Option<Line<'a>> {
     let device = fields.device()?;
     let name = str::from_utf8(fields.field()?).ok()?;
-    let level = fields.number()?;
-    let date = fields.number()?;
-    let since = fields.number()?;
-    let block = fields.number()?;
-    let blocks = fields.number()?;
+    let [level, date, since, block, blocks] = read_numbers(fields)?;
     let run = Run::new(device, name, level, date, since, block, blocks).ok()?;
     Some(Line::Run { run })
+}
+
+/// Five numbers, one after the other.
+fn read_numbers(fields: &mut Fields<'_>) -> Option<[u64; 5]> {
+    let mut numbers = [0; 5];
+    for number in &mut numbers {
+        *number = fields.number()?;
+    }
+    Some(numbers)
 }
 
 /// A device, and the names of reels.
@@ -136,17 +142,17 @@ fn read_pump<'a>(fields: &mut Fields<'a>) -> Option<Line<'a>> {
 }
 
 /// The event that a command is which takes a connection at most.
-fn read_event<'a>(command: &[u8], fields: &mut Fields<'a>) -> Option<Event<'a>> {
+fn read_event<'a>(command: &str, fields: &mut Fields<'a>) -> Option<Event<'a>> {
     match command {
-        b"serve" => read_serve(fields),
-        b"send" => read_send(fields),
-        b"cut" => Some(Event::Cut {
+        "serve" => read_serve(fields),
+        "send" => read_send(fields),
+        "cut" => Some(Event::Cut {
             connection: fields.connection()?,
         }),
-        b"end-server" => Some(Event::EndAtServer {
+        "end-server" => Some(Event::EndAtServer {
             connection: fields.connection()?,
         }),
-        b"end-client" => Some(Event::EndAtClient {
+        "end-client" => Some(Event::EndAtClient {
             connection: fields.connection()?,
         }),
         _ => read_word(command),
@@ -154,19 +160,19 @@ fn read_event<'a>(command: &[u8], fields: &mut Fields<'a>) -> Option<Event<'a>> 
 }
 
 /// The event that a command is which takes nothing.
-fn read_word<'a>(command: &[u8]) -> Option<Event<'a>> {
+fn read_word<'a>(command: &str) -> Option<Event<'a>> {
     match command {
-        b"connect" => Some(Event::Connect),
-        b"restart-server" => Some(Event::ServerRestart),
-        b"restart-client" => Some(Event::ClientRestart),
-        b"retry" => Some(Event::Respond {
+        "connect" => Some(Event::Connect),
+        "restart-server" => Some(Event::ServerRestart),
+        "restart-client" => Some(Event::ClientRestart),
+        "retry" => Some(Event::Respond {
             answer: Answer::Retry,
         }),
-        b"abandon" => Some(Event::Respond {
+        "abandon" => Some(Event::Respond {
             answer: Answer::Abandon,
         }),
-        b"stranger" => Some(Event::Stranger),
-        b"enter" => Some(Event::Enter),
+        "stranger" => Some(Event::Stranger),
+        "enter" => Some(Event::Enter),
         _ => None,
     }
 }
@@ -185,15 +191,22 @@ fn read_serve<'a>(fields: &mut Fields<'a>) -> Option<Event<'a>> {
     let connection = fields.connection()?;
     let trouble = match fields.field() {
         None => Trouble::None,
-        Some(b"kept") => Trouble::Kept,
-        Some(b"lost") => Trouble::Lost,
-        Some(b"written") => Trouble::Written(written_of(fields.number()?)),
-        Some(_) => return None,
+        Some(word) => read_trouble(word, fields)?,
     };
     Some(Event::Serve {
         connection,
         trouble,
     })
+}
+
+/// The trouble that a word names.
+fn read_trouble(word: &[u8], fields: &mut Fields<'_>) -> Option<Trouble> {
+    match str::from_utf8(word).ok()? {
+        "kept" => Some(Trouble::Kept),
+        "lost" => Some(Trouble::Lost),
+        "written" => Some(Trouble::Written(written_of(fields.number()?))),
+        _ => None,
+    }
 }
 
 /// How many entries are written, at most so many as a request can ask for.

@@ -8,6 +8,7 @@ use super::play::{Case, Move, ONCE, ONE_COUNTED, Play, check_cases, long_error};
 use super::talk::{BLOCKS, RUN};
 use dump_client::Progress::{Failed, Send, Waiting};
 use dump_client::{Answer, AttemptFault, State};
+use std::alloc::Global;
 use std::test::Fail;
 
 /// The steps of the second volume's script.
@@ -193,16 +194,25 @@ fn makes_all(play: &mut Play, moves: &[Move]) -> Result<bool, Fail> {
     Ok(true)
 }
 
+/// Whether attempts that hear errors with texts of these sizes fail for them, and the dump then goes on to its end.
+fn fails_at_long_texts(alloc: Global, play: &mut Play) -> Result<bool, Fail> {
+    if !makes_all(play, SECOND.as_slice())? {
+        return Ok(false);
+    }
+    for size in [10000, 65548, 200000] {
+        let error = long_error(alloc, b"E5\n", size)?;
+        if !play.fails_at(LAST_BLOCK, &error, AttemptFault::Refused(5)) {
+            return Ok(false);
+        }
+    }
+    makes_all(play, FINISHES.as_slice())
+}
+
 /// The text of an error can be longer than all else that is kept of a reply.
 #[test]
 fn long_texts_of_errors(rt: HostRuntime) -> Result<(), Fail> {
     let mut play = Play::new(rt.alloc(), RUN, &BLOCKS)?;
-    assert!(rt; makes_all(&mut play, SECOND.as_slice())?);
-    for size in [10000, 65548, 200000] {
-        let error = long_error(rt.alloc(), b"E5\n", size)?;
-        let failed = play.fails_at(LAST_BLOCK, &error, AttemptFault::Refused(5));
-        assert!(rt; failed, "{size}");
-    }
-    assert!(rt; makes_all(&mut play, FINISHES.as_slice())?);
+    let good = fails_at_long_texts(rt.alloc(), &mut play)?;
+    assert!(rt; good);
     Ok(())
 }

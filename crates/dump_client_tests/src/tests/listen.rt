@@ -5,6 +5,7 @@ use super::play::{Case, Move, Play, check_case, long_error};
 use super::talk::RUN;
 use dump_client::Progress::{Ended, Failed, Send, Waiting};
 use dump_client::{AttemptFault, State};
+use std::alloc::Global;
 use std::test::Fail;
 
 /// The step at which any number is wanted, and that at which the label's size is.
@@ -118,20 +119,28 @@ fn replies_beginnings_and_noise(rt: HostRuntime) -> Result<(), Fail> {
     Ok(())
 }
 
+/// Whether the client hears an error with a text of this size in pieces of each size, and first all but its last byte.
+fn hears_each_way(alloc: Global, play: &mut Play, size: usize) -> Result<bool, Fail> {
+    let error = long_error(alloc, b"E28\n", size)?;
+    hears_error(play, &error)
+}
+
+/// The same of this error.
+fn hears_error(play: &mut Play, error: &[u8]) -> Result<bool, Fail> {
+    let begun = error.get(..error.len().saturating_sub(1)).unwrap_or(&[]);
+    Ok(
+        play.makes(Volume(1, 0, 0), b"")?
+            && play.makes(HearsEachWay(OPEN, Waiting), begun)?
+            && play.makes(HearsEachWay(OPEN, Failed(AttemptFault::Refused(28))), error)?,
+    )
+}
+
 /// The text of an error can be longer than all that is kept of a reply, however it comes.
 #[test]
 fn an_error_with_a_long_text(rt: HostRuntime) -> Result<(), Fail> {
     let mut play = Play::new(rt.alloc(), RUN, &[])?;
-    for size in [10000, 70000] {
-        let error = long_error(rt.alloc(), b"E28\n", size)?;
-        let begun = error.get(..error.len().saturating_sub(1)).unwrap_or(&[]);
-        let good = play.makes(Volume(1, 0, 0), b"")?
-            && play.makes(HearsEachWay(OPEN, Waiting), begun)?
-            && play.makes(
-                HearsEachWay(OPEN, Failed(AttemptFault::Refused(28))),
-                &error,
-            )?;
-        assert!(rt; good, "{size}");
-    }
+    let good = hears_each_way(rt.alloc(), &mut play, 10000)?
+        && hears_each_way(rt.alloc(), &mut play, 70000)?;
+    assert!(rt; good);
     Ok(())
 }

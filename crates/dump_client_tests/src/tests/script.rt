@@ -1,7 +1,8 @@
 //! Labels and scripts that were worked out by hand.
 
-use super::slow::{Answer, Wish, grants, label, script};
+use super::slow::{Answer, Scripted, Wish, grants, label, script};
 use super::talk::RUN;
+use std::alloc::Global;
 use std::test::Fail;
 
 const LABEL: &[u8] = b"name /usr\nlevel 0\ndate 951782400\nsince 0\nvolume 1\nfirst 0\n";
@@ -16,57 +17,78 @@ fn the_label_of_a_first_volume(rt: HostRuntime) -> Result<(), Fail> {
     Ok(())
 }
 
+/// The request that writes the label.
+fn label_request(alloc: Global) -> Result<Vec<u8>, Fail> {
+    let mut request = Vec::from_slice(alloc, b"W1024\n")?;
+    request.extend_from_slice(LABEL)?;
+    request.extend_from_slice(&[0; 966])?;
+    Ok(request)
+}
+
+/// Whether these are the steps of a script.
+fn are_steps(script: &[Scripted], wanted: &[(&[u8], Wish)]) -> bool {
+    let mut pairs = script.iter().zip(wanted);
+    script.len() == wanted.len()
+        && pairs.all(|(step, (text, wish))| step.text.as_slice() == *text && step.wish == *wish)
+}
+
+/// Whether the script of a run of no blocks has six requests, of which the third is this one.
+fn is_script_of_none(script: &[Scripted], label_request: &[u8]) -> bool {
+    are_steps(
+        script,
+        &[
+            (b"O/dev/st0\n2\n".as_slice(), Wish::AnyNumber),
+            (b"I5\n1\n".as_slice(), Wish::Number(1)),
+            (label_request, Wish::Number(1024)),
+            (b"I0\n1\n".as_slice(), Wish::Number(1)),
+            (b"I6\n1\n".as_slice(), Wish::Number(1)),
+            (b"C\n".as_slice(), Wish::Anything),
+        ],
+    )
+}
+
 /// The run of no blocks: six requests.
 #[test]
 fn a_run_of_no_blocks(rt: HostRuntime) -> Result<(), Fail> {
-    let alloc = rt.alloc();
-    let mut label_request = Vec::from_slice(alloc, b"W1024\n")?;
-    label_request.extend_from_slice(LABEL)?;
-    for _ in 0..966 {
-        label_request.push(0)?;
-    }
-    let wanted: [(&[u8], Wish); 6] = [
-        (b"O/dev/st0\n2\n", Wish::AnyNumber),
-        (b"I5\n1\n", Wish::Number(1)),
-        (&label_request, Wish::Number(1024)),
-        (b"I0\n1\n", Wish::Number(1)),
-        (b"I6\n1\n", Wish::Number(1)),
-        (b"C\n", Wish::Anything),
-    ];
-    let script = script(alloc, RUN, &[], 1, 0, 0)?;
-    assert_eq!(rt; script.len(), 6);
-    for (step, (text, wish)) in script.iter().zip(wanted) {
-        assert!(rt; step.text.as_slice() == text);
-        assert!(rt; step.wish == wish);
-    }
+    let label_request = label_request(rt.alloc())?;
+    let script = script(rt.alloc(), RUN, &[], 1, 0, 0)?;
+    assert!(rt; is_script_of_none(&script, &label_request));
     Ok(())
+}
+
+/// What is wished for at the steps of a volume of two blocks after which a third is refused.
+const WISHES: [Wish; 9] = [
+    Wish::AnyNumber,
+    Wish::Number(1),
+    Wish::Number(1024),
+    Wish::Number(1024),
+    Wish::Number(1024),
+    Wish::NoRoom,
+    Wish::Number(1),
+    Wish::Number(1),
+    Wish::Anything,
+];
+
+/// Whether a request writes a block of these bytes.
+fn writes(text: &[u8], byte: u8) -> bool {
+    text.len() == 1030 && text.starts_with(b"W1024\n") && text.iter().skip(6).all(|b| *b == byte)
 }
 
 /// Of three blocks two are written, and a third is refused.
 #[test]
 fn a_volume_with_a_block_refused(rt: HostRuntime) -> Result<(), Fail> {
-    let blocks: [&[u8]; 3] = [&[1; 1024], &[2; 1024], &[3; 1024]];
-    let script = script(rt.alloc(), RUN, &blocks, 1, 0, 2)?;
-    let wishes = [
-        Wish::AnyNumber,
-        Wish::Number(1),
-        Wish::Number(1024),
-        Wish::Number(1024),
-        Wish::Number(1024),
-        Wish::NoRoom,
-        Wish::Number(1),
-        Wish::Number(1),
-        Wish::Anything,
-    ];
-    assert_eq!(rt; script.len(), 9);
-    for (step, wish) in script.iter().zip(wishes) {
-        assert!(rt; step.wish == wish);
-    }
-    for (step, byte) in script.iter().skip(3).zip([1u8, 2, 3]) {
-        assert!(rt; step.text.starts_with(b"W1024\n"));
-        assert_eq!(rt; step.text.len(), 1030);
-        assert!(rt; step.text.iter().skip(6).all(|b| *b == byte));
-    }
+    let script = script(
+        rt.alloc(),
+        RUN,
+        &[&[1; 1024], &[2; 1024], &[3; 1024]],
+        1,
+        0,
+        2,
+    )?;
+    let wishes = script.iter().map(|step| step.wish);
+    assert!(rt; wishes.eq(WISHES));
+    let mut blocks = script.iter().skip(3).zip([1u8, 2, 3]);
+    assert!(rt; blocks.all(|(step, byte)| writes(&step.text, byte)));
     Ok(())
 }
 
