@@ -113,6 +113,7 @@ $ tar --version | head -n 1 | grep -qv ' 1.34$' || echo 1 | cmp - calls
 # The messages of the tables that no recipe shows, each with the reason.
 UNSHOWN = {
     "OutOfMemory": "memory is refused in a dump, and not before it, only by chance",
+    "rmtd: it did not start: out of memory": "memory is refused between the words and the first request only by chance",
     "its length could not be read": "it takes a disk that fails between two calls",
     "rdump: the clock: it tells no date": "it takes a clock before 1970, and all processes of a machine have one clock",
 }
