@@ -14,17 +14,33 @@ use tape::Reel;
 fn five_reels(alloc: Global) -> Result<ListStacks, Fail>
     ensures { IfOk result (λ stacks. length stacks.shop.racks ≡ 2) }
 {
+    let mut stacks = two_empty_drives(alloc)?;
+    fill(&mut stacks)?;
+    Ok(stacks)
+}
+
+/// Two drives without reels.
+fn two_empty_drives(alloc: Global) -> Result<ListStacks, Fail>
+    ensures { IfOk result (λ stacks. length stacks.shop.racks ≡ 2) }
+{
     let mut stacks = ListStacks::new(alloc);
     stacks.add_drive(b"/dev/st0")?;
     stacks.add_drive(b"/dev/st1")?;
+    Ok(stacks)
+}
+
+/// Gives two drives and the bin their five reels.
+fn fill(stacks: &mut ListStacks) -> Result<(), Fail>
+    requires { length stacks.old.shop.racks ≡ 2 }
+    ensures { IfOk result (λ _. length stacks.new.shop.racks ≡ 2) }
+{
     stacks.add_reel(0, b"d", 100)?;
     stacks.add_reel(0, b"e", 100)?;
     stacks.add_reel(0, b"a", 100)?;
     stacks.add_reel(0, b"b", 100)?;
     stacks.add_reel(1, b"c", 100)?;
-    move_first(&mut stacks, b"d")?;
-    move_first(&mut stacks, b"e")?;
-    Ok(stacks)
+    move_first(stacks, b"d")?;
+    move_first(stacks, b"e")
 }
 
 /// Writes the letter on the first reel of the first drive, and moves it to the bin.
@@ -150,19 +166,31 @@ fn a_stack_becomes_the_reels_that_are_named(rt: HostRuntime) -> Result<(), Fail>
 /// Names, and whether a reel of that name is found.
 const FOUND: [(&[u8], bool); 4] = [(b"a", true), (b"c", true), (b"d", true), (b"f", false)];
 
-#[test]
-fn a_reel_is_found_wherever_it_lies_but_not_while_it_is_latched_nor_its_stack_arranged(
-    rt: HostRuntime,
-) -> Result<(), Fail> {
-    let mut stacks = five_reels(rt.alloc())?;
-    for (name, wanted) in FOUND {
-        assert!(rt; stacks.reel(name).is_some() == wanted, "{name:?}");
-    }
+/// Whether reels are found wherever they lie.
+fn are_found(stacks: &ListStacks) -> bool {
+    FOUND
+        .iter()
+        .all(|(name, wanted)| stacks.reel(name).is_some() == *wanted)
+}
+
+/// Whether a reel is not found while it is latched, nor its stack arranged then.
+fn hides_while_latched(stacks: &mut ListStacks) -> Result<bool, Fail>
+    requires { length stacks.old.shop.racks ≡ 2 }
+{
     let mut reel = stacks.latch(0)?;
     let away = stacks.reel(b"a").is_none();
     let fixed = !stacks.can_arrange(0, &[]) && stacks.can_arrange(1, &[]);
     reel.write(b"abc")?;
     stacks.unlatch(0, reel);
-    assert!(rt; away && fixed && stacks.reel(b"a").is_some());
+    Ok(away && fixed && stacks.reel(b"a").is_some())
+}
+
+#[test]
+fn a_reel_is_found_wherever_it_lies_but_not_while_it_is_latched_nor_its_stack_arranged(
+    rt: HostRuntime,
+) -> Result<(), Fail> {
+    let mut stacks = five_reels(rt.alloc())?;
+    assert!(rt; are_found(&stacks));
+    assert!(rt; hides_while_latched(&mut stacks)?);
     Ok(())
 }

@@ -247,14 +247,25 @@ fn goes(trial: Trial, place: &Place, stacks: &mut FolderStacks<HostRuntime>) -> 
     }
 }
 
+/// Whether the trial goes as it has to, in a place with these files.
+fn goes_in(
+    rt: HostRuntime,
+    trial: Trial,
+    place: &Place,
+    files: &[(&str, &str)],
+) -> io::Result<bool> {
+    for (path, text) in files {
+        place.put(path, text)?;
+    }
+    let mut stacks = place.open(rt)?;
+    goes(trial, place, &mut stacks)
+}
+
 #[test]
 fn each_trial_goes_as_it_has_to(rt: HostRuntime) -> io::Result<()> {
     for (trial, name, files) in TRIALS {
         let place = Place::new(rt, name)?;
-        for (path, text) in files {
-            place.put(path, text)?;
-        }
-        let right = goes(trial, &place, &mut place.open(rt)?)?;
+        let right = goes_in(rt, trial, &place, files)?;
         place.remove()?;
         assert!(rt; right, "{name}");
     }

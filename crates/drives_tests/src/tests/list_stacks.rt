@@ -102,35 +102,64 @@ fn a_reel_name_is_taken_on_each_stack_and_in_the_bin(rt: HostRuntime) -> Result<
     Ok(())
 }
 
-#[test]
-fn a_trouble_meets_one_latch_or_waits_for_a_reel(rt: HostRuntime) -> Result<(), Fail> {
-    let mut stacks = two_drives(rt.alloc())?;
+/// Whether a latch fails for a trouble, and tells one failure.
+fn fails(stacks: &mut ListStacks) -> bool
+    requires { length stacks.old.shop.racks ≡ 2 }
+    ensures { length stacks.new.shop.racks ≡ 2 }
+{
+    matches!(stacks.latch(0), Err(DriveFault::Device)) && stacks.failures() == 1
+}
+
+/// Whether a trouble meets the next latch, and no other.
+fn meets_one_latch(stacks: &mut ListStacks) -> bool
+    requires { length stacks.old.shop.racks ≡ 2 }
+{
     stacks.trouble(true);
-    let failed = matches!(stacks.latch(0), Err(DriveFault::Device)) && stacks.failures() == 1;
+    let failed = fails(stacks);
     let latched = stacks.latch(0).is_ok() && stacks.failures() == 1;
     stacks.trouble(true);
     stacks.trouble(false);
-    assert!(rt; failed && latched && stacks.latch(1).is_ok());
-    let mut stacks = two_drives(rt.alloc())?;
+    failed && latched && stacks.latch(1).is_ok()
+}
+
+/// Whether a trouble waits past a stack that gives no reel.
+fn waits_for_a_reel(stacks: &mut ListStacks) -> Result<bool, Fail>
+    requires { length stacks.old.shop.racks ≡ 2 }
+{
     let reel = stacks.latch(1)?;
     stacks.trouble(true);
     let none = matches!(stacks.latch(1), Err(DriveFault::NoReel)) && stacks.failures() == 0;
-    let failed = matches!(stacks.latch(0), Err(DriveFault::Device)) && stacks.failures() == 1;
-    assert!(rt; none && failed);
+    let failed = fails(stacks);
     drop(reel);
+    Ok(none && failed)
+}
+
+#[test]
+fn a_trouble_meets_one_latch_or_waits_for_a_reel(rt: HostRuntime) -> Result<(), Fail> {
+    let mut stacks = two_drives(rt.alloc())?;
+    assert!(rt; meets_one_latch(&mut stacks));
+    let mut stacks = two_drives(rt.alloc())?;
+    assert!(rt; waits_for_a_reel(&mut stacks)?);
     Ok(())
+}
+
+/// Whether a trouble meets the next move, and no other: the reel is first on its stack until then.
+fn meets_one_move(stacks: &mut ListStacks) -> Result<bool, Fail>
+    requires { length stacks.old.shop.racks ≡ 2 }
+{
+    let reel = stacks.latch(0)?;
+    stacks.trouble(true);
+    let Err((reel, DriveFault::Device)) = stacks.offline(0, reel) else {
+        return Ok(false);
+    };
+    let kept = stacks.failures() == 1 && are(stacks.stack(0), b"ab");
+    let moved = stacks.offline(0, reel).is_ok();
+    Ok(kept && moved && stacks.failures() == 1 && are(stacks.bin(), b"a"))
 }
 
 #[test]
 fn a_trouble_meets_one_move(rt: HostRuntime) -> Result<(), Fail> {
     let mut stacks = two_drives(rt.alloc())?;
-    let reel = stacks.latch(0)?;
-    stacks.trouble(true);
-    let Err((reel, DriveFault::Device)) = stacks.offline(0, reel) else {
-        return Err(Fail::new("moved"));
-    };
-    assert!(rt; stacks.failures() == 1 && are(stacks.stack(0), b"ab"));
-    let moved = stacks.offline(0, reel).is_ok();
-    assert!(rt; moved && stacks.failures() == 1 && are(stacks.bin(), b"a"));
+    assert!(rt; meets_one_move(&mut stacks)?);
     Ok(())
 }

@@ -3,6 +3,7 @@
 use super::failing::Failing;
 use dump_files::dates;
 use rmt_wire::Counted;
+use std::alloc::Global;
 
 /// Two dumps of one file system.
 const TWO: &[u8] = b"/usr 0 Tue Feb 29 00:00:00 2000\n/usr 1 Wed Mar  1 00:00:00 2000\n";
@@ -72,15 +73,20 @@ const ROWS: [Row; 19] = [
     (LEAP_1968, Some(("a", 1)), b"line 1: bad date\n", 1),
 ];
 
+/// Whether that is printed, with that status.
+fn prints(alloc: Global, row: &Row) -> bool {
+    let (file, asked, wanted, status) = *row;
+    let mut printed = Vec::new(alloc);
+    let mut out = Counted::new(&mut printed);
+    let told = dates(alloc, file, asked, &mut out);
+    let failures = out.failures();
+    printed.as_slice() == wanted && (told, failures) == (status, 0)
+}
+
 #[test]
 fn what_is_printed(rt: HostRuntime) {
-    for (file, asked, want, status) in ROWS {
-        let mut taken = Vec::new(rt.alloc());
-        let mut out = Counted::new(&mut taken);
-        let told = dates(rt.alloc(), file, asked, &mut out);
-        let failures = out.failures();
-        let good = taken.as_slice() == want && (told, failures) == (status, 0);
-        assert!(rt; good, "{asked:?} of {file:?}");
+    for (at, row) in ROWS.iter().enumerate() {
+        assert!(rt; prints(rt.alloc(), row), "row {at}");
     }
 }
 

@@ -1,9 +1,10 @@
 //! Dumps over a peer that is told what to reply.
 
 use super::fake::{FakePeer, Replies, Short};
-use super::fixture::blocks_dumper;
+use super::fixture::{BlocksDumper, blocks_dumper};
 use rmt_peer::{dump, print_text};
 use rmt_wire::Counted;
+use std::alloc::Global;
 use std::test::Fail;
 
 /// Two blocks, and no room for the third.
@@ -49,18 +50,56 @@ const ROWS: [Row; 3] = [
     ),
 ];
 
+/// Dumps over a peer, to an operator who says that. Answers what was printed, and the status.
+fn dumped(
+    alloc: Global,
+    client: &mut BlocksDumper,
+    peer: &mut FakePeer<'_>,
+    said: &[u8],
+) -> (Vec<u8>, u8) {
+    let mut says = said;
+    let mut printed = Vec::new(alloc);
+    let told = dump(
+        alloc,
+        client,
+        peer,
+        &mut says,
+        &mut Counted::new(&mut printed),
+    );
+    (printed, told)
+}
+
+/// Whether a dump of three blocks goes as the row says.
+fn goes(alloc: Global, row: &Row) -> Result<bool, Fail> {
+    let (connections, said, wanted, status) = *row;
+    let mut client = blocks_dumper(alloc, 3)?;
+    let mut peer = FakePeer::new(alloc, connections);
+    let (printed, told) = dumped(alloc, &mut client, &mut peer, said);
+    Ok(printed.as_slice() == wanted && told == status)
+}
+
 #[test]
 fn dumps_and_their_lines(rt: HostRuntime) -> Result<(), Fail> {
-    for (connections, said, printed, status) in ROWS {
-        let mut client = blocks_dumper(rt.alloc(), 3)?;
-        let mut peer = FakePeer::new(rt.alloc(), connections);
-        let mut says = said;
-        let mut out = Counted::new(Vec::new(rt.alloc()));
-        let told = dump(rt.alloc(), &mut client, &mut peer, &mut says, &mut out);
-        assert!(rt; out.into_inner().as_slice() == printed, "{printed:?}");
-        assert_eq!(rt; told, status);
+    for (at, row) in ROWS.iter().enumerate() {
+        assert!(rt; goes(rt.alloc(), row)?, "row {at}");
     }
     Ok(())
+}
+
+/// Whether a dump over a peer, of which nine bytes can be printed, prints these, and fails once.
+fn fails_in_printing(
+    alloc: Global,
+    client: &mut BlocksDumper,
+    peer: &mut FakePeer<'_>,
+    wanted: &[u8],
+) -> bool {
+    let mut says: &[u8] = b"";
+    let mut out = Counted::new(Short {
+        taken: Vec::new(alloc),
+        room: 9,
+    });
+    let told = dump(alloc, client, peer, &mut says, &mut out);
+    (told, out.failures()) == (3, 1) && out.into_inner().taken.as_slice() == wanted
 }
 
 /// Once a line could not be printed nothing more is printed or sent.
@@ -68,16 +107,8 @@ fn dumps_and_their_lines(rt: HostRuntime) -> Result<(), Fail> {
 fn a_fault_in_printing(rt: HostRuntime) -> Result<(), Fail> {
     let mut client = blocks_dumper(rt.alloc(), 3)?;
     let mut peer = FakePeer::new(rt.alloc(), &[FULL, LAST]);
-    let mut says: &[u8] = b"";
-    let mut out = Counted::new(Short {
-        taken: Vec::new(rt.alloc()),
-        room: 9,
-    });
-    let told = dump(rt.alloc(), &mut client, &mut peer, &mut says, &mut out);
-    assert_eq!(rt; told, 3);
-    assert_eq!(rt; out.failures(), 1);
-    assert_eq!(rt; out.into_inner().taken.as_slice(), b"volume 1:".as_slice());
-    assert!(rt; peer.sent.ends_with(b"I0\n1\nI6\n1\nC\n"));
+    let failed = fails_in_printing(rt.alloc(), &mut client, &mut peer, b"volume 1:");
+    assert!(rt; failed && peer.sent.ends_with(b"I0\n1\nI6\n1\nC\n"));
     Ok(())
 }
 
@@ -86,13 +117,11 @@ fn a_fault_in_printing(rt: HostRuntime) -> Result<(), Fail> {
 fn an_attempt_that_is_under_way(rt: HostRuntime) -> Result<(), Fail> {
     let mut client = blocks_dumper(rt.alloc(), 0)?;
     let mut peer = FakePeer::new(rt.alloc(), &[]);
-    let mut says: &[u8] = b"";
-    let mut out = Counted::new(Vec::new(rt.alloc()));
     assert!(rt; client.start().is_ok());
-    let told = dump(rt.alloc(), &mut client, &mut peer, &mut says, &mut out);
+    let (printed, told) = dumped(rt.alloc(), &mut client, &mut peer, b"");
     assert_eq!(rt; told, 3);
     assert_eq!(rt;
-        out.into_inner().as_slice(),
+        printed.as_slice(),
         b"volume 1 failed: ConnectionEnded\nretry?\ndump abandoned\n".as_slice()
     );
     Ok(())

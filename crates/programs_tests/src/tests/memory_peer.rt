@@ -1,37 +1,52 @@
 //! Dumps, volumes that are read back, and operations, over drives in memory.
 
-use super::fixture::{DEVICE, FIRST_LABEL, THREE_RECORDS, blocks_dumper, peer, peer_with};
+use super::fixture::{
+    BlocksDumper, DEVICE, FIRST_LABEL, THREE_RECORDS, blocks_dumper, peer, peer_with,
+};
 use drives::Stacks;
 use rmt_peer::Peer;
 use rmt_programs::{MemoryPeer, dump, mt, read_volume};
 use rmt_wire::Counted;
 use std::alloc::Global;
-use std::process::Abort;
 use std::test::Fail;
 
-/// A dump of three blocks to these reels prints that, and has this status. The operator says nothing.
-fn check_dump(
-    rt: &impl Abort,
-    alloc: Global,
-    reels: &[&[u8]],
-    printed: &[u8],
-    status: u8,
-) -> Result<MemoryPeer, Fail> {
-    let mut client = blocks_dumper(alloc, 3)?;
-    let mut peer = peer(alloc, THREE_RECORDS, reels)?;
+/// Dumps at a peer, to an operator who says nothing. Answers what was printed, and the status.
+fn dumped(alloc: Global, client: &mut BlocksDumper, peer: &mut MemoryPeer) -> (Vec<u8>, u8) {
     let mut says: &[u8] = b"";
-    let mut out = Counted::new(Vec::new(alloc));
-    let told = dump(alloc, &mut client, &mut peer, &mut says, &mut out);
-    assert_eq!(rt; out.into_inner().as_slice(), printed);
-    assert_eq!(rt; told, status);
-    Ok(peer)
+    let mut printed = Vec::new(alloc);
+    let told = dump(
+        alloc,
+        client,
+        peer,
+        &mut says,
+        &mut Counted::new(&mut printed),
+    );
+    (printed, told)
+}
+
+/// Whether a dump of three blocks to the reels of a peer prints that, and has this status.
+fn is_dumped(
+    alloc: Global,
+    peer: &mut MemoryPeer,
+    wanted: &[u8],
+    status: u8,
+) -> Result<bool, Fail> {
+    let mut client = blocks_dumper(alloc, 3)?;
+    let (printed, told) = dumped(alloc, &mut client, peer);
+    Ok(printed.as_slice() == wanted && told == status)
+}
+
+/// The same at a new peer with two reels.
+fn is_dumped_to_two(alloc: Global, wanted: &[u8], status: u8) -> Result<bool, Fail> {
+    let mut peer = peer(alloc, THREE_RECORDS, &[b"r1", b"r2"])?;
+    is_dumped(alloc, &mut peer, wanted, status)
 }
 
 #[test]
 fn two_volumes(rt: HostRuntime) -> Result<(), Fail> {
     let lines =
         b"volume 1: 2 blocks from 0\nvolume 2: 1 blocks from 2\ndump complete: 2 volumes, 3 blocks\n";
-    check_dump(&rt, rt.alloc(), &[b"r1", b"r2"], lines, 0)?;
+    assert!(&rt; is_dumped_to_two(rt.alloc(), lines, 0)?);
     Ok(())
 }
 
@@ -58,19 +73,40 @@ fn is_two_blocks(bytes: &[u8]) -> bool {
     }
 }
 
+/// Whether the volume of the peer's reel is read back: its label, and its two blocks.
+fn is_read_back(alloc: Global, peer: &mut MemoryPeer) -> bool {
+    let mut file = Vec::new(alloc);
+    let mut label = Vec::new(alloc);
+    let status = read_volume(
+        alloc,
+        peer,
+        DEVICE,
+        &mut Counted::new(&mut file),
+        &mut Counted::new(&mut label),
+    );
+    status == 0 && label.as_slice() == FIRST_LABEL && is_two_blocks(file.as_slice())
+}
+
+/// The peer after a volume was written to its one reel, which is in the bin.
+fn with_a_volume(alloc: Global) -> Result<MemoryPeer, Fail> {
+    let lines = b"volume 1: 2 blocks from 0\nvolume 2 failed: Refused 6\nretry?\ndump abandoned\n";
+    let mut peer = peer(alloc, THREE_RECORDS, &[b"r1"])?;
+    if !is_dumped(alloc, &mut peer, lines, 3)? || peer.stacks().bin().len() != 1 {
+        return Err(Fail::new("not as dumped"));
+    }
+    Ok(peer)
+}
+
+/// The peer with that reel laid back.
+fn laid_with_a_volume(alloc: Global) -> Result<MemoryPeer, Fail> {
+    let peer = with_a_volume(alloc)?;
+    laid_back(alloc, peer, &[b"r1"])
+}
+
 #[test]
 fn a_volume_is_read_back(rt: HostRuntime) -> Result<(), Fail> {
-    let lines = b"volume 1: 2 blocks from 0\nvolume 2 failed: Refused 6\nretry?\ndump abandoned\n";
-    let written = check_dump(&rt, rt.alloc(), &[b"r1"], lines, 3)?;
-    assert!(rt; written.stacks().bin().len() == 1);
-    let mut peer = laid_back(rt.alloc(), written, &[b"r1"])?;
-    let mut file = Counted::new(Vec::new(rt.alloc()));
-    let mut out = Counted::new(Vec::new(rt.alloc()));
-    let status = read_volume(rt.alloc(), &mut peer, DEVICE, &mut file, &mut out);
-    assert_eq!(rt; status, 0);
-    assert_eq!(rt; out.into_inner().as_slice(), FIRST_LABEL);
-    let file = file.into_inner();
-    assert!(rt; is_two_blocks(file.as_slice()));
+    let mut peer = laid_with_a_volume(rt.alloc())?;
+    assert!(&rt; is_read_back(rt.alloc(), &mut peer));
     Ok(())
 }
 
@@ -124,14 +160,19 @@ fn takes_pieces(peer: &mut MemoryPeer) -> bool {
     sent && peer.receive(&mut []) == 0 && gives(peer, b"A0\nA") && gives(peer, b"3\nA1")
 }
 
+/// They are, on the connection alone.
+fn talks_in_pieces(peer: &mut MemoryPeer) -> bool {
+    let early = peer.send(b"C\n");
+    let taken = takes_pieces(peer);
+    let last = gives(peer, b"\n") && gives(peer, b"");
+    let late = peer.send(b"C\n");
+    !early && taken && last && !late
+}
+
 #[test]
 fn pieces(rt: HostRuntime) -> Result<(), Fail> {
     let mut peer = peer(rt.alloc(), THREE_RECORDS, &[b"r1"])?;
-    let early = peer.send(b"C\n");
-    let taken = takes_pieces(&mut peer);
-    let last = gives(&mut peer, b"\n") && gives(&mut peer, b"");
-    let late = peer.send(b"C\n");
-    assert!(&rt; !early && taken && last && !late);
+    assert!(&rt; talks_in_pieces(&mut peer));
     Ok(())
 }
 
@@ -141,12 +182,16 @@ fn ends(peer: &mut MemoryPeer) -> bool {
     opened && gives(peer, b"") && !peer.send(b"C\n")
 }
 
-/// The drive is free again after such an end.
+/// The drive is free again after such an end, and its reel is there.
+fn frees_the_drive(peer: &mut MemoryPeer) -> bool {
+    let ended = ends(peer) && ends(peer);
+    peer.hang_up();
+    ended && peer.stacks().reel(b"r1").is_some()
+}
+
 #[test]
 fn an_end(rt: HostRuntime) -> Result<(), Fail> {
     let mut peer = peer(rt.alloc(), THREE_RECORDS, &[b"r1"])?;
-    let ended = ends(&mut peer) && ends(&mut peer);
-    peer.hang_up();
-    assert!(&rt; ended && peer.stacks().reel(b"r1").is_some());
+    assert!(&rt; frees_the_drive(&mut peer));
     Ok(())
 }

@@ -3,6 +3,7 @@
 use super::fake::{FakePeer, Replies, Short};
 use rmt_peer::mt;
 use rmt_wire::Counted;
+use std::alloc::Global;
 use std::test::Fail;
 
 /// One operation of count 1: its number, what the peer replies, what it is sent, what is printed, and the status.
@@ -53,15 +54,28 @@ const ROWS: [Row<'static>; 8] = [
     (5, &[b"X\n"], b"O/dev/st0\n0\n", b"", 3),
 ];
 
+/// Does an operation of count 1 over a peer. Answers what was printed, and the status.
+fn done(alloc: Global, peer: &mut FakePeer<'_>, op: u32) -> (Vec<u8>, u8) {
+    let mut printed = Vec::new(alloc);
+    let told = mt(
+        alloc,
+        peer,
+        b"/dev/st0",
+        op,
+        1,
+        &mut Counted::new(&mut printed),
+    );
+    (printed, told)
+}
+
 #[test]
 fn operations(rt: HostRuntime) -> Result<(), Fail> {
-    for (op, replies, sent, printed, status) in ROWS {
+    for (op, replies, sent, wanted, status) in ROWS {
         let connections = [replies];
         let mut peer = FakePeer::new(rt.alloc(), &connections);
-        let mut out = Counted::new(Vec::new(rt.alloc()));
-        let told = mt(rt.alloc(), &mut peer, b"/dev/st0", op, 1, &mut out);
+        let (printed, told) = done(rt.alloc(), &mut peer, op);
         assert_eq!(rt; peer.sent.as_slice(), sent);
-        assert_eq!(rt; out.into_inner().as_slice(), printed);
+        assert_eq!(rt; printed.as_slice(), wanted);
         assert_eq!(rt; told, status);
     }
     Ok(())

@@ -3,6 +3,7 @@
 use super::fixture::{PayloadDumper, payload, payload_dumper};
 use dump_client::{Blocks, RunFault};
 use dump_files::DumperFault;
+use std::alloc::Global;
 use std::test::Fail;
 
 /// The replies to an open, a rewind, a label and the first block of 4 bytes.
@@ -20,15 +21,26 @@ fn send(client: &mut PayloadDumper, out: &mut Vec<u8>) -> Result<(), Fail> {
     Ok(())
 }
 
+/// What a client sends of these bytes in blocks of 4.
+fn sent_of(alloc: Global, bytes: &[u8]) -> Result<Vec<u8>, Fail> {
+    let bytes = Vec::from_slice(alloc, bytes)?;
+    match payload_dumper(alloc, bytes, 4) {
+        Ok(client) => sent_by(alloc, client),
+        Err(_) => Err(Fail::new("no client")),
+    }
+}
+
+/// What this client sends.
+fn sent_by(alloc: Global, mut client: PayloadDumper) -> Result<Vec<u8>, Fail> {
+    let mut out = Vec::new(alloc);
+    send(&mut client, &mut out)?;
+    Ok(out)
+}
+
 #[test]
 fn a_block_and_a_padded_one(rt: HostRuntime) -> Result<(), Fail> {
-    let bytes = Vec::from_slice(rt.alloc(), b"abcdef")?;
-    let Ok(mut client) = payload_dumper(rt.alloc(), bytes, 4) else {
-        return Err(Fail::new("no client"));
-    };
-    let mut out = Vec::new(rt.alloc());
-    send(&mut client, &mut out)?;
-    assert_eq!(&rt; out.as_slice(), b"W4\nabcdW4\nef\0\0".as_slice());
+    let sent = sent_of(rt.alloc(), b"abcdef")?;
+    assert_eq!(&rt; sent.as_slice(), b"W4\nabcdW4\nef\0\0".as_slice());
     Ok(())
 }
 

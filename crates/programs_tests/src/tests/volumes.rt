@@ -3,6 +3,7 @@
 use super::fake::{FakePeer, Replies, Short};
 use rmt_peer::{Asked, ReadFault, copy_volume, read_volume};
 use rmt_wire::Counted;
+use std::alloc::Global;
 use std::test::Fail;
 
 const ALL_SENT: &[u8] = b"O/dev/st0\n0\nI5\n1\nR65536\nR65536\nR65536\nR65536\nC\n";
@@ -19,18 +20,38 @@ const REPLIES: Replies<'static> = &[
     b"A0\n",
 ];
 
+/// Reads a volume over a peer. Answers what was written to the file and what was printed, and the status.
+fn read_over(alloc: Global, peer: &mut FakePeer<'_>) -> (Vec<u8>, Vec<u8>, u8) {
+    let mut file = Vec::new(alloc);
+    let mut printed = Vec::new(alloc);
+    let status = read_volume(
+        alloc,
+        peer,
+        b"/dev/st0",
+        &mut Counted::new(&mut file),
+        &mut Counted::new(&mut printed),
+    );
+    (file, printed, status)
+}
+
 #[test]
 fn a_volume(rt: HostRuntime) -> Result<(), Fail> {
     let connections = [REPLIES];
     let mut peer = FakePeer::new(rt.alloc(), &connections);
-    let mut file = Counted::new(Vec::new(rt.alloc()));
-    let mut out = Counted::new(Vec::new(rt.alloc()));
-    let status = read_volume(rt.alloc(), &mut peer, b"/dev/st0", &mut file, &mut out);
-    assert_eq!(rt; status, 0);
-    assert_eq!(rt; peer.sent.as_slice(), ALL_SENT);
-    assert_eq!(rt; out.into_inner().as_slice(), b"one".as_slice());
-    assert_eq!(rt; file.into_inner().as_slice(), b"abcde".as_slice());
+    let (file, printed, status) = read_over(rt.alloc(), &mut peer);
+    assert!(rt; status == 0 && peer.sent.as_slice() == ALL_SENT);
+    assert!(rt; printed.as_slice() == b"one".as_slice() && file.as_slice() == b"abcde".as_slice());
     Ok(())
+}
+
+/// What a copy of a volume over a peer finds, where two bytes can be printed.
+fn fault_over(alloc: Global, peer: &mut FakePeer<'_>) -> Result<(), ReadFault> {
+    let mut file = Counted::new(Vec::new(alloc));
+    let mut out = Counted::new(Short {
+        taken: Vec::new(alloc),
+        room: 2,
+    });
+    copy_volume(alloc, peer, b"/dev/st0", &mut file, &mut out)
 }
 
 #[test]
@@ -64,12 +85,7 @@ fn faults(rt: HostRuntime) -> Result<(), Fail> {
     for (replies, fault) in rows {
         let connections = [replies];
         let mut peer = FakePeer::new(rt.alloc(), &connections);
-        let mut file = Counted::new(Vec::new(rt.alloc()));
-        let mut out = Counted::new(Short {
-            taken: Vec::new(rt.alloc()),
-            room: 2,
-        });
-        let found = copy_volume(rt.alloc(), &mut peer, b"/dev/st0", &mut file, &mut out);
+        let found = fault_over(rt.alloc(), &mut peer);
         assert_eq!(rt; found, Err(fault));
     }
     Ok(())

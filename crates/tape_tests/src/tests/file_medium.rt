@@ -112,16 +112,21 @@ fn stands_on_a_file(rt: HostRuntime) -> Result<(), Fail> {
     Ok(())
 }
 
+/// Whether a medium gives what it has read, also after another handle wrote there, until it is changed itself.
+fn keeps_what_it_read(medium: &mut FileMedium, other: &File) -> io::Result<bool> {
+    let framed = medium_answers(medium, FRAMED);
+    other.write_all_at(b"xyz", 6)?;
+    let kept = medium_answers(medium, AFTER_A_WRITE);
+    other.write_all_at(b"v", 7)?;
+    Ok(framed && kept && medium_answers(medium, AFTER_ANOTHER_WRITE))
+}
+
 #[test]
 fn keeps_what_it_read_until_a_change(rt: HostRuntime) -> Result<(), Fail> {
     let path = path_of(&rt, "window")?;
     let mut medium = FileMedium::new(new_file(&rt, path.as_str())?);
-    assert!(&rt; medium_answers(&mut medium, FRAMED));
     let other = OpenOptions::new().write(true).open(&rt, path.as_str())?;
-    other.write_all_at(b"xyz", 6)?;
-    assert!(&rt; medium_answers(&mut medium, AFTER_A_WRITE));
-    other.write_all_at(b"v", 7)?;
-    assert!(&rt; medium_answers(&mut medium, AFTER_ANOTHER_WRITE));
+    assert!(&rt; keeps_what_it_read(&mut medium, &other)?);
     fs::remove_file(&rt, path.as_str())?;
     Ok(())
 }

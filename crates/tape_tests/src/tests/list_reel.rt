@@ -151,14 +151,17 @@ fn answer_alike(reel: &mut ListReel, slow: &mut SlowReel, calls: &[Wanted]) -> b
     answers(reel, calls)
 }
 
+/// Whether new reels of this capacity, both of them, answer the calls as is wanted, and tell no failure.
+fn goes(alloc: Global, capacity: u64, calls: &[Wanted]) -> bool {
+    let mut reel = ListReel::new(alloc, capacity);
+    let mut slow = SlowReel::new(alloc, capacity);
+    answer_alike(&mut reel, &mut slow, calls) && reel.failures() == 0
+}
+
 #[test]
 fn each_call_answers_as_is_wanted(rt: HostRuntime) -> Result<(), Fail> {
-    let alloc = rt.alloc();
     for (at, (capacity, calls)) in RUNS.iter().enumerate() {
-        let mut reel = ListReel::new(alloc, *capacity);
-        let mut slow = SlowReel::new(alloc, *capacity);
-        let alike = answer_alike(&mut reel, &mut slow, calls);
-        assert!(&rt; alike && reel.failures() == 0, "run {at}");
+        assert!(&rt; goes(rt.alloc(), *capacity, calls), "run {at}");
     }
     Ok(())
 }
@@ -208,19 +211,20 @@ fn all_told(reel: &ListReel, told: &[Told]) -> bool {
     true
 }
 
+/// Whether a new reel tells of its three entries, once they are written, and of none before.
+fn tells_entries(reel: &mut ListReel, last: &[u8], told: &[Told]) -> bool {
+    let none = tells(reel, (0, None, b"......"));
+    let first = reel.write(b"abc").is_ok() && reel.op(MTWEOF, 1).is_ok();
+    let written = is_record(last) && write_in_memory(reel, last).is_ok();
+    reel.rewind();
+    none && first && written && all_told(reel, told) && reel.read(&mut [0; 6]) == Ok(3)
+}
+
 #[test]
 fn tells_each_entry_by_its_number(rt: HostRuntime) -> Result<(), Fail> {
     for (last, told) in TOLD {
         let mut reel = ListReel::new(rt.alloc(), 100);
-        let none = tells(&reel, (0, None, b"......"));
-        let first = reel.write(b"abc").is_ok() && reel.op(MTWEOF, 1).is_ok();
-        let written = is_record(last) && write_in_memory(&mut reel, last).is_ok();
-        reel.rewind();
-        assert!(&rt;
-            none && first && written && all_told(&reel, told),
-            "{last:?}"
-        );
-        assert_eq!(&rt; reel.read(&mut [0; 6]), Ok(3));
+        assert!(&rt; tells_entries(&mut reel, last, told), "{last:?}");
     }
     Ok(())
 }

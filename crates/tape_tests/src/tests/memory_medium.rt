@@ -46,24 +46,33 @@ const ON_GIVEN_BYTES: &[WantedOfMedium] = &[
     (MediumCall::Failures, Ok((0, b""))),
 ];
 
+/// Whether a new medium fails with no room, and takes five bytes where there is room for them.
+fn takes_five(medium: &mut MemoryMedium) -> Result<bool, Fail> {
+    let none = medium_answers(medium, WITHOUT_ROOM);
+    medium.reserve(5)?;
+    Ok(none && medium_answers(medium, WITH_ROOM_FOR_FIVE) && medium.bytes() == b"axyzw".as_slice())
+}
+
 #[test]
 fn fails_with_no_room(rt: HostRuntime) -> Result<(), Fail> {
     let mut medium = MemoryMedium::new(rt.alloc());
-    assert!(&rt; medium_answers(&mut medium, WITHOUT_ROOM));
-    medium.reserve(5)?;
-    assert!(&rt; medium_answers(&mut medium, WITH_ROOM_FOR_FIVE));
-    assert!(&rt; medium.bytes() == b"axyzw".as_slice());
-    assert!(&rt; medium.into_bytes().as_slice() == b"axyzw".as_slice());
+    let taken = takes_five(&mut medium)?;
+    assert!(&rt; taken && medium.into_bytes().as_slice() == b"axyzw".as_slice());
     Ok(())
+}
+
+/// Whether a new medium frames nothing with no room, and bytes where there is room for them.
+fn frames_three(medium: &mut MemoryMedium) -> Result<bool, Fail> {
+    let refused = medium.append_framed(b"()", b"") == Err(MediumFailed);
+    medium.reserve(7)?;
+    Ok(refused && medium_answers(medium, WITH_ROOM_FOR_SEVEN))
 }
 
 #[test]
 fn frames_what_has_its_room(rt: HostRuntime) -> Result<(), Fail> {
     let mut medium = MemoryMedium::new(rt.alloc());
-    let refused = medium.append_framed(b"()", b"") == Err(MediumFailed);
-    medium.reserve(7)?;
-    assert!(&rt; refused && medium_answers(&mut medium, WITH_ROOM_FOR_SEVEN));
-    assert!(&rt; medium.into_bytes().as_slice() == b"()abc()".as_slice());
+    let framed = frames_three(&mut medium)?;
+    assert!(&rt; framed && medium.into_bytes().as_slice() == b"()abc()".as_slice());
     Ok(())
 }
 
