@@ -7,7 +7,7 @@ use std::alloc::Global;
 use std::test::Fail;
 
 /// One operation of count 1: its number, what the peer replies, what it is sent, what is printed, and the status.
-type Row<'a> = (u32, Replies<'a>, &'a [u8], &'a [u8], u8);
+type Row<'a> = (u8, Replies<'a>, &'a [u8], &'a [u8], u8);
 
 const ROWS: [Row<'static>; 8] = [
     (
@@ -55,13 +55,13 @@ const ROWS: [Row<'static>; 8] = [
 ];
 
 /// Does an operation of count 1 over a peer. Answers what was printed, and the status.
-fn done(alloc: Global, peer: &mut FakePeer<'_>, op: u32) -> (Vec<u8>, u8) {
+fn done(alloc: Global, peer: &mut FakePeer<'_>, op: u8) -> (Vec<u8>, u8) {
     let mut printed = Vec::new(alloc);
     let told = mt(
         alloc,
         peer,
         b"/dev/st0",
-        op,
+        u32::from(op),
         1,
         &mut Counted::new(&mut printed),
     );
