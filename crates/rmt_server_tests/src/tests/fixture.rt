@@ -98,15 +98,32 @@ pub(crate) fn serve_once<R: Read + Drop, W: Write + Drop>(
 ) -> Result<Ended, Fail> {
     let mut input = Counted::new(input);
     let mut output = Counted::new(output);
+    serve_counted(alloc, &mut input, &mut output, capacity)
+}
+
+/// The same with a new reader.
+fn serve_counted<R: Read, W: Write>(
+    alloc: Global,
+    input: &mut Counted<R>,
+    output: &mut Counted<W>,
+    capacity: u64,
+) -> Result<Ended, Fail> {
     let mut wire = RequestReader::new(alloc)?;
+    serve_new(alloc, input, output, &mut wire, capacity)
+}
+
+/// The same with new drives and a new session.
+fn serve_new<R: Read, W: Write>(
+    alloc: Global,
+    input: &mut Counted<R>,
+    output: &mut Counted<W>,
+    wire: &mut RequestReader,
+    capacity: u64,
+) -> Result<Ended, Fail>
+    requires empty { Unread wire.old [] }
+{
     let (mut drives, mut session) = begin(alloc, capacity)?;
-    Ok(end_of(
-        &mut input,
-        &mut output,
-        &mut wire,
-        &mut session,
-        &mut drives,
-    ))
+    Ok(end_of(input, output, wire, &mut session, &mut drives))
 }
 
 /// Serves the stream, and looks at the drives then.

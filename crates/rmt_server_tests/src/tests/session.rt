@@ -108,21 +108,57 @@ fn begin_again(alloc: Global, drives: &mut Drives, session: Client) -> Result<Cl
     }
 }
 
-#[test]
-fn a_seat_serves_again(rt: HostRuntime) -> Result<(), Fail> {
-    let alloc = rt.alloc();
-    let (mut drives, mut session) = begin(alloc, 100)?;
-    let written = b"O/dev/st0\n2\nW3\nabc";
-    check_talk(&rt, alloc, &mut session, &mut drives, written, b"A0\nA3\n")?;
-    let mut session = begin_again(alloc, &mut drives, session)?;
+/// A session with nothing open answers so, and then reads what was written before it.
+fn check_read(
+    rt: &impl Abort,
+    alloc: Global,
+    session: &mut Client,
+    drives: &mut Drives,
+) -> Result<(), Fail>
+    requires { IsAt (kinds of_holds of_stacks of_reel) (state drives.old session.old) }
+{
     check_talk(
-        &rt,
+        rt,
         alloc,
-        &mut session,
-        &mut drives,
+        session,
+        drives,
         b"R9\n",
         b"E9\nBad file descriptor\n",
     )?;
     let read = b"O/dev/st0\n0\nR9\n";
-    check_talk(&rt, alloc, &mut session, &mut drives, read, b"A0\nA3\nabc")
+    check_talk(rt, alloc, session, drives, read, b"A0\nA3\nabc")
+}
+
+/// The same with a session that begins where another ended.
+fn check_again(
+    rt: &impl Abort,
+    alloc: Global,
+    session: Client,
+    drives: &mut Drives,
+) -> Result<(), Fail>
+    requires { IsAt (kinds of_holds of_stacks of_reel) (state drives.old session) }
+{
+    let mut session = begin_again(alloc, drives, session)?;
+    check_read(rt, alloc, &mut session, drives)
+}
+
+/// A session writes, and then another one reads from its seat.
+fn check_seat(
+    rt: &impl Abort,
+    alloc: Global,
+    session: Client,
+    drives: &mut Drives,
+) -> Result<(), Fail>
+    requires { IsAt (kinds of_holds of_stacks of_reel) (state drives.old session) }
+{
+    let mut session = session;
+    let written = b"O/dev/st0\n2\nW3\nabc";
+    check_talk(rt, alloc, &mut session, drives, written, b"A0\nA3\n")?;
+    check_again(rt, alloc, session, drives)
+}
+
+#[test]
+fn a_seat_serves_again(rt: HostRuntime) -> Result<(), Fail> {
+    let (mut drives, session) = begin(rt.alloc(), 100)?;
+    check_seat(&rt, rt.alloc(), session, &mut drives)
 }

@@ -124,16 +124,25 @@ fn answer(
     carry(drives, session, other, another, request)
 }
 
-/// The drives `/dev/st0` with the reels `a` and `b`, and `/dev/st1` with the reel `c`.
-fn two_drives(alloc: Global) -> Result<ListStacks, Fail>
-    ensures { IfOk result (λ stacks. length stacks.shop.racks ≡ 2) }
+/// Adds the drives `/dev/st0` with the reels `a` and `b`, and `/dev/st1` with the reel `c`.
+fn add_two(stacks: &mut ListStacks) -> Result<(), Fail>
+    requires { length stacks.old.shop.racks ≡ 0 }
+    ensures { IfOk result (λ _. length stacks.new.shop.racks ≡ 2) }
 {
-    let mut stacks = ListStacks::new(alloc);
     let first = stacks.add_drive(device(0))?;
     stacks.add_reel(first, b"a", CAPACITY)?;
     stacks.add_reel(first, b"b", CAPACITY)?;
     let second = stacks.add_drive(device(1))?;
     stacks.add_reel(second, b"c", CAPACITY)?;
+    Ok(())
+}
+
+/// Those drives alone.
+fn two_drives(alloc: Global) -> Result<ListStacks, Fail>
+    ensures { IfOk result (λ stacks. length stacks.shop.racks ≡ 2) }
+{
+    let mut stacks = ListStacks::new(alloc);
+    add_two(&mut stacks)?;
     Ok(stacks)
 }
 
