@@ -155,11 +155,11 @@ made_world host s drives n links begun books dates laid is count no_links no_run
     let there : host.hall ≡ hall (shop (map blank_rack (map plain_drive drives)) []) (replicate (length (map plain_drive drives)) 0) []
     = ap (λ (h : Hosted). h.hall) is ∙ ap (λ x. hall x (replicate n 0) []) (first_shop s drives laid)
     ∙ ap (λ m. hall (shop (map blank_rack (map plain_drive drives)) []) (replicate m 0) []) (count ∙ sym (length-map drives plain_drive)) in
-    let links-none : map seen_link links ≡ [] = ap (map seen_link) no_links in
-    let begun-none : map seen_begun begun ≡ [] = ap (map seen_begun) no_runs in
-    let counts-none : map (seen_count (names_in books)) books.counts.items ≡ [] = ap (map (seen_count (names_in books))) no_counts in
-    let opens-none : map (seen_opening (names_in books)) books.opens.items ≡ [] = ap (map (seen_opening (names_in books))) no_opens in
-    let entered-none : map seen_entered books.entered.items ≡ [] = ap (map seen_entered) no_entered in cc
+    let links_none : map seen_link links ≡ [] = ap (map seen_link) no_links in
+    let begun_none : map seen_begun begun ≡ [] = ap (map seen_begun) no_runs in
+    let counts_none : map (seen_count (names_in books)) books.counts.items ≡ [] = ap (map (seen_count (names_in books))) no_counts in
+    let opens_none : map (seen_opening (names_in books)) books.opens.items ≡ [] = ap (map (seen_opening (names_in books))) no_opens in
+    let entered_none : map seen_entered books.entered.items ≡ [] = ap (map seen_entered) no_entered in cc
 
 -- the name of each reel of a new world is among the names of all
 next_among : (x y : List ℕ) (xs : List (List ℕ)) → Contains xs y → Contains (x ∷ xs) y
