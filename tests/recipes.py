@@ -45,7 +45,7 @@ README = TOP / "README.md"
 PROGRAMS = {"rmtd": "PROGRAM", "rdump": "CLIENT", "rsim": "SIMULATOR"}
 
 # A recipe that takes longer is killed, so that the checks end.
-GUARD_SECONDS = 120
+GUARD_SECONDS = 300
 # So many recipes run at once.
 AT_ONCE = 4
 # What no command prints stands before each command, with the number of its line.

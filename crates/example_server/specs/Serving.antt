@@ -14,6 +14,7 @@ use Rattle.rmt_wire.specs.Limits.{reader_limit}
 use Rattle.example_server.specs.declared.stream.Stop.{Stop}
 use Rattle.example_server.specs.declared.stream.Stop.TheVariants.{Truncated, Broken, Input, Output}
 
+-- the text of the error 22
 abbrev pub invalid_text : List ℕ
 invalid_text = codes "Invalid argument"
 
