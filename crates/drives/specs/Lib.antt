@@ -1,4 +1,4 @@
--- In reading order: Holding, Local (holders); Shop, Calls, Stacking, Opening (reels); ListShop, Arranging (in memory); Folders.
+-- In reading order: Holding, Local (holders); Shop, Calls, Stacking, Opening (reels); ListShop, Arranging (in memory).
 pub mod Holding
 pub mod Local
 pub mod Shop
@@ -7,4 +7,3 @@ pub mod Stacking
 pub mod Opening
 pub mod ListShop
 pub mod Arranging
-pub mod Folders

@@ -1,11 +1,10 @@
 //! Drives: who holds which, and the reels that lie on their stacks and in the bin.
 //!
 //! `DriveTable` joins `Holds` (each drive has one holder at most) with `Stacks` (each reel lies in one place).
-//! `LocalHolds` and `ListStacks` are those of one thread, in memory. The reels of `FolderStacks` are record files in folders.
+//! `LocalHolds` and `ListStacks` are those of one thread, in memory.
 #![tactic(auto)]
 
 mod fault;
-mod folder;
 mod holds;
 mod laws;
 mod list;
@@ -19,7 +18,6 @@ mod taken;
 mod view;
 
 pub use fault::DriveFault;
-pub use folder::{FolderDrive, FolderFault, FolderStacks};
 pub use holds::Holds;
 pub use laws::{lying_troubles, told_orders};
 pub use list::ListStacks;

@@ -6,6 +6,7 @@ ghost use Rattle.rmt_words.specs.Rdump.{IsMtLine, IsReadLine};
 
 use clap::error::ErrorKind;
 use dump_client::{Blocks, Client};
+use reel_files::FileMedium;
 use rmt_programs::{
     Clearing, DatesFile, DumpLine, DumperFault, MtLine, PayloadFile, Peer, ProgressLine, RdumpLine,
     ReadFault, ReadLine, RunFault, SocketPeer, base_date, copy_volume, dates, dump,
@@ -16,7 +17,7 @@ use std::fs::{self, File};
 use std::io::{IsTerminal, Stderr, Write};
 use std::process::ExitCode;
 use std::{env, io};
-use tape::{FileMedium, Medium, MediumFailed, MemoryMedium};
+use tape::{Medium, MediumFailed, MemoryMedium};
 
 /// What the program ends with where its words are wrong, a file can't be read, or memory is refused.
 const FAILED: u8 = 1;

@@ -1,6 +1,6 @@
 -- The stacks of drives in folders, as the words of `rmtd` name them. Public contracts cite it.
 use Rattle.std.specs.Prelude.{ℕ, false, List, map}
-use Rattle.drives.specs.Folders.{FolderShop, folder_row, folder_shop}
+use Rattle.reel_files.specs.Folders.{FolderShop, folder_row, folder_shop}
 use Rattle.rmtd_words.specs.Drive.{plain_drive}
 use Rattle.rmtd_words.specs.declared.drive_word.DriveWord.{DriveWord}
 

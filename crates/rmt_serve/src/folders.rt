@@ -2,7 +2,7 @@
 ghost use Rattle.std.specs.Prelude.{◌≡◌, ◌≤◌, All, IfOk, length};
 ghost use Rattle.rmt_serve.specs.Folders.{stacks_of};
 
-use drives::{FolderDrive, FolderStacks};
+use reel_files::{FolderDrive, FolderStacks};
 use rmtd_words::DriveWord;
 use std::alloc::AllocError;
 use std::fs::File;

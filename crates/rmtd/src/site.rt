@@ -5,8 +5,8 @@ ghost use Rattle.drives.specs.Holding.{HoldsJust};
 ghost use Rattle.hold_table.specs.Seats.{IsSeatAt};
 ghost use Rattle.rmtd_words.specs.Drive.{KeepsDriveRules, plain_drive};
 
-use drives::FolderStacks;
 use hold_table::{HoldSeat, HoldTable};
+use reel_files::FolderStacks;
 use rmt_serve::seat_stacks;
 use rmtd_words::ServerLine;
 use std::io;

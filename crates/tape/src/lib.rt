@@ -6,7 +6,6 @@
 
 mod entry;
 mod fault;
-mod file_medium;
 mod file_reel;
 mod laws;
 mod list;
@@ -21,7 +20,6 @@ mod troubled;
 
 pub use entry::Entry;
 pub use fault::TapeFault;
-pub use file_medium::FileMedium;
 pub use file_reel::FileReel;
 pub use laws::{device_steps, one_spelling};
 pub use list::ListReel;

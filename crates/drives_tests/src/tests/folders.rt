@@ -5,9 +5,10 @@ ghost use Rattle.std.specs.Prelude.{◌≡◌, ◌<◌, length};
 mod fake;
 mod place;
 
-use drives::{DriveFault, FolderStacks, Stacks};
+use drives::{DriveFault, Stacks};
 use fake::FakeRuntime;
 use place::Place;
+use reel_files::FolderStacks;
 use std::fs::{File, OpenOptions};
 use std::io::{self, ErrorKind};
 use std::rt::Files;

@@ -3,8 +3,8 @@
 ghost use Rattle.std.specs.Prelude.{◌≡◌, All, IfOk, length};
 
 use super::streams::{Counts, Gated, TURNS, Told, reaches};
-use drives::{FolderDrive, FolderStacks};
 use hold_table::HoldTable;
+use reel_files::{FolderDrive, FolderStacks};
 use rmt_many::{Incoming, serve_many};
 use std::{fs, io, process};
 

@@ -1,11 +1,12 @@
 //! A medium that is a file, by tables of calls.
 
 use super::medium_calls::{DONE, MediumCall, WantedOfMedium, medium_answers};
+use reel_files::FileMedium;
 use std::fs::{self, File, OpenOptions};
 use std::os::unix::fs::FileExt;
 use std::test::Fail;
 use std::{io, process};
-use tape::{FileMedium, MediumFailed};
+use tape::MediumFailed;
 
 /// A file that has no bytes. The last bytes are `axyz`.
 const ON_AN_EMPTY_FILE: &[WantedOfMedium] = &[

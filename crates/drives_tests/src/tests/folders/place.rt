@@ -2,7 +2,7 @@
 
 ghost use Rattle.std.specs.Prelude.{◌≡◌, IfOk, length};
 
-use drives::{FolderDrive, FolderStacks};
+use reel_files::{FolderDrive, FolderStacks};
 use std::fs::{self, File};
 use std::os::unix::fs::{PermissionsExt, symlink};
 use std::rt::Files;

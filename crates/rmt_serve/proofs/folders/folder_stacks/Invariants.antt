@@ -1,5 +1,5 @@
 use Rattle.std.proofs.Common.{◌≡◌, false, map, take}
-use Rattle.drives.specs.Folders.{folder_row}
+use Rattle.reel_files.specs.Folders.{folder_row}
 use Rattle.rmtd_words.specs.Drive.{plain_drive}
 use Rattle.rmt_serve.proofs.folders.folder_stacks.Given as goal
 

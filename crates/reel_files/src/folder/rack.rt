@@ -1,7 +1,7 @@
 //! One drive whose stack is a folder.
 
 ghost use Rattle.std.specs.Prelude.{◌≡◌, ◌≢◌, false, true, IfOk, IsSome, is_some, MatchBool, MatchResult};
-ghost use Rattle.drives.specs.Folders.{folder_row};
+ghost use Rattle.reel_files.specs.Folders.{folder_row};
 
 use super::FolderDrive;
 use super::listing::{first_file, open_listed};
@@ -22,7 +22,7 @@ pub(super) struct FolderRack {
 
 impl Model for FolderRack {
     ghost use Rattle.std.specs.Prelude.{string_bytes, is_some};
-    ghost use Rattle.drives.specs.Folders.{FolderRow, folder_row};
+    ghost use Rattle.reel_files.specs.Folders.{FolderRow, folder_row};
 
     ghost Value = { FolderRow };
 

@@ -4,14 +4,15 @@ ghost use Rattle.std.specs.Prelude.{◌≡◌, ◌≢◌, ◌≤◌, ◌<◌, �
 ghost use Rattle.std.specs.IoError.{error_kind, raw_os_error};
 ghost use Rattle.drives.specs.declared.fault.DriveFault.TheVariants.{Device, OutOfMemory};
 ghost use Rattle.drives.specs.Shop.{Shop, IsDriveNamed};
-ghost use Rattle.drives.specs.Folders.{folder_shop, folder_row, after_fault, IsFolderOf, IsRowNamed, IsRefused, IsFolderMove};
+ghost use Rattle.reel_files.specs.Folders.{folder_shop, folder_row, after_fault, IsFolderOf, IsRowNamed, IsRefused, IsFolderMove};
 
 mod listing;
 mod look;
 mod moving;
 mod rack;
 
-use crate::{DriveFault, Stacks};
+use crate::FileMedium;
+use drives::{DriveFault, Stacks};
 use look::look_at;
 use moving::Moved;
 use rack::FolderRack;
@@ -20,7 +21,7 @@ use std::fs::File;
 use std::io::{self, ErrorKind};
 use std::marker::Model;
 use std::rt::Files;
-use tape::{FileMedium, FileReel};
+use tape::FileReel;
 
 /// The name of a drive, and the folder of its stack.
 #[derive(Clone, Copy)]
@@ -56,7 +57,7 @@ pub struct FolderStacks<R: Files<File = File> + AllocGlobal + Clone + Drop> {
 
 impl<R: Files<File = File> + AllocGlobal + Clone + Drop> Model for FolderStacks<R> {
     ghost use Rattle.std.specs.Prelude.{string_bytes};
-    ghost use Rattle.drives.specs.Folders.{FolderShop, folder_shop};
+    ghost use Rattle.reel_files.specs.Folders.{FolderShop, folder_shop};
 
     ghost Value = { FolderShop };
 
@@ -155,7 +156,7 @@ impl<R: Files<File = File> + AllocGlobal + Clone + Drop> FolderStacks<R> {
 }
 
 impl<R: Files<File = File> + AllocGlobal + Clone + Drop> Stacks for FolderStacks<R> {
-    ghost use Rattle.drives.specs.Folders.{IsFolderCall};
+    ghost use Rattle.reel_files.specs.Folders.{IsFolderCall};
 
     type Reel = FileReel<FileMedium>;
 

@@ -4,15 +4,15 @@ ghost use Rattle.std.specs.Prelude.{◌≡◌, ◌++◌, ◌≤◌, IfOk, Ok, On
 ghost use Rattle.tape.specs.Failures.{raised};
 ghost use Rattle.tape.specs.Medium.{IsMediumCall};
 ghost use Rattle.tape.specs.Medium.MediumCall.{Len, ReadAt, Append, Cut};
-ghost use Rattle.tape.specs.Media.{file_kind};
+ghost use Rattle.reel_files.specs.Files.{file_kind};
 
 mod window;
 
-use crate::{Medium, MediumFailed};
 use std::fs::File;
 use std::io::{self, ErrorKind, IoSlice};
 use std::marker::Model;
 use std::os::unix::fs::FileExt;
+use tape::{Medium, MediumFailed};
 use window::{LENGTH_SIZE, WINDOW_SIZE, Window};
 
 /// A medium that is a file of the system. It tells nothing of its bytes, and any call of it can fail.
@@ -29,7 +29,7 @@ pub struct FileMedium {
 }
 
 impl Model for FileMedium {
-    ghost use Rattle.tape.specs.Media.{FileCount};
+    ghost use Rattle.reel_files.specs.Files.{FileCount};
 
     ghost Value = { FileCount };
 

@@ -1,0 +1,11 @@
+-- A file of the system as a medium. Public contracts cite it.
+use Rattle.std.specs.Prelude.{ℕ}
+use Rattle.tape.specs.Medium.{MediumKind, medium_kind}
+
+-- what is told of a file: how many calls have failed, and nothing of its bytes
+pub record FileCount : Type 0 where
+  pub failures : ℕ
+
+-- any call of a file can fail
+abbrev pub file_kind : MediumKind FileCount
+file_kind = medium_kind (λ _ _. ⊥) (λ m. m.failures) (λ _. Unit {0}) (λ _. 0)

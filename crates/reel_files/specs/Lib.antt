@@ -1,0 +1,3 @@
+-- In reading order: Files (one file), Folders (drives).
+pub mod Files
+pub mod Folders
