@@ -5,10 +5,10 @@ use std::process::Abort;
 use tape::{MTWEOF, Reel, Trouble};
 
 /// A record for each entry of the greatest list that reels are compared on. No two have one length.
-const RECORDS: [&[u8]; 5] = [b"a", b"bb", b"ccc", b"dddd", b"eeeee"];
+static RECORDS: [&[u8]; 5] = [b"a", b"bb", b"ccc", b"dddd", b"eeeee"];
 
 /// Bytes of a record that has just its room on the greatest reel that is compared, and more.
-const ZEROS: &[u8] = &[0; 1000];
+static ZEROS: &[u8] = &[0; 1000];
 
 /// A reel that shows what is compared.
 pub(crate) trait Compared: Reel {
@@ -46,18 +46,29 @@ pub(crate) fn count_entries<R: Compared>(reel: &R) -> usize {
     99
 }
 
+/// The bytes of an entry, of which a mark has none.
+fn bytes_of(entry: &Option<Vec<u8>>) -> &[u8] {
+    match entry {
+        Some(bytes) => bytes.as_slice(),
+        None => &[],
+    }
+}
+
 /// Whether both reels have the same entries.
 fn has_entries<R: Compared>(reel: &R, slow: &SlowReel) -> bool {
     for (at, entry) in slow.entries().iter().enumerate() {
-        let bytes = match entry {
-            Some(bytes) => bytes.as_slice(),
-            None => &[],
-        };
-        if !tells(reel, at, bytes) {
+        if !tells(reel, at, bytes_of(entry)) {
             return false;
         }
     }
     count_entries(reel) == slow.entries().len()
+}
+
+/// Makes the call on both reels. Answers whether they answer alike.
+fn answer_alike<R: Compared>(reel: &mut R, slow: &mut SlowReel, call: Call) -> bool {
+    let mut into = [0u8; 8];
+    let mut slow_into = [0u8; 8];
+    make_call(reel, call, &mut into) == slow.call(call, &mut slow_into)
 }
 
 /// Makes the call on both reels. They have to answer alike, and afterwards to have the same entries, trouble and failures.
@@ -67,9 +78,7 @@ pub(crate) fn make_both<R: Compared>(
     slow: &mut SlowReel,
     call: Call,
 ) {
-    let mut into = [0u8; 8];
-    let mut slow_into = [0u8; 8];
-    let answered = make_call(reel, call, &mut into) == slow.call(call, &mut slow_into);
+    let answered = answer_alike(reel, slow, call);
     let alike = has_entries(reel, slow) && reel.troubles() == slow.troubles();
     assert!(rt; answered && alike, "{call:?}");
 }
@@ -101,6 +110,15 @@ pub(crate) fn compare_places<R: Compared>(rt: &impl Abort, reel: &mut R, slow: &
     }
 }
 
+/// The call that writes a mark, or else the record.
+fn entry_of(record: &'static [u8], is_mark: bool) -> Call {
+    if is_mark {
+        Call::Op(MTWEOF, 1)
+    } else {
+        Call::Write(record)
+    }
+}
+
 /// Writes so many entries on both reels, and goes to the place; to one beyond them it goes no more, but stands behind
 /// what it wrote. Each binary digit of `shape` that is 1, from the lowest on, makes that entry a mark.
 pub(crate) fn write_both<R: Compared>(
@@ -112,12 +130,7 @@ pub(crate) fn write_both<R: Compared>(
 ) {
     let mut digits = shape;
     for record in RECORDS.iter().take(length) {
-        let entry = if digits % 2 == 1 {
-            Call::Op(MTWEOF, 1)
-        } else {
-            Call::Write(record)
-        };
-        make_both(rt, reel, slow, entry);
+        make_both(rt, reel, slow, entry_of(record, digits % 2 == 1));
         digits /= 2;
     }
     if place <= length {

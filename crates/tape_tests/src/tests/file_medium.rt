@@ -9,7 +9,7 @@ use std::{io, process};
 use tape::MediumFailed;
 
 /// A file that has no bytes. The last bytes are `axyz`.
-const ON_AN_EMPTY_FILE: &[WantedOfMedium] = &[
+static ON_AN_EMPTY_FILE: &[WantedOfMedium] = &[
     (MediumCall::Append(b"abc"), DONE),
     (MediumCall::Append(b"de"), DONE),
     (MediumCall::Len, Ok((5, b""))),
@@ -24,7 +24,7 @@ const ON_AN_EMPTY_FILE: &[WantedOfMedium] = &[
 ];
 
 /// The same file, open to read alone: every call that asks the system for more fails, and is counted.
-const OPEN_TO_READ: &[WantedOfMedium] = &[
+static OPEN_TO_READ: &[WantedOfMedium] = &[
     (MediumCall::Append(b"!"), Err(MediumFailed)),
     (MediumCall::Failures, Ok((1, b""))),
     (MediumCall::Cut(2), Err(MediumFailed)),
@@ -35,14 +35,14 @@ const OPEN_TO_READ: &[WantedOfMedium] = &[
 ];
 
 /// The same file, open to write alone.
-const OPEN_TO_WRITE: &[WantedOfMedium] = &[
+static OPEN_TO_WRITE: &[WantedOfMedium] = &[
     (MediumCall::ReadAt(0, 4), Err(MediumFailed)),
     (MediumCall::Failures, Ok((1, b""))),
 ];
 
 /// Bytes between frames, of which any may be empty, are added to a file that has no bytes. Then lengths are read: over
 /// the edge of the window, and at the end, where they are short.
-const FRAMED: &[WantedOfMedium] = &[
+static FRAMED: &[WantedOfMedium] = &[
     (MediumCall::AppendFramed(b"()", b"abc"), DONE),
     (MediumCall::AppendFramed(b"", b"def"), DONE),
     (MediumCall::AppendFramed(b"<>", b""), DONE),
@@ -60,7 +60,7 @@ const FRAMED: &[WantedOfMedium] = &[
 ];
 
 /// Another handle wrote `xyz` from 6 on: that is not seen in the window, until a call changes the file.
-const AFTER_A_WRITE: &[WantedOfMedium] = &[
+static AFTER_A_WRITE: &[WantedOfMedium] = &[
     (MediumCall::ReadAt(6, 4), Ok((4, b")def"))),
     (MediumCall::ReadAt(7, 4), Ok((4, b"yzf<"))),
     (MediumCall::Append(b"!"), DONE),
@@ -73,7 +73,7 @@ const AFTER_A_WRITE: &[WantedOfMedium] = &[
 ];
 
 /// Another handle wrote `v` at 7 since.
-const AFTER_ANOTHER_WRITE: &[WantedOfMedium] = &[
+static AFTER_ANOTHER_WRITE: &[WantedOfMedium] = &[
     (MediumCall::ReadAt(6, 4), Ok((4, b"xv<["))),
     (MediumCall::Failures, Ok((0, b""))),
 ];
@@ -87,6 +87,11 @@ fn new_file(rt: &HostRuntime, path: &str) -> io::Result<File> {
         .open(rt, path)
 }
 
+/// The file of this path, open to write alone.
+fn open_to_write(rt: &HostRuntime, path: &str) -> io::Result<File> {
+    OpenOptions::new().write(true).open(rt, path)
+}
+
 /// The path of a file that no other test has.
 fn path_of(rt: &HostRuntime, name: &str) -> Result<String, Fail> {
     let id = process::id(rt.process());
@@ -98,17 +103,30 @@ fn file_answers(file: File, calls: &[WantedOfMedium]) -> bool {
     medium_answers(&mut FileMedium::new(file), calls)
 }
 
+/// Whether a medium that is a new file answers as is wanted, and the file has its bytes once it is synced.
+fn new_file_answers(medium: &mut FileMedium) -> Result<bool, Fail> {
+    let answered = medium_answers(medium, ON_AN_EMPTY_FILE);
+    medium.sync()?;
+    Ok(answered && medium.file().metadata()?.len() == 4)
+}
+
+/// Whether the same file answers as is wanted where it is open to read alone, and to write alone.
+fn half_open_answers(rt: &HostRuntime, path: &str) -> io::Result<bool> {
+    let read = file_answers(File::open(rt, path)?, OPEN_TO_READ);
+    Ok(read && file_answers(open_to_write(rt, path)?, OPEN_TO_WRITE))
+}
+
+/// Whether a medium that is a new file of this path answers as is wanted, and then the file that is opened again.
+fn file_of_path_answers(rt: &HostRuntime, path: &str) -> Result<bool, Fail> {
+    let mut medium = FileMedium::new(new_file(rt, path)?);
+    let answered = new_file_answers(&mut medium)?;
+    Ok(answered && half_open_answers(rt, path)?)
+}
+
 #[test]
 fn stands_on_a_file(rt: HostRuntime) -> Result<(), Fail> {
     let path = path_of(&rt, "calls")?;
-    let mut medium = FileMedium::new(new_file(&rt, path.as_str())?);
-    assert!(&rt; medium_answers(&mut medium, ON_AN_EMPTY_FILE));
-    medium.sync()?;
-    assert!(&rt; medium.file().metadata()?.len() == 4);
-    let reader = File::open(&rt, path.as_str())?;
-    assert!(&rt; file_answers(reader, OPEN_TO_READ));
-    let writer = OpenOptions::new().write(true).open(&rt, path.as_str())?;
-    assert!(&rt; file_answers(writer, OPEN_TO_WRITE));
+    assert!(&rt; file_of_path_answers(&rt, path.as_str())?);
     fs::remove_file(&rt, path.as_str())?;
     Ok(())
 }
@@ -122,12 +140,17 @@ fn keeps_what_it_read(medium: &mut FileMedium, other: &File) -> io::Result<bool>
     Ok(framed && kept && medium_answers(medium, AFTER_ANOTHER_WRITE))
 }
 
+/// The same of a medium that is a new file of this path.
+fn file_keeps_what_it_read(rt: &HostRuntime, path: &str) -> io::Result<bool> {
+    let mut medium = FileMedium::new(new_file(rt, path)?);
+    let other = open_to_write(rt, path)?;
+    keeps_what_it_read(&mut medium, &other)
+}
+
 #[test]
 fn keeps_what_it_read_until_a_change(rt: HostRuntime) -> Result<(), Fail> {
     let path = path_of(&rt, "window")?;
-    let mut medium = FileMedium::new(new_file(&rt, path.as_str())?);
-    let other = OpenOptions::new().write(true).open(&rt, path.as_str())?;
-    assert!(&rt; keeps_what_it_read(&mut medium, &other)?);
+    assert!(&rt; file_keeps_what_it_read(&rt, path.as_str())?);
     fs::remove_file(&rt, path.as_str())?;
     Ok(())
 }

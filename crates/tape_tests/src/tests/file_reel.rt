@@ -10,7 +10,7 @@ use tape::{FileReel, MTBSF, MTBSR, MTFSF, MTFSR, MTNOP, MTWEOF, MemoryMedium, Re
 const TWO: &[u8] = b"\x03\0\0\0abc\x03\0\0\0\x02\0\0\0de\x02\0\0\0";
 
 /// What a medium has, the calls of a reel of 100 bytes on it, and what the medium has after the last.
-const RUNS: [(&[u8], &[Wanted], &[u8]); 8] = [
+static RUNS: [(&[u8], &[Wanted], &[u8]); 8] = [
     (
         b"",
         SPELLS_A_RECORD_AND_A_MARK,
@@ -100,23 +100,34 @@ fn its_entries_are_what_the_medium_spells(rt: HostRuntime) -> Result<(), Fail> {
     Ok(())
 }
 
+/// Whether a reel on these bytes has no entry, and the medium has the record `x` once that is written.
+fn has_no_entry(alloc: Global, bytes: &[u8]) -> Result<bool, AllocError> {
+    goes(alloc, bytes, HAS_NO_ENTRY, X)
+}
+
 #[test]
 fn a_tail_has_no_entry_and_is_cut_off(rt: HostRuntime) -> Result<(), Fail> {
-    for bytes in TAILS {
-        assert!(&rt; goes(rt.alloc(), bytes, HAS_NO_ENTRY, X)?, "{bytes:?}");
+    for bytes in &TAILS {
+        assert!(&rt; has_no_entry(rt.alloc(), bytes)?, "{bytes:?}");
     }
     Ok(())
+}
+
+/// A medium with no room.
+static WITHOUT_ROOM: &[Wanted] = &[
+    (Call::Write(b"x"), Err(TapeFault::Device)),
+    (Call::Op(MTWEOF, 1), Err(TapeFault::Device)),
+    (Call::Read(8), Ok(b"")),
+];
+
+/// Whether the reel answers as one whose medium has no room, which has no bytes and two failures afterwards.
+fn is_at_fault(reel: &mut FileReel<MemoryMedium>) -> bool {
+    answers(reel, WITHOUT_ROOM) && reel.medium().bytes().is_empty() && reel.failures() == 2
 }
 
 #[test]
 fn a_medium_with_no_room_is_at_fault(rt: HostRuntime) -> Result<(), Fail> {
     let mut reel = FileReel::open(MemoryMedium::new(rt.alloc()), 100);
-    let calls: &[Wanted] = &[
-        (Call::Write(b"x"), Err(TapeFault::Device)),
-        (Call::Op(MTWEOF, 1), Err(TapeFault::Device)),
-        (Call::Read(8), Ok(b"")),
-    ];
-    assert!(&rt; answers(&mut reel, calls) && reel.medium().bytes().is_empty());
-    assert!(&rt; reel.failures() == 2);
+    assert!(&rt; is_at_fault(&mut reel));
     Ok(())
 }

@@ -35,7 +35,7 @@ fn write_in_memory(reel: &mut ListReel, bytes: &[u8]) -> Result<(), TapeFault>
 }
 
 /// A capacity, and calls of a new reel of that capacity.
-const RUNS: [(u64, &[Wanted]); 8] = [
+static RUNS: [(u64, &[Wanted]); 8] = [
     (0, &[]),
     (100, WRITES_AND_READS_BACK),
     (16, KEEPS_ROOM_FOR_A_MARK),
@@ -170,7 +170,7 @@ fn each_call_answers_as_is_wanted(rt: HostRuntime) -> Result<(), Fail> {
 type Told = (usize, Option<usize>, &'static [u8]);
 
 /// The last record behind a record `abc` and a mark, and what is told of the three.
-const TOLD: [(&[u8], &[Told]); 2] = [
+static TOLD: [(&[u8], &[Told]); 2] = [
     (
         b"defgh",
         &[
@@ -220,11 +220,15 @@ fn tells_entries(reel: &mut ListReel, last: &[u8], told: &[Told]) -> bool {
     none && first && written && all_told(reel, told) && reel.read(&mut [0; 6]) == Ok(3)
 }
 
+/// The same of a new reel of 100 bytes.
+fn new_reel_tells(alloc: Global, last: &[u8], told: &[Told]) -> bool {
+    tells_entries(&mut ListReel::new(alloc, 100), last, told)
+}
+
 #[test]
 fn tells_each_entry_by_its_number(rt: HostRuntime) -> Result<(), Fail> {
-    for (last, told) in TOLD {
-        let mut reel = ListReel::new(rt.alloc(), 100);
-        assert!(&rt; tells_entries(&mut reel, last, told), "{last:?}");
+    for (last, told) in &TOLD {
+        assert!(&rt; new_reel_tells(rt.alloc(), last, told), "{last:?}");
     }
     Ok(())
 }
@@ -235,11 +239,15 @@ fn compare_after(rt: &impl Abort, alloc: Global, list: (usize, u32), place: usiz
     let mut reel = ListReel::new(alloc, 1000);
     let mut slow = SlowReel::new(alloc, 1000);
     write_both(rt, &mut reel, &mut slow, list, place);
-    for call in calls {
-        make_both(rt, &mut reel, &mut slow, *call);
-    }
+    space_both(rt, &mut reel, &mut slow, calls);
     assert!(rt; count_entries(&reel) == list.0, "entries after {calls:?}");
     compare_places(rt, &mut reel, &mut slow);
+}
+
+fn space_both(rt: &impl Abort, reel: &mut ListReel, slow: &mut SlowReel, calls: &[Call]) {
+    for call in calls {
+        make_both(rt, reel, slow, *call);
+    }
 }
 
 /// Compares what a spacing at the place of the list leaves, and what a read behind it does.

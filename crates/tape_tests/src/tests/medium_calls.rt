@@ -3,7 +3,7 @@
 use tape::{Medium, MediumFailed};
 
 /// A call of a medium.
-#[derive(Clone, Copy, Debug)]
+#[derive(Clone, Copy)]
 pub(crate) enum MediumCall {
     Len,
     /// A read from this offset on, into so many dots, of which there are 16 at most.
@@ -27,28 +27,34 @@ fn make_medium_call<'a, M: Medium>(
     call: MediumCall,
     into: &'a mut [u8; 16],
 ) -> Result<(u64, &'a [u8]), MediumFailed> {
-    let number = match call {
-        MediumCall::Len => medium.len()?,
-        MediumCall::ReadAt(at, count) => {
-            let part = &mut into[..count.min(16)];
-            let given = medium.read_at(at, part)?;
-            return Ok((given as u64, part));
-        }
-        MediumCall::Append(bytes) => {
-            medium.append(bytes)?;
-            0
-        }
-        MediumCall::AppendFramed(frame, bytes) => {
-            medium.append_framed(frame, bytes)?;
-            0
-        }
-        MediumCall::Cut(len) => {
-            medium.cut(len)?;
-            0
-        }
-        MediumCall::Failures => medium.failures(),
+    let MediumCall::ReadAt(at, count) = call else {
+        return Ok((number_of(medium, call)?, &[]));
     };
-    Ok((number, &[]))
+    let part = &mut into[..count.min(16)];
+    let given = medium.read_at(at, part)?;
+    Ok((given as u64, part))
+}
+
+/// Makes a call that is no read, and answers the number that it gave, or 0.
+fn number_of<M: Medium>(medium: &mut M, call: MediumCall) -> Result<u64, MediumFailed> {
+    match call {
+        MediumCall::Len => medium.len(),
+        MediumCall::Failures => Ok(medium.failures()),
+        _ => {
+            change(medium, call)?;
+            Ok(0)
+        }
+    }
+}
+
+/// Makes a call that changes the medium, or else none.
+fn change<M: Medium>(medium: &mut M, call: MediumCall) -> Result<(), MediumFailed> {
+    match call {
+        MediumCall::Append(bytes) => medium.append(bytes),
+        MediumCall::AppendFramed(frame, bytes) => medium.append_framed(frame, bytes),
+        MediumCall::Cut(len) => medium.cut(len),
+        _ => Ok(()),
+    }
 }
 
 /// Whether each of the calls answers as is wanted.

@@ -8,14 +8,14 @@ use tape::{Medium, MediumFailed, MemoryMedium};
 const MANY: &[u8] = &[0; 1000];
 
 /// A medium with no room.
-const WITHOUT_ROOM: &[WantedOfMedium] = &[
+static WITHOUT_ROOM: &[WantedOfMedium] = &[
     (MediumCall::Append(b"a"), Err(MediumFailed)),
     (MediumCall::Append(b""), DONE),
     (MediumCall::Failures, Ok((1, b""))),
 ];
 
 /// The same medium with room for 5 bytes. The last bytes are `axyzw`.
-const WITH_ROOM_FOR_FIVE: &[WantedOfMedium] = &[
+static WITH_ROOM_FOR_FIVE: &[WantedOfMedium] = &[
     (MediumCall::Append(b"abc"), DONE),
     (MediumCall::Append(b"de"), DONE),
     (MediumCall::Append(b""), DONE),
@@ -33,7 +33,7 @@ const WITH_ROOM_FOR_FIVE: &[WantedOfMedium] = &[
 ];
 
 /// A medium with room for 7 bytes. The last bytes are `()abc()`.
-const WITH_ROOM_FOR_SEVEN: &[WantedOfMedium] = &[
+static WITH_ROOM_FOR_SEVEN: &[WantedOfMedium] = &[
     (MediumCall::AppendFramed(b"()", b"abc"), DONE),
     (MediumCall::AppendFramed(b"()", MANY), Err(MediumFailed)),
     (MediumCall::AppendFramed(MANY, b""), Err(MediumFailed)),
@@ -41,10 +41,15 @@ const WITH_ROOM_FOR_SEVEN: &[WantedOfMedium] = &[
 ];
 
 /// A medium on the bytes `hello`.
-const ON_GIVEN_BYTES: &[WantedOfMedium] = &[
+static ON_GIVEN_BYTES: &[WantedOfMedium] = &[
     (MediumCall::ReadAt(0, 8), Ok((5, b"hello..."))),
     (MediumCall::Failures, Ok((0, b""))),
 ];
+
+/// Whether these are the last bytes of the medium.
+fn leaves(medium: MemoryMedium, bytes: &[u8]) -> bool {
+    medium.into_bytes().as_slice() == bytes
+}
 
 /// Whether a new medium fails with no room, and takes five bytes where there is room for them.
 fn takes_five(medium: &mut MemoryMedium) -> Result<bool, Fail> {
@@ -57,7 +62,8 @@ fn takes_five(medium: &mut MemoryMedium) -> Result<bool, Fail> {
 fn fails_with_no_room(rt: HostRuntime) -> Result<(), Fail> {
     let mut medium = MemoryMedium::new(rt.alloc());
     let taken = takes_five(&mut medium)?;
-    assert!(&rt; taken && medium.into_bytes().as_slice() == b"axyzw".as_slice());
+    let left = leaves(medium, b"axyzw");
+    assert!(&rt; taken && left);
     Ok(())
 }
 
@@ -72,7 +78,8 @@ fn frames_three(medium: &mut MemoryMedium) -> Result<bool, Fail> {
 fn frames_what_has_its_room(rt: HostRuntime) -> Result<(), Fail> {
     let mut medium = MemoryMedium::new(rt.alloc());
     let framed = frames_three(&mut medium)?;
-    assert!(&rt; framed && medium.into_bytes().as_slice() == b"()abc()".as_slice());
+    let left = leaves(medium, b"()abc()");
+    assert!(&rt; framed && left);
     Ok(())
 }
 

@@ -21,27 +21,26 @@ pub(crate) fn make_call<'a, R: Reel>(
     request: Call,
     into: &'a mut [u8; 8],
 ) -> Result<&'a [u8], TapeFault> {
+    let Call::Read(count) = request else {
+        make_blindly(reel, request)?;
+        return Ok(&[]);
+    };
+    let part = &mut into[..count.min(8)];
+    let given = reel.read(part)?;
+    Ok(&part[..given])
+}
+
+/// Makes a call that gives no bytes; a read is none.
+fn make_blindly<R: Reel>(reel: &mut R, request: Call) -> Result<(), TapeFault> {
     match request {
-        Call::Write(bytes) => {
-            if !is_record(bytes) {
-                return Err(TapeFault::EndOrMark);
-            }
-            reel.write(bytes)?;
-            Ok(&[])
-        }
-        Call::Read(count) => {
-            let part = &mut into[..count.min(8)];
-            let given = reel.read(part)?;
-            Ok(&part[..given])
-        }
-        Call::Op(op, count) => {
-            reel.op(op, count)?;
-            Ok(&[])
-        }
+        Call::Write(bytes) if is_record(bytes) => reel.write(bytes),
+        Call::Write(_) => Err(TapeFault::EndOrMark),
+        Call::Op(op, count) => reel.op(op, count),
         Call::Rewind => {
             reel.rewind();
-            Ok(&[])
+            Ok(())
         }
+        Call::Read(_) => Ok(()),
     }
 }
 
@@ -71,6 +70,14 @@ pub(crate) struct SlowReel {
     failures: u64,
 }
 
+/// How many bytes the entry takes: a record has two frames, a mark has one.
+fn size_of(entry: &Option<Vec<u8>>) -> u64 {
+    match entry {
+        Some(bytes) => (bytes.len() as u64).saturating_add(8),
+        None => 4,
+    }
+}
+
 impl SlowReel {
     pub(crate) fn new(alloc: Global, capacity: u64) -> SlowReel {
         SlowReel {
@@ -93,7 +100,7 @@ impl SlowReel {
         if self.trouble == Trouble::None || !self.comes_to_device(request) {
             return self.carry_out(request, into);
         }
-        self.leave(request, into)?;
+        self.leave(request)?;
         self.trouble = Trouble::None;
         self.failures = self.failures.saturating_add(1);
         Err(TapeFault::Device)
@@ -117,7 +124,7 @@ impl SlowReel {
     }
 
     /// Writes all, and takes away again what the trouble does not leave.
-    fn leave(&mut self, request: Call, into: &mut [u8; 8]) -> Result<(), TapeFault> {
+    fn leave(&mut self, request: Call) -> Result<(), TapeFault> {
         let left = match self.trouble {
             Trouble::None | Trouble::Kept => return Ok(()),
             Trouble::Lost => 0,
@@ -125,7 +132,7 @@ impl SlowReel {
         };
         let place = self.place;
         if let Call::Write(_) | Call::Op(MTWEOF, _) = request {
-            self.carry_out(request, into)?;
+            self.carry_out_blindly(request)?;
             self.place = place;
             self.entries.truncate(place.saturating_add(left));
         }
@@ -138,22 +145,38 @@ impl SlowReel {
         request: Call,
         into: &'a mut [u8; 8],
     ) -> Result<&'a [u8], TapeFault> {
+        let Call::Read(count) = request else {
+            self.carry_out_blindly(request)?;
+            return Ok(&[]);
+        };
+        let given = self.read(count, into);
+        Ok(&into[..given])
+    }
+
+    /// Makes a call that gives no bytes; a read is none.
+    fn carry_out_blindly(&mut self, request: Call) -> Result<(), TapeFault> {
         match request {
-            Call::Write(bytes) => self.write(bytes)?,
-            Call::Read(count) => {
-                let given = self.read(count, into);
-                return Ok(&into[..given]);
-            }
-            Call::Op(MTWEOF, count) => self.write_marks(count)?,
-            Call::Op(MTFSF, count) => self.forward_files(count)?,
-            Call::Op(MTBSF, count) => self.back_files(count)?,
-            Call::Op(MTFSR, count) => self.forward_records(count)?,
-            Call::Op(MTBSR, count) => self.back_records(count)?,
-            Call::Op(MTREW, _) | Call::Rewind => self.place = 0,
-            Call::Op(MTNOP, _) => {}
-            Call::Op(_, _) => return Err(TapeFault::BadOperation),
+            Call::Write(bytes) => self.write(bytes),
+            Call::Op(op, count) => self.operate(op, count),
+            Call::Rewind => self.operate(MTREW, 1),
+            Call::Read(_) => Ok(()),
         }
-        Ok(&[])
+    }
+
+    fn operate(&mut self, op: u32, count: u32) -> Result<(), TapeFault> {
+        match op {
+            MTWEOF => self.write_marks(count),
+            MTFSF => self.forward_files(count),
+            MTBSF => self.back_files(count),
+            MTFSR => self.forward_records(count),
+            MTBSR => self.back_records(count),
+            MTREW => {
+                self.place = 0;
+                Ok(())
+            }
+            MTNOP => Ok(()),
+            _ => Err(TapeFault::BadOperation),
+        }
     }
 
     /// Sets how the next device call fails.
@@ -176,10 +199,15 @@ impl SlowReel {
         self.capacity.saturating_sub(self.offset())
     }
 
+    /// Whether the entry of that number is a mark.
+    fn is_mark(&self, at: usize) -> bool {
+        matches!(self.entries.get(at), Some(None))
+    }
+
     /// The first mark at or after the place.
     fn mark_ahead(&self) -> Option<usize> {
-        for (at, entry) in self.entries.iter().enumerate().skip(self.place) {
-            if entry.is_none() {
+        for at in self.place..self.entries.len() {
+            if self.is_mark(at) {
                 return Some(at);
             }
         }
@@ -189,8 +217,8 @@ impl SlowReel {
     /// The last mark before the place.
     fn mark_behind(&self) -> Option<usize> {
         let mut found = None;
-        for (at, entry) in self.entries.iter().enumerate().take(self.place) {
-            if entry.is_none() {
+        for at in 0..self.place {
+            if self.is_mark(at) {
                 found = Some(at);
             }
         }
@@ -247,11 +275,7 @@ impl SlowReel {
     fn offset(&self) -> u64 {
         let mut sum = 0u64;
         for entry in self.entries.iter().take(self.place) {
-            let size = match entry {
-                Some(bytes) => (bytes.len() as u64).saturating_add(8),
-                None => 4,
-            };
-            sum = sum.saturating_add(size);
+            sum = sum.saturating_add(size_of(entry));
         }
         sum
     }

@@ -17,10 +17,10 @@ use tape::{
 };
 
 /// The capacities that troubles are compared at: all fits, and what follows the first entries does not.
-const CAPACITIES: [u64; 2] = [1000, 26];
+static CAPACITIES: [u64; 2] = [1000, 26];
 
 /// Each kind of trouble.
-const TROUBLES: [Trouble; 7] = [
+static TROUBLES: [Trouble; 7] = [
     Trouble::None,
     Trouble::Kept,
     Trouble::Lost,
@@ -66,7 +66,7 @@ const WRITE: Call = Call::Write(b"x");
 
 const MARKS: Call = Call::Op(MTWEOF, 3);
 
-const FAILURES: [Failure; 17] = [
+static FAILURES: [Failure; 17] = [
     // A failed write leaves what its trouble says.
     (1, WRITE, Trouble::Kept, ALL),
     (1, WRITE, Trouble::Lost, &[b"abc"]),
@@ -89,6 +89,18 @@ const FAILURES: [Failure; 17] = [
     (2, Call::Op(MTBSR, 1), Trouble::Kept, ALL),
 ];
 
+/// The calls that write the records, and go back to the beginning.
+static ABC_AND_DE: &[Wanted] = &[
+    (Call::Write(b"abc"), Ok(b"")),
+    (Call::Write(b"de"), Ok(b"")),
+    (Call::Rewind, Ok(b"")),
+];
+
+/// Whether the call answers as is wanted.
+fn answers_one(reel: &mut TroubledReel, call: Wanted) -> bool {
+    answers(reel, &[call])
+}
+
 /// Whether these are the entries of the reel; one of no bytes is a mark.
 fn has(reel: &TroubledReel, wanted: &[&[u8]]) -> bool {
     for (at, bytes) in wanted.iter().enumerate() {
@@ -101,39 +113,35 @@ fn has(reel: &TroubledReel, wanted: &[&[u8]]) -> bool {
 
 /// Whether the reel stands there: behind a mark that is written there stands nothing.
 fn stands_at(reel: &mut TroubledReel, place: u32) -> bool {
-    let marked = answers(reel, &[(Call::Op(MTWEOF, 1), Ok(b""))]);
+    let marked = answers_one(reel, (Call::Op(MTWEOF, 1), Ok(b"")));
     let last = place as usize;
     marked && compared::tells(reel, last, b"") && count_entries(reel) == last.saturating_add(1)
 }
 
 /// Whether the device is at fault in the call, the place is the same, and the entries are as is wanted.
-fn leaves(alloc: Global, (place, request, trouble, wanted): Failure) -> bool {
-    let mut reel = TroubledReel::new(ListReel::new(alloc, 1000));
-    let written = answers(
-        &mut reel,
-        &[
-            (Call::Write(b"abc"), Ok(b"")),
-            (Call::Write(b"de"), Ok(b"")),
-            (Call::Rewind, Ok(b"")),
-            (Call::Op(MTFSR, place), Ok(b"")),
-        ],
-    );
+fn leaves(reel: &mut TroubledReel, (place, request, trouble, wanted): Failure) -> bool {
+    let written = answers(reel, ABC_AND_DE) && answers_one(reel, (Call::Op(MTFSR, place), Ok(b"")));
     reel.set(trouble);
-    let failed = answers(&mut reel, &[(request, Err(TapeFault::Device))]);
-    let left = reel.troubles() == (Trouble::None, 1) && has(&reel, wanted);
-    written && failed && left && stands_at(&mut reel, place)
+    let failed = answers_one(reel, (request, Err(TapeFault::Device)));
+    let left = reel.troubles() == (Trouble::None, 1) && has(reel, wanted);
+    written && failed && left && stands_at(reel, place)
+}
+
+/// The same of a new reel.
+fn new_reel_leaves(alloc: Global, failure: Failure) -> bool {
+    leaves(&mut TroubledReel::new(ListReel::new(alloc, 1000)), failure)
 }
 
 #[test]
 fn a_failed_call_leaves_what_its_trouble_says(rt: HostRuntime) -> Result<(), Fail> {
     for (at, failure) in FAILURES.iter().enumerate() {
-        assert!(&rt; leaves(rt.alloc(), *failure), "failure {at}");
+        assert!(&rt; new_reel_leaves(rt.alloc(), *failure), "failure {at}");
     }
     Ok(())
 }
 
 /// Calls of a full reel that come to no device, whatever its trouble.
-const WAITING: &[Wanted] = &[
+static WAITING: &[Wanted] = &[
     (Call::Write(b"b"), Err(TapeFault::Full)),
     (Call::Op(MTWEOF, 2), Err(TapeFault::Full)),
     (Call::Op(MTWEOF, 0), Ok(b"")),
@@ -148,17 +156,26 @@ const WAITING: &[Wanted] = &[
     (Call::Rewind, Ok(b"")),
 ];
 
+/// Whether a trouble that is set once the reel is full waits.
+fn waits(reel: &mut TroubledReel) -> bool {
+    let written = answers_one(reel, (Call::Write(b"a"), Ok(b"")));
+    reel.set(Trouble::Lost);
+    written && answers(reel, WAITING) && reel.troubles() == (Trouble::Lost, 0)
+}
+
+/// Whether a trouble fails the next device call of the reel, and no other.
+fn fails_once(reel: &mut TroubledReel) -> bool {
+    reel.set(Trouble::Kept);
+    let failed = answers_one(reel, (Call::Read(8), Err(TapeFault::Device)));
+    let told = reel.troubles() == (Trouble::None, 1);
+    failed && told && answers_one(reel, (Call::Read(8), Ok(b"a"))) && reel.failures() == 1
+}
+
 #[test]
 fn a_trouble_waits_for_a_device_call(rt: HostRuntime) -> Result<(), Fail> {
     let mut reel = TroubledReel::new(ListReel::new(rt.alloc(), 13));
-    let written = answers(&mut reel, &[(Call::Write(b"a"), Ok(b""))]);
-    reel.set(Trouble::Lost);
-    let waits = answers(&mut reel, WAITING) && reel.troubles() == (Trouble::Lost, 0);
-    assert!(&rt; written && waits);
-    reel.set(Trouble::Kept);
-    let failed = answers(&mut reel, &[(Call::Read(8), Err(TapeFault::Device))]);
-    assert!(&rt; failed && reel.troubles() == (Trouble::None, 1));
-    assert!(&rt; answers(&mut reel, &[(Call::Read(8), Ok(b"a"))]) && reel.failures() == 1);
+    assert!(&rt; waits(&mut reel));
+    assert!(&rt; fails_once(&mut reel));
     Ok(())
 }
 
@@ -168,33 +185,47 @@ fn tells(reel: &TroubledReel, i: usize, wanted: Option<usize>, after: &[u8; 4]) 
     reel.entry(i, &mut into) == wanted && into == *after
 }
 
+/// Whether a mark and the record `ab` are told of a reel.
+fn tells_both(reel: &TroubledReel) -> bool {
+    tells(reel, 0, Some(0), b"....")
+        && tells(reel, 2, None, b"....")
+        && tells(reel, 1, Some(2), b"ab..")
+}
+
+/// A mark and the record `ab`.
+static A_MARK_AND_AB: &[Wanted] = &[
+    (Call::Op(MTWEOF, 1), Ok(b"")),
+    (Call::Write(b"ab"), Ok(b"")),
+];
+
+/// Whether a new reel tells its entries also while a trouble is set, which waits.
+fn tells_in_trouble(reel: &mut TroubledReel) -> bool {
+    let written = answers(reel, A_MARK_AND_AB);
+    reel.set(Trouble::Lost);
+    written && tells_both(reel) && reel.troubles() == (Trouble::Lost, 0)
+}
+
 #[test]
 fn tells_entries_while_a_trouble_is_set(rt: HostRuntime) -> Result<(), Fail> {
     let mut reel = TroubledReel::new(ListReel::new(rt.alloc(), 100));
-    let calls: &[Wanted] = &[
-        (Call::Op(MTWEOF, 1), Ok(b"")),
-        (Call::Write(b"ab"), Ok(b"")),
-    ];
-    let written = answers(&mut reel, calls);
-    reel.set(Trouble::Lost);
-    let told = tells(&reel, 0, Some(0), b"....")
-        && tells(&reel, 2, None, b"....")
-        && tells(&reel, 1, Some(2), b"ab..");
-    assert!(&rt; written && told && reel.troubles() == (Trouble::Lost, 0));
+    assert!(&rt; tells_in_trouble(&mut reel));
     Ok(())
 }
+
+/// The calls of a reel with the record `abc`, behind that.
+static BEHIND_ABC: &[Wanted] = &[
+    (Call::Op(MTWEOF, 1), Ok(b"")),
+    (Call::Op(MTBSF, 2), Err(TapeFault::EndOrMark)),
+    (Call::Read(2), Ok(b"ab")),
+];
 
 #[test]
 fn a_reel_with_no_trouble_is_one_in_memory(rt: HostRuntime) -> Result<(), Fail> {
     let mut reel = TroubledReel::new(ListReel::new(rt.alloc(), 100));
     device_steps();
     let written = write_untroubled(&mut reel, b"abc").is_ok();
-    let calls: &[Wanted] = &[
-        (Call::Op(MTWEOF, 1), Ok(b"")),
-        (Call::Op(MTBSF, 2), Err(TapeFault::EndOrMark)),
-        (Call::Read(2), Ok(b"ab")),
-    ];
-    assert!(&rt; written && answers(&mut reel, calls) && reel.failures() == 0);
+    let answered = answers(&mut reel, BEHIND_ABC);
+    assert!(&rt; written && answered && reel.failures() == 0);
     Ok(())
 }
 
@@ -233,14 +264,14 @@ fn compare_from(
 
 /// Compares every call at the place of the list, with each trouble.
 fn compare_calls(rt: &impl Abort, alloc: Global, list: (u64, usize, u32), place: usize) {
-    for trouble in TROUBLES {
-        compare_after(rt, alloc, list, place, (Call::Rewind, trouble), 0);
+    for trouble in &TROUBLES {
+        compare_after(rt, alloc, list, place, (Call::Rewind, *trouble), 0);
         for call in [Call::Write(b"x"), Call::Read(2), Call::Rewind] {
-            compare_from(rt, alloc, list, place, (call, trouble));
+            compare_from(rt, alloc, list, place, (call, *trouble));
         }
         for op in 0..=8 {
             for count in 0..=3 {
-                compare_from(rt, alloc, list, place, (Call::Op(op, count), trouble));
+                compare_from(rt, alloc, list, place, (Call::Op(op, count), *trouble));
             }
         }
     }
@@ -248,11 +279,11 @@ fn compare_calls(rt: &impl Abort, alloc: Global, list: (u64, usize, u32), place:
 
 #[test]
 fn fails_as_the_slow_reel_does(rt: HostRuntime) -> Result<(), Fail> {
-    for capacity in CAPACITIES {
+    for capacity in &CAPACITIES {
         for (length, shapes) in [1, 2, 4, 8].iter().enumerate() {
             for shape in 0..*shapes {
                 for place in 0..=length.saturating_add(1) {
-                    compare_calls(&rt, rt.alloc(), (capacity, length, shape), place);
+                    compare_calls(&rt, rt.alloc(), (*capacity, length, shape), place);
                 }
             }
         }
