@@ -2,7 +2,8 @@
 
 ghost use Rattle.std.specs.Prelude.{◌<◌, length};
 
-use super::slow::{read, text};
+use super::calls::{has_text, is_read_as};
+use super::slow::{read, text_read};
 use dumpdates::{Dates, DatesFault};
 use std::alloc::{AllocError, Global};
 use std::process::Abort;
@@ -11,12 +12,19 @@ use std::test::Fail;
 const LINE: &[u8] = b"\t/a 3 Sun Feb 29 12:34:56 2000 ";
 
 /// Whether the bytes are read as the slow program reads them.
-fn agree(alloc: Global, bytes: &[u8]) -> Result<bool, Fail> {
-    Ok(match (Dates::read(alloc, bytes), read(alloc, bytes)) {
-        (Ok(one), Ok(other)) => one.text()?.as_slice() == text(alloc, &other)?.as_bytes(),
-        (Err(one), Err(other)) => one == other,
-        _ => false,
-    })
+fn agree(alloc: Global, bytes: &[u8]) -> bool {
+    match Dates::read(alloc, bytes) {
+        Ok(dates) => is_slow_list(alloc, &dates, bytes),
+        Err(fault) => read(alloc, bytes).err() == Some(fault),
+    }
+}
+
+/// Whether the slow program reads the bytes as this list.
+fn is_slow_list(alloc: Global, dates: &Dates, bytes: &[u8]) -> bool {
+    match text_read(alloc, bytes) {
+        Ok(text) => has_text(dates, text.as_bytes()),
+        Err(_) => false,
+    }
 }
 
 fn joined(alloc: Global, parts: &[&[u8]]) -> Result<Vec<u8>, AllocError> {
@@ -28,13 +36,18 @@ fn joined(alloc: Global, parts: &[&[u8]]) -> Result<Vec<u8>, AllocError> {
 }
 
 /// The same of these parts, one behind the other.
-fn agree_joined(alloc: Global, before: &[u8], middle: &[u8], after: &[u8]) -> Result<bool, Fail> {
+fn agree_joined(
+    alloc: Global,
+    before: &[u8],
+    middle: &[u8],
+    after: &[u8],
+) -> Result<bool, AllocError> {
     let bytes = joined(alloc, &[before, middle, after])?;
-    agree(alloc, &bytes)
+    Ok(agree(alloc, &bytes))
 }
 
 /// The same of the line with this byte in place of the one at that place, and in front of it.
-fn agree_with(alloc: Global, at: usize, byte: u8) -> Result<bool, Fail>
+fn agree_with(alloc: Global, at: usize, byte: u8) -> Result<bool, AllocError>
     requires { at < length LINE.now }
 {
     let (before, rest) = LINE.split_at(at);
@@ -43,7 +56,7 @@ fn agree_with(alloc: Global, at: usize, byte: u8) -> Result<bool, Fail>
 }
 
 /// The same of the line without the byte at that place.
-fn agree_without(alloc: Global, at: usize) -> Result<bool, Fail>
+fn agree_without(alloc: Global, at: usize) -> Result<bool, AllocError>
     requires { at < length LINE.now }
 {
     let (before, rest) = LINE.split_at(at);
@@ -52,7 +65,7 @@ fn agree_without(alloc: Global, at: usize) -> Result<bool, Fail>
 }
 
 /// The line with each byte at that place.
-fn check_each_byte(rt: &impl Abort, alloc: Global, at: usize) -> Result<(), Fail>
+fn check_each_byte(rt: &impl Abort, alloc: Global, at: usize) -> Result<(), AllocError>
     requires { at < length LINE.now }
 {
     for byte in 0..=255u8 {
@@ -71,13 +84,12 @@ fn any_byte_in_any_place(rt: HostRuntime) -> Result<(), Fail> {
 }
 
 /// Whether a text of one line has this fault, and the slow program says the same.
-fn is_refused(alloc: Global, line: &str, fault: DatesFault) -> Result<bool, Fail> {
-    let found = Dates::read(alloc, line.as_bytes()).err();
-    Ok(found == Some(fault) && agree(alloc, line.as_bytes())?)
+fn is_refused(alloc: Global, line: &[u8], fault: DatesFault) -> bool {
+    Dates::read(alloc, line).err() == Some(fault) && agree(alloc, line)
 }
 
 /// Lines of other words than an entry has.
-const OTHER_SHAPES: [&str; 24] = [
+static OTHER_SHAPES: [&str; 24] = [
     "a",
     "a 0",
     "a 0 Thu Jan 1 00:00:00",
@@ -105,7 +117,7 @@ const OTHER_SHAPES: [&str; 24] = [
 ];
 
 /// Lines with a date that is none.
-const NO_DATES: [&str; 10] = [
+static NO_DATES: [&str; 10] = [
     "a 0 Thu Jan 0 00:00:00 1970",
     "a 0 Thu Jan 32 00:00:00 1970",
     "a 0 Thu Apr 31 00:00:00 1970",
@@ -118,52 +130,62 @@ const NO_DATES: [&str; 10] = [
     "a 0 Thu Feb 29 00:00:00 2001",
 ];
 
+/// Texts of one line with this fault.
+fn check_refused(rt: &impl Abort, alloc: Global, lines: &[&str], fault: DatesFault) {
+    for line in lines {
+        assert!(rt; is_refused(alloc, line.as_bytes(), fault), "{line}");
+    }
+}
+
 #[test]
-fn other_shapes_and_no_dates(rt: HostRuntime) -> Result<(), Fail> {
-    for line in OTHER_SHAPES {
-        assert!(rt;
-            is_refused(rt.alloc(), line, DatesFault::BadLine(1))?,
-            "{line}"
-        );
-    }
-    for line in NO_DATES {
-        assert!(rt;
-            is_refused(rt.alloc(), line, DatesFault::BadDate(1))?,
-            "{line}"
-        );
-    }
-    Ok(())
+fn other_shapes_and_no_dates(rt: HostRuntime) {
+    check_refused(&rt, rt.alloc(), &OTHER_SHAPES, DatesFault::BadLine(1));
+    check_refused(&rt, rt.alloc(), &NO_DATES, DatesFault::BadDate(1));
+}
+
+/// A line with a name of so many bytes.
+fn line_named(alloc: Global, bytes: usize) -> Result<Vec<u8>, AllocError> {
+    let mut line = Vec::new(alloc);
+    line.resize(bytes, b'n')?;
+    line.extend_from_slice(b" 0 Thu Jan  1 00:00:00 1970\n")?;
+    Ok(line)
+}
+
+/// Whether the line of this number is the first bad one.
+fn is_bad(alloc: Global, bytes: &[u8], number: usize) -> bool {
+    Dates::read(alloc, bytes).err() == Some(DatesFault::BadLine(number))
 }
 
 #[test]
 fn names_up_to_255_bytes(rt: HostRuntime) -> Result<(), Fail> {
-    let alloc = rt.alloc();
-    let bytes = [b'n'; 256];
-    let name = bytes.as_slice();
-    let date = b" 0 Thu Jan  1 00:00:00 1970\n".as_slice();
-    let (longest, _) = name.split_at(255);
-    let line = joined(alloc, &[longest, date])?;
-    assert_eq!(rt;
-        Dates::read(alloc, &line)?.text()?.as_slice(),
-        line.as_slice()
-    );
-    let line = joined(alloc, &[name, date])?;
-    assert!(rt; matches!(Dates::read(alloc, &line), Err(DatesFault::BadLine(1))));
+    let line = line_named(rt.alloc(), 255)?;
+    assert!(rt; is_read_as(rt.alloc(), &line, &line));
+    let line = line_named(rt.alloc(), 256)?;
+    assert!(rt; is_bad(rt.alloc(), &line, 1));
     Ok(())
+}
+
+/// The text of so many entries.
+fn long_text(alloc: Global, entries: u64) -> Result<Vec<u8>, AllocError> {
+    let mut text = Vec::new(alloc);
+    for number in 0..entries {
+        push_numbered(alloc, &mut text, number)?;
+    }
+    Ok(text)
+}
+
+/// Adds the line of the entry of a number, which has a name of 19 bytes.
+fn push_numbered(alloc: Global, text: &mut Vec<u8>, number: u64) -> Result<(), AllocError> {
+    let name = format!(in alloc; "/file/system/{number:06}")?;
+    text.extend_from_slice(name.as_bytes())?;
+    text.extend_from_slice(b"              1 Tue Feb 29 00:00:00 2000\n")
 }
 
 #[test]
 fn a_long_file(rt: HostRuntime) -> Result<(), Fail> {
-    let alloc = rt.alloc();
-    let mut text = Vec::new(alloc);
-    for number in 0..100_000u64 {
-        let name = format!(in alloc; "/file/system/{number:06}")?;
-        let line = format!(in alloc; "{name:<32} 1 Tue Feb 29 00:00:00 2000\n")?;
-        text.extend_from_slice(line.as_bytes())?;
-    }
-    let dates = Dates::read(alloc, &text)?;
-    assert!(rt; dates.text()?.as_slice() == text.as_slice());
+    let mut text = long_text(rt.alloc(), 100_000)?;
+    assert!(rt; is_read_as(rt.alloc(), &text, &text));
     text.extend_from_slice(b"x")?;
-    assert!(rt; matches!(Dates::read(alloc, &text), Err(DatesFault::BadLine(100_001))));
+    assert!(rt; is_bad(rt.alloc(), &text, 100_001));
     Ok(())
 }

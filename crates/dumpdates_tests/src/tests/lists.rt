@@ -1,7 +1,10 @@
 //! Entries entered into each short list, doubles too, and the base dates of it, compared with the slow program.
 
+ghost use Rattle.std.specs.Prelude.{◌<◌};
+
+use super::calls::{enter, has_text};
 use super::slow::{SlowEntry, base, entered, slow_entry, text};
-use dumpdates::{Dates, Entry};
+use dumpdates::{Dates, DatesFault};
 use std::alloc::{AllocError, Global};
 use std::process::Abort;
 use std::test::Fail;
@@ -24,15 +27,48 @@ fn has_bases(dates: &Dates, list: &[SlowEntry], name: &str) -> bool {
     true
 }
 
+/// Whether the base dates of each name are so.
+fn has_all_bases(dates: &Dates, list: &[SlowEntry]) -> bool {
+    has_bases(dates, list, "/a") && has_bases(dates, list, "/b") && has_bases(dates, list, "/c")
+}
+
+/// The text of the list with the entry in it.
+fn text_entered(
+    alloc: Global,
+    list: &[SlowEntry],
+    entry: &SlowEntry,
+) -> Result<String, AllocError> {
+    let list = entered(alloc, list, entry)?;
+    text(alloc, &list)
+}
+
+/// The dates of a list, read from its text.
+fn dates_read(alloc: Global, list: &[SlowEntry]) -> Result<Dates, DatesFault> {
+    let text = text(alloc, list)?;
+    Dates::read(alloc, text.as_bytes())
+}
+
+/// Whether a list with the entry in it is as the slow program says.
+fn is_entered(
+    alloc: Global,
+    dates: &mut Dates,
+    list: &[SlowEntry],
+    entry: &SlowEntry,
+) -> Result<bool, AllocError> {
+    let wanted = text_entered(alloc, list, entry)?;
+    Ok(enter(dates, &entry.name, entry.level, entry.date) && has_text(dates, wanted.as_bytes()))
+}
+
 /// Whether a list's base dates are so, and what it is with the entry in it.
-fn agree(alloc: Global, list: &[SlowEntry], entry: &SlowEntry) -> Result<bool, Fail> {
-    let mut dates = Dates::read(alloc, text(alloc, list)?.as_bytes())?;
-    let good = has_bases(&dates, list, "/a")
-        && has_bases(&dates, list, "/b")
-        && has_bases(&dates, list, "/c");
-    dates.enter(Entry::new(&entry.name, entry.level, entry.date).ok_or("an entry")?)?;
-    let wanted = text(alloc, &entered(alloc, list, entry)?)?;
-    Ok(good && dates.text()?.as_slice() == wanted.as_bytes())
+fn agree(alloc: Global, list: &[SlowEntry], entry: &SlowEntry) -> Result<bool, DatesFault> {
+    let mut dates = dates_read(alloc, list)?;
+    Ok(has_all_bases(&dates, list) && is_entered(alloc, &mut dates, list, entry)?)
+}
+
+/// The same of a list and the entry of a number.
+fn agree_numbered(alloc: Global, list: &[SlowEntry], number: usize) -> Result<bool, DatesFault> {
+    let entry = entry_numbered(alloc, number)?;
+    agree(alloc, list, &entry)
 }
 
 /// The list of so many entries that a number tells, in base 8.
@@ -46,14 +82,14 @@ fn list_numbered(alloc: Global, len: usize, number: usize) -> Result<Vec<SlowEnt
     Ok(list)
 }
 
-/// Three entries into each list of that length.
-fn check_lists(rt: &impl Abort, alloc: Global, len: usize) -> Result<(), Fail> {
-    for number in 0..512usize {
-        let list = list_numbered(alloc, len, number)?;
-        for other in [number, number / 8, number / 64 + number] {
-            let good = agree(alloc, &list, &entry_numbered(alloc, other)?)?;
-            assert!(rt; good, "{len}, {number}, {other}");
-        }
+/// Three entries into the list of that length and number.
+fn check_list(rt: &impl Abort, alloc: Global, len: usize, number: usize) -> Result<(), DatesFault>
+    requires { number < 512 }
+{
+    let list = list_numbered(alloc, len, number)?;
+    for other in [number, number / 8, number / 64 + number] {
+        let good = agree_numbered(alloc, &list, other)?;
+        assert!(rt; good, "{len}, {number}, {other}");
     }
     Ok(())
 }
@@ -61,7 +97,9 @@ fn check_lists(rt: &impl Abort, alloc: Global, len: usize) -> Result<(), Fail> {
 #[test]
 fn each_entry_into_each_short_list(rt: HostRuntime) -> Result<(), Fail> {
     for len in 0..4usize {
-        check_lists(&rt, rt.alloc(), len)?;
+        for number in 0..512usize {
+            check_list(&rt, rt.alloc(), len, number)?;
+        }
     }
     Ok(())
 }

@@ -1,68 +1,88 @@
 //! Texts, entries and dates that were worked out by hand.
 
-use super::slow::{dates_of, read, slow_list, text};
+use super::calls::{dates_of, enter, has_text, is_read_as};
+use super::slow::{read, slow_list, text, text_read};
 use dumpdates::{
     Dates, DatesFault, Entry, LAST_SECOND, is_name, one_entry, one_reading, written_and_read,
 };
-use std::alloc::Global;
+use std::alloc::{AllocError, Global};
+use std::process::Abort;
 use std::test::Fail;
 
 /// An entry: its name, its level and its date.
 type Row = (&'static str, u8, u64);
 
-/// The text of a list.
-fn text_of(alloc: Global, entries: &[Row]) -> Result<Vec<u8>, Fail> {
-    Ok(dates_of(alloc, &slow_list(alloc, entries)?)?.text()?)
+/// The dates of a list.
+fn list_of(alloc: Global, entries: &[Row]) -> Option<Dates> {
+    let list = slow_list(alloc, entries).ok()?;
+    dates_of(alloc, &list)
+}
+
+/// Whether a list is written as this text.
+fn is_written(alloc: Global, entries: &[Row], wanted: &[u8]) -> bool {
+    match list_of(alloc, entries) {
+        Some(dates) => has_text(&dates, wanted),
+        None => false,
+    }
+}
+
+/// Whether the slow program reads the bytes as a list with this text.
+fn is_read_slowly(alloc: Global, bytes: &[u8], wanted: &[u8]) -> bool {
+    match text_read(alloc, bytes) {
+        Ok(text) => text.as_bytes() == wanted,
+        Err(_) => false,
+    }
 }
 
 /// Whether a text spells just these entries, and they are read, here and by the slow program.
-fn spells(alloc: Global, bytes: &str, entries: &[Row]) -> Result<bool, Fail> {
-    let wanted = text(alloc, &slow_list(alloc, entries)?)?;
-    let dates = Dates::read(alloc, bytes.as_bytes())?;
-    let slow = read(alloc, bytes.as_bytes())?;
-    Ok(dates.text()?.as_slice() == wanted.as_bytes() && text(alloc, &slow)? == wanted)
+fn spells(alloc: Global, bytes: &[u8], entries: &[Row]) -> Result<bool, AllocError> {
+    let list = slow_list(alloc, entries)?;
+    let text = text(alloc, &list)?;
+    let wanted = text.as_bytes();
+    Ok(is_read_as(alloc, bytes, wanted) && is_read_slowly(alloc, bytes, wanted))
 }
 
 /// Whether a text has this fault, here and by the slow program.
-fn has_fault(alloc: Global, bytes: &str, fault: DatesFault) -> bool {
-    Dates::read(alloc, bytes.as_bytes()).err() == Some(fault)
-        && read(alloc, bytes.as_bytes()).err() == Some(fault)
+fn has_fault(alloc: Global, bytes: &[u8], fault: DatesFault) -> bool {
+    Dates::read(alloc, bytes).err() == Some(fault) && read(alloc, bytes).err() == Some(fault)
 }
 
 /// Lists, and the text of each.
-const WRITTEN: [(&[Row], &[u8]); 5] = [
+static WRITTEN: [(&[Row], &str); 5] = [
     (
         &[("/usr", 0, 951782400)],
-        b"/usr                             0 Tue Feb 29 00:00:00 2000\n",
+        "/usr                             0 Tue Feb 29 00:00:00 2000\n",
     ),
     (
         &[("/usr", 0, 951868800), ("a", 3, 951827696), ("/", 9, 0)],
-        b"/usr                             0 Wed Mar  1 00:00:00 2000\n\
+        "/usr                             0 Wed Mar  1 00:00:00 2000\n\
 a                                3 Tue Feb 29 12:34:56 2000\n\
 /                                9 Thu Jan  1 00:00:00 1970\n",
     ),
     (
         &[("/a/name/of/exactly/32/characters", 1, LAST_SECOND)],
-        b"/a/name/of/exactly/32/characters 1 Fri Dec 31 23:59:59 9999\n",
+        "/a/name/of/exactly/32/characters 1 Fri Dec 31 23:59:59 9999\n",
     ),
     (
         &[("/a/name/of/just/thirty-three/char", 1, LAST_SECOND)],
-        b"/a/name/of/just/thirty-three/char 1 Fri Dec 31 23:59:59 9999\n",
+        "/a/name/of/just/thirty-three/char 1 Fri Dec 31 23:59:59 9999\n",
     ),
-    (&[], b""),
+    (&[], ""),
 ];
 
-#[test]
-fn entries_are_written(rt: HostRuntime) -> Result<(), Fail> {
-    for (entries, wanted) in WRITTEN {
-        let text = text_of(rt.alloc(), entries)?;
-        assert!(rt; text.as_slice() == wanted, "{wanted:?}");
+fn check_written(rt: &impl Abort, alloc: Global, rows: &[(&[Row], &str)]) {
+    for (entries, wanted) in rows {
+        assert!(rt; is_written(alloc, entries, wanted.as_bytes()), "{wanted}");
     }
-    Ok(())
+}
+
+#[test]
+fn entries_are_written(rt: HostRuntime) {
+    check_written(&rt, rt.alloc(), &WRITTEN);
 }
 
 /// Texts, and the entries that each spells.
-const SPELLED: [(&str, &[Row]); 10] = [
+static SPELLED: [(&str, &[Row]); 10] = [
     ("a 0 Mon Jan 1 00:00:00 1970", &[("a", 0, 0)]),
     ("a 0 Thu Jan  1 00:00:00 1970\n", &[("a", 0, 0)]),
     ("a 0 Thu Jan 01 00:00:00 1970\n", &[("a", 0, 0)]),
@@ -78,16 +98,24 @@ const SPELLED: [(&str, &[Row]); 10] = [
     ("~!x 9 Fri Dec 31 23:59:59 9999", &[("~!x", 9, LAST_SECOND)]),
 ];
 
-#[test]
-fn texts_are_read(rt: HostRuntime) -> Result<(), Fail> {
-    for (bytes, entries) in SPELLED {
-        assert!(rt; spells(rt.alloc(), bytes, entries)?, "{bytes}");
+fn check_spelled(
+    rt: &impl Abort,
+    alloc: Global,
+    rows: &[(&str, &[Row])],
+) -> Result<(), AllocError> {
+    for (bytes, entries) in rows {
+        assert!(rt; spells(alloc, bytes.as_bytes(), entries)?, "{bytes}");
     }
     Ok(())
 }
 
+#[test]
+fn texts_are_read(rt: HostRuntime) -> Result<(), Fail> {
+    Ok(check_spelled(&rt, rt.alloc(), &SPELLED)?)
+}
+
 /// Texts, and the fault of each.
-const BAD: [(&str, DatesFault); 10] = [
+static BAD: [(&str, DatesFault); 10] = [
     ("a 10 Thu Jan 1 00:00:00 1970", DatesFault::BadLine(1)),
     ("a 0 Thu Jan 1 00:00:00 1970 +0000", DatesFault::BadLine(1)),
     (
@@ -106,95 +134,112 @@ const BAD: [(&str, DatesFault); 10] = [
     ),
 ];
 
+fn check_bad(rt: &impl Abort, alloc: Global, rows: &[(&str, DatesFault)]) {
+    for (bytes, fault) in rows {
+        assert!(rt; has_fault(alloc, bytes.as_bytes(), *fault), "{bytes}");
+    }
+}
+
 /// A bad line and a bad date are told by the number of their line.
 #[test]
 fn what_is_bad_is_told_by_its_line(rt: HostRuntime) {
-    for (bytes, fault) in BAD {
-        assert!(rt; has_fault(rt.alloc(), bytes, fault), "{bytes}");
+    check_bad(&rt, rt.alloc(), &BAD);
+}
+
+/// Names and levels, and the base date of each.
+static BASES: [Row; 4] = [
+    ("/usr", 2, 951868800),
+    ("/usr", 1, 951782400),
+    ("/usr", 0, 0),
+    ("/home", 9, 0),
+];
+
+fn check_bases(rt: &impl Abort, dates: &Dates) {
+    for (name, level, wanted) in &BASES {
+        assert!(rt; dates.base(name, *level) == *wanted, "{name} {level}");
     }
 }
 
 #[test]
 fn bases(rt: HostRuntime) -> Result<(), Fail> {
-    let alloc = rt.alloc();
-    let dates = dates_of(
-        alloc,
-        &slow_list(alloc, &[("/usr", 0, 951782400), ("/usr", 1, 951868800)])?,
-    )?;
-    for (name, level, wanted) in [
-        ("/usr", 2, 951868800),
-        ("/usr", 1, 951782400),
-        ("/usr", 0, 0),
-        ("/home", 9, 0),
-    ] {
-        assert_eq!(rt; dates.base(name, level), wanted, "{name}");
-    }
+    let list = [("/usr", 0, 951782400), ("/usr", 1, 951868800)];
+    let dates = list_of(rt.alloc(), &list).ok_or("a list")?;
+    check_bases(&rt, &dates);
     Ok(())
+}
+
+/// One name and level twice, and the same with an entry of these entered.
+const DOUBLES: &[u8] = b"/usr                             0 Thu Jan  1 00:01:40 1970\n\
+/usr                             0 Thu Jan  1 00:00:50 1970\n";
+
+const NO_DOUBLES: &[u8] = b"/usr                             0 Thu Jan  1 00:01:10 1970\n";
+
+fn check_doubles(rt: &impl Abort, dates: &mut Dates) {
+    assert!(rt; dates.base("/usr", 1) == 100);
+    assert!(rt; has_text(dates, DOUBLES));
+    assert!(rt; enter(dates, "/usr", 0, 70));
+    assert!(rt; dates.base("/usr", 1) == 70);
+    assert!(rt; has_text(dates, NO_DOUBLES));
 }
 
 #[test]
 fn doubles_are_read_and_taken_out(rt: HostRuntime) -> Result<(), Fail> {
-    let alloc = rt.alloc();
     let bytes = b"/usr 0 Thu Jan 1 00:01:40 1970\n/usr 0 Thu Jan 1 00:00:50 1970\n";
-    let mut dates = Dates::read(alloc, bytes)?;
-    assert_eq!(rt; dates.base("/usr", 1), 100);
-    assert_eq!(rt;
-        dates.text()?.as_slice(),
-        b"/usr                             0 Thu Jan  1 00:01:40 1970\n\
-/usr                             0 Thu Jan  1 00:00:50 1970\n"
-            .as_slice()
-    );
-    dates.enter(Entry::new("/usr", 0, 70).ok_or("an entry")?)?;
-    assert_eq!(rt; dates.base("/usr", 1), 70);
-    assert_eq!(rt;
-        dates.text()?.as_slice(),
-        b"/usr                             0 Thu Jan  1 00:01:10 1970\n".as_slice()
-    );
+    let mut dates = Dates::read(rt.alloc(), bytes)?;
+    check_doubles(&rt, &mut dates);
     Ok(())
+}
+
+/// Three entries, and their text when the second one was entered anew.
+static PLACES: [Row; 3] = [
+    ("/usr", 0, 951782400),
+    ("/usr", 1, 951782400),
+    ("/home", 0, 0),
+];
+
+const KEPT_PLACES: &[u8] = b"/usr                             0 Tue Feb 29 00:00:00 2000\n\
+/usr                             1 Wed Mar  1 00:00:00 2000\n\
+/home                            0 Thu Jan  1 00:00:00 1970\n";
+
+fn check_kept(rt: &impl Abort, dates: &mut Dates) {
+    for _ in 0..2 {
+        assert!(rt; enter(dates, "/usr", 1, 951868800));
+        assert!(rt; has_text(dates, KEPT_PLACES));
+    }
 }
 
 #[test]
 fn entering_keeps_places(rt: HostRuntime) -> Result<(), Fail> {
-    let alloc = rt.alloc();
-    let list = slow_list(
-        alloc,
-        &[
-            ("/usr", 0, 951782400),
-            ("/usr", 1, 951782400),
-            ("/home", 0, 0),
-        ],
-    )?;
-    let mut dates = dates_of(alloc, &list)?;
-    let wanted = b"/usr                             0 Tue Feb 29 00:00:00 2000\n\
-/usr                             1 Wed Mar  1 00:00:00 2000\n\
-/home                            0 Thu Jan  1 00:00:00 1970\n";
-    for _ in 0..2 {
-        dates.enter(Entry::new("/usr", 1, 951868800).ok_or("an entry")?)?;
-        assert_eq!(rt; dates.text()?.as_slice(), wanted.as_slice());
-    }
+    let mut dates = list_of(rt.alloc(), &PLACES).ok_or("a list")?;
+    check_kept(&rt, &mut dates);
     Ok(())
+}
+
+/// Names, levels and dates, and whether they are an entry.
+static LIMITS: [(&str, u8, u64, bool); 4] = [
+    ("!~", 0, 0, true),
+    ("a", 9, LAST_SECOND, true),
+    ("a", 10, 0, false),
+    ("a", 0, LAST_SECOND + 1, false),
+];
+
+fn check_limits(rt: &impl Abort) {
+    for (name, level, date, good) in &LIMITS {
+        let made = Entry::new(name, *level, *date).is_some();
+        assert!(rt; made == *good, "{level} {date}");
+    }
 }
 
 #[test]
 fn entries_within_their_limits(rt: HostRuntime) -> Result<(), Fail> {
     let entry = Entry::new("/usr", 3, 951827696).ok_or("an entry")?;
-    assert_eq!(rt;
-        (entry.name, entry.level, entry.date),
-        ("/usr", 3, 951827696)
-    );
-    for (name, level, date, good) in [
-        ("!~", 0, 0, true),
-        ("a", 9, LAST_SECOND, true),
-        ("a", 10, 0, false),
-        ("a", 0, LAST_SECOND + 1, false),
-    ] {
-        assert_eq!(rt; Entry::new(name, level, date).is_some(), good, "{level}");
-    }
+    assert!(rt; entry.name == "/usr" && entry.level == 3 && entry.date == 951827696);
+    check_limits(&rt);
     Ok(())
 }
 
 /// Whether a name is one, here and in an entry.
-const NAMES: [(&str, bool); 12] = [
+static NAMES: [(&str, bool); 12] = [
     ("/usr", true),
     ("!", true),
     ("~", true),
@@ -209,48 +254,71 @@ const NAMES: [(&str, bool); 12] = [
     ("\u{e9}", false),
 ];
 
+fn check_names(rt: &impl Abort, rows: &[(&str, bool)]) {
+    for (name, good) in rows {
+        assert!(rt; is_name(name.as_bytes()) == *good, "{name}");
+        assert!(rt; Entry::new(name, 0, 0).is_some() == *good, "{name}");
+    }
+}
+
 #[test]
 fn names_that_are_some_and_none(rt: HostRuntime) {
-    for (name, good) in NAMES {
-        assert_eq!(rt; is_name(name.as_bytes()), good, "{name}");
-        assert_eq!(rt; Entry::new(name, 0, 0).is_some(), good, "{name}");
-    }
+    check_names(&rt, &NAMES);
     assert!(rt; !is_name(&[255]) && !is_name(&[b'a', 0]));
+}
+
+/// Whether a name is one, here and in an entry.
+fn is_taken(name: &str) -> bool {
+    is_name(name.as_bytes()) && Entry::new(name, 9, LAST_SECOND).is_some()
+}
+
+/// Whether a name is none, here and in an entry.
+fn is_refused(name: &str) -> bool {
+    !is_name(name.as_bytes()) && Entry::new(name, 0, 0).is_none()
+}
+
+/// A name of so many bytes.
+fn name_of(alloc: Global, bytes: usize) -> Result<String, AllocError> {
+    let mut name = String::new(alloc);
+    for _ in 0..bytes {
+        name.push('n')?;
+    }
+    Ok(name)
 }
 
 #[test]
 fn names_of_255_and_256_bytes(rt: HostRuntime) -> Result<(), Fail> {
-    let mut long = String::new(rt.alloc());
-    for _ in 0..256 {
-        long.push('n')?;
-    }
-    let longest = long.get(..255).ok_or("255 bytes")?;
-    assert!(rt; is_name(longest.as_bytes()));
-    assert!(rt; Entry::new(longest, 9, LAST_SECOND).is_some());
-    assert!(rt; !is_name(long.as_bytes()));
-    assert!(rt; Entry::new(&long, 0, 0).is_none());
+    let name = name_of(rt.alloc(), 255)?;
+    assert!(rt; is_taken(&name));
+    let name = name_of(rt.alloc(), 256)?;
+    assert!(rt; is_refused(&name));
     Ok(())
+}
+
+/// The fields of three entries, by their places.
+static FIELDS: [Row; 3] = [
+    ("/usr", 0, 951782400),
+    ("a", 9, 0),
+    ("/usr", 0, LAST_SECOND),
+];
+
+fn check_places(rt: &impl Abort, dates: &Dates) {
+    assert!(rt; dates.len() == 3);
+    for (at, fields) in FIELDS.iter().enumerate() {
+        let told = dates.get(at).map(|e| (e.name, e.level, e.date));
+        assert!(rt; told == Some(*fields), "{at}");
+    }
+    assert!(rt; dates.get(3).is_none() && dates.get(usize::MAX).is_none());
 }
 
 /// Each entry by its place, and none behind the last.
 #[test]
 fn entries_by_their_places(rt: HostRuntime) -> Result<(), Fail> {
-    let wanted = [
-        ("/usr", 0, 951782400),
-        ("a", 9, 0),
-        ("/usr", 0, LAST_SECOND),
-    ];
     let text =
         b"/usr 0 Tue Feb 29 00:00:00 2000\n\na 9 Thu Jan 1 00:00:00 1970\n/usr 0 Fri Dec 31 23:59:59 9999";
     let dates = Dates::read(rt.alloc(), text)?;
-    assert_eq!(rt; dates.len(), 3);
-    for (at, fields) in wanted.iter().enumerate() {
-        let told = dates.get(at).map(|e| (e.name, e.level, e.date));
-        assert!(rt; told == Some(*fields), "{at}");
-    }
-    assert!(rt; dates.get(3).is_none());
-    assert!(rt; dates.get(usize::MAX).is_none());
-    assert_eq!(rt; Dates::new(rt.alloc()).len(), 0);
+    check_places(&rt, &dates);
+    assert!(rt; Dates::new(rt.alloc()).len() == 0);
     Ok(())
 }
 
@@ -261,15 +329,17 @@ fn laws_do_nothing() {
     written_and_read();
 }
 
+/// Faults, and the name of each.
+static FAULTS: [(DatesFault, &str); 3] = [
+    (DatesFault::BadLine(3), "line 3: bad line"),
+    (DatesFault::BadDate(12), "line 12: bad date"),
+    (DatesFault::OutOfMemory, "out of memory"),
+];
+
 #[test]
 fn names_of_faults(rt: HostRuntime) -> Result<(), Fail> {
-    let names = [
-        (DatesFault::BadLine(3), "line 3: bad line"),
-        (DatesFault::BadDate(12), "line 12: bad date"),
-        (DatesFault::OutOfMemory, "out of memory"),
-    ];
-    for (fault, name) in names {
-        assert_eq!(rt; fault.to_string(rt.alloc())?.as_str(), name);
+    for (fault, name) in &FAULTS {
+        assert!(rt; fault.to_string(rt.alloc())?.as_str() == *name, "{name}");
     }
     Ok(())
 }

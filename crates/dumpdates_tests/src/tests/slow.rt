@@ -3,13 +3,12 @@
 
 ghost use Rattle.std.specs.Prelude.{◌^◌, ◌<◌, ◌≤◌, IfSome};
 
-use dumpdates::{Dates, DatesFault, Entry};
+use dumpdates::DatesFault;
 use std::alloc::{AllocError, Global};
-use std::test::Fail;
 
-const WEEKDAYS: [&str; 7] = ["Thu", "Fri", "Sat", "Sun", "Mon", "Tue", "Wed"];
+static WEEKDAYS: [&str; 7] = ["Thu", "Fri", "Sat", "Sun", "Mon", "Tue", "Wed"];
 
-const MONTHS: [&str; 12] = [
+static MONTHS: [&str; 12] = [
     "Jan", "Feb", "Mar", "Apr", "May", "Jun", "Jul", "Aug", "Sep", "Oct", "Nov", "Dec",
 ];
 
@@ -34,6 +33,18 @@ pub(crate) fn slow_entry(
     })
 }
 
+/// Adds an entry to a list.
+fn push(
+    alloc: Global,
+    list: &mut Vec<SlowEntry>,
+    name: &str,
+    level: u8,
+    date: u64,
+) -> Result<(), AllocError> {
+    list.push(slow_entry(alloc, name, level, date)?)?;
+    Ok(())
+}
+
 /// A list of these entries.
 pub(crate) fn slow_list(
     alloc: Global,
@@ -41,7 +52,7 @@ pub(crate) fn slow_list(
 ) -> Result<Vec<SlowEntry>, AllocError> {
     let mut list = Vec::new(alloc);
     for (name, level, date) in entries {
-        list.push(slow_entry(alloc, name, *level, *date)?)?;
+        push(alloc, &mut list, name, *level, *date)?;
     }
     Ok(list)
 }
@@ -52,20 +63,41 @@ pub(crate) fn read(alloc: Global, text: &[u8]) -> Result<Vec<SlowEntry>, DatesFa
     let mut number = 0usize;
     for line in text.split(|b| *b == b'\n') {
         number = number.saturating_add(1);
-        let words = words(alloc, line)?;
-        if words.is_empty() {
-            continue;
-        }
-        let Some((name, level, date)) = spoken(&words) else {
-            return Err(DatesFault::BadLine(number));
-        };
-        let Some(date) = date else {
-            return Err(DatesFault::BadDate(number));
-        };
-        let entry = slow_entry(alloc, name, level, date)?;
-        entries.push(entry).map_err(|_| DatesFault::OutOfMemory)?;
+        read_line(alloc, line, number, &mut entries)?;
     }
     Ok(entries)
+}
+
+/// The text of the entries that a text spells, or its first bad line.
+pub(crate) fn text_read(alloc: Global, bytes: &[u8]) -> Result<String, DatesFault> {
+    let entries = read(alloc, bytes)?;
+    Ok(text(alloc, &entries)?)
+}
+
+/// Adds the entry that the line of this number spells, if it is not blank.
+fn read_line(
+    alloc: Global,
+    line: &[u8],
+    number: usize,
+    entries: &mut Vec<SlowEntry>,
+) -> Result<(), DatesFault> {
+    let words = words(alloc, line)?;
+    if words.is_empty() {
+        return Ok(());
+    }
+    read_words(alloc, &words, number, entries)
+}
+
+/// Adds the entry that the words of the line of this number say.
+fn read_words(
+    alloc: Global,
+    words: &[&[u8]],
+    number: usize,
+    entries: &mut Vec<SlowEntry>,
+) -> Result<(), DatesFault> {
+    let (name, level, date) = spoken(words).ok_or(DatesFault::BadLine(number))?;
+    let date = date.ok_or(DatesFault::BadDate(number))?;
+    Ok(push(alloc, entries, name, level, date)?)
 }
 
 /// What stands between the spaces and tabs of a line.
@@ -81,14 +113,23 @@ fn words(alloc: Global, line: &[u8]) -> Result<Vec<&[u8]>, AllocError> {
 
 /// What seven words of the right shapes say: a name, a level, and a date where it is one.
 fn spoken<'a>(words: &[&'a [u8]]) -> Option<(&'a str, u8, Option<u64>)> {
-    let [name, level, weekday, month, day, time, year] = words else {
+    let [name, level, weekday, date @ ..] = words else {
         return None;
     };
     let name = spoken_name(name)?;
-    let level = u8::try_from(number(level, 1, 1)?).ok()?;
-    WEEKDAYS.iter().position(|w| w.as_bytes() == *weekday)?;
-    let date = spoken_date(month, day, time, year)?;
-    Some((name, level, date))
+    let level = spoken_level(level)?;
+    place(&WEEKDAYS, weekday)?;
+    Some((name, level, spoken_date(date)?))
+}
+
+/// The place of a word in a list.
+fn place(list: &[&str], word: &[u8]) -> Option<usize> {
+    list.iter().position(|w| w.as_bytes() == word)
+}
+
+/// The level that a word is.
+fn spoken_level(word: &[u8]) -> Option<u8> {
+    u8::try_from(number(word, 1, 1)?).ok()
 }
 
 /// The name that a word is.
@@ -99,9 +140,12 @@ fn spoken_name<'a>(word: &'a [u8]) -> Option<&'a str> {
     std::str::from_utf8(word).ok()
 }
 
-/// What the words of a date say, where they have its shapes: a date where it is one.
-fn spoken_date(month: &[u8], day: &[u8], time: &[u8], year: &[u8]) -> Option<Option<u64>> {
-    let month = MONTHS.iter().position(|m| m.as_bytes() == month)?;
+/// What the four words of a date say, where they have its shapes: a date where it is one.
+fn spoken_date(words: &[&[u8]]) -> Option<Option<u64>> {
+    let [month, day, time, year] = words else {
+        return None;
+    };
+    let month = place(&MONTHS, month)?;
     let day = number(day, 1, 2)?;
     let second = second_of_day(time)?;
     let year = number(year, 4, 4)?;
@@ -120,16 +164,21 @@ fn number(word: &[u8], least: usize, most: usize) -> Option<u64>
 
 /// The second of the day, where the word has the shape of a time; where it is no time, a second of no day.
 fn second_of_day(word: &[u8]) -> Option<Option<u64>> {
-    if word.len() != 8 || word.get(2) != Some(&b':') || word.get(5) != Some(&b':') {
+    if word.len() != 8 || word[2] != b':' || word[5] != b':' {
         return None;
     }
-    let hour = number(word.get(..2)?, 2, 2)?;
-    let minute = number(word.get(3..5)?, 2, 2)?;
-    let second = number(word.get(6..)?, 2, 2)?;
+    let hour = number(&word[..2], 2, 2)?;
+    let minute = number(&word[3..5], 2, 2)?;
+    let second = number(&word[6..], 2, 2)?;
+    Some(second_at(hour, minute, second))
+}
+
+/// The second of the day at this time, where there is such a time.
+fn second_at(hour: u64, minute: u64, second: u64) -> Option<u64> {
     if hour > 23 || minute > 59 || second > 59 {
-        return Some(None);
+        return None;
     }
-    Some(Some(hour * 3600 + minute * 60 + second))
+    Some(hour * 3600 + minute * 60 + second)
 }
 
 fn is_leap(year: u64) -> bool {
@@ -194,15 +243,28 @@ pub(crate) fn text(alloc: Global, entries: &[SlowEntry]) -> Result<String, Alloc
 }
 
 fn line(alloc: Global, entry: &SlowEntry) -> Result<String, AllocError> {
-    let name = &entry.name;
-    let level = entry.level;
     let days = entry.date / 86400;
-    let weekday = WEEKDAYS[(days % 7) as usize];
-    let (year, month, day) = civil(days);
-    let month = MONTHS[month % 12];
-    let second = entry.date % 86400;
+    let date = date_text(alloc, (days % 7) as usize, civil(days), entry.date % 86400)?;
+    format!(in alloc; "{:<32} {} {date}\n", entry.name, entry.level)
+}
+
+/// A second of a day as ctime(3) has it. The day is its year, month and day; weekday and month are from 0.
+pub(crate) fn date_text(
+    alloc: Global,
+    weekday: usize,
+    day: (u64, usize, u64),
+    second: u64,
+) -> Result<String, AllocError> {
+    let (year, month, day) = day;
+    let time = clock(alloc, second)?;
+    let (weekday, month) = (WEEKDAYS[weekday % 7], MONTHS[month % 12]);
+    format!(in alloc; "{weekday} {month} {day:2} {time} {year}")
+}
+
+/// The time of a second of a day.
+fn clock(alloc: Global, second: u64) -> Result<String, AllocError> {
     let (h, m, s) = (second / 3600, second / 60 % 60, second % 60);
-    format!(in alloc; "{name:<32} {level} {weekday} {month} {day:2} {h:02}:{m:02}:{s:02} {year}\n")
+    format!(in alloc; "{h:02}:{m:02}:{s:02}")
 }
 
 /// The year, the month from 0 and the day of a day number.
@@ -260,25 +322,20 @@ pub(crate) fn entered(
     let mut list = Vec::new(alloc);
     let mut is_in = false;
     for old in entries {
-        let is_same = old.name == entry.name && old.level == entry.level;
-        if !is_same {
-            list.push(slow_entry(alloc, &old.name, old.level, old.date)?)?;
-        } else if !is_in {
-            is_in = true;
-            list.push(slow_entry(alloc, &old.name, old.level, entry.date)?)?;
+        let is_same = has_key(old, entry);
+        if !is_same || !is_in {
+            let date = if is_same { entry.date } else { old.date };
+            push(alloc, &mut list, &old.name, old.level, date)?;
         }
+        is_in = is_in || is_same;
     }
     if !is_in {
-        list.push(slow_entry(alloc, &entry.name, entry.level, entry.date)?)?;
+        push(alloc, &mut list, &entry.name, entry.level, entry.date)?;
     }
     Ok(list)
 }
 
-/// The list of these entries, each entered in turn.
-pub(crate) fn dates_of(alloc: Global, entries: &[SlowEntry]) -> Result<Dates, Fail> {
-    let mut dates = Dates::new(alloc);
-    for entry in entries {
-        dates.enter(Entry::new(&entry.name, entry.level, entry.date).ok_or("an entry")?)?;
-    }
-    Ok(dates)
+/// Whether both entries have one name and one level.
+fn has_key(one: &SlowEntry, other: &SlowEntry) -> bool {
+    one.level == other.level && one.name == other.name
 }
