@@ -6,6 +6,7 @@ use dump_client::{AttemptFault, Client, ListBlocks, Run, State};
 use example_client::{Server, Stopped, dump};
 use rmt_wire::{NUMBER_LIMIT, Reply, Request, RequestReader, push_reply};
 use std::alloc::{AllocError, Global};
+use std::process::Abort;
 use std::test::Fail;
 
 /// The operation that takes a reel away (mtio).
@@ -29,8 +30,7 @@ impl Tape {
         let number = match self.requests.next() {
             Ok(Some(Request::Write { bytes })) if self.room > 0 => {
                 self.room = self.room.saturating_sub(1);
-                self.written.extend_from_slice(bytes)?;
-                u32::try_from(bytes.len()).unwrap_or(0)
+                keep(&mut self.written, bytes)?
             }
             Ok(Some(Request::Op { op, count })) => {
                 if op == MTOFFL {
@@ -42,6 +42,12 @@ impl Tape {
         };
         Ok(number.min(NUMBER_LIMIT))
     }
+}
+
+/// Keeps what is written, and answers how much it is.
+fn keep(written: &mut Vec<u8>, bytes: &[u8]) -> Result<u32, AllocError> {
+    written.extend_from_slice(bytes)?;
+    Ok(u32::try_from(bytes.len()).unwrap_or(0))
 }
 
 impl Server for Tape {
@@ -73,24 +79,33 @@ fn tape_of(alloc: Global, room: u32) -> Result<Tape, Fail> {
     })
 }
 
+/// A dump onto a tape with room for all of it.
+fn check_dump(rt: &impl Abort, alloc: Global, client: &mut Client<ListBlocks>, tape: &mut Tape) {
+    assert!(rt; dump(alloc, client, tape) == Ok(()));
+    assert!(rt; client.state() == State::Finished && client.checkpoint() == (2, 2));
+    assert!(rt; tape.taken_away == 1 && tape.written.len() == 1032);
+    assert!(rt; tape.written.as_slice().get(1024..) == Some(b"abcdefgh".as_slice()));
+}
+
+/// A dump onto a tape that takes no write.
+fn check_stop(rt: &impl Abort, alloc: Global, client: &mut Client<ListBlocks>, tape: &mut Tape) {
+    let stopped = dump(alloc, client, tape);
+    assert!(rt; stopped == Err(Stopped::Failed(AttemptFault::ReelTooSmall)));
+    assert!(rt; client.checkpoint() == (1, 0) && tape.taken_away == 0);
+}
+
 #[test]
 fn a_dump_is_written_and_counted(rt: HostRuntime) -> Result<(), Fail> {
-    let mut client = client_of(rt.alloc())?;
     let mut tape = tape_of(rt.alloc(), 3)?;
-    assert!(rt; dump(rt.alloc(), &mut client, &mut tape) == Ok(()));
-    assert!(rt; client.state() == State::Finished && client.checkpoint() == (2, 2));
-    assert!(rt; tape.taken_away == 1);
-    assert!(rt; tape.written.len() == 1032);
-    assert!(rt; tape.written.as_slice().get(1024..) == Some(b"abcdefgh".as_slice()));
+    let mut client = client_of(rt.alloc())?;
+    check_dump(&rt, rt.alloc(), &mut client, &mut tape);
     Ok(())
 }
 
 #[test]
 fn a_dump_stops_at_a_reel_that_is_too_small(rt: HostRuntime) -> Result<(), Fail> {
-    let mut client = client_of(rt.alloc())?;
     let mut tape = tape_of(rt.alloc(), 0)?;
-    let stopped = dump(rt.alloc(), &mut client, &mut tape);
-    assert!(rt; stopped == Err(Stopped::Failed(AttemptFault::ReelTooSmall)));
-    assert!(rt; client.checkpoint() == (1, 0) && tape.taken_away == 0);
+    let mut client = client_of(rt.alloc())?;
+    check_stop(&rt, rt.alloc(), &mut client, &mut tape);
     Ok(())
 }
