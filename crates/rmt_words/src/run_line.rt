@@ -1,11 +1,12 @@
 //! The words of `rdump dump`.
 ghost use Rattle.std.specs.Prelude.{◌≤◌, IfOk, IfSome};
-ghost use Rattle.rmt_words.specs.Rdump.{IsDumpLine};
+ghost use Rattle.rmt_words.specs.Rdump.{IsRdumpLine};
 ghost use Rattle.rmtd_words.specs.Rmtd.{number_limit};
 
-use crate::rdump_line::{WordFault, value_in};
-use crate::required::{Required, with_required};
-use clap::{Arg, ArgAction, ArgMatches, Command};
+use crate::fault::WordFault;
+use crate::rdump_line::RdumpLine;
+use crate::word::{Form, Word, check_given, command_of, value_in};
+use clap::{ArgMatches, Command};
 use rmtd_words::number_of;
 use std::alloc::{AllocError, Global};
 
@@ -46,45 +47,32 @@ const BAD_DATE: &str =
     "invalid value for '--date <SECONDS>': a number is 0 to 9223372036854775807 in digits";
 
 /// The line of `rdump dump` that clap's matches say.
-pub(crate) fn dump_in<'a>(matches: &ArgMatches<'a>) -> Result<DumpLine<'a>, WordFault>
-    ensures { IfOk result IsDumpLine }
+pub(crate) fn dump_in<'a>(matches: &ArgMatches<'a>) -> Result<RdumpLine<'a>, WordFault>
+    ensures { IfOk result IsRdumpLine }
 {
-    let (level, block) = sizes_in(matches)?;
-    let date = date_in(matches.get_str("date"))?;
-    let (to, device, fs) = drive_in(matches)?;
-    let payload = value_in(matches, "payload", "--payload is required")?;
-    let dumpdates = value_in(matches, "dumpdates", "--dumpdates is required")?;
-    let update = matches.get_str("update") == Some("true");
-    Ok(DumpLine {
-        to,
-        device,
-        fs,
+    check_given(matches, &REQUIRED)?;
+    let (level, block, date) = numbers_in(matches)?;
+    Ok(RdumpLine::Dump(DumpLine {
+        to: value_in(matches, "to"),
+        device: value_in(matches, "device"),
+        fs: value_in(matches, "fs"),
         level,
-        payload,
+        payload: value_in(matches, "payload"),
         block,
-        dumpdates,
+        dumpdates: value_in(matches, "dumpdates"),
         date,
-        update,
-    })
+        update: matches.get_str("update") == Some("true"),
+    }))
 }
 
-/// The server, the drive, and the name of the file system.
-fn drive_in<'a>(matches: &ArgMatches<'a>) -> Result<(&'a str, &'a str, &'a str), WordFault> {
-    let to = value_in(matches, "to", "--to is required")?;
-    let device = value_in(matches, "device", "--device is required")?;
-    let fs = value_in(matches, "fs", "--fs is required")?;
-    Ok((to, device, fs))
-}
-
-/// The level, and the bytes of a block.
-fn sizes_in(matches: &ArgMatches<'_>) -> Result<(u64, u64), WordFault>
-    ensures { IfOk result (λ sizes. (sizes.0 ≤ number_limit) × (sizes.1 ≤ number_limit)) }
+/// The level, the bytes of a block, and the date if one is given.
+fn numbers_in(matches: &ArgMatches<'_>) -> Result<(u64, u64, Option<u64>), WordFault>
+    ensures { IfOk result (λ found. (found.0 ≤ number_limit) × (found.1 ≤ number_limit) × IfSome found.2 (λ n. n ≤ number_limit)) }
 {
-    let level = value_in(matches, "level", "--level is required")?;
-    let level = number_in(level, BAD_LEVEL)?;
-    let block = value_in(matches, "block", "--block is required")?;
-    let block = number_in(block, BAD_BLOCK)?;
-    Ok((level, block))
+    let level = number_in(value_in(matches, "level"), BAD_LEVEL)?;
+    let block = number_in(value_in(matches, "block"), BAD_BLOCK)?;
+    let date = date_in(matches.get_str("date"))?;
+    Ok((level, block, date))
 }
 
 /// The number that a text says.
@@ -108,59 +96,66 @@ fn date_in(text: Option<&str>) -> Result<Option<u64>, WordFault>
 }
 
 /// The words of `rdump dump` that are required.
-const REQUIRED: [Required; 7] = [
-    Required::TO,
-    Required::DEVICE,
-    Required {
+static REQUIRED: [Word; 7] = [
+    Word::TO,
+    Word::DEVICE,
+    Word {
         name: "fs",
         value: "NAME",
         help: "The name of the file system",
+        form: Form::Required,
+        missing: "--fs is required",
     },
-    Required {
+    Word {
         name: "level",
         value: "LEVEL",
         help: "The level of the dump, 0 to 9",
+        form: Form::Required,
+        missing: "--level is required",
     },
-    Required {
+    Word {
         name: "payload",
         value: "FILE",
         help: "What is dumped",
+        form: Form::Required,
+        missing: "--payload is required",
     },
-    Required {
+    Word {
         name: "block",
         value: "BYTES",
         help: "The size of a block, 1 to 65536",
+        form: Form::Required,
+        missing: "--block is required",
     },
-    Required {
+    Word {
         name: "dumpdates",
         value: "FILE",
         help: "The dumpdates file; a missing one is empty",
+        form: Form::Required,
+        missing: "--dumpdates is required",
+    },
+];
+
+/// Its other words.
+static OTHERS: [Word; 2] = [
+    Word {
+        name: "date",
+        value: "SECONDS",
+        help: "The date of the dump in seconds since 1970 [default: the clock's]",
+        form: Form::Optional,
+        missing: "",
+    },
+    Word {
+        name: "update",
+        value: "",
+        help: "Enter the dump in the dumpdates file once it is complete",
+        form: Form::Flag,
+        missing: "",
     },
 ];
 
 /// The command `rdump dump`.
 pub(crate) fn dump_command<'a>(alloc: Global) -> Result<Command<'a>, AllocError> {
-    let dump = Command::new(alloc, "dump").about(
-        "Dump a payload to a remote tape, and ask after each failure whether to retry",
-    );
-    let dump = with_required(alloc, dump, &REQUIRED)?;
-    let dump = dump.arg(date_option(alloc))?;
-    dump.arg(update_flag(alloc))
-}
-
-/// `--date`.
-fn date_option<'a>(alloc: Global) -> Arg<'a> {
-    Arg::new(alloc, "date")
-        .long("date")
-        .value_name("SECONDS")
-        .action(ArgAction::Set)
-        .help("The date of the dump in seconds since 1970 [default: the clock's]")
-}
-
-/// `--update`.
-fn update_flag<'a>(alloc: Global) -> Arg<'a> {
-    Arg::new(alloc, "update")
-        .long("update")
-        .action(ArgAction::SetTrue)
-        .help("Enter the dump in the dumpdates file once it is complete")
+    let about = "Dump a payload to a remote tape, and ask after each failure whether to retry";
+    command_of(alloc, "dump", about, &REQUIRED, &OTHERS)
 }

@@ -1,11 +1,11 @@
 //! The words of `rdump read` and `rdump mt`.
 ghost use Rattle.std.specs.Prelude.{◌≤◌, IfOk, IfSome};
-ghost use Rattle.dump_run.specs.Run.{IsDevice};
-ghost use Rattle.rmt_words.specs.Rdump.{IsMtLine, IsReadLine, count_limit};
+ghost use Rattle.rmt_words.specs.Rdump.{IsRdumpLine, count_limit};
 
-use crate::rdump_line::{WordFault, value_in};
-use crate::required::{Required, with_required};
-use clap::{Arg, ArgAction, ArgMatches, Command};
+use crate::fault::WordFault;
+use crate::rdump_line::RdumpLine;
+use crate::word::{Form, Word, check_given, command_of, value_in};
+use clap::{ArgMatches, Command};
 use rmt_wire::NUMBER_LIMIT;
 use rmtd_words::{is_device, number_of};
 use std::alloc::{AllocError, Global};
@@ -46,46 +46,49 @@ const BAD_OP: &str =
 const BAD_COUNT: &str = "invalid value for '<COUNT>': a count is 0 to 2147483647 in digits";
 
 /// The line of `rdump read` that clap's matches say.
-pub(crate) fn read_in<'a>(matches: &ArgMatches<'a>) -> Result<ReadLine<'a>, WordFault>
-    ensures { IfOk result IsReadLine }
+pub(crate) fn read_in<'a>(matches: &ArgMatches<'a>) -> Result<RdumpLine<'a>, WordFault>
+    ensures { IfOk result IsRdumpLine }
 {
-    let to = value_in(matches, "to", "--to is required")?;
-    let device = device_in(matches)?;
-    let out = value_in(matches, "out", "--out is required")?;
-    Ok(ReadLine { to, device, out })
+    check_given(matches, &READ_WORDS)?;
+    let device = value_in(matches, "device");
+    if !is_device(device.as_bytes()) {
+        return Err(WordFault::Value(BAD_DEVICE));
+    }
+    Ok(RdumpLine::Read(ReadLine {
+        to: value_in(matches, "to"),
+        device,
+        out: value_in(matches, "out"),
+    }))
 }
 
 /// The line of `rdump mt` that clap's matches say.
-pub(crate) fn mt_in<'a>(matches: &ArgMatches<'a>) -> Result<MtLine<'a>, WordFault>
-    ensures { IfOk result IsMtLine }
+pub(crate) fn mt_in<'a>(matches: &ArgMatches<'a>) -> Result<RdumpLine<'a>, WordFault>
+    ensures { IfOk result IsRdumpLine }
 {
-    let to = value_in(matches, "to", "--to is required")?;
-    let device = device_in(matches)?;
-    let op = value_in(matches, "op", "<OP> is required")?;
-    let Some(op) = op_of(op) else {
-        return Err(WordFault::Value(BAD_OP));
-    };
-    let count = value_in(matches, "count", "<COUNT> is required")?;
-    let Some(count) = count_of(count) else {
-        return Err(WordFault::Value(BAD_COUNT));
-    };
-    Ok(MtLine {
-        to,
+    check_given(matches, &MT_WORDS)?;
+    let device = value_in(matches, "device");
+    if !is_device(device.as_bytes()) {
+        return Err(WordFault::Value(BAD_DEVICE));
+    }
+    let (op, count) = operation_of(value_in(matches, "op"), value_in(matches, "count"))?;
+    Ok(RdumpLine::Mt(MtLine {
+        to: value_in(matches, "to"),
         device,
         op,
         count,
-    })
+    }))
 }
 
-/// The device of the words.
-fn device_in<'a>(matches: &ArgMatches<'a>) -> Result<&'a str, WordFault>
-    ensures { IfOk result (λ device. IsDevice device.now) }
+/// The operation that a word says, and the count that a text says.
+fn operation_of(op: &str, count: &str) -> Result<(u32, u32), WordFault>
+    ensures { IfOk result (λ found. (found.0 ≤ 7) × (found.1 ≤ count_limit)) }
 {
-    let device = value_in(matches, "device", "--device is required")?;
-    if is_device(device.as_bytes()) {
-        Ok(device)
-    } else {
-        Err(WordFault::Value(BAD_DEVICE))
+    let Some(op) = op_of(op) else {
+        return Err(WordFault::Value(BAD_OP));
+    };
+    match count_of(count) {
+        Some(count) => Ok((op, count)),
+        None => Err(WordFault::Value(BAD_COUNT)),
     }
 }
 
@@ -117,40 +120,47 @@ fn count_of(text: &str) -> Option<u32>
     Some(number as u32)
 }
 
-/// The command `rdump read`.
-pub(crate) fn read_command<'a>(alloc: Global) -> Result<Command<'a>, AllocError> {
-    let read = Command::new(alloc, "read").about(
-        "Read a volume of a remote tape: print its label, and write its blocks to a file",
-    );
-    let out = Required {
+/// The words of `rdump read`.
+static READ_WORDS: [Word; 3] = [
+    Word::TO,
+    Word::DEVICE,
+    Word {
         name: "out",
         value: "FILE",
         help: "What the blocks are written to",
-    };
-    with_required(alloc, read, &[Required::TO, Required::DEVICE, out])
+        form: Form::Required,
+        missing: "--out is required",
+    },
+];
+
+/// The command `rdump read`.
+pub(crate) fn read_command<'a>(alloc: Global) -> Result<Command<'a>, AllocError> {
+    let about = "Read a volume of a remote tape: print its label, and write its blocks to a file";
+    command_of(alloc, "read", about, &READ_WORDS, &[])
 }
+
+/// The words of `rdump mt`.
+static MT_WORDS: [Word; 4] = [
+    Word::TO,
+    Word::DEVICE,
+    Word {
+        name: "op",
+        value: "OP",
+        help: "weof, fsf, bsf, fsr, bsr, rewind, offline or nop",
+        form: Form::Place,
+        missing: "<OP> is required",
+    },
+    Word {
+        name: "count",
+        value: "COUNT",
+        help: "How many times, 0 to 2147483647",
+        form: Form::Place,
+        missing: "<COUNT> is required",
+    },
+];
 
 /// The command `rdump mt`.
 pub(crate) fn mt_command<'a>(alloc: Global) -> Result<Command<'a>, AllocError> {
-    let mt = Command::new(alloc, "mt").about(
-        "Do one operation of mt(1) at a remote tape, and print its answer",
-    );
-    let mt = with_required(alloc, mt, &[Required::TO, Required::DEVICE])?;
-    let op = positional(
-        alloc,
-        "op",
-        "OP",
-        "weof, fsf, bsf, fsr, bsr, rewind, offline or nop",
-    );
-    let mt = mt.arg(op)?;
-    mt.arg(positional(alloc, "count", "COUNT", "How many times, 0 to 2147483647"))
-}
-
-/// A word that stands at its place.
-fn positional<'a>(alloc: Global, id: &'a str, value: &'a str, help: &'a str) -> Arg<'a> {
-    Arg::new(alloc, id)
-        .value_name(value)
-        .action(ArgAction::Set)
-        .required(true)
-        .help(help)
+    let about = "Do one operation of mt(1) at a remote tape, and print its answer";
+    command_of(alloc, "mt", about, &MT_WORDS, &[])
 }
