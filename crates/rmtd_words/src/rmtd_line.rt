@@ -1,7 +1,7 @@
 //! The words of `rmtd`.
 
 ghost use Rattle.std.specs.Prelude.{◌≡◌, map, codes, false, [], IfOk, IfErr, IsErrOf, MatchOption, MatchResult, option_map};
-ghost use Rattle.clap.specs.Words.{app_of, first_of, found_of, kind_of, new_app, rows_of, rule_of};
+ghost use Rattle.clap.specs.Words.{App, app_of, first_of, found_of, kind_of, new_app, rows_of, rule_of, with_rule};
 ghost use Rattle.rmtd_words.specs.Drive.{plain_drive, split_of};
 ghost use Rattle.rmtd_words.specs.Rmtd.{app, app_with_limits, app_with_ways, words_in, words_rule, faults_in, flag_rule, has_stdio, matches_in, option_rule, with_version, IsLineIn, IsLineOf, IsRefused, KeepsRules, ReadsCapacity, ReadsConnections, SaysNumber, IsNumberIfGiven};
 
@@ -66,10 +66,35 @@ pub fn server_line<'a>(alloc: Global, words: &'a [&'a str]) -> Result<ServerLine
     ensures refused { IfErr result (λ e. ¬ (kind_of e ≡ ErrorKind.OutOfMemory) → IsRefused (map (λ s. s.now) words.entry.now)) }
 {
     let mut rmtd = command(alloc)?;
-    let matches = matched(&mut rmtd, words)?;
-    match line_of(alloc, &matches)? {
+    line_by(alloc, &mut rmtd, words)
+}
+
+/// The line that the words say to the command, or what a user is told of them.
+fn line_by<'a>(
+    alloc: Global,
+    rmtd: &mut Command<'a>,
+    words: &'a [&'a str],
+) -> Result<ServerLine<'a>, Error>
+    requires { app_of rmtd.old ≡ app }
+    ensures line { IfOk result (IsLineOf (map (λ s. s.now) words.entry.now)) }
+    ensures refused { IfErr result (λ e. ¬ (kind_of e ≡ ErrorKind.OutOfMemory) → IsRefused (map (λ s. s.now) words.entry.now)) }
+{
+    let matches = matched(rmtd, words)?;
+    line_or_refusal(alloc, rmtd, &matches)
+}
+
+/// The line that clap's matches say, or what a user is told of the rule that they break.
+fn line_or_refusal<'a>(
+    alloc: Global,
+    rmtd: &mut Command<'a>,
+    matches: &ArgMatches<'a>,
+) -> Result<ServerLine<'a>, Error>
+    ensures line { IfOk result (IsLineIn (rows_of (found_of matches.now))) }
+    ensures refused { IfErr result (λ e. ¬ (kind_of e ≡ ErrorKind.OutOfMemory) → ¬ (KeepsRules (rows_of (found_of matches.now)))) }
+{
+    match line_of(alloc, matches)? {
         Ok(line) => Ok(line),
-        Err(wrong) => Err(refusal(alloc, &mut rmtd, wrong)?),
+        Err(wrong) => Err(refusal(alloc, rmtd, wrong)?),
     }
 }
 
@@ -203,45 +228,53 @@ fn connections_of(text: Option<&str>) -> Result<Option<u64>, Wrong<'static>>
 fn command<'a>(alloc: Global) -> Result<Command<'a>, AllocError>
     ensures { IfOk result (λ c. app_of c ≡ app) }
 {
-    let rmtd = with_limits(alloc)?
-        .arg(valued(
-            alloc,
-            "bin",
-            "DIR",
-            "The folder of the reels that are taken away",
-        ))?
-        .arg(repeated(
-            alloc,
-            "drive",
-            "DEVICE=DIR",
-            "A drive and the folder of its reels [default: /dev/st0 in memory]",
-        ))?;
-    Ok(rmtd)
+    let bin = valued(
+        alloc,
+        "bin",
+        "DIR",
+        "The folder of the reels that are taken away",
+    );
+    let drive = repeated(
+        alloc,
+        "drive",
+        "DEVICE=DIR",
+        "A drive and the folder of its reels [default: /dev/st0 in memory]",
+    );
+    with_word(with_word(with_limits(alloc), bin), drive)
 }
 
 /// The command `rmtd` with the words that say where it serves, and how much.
 fn with_limits<'a>(alloc: Global) -> Result<Command<'a>, AllocError>
     ensures { IfOk result (λ c. app_of c ≡ app_with_limits) }
 {
-    let rmtd = with_ways(alloc)?
-        .arg(valued(
-            alloc,
-            "capacity",
-            "BYTES",
-            "What a reel holds [default: 1048576]",
-        ))?
-        .arg(valued(alloc, "connections", "N", "End after so many connections"))?;
-    Ok(rmtd)
+    let capacity = valued(
+        alloc,
+        "capacity",
+        "BYTES",
+        "What a reel holds [default: 1048576]",
+    );
+    let connections = valued(alloc, "connections", "N", "End after so many connections");
+    with_word(with_word(with_ways(alloc), capacity), connections)
 }
 
 /// The command `rmtd` with the words that say where it serves.
 fn with_ways<'a>(alloc: Global) -> Result<Command<'a>, AllocError>
     ensures { IfOk result (λ c. app_of c ≡ app_with_ways) }
 {
-    let rmtd = named(alloc)
-        .arg(flag(alloc, "stdio", "Serve standard input and standard output"))?
-        .arg(valued(alloc, "listen", "ADDRESS", "Listen at this host and port"))?;
-    Ok(rmtd)
+    let stdio = flag(alloc, "stdio", "Serve standard input and standard output");
+    let listen = valued(alloc, "listen", "ADDRESS", "Listen at this host and port");
+    with_word(named(alloc).arg(stdio), listen)
+}
+
+/// A command with one more word.
+fn with_word<'a>(
+    command: Result<Command<'a>, AllocError>,
+    word: Arg<'a>,
+) -> Result<Command<'a>, AllocError>
+    ensures { word.entry.global ≡ false → (a : App) → IfOk command.entry (λ c. app_of c ≡ a)
+        → IfOk result (λ c. app_of c ≡ with_rule a (rule_of word.entry)) }
+{
+    command?.arg(word)
 }
 
 /// The command `rmtd` without its words.
