@@ -156,12 +156,22 @@ fn is_bad(alloc: Global, bytes: &[u8], number: usize) -> bool {
     Dates::read(alloc, bytes).err() == Some(DatesFault::BadLine(number))
 }
 
+/// Whether a line with a name of so many bytes is read, and written as it was.
+fn is_kept(alloc: Global, bytes: usize) -> Result<bool, AllocError> {
+    let line = line_named(alloc, bytes)?;
+    Ok(is_read_as(alloc, &line, &line))
+}
+
+/// Whether a line with a name of so many bytes is a bad one.
+fn is_too_long(alloc: Global, bytes: usize) -> Result<bool, AllocError> {
+    let line = line_named(alloc, bytes)?;
+    Ok(is_bad(alloc, &line, 1))
+}
+
 #[test]
 fn names_up_to_255_bytes(rt: HostRuntime) -> Result<(), Fail> {
-    let line = line_named(rt.alloc(), 255)?;
-    assert!(rt; is_read_as(rt.alloc(), &line, &line));
-    let line = line_named(rt.alloc(), 256)?;
-    assert!(rt; is_bad(rt.alloc(), &line, 1));
+    assert!(rt; is_kept(rt.alloc(), 255)?);
+    assert!(rt; is_too_long(rt.alloc(), 256)?);
     Ok(())
 }
 
@@ -181,11 +191,16 @@ fn push_numbered(alloc: Global, text: &mut Vec<u8>, number: u64) -> Result<(), A
     text.extend_from_slice(b"              1 Tue Feb 29 00:00:00 2000\n")
 }
 
+/// A text of 100,000 lines, and one with a bad line behind them.
+fn check_long(rt: &impl Abort, alloc: Global, text: &mut Vec<u8>) -> Result<(), AllocError> {
+    assert!(rt; is_read_as(alloc, text, text));
+    text.extend_from_slice(b"x")?;
+    assert!(rt; is_bad(alloc, text, 100_001));
+    Ok(())
+}
+
 #[test]
 fn a_long_file(rt: HostRuntime) -> Result<(), Fail> {
     let mut text = long_text(rt.alloc(), 100_000)?;
-    assert!(rt; is_read_as(rt.alloc(), &text, &text));
-    text.extend_from_slice(b"x")?;
-    assert!(rt; is_bad(rt.alloc(), &text, 100_001));
-    Ok(())
+    Ok(check_long(&rt, rt.alloc(), &mut text)?)
 }

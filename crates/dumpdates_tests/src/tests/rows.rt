@@ -146,6 +146,9 @@ fn what_is_bad_is_told_by_its_line(rt: HostRuntime) {
     check_bad(&rt, rt.alloc(), &BAD);
 }
 
+/// One name at two levels.
+static TWO_LEVELS: [Row; 2] = [("/usr", 0, 951782400), ("/usr", 1, 951868800)];
+
 /// Names and levels, and the base date of each.
 static BASES: [Row; 4] = [
     ("/usr", 2, 951868800),
@@ -162,8 +165,7 @@ fn check_bases(rt: &impl Abort, dates: &Dates) {
 
 #[test]
 fn bases(rt: HostRuntime) -> Result<(), Fail> {
-    let list = [("/usr", 0, 951782400), ("/usr", 1, 951868800)];
-    let dates = list_of(rt.alloc(), &list).ok_or("a list")?;
+    let dates = list_of(rt.alloc(), &TWO_LEVELS).ok_or("a list")?;
     check_bases(&rt, &dates);
     Ok(())
 }
