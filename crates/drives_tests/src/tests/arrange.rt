@@ -2,7 +2,7 @@
 
 ghost use Rattle.std.specs.Prelude.{◌≡◌, ◌<◌, IfOk, length};
 
-use super::reels::{lie, lie_there};
+use super::reels::{lie, lie_there, two_empty_drives};
 use super::slow::shop::SlowShop;
 use drives::{ListStacks, Stacks, told_orders};
 use std::alloc::Global;
@@ -16,16 +16,6 @@ fn five_reels(alloc: Global) -> Result<ListStacks, Fail>
 {
     let mut stacks = two_empty_drives(alloc)?;
     fill(&mut stacks)?;
-    Ok(stacks)
-}
-
-/// Two drives without reels.
-fn two_empty_drives(alloc: Global) -> Result<ListStacks, Fail>
-    ensures { IfOk result (λ stacks. length stacks.shop.racks ≡ 2) }
-{
-    let mut stacks = ListStacks::new(alloc);
-    stacks.add_drive(b"/dev/st0")?;
-    stacks.add_drive(b"/dev/st1")?;
     Ok(stacks)
 }
 
@@ -129,16 +119,35 @@ fn arrange_both(
     Ok(())
 }
 
-/// Compares what comes of these letters.
-fn check(alloc: Global, letters: &[u8]) -> Result<(), Fail> {
-    let mut stacks = five_reels(alloc)?;
+/// The five reels of the drives and the bin, kept plainly.
+fn five_names(alloc: Global) -> Result<SlowShop, Fail> {
     let mut slow = SlowShop::new(alloc, b"ab", b"c")?;
     slow.bin.extend_from_slice(b"de")?;
+    Ok(slow)
+}
+
+/// Names of one letter each.
+fn names_of(alloc: Global, letters: &[u8]) -> Result<Vec<&[u8]>, Fail> {
     let mut names = Vec::new(alloc);
     for letter in letters {
         names.push(std::slice::from_ref(letter))?;
     }
-    arrange_both(&mut stacks, &mut slow, &names, letters)
+    Ok(names)
+}
+
+/// Compares what comes of these letters at two drives with the five reels.
+fn compare(alloc: Global, stacks: &mut ListStacks, letters: &[u8]) -> Result<(), Fail>
+    requires { length stacks.old.shop.racks ≡ 2 }
+{
+    let mut slow = five_names(alloc)?;
+    let names = names_of(alloc, letters)?;
+    arrange_both(stacks, &mut slow, &names, letters)
+}
+
+/// Compares what comes of these letters.
+fn check(alloc: Global, letters: &[u8]) -> Result<(), Fail> {
+    let mut stacks = five_reels(alloc)?;
+    compare(alloc, &mut stacks, letters)
 }
 
 #[test]
@@ -150,27 +159,37 @@ fn every_short_order_leaves_what_plain_lists_say(rt: HostRuntime) -> Result<(), 
     Ok(())
 }
 
+/// Whether the first drive's stack becomes the reels e and b.
+fn becomes_e_and_b(stacks: &mut ListStacks) -> Result<bool, Fail>
+    requires { length stacks.old.shop.racks ≡ 2 }
+{
+    let names = [b"e".as_slice(), b"b".as_slice()];
+    if !stacks.can_arrange(0, &names) {
+        return Ok(false);
+    }
+    stacks.arrange(0, &names)?;
+    Ok(all_lie(stacks, b"eb", b"c", b"da"))
+}
+
 #[test]
 fn a_stack_becomes_the_reels_that_are_named(rt: HostRuntime) -> Result<(), Fail> {
     told_orders();
     let mut stacks = five_reels(rt.alloc())?;
-    let names = [b"e".as_slice(), b"b".as_slice()];
-    assert!(rt; stacks.can_arrange(0, &names));
-    if stacks.can_arrange(0, &names) {
-        stacks.arrange(0, &names)?;
-    }
-    assert!(rt; all_lie(&stacks, b"eb", b"c", b"da"));
+    assert!(rt; becomes_e_and_b(&mut stacks)?);
     Ok(())
 }
 
 /// Names, and whether a reel of that name is found.
-const FOUND: [(&[u8], bool); 4] = [(b"a", true), (b"c", true), (b"d", true), (b"f", false)];
+static FOUND: [(&[u8], bool); 4] = [(b"a", true), (b"c", true), (b"d", true), (b"f", false)];
 
 /// Whether reels are found wherever they lie.
 fn are_found(stacks: &ListStacks) -> bool {
-    FOUND
-        .iter()
-        .all(|(name, wanted)| stacks.reel(name).is_some() == *wanted)
+    for (name, wanted) in &FOUND {
+        if stacks.reel(name).is_some() != *wanted {
+            return false;
+        }
+    }
+    true
 }
 
 /// Whether a reel is not found while it is latched, nor its stack arranged then.

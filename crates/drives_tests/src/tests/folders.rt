@@ -29,6 +29,20 @@ fn move_first<R: Files<File = File> + AllocGlobal + Clone + Drop>(
     }
 }
 
+/// Latches the first reel of the drive, and drops it.
+fn latch_and_drop<R: Files<File = File> + AllocGlobal + Clone + Drop>(
+    stacks: &mut FolderStacks<R>,
+    drive: usize,
+) -> Result<(), DriveFault>
+    requires { drive < length stacks.old.rows }
+    ensures { length stacks.new.rows ≡ length stacks.old.rows }
+{
+    match stacks.latch(drive) {
+        Ok(_) => Ok(()),
+        Err(fault) => Err(fault),
+    }
+}
+
 /// Whether the drive's first reel is the one of that name: it is moved to the bin.
 fn moves(place: &Place, stacks: &mut FolderStacks<HostRuntime>, name: &str) -> io::Result<bool>
     requires { length stacks.old.rows ≡ 2 }
@@ -44,7 +58,7 @@ fn moves(place: &Place, stacks: &mut FolderStacks<HostRuntime>, name: &str) -> i
 fn is_empty(stacks: &mut FolderStacks<HostRuntime>, drive: usize) -> bool
     requires { drive < length stacks.old.rows }
 {
-    matches!(stacks.latch(drive), Err(DriveFault::NoReel)) && stacks.failures() == 0
+    latch_and_drop(stacks, drive) == Err(DriveFault::NoReel) && stacks.failures() == 0
 }
 
 /// Reels are latched in the order of the bytes of their names.
@@ -65,6 +79,22 @@ fn past_others(place: &Place, stacks: &mut FolderStacks<HostRuntime>) -> io::Res
     Ok(moves(place, stacks, "c")? && is_empty(stacks, 0))
 }
 
+/// Whether the record `hello` is written.
+fn writes_hello(reel: &mut impl Reel) -> bool {
+    reel.write(b"hello").is_ok() && reel.op(0, 1).is_ok()
+}
+
+/// Whether the first drive's reel is latched, and the record `hello` is read.
+fn reads_hello(stacks: &mut FolderStacks<HostRuntime>) -> bool
+    requires { length stacks.old.rows ≡ 2 }
+{
+    let Ok(mut reel) = stacks.latch(0) else {
+        return false;
+    };
+    let mut into = [0; 9];
+    reel.read(&mut into) == Ok(5) && into == *b"hello\0\0\0\0"
+}
+
 /// Writes a record to the reel `r`, which is laid back, and reads it again.
 fn goes_round(place: &Place, stacks: &mut FolderStacks<HostRuntime>) -> io::Result<bool>
     requires { length stacks.old.rows ≡ 2 }
@@ -72,14 +102,10 @@ fn goes_round(place: &Place, stacks: &mut FolderStacks<HostRuntime>) -> io::Resu
     let Ok(mut reel) = stacks.latch(0) else {
         return Ok(false);
     };
-    let written = reel.write(b"hello").is_ok() && reel.op(0, 1).is_ok();
-    let refused = matches!(stacks.latch(0), Err(DriveFault::NoReel));
+    let written = writes_hello(&mut reel);
+    let refused = latch_and_drop(stacks, 0) == Err(DriveFault::NoReel);
     stacks.unlatch(0, reel);
-    let Ok(mut again) = stacks.latch(0) else {
-        return Ok(false);
-    };
-    let mut into = [0; 9];
-    let read = again.read(&mut into) == Ok(5) && into == *b"hello\0\0\0\0";
+    let read = reads_hello(stacks);
     let lies = place.reads("st0/r", b"\x05\0\0\0hello\x05\0\0\0\0\0\0\0")?;
     Ok(written && refused && read && lies && stacks.failures() == 0)
 }
@@ -118,7 +144,7 @@ fn waits_for_locks(place: &Place, stacks: &mut FolderStacks<HostRuntime>) -> io:
 {
     let other = place.file("st0/r")?;
     other.lock()?;
-    let refused = matches!(stacks.latch(0), Err(DriveFault::Device)) && stacks.failures() == 1;
+    let refused = latch_and_drop(stacks, 0) == Err(DriveFault::Device) && stacks.failures() == 1;
     other.unlock()?;
     let bin = place.file("bin")?;
     bin.lock()?;
@@ -134,9 +160,9 @@ fn is_had_once(one: &mut FolderStacks<HostRuntime>, other: &mut FolderStacks<Hos
     let Ok(reel) = one.latch(0) else {
         return false;
     };
-    let refused = matches!(other.latch(0), Err(DriveFault::Device)) && other.failures() == 1;
+    let refused = latch_and_drop(other, 0) == Err(DriveFault::Device) && other.failures() == 1;
     one.unlatch(0, reel);
-    refused && other.latch(0).is_ok()
+    refused && latch_and_drop(other, 0) == Ok(())
 }
 
 /// Another file has the name of the latched reel. It is not moved.
@@ -159,7 +185,7 @@ fn misses_folders(place: &Place, stacks: &mut FolderStacks<HostRuntime>) -> io::
 {
     place.remove_folder("st0")?;
     place.remove_folder("bin")?;
-    let first = matches!(stacks.latch(0), Err(DriveFault::Device)) && stacks.failures() == 1;
+    let first = latch_and_drop(stacks, 0) == Err(DriveFault::Device) && stacks.failures() == 1;
     let second = move_first(stacks, 1) == Err(DriveFault::Device) && stacks.failures() == 2;
     Ok(first && second)
 }
@@ -206,7 +232,7 @@ enum Trial {
 }
 
 /// Each trial, its name, and the files that lie there before, with their text.
-const TRIALS: [(Trial, &str, &[(&str, &str)]); 9] = [
+static TRIALS: [(Trial, &str, &[(&str, &str)]); 9] = [
     (
         Trial::InByteOrder,
         "order",
@@ -262,13 +288,18 @@ fn goes_in(
     goes(trial, place, &mut stacks)
 }
 
+/// Whether the trial goes as it has to, in a new place of this name, which is removed then.
+fn goes_at(rt: HostRuntime, trial: Trial, name: &str, files: &[(&str, &str)]) -> io::Result<bool> {
+    let place = Place::new(rt, name)?;
+    let right = goes_in(rt, trial, &place, files)?;
+    place.remove()?;
+    Ok(right)
+}
+
 #[test]
 fn each_trial_goes_as_it_has_to(rt: HostRuntime) -> io::Result<()> {
-    for (trial, name, files) in TRIALS {
-        let place = Place::new(rt, name)?;
-        let right = goes_in(rt, trial, &place, files)?;
-        place.remove()?;
-        assert!(rt; right, "{name}");
+    for (trial, name, files) in &TRIALS {
+        assert!(rt; goes_at(rt, *trial, name, files)?, "{name}");
     }
     Ok(())
 }
@@ -278,25 +309,32 @@ fn fails(stacks: &mut FolderStacks<FakeRuntime>, lists_no_text: bool) -> bool
     requires { length stacks.old.rows ≡ 2 }
 {
     let failed = if lists_no_text {
-        matches!(stacks.latch(0), Err(DriveFault::Device))
+        latch_and_drop(stacks, 0) == Err(DriveFault::Device)
     } else {
         move_first(stacks, 0) == Err(DriveFault::Device)
     };
     failed && stacks.failures() == 1
 }
 
+/// Whether a failure is told at the place, and its reel is kept.
+fn fails_in(place: &Place, fake: FakeRuntime) -> io::Result<bool> {
+    place.put("st0/r", "")?;
+    let refused = fails(&mut place.open(fake)?, fake.lists_no_text);
+    Ok(refused && place.has("st0/r")? && !place.has("bin/r")?)
+}
+
+/// The same in a new place of this name, which is removed then.
+fn fails_at(rt: HostRuntime, lists_no_text: bool, name: &str) -> io::Result<bool> {
+    let place = Place::new(rt, name)?;
+    let failed = fails_in(&place, FakeRuntime { rt, lists_no_text })?;
+    place.remove()?;
+    Ok(failed)
+}
+
 #[test]
 fn what_the_system_refuses_is_a_failure(rt: HostRuntime) -> io::Result<()> {
     for (lists_no_text, name) in [(true, "text"), (false, "rename")] {
-        let place = Place::new(rt, name)?;
-        place.put("st0/r", "")?;
-        let refused = fails(
-            &mut place.open(FakeRuntime { rt, lists_no_text })?,
-            lists_no_text,
-        );
-        let kept = place.has("st0/r")? && !place.has("bin/r")?;
-        place.remove()?;
-        assert!(rt; refused && kept, "{name}");
+        assert!(rt; fails_at(rt, lists_no_text, name)?, "{name}");
     }
     Ok(())
 }

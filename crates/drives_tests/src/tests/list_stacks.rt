@@ -2,13 +2,14 @@
 
 ghost use Rattle.std.specs.Prelude.{◌≡◌, ◌<◌, length};
 
-use super::reels::{are, lie, lie_there, move_first, two_drives};
+use super::reels::{are, latch_and_drop, lie, lie_there, move_first, two_drives};
 use drives::{DriveFault, ListStacks, Stacks, lying_troubles};
+use std::process::Abort;
 use std::test::Fail;
 use tape::Reel;
 
 /// Names of drives that are added, and what each addition answers.
-const ADDED: [(&[u8], Result<usize, DriveFault>); 4] = [
+static ADDED: [(&[u8], Result<usize, DriveFault>); 4] = [
     (b"/dev/st0", Ok(0)),
     (b"/dev/st1", Ok(1)),
     (b"/dev/st0", Err(DriveFault::NameTaken)),
@@ -16,66 +17,113 @@ const ADDED: [(&[u8], Result<usize, DriveFault>); 4] = [
 ];
 
 /// Names, and the numbers of the drives that have them then.
-const FOUND: [(&[u8], Option<usize>); 4] = [
+static FOUND: [(&[u8], Option<usize>); 4] = [
     (b"/dev/st0", Some(0)),
     (b"/dev/st1", Some(1)),
     (b"/dev/st2", Some(2)),
     (b"/dev/st", None),
 ];
 
+/// Adds the drives, each of which has to answer as is wanted.
+fn add_all(rt: &impl Abort, stacks: &mut ListStacks) {
+    for (name, wanted) in &ADDED {
+        assert!(rt; stacks.add_drive(name) == *wanted, "adding {name:?}");
+    }
+}
+
+/// Finds the drives, each of which has to be told as is wanted.
+fn find_all(rt: &impl Abort, stacks: &ListStacks) {
+    for (name, wanted) in &FOUND {
+        assert!(rt; stacks.drive(name) == *wanted, "finding {name:?}");
+    }
+}
+
 #[test]
 fn drives_are_numbered_in_order(rt: HostRuntime) -> Result<(), Fail> {
     let mut stacks = ListStacks::new(rt.alloc());
     assert!(rt; stacks.drive(b"/dev/st0").is_none());
-    for (name, wanted) in ADDED {
-        assert!(rt; stacks.add_drive(name) == wanted, "adding {name:?}");
-    }
-    for (name, wanted) in FOUND {
-        assert!(rt; stacks.drive(name) == wanted, "finding {name:?}");
-    }
+    add_all(&rt, &mut stacks);
+    find_all(&rt, &stacks);
     Ok(())
+}
+
+/// Writes a record to the first reel of the first drive, which is laid back.
+fn write_first(stacks: &mut ListStacks) -> Result<(), Fail>
+    requires { length stacks.old.shop.racks ≡ 2 }
+    ensures { length stacks.new.shop.racks ≡ 2 }
+{
+    let mut reel = stacks.latch(0)?;
+    reel.write(b"abc")?;
+    stacks.unlatch(0, reel);
+    Ok(())
+}
+
+/// Whether the record is read from that reel, which is moved to the bin.
+fn reads_and_moves_first(stacks: &mut ListStacks) -> Result<bool, Fail>
+    requires { length stacks.old.shop.racks ≡ 2 }
+{
+    let mut reel = stacks.latch(0)?;
+    let mut into = [0; 5];
+    let given = reel.read(&mut into)?;
+    let moved = stacks.offline(0, reel).is_ok();
+    Ok(given == 3 && into == *b"abc\0\0" && moved && stacks.failures() == 0)
 }
 
 #[test]
 fn a_reel_goes_round(rt: HostRuntime) -> Result<(), Fail> {
     lying_troubles();
     let mut stacks = two_drives(rt.alloc())?;
-    let mut reel = stacks.latch(0)?;
-    reel.write(b"abc")?;
-    stacks.unlatch(0, reel);
-    let mut again = stacks.latch(0)?;
-    let mut into = [0; 5];
-    let given = again.read(&mut into)?;
-    let moved = stacks.offline(0, again).is_ok();
-    assert!(rt; given == 3 && into == *b"abc\0\0");
-    assert!(rt; moved && stacks.failures() == 0);
+    write_first(&mut stacks)?;
+    assert!(rt; reads_and_moves_first(&mut stacks)?);
     Ok(())
+}
+
+/// Whether a reel that is latched, and laid back, stays first.
+fn stays_first(stacks: &mut ListStacks) -> Result<bool, Fail>
+    requires { length stacks.old.shop.racks ≡ 2 }
+    ensures { length stacks.new.shop.racks ≡ 2 }
+{
+    let reel = stacks.latch(0)?;
+    let away = lie_there(stacks.stack(0), true) && lie(stacks, b"ab", b"c", b"");
+    stacks.unlatch(0, reel);
+    Ok(away && lie_there(stacks.stack(0), false) && are(stacks.stack(0), b"ab"))
+}
+
+/// Whether one reel of each drive is latched, and no other while it is.
+fn latches_one(stacks: &mut ListStacks) -> bool
+    requires { length stacks.old.shop.racks ≡ 2 }
+{
+    let first = latch_and_drop(stacks, 0) == Ok(());
+    let again = latch_and_drop(stacks, 0) == Err(DriveFault::NoReel);
+    let other = latch_and_drop(stacks, 1) == Ok(());
+    first && again && other && stacks.failures() == 0
 }
 
 #[test]
 fn one_reel_of_a_drive_is_latched_and_stays_first(rt: HostRuntime) -> Result<(), Fail> {
     let mut stacks = two_drives(rt.alloc())?;
-    let reel = stacks.latch(0)?;
-    assert!(rt; lie_there(stacks.stack(0), true) && lie(&stacks, b"ab", b"c", b""));
-    stacks.unlatch(0, reel);
-    assert!(rt; lie_there(stacks.stack(0), false) && are(stacks.stack(0), b"ab"));
-    let first = stacks.latch(0).is_ok();
-    let again = matches!(stacks.latch(0), Err(DriveFault::NoReel));
-    let other = stacks.latch(1).is_ok();
-    assert!(rt; first && again && other && stacks.failures() == 0);
+    assert!(rt; stays_first(&mut stacks)?);
+    assert!(rt; latches_one(&mut stacks));
     Ok(())
+}
+
+/// Whether all reels of both drives come to the end of the bin as they are moved.
+fn move_in_order(stacks: &mut ListStacks) -> Result<bool, Fail>
+    requires { length stacks.old.shop.racks ≡ 2 }
+{
+    move_first(stacks, 0)?;
+    let one = lie(stacks, b"b", b"c", b"a");
+    move_first(stacks, 1)?;
+    move_first(stacks, 0)?;
+    let all = lie(stacks, b"", b"", b"acb");
+    Ok(one && all && latch_and_drop(stacks, 0) == Err(DriveFault::NoReel))
 }
 
 #[test]
 fn reels_are_added_at_the_end_and_moved_to_the_end_of_the_bin(rt: HostRuntime) -> Result<(), Fail> {
     let mut stacks = two_drives(rt.alloc())?;
     assert!(rt; lie_there(stacks.stack(0), false) && lie(&stacks, b"ab", b"c", b""));
-    move_first(&mut stacks, 0)?;
-    assert!(rt; lie(&stacks, b"b", b"c", b"a"));
-    move_first(&mut stacks, 1)?;
-    move_first(&mut stacks, 0)?;
-    assert!(rt; lie(&stacks, b"", b"", b"acb"));
-    assert!(rt; matches!(stacks.latch(0), Err(DriveFault::NoReel)));
+    assert!(rt; move_in_order(&mut stacks)?);
     Ok(())
 }
 
@@ -87,18 +135,31 @@ fn refuses(stacks: &mut ListStacks, drive: usize, name: &[u8]) -> bool
     matches!(stacks.add_reel(drive, name, 5), Err(DriveFault::NameTaken))
 }
 
+/// Whether a name is taken on each stack, also while its reel is latched.
+fn is_taken_on_stacks(stacks: &mut ListStacks) -> Result<bool, Fail>
+    requires { length stacks.old.shop.racks ≡ 2 }
+{
+    let taken = refuses(stacks, 0, b"a") && refuses(stacks, 1, b"b");
+    let reel = stacks.latch(0)?;
+    let latched = refuses(stacks, 1, b"a");
+    drop(reel);
+    Ok(taken && latched)
+}
+
+/// Whether a name is taken in the bin, and another is not.
+fn is_taken_in_bin(stacks: &mut ListStacks) -> Result<bool, Fail>
+    requires { length stacks.old.shop.racks ≡ 2 }
+{
+    move_first(stacks, 0)?;
+    let taken = refuses(stacks, 1, b"a") && are(stacks.stack(1), b"c");
+    stacks.add_reel(1, b"d", 5)?;
+    Ok(taken && are(stacks.stack(1), b"cd"))
+}
+
 #[test]
 fn a_reel_name_is_taken_on_each_stack_and_in_the_bin(rt: HostRuntime) -> Result<(), Fail> {
-    let mut stacks = two_drives(rt.alloc())?;
-    let taken = refuses(&mut stacks, 0, b"a") && refuses(&mut stacks, 1, b"b");
-    let reel = stacks.latch(0)?;
-    assert!(rt; taken && refuses(&mut stacks, 1, b"a"));
-    drop(reel);
-    let mut stacks = two_drives(rt.alloc())?;
-    move_first(&mut stacks, 0)?;
-    assert!(rt; refuses(&mut stacks, 1, b"a") && are(stacks.stack(1), b"c"));
-    stacks.add_reel(1, b"d", 5)?;
-    assert!(rt; are(stacks.stack(1), b"cd"));
+    assert!(rt; is_taken_on_stacks(&mut two_drives(rt.alloc())?)?);
+    assert!(rt; is_taken_in_bin(&mut two_drives(rt.alloc())?)?);
     Ok(())
 }
 
@@ -107,7 +168,7 @@ fn fails(stacks: &mut ListStacks) -> bool
     requires { length stacks.old.shop.racks ≡ 2 }
     ensures { length stacks.new.shop.racks ≡ 2 }
 {
-    matches!(stacks.latch(0), Err(DriveFault::Device)) && stacks.failures() == 1
+    latch_and_drop(stacks, 0) == Err(DriveFault::Device) && stacks.failures() == 1
 }
 
 /// Whether a trouble meets the next latch, and no other.
@@ -116,10 +177,10 @@ fn meets_one_latch(stacks: &mut ListStacks) -> bool
 {
     stacks.trouble(true);
     let failed = fails(stacks);
-    let latched = stacks.latch(0).is_ok() && stacks.failures() == 1;
+    let latched = latch_and_drop(stacks, 0) == Ok(()) && stacks.failures() == 1;
     stacks.trouble(true);
     stacks.trouble(false);
-    failed && latched && stacks.latch(1).is_ok()
+    failed && latched && latch_and_drop(stacks, 1) == Ok(())
 }
 
 /// Whether a trouble waits past a stack that gives no reel.
@@ -128,7 +189,7 @@ fn waits_for_a_reel(stacks: &mut ListStacks) -> Result<bool, Fail>
 {
     let reel = stacks.latch(1)?;
     stacks.trouble(true);
-    let none = matches!(stacks.latch(1), Err(DriveFault::NoReel)) && stacks.failures() == 0;
+    let none = latch_and_drop(stacks, 1) == Err(DriveFault::NoReel) && stacks.failures() == 0;
     let failed = fails(stacks);
     drop(reel);
     Ok(none && failed)
@@ -136,10 +197,8 @@ fn waits_for_a_reel(stacks: &mut ListStacks) -> Result<bool, Fail>
 
 #[test]
 fn a_trouble_meets_one_latch_or_waits_for_a_reel(rt: HostRuntime) -> Result<(), Fail> {
-    let mut stacks = two_drives(rt.alloc())?;
-    assert!(rt; meets_one_latch(&mut stacks));
-    let mut stacks = two_drives(rt.alloc())?;
-    assert!(rt; waits_for_a_reel(&mut stacks)?);
+    assert!(rt; meets_one_latch(&mut two_drives(rt.alloc())?));
+    assert!(rt; waits_for_a_reel(&mut two_drives(rt.alloc())?)?);
     Ok(())
 }
 

@@ -66,13 +66,20 @@ fn compare(stacks: &mut ListStacks, slow: &mut SlowShop, number: u32) -> Result<
 }
 
 /// Four rounds, by the digits of a number in base 6.
+fn compare_four(stacks: &mut ListStacks, slow: &mut SlowShop, number: u32) -> Result<(), Fail>
+    requires { length stacks.old.shop.racks ≡ 2 }
+{
+    compare(stacks, slow, number)?;
+    compare(stacks, slow, number / 6)?;
+    compare(stacks, slow, number / 36)?;
+    compare(stacks, slow, number / 216)
+}
+
+/// The four rounds of that number, at two drives with their three reels.
 fn check(alloc: Global, number: u32) -> Result<(), Fail> {
     let mut stacks = two_drives(alloc)?;
     let mut slow = SlowShop::new(alloc, b"ab", b"c")?;
-    compare(&mut stacks, &mut slow, number)?;
-    compare(&mut stacks, &mut slow, number / 6)?;
-    compare(&mut stacks, &mut slow, number / 36)?;
-    compare(&mut stacks, &mut slow, number / 216)
+    compare_four(&mut stacks, &mut slow, number)
 }
 
 #[test]

@@ -2,7 +2,7 @@
 
 ghost use Rattle.std.specs.Prelude.{◌≡◌, ◌<◌, IfOk, length};
 
-use drives::{ListStacks, ListedReel, Stacks};
+use drives::{DriveFault, ListStacks, ListedReel, Stacks};
 use std::alloc::Global;
 use std::test::Fail;
 
@@ -10,13 +10,30 @@ use std::test::Fail;
 pub(super) fn two_drives(alloc: Global) -> Result<ListStacks, Fail>
     ensures { IfOk result (λ stacks. length stacks.shop.racks ≡ 2) }
 {
+    let mut stacks = two_empty_drives(alloc)?;
+    fill(&mut stacks)?;
+    Ok(stacks)
+}
+
+/// Two drives without reels.
+pub(super) fn two_empty_drives(alloc: Global) -> Result<ListStacks, Fail>
+    ensures { IfOk result (λ stacks. length stacks.shop.racks ≡ 2) }
+{
     let mut stacks = ListStacks::new(alloc);
     stacks.add_drive(b"/dev/st0")?;
     stacks.add_drive(b"/dev/st1")?;
+    Ok(stacks)
+}
+
+/// Gives two drives their three reels.
+fn fill(stacks: &mut ListStacks) -> Result<(), Fail>
+    requires { length stacks.old.shop.racks ≡ 2 }
+    ensures { IfOk result (λ _. length stacks.new.shop.racks ≡ 2) }
+{
     stacks.add_reel(0, b"a", 100)?;
     stacks.add_reel(0, b"b", 100)?;
     stacks.add_reel(1, b"c", 100)?;
-    Ok(stacks)
+    Ok(())
 }
 
 /// Whether these are reels of these names, in order.
@@ -44,6 +61,17 @@ pub(super) fn lie(stacks: &ListStacks, first: &[u8], second: &[u8], bin: &[u8]) 
     requires { length stacks.now.shop.racks ≡ 2 }
 {
     are(stacks.stack(0), first) && are(stacks.stack(1), second) && are(stacks.bin(), bin)
+}
+
+/// Latches the first reel of the drive, and drops it.
+pub(super) fn latch_and_drop(stacks: &mut ListStacks, drive: usize) -> Result<(), DriveFault>
+    requires { drive < length stacks.old.shop.racks }
+    ensures { length stacks.new.shop.racks ≡ length stacks.old.shop.racks }
+{
+    match stacks.latch(drive) {
+        Ok(_) => Ok(()),
+        Err(fault) => Err(fault),
+    }
 }
 
 /// Latches the first reel of the drive and moves it to the bin.

@@ -7,6 +7,7 @@ ghost use Rattle.drives.specs.Local.{IsSeatOf};
 use super::slow::holds::{SlowHolds, SlowSeat};
 use drives::{Holds, LocalHolds, LocalSeat, Taken};
 use std::alloc::Global;
+use std::process::Abort;
 use std::test::Fail;
 
 /// Has the seat of this number and the plain one take the drive, give it back where the seat holds it, or look. Answers
@@ -142,30 +143,48 @@ fn run(alloc: Global, drives: usize, events: usize, number: usize) -> Result<boo
     requires few { drives ≤ 64 }
 {
     let mut pair = Pair::new(alloc, drives)?;
+    step(&mut pair, 6 * drives, events, number)
+}
+
+/// Makes so many events, of which the number has one digit each in that base.
+fn step(pair: &mut Pair, base: usize, events: usize, number: usize) -> Result<bool, Fail>
+    requires { 1 ≤ base }
+{
     let mut rest = number;
     for _ in 0..events {
-        if !pair.act(rest % (6 * drives))? || !pair.agrees() {
+        if !pair.act(rest % base)? || !pair.agrees() {
             return Ok(false);
         }
-        rest /= 6 * drives;
+        rest /= base;
     }
     Ok(true)
 }
 
-#[test]
-fn every_five_steps_at_one_drive(rt: HostRuntime) -> Result<(), Fail> {
-    for number in 0..7776 {
-        assert!(rt; run(rt.alloc(), 1, 5, number)?, "steps {number}");
+/// All numbers up to this have to go alike.
+fn run_all(
+    rt: &impl Abort,
+    alloc: Global,
+    drives: usize,
+    events: usize,
+    numbers: usize,
+) -> Result<(), Fail>
+    requires some { 1 ≤ drives }
+    requires few { drives ≤ 64 }
+{
+    for number in 0..numbers {
+        assert!(rt; run(alloc, drives, events, number)?, "steps {number}");
     }
     Ok(())
 }
 
 #[test]
+fn every_five_steps_at_one_drive(rt: HostRuntime) -> Result<(), Fail> {
+    run_all(&rt, rt.alloc(), 1, 5, 7776)
+}
+
+#[test]
 fn every_three_steps_at_two_drives(rt: HostRuntime) -> Result<(), Fail> {
-    for number in 0..1728 {
-        assert!(rt; run(rt.alloc(), 2, 3, number)?, "steps {number}");
-    }
-    Ok(())
+    run_all(&rt, rt.alloc(), 2, 3, 1728)
 }
 
 #[test]

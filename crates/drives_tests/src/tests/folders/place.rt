@@ -8,6 +8,28 @@ use std::os::unix::fs::{PermissionsExt, symlink};
 use std::rt::Files;
 use std::{io, process};
 
+/// The drives `/dev/st0` and `/dev/st1` of reels of 100 bytes, with these stacks and this bin.
+fn open_folders<R: Files<File = File> + AllocGlobal + Clone + Drop>(
+    rt: R,
+    first: &str,
+    second: &str,
+    bin: &str,
+) -> io::Result<FolderStacks<R>>
+    ensures { IfOk result (λ stacks. length stacks.rows ≡ 2) }
+{
+    let drives = [
+        FolderDrive {
+            name: "/dev/st0",
+            folder: first,
+        },
+        FolderDrive {
+            name: "/dev/st1",
+            folder: second,
+        },
+    ];
+    Ok(FolderStacks::open(rt, &drives, bin, 100)?)
+}
+
 /// A folder with the stacks `st0` and `st1` and the folder `bin`.
 #[derive(Drop)]
 pub(super) struct Place {
@@ -21,11 +43,15 @@ impl Place {
         let id = process::id(rt.process());
         let top = format!(in rt.alloc(); "folders_{name}_{id}")?;
         let place = Place { rt, top };
-        fs::create_dir(&rt, place.top.as_str())?;
-        place.put_folder("st0")?;
-        place.put_folder("st1")?;
-        place.put_folder("bin")?;
+        place.make_folders()?;
         Ok(place)
+    }
+
+    fn make_folders(&self) -> io::Result<()> {
+        fs::create_dir(&self.rt, self.top.as_str())?;
+        self.put_folder("st0")?;
+        self.put_folder("st1")?;
+        self.put_folder("bin")
     }
 
     /// The path of what lies there.
@@ -89,20 +115,13 @@ impl Place {
     ) -> io::Result<FolderStacks<R>>
         ensures { IfOk result (λ stacks. length stacks.rows ≡ 2) }
     {
-        let first = self.path("st0")?;
-        let second = self.path("st1")?;
-        let bin = self.path("bin")?;
-        let drives = [
-            FolderDrive {
-                name: "/dev/st0",
-                folder: first.as_str(),
-            },
-            FolderDrive {
-                name: "/dev/st1",
-                folder: second.as_str(),
-            },
-        ];
-        Ok(FolderStacks::open(rt, &drives, bin.as_str(), 100)?)
+        let (first, second, bin) = self.paths()?;
+        open_folders(rt, first.as_str(), second.as_str(), bin.as_str())
+    }
+
+    /// The paths of both stacks and of the bin.
+    fn paths(&self) -> io::Result<(String, String, String)> {
+        Ok((self.path("st0")?, self.path("st1")?, self.path("bin")?))
     }
 
     /// Removes the folders and all that lies in them.

@@ -22,6 +22,15 @@ pub(crate) struct SlowDrive {
 }
 
 impl SlowDrive {
+    /// A drive with these reels on its stack, of which none is latched.
+    fn new(alloc: Global, names: &[u8]) -> Result<SlowDrive, Fail> {
+        let names = Vec::from_slice(alloc, names)?;
+        Ok(SlowDrive {
+            names,
+            latched: false,
+        })
+    }
+
     /// Whether the reel lies on the stack: the first does not while it is latched.
     fn lies(&self, name: u8) -> bool {
         let away = if self.latched { 1 } else { 0 };
@@ -43,14 +52,8 @@ impl SlowShop {
     pub(crate) fn new(alloc: Global, first: &[u8], second: &[u8]) -> Result<SlowShop, Fail> {
         Ok(SlowShop {
             alloc,
-            first: SlowDrive {
-                names: Vec::from_slice(alloc, first)?,
-                latched: false,
-            },
-            second: SlowDrive {
-                names: Vec::from_slice(alloc, second)?,
-                latched: false,
-            },
+            first: SlowDrive::new(alloc, first)?,
+            second: SlowDrive::new(alloc, second)?,
             bin: Vec::new(alloc),
         })
     }
