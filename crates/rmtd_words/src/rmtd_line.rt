@@ -65,8 +65,10 @@ pub fn server_line<'a>(alloc: Global, words: &'a [&'a str]) -> Result<ServerLine
     ensures line { IfOk result (IsLineOf (map (λ s. s.now) words.entry.now)) }
     ensures refused { IfErr result (λ e. ¬ (kind_of e ≡ ErrorKind.OutOfMemory) → IsRefused (map (λ s. s.now) words.entry.now)) }
 {
-    let mut rmtd = command(alloc)?;
-    line_by(alloc, &mut rmtd, words)
+    match command(alloc) {
+        Ok(mut rmtd) => line_by(alloc, &mut rmtd, words),
+        Err(refused) => Err(refused.into()),
+    }
 }
 
 /// The line that the words say to the command, or what a user is told of them.

@@ -4,7 +4,7 @@ use clap::error::ErrorKind;
 use std::fmt;
 
 /// Which rule the words of `rmtd` break. Its `Display` is the text for the user.
-#[derive(Clone, Copy, Debug, PartialEq, Eq)]
+#[derive(Clone, Copy)]
 pub(crate) enum Wrong<'a> {
     /// Neither or both of `--stdio` and `--listen` are given.
     Ways,
