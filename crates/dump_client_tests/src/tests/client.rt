@@ -203,7 +203,7 @@ const GREATEST_BLOCKS: &[Move] = &[
     Stands(State::Finished, &[(1, 0, 2)], (2, 2)),
 ];
 
-const CASES: [Case; 8] = [
+static CASES: [Case; 8] = [
     Case {
         name: "a run without blocks",
         run: RUN,
@@ -264,5 +264,5 @@ const CASES: [Case; 8] = [
 
 #[test]
 fn whole_attempts(rt: HostRuntime) -> Result<(), Fail> {
-    check_cases(&rt, rt.alloc(), CASES.as_slice())
+    check_cases(&rt, rt.alloc(), &CASES)
 }

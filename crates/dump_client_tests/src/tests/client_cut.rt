@@ -10,7 +10,7 @@ use std::process::Abort;
 use std::test::Fail;
 
 /// The replies to a volume of two blocks, which ends at the end of its reel.
-const REPLIES: [&[u8]; 9] = [
+static REPLIES: [&[u8]; 9] = [
     b"A7\n",
     b"A0000000001\n",
     b"A1024\n",
@@ -97,6 +97,18 @@ impl Attempt {
         good
     }
 
+    /// It asks and hears to the end of the attempt, in pieces of so many bytes.
+    fn goes_on_to_the_end(&mut self, most: usize) -> bool
+        requires { 0 < most }
+    {
+        for reply in &REPLIES {
+            if !self.goes_on_in_pieces(reply, most) {
+                return false;
+            }
+        }
+        self.whole == REPLIES.len()
+    }
+
     /// It asks, and hears a reply that is cut in two behind so many bytes.
     fn goes_on_in_two(&mut self, reply: &[u8], cut: usize) -> bool {
         self.asks()
@@ -120,7 +132,7 @@ impl Attempt {
         let mut left = bytes;
         let mut goes_on = left > 0 || asks;
         let mut good = true;
-        for reply in REPLIES {
+        for reply in &REPLIES {
             if goes_on {
                 good = good && self.goes_on_up_to(reply, left);
                 goes_on = left > reply.len() || left == reply.len() && asks;
@@ -180,16 +192,20 @@ impl Attempt {
     }
 }
 
+/// Whether an attempt whose replies all come in pieces of so many bytes goes to its end.
+fn goes_in_pieces(alloc: Global, most: usize) -> Result<bool, Fail>
+    requires { 0 < most }
+{
+    let mut attempt = Attempt::new(alloc)?;
+    Ok(attempt.goes_on_to_the_end(most))
+}
+
 /// All replies come in pieces of so many bytes.
 fn check_pieces(rt: &impl Abort, alloc: Global, most: usize) -> Result<(), Fail>
     requires { 0 < most }
 {
-    let mut attempt = Attempt::new(alloc)?;
-    for reply in REPLIES {
-        let good = attempt.goes_on_in_pieces(reply, most);
-        assert!(rt; good, "{most}");
-    }
-    assert_eq!(rt; attempt.whole, REPLIES.len());
+    let good = goes_in_pieces(alloc, most)?;
+    assert!(rt; good, "{most}");
     Ok(())
 }
 
@@ -202,10 +218,16 @@ fn replies_in_pieces(rt: HostRuntime) -> Result<(), Fail> {
     check_pieces(&rt, alloc, 3)
 }
 
+/// Whether an attempt goes to its end where one reply comes in two pieces, and all others whole.
+fn goes_with_a_cut(alloc: Global, at: usize, cut: usize) -> Result<bool, Fail> {
+    let mut attempt = Attempt::new(alloc)?;
+    Ok(attempt.goes_on_with_a_cut(at, cut))
+}
+
 /// One reply comes in two pieces, and all others whole.
 fn check_two_pieces(rt: &impl Abort, alloc: Global, at: usize, cut: usize) -> Result<(), Fail> {
-    let mut attempt = Attempt::new(alloc)?;
-    assert!(rt; attempt.goes_on_with_a_cut(at, cut), "{at}, {cut}");
+    let good = goes_with_a_cut(alloc, at, cut)?;
+    assert!(rt; good, "{at}, {cut}");
     Ok(())
 }
 
@@ -219,11 +241,26 @@ fn each_reply_in_two(rt: HostRuntime) -> Result<(), Fail> {
     Ok(())
 }
 
+/// Whether the run is finished after such a cut, with this script of its last volume.
+fn goes_past_a_cut(
+    alloc: Global,
+    bytes: usize,
+    asks: bool,
+    last: &[Scripted],
+) -> Result<bool, Fail> {
+    let mut attempt = Attempt::new(alloc)?;
+    Ok(attempt.finishes_after_a_cut(bytes, asks, last))
+}
+
+/// Whether the run is finished after such a cut.
+fn is_finished_after(alloc: Global, bytes: usize, asks: bool) -> Result<bool, Fail> {
+    let last = script(alloc, RUN, &BLOCKS, 2, 2, 1)?;
+    goes_past_a_cut(alloc, bytes, asks, &last)
+}
+
 /// The run is finished after such a cut.
 fn check_cut(rt: &impl Abort, alloc: Global, bytes: usize, asks: bool) -> Result<(), Fail> {
-    let mut attempt = Attempt::new(alloc)?;
-    let last = script(alloc, RUN, &BLOCKS, 2, 2, 1)?;
-    let good = attempt.finishes_after_a_cut(bytes, asks, &last);
+    let good = is_finished_after(alloc, bytes, asks)?;
     assert!(rt; good, "{bytes}, {asks}");
     Ok(())
 }

@@ -130,7 +130,7 @@ const ABANDONED: &[Move] = &[
     Stands(State::Abandoned, &[], (1, 0)),
 ];
 
-const CASES: [Case; 8] = [
+static CASES: [Case; 8] = [
     Case {
         name: "bytes with the reply that counts",
         run: RUN,
@@ -191,5 +191,5 @@ const CASES: [Case; 8] = [
 
 #[test]
 fn ends_of_attempts(rt: HostRuntime) -> Result<(), Fail> {
-    check_cases(&rt, rt.alloc(), CASES.as_slice())
+    check_cases(&rt, rt.alloc(), &CASES)
 }

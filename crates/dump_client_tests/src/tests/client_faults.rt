@@ -138,7 +138,7 @@ const BEFORE_A_REQUEST: &[Move] = &[
     Stands(State::Asking, ONE_COUNTED, (2, 1)),
 ];
 
-const CASES: [Case; 4] = [
+static CASES: [Case; 4] = [
     Case {
         name: "replies to the write of a block",
         run: RUN,
@@ -171,14 +171,14 @@ const CASES: [Case; 4] = [
 
 #[test]
 fn unwanted_replies(rt: HostRuntime) -> Result<(), Fail> {
-    check_cases(&rt, rt.alloc(), CASES.as_slice())
+    check_cases(&rt, rt.alloc(), &CASES)
 }
 
 /// The first volume is counted, and the second is to be written.
-const SECOND: [Move; 4] = [Volume(1, 0, 1), Starts, Goes(0, 8), Volume(2, 1, 2)];
+const SECOND: &[Move] = &[Volume(1, 0, 1), Starts, Goes(0, 8), Volume(2, 1, 2)];
 
 /// The second volume is written.
-const FINISHES: [Move; 3] = [
+const FINISHES: &[Move] = &[
     Starts,
     Goes(0, 8),
     Stands(State::Finished, &[(1, 0, 1), (2, 1, 2)], (3, 3)),
@@ -194,25 +194,34 @@ fn makes_all(play: &mut Play, moves: &[Move]) -> Result<bool, Fail> {
     Ok(true)
 }
 
+/// Whether an attempt that hears an error with a text of this size fails for it.
+fn fails_at_long_text(alloc: Global, play: &mut Play, size: usize) -> Result<bool, Fail> {
+    let error = long_error(alloc, b"E5\n", size)?;
+    Ok(play.fails_at(LAST_BLOCK, &error, AttemptFault::Refused(5)))
+}
+
 /// Whether attempts that hear errors with texts of these sizes fail for them, and the dump then goes on to its end.
 fn fails_at_long_texts(alloc: Global, play: &mut Play) -> Result<bool, Fail> {
-    if !makes_all(play, SECOND.as_slice())? {
+    if !makes_all(play, SECOND)? {
         return Ok(false);
     }
     for size in [10000, 65548, 200000] {
-        let error = long_error(alloc, b"E5\n", size)?;
-        if !play.fails_at(LAST_BLOCK, &error, AttemptFault::Refused(5)) {
+        if !fails_at_long_text(alloc, play, size)? {
             return Ok(false);
         }
     }
-    makes_all(play, FINISHES.as_slice())
+    makes_all(play, FINISHES)
+}
+
+/// The same of a client that has not started.
+fn goes_past_long_texts(alloc: Global) -> Result<bool, Fail> {
+    let mut play = Play::new(alloc, RUN, &BLOCKS)?;
+    fails_at_long_texts(alloc, &mut play)
 }
 
 /// The text of an error can be longer than all else that is kept of a reply.
 #[test]
 fn long_texts_of_errors(rt: HostRuntime) -> Result<(), Fail> {
-    let mut play = Play::new(rt.alloc(), RUN, &BLOCKS)?;
-    let good = fails_at_long_texts(rt.alloc(), &mut play)?;
-    assert!(rt; good);
+    assert!(rt; goes_past_long_texts(rt.alloc())?);
     Ok(())
 }

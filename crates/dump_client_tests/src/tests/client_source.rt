@@ -89,7 +89,7 @@ const LASTS: &[Move] = &[
     Stands(State::Abandoned, &[], (1, 0)),
 ];
 
-const CASES: [Case; 4] = [
+static CASES: [Case; 4] = [
     Case {
         name: "each block fails",
         run: RUN,
@@ -122,5 +122,5 @@ const CASES: [Case; 4] = [
 
 #[test]
 fn blocks_that_cannot_be_read(rt: HostRuntime) -> Result<(), Fail> {
-    check_cases(&rt, rt.alloc(), CASES.as_slice())
+    check_cases(&rt, rt.alloc(), &CASES)
 }

@@ -4,12 +4,12 @@ use super::slow::Answer::{A, E};
 use super::slow::{Answer, Next, Scripted, Wish, comes_next, script};
 use super::talk::{BLOCKS, Counted, RUN, Talk, wanted_reply};
 use dump_client::{Progress, State};
-use std::alloc::Global;
+use std::alloc::{AllocError, Global};
 use std::process::Abort;
 use std::test::Fail;
 
 /// The replies that are tried at each step.
-const REPLIES: [(Answer, &[u8]); 7] = [
+static REPLIES: [(Answer, &[u8]); 7] = [
     (A(0), b"A0\n"),
     (A(1), b"A1\n"),
     (A(1024), b"A1024\n"),
@@ -26,6 +26,21 @@ fn wanted_answer(wish: Wish) -> Answer {
         Wish::Number(_) => A(1024),
         Wish::AnyNumber | Wish::NoRoom | Wish::Anything => A(0),
     }
+}
+
+/// The answers that are wanted at these steps, and this one.
+fn answers(
+    alloc: Global,
+    script: &[Scripted],
+    answered: usize,
+    last: Answer,
+) -> Result<Vec<Answer>, AllocError> {
+    let mut answers = Vec::new(alloc);
+    for step in script.iter().take(answered) {
+        answers.push(wanted_answer(step.wish))?;
+    }
+    answers.push(last)?;
+    Ok(answers)
 }
 
 /// An attempt at a volume, in a run of so many blocks. Where it does not begin with the first block, the volume before
@@ -50,20 +65,13 @@ impl Attempt {
         Ok(script(alloc, RUN, self.blocks(), number, first, count)?)
     }
 
-    /// A client that has started the attempt.
-    fn begun(self, alloc: Global) -> Result<Talk, Fail> {
-        let mut talk = Talk::new(alloc, self.size)?;
-        if self.first > 0 {
-            let count = self.first as usize;
-            let before = script(alloc, RUN, self.blocks(), 1, 0, count)?;
-            if !talk.starts() || !talk.goes_through(&before, 0, before.len()) {
-                return Err(Fail::new("no volume before"));
-            }
+    /// The client goes through the volume before, where there is one.
+    fn goes_to(self, alloc: Global, talk: &mut Talk) -> Result<bool, Fail> {
+        if self.first == 0 {
+            return Ok(true);
         }
-        if !talk.starts() {
-            return Err(Fail::new("no start"));
-        }
-        Ok(talk)
+        let before = script(alloc, RUN, self.blocks(), 1, 0, self.first as usize)?;
+        Ok(talk.starts() && talk.goes_through(&before, 0, before.len()))
     }
 
     /// What comes next where these steps were answered as is wanted, and the next one so.
@@ -74,11 +82,7 @@ impl Attempt {
         answered: usize,
         answer: Answer,
     ) -> Result<Next, Fail> {
-        let mut answers = Vec::new(alloc);
-        for step in script.iter().take(answered) {
-            answers.push(wanted_answer(step.wish))?;
-        }
-        answers.push(answer)?;
+        let answers = answers(alloc, script, answered, answer)?;
         let (number, first) = (u64::from(self.number), self.first as usize);
         Ok(comes_next(alloc, RUN, self.blocks(), number, first, &answers)?)
     }
@@ -130,6 +134,35 @@ impl Attempt {
         }
     }
 
+    /// The client starts the attempt, goes through these steps of the script, and hears this at the next one.
+    fn hears(
+        self,
+        talk: &mut Talk,
+        script: &[Scripted],
+        step: usize,
+        reply: &[u8],
+        next: &Next,
+    ) -> bool {
+        if !talk.starts() || !talk.goes_through(script, 0, step) || !talk.asks_step(script, step) {
+            return false;
+        }
+        let progress = talk.client.feed(reply);
+        self.is_next(talk, progress, next)
+    }
+
+    /// So does a new client, behind the volume before.
+    fn leads_to(
+        self,
+        alloc: Global,
+        script: &[Scripted],
+        step: usize,
+        reply: &[u8],
+        next: &Next,
+    ) -> Result<bool, Fail> {
+        let mut talk = Talk::new(alloc, self.size)?;
+        Ok(self.goes_to(alloc, &mut talk)? && self.hears(&mut talk, script, step, reply, next))
+    }
+
     /// The client goes through these steps of the script, and is answered so at the next one.
     fn is_answered(
         self,
@@ -139,13 +172,34 @@ impl Attempt {
         reply: (Answer, &[u8]),
     ) -> Result<bool, Fail> {
         let next = self.comes_next(alloc, script, step, reply.0)?;
-        let mut talk = self.begun(alloc)?;
-        if !talk.goes_through(script, 0, step) || !talk.asks_step(script, step) {
-            return Ok(false);
-        }
-        let progress = talk.client.feed(reply.1);
-        Ok(self.is_next(&mut talk, progress, &next))
+        self.leads_to(alloc, script, step, reply.1, &next)
     }
+}
+
+/// Each reply at this step of the attempt's script.
+fn check_step(
+    rt: &impl Abort,
+    alloc: Global,
+    attempt: Attempt,
+    script: &[Scripted],
+    step: usize,
+) -> Result<(), Fail> {
+    let (size, first, count) = (attempt.size, attempt.first, attempt.count);
+    for reply in &REPLIES {
+        let (answer, _) = *reply;
+        let good = attempt.is_answered(alloc, script, step, *reply)?;
+        assert!(rt; good, "{size}, {first}, {count}: {step}, {answer:?}");
+    }
+    Ok(())
+}
+
+/// Each reply at each step of the attempt.
+fn check_attempt(rt: &impl Abort, alloc: Global, attempt: Attempt) -> Result<(), Fail> {
+    let script = attempt.script(alloc)?;
+    for step in 0..script.len() {
+        check_step(rt, alloc, attempt, &script, step)?;
+    }
+    Ok(())
 }
 
 /// The attempts at the volume of this number, from this block on, in a run of so many blocks.
@@ -164,28 +218,25 @@ fn check_volume(
             first,
             count,
         };
-        let script = attempt.script(alloc)?;
-        for step in 0..script.len() {
-            for reply in REPLIES {
-                let good = attempt.is_answered(alloc, &script, step, reply)?;
-                assert!(rt; good, "{size}, {first}, {count}: {step}, {:?}", reply.0);
-            }
-        }
+        check_attempt(rt, alloc, attempt)?;
     }
     Ok(())
 }
 
+/// The blocks of a run, and the number and the first block of a volume of it.
+static VOLUMES: [(u32, u32, u32); 6] = [
+    (0, 1, 0),
+    (1, 1, 0),
+    (2, 1, 0),
+    (3, 1, 0),
+    (2, 2, 1),
+    (3, 2, 1),
+];
+
 #[test]
 fn each_answer_at_each_step(rt: HostRuntime) -> Result<(), Fail> {
-    for (size, number, first) in [
-        (0, 1, 0),
-        (1, 1, 0),
-        (2, 1, 0),
-        (3, 1, 0),
-        (2, 2, 1),
-        (3, 2, 1),
-    ] {
-        check_volume(&rt, rt.alloc(), size, number, first)?;
+    for (size, number, first) in &VOLUMES {
+        check_volume(&rt, rt.alloc(), *size, *number, *first)?;
     }
     Ok(())
 }

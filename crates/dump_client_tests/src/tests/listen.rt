@@ -6,6 +6,7 @@ use super::talk::RUN;
 use dump_client::Progress::{Ended, Failed, Send, Waiting};
 use dump_client::{AttemptFault, State};
 use std::alloc::Global;
+use std::process::Abort;
 use std::test::Fail;
 
 /// The step at which any number is wanted, and that at which the label's size is.
@@ -84,7 +85,7 @@ const BYTE_BY_BYTE: &[Move] = &[
 /// Pieces, each of which is heard so in a run without blocks.
 type Row = (&'static str, &'static [&'static [u8]], &'static [Move]);
 
-const ROWS: [Row; 9] = [
+static ROWS: [Row; 9] = [
     ("zero", &[b"A0\n"], ZERO),
     ("the greatest number", &[b"A2147483647\n"], ANOTHER_NUMBER),
     ("no room", &[b"E28\n\n"], NO_ROOM),
@@ -104,17 +105,23 @@ const ROWS: [Row; 9] = [
     ("bytes one by one", &[b"A1\nA"], BYTE_BY_BYTE),
 ];
 
+/// They are heard so.
+fn check_row(rt: &impl Abort, alloc: Global, row: &Row) -> Result<(), Fail> {
+    let (name, pieces, moves) = *row;
+    let case = Case {
+        name,
+        run: RUN,
+        blocks: &[],
+        pieces,
+        moves,
+    };
+    check_case(rt, alloc, &case)
+}
+
 #[test]
 fn replies_beginnings_and_noise(rt: HostRuntime) -> Result<(), Fail> {
-    for (name, pieces, moves) in ROWS {
-        let case = Case {
-            name,
-            run: RUN,
-            blocks: &[],
-            pieces,
-            moves,
-        };
-        check_case(&rt, rt.alloc(), &case)?;
+    for row in &ROWS {
+        check_row(&rt, rt.alloc(), row)?;
     }
     Ok(())
 }
@@ -135,12 +142,20 @@ fn hears_error(play: &mut Play, error: &[u8]) -> Result<bool, Fail> {
     )
 }
 
+/// Whether a client hears errors with long texts so.
+fn hears_long_texts(alloc: Global) -> Result<bool, Fail> {
+    let mut play = Play::new(alloc, RUN, &[])?;
+    hears_sizes(alloc, &mut play)
+}
+
+/// The same of a client that has not started.
+fn hears_sizes(alloc: Global, play: &mut Play) -> Result<bool, Fail> {
+    Ok(hears_each_way(alloc, play, 10000)? && hears_each_way(alloc, play, 70000)?)
+}
+
 /// The text of an error can be longer than all that is kept of a reply, however it comes.
 #[test]
 fn an_error_with_a_long_text(rt: HostRuntime) -> Result<(), Fail> {
-    let mut play = Play::new(rt.alloc(), RUN, &[])?;
-    let good = hears_each_way(rt.alloc(), &mut play, 10000)?
-        && hears_each_way(rt.alloc(), &mut play, 70000)?;
-    assert!(rt; good);
+    assert!(rt; hears_long_texts(rt.alloc())?);
     Ok(())
 }

@@ -225,14 +225,27 @@ pub(crate) fn check_case(rt: &impl Abort, alloc: Global, case: &Case) -> Result<
     Ok(())
 }
 
+/// Where these moves are not as is wanted: the first such, counted from 0.
+fn wrong_move(play: &mut Play, moves: &[Move], it: &[u8]) -> Result<Option<usize>, Fail> {
+    for (at, next) in moves.iter().enumerate() {
+        if !play.makes(*next, it)? {
+            return Ok(Some(at));
+        }
+    }
+    Ok(None)
+}
+
+/// Where the conversation does not go so with this piece.
+fn wrong_in(alloc: Global, case: &Case, it: &[u8]) -> Result<Option<usize>, Fail> {
+    let mut play = Play::new(alloc, case.run, case.blocks)?;
+    wrong_move(&mut play, case.moves, it)
+}
+
 /// It goes so with this piece.
 fn check_with(rt: &impl Abort, alloc: Global, case: &Case, it: &[u8]) -> Result<(), Fail> {
-    let mut play = Play::new(alloc, case.run, case.blocks)?;
+    let wrong = wrong_in(alloc, case, it)?;
     let name = case.name;
-    for (at, next) in case.moves.iter().enumerate() {
-        let good = play.makes(*next, it)?;
-        assert!(rt; good, "{name}: move {at}, {it:?}");
-    }
+    assert!(rt; wrong.is_none(), "{name}: move {wrong:?}, {it:?}");
     Ok(())
 }
 

@@ -67,6 +67,18 @@ fn push_line(out: &mut Vec<u8>, word: &str, number: u64) -> Result<(), AllocErro
     Ok(())
 }
 
+/// Appends the text of a volume's label.
+fn push_text(out: &mut Vec<u8>, run: SlowRun, volume: u64, first: u64) -> Result<(), AllocError> {
+    out.extend_from_slice(b"name ")?;
+    out.extend_from_slice(run.name.as_bytes())?;
+    out.push(b'\n')?;
+    push_line(out, "level", run.level)?;
+    push_line(out, "date", run.date)?;
+    push_line(out, "since", run.since)?;
+    push_line(out, "volume", volume)?;
+    push_line(out, "first", first)
+}
+
 /// The label of a volume.
 pub(crate) fn label(
     alloc: Global,
@@ -75,14 +87,7 @@ pub(crate) fn label(
     first: u64,
 ) -> Result<Vec<u8>, AllocError> {
     let mut out = Vec::new(alloc);
-    out.extend_from_slice(b"name ")?;
-    out.extend_from_slice(run.name.as_bytes())?;
-    out.push(b'\n')?;
-    push_line(&mut out, "level", run.level)?;
-    push_line(&mut out, "date", run.date)?;
-    push_line(&mut out, "since", run.since)?;
-    push_line(&mut out, "volume", volume)?;
-    push_line(&mut out, "first", first)?;
+    push_text(&mut out, run, volume, first)?;
     for _ in out.len()..1024 {
         out.push(0)?;
     }
@@ -126,17 +131,40 @@ fn open(alloc: Global, run: SlowRun) -> Result<Scripted, AllocError> {
     })
 }
 
+/// Appends a text.
+fn push_asked(
+    all: &mut Vec<Scripted>,
+    alloc: Global,
+    text: &[u8],
+    wish: Wish,
+) -> Result<(), AllocError> {
+    all.push(asked(alloc, text, wish)?)?;
+    Ok(())
+}
+
+/// Appends a write of these bytes.
+fn push_write(
+    all: &mut Vec<Scripted>,
+    alloc: Global,
+    bytes: &[u8],
+    wish: Wish,
+) -> Result<(), AllocError> {
+    all.push(write(alloc, bytes, wish)?)?;
+    Ok(())
+}
+
 /// Appends what begins a volume: the open, the rewind and the label.
 fn push_begin(
     all: &mut Vec<Scripted>,
     alloc: Global,
     run: SlowRun,
-    label: &[u8],
+    volume: u64,
+    first: u64,
 ) -> Result<(), AllocError> {
     all.push(open(alloc, run)?)?;
-    all.push(asked(alloc, b"I5\n1\n", Wish::Number(1))?)?;
-    all.push(write(alloc, label, Wish::Number(1024))?)?;
-    Ok(())
+    push_asked(all, alloc, b"I5\n1\n", Wish::Number(1))?;
+    let label = label(alloc, run, volume, first)?;
+    push_write(all, alloc, &label, Wish::Number(1024))
 }
 
 /// Appends the writes of the blocks from `first` on, up to the one of the number `end`, for which there is no room.
@@ -149,9 +177,9 @@ fn push_blocks(
 ) -> Result<(), AllocError> {
     for (number, block) in blocks.iter().enumerate() {
         if number >= first && number < end {
-            all.push(write(alloc, block, Wish::Number(run.block_bytes))?)?;
+            push_write(all, alloc, block, Wish::Number(run.block_bytes))?;
         } else if number == end {
-            all.push(write(alloc, block, Wish::NoRoom)?)?;
+            push_write(all, alloc, block, Wish::NoRoom)?;
         }
     }
     Ok(())
@@ -159,10 +187,9 @@ fn push_blocks(
 
 /// Appends what closes a volume.
 fn push_end(all: &mut Vec<Scripted>, alloc: Global) -> Result<(), AllocError> {
-    all.push(asked(alloc, b"I0\n1\n", Wish::Number(1))?)?;
-    all.push(asked(alloc, b"I6\n1\n", Wish::Number(1))?)?;
-    all.push(asked(alloc, b"C\n", Wish::Anything)?)?;
-    Ok(())
+    push_asked(all, alloc, b"I0\n1\n", Wish::Number(1))?;
+    push_asked(all, alloc, b"I6\n1\n", Wish::Number(1))?;
+    push_asked(all, alloc, b"C\n", Wish::Anything)
 }
 
 /// The script of a volume that has so many blocks of these from `first` on.
@@ -174,9 +201,8 @@ pub(crate) fn script(
     first: usize,
     count: usize,
 ) -> Result<Vec<Scripted>, AllocError> {
-    let label = label(alloc, run, volume, first as u64)?;
     let mut all = Vec::new(alloc);
-    push_begin(&mut all, alloc, run, &label)?;
+    push_begin(&mut all, alloc, run, volume, first as u64)?;
     push_blocks(
         &mut all,
         alloc,
@@ -226,9 +252,17 @@ fn next_in(
     Ok(Next::Send(Vec::from_slice(alloc, &step.text)?))
 }
 
-/// Why an answer to this request is none that is wanted.
-fn fault_of(request: &[u8], answer: Answer) -> AttemptFault {
-    match (request.first(), answer) {
+/// The letter of the request behind these answers, where a script wants them.
+fn letter_after(script: &[Scripted], answers: &[Answer]) -> Option<u8> {
+    match script.get(answers.len()) {
+        Some(step) if wants(script, answers) => step.text.first().copied(),
+        _ => None,
+    }
+}
+
+/// Why an answer to a request with this letter is none that is wanted.
+fn fault_of(letter: Option<u8>, answer: Answer) -> AttemptFault {
+    match (letter, answer) {
         (Some(b'W'), Answer::A(0) | Answer::E(28)) => AttemptFault::ReelTooSmall,
         (Some(b'W'), Answer::A(_)) => AttemptFault::ShortWrite,
         (_, Answer::A(_)) => AttemptFault::Botched,
@@ -249,21 +283,17 @@ pub(crate) fn comes_next(
         Some((last, before)) => (before, Some(*last)),
         None => (answers, None),
     };
-    let mut request = Vec::new(alloc);
+    let mut letter = None;
     let least = if blocks.is_empty() { 0 } else { 1 };
     for count in least..blocks.len().saturating_sub(first).saturating_add(1) {
         let script = script(alloc, run, blocks, volume, first, count)?;
         if wants(&script, answers) {
             return next_in(alloc, &script, answers.len(), count);
         }
-        if let Some(step) = script.get(before.len())
-            && wants(&script, before)
-        {
-            request = Vec::from_slice(alloc, &step.text)?;
-        }
+        letter = letter_after(&script, before).or(letter);
     }
     Ok(match last {
-        Some(answer) => Next::Failed(fault_of(&request, answer)),
+        Some(answer) => Next::Failed(fault_of(letter, answer)),
         None => Next::Ended,
     })
 }
