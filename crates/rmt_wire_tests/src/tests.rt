@@ -2,6 +2,7 @@
 //! hand; and counted streams, which take or give a few bytes a call and fail.
 
 mod calls;
+mod checked;
 mod counted;
 mod fake;
 mod fed;

@@ -3,8 +3,9 @@
 ghost use Rattle.rmt_wire.specs.Lent.{plain_reply};
 ghost use Rattle.rmt_wire.specs.Reply.{ReplyHasSpelling};
 
+use super::checked::{expect, expect_at, same};
 use super::fake::{After, FailsOnce, Fake};
-use rmt_wire::{Counted, OutputFault, Reply, write_reply};
+use rmt_wire::{Counted, Reply, write_reply};
 use std::alloc::Global;
 use std::io::{ErrorKind, Write};
 use std::process::Abort;
@@ -22,9 +23,13 @@ fn check_calls(
 {
     let mut out = Counted::new(Fake::new(alloc, piece, 1000, After::Failure));
     assert!(rt; write_reply(&mut out, reply).is_ok() && out.failures() == 0);
-    let fake = out.into_inner();
+    check_taken(rt, &out.into_inner(), want, calls);
+}
+
+/// It took these bytes in so many calls.
+fn check_taken(rt: &impl Abort, fake: &Fake, want: &[u8], calls: usize) {
     assert!(rt; fake.taken.as_slice() == want);
-    assert_eq!(rt; 1000usize.saturating_sub(fake.calls), calls);
+    same(rt, 1000usize.saturating_sub(fake.calls), calls);
 }
 
 /// The whole text in so many calls, and cut everywhere.
@@ -54,28 +59,33 @@ fn each_kind_of_answer(rt: HostRuntime) {
 const WANT: &[u8] = b"A3\nabc";
 
 /// Writing the reply is an output fault, and one failure is counted.
-fn check_failed<W: Write>(rt: &impl Abort, out: &mut Counted<W>) {
-    let written = write_reply(out, &Reply::Data { bytes: b"abc" });
-    assert!(rt; written == Err(OutputFault) && out.failures() == 1);
+pub(super) fn check_failed<W: Write>(rt: &impl Abort, out: &mut Counted<W>) {
+    let is_failed = write_reply(out, &Reply::Data { bytes: b"abc" }).is_err();
+    assert!(rt; is_failed && out.failures() == 1);
+}
+
+/// The bytes are the first of what is written.
+fn check_begun(rt: &impl Abort, taken: &[u8], end: usize, at: usize) {
+    expect_at(rt, Some(taken) == WANT.get(..end), at);
+}
+
+/// A byte is taken a call, and the call after so many fails, or takes none.
+fn check_failure(rt: &impl Abort, alloc: Global, after: After, calls: usize) {
+    let mut out = Counted::new(Fake::new(alloc, 1, calls, after));
+    check_failed(rt, &mut out);
+    check_begun(rt, &out.into_inner().taken, calls, calls);
 }
 
 #[test]
 fn a_failure_at_each_call(rt: HostRuntime) {
-    for after in [After::Failure, After::TakesNone] {
-        for calls in 0..6usize {
-            let mut out = Counted::new(Fake::new(rt.alloc(), 1, calls, after));
-            check_failed(&rt, &mut out);
-            let fake = out.into_inner();
-            assert!(rt;
-                Some(fake.taken.as_slice()) == WANT.get(..calls),
-                "at {calls}"
-            );
-        }
+    for calls in 0..6usize {
+        check_failure(&rt, rt.alloc(), After::Failure, calls);
+        check_failure(&rt, rt.alloc(), After::TakesNone, calls);
     }
 }
 
 /// How many bytes a stream takes a call, how many calls come before the one that fails, and how many bytes were taken then.
-const FAILURES: [(usize, usize, usize); 8] = [
+static FAILURES: [(usize, usize, usize); 8] = [
     (1, 0, 0),
     (1, 1, 1),
     (1, 2, 2),
@@ -86,21 +96,24 @@ const FAILURES: [(usize, usize, usize); 8] = [
     (1000, 1, 3),
 ];
 
+/// One row of them.
+fn check_row(rt: &impl Abort, alloc: Global, piece: usize, before: usize, end: usize) {
+    let fake = FailsOnce::new(alloc, piece, before, ErrorKind::Interrupted);
+    let mut out = Counted::new(fake);
+    check_failed(rt, &mut out);
+    check_last(rt, &out.into_inner(), before, end);
+}
+
+/// The failed write was its last call, and so many bytes were taken.
+fn check_last(rt: &impl Abort, fake: &FailsOnce, before: usize, end: usize) {
+    let is_last = fake.calls == before.saturating_add(1);
+    expect(rt, is_last, "the failed write was its last");
+    check_begun(rt, &fake.taken, end, before);
+}
+
 #[test]
 fn nothing_is_written_after_a_failed_write(rt: HostRuntime) {
-    for (piece, before, end) in FAILURES {
-        let fake = FailsOnce::new(rt.alloc(), piece, before, ErrorKind::Interrupted);
-        let mut out = Counted::new(fake);
-        check_failed(&rt, &mut out);
-        let fake = out.into_inner();
-        assert_eq!(rt;
-            fake.calls,
-            before.saturating_add(1),
-            "the failed write was its last"
-        );
-        assert!(rt;
-            Some(fake.taken.as_slice()) == WANT.get(..end),
-            "at {before}"
-        );
+    for (piece, before, end) in &FAILURES {
+        check_row(&rt, rt.alloc(), *piece, *before, *end);
     }
 }

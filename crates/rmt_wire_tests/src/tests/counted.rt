@@ -1,5 +1,6 @@
 //! Streams whose failures are counted, a call at a time.
 
+use super::checked::expect;
 use super::fake::{After, FailsOnce, Fake};
 use rmt_wire::Counted;
 use std::alloc::Global;
@@ -49,25 +50,32 @@ fn the_end_of_a_reader_is_no_failure(rt: HostRuntime) {
     check_reads(&rt, &mut input, &[(3, (Ok(2), 0)), (3, (Ok(0), 0))]);
 }
 
+/// The write answers so.
+fn check_write<W: Write>(rt: &impl Abort, out: &mut Counted<W>, bytes: &[u8], answer: Answer) {
+    assert!(rt; write(out, bytes) == answer);
+}
+
+/// A stream takes one byte, and answers the second write so.
+fn check_second(rt: &impl Abort, alloc: Global, after: After, second: Result<usize, ErrorKind>) {
+    let mut out = Counted::new(Fake::new(alloc, 1, 1, after));
+    check_write(rt, &mut out, b"ab", (Ok(1), 0));
+    assert!(rt; out.flush().is_err());
+    expect(rt, out.failures() == 0, "a flush is not counted");
+    check_write(rt, &mut out, b"b", (second, 1));
+}
+
 #[test]
 fn failed_and_empty_writes_are_counted(rt: HostRuntime) {
     let failed = Err(ErrorKind::BrokenPipe);
-    for (after, last) in [(After::Failure, failed), (After::TakesNone, Ok(0))] {
-        let mut out = Counted::new(Fake::new(rt.alloc(), 1, 1, after));
-        assert!(rt; write(&mut out, b"ab") == (Ok(1), 0));
-        assert!(rt; out.flush().is_err());
-        assert_eq!(rt; out.failures(), 0, "a flush is not counted");
-        assert!(rt; write(&mut out, b"b") == (last, 1));
-    }
+    check_second(&rt, rt.alloc(), After::Failure, failed);
+    check_second(&rt, rt.alloc(), After::TakesNone, Ok(0));
     let mut none = Counted::new(Fake::new(rt.alloc(), 1, 0, After::TakesNone));
-    assert!(rt;
-        write(&mut none, b"") == (Ok(0), 0),
-        "of no bytes none can be taken"
-    );
+    let is_taken = write(&mut none, b"") == (Ok(0), 0);
+    expect(&rt, is_taken, "of no bytes none can be taken");
 }
 
 /// Failures after which a caller may want to ask again.
-const KINDS: [ErrorKind; 3] = [
+static KINDS: [ErrorKind; 3] = [
     ErrorKind::Interrupted,
     ErrorKind::WouldBlock,
     ErrorKind::BrokenPipe,
@@ -77,20 +85,22 @@ const KINDS: [ErrorKind; 3] = [
 fn check_read_calls(rt: &impl Abort, alloc: Global, kind: ErrorKind, reads: &[(usize, Answer)]) {
     let mut input = Counted::new(FailsOnce::new(alloc, 2, 1, kind));
     check_reads(rt, &mut input, reads);
-    assert_eq!(rt;
-        input.into_inner().calls,
-        reads.len(),
-        "each read is one call"
-    );
+    let is_asked_once = input.into_inner().calls == reads.len();
+    expect(rt, is_asked_once, "each read is one call");
+}
+
+/// None to all of three reads, where the second one fails in that way.
+fn check_read_kind(rt: &impl Abort, alloc: Global, kind: ErrorKind) {
+    let reads = [(3, (Ok(2), 0)), (3, (Err(kind), 1)), (3, (Ok(2), 1))];
+    for count in 0..=3usize {
+        check_read_calls(rt, alloc, kind, &reads[..count]);
+    }
 }
 
 #[test]
 fn a_failed_read_is_given_and_not_asked_again(rt: HostRuntime) {
-    for kind in KINDS {
-        let reads = [(3, (Ok(2), 0)), (3, (Err(kind), 1)), (3, (Ok(2), 1))];
-        for count in 0..=3usize {
-            check_read_calls(&rt, rt.alloc(), kind, &reads[..count]);
-        }
+    for kind in &KINDS {
+        check_read_kind(&rt, rt.alloc(), *kind);
     }
 }
 
@@ -102,18 +112,28 @@ fn check_writes(rt: &impl Abort, alloc: Global, kind: ErrorKind, count: usize) -
         (b"c", (Err(kind), 1)),
         (b"d", (Ok(1), 1)),
     ];
-    for (bytes, answer) in writes.iter().take(count) {
-        assert!(rt; write(&mut out, bytes) == *answer);
-    }
+    check_each(rt, &mut out, &writes[..count.min(3)]);
     out.into_inner()
+}
+
+/// The writes answer so.
+fn check_each(rt: &impl Abort, out: &mut Counted<FailsOnce>, writes: &[(&[u8], Answer)]) {
+    for (bytes, answer) in writes {
+        check_write(rt, out, bytes, *answer);
+    }
+}
+
+/// The failed write is the last call of two writes, and a third one goes on.
+fn check_write_kind(rt: &impl Abort, alloc: Global, kind: ErrorKind) {
+    let is_last = check_writes(rt, alloc, kind, 2).calls == 2;
+    expect(rt, is_last, "the failed write was its last");
+    let wrote = check_writes(rt, alloc, kind, 3);
+    assert!(rt; wrote.taken.as_slice() == b"abd".as_slice());
 }
 
 #[test]
 fn a_failed_write_is_given_and_not_asked_again(rt: HostRuntime) {
-    for kind in KINDS {
-        let failed = check_writes(&rt, rt.alloc(), kind, 2);
-        assert_eq!(rt; failed.calls, 2, "the failed write was its last");
-        let wrote = check_writes(&rt, rt.alloc(), kind, 3);
-        assert!(rt; wrote.taken.as_slice() == b"abd".as_slice());
+    for kind in &KINDS {
+        check_write_kind(&rt, rt.alloc(), *kind);
     }
 }

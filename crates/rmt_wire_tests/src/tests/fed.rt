@@ -1,5 +1,6 @@
 //! A reader of requests fed in pieces, beside the slow program.
 
+use super::checked::expect_of;
 use super::slow::{Parts, is_same, split, taken};
 use rmt_wire::{Request, RequestReader, WireFault};
 use std::alloc::{AllocError, Global};
@@ -17,12 +18,17 @@ pub(super) enum Next {
 /// What a reader gives next, where this is wanted.
 pub(super) fn next_of(reader: &mut RequestReader, wanted: Option<&Request<'_>>) -> Next {
     match reader.next() {
-        Ok(Some(request)) => match wanted {
-            Some(wanted) if is_same(wanted, &request) => Next::Wanted,
-            _ => Next::Other,
-        },
+        Ok(Some(request)) => compared(wanted, &request),
         Ok(None) => Next::None(None),
         Err(fault) => Next::None(Some(fault)),
+    }
+}
+
+/// What this request is, where that one is wanted.
+fn compared(wanted: Option<&Request<'_>>, request: &Request<'_>) -> Next {
+    match wanted {
+        Some(wanted) if is_same(wanted, request) => Next::Wanted,
+        _ => Next::Other,
     }
 }
 
@@ -205,17 +211,22 @@ fn is_fed_in_cuts(alloc: Global, stream: &[u8], want: &Parts<'_>) -> Result<bool
     Ok(true)
 }
 
+/// Whether the request at this place is that one.
+fn is_at(requests: &[Request<'_>], at: usize, wanted: &Request<'_>) -> bool {
+    match requests.get(at) {
+        Some(request) => is_same(wanted, request),
+        None => false,
+    }
+}
+
 /// Whether both are the same requests.
 fn are_same(ones: &[Request<'_>], others: &[Request<'_>]) -> bool {
-    if ones.len() != others.len() {
-        return false;
-    }
-    for (one, other) in ones.iter().zip(others) {
-        if !is_same(one, other) {
+    for (at, one) in ones.iter().enumerate() {
+        if !is_at(others, at, one) {
             return false;
         }
     }
-    true
+    ones.len() == others.len()
 }
 
 /// Whether the parts of a stream are these.
@@ -230,8 +241,31 @@ fn is_split(
 
 /// The reader gives what the slow program says: of the stream in one piece, and in pieces of one byte.
 pub(super) fn check_pieces(rt: &impl Abort, alloc: Global, stream: &[u8]) -> Result<(), Fail> {
-    let found = split(alloc, stream)?;
-    assert!(rt; is_fed_in_pieces(alloc, stream, &found)?, "{stream:?}");
+    check_parts(rt, alloc, stream, &split(alloc, stream)?)
+}
+
+/// The reader gives these parts: of the stream in one piece, and in pieces of one byte.
+fn check_parts(
+    rt: &impl Abort,
+    alloc: Global,
+    stream: &[u8],
+    found: &Parts<'_>,
+) -> Result<(), Fail> {
+    let is_fed = is_fed_in_pieces(alloc, stream, found)?;
+    expect_of(rt, is_fed, "pieces", stream);
+    Ok(())
+}
+
+/// The same, and of the stream cut in two.
+fn check_cuts(
+    rt: &impl Abort,
+    alloc: Global,
+    stream: &[u8],
+    found: &Parts<'_>,
+) -> Result<(), Fail> {
+    check_parts(rt, alloc, stream, found)?;
+    let is_fed = is_fed_in_cuts(alloc, stream, found)?;
+    expect_of(rt, is_fed, "cut", stream);
     Ok(())
 }
 
@@ -246,10 +280,9 @@ pub(super) fn check_by_hand(
     fault: Option<WireFault>,
 ) -> Result<(), Fail> {
     let found = split(alloc, stream)?;
-    assert!(rt; is_split(&found, requests, rest, fault), "{stream:?}");
-    check_pieces(rt, alloc, stream)?;
-    assert!(rt; is_fed_in_cuts(alloc, stream, &found)?, "cut: {stream:?}");
-    Ok(())
+    let is_split = is_split(&found, requests, rest, fault);
+    expect_of(rt, is_split, "split", stream);
+    check_cuts(rt, alloc, stream, &found)
 }
 
 /// The last byte of the stream is this fault, or none, and the reader says so once it comes, as a piece of its own.
@@ -261,8 +294,9 @@ pub(super) fn check_last_byte(
 ) -> Result<(), Fail> {
     let found = split(alloc, stream)?;
     let len = stream.len();
-    assert!(rt; found.fault == shown_by(fault, len), "{stream:?}");
+    let is_shown = found.fault == shown_by(fault, len);
+    expect_of(rt, is_shown, "fault", stream);
     let is_fed = is_fed(alloc, stream, &found, len.saturating_sub(1), len)?;
-    assert!(rt; is_fed, "cut: {stream:?}");
+    expect_of(rt, is_fed, "cut", stream);
     Ok(())
 }

@@ -1,20 +1,28 @@
 //! Each byte at the places where a byte can rule every request out.
 
 use super::fed::check_last_byte;
+use super::limits::joined;
 use rmt_wire::WireFault;
+use std::alloc::Global;
+use std::process::Abort;
 use std::test::Fail;
 
 /// The letters of requests. Each other first byte is an unknown command.
 const LETTERS: &[u8] = b"OCWRI";
 
+/// This fault, unless the byte is one of those that can come next.
+fn fault_unless(next: &[u8], byte: u8, fault: WireFault) -> Option<WireFault> {
+    if next.contains(&byte) {
+        None
+    } else {
+        Some(fault)
+    }
+}
+
 #[test]
 fn each_first_byte(rt: HostRuntime) -> Result<(), Fail> {
     for byte in 0..=255u8 {
-        let fault = if LETTERS.contains(&byte) {
-            None
-        } else {
-            Some(WireFault::UnknownCommand)
-        };
+        let fault = fault_unless(LETTERS, byte, WireFault::UnknownCommand);
         check_last_byte(&rt, rt.alloc(), &[byte], fault)?;
         check_last_byte(&rt, rt.alloc(), &[b'R', b'7', b'\n', byte], fault)?;
     }
@@ -22,7 +30,7 @@ fn each_first_byte(rt: HostRuntime) -> Result<(), Fail> {
 }
 
 /// Beginnings that end in a number, and the bytes that can come next. Each other byte makes it a bad number.
-const NUMBERS: [(&[u8], &[u8]); 11] = [
+static NUMBERS: [(&[u8], &[u8]); 11] = [
     (b"W", b"0123456789"),
     (b"I5\n", b"0123456789"),
     (b"O/dev/st0\n", b"0123456789"),
@@ -36,19 +44,19 @@ const NUMBERS: [(&[u8], &[u8]); 11] = [
     (b"Ost0\n0000000002", b"\n "),
 ];
 
+/// Each byte behind such a beginning.
+fn check_bytes(rt: &impl Abort, alloc: Global, before: &[u8], next: &[u8]) -> Result<(), Fail> {
+    for byte in 0..=255u8 {
+        let fault = fault_unless(next, byte, WireFault::BadNumber);
+        check_last_byte(rt, alloc, &joined(alloc, &[before, &[byte]])?, fault)?;
+    }
+    Ok(())
+}
+
 #[test]
 fn each_byte_of_a_number(rt: HostRuntime) -> Result<(), Fail> {
-    for (before, next) in NUMBERS {
-        for byte in 0..=255u8 {
-            let mut stream = Vec::from_slice(rt.alloc(), before)?;
-            stream.push(byte)?;
-            let fault = if next.contains(&byte) {
-                None
-            } else {
-                Some(WireFault::BadNumber)
-            };
-            check_last_byte(&rt, rt.alloc(), &stream, fault)?;
-        }
+    for (before, next) in &NUMBERS {
+        check_bytes(&rt, rt.alloc(), before, next)?;
     }
     Ok(())
 }

@@ -13,6 +13,14 @@ pub(crate) enum Next {
     None(Option<WireFault>),
 }
 
+/// What this reply is, where that one is wanted.
+fn compared(wanted: Option<Reply<'_>>, reply: &Reply<'_>) -> Next {
+    match wanted {
+        Some(wanted) if is_same(&wanted, reply) => Next::Wanted,
+        _ => Next::Other,
+    }
+}
+
 /// A reader of replies. Contracts see of it whether a reply is waited for.
 #[derive(Drop)]
 pub(crate) struct Listener {
@@ -66,10 +74,7 @@ impl Listener {
     pub(crate) fn next(&mut self, wanted: Option<Reply<'_>>) -> Next {
         match self.reader.next() {
             Ok(Some(reply)) => {
-                let next = match wanted {
-                    Some(wanted) if is_same(&wanted, &reply) => Next::Wanted,
-                    _ => Next::Other,
-                };
+                let next = compared(wanted, &reply);
                 self.is_waiting = false;
                 next
             }

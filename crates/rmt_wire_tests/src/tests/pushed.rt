@@ -3,9 +3,11 @@ ghost use Rattle.rmt_wire.specs.Lent.{plain_reply, plain_request};
 ghost use Rattle.rmt_wire.specs.Reply.{ReplyHasSpelling};
 ghost use Rattle.rmt_wire.specs.Request.{HasSpelling};
 
+use super::checked::same;
 use super::fed::check_by_hand;
 use rmt_wire::{Reply, Request, push_reply, push_request};
 use std::alloc::AllocError;
+use std::process::Abort;
 use std::test::Fail;
 
 /// Appends a request, of which no more is to be known.
@@ -22,21 +24,48 @@ fn say(out: &mut Vec<u8>, reply: Reply<'_>) -> Result<(), AllocError>
     push_reply(out, &reply)
 }
 
+/// Appends an open, an operation and two writes.
+fn ask_first(out: &mut Vec<u8>) -> Result<(), AllocError> {
+    let device = b"/dev/st0";
+    ask(out, Request::Open { device, mode: 2 })?;
+    ask(out, Request::Op { op: 5, count: 1 })?;
+    ask(out, Request::Write { bytes: b"hello" })?;
+    ask(out, Request::Write { bytes: b"" })
+}
+
+/// Appends the other kinds, and the greatest count.
+fn ask_then(out: &mut Vec<u8>) -> Result<(), AllocError> {
+    ask(out, Request::Read { count: 65536 })?;
+    let count = 2147483647;
+    ask(out, Request::Op { op: 0, count })?;
+    ask(out, Request::Close)?;
+    ask(out, Request::WriteDropped { count: 65537 })
+}
+
 #[test]
 fn each_kind_of_request(rt: HostRuntime) -> Result<(), Fail> {
     let mut out = Vec::new(rt.alloc());
-    let device = b"/dev/st0";
-    ask(&mut out, Request::Open { device, mode: 2 })?;
-    ask(&mut out, Request::Op { op: 5, count: 1 })?;
-    ask(&mut out, Request::Write { bytes: b"hello" })?;
-    ask(&mut out, Request::Write { bytes: b"" })?;
-    ask(&mut out, Request::Read { count: 65536 })?;
-    let count = 2147483647;
-    ask(&mut out, Request::Op { op: 0, count })?;
-    ask(&mut out, Request::Close)?;
-    ask(&mut out, Request::WriteDropped { count: 65537 })?;
+    ask_first(&mut out)?;
+    ask_then(&mut out)?;
     let text = b"O/dev/st0\n2\nI5\n1\nW5\nhelloW0\nR65536\nI0\n2147483647\nC\nW65537\n".as_slice();
     assert!(rt; out.as_slice() == text);
+    Ok(())
+}
+
+/// Appends an open and a write, which take so many bytes.
+fn ask_both(
+    rt: &impl Abort,
+    out: &mut Vec<u8>,
+    opening: Request<'_>,
+    write: Request<'_>,
+) -> Result<(), AllocError>
+    requires opening { HasSpelling (plain_request opening) }
+    requires write { HasSpelling (plain_request write) }
+{
+    ask(out, opening)?;
+    same(rt, out.len(), 268);
+    ask(out, write)?;
+    same(rt, out.len(), 268 + 65543);
     Ok(())
 }
 
@@ -51,22 +80,24 @@ fn the_longest_device_and_the_largest_write(rt: HostRuntime) -> Result<(), Fail>
     };
     let write = Request::Write { bytes: &data };
     let mut out = Vec::new(alloc);
-    ask(&mut out, open)?;
-    assert_eq!(rt; out.len(), 268);
-    ask(&mut out, write)?;
-    assert_eq!(rt; out.len(), 268 + 65543);
+    ask_both(&rt, &mut out, open, write)?;
     check_by_hand(&rt, alloc, &out, &[open, write], b"", None)
+}
+
+/// Appends each kind, and the greatest number.
+fn say_each(out: &mut Vec<u8>) -> Result<(), AllocError> {
+    say(out, Reply::Done { number: 0 })?;
+    say(out, Reply::Data { bytes: b"ab\n" })?;
+    say(out, Reply::Data { bytes: b"" })?;
+    say(out, Reply::Done { number: 2147483647 })?;
+    let text = b"Device busy";
+    say(out, Reply::Error { number: 16, text })
 }
 
 #[test]
 fn each_kind_of_reply(rt: HostRuntime) -> Result<(), Fail> {
     let mut out = Vec::new(rt.alloc());
-    say(&mut out, Reply::Done { number: 0 })?;
-    say(&mut out, Reply::Data { bytes: b"ab\n" })?;
-    say(&mut out, Reply::Data { bytes: b"" })?;
-    say(&mut out, Reply::Done { number: 2147483647 })?;
-    let text = b"Device busy";
-    say(&mut out, Reply::Error { number: 16, text })?;
+    say_each(&mut out)?;
     let text = b"A0\nA3\nab\nA0\nA2147483647\nE16\nDevice busy\n".as_slice();
     assert!(rt; out.as_slice() == text);
     Ok(())

@@ -1,5 +1,6 @@
 //! A reader of replies fed in pieces, beside the slow program.
 
+use super::checked::expect_of;
 use super::fed::{is_beside, shown_by};
 use super::listener::{Listener, Next};
 use super::slow::reply::{Replies, Wanted, is_same, split, taken};
@@ -223,6 +224,22 @@ fn exchange_count(wanted: &[Wanted], found: &Replies<'_>) -> usize {
     count.min(wanted.len().max(1))
 }
 
+/// Where one of the exchanges begins: where the one before it ends.
+fn start_at(ends: &[usize], at: usize) -> usize {
+    match at.checked_sub(1) {
+        Some(before) => ends.get(before).copied().unwrap_or(0),
+        None => 0,
+    }
+}
+
+/// The fault, with how many bytes from there on show it.
+fn fault_from(start: usize, fault: Option<(WireFault, usize)>) -> Option<(WireFault, usize)> {
+    match fault {
+        Some((fault, shown)) => Some((fault, shown.saturating_sub(start))),
+        None => None,
+    }
+}
+
 /// One of so many exchanges.
 fn exchange_at<'a>(
     stream: &'a [u8],
@@ -231,15 +248,13 @@ fn exchange_at<'a>(
     at: usize,
     is_last: bool,
 ) -> Exchange<'a> {
-    let start = match at.checked_sub(1) {
-        Some(before) => found.ends.get(before).copied().unwrap_or(0),
-        None => 0,
-    };
+    let start = start_at(&found.ends, at);
     let end = found.ends.get(at).copied().unwrap_or(stream.len());
     let bytes_end = if is_last { stream.len() } else { end };
-    let fault = match found.fault {
-        Some((fault, shown)) if is_last => Some((fault, shown.saturating_sub(start))),
-        _ => None,
+    let fault = if is_last {
+        fault_from(start, found.fault)
+    } else {
+        None
     };
     Exchange {
         bytes: stream.get(start..bytes_end).unwrap_or(&[]),
@@ -266,17 +281,22 @@ fn is_given<'a>(
     are_given(alloc, &exchanges)
 }
 
+/// Whether the reply at this place is that one.
+fn is_at(replies: &[Reply<'_>], at: usize, wanted: &Reply<'_>) -> bool {
+    match replies.get(at) {
+        Some(reply) => is_same(wanted, reply),
+        None => false,
+    }
+}
+
 /// Whether both are the same replies.
 fn are_same(ones: &[Reply<'_>], others: &[Reply<'_>]) -> bool {
-    if ones.len() != others.len() {
-        return false;
-    }
-    for (one, other) in ones.iter().zip(others) {
-        if !is_same(one, other) {
+    for (at, one) in ones.iter().enumerate() {
+        if !is_at(others, at, one) {
             return false;
         }
     }
-    true
+    ones.len() == others.len()
 }
 
 /// How many of these ends lie in so many bytes.
@@ -290,14 +310,18 @@ fn count_ended(ends: &[usize], len: usize) -> usize {
     count
 }
 
+/// A fault that is shown in so many bytes.
+fn fault_within(fault: Option<(WireFault, usize)>, len: usize) -> Option<(WireFault, usize)> {
+    match fault {
+        Some((_, end)) if end <= len => fault,
+        _ => None,
+    }
+}
+
 /// Whether a beginning of so many bytes has the replies that end in it, and a fault that is shown in it.
 fn is_beginning(whole: &Replies<'_>, found: &Replies<'_>, len: usize) -> bool {
     let count = count_ended(&whole.ends, len);
-    let fault = match whole.fault {
-        Some((fault, end)) if end <= len => Some((fault, end)),
-        _ => None,
-    };
-    found.fault == fault
+    found.fault == fault_within(whole.fault, len)
         && found.ends.as_slice() == whole.ends.get(..count).unwrap_or(&[])
         && are_same(&found.replies, whole.replies.get(..count).unwrap_or(&[]))
 }
@@ -334,11 +358,22 @@ pub(super) fn check_replies(
 ) -> Result<(), Fail> {
     let found = split(alloc, stream, wanted)?;
     let is_by_hand = are_same(&found.replies, replies) && found.rest == rest;
-    assert!(rt; is_by_hand && found.fault == fault, "{stream:?}");
-    let is_well = has_beginnings(alloc, stream, wanted, &found)?;
-    assert!(rt; is_well, "beginnings: {stream:?}");
-    let is_well = is_given(alloc, stream, wanted, &found)?;
-    assert!(rt; is_well, "reader: {stream:?}");
+    expect_of(rt, is_by_hand && found.fault == fault, "split", stream);
+    check_found(rt, alloc, stream, wanted, &found)
+}
+
+/// These are what beginnings of the bytes have, and what a reader gives of them.
+fn check_found(
+    rt: &impl Abort,
+    alloc: Global,
+    stream: &[u8],
+    wanted: &[Wanted],
+    found: &Replies<'_>,
+) -> Result<(), Fail> {
+    let is_well = has_beginnings(alloc, stream, wanted, found)?;
+    expect_of(rt, is_well, "beginnings", stream);
+    let is_well = is_given(alloc, stream, wanted, found)?;
+    expect_of(rt, is_well, "reader", stream);
     Ok(())
 }
 
@@ -373,9 +408,15 @@ pub(super) fn check_last_byte(
 ) -> Result<(), Fail> {
     let found = split(alloc, text, &[wanted])?;
     let len = text.len();
-    assert!(rt; found.fault == shown_by(fault, len), "{text:?} {wanted:?}");
+    let is_shown = found.fault == shown_by(fault, len);
+    expect_wanted(rt, is_shown, text, wanted);
     let exchange = exchange_at(text, &[wanted], &found, 0, true);
     let is_well = is_fed(alloc, &[exchange], len.saturating_sub(1), len)?;
-    assert!(rt; is_well, "reader: {text:?} {wanted:?}");
+    expect_wanted(rt, is_well, text, wanted);
     Ok(())
+}
+
+/// It is so of this text, where that is waited for.
+fn expect_wanted(rt: &impl Abort, is_so: bool, text: &[u8], wanted: Wanted) {
+    assert!(rt; is_so, "{text:?} {wanted:?}");
 }

@@ -99,22 +99,33 @@ fn first(bytes: &[u8]) -> Option<(Request<'_>, &[u8])> {
 pub(crate) fn spelled(text: &[u8]) -> Option<Request<'_>> {
     let (letter, lines) = text.split_first()?;
     let (line, rest) = cut_line(lines)?;
-    match letter {
+    match *letter {
         b'C' if is_line(line) && rest.is_empty() => Some(Request::Close),
-        b'R' if rest.is_empty() => Some(Request::Read {
-            count: number(line)?,
-        }),
+        b'R' if rest.is_empty() => read(line),
         b'W' => written(number(line)?, rest),
-        b'O' if is_line(line) => Some(Request::Open {
-            device: line,
-            mode: mode(last_line(rest)?)?,
-        }),
-        b'I' => Some(Request::Op {
-            op: number(line)?,
-            count: number(last_line(rest)?)?,
-        }),
+        b'O' if is_line(line) => opened(line, rest),
+        b'I' => operated(line, rest),
         _ => None,
     }
+}
+
+/// A read of so many bytes.
+fn read(line: &[u8]) -> Option<Request<'_>> {
+    let count = number(line)?;
+    Some(Request::Read { count })
+}
+
+/// An open of this device, and the line of its mode.
+fn opened<'a>(device: &'a [u8], rest: &[u8]) -> Option<Request<'a>> {
+    let mode = mode(last_line(rest)?)?;
+    Some(Request::Open { device, mode })
+}
+
+/// An operation of this number, and the line of its count.
+fn operated<'a>(line: &'a [u8], rest: &'a [u8]) -> Option<Request<'a>> {
+    let op = number(line)?;
+    let count = number(last_line(rest)?)?;
+    Some(Request::Op { op, count })
 }
 
 /// A write of just these data.

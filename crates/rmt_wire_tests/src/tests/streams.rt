@@ -1,7 +1,10 @@
 //! Whole conversations, whose requests are written by hand.
 
 use super::fed::{check_by_hand, check_pieces};
+use super::limits::joined;
 use rmt_wire::{Request, WireFault};
+use std::alloc::Global;
+use std::process::Abort;
 use std::test::Fail;
 
 const DEVICE: &[u8] = b"/dev/st0";
@@ -22,7 +25,7 @@ type Row = (
     Option<WireFault>,
 );
 
-const ROWS: [Row; 16] = [
+static ROWS: [Row; 16] = [
     (
         ROUND,
         &[
@@ -177,17 +180,11 @@ fn every_beginning_of_a_conversation(rt: HostRuntime) -> Result<(), Fail> {
     Ok(())
 }
 
-#[test]
-fn the_largest_write_and_one_more(rt: HostRuntime) -> Result<(), Fail> {
-    let alloc = rt.alloc();
-    let data = vec![in alloc; b'W'; 65537]?;
-    let largest = data.as_slice().get(1..).unwrap_or(&[]);
-    let mut stream = Vec::new(alloc);
-    stream.extend_from_slice(b"O/dev/st0\n2\nW65536\n")?;
-    stream.extend_from_slice(largest)?;
-    stream.extend_from_slice(b"W65537\n")?;
-    stream.extend_from_slice(&data)?;
-    stream.extend_from_slice(b"W0\nI7\n9\n")?;
+/// The largest write, one of these data, which are a byte more, one of no data, and an operation.
+fn check_large(rt: &impl Abort, alloc: Global, data: &[u8]) -> Result<(), Fail> {
+    let largest = data.get(1..).unwrap_or(&[]);
+    let open = b"O/dev/st0\n2\nW65536\n".as_slice();
+    let stream = joined(alloc, &[open, largest, b"W65537\n", data, b"W0\nI7\n9\n"])?;
     let requests = [
         OPEN,
         Request::Write { bytes: largest },
@@ -195,5 +192,11 @@ fn the_largest_write_and_one_more(rt: HostRuntime) -> Result<(), Fail> {
         Request::Write { bytes: b"" },
         Request::Op { op: 7, count: 9 },
     ];
-    check_by_hand(&rt, alloc, &stream, &requests, b"", None)
+    check_by_hand(rt, alloc, &stream, &requests, b"", None)
+}
+
+#[test]
+fn the_largest_write_and_one_more(rt: HostRuntime) -> Result<(), Fail> {
+    let data = vec![in rt.alloc(); b'W'; 65537]?;
+    check_large(&rt, rt.alloc(), &data)
 }

@@ -3,6 +3,8 @@ ghost use Rattle.rmt_wire.specs.Lent.{plain_reply};
 ghost use Rattle.rmt_wire.specs.Reply.{ReplyHasSpelling};
 ghost use Rattle.rmt_wire.specs.Reply.PlainReply.{Error};
 
+use super::calls::check_failed;
+use super::checked::expect;
 use rmt_wire::{Counted, OutputFault, Reply, WireFault, one_reading, short_replies, write_reply};
 use std::alloc::Global;
 use std::io::{Read, Write};
@@ -69,13 +71,18 @@ fn read_two<'a>(input: &mut Counted<&[u8]>, piece: &'a mut [u8; 2]) -> (Option<u
     (count, input.failures())
 }
 
+/// So many are read then, and no failure is counted.
+fn check_two(rt: &impl Abort, input: &mut Counted<&[u8]>, piece: &mut [u8; 2], count: usize) {
+    assert!(rt; read_two(input, piece) == (Some(count), 0));
+}
+
 #[test]
 fn counted_readers_pass_bytes_on(rt: HostRuntime) {
     let mut input = Counted::new(b"abc".as_slice());
     let mut piece = [0u8; 2];
-    assert!(rt; read_two(&mut input, &mut piece) == (Some(2), 0));
+    check_two(&rt, &mut input, &mut piece, 2);
     assert!(rt; piece == *b"ab");
-    assert!(rt; read_two(&mut input, &mut piece) == (Some(1), 0));
+    check_two(&rt, &mut input, &mut piece, 1);
 }
 
 #[test]
@@ -90,8 +97,7 @@ fn counted_writers_pass_bytes_on(rt: HostRuntime) {
 fn a_full_stream_is_an_output_fault(rt: HostRuntime) {
     let mut room = [0u8; 4];
     let mut out = Counted::new(room.as_mut_slice());
-    let written = write_reply(&mut out, &Reply::Data { bytes: b"abc" });
-    assert!(rt; written == Err(OutputFault) && out.failures() == 1);
+    check_failed(&rt, &mut out);
     assert!(rt; room == *b"A3\na");
 }
 
@@ -100,17 +106,18 @@ fn is_named(alloc: Global, fault: WireFault, name: &str) -> Result<bool, Fail> {
     Ok(fault.to_string(alloc)?.as_str() == name)
 }
 
+static NAMES: [(WireFault, &str); 5] = [
+    (WireFault::UnknownCommand, "UnknownCommand"),
+    (WireFault::BadNumber, "BadNumber"),
+    (WireFault::LineTooLong, "LineTooLong"),
+    (WireFault::NotAReply, "NotAReply"),
+    (WireFault::TooMuchData, "TooMuchData"),
+];
+
 #[test]
 fn names_of_faults(rt: HostRuntime) -> Result<(), Fail> {
-    let names = [
-        (WireFault::UnknownCommand, "UnknownCommand"),
-        (WireFault::BadNumber, "BadNumber"),
-        (WireFault::LineTooLong, "LineTooLong"),
-        (WireFault::NotAReply, "NotAReply"),
-        (WireFault::TooMuchData, "TooMuchData"),
-    ];
-    for (fault, name) in names {
-        assert!(rt; is_named(rt.alloc(), fault, name)?, "{name}");
+    for (fault, name) in &NAMES {
+        expect(&rt, is_named(rt.alloc(), *fault, name)?, name);
     }
     assert!(rt; OutputFault.to_string(rt.alloc())?.as_str() == "Output");
     one_reading();

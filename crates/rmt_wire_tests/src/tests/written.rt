@@ -1,4 +1,5 @@
 //! What the writer writes, split by the slow program: each small reply, and replies at their limits.
+ghost use Rattle.std.specs.Prelude.{◌≤◌, length};
 ghost use Rattle.rmt_wire.specs.Lent.{plain_reply};
 ghost use Rattle.rmt_wire.specs.Reply.{ReplyHasSpelling};
 ghost use Rattle.rmt_wire.specs.Reply.PlainReply.{Error};
@@ -21,8 +22,18 @@ fn check_written(
 {
     let mut out = Counted::new(Vec::new(alloc));
     write_reply(&mut out, reply)?;
-    let text = out.into_inner();
-    check_whole(rt, alloc, &text, wanted, *reply)?;
+    check_text(rt, alloc, &out.into_inner(), *reply, wanted)
+}
+
+/// The text is that reply, and each of its strict beginnings has only begun.
+fn check_text(
+    rt: &impl Abort,
+    alloc: Global,
+    text: &[u8],
+    reply: Reply<'_>,
+    wanted: Wanted,
+) -> Result<(), Fail> {
+    check_whole(rt, alloc, text, wanted, reply)?;
     for len in 0..text.len() {
         let (begun, _) = text.split_at(len);
         check_begun(rt, alloc, begun, wanted)?;
@@ -41,39 +52,45 @@ fn check_error(rt: &impl Abort, alloc: Global, number: u32, text: &[u8]) -> Resu
 }
 
 /// The least and the greatest number of each count of digits.
-const NUMBERS: [u32; 20] = [
+static NUMBERS: [u32; 20] = [
     0, 9, 10, 99, 100, 999, 1000, 9999, 10000, 99999, 100000, 999999, 1000000, 9999999, 10000000,
     99999999, 100000000, 999999999, 1000000000, 2147483647,
 ];
 
 #[test]
 fn numbers(rt: HostRuntime) -> Result<(), Fail> {
-    for number in NUMBERS {
+    for number in &NUMBERS {
+        let number = *number;
         assert!(rt; number <= NUMBER_LIMIT);
         check_written(&rt, rt.alloc(), &Reply::Done { number }, Wanted::Number)?;
     }
     Ok(())
 }
 
+static FEW_BYTES: [&[u8]; 4] = [b"A0\nE5", b"\n\n\n\n\n", b"01234", b"\0\xff\r AE"];
+
+/// These few bytes, where just as many are waited for, and where more are.
+fn check_data(rt: &impl Abort, alloc: Global, bytes: &[u8]) -> Result<(), Fail>
+    requires { length bytes.now ≤ 6 }
+{
+    let reply = Reply::Data { bytes };
+    let wanted = Wanted::DataUpTo(bytes.len() as u32);
+    check_written(rt, alloc, &reply, wanted)?;
+    check_written(rt, alloc, &reply, Wanted::DataUpTo(65536))
+}
+
+/// The first bytes of these, up to five.
+fn check_first(rt: &impl Abort, alloc: Global, bytes: &[u8]) -> Result<(), Fail> {
+    for len in 0..=5usize {
+        check_data(rt, alloc, &bytes[..len.min(bytes.len())])?;
+    }
+    Ok(())
+}
+
 #[test]
 fn data_of_few_bytes(rt: HostRuntime) -> Result<(), Fail> {
-    for bytes in [
-        b"A0\nE5".as_slice(),
-        b"\n\n\n\n\n",
-        b"01234",
-        b"\0\xff\r AE",
-    ] {
-        for len in 0..=5 {
-            let given = bytes.get(..len).unwrap_or(&[]);
-            let reply = Reply::Data { bytes: given };
-            check_written(
-                &rt,
-                rt.alloc(),
-                &reply,
-                Wanted::DataUpTo(given.len() as u32),
-            )?;
-            check_written(&rt, rt.alloc(), &reply, Wanted::DataUpTo(65536))?;
-        }
+    for bytes in &FEW_BYTES {
+        check_first(&rt, rt.alloc(), bytes)?;
     }
     Ok(())
 }

@@ -50,29 +50,45 @@ pub(crate) fn split<'a>(
     stream: &'a [u8],
     wanted: &[Wanted],
 ) -> Result<Replies<'a>, AllocError> {
-    let mut replies = Vec::new(alloc);
-    let mut ends = Vec::new(alloc);
-    let mut rest = stream;
-    for kind in wanted {
-        let Some((reply, later)) = first(rest, *kind) else {
-            break;
-        };
-        replies.push(reply)?;
-        ends.push(stream.len().saturating_sub(later.len()))?;
-        rest = later;
-    }
-    let before = stream.len().saturating_sub(rest.len());
-    let next = wanted.get(replies.len()).copied();
-    let fault = match fault_of(alloc, rest, next)? {
-        Some((fault, len)) => Some((fault, before.saturating_add(len))),
-        None => None,
+    let mut found = Replies {
+        replies: Vec::new(alloc),
+        ends: Vec::new(alloc),
+        rest: stream,
+        fault: None,
     };
-    Ok(Replies {
-        replies,
-        ends,
-        rest,
-        fault,
-    })
+    found.take_all(stream.len(), wanted)?;
+    let next = wanted.get(found.replies.len()).copied();
+    found.fault = fault_from(alloc, stream, found.rest, next)?;
+    Ok(found)
+}
+
+impl Replies<'_> {
+    /// Takes the replies off the rest of a stream of so many bytes, as long as there are some.
+    fn take_all(&mut self, len: usize, wanted: &[Wanted]) -> Result<(), AllocError> {
+        for kind in wanted {
+            let Some((reply, later)) = first(self.rest, *kind) else {
+                break;
+            };
+            self.replies.push(reply)?;
+            self.ends.push(len.saturating_sub(later.len()))?;
+            self.rest = later;
+        }
+        Ok(())
+    }
+}
+
+/// The fault of the rest of a stream, and how many bytes of the stream end with the byte that shows it.
+fn fault_from(
+    alloc: Global,
+    stream: &[u8],
+    rest: &[u8],
+    wanted: Option<Wanted>,
+) -> Result<Option<(WireFault, usize)>, AllocError> {
+    let before = stream.len().saturating_sub(rest.len());
+    match fault_of(alloc, rest, wanted)? {
+        Some((fault, len)) => Ok(Some((fault, before.saturating_add(len)))),
+        None => Ok(None),
+    }
 }
 
 /// How much of a reader's room these bytes take, which were pushed and not given, where this is waited for.
@@ -125,17 +141,28 @@ fn spelled<'a>(text: &'a [u8], wanted: Wanted) -> Option<Reply<'a>> {
     let (letter, lines) = text.split_first()?;
     let (line, rest) = cut_line(lines)?;
     let number = number(line)?;
-    match (letter, wanted) {
-        (b'A', Wanted::Number) if rest.is_empty() => Some(Reply::Done { number }),
-        (b'A', Wanted::DataUpTo(most)) if number <= most && rest.len() == number as usize => {
-            Some(Reply::Data { bytes: rest })
-        }
-        (b'E', _) => Some(Reply::Error {
-            number,
-            text: kept(last_line(rest)?),
-        }),
+    match *letter {
+        b'A' => answered(number, rest, wanted),
+        b'E' => failed(number, rest),
         _ => None,
     }
+}
+
+/// This number and the bytes behind its line, to one who waits for this.
+fn answered<'a>(number: u32, rest: &'a [u8], wanted: Wanted) -> Option<Reply<'a>> {
+    match wanted {
+        Wanted::Number if rest.is_empty() => Some(Reply::Done { number }),
+        Wanted::DataUpTo(most) if number <= most && rest.len() == number as usize => {
+            Some(Reply::Data { bytes: rest })
+        }
+        _ => None,
+    }
+}
+
+/// An error of this number, with the line of its text.
+fn failed<'a>(number: u32, rest: &'a [u8]) -> Option<Reply<'a>> {
+    let text = kept(last_line(rest)?);
+    Some(Reply::Error { number, text })
 }
 
 /// What counts of the text of an error: the first 255 bytes of it.
