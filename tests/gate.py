@@ -3,7 +3,7 @@
 
     gate.py [--minutes FILE]
 
-It passes on what `rt ci` prints, and ends with its status. `rt ci` tells no times, so once a second it is looked up which
+It passes on what `rt ci` prints, and ends with its status. `rt ci` tells no times, so every five seconds it is looked up which
 checks run, by the command lines of the processes below this one: a check of a crate (which `rt ci` builds in the same run), of its tests, or of an
 edit that must fail. The minutes are those in which at least one such check of the crate ran, written as a table to FILE, or else printed.
 """
@@ -63,7 +63,7 @@ def check_of(process: Path) -> tuple[str, str] | None:
 
 
 class Watch(threading.Thread):
-    """Adds up, second by second, which checks run."""
+    """Adds up which checks run, every five seconds: more often would take a part of a processor from them."""
 
     def __init__(self) -> None:
         super().__init__(daemon=True)
@@ -72,7 +72,7 @@ class Watch(threading.Thread):
 
     def run(self) -> None:
         last = time.monotonic()
-        while not self.done.wait(1):
+        while not self.done.wait(5):
             now = time.monotonic()
             running = {check_of(it) for it in Path("/proc").iterdir() if it.name.isdigit()}
             for check in running - {None}:
