@@ -180,7 +180,7 @@ struct Case {
     parts: &'static [&'static [Move]],
 }
 
-const CASES: [Case; 6] = [
+static CASES: [Case; 6] = [
     Case {
         name: "three blocks on two reels, in the order in which they lie on the stack",
         capacity: THREE_RECORDS,

@@ -26,7 +26,7 @@ const LEAP_1968: &[u8] = b"a 0 Mon Feb 29 00:00:00 1968";
 type Row = (&'static [u8], Option<(&'static str, u8)>, &'static [u8], u8);
 
 /// Texts that are printed anew, bases, and bad files with their first bad line. The dates come from the `date` command.
-const ROWS: [Row; 19] = [
+static ROWS: [Row; 19] = [
     (b"", None, b"", 0),
     (b" \t\n\n", None, b"", 0),
     (

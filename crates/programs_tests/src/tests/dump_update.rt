@@ -23,7 +23,7 @@ fn three_blocks(alloc: Global) -> Result<PayloadDumper, Fail> {
 /// The reels of a drive, what a dump to them prints, its status, and the dumpdates file then.
 type Row = (&'static [&'static [u8]], &'static [u8], u8, &'static [u8]);
 
-const ROWS: [Row; 2] = [
+static ROWS: [Row; 2] = [
     (
         &[b"r1", b"r2"],
         b"volume 1: 2 blocks from 0\nvolume 2: 1 blocks from 2\ndump complete: 2 volumes, 3 blocks\n",

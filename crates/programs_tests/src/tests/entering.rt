@@ -16,7 +16,7 @@ type Row = (
 );
 
 /// A dump that is entered, and so once more; a file that cannot be read, one that cannot be replaced, and a bad one.
-const ROWS: [Row; 5] = [
+static ROWS: [Row; 5] = [
     (OLD, true, true, Ok(()), ENTERED),
     (ENTERED, true, true, Ok(()), ENTERED),
     (OLD, false, true, Err(UpdateFault::Unread), OLD),

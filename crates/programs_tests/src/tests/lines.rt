@@ -29,7 +29,7 @@ type Row = (
 );
 
 /// Two volumes; an abandon; and a retry, where the third connection is made after `yes`, and the fourth cannot be.
-const ROWS: [Row; 3] = [
+static ROWS: [Row; 3] = [
     (
         &[FULL, LAST],
         b"",

@@ -9,7 +9,7 @@ use std::test::Fail;
 /// One operation of count 1: its number, what the peer replies, what it is sent, what is printed, and the status.
 type Row<'a> = (u8, Replies<'a>, &'a [u8], &'a [u8], u8);
 
-const ROWS: [Row<'static>; 8] = [
+static ROWS: [Row<'static>; 8] = [
     (
         0,
         &[b"A0\n", b"A1\n", b"A0\n"],

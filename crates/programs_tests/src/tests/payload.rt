@@ -7,7 +7,7 @@ use std::alloc::Global;
 use std::test::Fail;
 
 /// The replies to an open, a rewind, a label and the first block of 4 bytes.
-const REPLIES: [&[u8]; 4] = [b"A0\n", b"A1\n", b"A1024\n", b"A4\n"];
+static REPLIES: [&[u8]; 4] = [b"A0\n", b"A1\n", b"A1024\n", b"A4\n"];
 
 /// What a client sends from its first block on.
 fn send(client: &mut PayloadDumper, out: &mut Vec<u8>) -> Result<(), Fail> {

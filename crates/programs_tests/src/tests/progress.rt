@@ -89,7 +89,7 @@ type Row = (usize, &'static [u32], &'static [u8]);
 
 /// A line each tenth of a second, in KiB and in MiB; a volume from the block on for which there was no room; and one
 /// that begins anew.
-const ROWS: [Row; 4] = [
+static ROWS: [Row; 4] = [
     (
         1024,
         &[0, 1, 2],
