@@ -5,7 +5,7 @@ use std::alloc::Global;
 use std::test::Fail;
 
 /// Of a bad line, a line that is not possible, and none.
-const WHOLE: [Case; 12] = [
+static WHOLE: [Case; 12] = [
     Case {
         text: b"drive /dev/st0 3100 r1\n\nretry\n",
         printed: b"line 3: not possible\n",
@@ -77,7 +77,7 @@ fn the_first_line_at_fault_decides(rt: HostRuntime) -> Result<(), Fail> {
 }
 
 /// Lines that are none, with a drive before them.
-const BAD: [&str; 56] = [
+static BAD: [&str; 56] = [
     " connect",
     "connect ",
     "connect 1",
@@ -147,7 +147,7 @@ fn lines_that_are_none(rt: HostRuntime) -> Result<(), Fail> {
 }
 
 /// Lines that are some, and not possible with a drive alone before them.
-const IMPOSSIBLE: [&str; 22] = [
+static IMPOSSIBLE: [&str; 22] = [
     "connect",
     "send",
     "send fault",
@@ -183,7 +183,7 @@ fn lines_that_are_not_possible(rt: HostRuntime) -> Result<(), Fail> {
 }
 
 /// Lines that do something, or nothing, with a drive alone before them.
-const POSSIBLE: [&str; 8] = [
+static POSSIBLE: [&str; 8] = [
     "restart-server",
     "stranger",
     "pump 1 1",

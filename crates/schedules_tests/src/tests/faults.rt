@@ -39,7 +39,7 @@ pump 2 9\n\
 connect\n";
 
 /// What that prints, in three writes.
-const PRINTED: [&[u8]; 4] = [
+static PRINTED: [&[u8]; 4] = [
     b"",
     b"volume 1 failed: ReelTooSmall\n",
     b"volume 1 failed: ReelTooSmall\nvolume 1 failed: ReelTooSmall\n",

@@ -11,7 +11,7 @@ use std::test::Fail;
 use tape::Trouble;
 
 /// What a stranger says: requests, beginnings of requests, and what is none.
-const SAID: [&[u8]; 24] = [
+static SAID: [&[u8]; 24] = [
     b"O/dev/st0\n2\n",
     b"O/dev/st0\n1\n",
     b"O/dev/st1\n2 O_RDWR\n",
@@ -39,7 +39,7 @@ const SAID: [&[u8]; 24] = [
 ];
 
 /// Stacks that an operator lays.
-const LAID: [(&[u8], &[&[u8]]); 8] = [
+static LAID: [(&[u8], &[&[u8]]); 8] = [
     (b"/dev/st0", &[b"r1", b"r2"]),
     (b"/dev/st0", &[b"r2", b"r1", b"r3"]),
     (b"/dev/st0", &[b"r3"]),
@@ -50,7 +50,7 @@ const LAID: [(&[u8], &[&[u8]]); 8] = [
     (b"/dev/st0", &[b"r4"]),
 ];
 
-const TROUBLES: [Trouble; 6] = [
+static TROUBLES: [Trouble; 6] = [
     Trouble::None,
     Trouble::Kept,
     Trouble::Lost,

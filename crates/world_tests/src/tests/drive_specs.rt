@@ -70,7 +70,7 @@ fn names_are_looked_at_and_drives_counted(rt: HostRuntime) -> Result<(), Fail> {
 }
 
 /// An order, and whether it is possible after those before it.
-const ORDERS: [(&[u8], &[&[u8]], bool); 5] = [
+static ORDERS: [(&[u8], &[&[u8]], bool); 5] = [
     (b"/dev/st0", &[b"b"], true),
     (b"/dev/st1", &[b"a", b"c"], true),
     (b"/dev/st0", &[b"a"], false),

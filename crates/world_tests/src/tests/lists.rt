@@ -9,7 +9,7 @@ use std::test::Fail;
 use tape::Trouble;
 
 /// Two drives. A reel has room for a label, two blocks of 3 bytes, and a mark.
-pub(crate) const PLANS: [Plan; 2] = [
+pub(crate) static PLANS: [Plan; 2] = [
     Plan {
         name: b"/dev/st0",
         capacity: 1058,
@@ -30,7 +30,7 @@ struct Place {
 
 const BEGUN: &[Line] = &[Line::Start, Line::Connect];
 
-const PLACES: [Place; 11] = [
+static PLACES: [Place; 11] = [
     // Nothing has happened.
     Place {
         parts: &[],

@@ -7,7 +7,7 @@ use std::alloc::Global;
 use std::test::Fail;
 use tape::Trouble;
 
-const PLANS: [Plan; 1] = [Plan {
+static PLANS: [Plan; 1] = [Plan {
     name: b"/dev/st0",
     capacity: 3100,
     reels: &[b"r1", b"r2"],
@@ -19,7 +19,7 @@ const SERVE: Line = Line::Serve(1, Trouble::None);
 const LONG: &[u8] = &[b'C'; 70000];
 
 /// Lines, of which the last alone is not possible, and how many connections there are then.
-const ROWS: [(&[Line], usize); 26] = [
+static ROWS: [(&[Line], usize); 26] = [
     (&[Line::Respond(Answer::Retry)], 0),
     (&[Line::Start, Line::Connect, Line::Connect], 1),
     (&[Line::Stranger, Line::Cut(1), Line::Cut(1)], 1),

@@ -33,7 +33,7 @@ const ONE_BLOCK: &[usize] = &[1024, 1024, 0];
 
 const DATES: &[u8] = b"/usr                             0 Tue Feb 29 00:00:00 2000\n";
 
-const SCHEDULES: [Schedule; 10] = [
+static SCHEDULES: [Schedule; 10] = [
     // Two volumes with no fault: the first is an exact fit.
     Schedule {
         capacity: 3100,
