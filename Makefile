@@ -18,9 +18,8 @@ DESTDIR ?=
 build: kit ## prove and build the three programs, crates side by side; it says first how long that is likely to take
 	@python3 tests/build.py rmtd rdump rsim
 
-run: kit ## build the server, and show a conversation with it, turn by turn: what is sent, what is answered, and what was done
-	@python3 tests/build.py rmtd
-	@python3 tests/run.py $(PROGRAM)
+run: kit ## show a conversation with the server, turn by turn; where it is not built, from its sources without their proofs
+	@python3 tests/run.py
 
 # The programs that are tested are those that `rt ci` has just proved and built, where it left them.
 test: kit ## the gate: each proof from nothing, then the built programs from outside, to the byte; it ends with the minutes of each

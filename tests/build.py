@@ -30,10 +30,10 @@ PARTS = ("src", "specs", "proofs")
 VERSION = ("--version",)
 WORDS = {"feed": ("replies", "1", "1000")}
 # The seconds of one processor that a crate took, a line of it, and a program beside that, as measured of the server and what it stands on.
-SECONDS_A_CRATE = 75.0
-SECONDS_A_LINE = 0.11
-SECONDS_A_PROGRAM = 120.0
-# How many processors one crate keeps busy at most.
+SECONDS_A_CRATE = 90.0
+SECONDS_A_LINE = 0.07
+SECONDS_A_PROGRAM = 190.0
+# How many processors one library keeps busy at most; a program's check and its compiler keep one.
 BUSY = 2.0
 # What a crate runs with that no crate of the longest chain waits for.
 FEW_JOBS = 2
@@ -117,13 +117,24 @@ def chains(crates: Crates) -> dict[str, float]:
     return found
 
 
+def speeds_of(ready: list[Crate], processors: float) -> dict[str, float]:
+    """How many processors each of these keeps busy: the first takes what it can use, the others what is left."""
+    speeds: dict[str, float] = {}
+    for crate in ready:
+        speeds[crate.name] = min(1.0 if crate.is_program() else BUSY, processors)
+        processors -= speeds[crate.name]
+        if not processors:
+            break
+    return speeds
+
+
 def likely_seconds(crates: Crates, processors: int) -> float:
-    """How long these take where nothing else runs: the crate with the longest chain takes what it can use, the others what is left."""
+    """How long these take where nothing else runs, those first that most others wait for."""
     left, first, seconds = seconds_of(crates), chains(crates), 0.0
     while left:
-        ready = sorted((it for it in left if not any(use in left for use in crates[it].uses)), key=first.get, reverse=True)
-        speeds = {it: min(BUSY, processors - BUSY * place) for place, it in enumerate(ready) if processors > BUSY * place}
-        step = min(left[it] / speed for it, speed in speeds.items())
+        ready = [crates[it] for it in sorted(left, key=first.get, reverse=True) if not any(use in left for use in crates[it].uses)]
+        speeds = speeds_of(ready, processors)
+        step = min(left[name] / speed for name, speed in speeds.items())
         seconds += step
         left = {name: rest - step * speeds.get(name, 0) for name, rest in left.items()}
         left = {name: rest for name, rest in left.items() if rest > 1e-6}

@@ -1,23 +1,30 @@
 #!/usr/bin/env python3
-"""Shows a conversation with the built server, turn by turn: what is sent, what is answered, and what the server did.
+"""Shows a conversation with the server, turn by turn: what is sent, what is answered, and what the server did.
 
     run.py [PROGRAM]
 
-The conversation is the first under *Examples* in docs/PROTOCOL.md. It ends with 0 where each answer is as expected there.
+With no PROGRAM it takes the server that was built from the sources as they are. Where there is none, it compiles them without their
+proofs (`rt try`), which takes about a minute, and sends all requests at once. The conversation is the first under *Examples* in
+docs/PROTOCOL.md. It ends with 0 where each answer is as expected there.
 """
 
 from __future__ import annotations
 
 import argparse
+import io
 import subprocess
 import sys
 from pathlib import Path
 from typing import Iterator
 
+from build import below, listed, newest
 from examples import Turn, examples
 from forms import receive, send, started
 
-BUILT = Path(__file__).resolve().parent.parent / "crates/rmtd/out/rmtd"
+SERVER = "rmtd"
+NOT_BUILT = f"""{SERVER} is not built yet: `make build` proves and builds it.
+Its sources are compiled without their proofs now, in about a minute.
+"""
 
 ACCESS = ("for reading", "for writing", "for reading and writing", "with no access")
 OPERATIONS = (
@@ -68,6 +75,14 @@ def shown(data: bytes) -> str:
     return data.decode(errors="backslashreplace").replace("\n", "\\n") or "nothing"
 
 
+def built() -> Path | None:
+    """The server that was built from the sources as they are, as far as the files' times tell."""
+    crates = below(listed(), [SERVER])
+    program = crates[SERVER].folder() / "out" / SERVER
+    is_new = program.is_file() and program.stat().st_mtime >= max(map(newest, crates.values()))
+    return program if is_new else None
+
+
 def turns(program: Path, wanted: tuple[Turn, ...]) -> Iterator[bytes]:
     """Sends each request after the answer to the one before, and gives what is answered; at the end, what the server still wrote."""
     streams = {"stdin": subprocess.PIPE, "stdout": subprocess.PIPE, "bufsize": 0}
@@ -79,13 +94,26 @@ def turns(program: Path, wanted: tuple[Turn, ...]) -> Iterator[bytes]:
         yield answers.read()
 
 
+def unproved_turns(wanted: tuple[Turn, ...]) -> Iterator[bytes]:
+    """Compiles the server without its proofs, sends it all requests, and gives what is answered to each; at the end, what it still wrote."""
+    folder, sent = listed()[SERVER].folder(), b"".join(turn.request for turn in wanted)
+    ran = subprocess.run(("rt", "try", "--", "--stdio"), cwd=folder, input=sent, capture_output=True)
+    if ran.returncode:
+        sys.exit(f"run.py: `rt try` in {folder} ended with {ran.returncode}:\n{ran.stderr.decode(errors='replace')[-4000:]}")
+    answers = io.BytesIO(ran.stdout)
+    for turn in wanted:
+        yield answers.read(len(turn.answer))
+    yield answers.read()
+
+
 def main() -> int:
-    parser = argparse.ArgumentParser(description="Shows a conversation with the built tape server.")
-    parser.add_argument("program", nargs="?", type=Path, default=BUILT, help="the built rmtd")
-    program = parser.parse_args().program.resolve()
-    example = examples()[0]
+    parser = argparse.ArgumentParser(description="Shows a conversation with the tape server.")
+    parser.add_argument("program", nargs="?", type=Path, help=f"a built {SERVER}")
+    program, example = parser.parse_args().program or built(), examples()[0]
+    if not program:
+        print(NOT_BUILT, flush=True)
+    wrong, answers = 0, turns(program.resolve(), example.turns) if program else unproved_turns(example.turns)
     print(f"A conversation with rmtd --stdio (docs/PROTOCOL.md): {example.name[0].lower()}{example.name[1:]}.\n", flush=True)
-    wrong, answers = 0, turns(program, example.turns)
     for number, (turn, answer) in enumerate(zip(example.turns, answers), 1):
         print(f"{number}. sent      {shown(turn.request)}\n   answered  {shown(answer)}")
         if answer == turn.answer:
