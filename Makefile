@@ -7,7 +7,6 @@ SIMULATOR := crates/rsim/out/rsim
 FEED := crates/feed/out/feed
 MINUTES := out/minutes.txt
 RATIOS := out/bench.tsv
-CHECK := python3 tests/timed.py $(MINUTES)
 
 PREFIX ?= /usr/local
 DESTDIR ?=
@@ -28,15 +27,7 @@ test: kit ## the gate: each proof from nothing, then the built programs from out
 	python3 tests/examples.py
 	python3 tests/gate.py --minutes $(MINUTES)
 	test -x $(PROGRAM) -a -x $(CLIENT) -a -x $(SIMULATOR) || $(MAKE) build
-	$(CHECK) tests/rows.py $(PROGRAM)
-	$(CHECK) tests/dates.py $(CLIENT)
-	$(CHECK) tests/dump.py $(PROGRAM) $(CLIENT)
-	$(CHECK) tests/reels.py $(PROGRAM) $(CLIENT)
-	$(CHECK) tests/clients.py $(PROGRAM)
-	$(CHECK) tests/threads.py $(PROGRAM) $(CLIENT)
-	$(CHECK) tests/recipes.py $(PROGRAM) $(CLIENT) $(SIMULATOR)
-	$(CHECK) tests/kills.py $(PROGRAM) $(CLIENT)
-	$(CHECK) tests/schedules.py $(SIMULATOR)
+	python3 tests/outside.py --minutes $(MINUTES) $(PROGRAM) $(CLIENT) $(SIMULATOR)
 	@cat $(MINUTES)
 
 bench: build ## long streams, reels in folders, dumps, a long dumpdates file, long schedules, and bytes in pieces; it ends with a table of ratios

@@ -123,7 +123,7 @@ def main() -> int:
             print(f"   expected  {shown(turn.answer)}", flush=True)
     rest = next(answers)
     wrong += rest != b""
-    print(f"\n{'Each answer is as expected.' if not wrong else f'Not as expected: {wrong}. Behind the last answer came {shown(rest)}.'}")
+    print(f"\n{'Each answer is as expected.' if not wrong else f'Not as expected: {wrong}. After the last answer came {shown(rest)}.'}")
     return 1 if wrong else 0
 
 

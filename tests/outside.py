@@ -1,0 +1,73 @@
+#!/usr/bin/env python3
+"""Checks the built programs from outside: runs the scripts beside this one, as many at once as there are processors.
+
+    outside.py [--minutes FILE] RMTD RDUMP RSIM
+
+It prints what a script said once that has ended, and adds a line to FILE that says how long it took. It ends with 0 where each did.
+"""
+
+from __future__ import annotations
+
+import argparse
+import os
+import subprocess
+import sys
+import time
+from concurrent.futures import ThreadPoolExecutor, as_completed
+from pathlib import Path
+from typing import NamedTuple
+
+TESTS = Path(__file__).resolve().parent
+# The scripts, those that take longest first, and the programs that each is given.
+CHECKS = {
+    "reels.py": ("rmtd", "rdump"),
+    "kills.py": ("rmtd", "rdump"),
+    "threads.py": ("rmtd", "rdump"),
+    "schedules.py": ("rsim",),
+    "recipes.py": ("rmtd", "rdump", "rsim"),
+    "dump.py": ("rmtd", "rdump"),
+    "clients.py": ("rmtd",),
+    "rows.py": ("rmtd",),
+    "dates.py": ("rdump",),
+}
+
+
+class Ran(NamedTuple):
+    """What a script ended with, all that it said, and how long it took."""
+
+    script: str
+    status: int
+    said: str
+    minutes: float
+
+
+def run(script: str, programs: list[str]) -> Ran:
+    began = time.monotonic()
+    words = (sys.executable, str(TESTS / script), *programs)
+    ran = subprocess.run(words, stdin=subprocess.DEVNULL, stdout=subprocess.PIPE, stderr=subprocess.STDOUT, errors="replace")
+    return Ran(script, ran.returncode, ran.stdout, (time.monotonic() - began) / 60)
+
+
+def main() -> int:
+    parser = argparse.ArgumentParser(description="Checks the built programs from outside.")
+    parser.add_argument("--minutes", type=Path, help="the file that the minutes are added to")
+    for name in ("rmtd", "rdump", "rsim"):
+        parser.add_argument(name, help=f"the built {name}")
+    asked = parser.parse_args()
+    failed = []
+    with ThreadPoolExecutor(len(os.sched_getaffinity(0))) as pool:
+        runs = [pool.submit(run, script, [getattr(asked, it) for it in programs]) for script, programs in CHECKS.items()]
+        for it in as_completed(runs):
+            ran = it.result()
+            print(f"== tests/{ran.script}: ended with {ran.status} after {ran.minutes:.1f} minutes\n{ran.said}", end="", flush=True)
+            failed += [ran.script] if ran.status else []
+            if asked.minutes:
+                with asked.minutes.open("a") as lines:
+                    lines.write(f"tests/{ran.script}: {ran.minutes:.1f} minutes\n")
+    if failed:
+        print(f"not as expected: {', '.join(failed)}")
+    return 1 if failed else 0
+
+
+if __name__ == "__main__":
+    sys.exit(main())
