@@ -1,21 +1,54 @@
 //! Which drives a world can have, and the operator's orders in a new one.
 
+use super::real::{make, new_world};
+use std::process::Abort;
 use std::test::Fail;
-use tape_world::{DriveSpec, Event, World, WorldFault, good_drives, run};
+use tape_world::{DriveSpec, Event, World, good_drives};
 
 /// A drive of two reels.
-const FIRST: DriveSpec<'_> = DriveSpec {
+const FIRST: DriveSpec<'static> = DriveSpec {
     name: b"/dev/st0",
     capacity: 3100,
     reels: &[b"a", b"b"],
 };
 
 /// Another one, of one reel.
-const SECOND: DriveSpec<'_> = DriveSpec {
+const SECOND: DriveSpec<'static> = DriveSpec {
     name: b"/dev/st1",
     capacity: 3100,
     reels: &[b"c"],
 };
+
+/// A drive of the first one's name.
+const SAME_DRIVE: DriveSpec<'static> = DriveSpec {
+    name: b"/dev/st0",
+    capacity: 3100,
+    reels: &[b"c"],
+};
+
+/// One with a reel of the first one.
+const SAME_REEL: DriveSpec<'static> = DriveSpec {
+    name: b"/dev/st1",
+    capacity: 3100,
+    reels: &[b"c", b"b"],
+};
+
+/// One with a reel twice.
+const DOUBLED: DriveSpec<'static> = DriveSpec {
+    name: b"/dev/st1",
+    capacity: 3100,
+    reels: &[b"c", b"d", b"c"],
+};
+
+/// Drives, and whether a world can have them.
+static SPECS: [(&[DriveSpec<'static>], bool); 6] = [
+    (&[], false),
+    (&[FIRST], true),
+    (&[FIRST, SECOND], true),
+    (&[FIRST, SAME_DRIVE], false),
+    (&[FIRST, SAME_REEL], false),
+    (&[FIRST, DOUBLED], false),
+];
 
 /// The bytes from 0 to 64.
 fn bytes() -> [u8; 65] {
@@ -28,75 +61,56 @@ fn bytes() -> [u8; 65] {
 
 /// Drives without reels, whose names are these bytes.
 fn named_by(names: &[u8; 65]) -> [DriveSpec<'_>; 65] {
-    let mut drives = [FIRST; 65];
+    let none = DriveSpec {
+        name: &[],
+        capacity: 0,
+        reels: &[],
+    };
+    let mut drives = [none; 65];
     for place in 0..65 {
-        drives[place] = DriveSpec {
-            name: &names[place..=place],
-            capacity: 0,
-            reels: &[],
-        };
+        drives[place].name = &names[place..=place];
     }
     drives
 }
 
-#[test]
-fn names_are_looked_at_and_drives_counted(rt: HostRuntime) -> Result<(), Fail> {
-    let same_drive = DriveSpec {
-        name: FIRST.name,
-        ..SECOND
-    };
-    let same_reel = DriveSpec {
-        reels: &[b"c", b"b"],
-        ..SECOND
-    };
-    let doubled = DriveSpec {
-        reels: &[b"c", b"d", b"c"],
-        ..SECOND
-    };
-    assert!(rt; !good_drives(&[]));
-    assert!(rt; good_drives(&[FIRST]));
-    assert!(rt; good_drives(&[FIRST, SECOND]));
-    assert!(rt; !good_drives(&[FIRST, same_drive]));
-    assert!(rt; !good_drives(&[FIRST, same_reel]));
-    assert!(rt; !good_drives(&[FIRST, doubled]));
-    let names = bytes();
-    let drives = named_by(&names);
-    let Some((_, others)) = drives.split_first() else {
-        return Err(Fail::new("no drives"));
-    };
-    assert!(rt; good_drives(others));
-    assert!(rt; !good_drives(&drives));
-    Ok(())
+/// Checks these rows.
+fn check_specs(rt: &impl Abort, rows: &[(&[DriveSpec<'_>], bool)]) {
+    for (drives, is_good) in rows {
+        assert!(rt; good_drives(drives) == *is_good);
+    }
 }
 
-/// An order, and whether it is possible after those before it.
-static ORDERS: [(&[u8], &[&[u8]], bool); 5] = [
-    (b"/dev/st0", &[b"b"], true),
-    (b"/dev/st1", &[b"a", b"c"], true),
-    (b"/dev/st0", &[b"a"], false),
-    (b"/dev/st0", &[b"b", b"b"], false),
-    (b"/dev/st9", &[], false),
+#[test]
+fn names_are_looked_at_and_drives_counted(rt: HostRuntime) {
+    check_specs(&rt, &SPECS);
+    let names = bytes();
+    let drives = named_by(&names);
+    check_specs(&rt, &[(&drives[1..], true), (&drives, false)]);
+}
+
+/// Orders in a new world: the drive, its reels, and where an order is not possible after those before it, its place.
+static ORDERS: [(&[u8], &[&[u8]], Option<usize>); 5] = [
+    (b"/dev/st0", &[b"b"], None),
+    (b"/dev/st1", &[b"a", b"c"], None),
+    (b"/dev/st0", &[b"a"], Some(0)),
+    (b"/dev/st0", &[b"b", b"b"], Some(0)),
+    (b"/dev/st9", &[], Some(0)),
 ];
 
-/// Whether a new world takes the orders that are possible, and no other.
-fn takes_orders(world: &mut World) -> bool {
-    ORDERS.iter().all(|(drive, reels, is_possible)| {
-        let made = run(world, &[Event::Arrange { drive, reels }]);
-        made == if *is_possible {
-            Ok(())
-        } else {
-            Err(WorldFault::NotPossible(0))
-        }
-    })
+/// The world takes the orders that are possible, and no other.
+fn check_orders(
+    world: &mut World,
+    orders: &[(&[u8], &[&[u8]], Option<usize>)],
+) -> Result<(), Fail> {
+    for (drive, reels, stop) in orders {
+        make(world, &[Event::Arrange { drive, reels }], *stop)?;
+    }
+    Ok(())
 }
 
 #[test]
 fn a_new_world_takes_orders(rt: HostRuntime) -> Result<(), Fail> {
-    let drives = [FIRST, SECOND];
-    if !good_drives(&drives) {
-        return Err(Fail::new("not good"));
-    }
-    let mut world = World::new(rt.alloc(), &drives)?;
-    assert!(rt; takes_orders(&mut world));
-    Ok(())
+    let (drives, _) = SPECS[2];
+    let mut world = new_world(rt.alloc(), drives)?;
+    check_orders(world.as_mut(), &ORDERS)
 }

@@ -1,12 +1,13 @@
 //! A world and the plain one, side by side.
 
-use super::real::Real;
-use super::slow::{Plan, SlowWorld};
+use super::real::{check_like, make, new_world};
+use super::slow::SlowWorld;
 use dump_client::{Answer, AttemptFault, Run};
-use std::alloc::Global;
+use std::alloc::{AllocError, Global};
+use std::boxed::Box;
 use std::test::Fail;
 use tape::Trouble;
-use tape_world::Event;
+use tape_world::{DriveSpec, Event, World};
 
 /// What is to happen. A connection is told by its number.
 #[derive(Clone, Copy)]
@@ -71,16 +72,25 @@ impl Dump {
             block_bytes,
             blocks,
         )?;
-        let mut payload = Vec::new(alloc);
-        for block in 0..run.blocks() {
-            let bytes = Vec::from_elem(alloc, (block % 256) as u8, run.block_bytes())?;
-            payload.extend_from_slice(bytes.as_slice())?;
+        let mut dump = Dump {
+            run,
+            payload: Vec::new(alloc),
+        };
+        dump.fill()?;
+        Ok(dump)
+    }
+
+    /// Appends the blocks of the run to the payload.
+    fn fill(&mut self) -> Result<(), AllocError> {
+        for block in 0..self.run.blocks() {
+            let end = self.payload.len().saturating_add(self.run.block_bytes());
+            self.payload.resize(end, (block % 256) as u8)?;
         }
-        Ok(Dump { run, payload })
+        Ok(())
     }
 
     /// The event that the line is in that world.
-    pub(crate) fn event(&self, line: Line, slow: &SlowWorld) -> Event<'_> {
+    pub(crate) fn event<'a>(&'a self, line: Line, slow: &SlowWorld) -> Event<'a> {
         match line {
             Line::Start => Event::StartRun {
                 run: &self.run,
@@ -119,23 +129,39 @@ impl Dump {
 /// Both worlds, whether they are compared after each event, and what failed in them so far.
 #[derive(Drop)]
 pub(crate) struct Both {
-    alloc: Global,
+    pub(crate) alloc: Global,
     pub(crate) slow: SlowWorld,
-    pub(crate) real: Real,
+    pub(crate) real: Box<World>,
     compares: bool,
     pub(crate) failures: Vec<(u32, AttemptFault)>,
 }
 
 impl Both {
-    /// Nothing has happened in either.
-    pub(crate) fn new(alloc: Global, plans: &[Plan], compares: bool) -> Result<Both, Fail> {
-        Ok(Both {
+    /// Nothing has happened in either. They are boxed as the world is.
+    pub(crate) fn new(
+        alloc: Global,
+        drives: &[DriveSpec<'static>],
+        compares: bool,
+    ) -> Result<Box<Both>, Fail> {
+        let mut both = Both::without_drives(alloc, new_world(alloc, drives)?, compares)?;
+        both.as_mut().slow.shop.add_drives(alloc, drives)?;
+        Ok(both)
+    }
+
+    /// The plain one has no drives yet.
+    fn without_drives(
+        alloc: Global,
+        real: Box<World>,
+        compares: bool,
+    ) -> Result<Box<Both>, AllocError> {
+        let both = Both {
             alloc,
-            slow: SlowWorld::new(alloc, plans)?,
-            real: Real::new(alloc, plans)?,
+            slow: SlowWorld::new(alloc),
+            real,
             compares,
             failures: Vec::new(alloc),
-        })
+        };
+        Ok(Box::new(alloc, both)?)
     }
 
     /// Does what the line says in both. It tells whether that is possible, and fails where they differ.
@@ -143,9 +169,9 @@ impl Both {
         let event = dump.event(line, &self.slow);
         let possible = self.slow.make(&event)?;
         let stop = if possible { None } else { Some(0) };
-        self.real.makes(&[event], stop)?;
+        make(self.real.as_mut(), &[event], stop)?;
         if self.compares {
-            self.real.is_like(&self.slow)?;
+            check_like(self.real.as_ref(), &self.slow)?;
         }
         if possible && let Some(failure) = self.slow.failure {
             self.failures.push(failure)?;
@@ -169,9 +195,9 @@ impl Both {
 
     /// Does what the lines say, each of which has to be possible, and then so many rounds on that connection.
     fn follow_part(&mut self, dump: &Dump, part: &Part) -> Result<(), Fail> {
-        for (at, line) in part.lines.iter().enumerate() {
+        for line in part.lines {
             if !self.follow(dump, *line)? {
-                return Err(Fail::new(format_args!("line {at} is not possible")));
+                return Err(Fail::new("a line is not possible"));
             }
         }
         self.pump(dump, part.connection, part.rounds)
@@ -181,7 +207,7 @@ impl Both {
         for part in parts {
             self.follow_part(dump, part)?;
         }
-        self.real.is_like(&self.slow)
+        check_like(self.real.as_ref(), &self.slow)
     }
 
     /// Does what the lines say as one list of events, up to the first that is not possible, of which it tells the
@@ -192,17 +218,36 @@ impl Both {
         lines: &[Line],
     ) -> Result<Option<usize>, Fail> {
         let mut events = Vec::new(self.alloc);
-        let mut stop = None;
-        for (at, line) in lines.iter().enumerate() {
-            let event = dump.event(*line, &self.slow);
-            events.push(event)?;
-            if !self.slow.make(&event)? {
-                stop = Some(at);
-                break;
-            }
-        }
-        self.real.makes(events.as_slice(), stop)?;
-        self.real.is_like(&self.slow)?;
+        let stop = follow_slow(&mut self.slow, dump, lines, &mut events);
+        self.follow_real(events.as_slice(), stop?)
+    }
+
+    /// The world has to do what the plain one did.
+    fn follow_real(
+        &mut self,
+        events: &[Event<'_>],
+        stop: Option<usize>,
+    ) -> Result<Option<usize>, Fail> {
+        make(self.real.as_mut(), events, stop)?;
+        check_like(self.real.as_ref(), &self.slow)?;
         Ok(stop)
     }
+}
+
+/// Does in the plain world what the lines say, and appends the events, up to the first that is not possible, of which it
+/// tells the place.
+fn follow_slow<'a>(
+    slow: &mut SlowWorld,
+    dump: &'a Dump,
+    lines: &[Line],
+    events: &mut Vec<Event<'a>>,
+) -> Result<Option<usize>, AllocError> {
+    for (at, line) in lines.iter().enumerate() {
+        let event = dump.event(*line, slow);
+        events.push(event)?;
+        if !slow.make(&event)? {
+            return Ok(Some(at));
+        }
+    }
+    Ok(None)
 }

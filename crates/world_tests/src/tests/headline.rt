@@ -1,8 +1,7 @@
 //! What is promised of reels that were counted, and of dumpdates.
 
-use super::slow::{Entries, SlowClient, SlowCount, SlowWorld};
-use std::alloc::Global;
-use std::test::Fail;
+use super::slow::{Entries, SlowCount, SlowRun, SlowWorld};
+use std::alloc::{AllocError, Global};
 
 /// The record at this place is these bytes.
 fn is_record(entries: &Entries, place: usize, bytes: &[u8]) -> bool {
@@ -12,28 +11,38 @@ fn is_record(entries: &Entries, place: usize, bytes: &[u8]) -> bool {
     }
 }
 
-/// The entries are the label, the blocks and the mark of that volume, and nothing else.
-fn is_volume(
-    alloc: Global,
-    client: &SlowClient,
+/// Behind the label, the entries are the blocks and the mark of that volume, and nothing else. The record is scratch.
+fn has_blocks(
+    record: &mut Vec<u8>,
+    run: &SlowRun,
     count: &SlowCount,
     entries: &Entries,
-) -> Result<bool, Fail> {
-    let mut record = Vec::new(alloc);
-    client.push_label(&mut record, count.volume, count.first)?;
-    let mut is_so = is_record(entries, 0, record.as_slice());
-    for place in 0..count.count {
+) -> Result<bool, AllocError> {
+    let mut next = 1usize;
+    for block in count.first..count.first.saturating_add(count.count) {
         record.clear();
-        client.push_block(&mut record, count.first.saturating_add(place))?;
-        is_so = is_so
-            && is_record(
-                entries,
-                (place as usize).saturating_add(1),
-                record.as_slice(),
-            );
+        run.push_block(record, block)?;
+        if !is_record(entries, next, record.as_slice()) {
+            return Ok(false);
+        }
+        next = next.saturating_add(1);
     }
-    let mark = (count.count as usize).saturating_add(1);
-    Ok(is_so && matches!(entries.get(mark), Some(None)) && entries.len() == mark.saturating_add(1))
+    Ok(matches!(entries.get(next), Some(None)) && entries.len() == next.saturating_add(1))
+}
+
+/// The entries are the label, the blocks and the mark of that volume, and nothing else. The record is scratch.
+fn is_volume(
+    record: &mut Vec<u8>,
+    run: &SlowRun,
+    count: &SlowCount,
+    entries: &Entries,
+) -> Result<bool, AllocError> {
+    record.clear();
+    run.push_label(record, count.volume, count.first)?;
+    if !is_record(entries, 0, record.as_slice()) {
+        return Ok(false);
+    }
+    has_blocks(record, run, count, entries)
 }
 
 /// The reel was not opened for writing behind the open of the count's own connection.
@@ -47,38 +56,40 @@ fn is_quiet(slow: &SlowWorld, count: &SlowCount) -> bool {
     is_own
 }
 
-/// The client of the run of this number, from 1, as it began.
-fn begun(slow: &SlowWorld, run: usize) -> Option<&SlowClient> {
-    slow.begun.get(run.checked_sub(1)?)
+/// The reel that was counted holds its volume and nothing else, if it was not opened for writing since. The record is
+/// scratch.
+fn is_whole(record: &mut Vec<u8>, slow: &SlowWorld, count: &SlowCount) -> Result<bool, AllocError> {
+    if !is_quiet(slow, count) {
+        return Ok(true);
+    }
+    match (slow.runs.get(count.run), slow.shop.reels.get(count.reel)) {
+        (Some(run), Some(reel)) => is_volume(record, run, count, &reel.entries),
+        _ => Ok(false),
+    }
 }
 
-/// Each reel that was counted, and not opened for writing since, holds its volume and nothing else. It tells how many
-/// there are, or None where one does not.
-pub(crate) fn whole_reels(alloc: Global, slow: &SlowWorld) -> Result<Option<usize>, Fail> {
-    let mut whole = 0usize;
+/// Each reel that was counted, and not opened for writing since, holds its volume and nothing else.
+pub(crate) fn has_whole_reels(alloc: Global, slow: &SlowWorld) -> Result<bool, AllocError> {
+    let mut record = Vec::new(alloc);
+    are_whole(&mut record, slow)
+}
+
+/// The same, where the record is scratch.
+fn are_whole(record: &mut Vec<u8>, slow: &SlowWorld) -> Result<bool, AllocError> {
     for count in &slow.counts {
-        let reel = slow.shop.reels.get(count.reel);
-        let (Some(client), Some(reel)) = (begun(slow, count.run), reel) else {
-            return Ok(None);
-        };
-        if is_quiet(slow, count) {
-            if !is_volume(alloc, client, count, &reel.entries)? {
-                return Ok(None);
-            }
-            whole = whole.saturating_add(1);
+        if !is_whole(record, slow, count)? {
+            return Ok(false);
         }
     }
-    Ok(Some(whole))
+    Ok(true)
 }
 
 /// The volumes that were counted of each run that was entered are all its blocks, in order.
 pub(crate) fn covers_entered(slow: &SlowWorld) -> bool {
     for run in &slow.entered {
-        let Some(client) = begun(slow, *run) else {
-            return false;
-        };
-        if next_of(slow, *run) != Some(client.run.blocks()) {
-            return false;
+        match slow.runs.get(*run) {
+            Some(begun) if next_of(slow, *run) == Some(begun.run.blocks()) => {}
+            _ => return false,
         }
     }
     true

@@ -1,21 +1,21 @@
 //! Every list of up to three events, from several places in a dump.
 
 use super::fixture::{Both, Dump, Line, Part};
-use super::slow::Plan;
 use dump_client::Answer;
 use std::alloc::Global;
 use std::process::Abort;
 use std::test::Fail;
 use tape::Trouble;
+use tape_world::DriveSpec;
 
 /// Two drives. A reel has room for a label, two blocks of 3 bytes, and a mark.
-pub(crate) static PLANS: [Plan; 2] = [
-    Plan {
+pub(crate) static DRIVES: [DriveSpec<'static>; 2] = [
+    DriveSpec {
         name: b"/dev/st0",
         capacity: 1058,
         reels: &[b"r1", b"r2"],
     },
-    Plan {
+    DriveSpec {
         name: b"/dev/st1",
         capacity: 1058,
         reels: &[b"r3"],
@@ -222,8 +222,8 @@ fn letter(place: &Place, number: usize) -> Line {
 /// Follows three letters, of which the number has one digit each, from that place on. It tells how many numbers from
 /// this one on begin with the same events up to one that is not possible.
 fn follow(alloc: Global, dump: &Dump, place: &Place, list: usize) -> Result<usize, Fail> {
-    let mut both = Both::new(alloc, &PLANS, false)?;
-    follow_in(&mut both, dump, place, list)
+    let mut both = Both::new(alloc, &DRIVES, false)?;
+    follow_in(both.as_mut(), dump, place, list)
 }
 
 /// The same in a new world.

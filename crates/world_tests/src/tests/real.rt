@@ -1,61 +1,43 @@
 //! The world that is tested.
 
 use super::same::difference;
-use super::slow::{Plan, SlowWorld};
+use super::slow::SlowWorld;
 use std::alloc::Global;
+use std::boxed::Box;
 use std::test::Fail;
 use tape_world::{DriveSpec, Event, World, WorldFault, good_drives, run};
 
-/// A world that has to do what the plain one does.
-#[derive(Drop)]
-pub(crate) struct Real {
-    world: World,
+/// A new world of these drives. It is boxed so that it is dropped by one call, wherever that is.
+pub(crate) fn new_world(alloc: Global, drives: &[DriveSpec<'_>]) -> Result<Box<World>, Fail> {
+    if !good_drives(drives) {
+        return Err(Fail::new("not the drives of a world"));
+    }
+    Ok(Box::new(alloc, World::new(alloc, drives)?)?)
 }
 
-impl Real {
-    /// A new world of these drives.
-    pub(crate) fn new(alloc: Global, plans: &[Plan]) -> Result<Real, Fail> {
-        let mut drives = Vec::new(alloc);
-        for plan in plans {
-            drives.push(DriveSpec {
-                name: plan.name,
-                capacity: plan.capacity,
-                reels: plan.reels,
-            })?;
-        }
-        if !good_drives(drives.as_slice()) {
-            return Err(Fail::new("not the drives of a world"));
-        }
-        Ok(Real {
-            world: World::new(alloc, drives.as_slice())?,
-        })
+/// Makes these events, of which the one at that place, if there is one, is not possible.
+pub(crate) fn make(
+    world: &mut World,
+    events: &[Event<'_>],
+    stop: Option<usize>,
+) -> Result<(), Fail> {
+    let wanted = match stop {
+        Some(place) => Err(WorldFault::NotPossible(place)),
+        None => Ok(()),
+    };
+    let made = run(world, events);
+    if made != wanted {
+        return Err(Fail::new(format_args!("{made:?} in place of {wanted:?}")));
     }
+    Ok(())
+}
 
-    /// Makes these events, of which the one at that place, if there is one, is not possible.
-    pub(crate) fn makes(&mut self, events: &[Event<'_>], stop: Option<usize>) -> Result<(), Fail> {
-        let wanted = match stop {
-            Some(place) => Err(WorldFault::NotPossible(place)),
-            None => Ok(()),
-        };
-        let made = run(&mut self.world, events);
-        if made != wanted {
-            return Err(Fail::new(format_args!("{made:?} in place of {wanted:?}")));
-        }
+/// The world has to be as the plain one.
+pub(crate) fn check_like(world: &World, slow: &SlowWorld) -> Result<(), Fail> {
+    let part = difference(world, slow);
+    if part.is_empty() {
         Ok(())
-    }
-
-    /// It has to be as the plain one.
-    pub(crate) fn is_like(&self, slow: &SlowWorld) -> Result<(), Fail> {
-        let part = difference(&self.world, slow);
-        if !part.is_empty() {
-            return Err(Fail::new(part));
-        }
-        Ok(())
-    }
-
-    /// This is the text of its dumpdates.
-    pub(crate) fn has_dates(&self, text: &[u8]) -> Result<bool, Fail> {
-        let told = self.world.dates().text()?;
-        Ok(told.as_slice() == text)
+    } else {
+        Err(Fail::new(part))
     }
 }

@@ -1,9 +1,10 @@
 //! Whether a world tells what the plain one has.
 
-use super::slow::{Entries, SlowClient, SlowWorld};
+use super::slow::{Entries, SlowClient, SlowCount, SlowWorld};
 use drives::ListedReel;
-use dump_client::{Client, ListBlocks, State};
-use tape_world::World;
+use dump_client::{Client, ListBlocks, Run, State};
+use dumpdates::Entry;
+use tape_world::{CountTold, World};
 
 /// What of them differs first, or nothing.
 pub(crate) fn difference(real: &World, slow: &SlowWorld) -> &'static str {
@@ -53,25 +54,27 @@ fn has_links(real: &World, slow: &SlowWorld) -> bool {
     true
 }
 
-/// The client stands so, and tells its entry exactly when it is finished.
-fn is_client(real: &Client<ListBlocks>, slow: &SlowClient) -> bool {
-    let run = &slow.run;
-    let is_told = match real.finished() {
-        Some(entry) => {
-            slow.state == State::Finished
-                && (entry.name, entry.level, entry.date) == (run.name(), run.level(), run.date())
-        }
+/// The client tells the entry of its run exactly when it is finished.
+fn tells_entry(real: &Client<ListBlocks>, slow: &SlowClient, run: &Run) -> bool {
+    match real.finished() {
+        Some(entry) => slow.state == State::Finished && is_entry(&entry, run),
         None => slow.state != State::Finished,
-    };
-    is_told
-        && real.state() == slow.state
+    }
+}
+
+/// The client stands so.
+fn is_client(real: &Client<ListBlocks>, slow: &SlowClient) -> bool {
+    real.state() == slow.state
         && real.checkpoint() == slow.checkpoint()
         && real.counted() == slow.counts.as_slice()
 }
 
 fn has_client(real: &World, slow: &SlowWorld) -> bool {
     match (real.client(), &slow.client) {
-        (Some(real), Some(slow)) => is_client(real, slow),
+        (Some(real), Some(client)) => match slow.runs.get(client.run) {
+            Some(begun) => is_client(real, client) && tells_entry(real, client, &begun.run),
+            None => false,
+        },
         (None, None) => true,
         _ => false,
     }
@@ -98,21 +101,26 @@ fn has_stacks(real: &World, slow: &SlowWorld) -> bool {
     real.stack(b"/dev/st9").is_none()
 }
 
+/// The entry at this place of the reel of that name is this one, where a mark has no bytes.
+fn has_entry(real: &World, name: &[u8], place: usize, wanted: &[u8]) -> bool {
+    let mut bytes = [0u8; 1100];
+    let told = real.entry(name, place, &mut bytes);
+    let fits = wanted.len().min(bytes.len());
+    told == Some(wanted.len()) && bytes.get(..fits) == wanted.get(..fits)
+}
+
 /// The reel of that name has these entries, and none past the last.
 fn has_entries(real: &World, name: &[u8], entries: &Entries) -> bool {
-    let mut bytes = [0u8; 1100];
     for (place, entry) in entries.iter().enumerate() {
         let wanted = match entry {
             Some(bytes) => bytes.as_slice(),
             None => &[],
         };
-        let told = real.entry(name, place, &mut bytes);
-        let fits = wanted.len().min(bytes.len());
-        if told != Some(wanted.len()) || bytes.get(..fits) != wanted.get(..fits) {
+        if !has_entry(real, name, place, wanted) {
             return false;
         }
     }
-    real.entry(name, entries.len(), &mut bytes).is_none()
+    real.entry(name, entries.len(), &mut []).is_none()
 }
 
 fn has_reels(real: &World, slow: &SlowWorld) -> bool {
@@ -124,34 +132,39 @@ fn has_reels(real: &World, slow: &SlowWorld) -> bool {
     real.entry(b"none", 0, &mut []).is_none()
 }
 
+/// The count as a world tells it, which numbers runs from 1.
+fn told_of(slow: &SlowWorld, count: &SlowCount) -> Option<CountTold<'static>> {
+    Some(CountTold {
+        run: count.run.saturating_add(1),
+        volume: count.volume,
+        first: count.first,
+        count: count.count,
+        reel: slow.shop.reel_name(count.reel)?,
+        connection: count.connection,
+    })
+}
+
 fn has_counts(real: &World, slow: &SlowWorld) -> bool {
     let told = real.counts();
     for (place, count) in slow.counts.iter().enumerate() {
-        let Some(one) = told.get(place) else {
-            return false;
-        };
-        let is_one = one.run == count.run
-            && (one.volume, one.first, one.count) == (count.volume, count.first, count.count)
-            && one.connection == count.connection
-            && slow.shop.reel_name(count.reel) == Some(one.reel);
-        if !is_one {
+        if told.get(place) != told_of(slow, count) {
             return false;
         }
     }
     told.len() == slow.counts.len()
 }
 
+/// The entry is that of this run.
+fn is_entry(entry: &Entry<'_>, run: &Run) -> bool {
+    entry.name == run.name() && entry.level == run.level() && entry.date == run.date()
+}
+
 fn has_dates(real: &World, slow: &SlowWorld) -> bool {
     let told = real.dates();
-    for (place, date) in slow.dates.iter().enumerate() {
-        let Some(entry) = told.get(place) else {
-            return false;
-        };
-        let is_one = entry.name.as_bytes() == date.name.as_slice()
-            && entry.level == date.level
-            && entry.date == date.date;
-        if !is_one {
-            return false;
+    for (place, run) in slow.dates.iter().enumerate() {
+        match (told.get(place), slow.runs.get(*run)) {
+            (Some(entry), Some(begun)) if is_entry(&entry, &begun.run) => {}
+            _ => return false,
         }
     }
     told.len() == slow.dates.len()

@@ -1,11 +1,13 @@
 //! Lists of events with what they come to, written by hand, and each volume that was counted.
 
 use super::fixture::{Both, Dump, Line, Part};
-use super::slow::{Plan, SlowWorld};
+use super::slow::SlowWorld;
 use dump_client::{Answer, AttemptFault};
 use std::alloc::Global;
+use std::process::Abort;
 use std::test::Fail;
 use tape::Trouble;
+use tape_world::DriveSpec;
 
 /// A list of events behind the start of a run, if one has so many blocks, and what they come to. Of reels the lengths
 /// of their entries are told, 0 for a mark.
@@ -348,7 +350,7 @@ fn has_all_lengths(slow: &SlowWorld, wanted: &[&[usize]]) -> bool {
 fn has_counts(slow: &SlowWorld, wanted: &[(usize, u32, u32, u32, usize)]) -> bool {
     for (count, wanted) in slow.counts.iter().zip(wanted) {
         if (
-            count.run,
+            count.run.saturating_add(1),
             count.volume,
             count.first,
             count.count,
@@ -361,20 +363,23 @@ fn has_counts(slow: &SlowWorld, wanted: &[(usize, u32, u32, u32, usize)]) -> boo
     slow.counts.len() == wanted.len()
 }
 
+/// Reels, stacks, the bin and counts are as the schedule has them.
+fn has_all(slow: &SlowWorld, schedule: &Schedule) -> bool {
+    let stack = match slow.shop.drives.first() {
+        Some(drive) => drive.stack.as_slice(),
+        None => return false,
+    };
+    stack == schedule.stack
+        && slow.shop.bin.as_slice() == schedule.bin
+        && has_all_lengths(slow, schedule.entries)
+        && has_counts(slow, schedule.counts)
+}
+
 /// All is as the schedule has it.
 fn is_met(both: &Both, schedule: &Schedule) -> Result<bool, Fail> {
-    let Some(drive) = both.slow.shop.drives.first() else {
-        return Ok(false);
-    };
-    let has_dates = both.real.has_dates(schedule.dates)?;
-    Ok(
-        both.failures.as_slice() == schedule.failures
-            && has_all_lengths(&both.slow, schedule.entries)
-            && drive.stack.as_slice() == schedule.stack
-            && both.slow.shop.bin.as_slice() == schedule.bin
-            && has_counts(&both.slow, schedule.counts)
-            && has_dates,
-    )
+    let is_failed = both.failures.as_slice() == schedule.failures;
+    let dates = both.real.as_ref().dates().text()?;
+    Ok(dates.as_slice() == schedule.dates && is_failed && has_all(&both.slow, schedule))
 }
 
 /// Follows the schedule in both worlds. Whether they come to what was written.
@@ -388,20 +393,25 @@ fn follow(both: &mut Both, dump: &Dump, schedule: &Schedule) -> Result<bool, Fai
 
 /// Whether the schedule comes to what was written, in both worlds.
 fn comes_to(alloc: Global, schedule: &Schedule) -> Result<bool, Fail> {
-    let plan = Plan {
+    let drive = DriveSpec {
         name: b"/dev/st0",
         capacity: schedule.capacity,
         reels: schedule.reels,
     };
     let dump = Dump::new(alloc, 0, 1024, schedule.blocks.unwrap_or(0))?;
-    let mut both = Both::new(alloc, &[plan], true)?;
-    follow(&mut both, &dump, schedule)
+    let mut both = Both::new(alloc, &[drive], true)?;
+    follow(both.as_mut(), &dump, schedule)
+}
+
+/// Checks these schedules, each in a world of its own.
+fn check_all(rt: &impl Abort, alloc: Global, schedules: &[Schedule]) -> Result<(), Fail> {
+    for (at, schedule) in schedules.iter().enumerate() {
+        assert!(rt; comes_to(alloc, schedule)?, "schedule {at}");
+    }
+    Ok(())
 }
 
 #[test]
 fn schedules_come_to_what_was_written_by_hand(rt: HostRuntime) -> Result<(), Fail> {
-    for (at, schedule) in SCHEDULES.iter().enumerate() {
-        assert!(rt; comes_to(rt.alloc(), schedule)?, "schedule {at}");
-    }
-    Ok(())
+    check_all(&rt, rt.alloc(), &SCHEDULES)
 }

@@ -6,24 +6,17 @@ mod at_drives;
 mod at_server;
 mod client;
 mod reel;
+mod run;
 mod shop;
 
 pub(crate) use client::SlowClient;
 use dump_client::AttemptFault;
 pub(crate) use reel::Entries;
 use rmt_wire::RequestReader;
+pub(crate) use run::SlowRun;
 pub(crate) use shop::{Opened, SlowShop};
 use std::alloc::{AllocError, Global};
-use std::test::Fail;
 use tape_world::Event;
-
-/// A drive to begin with: its name, the capacity of its reels, and their names.
-#[derive(Clone, Copy)]
-pub(crate) struct Plan {
-    pub(crate) name: &'static [u8],
-    pub(crate) capacity: u64,
-    pub(crate) reels: &'static [&'static [u8]],
-}
 
 /// The server's side of a connection, while it is live: what reached it, and what its session has open.
 #[derive(Drop)]
@@ -44,7 +37,7 @@ pub(crate) struct SlowLink {
     pub(crate) side: Option<SlowSide>,
 }
 
-/// A volume that was counted. Its reel is told by its place among all.
+/// A volume that was counted. Its run and its reel are told by their places among all.
 #[derive(Clone, Copy)]
 pub(crate) struct SlowCount {
     pub(crate) run: usize,
@@ -55,16 +48,8 @@ pub(crate) struct SlowCount {
     pub(crate) connection: usize,
 }
 
-/// An entry of dumpdates.
-#[derive(Drop)]
-pub(crate) struct SlowEntry {
-    pub(crate) name: Vec<u8>,
-    pub(crate) level: u8,
-    pub(crate) date: u64,
-}
-
-/// Connections, runs, counts, opens and entered runs stand in the order in which they came. Of each run that was begun
-/// a client is kept as it began, and an open for writing is told by its connection and the place of its reel.
+/// Connections, runs, counts, opens and entered runs stand in the order in which they came. An open for writing is told by
+/// its connection and the place of its reel, and an entry of dumpdates by the place of its run.
 #[derive(Drop)]
 pub(crate) struct SlowWorld {
     alloc: Global,
@@ -72,34 +57,41 @@ pub(crate) struct SlowWorld {
     pub(crate) links: Vec<SlowLink>,
     pub(crate) client: Option<SlowClient>,
     pub(crate) own: Option<usize>,
-    pub(crate) begun: Vec<SlowClient>,
+    pub(crate) runs: Vec<SlowRun>,
     pub(crate) counts: Vec<SlowCount>,
     pub(crate) opens: Vec<(usize, usize)>,
     pub(crate) entered: Vec<usize>,
     pub(crate) failure: Option<(u32, AttemptFault)>,
-    pub(crate) dates: Vec<SlowEntry>,
+    pub(crate) dates: Vec<usize>,
+}
+
+/// So many bytes are gone from the front.
+fn drop_front(bytes: &mut Vec<u8>, count: usize) -> Result<(), AllocError> {
+    let rest = bytes.as_slice().get(count..).unwrap_or(&[]);
+    *bytes = Vec::from_slice(*bytes.allocator(), rest)?;
+    Ok(())
 }
 
 impl SlowWorld {
-    /// Nothing has happened.
-    pub(crate) fn new(alloc: Global, plans: &[Plan]) -> Result<SlowWorld, AllocError> {
-        Ok(SlowWorld {
+    /// Nothing has happened, and there are no drives yet.
+    pub(crate) fn new(alloc: Global) -> SlowWorld {
+        SlowWorld {
             alloc,
-            shop: SlowShop::new(alloc, plans)?,
+            shop: SlowShop::new(alloc),
             links: Vec::new(alloc),
             client: None,
             own: None,
-            begun: Vec::new(alloc),
+            runs: Vec::new(alloc),
             counts: Vec::new(alloc),
             opens: Vec::new(alloc),
             entered: Vec::new(alloc),
             failure: None,
             dates: Vec::new(alloc),
-        })
+        }
     }
 
     /// Makes the event. False where it is not possible; nothing has changed then.
-    pub(crate) fn make(&mut self, event: &Event<'_>) -> Result<bool, Fail> {
+    pub(crate) fn make(&mut self, event: &Event<'_>) -> Result<bool, AllocError> {
         let before = self.failure.take();
         let made = self.make_row(event)?;
         if !made {
@@ -108,7 +100,7 @@ impl SlowWorld {
         Ok(made)
     }
 
-    fn make_row(&mut self, event: &Event<'_>) -> Result<bool, Fail> {
+    fn make_row(&mut self, event: &Event<'_>) -> Result<bool, AllocError> {
         match *event {
             Event::StartRun { run, payload } => self.start_run(run, payload),
             Event::Connect => self.connect(),

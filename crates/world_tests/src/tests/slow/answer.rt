@@ -2,11 +2,10 @@
 
 use std::alloc::AllocError;
 
-/// What a request is answered.
-#[derive(Drop)]
+/// What a request is answered. Behind a number come the bytes of a record, if the request read one.
+#[derive(Clone, Copy)]
 pub(crate) enum Answer {
     Number(u32),
-    Bytes(Vec<u8>),
     /// The number that errno has for it.
     Error(u32),
 }
@@ -35,35 +34,32 @@ pub(crate) fn push_line(out: &mut Vec<u8>, word: &[u8], number: u64) -> Result<(
 }
 
 impl Answer {
-    /// Appends its spelling.
-    pub(crate) fn push_onto(&self, out: &mut Vec<u8>) -> Result<(), AllocError> {
+    /// Appends its spelling: a line, and the bytes that were read, or the line of the error.
+    pub(crate) fn push_onto(self, out: &mut Vec<u8>, read: &[u8]) -> Result<(), AllocError> {
         match self {
-            Answer::Number(number) => push_line(out, b"A", u64::from(*number)),
-            Answer::Bytes(bytes) => {
-                push_line(out, b"A", bytes.len() as u64)?;
-                out.extend_from_slice(bytes.as_slice())
+            Answer::Number(number) => {
+                push_line(out, b"A", u64::from(number))?;
+                out.extend_from_slice(read)
             }
             Answer::Error(number) => {
-                push_line(out, b"E", u64::from(*number))?;
-                out.extend_from_slice(error_text(*number))?;
-                out.push(b'\n')?;
-                Ok(())
+                push_line(out, b"E", u64::from(number))?;
+                out.extend_from_slice(error_text(number))
             }
         }
     }
 }
 
-/// The text that is sent beside an error's number.
+/// The line that is sent behind an error's number.
 fn error_text(number: u32) -> &'static [u8] {
     match number {
-        2 => b"No such file or directory",
-        5 => b"Input/output error",
-        6 => b"Device not configured",
-        9 => b"Bad file descriptor",
-        13 => b"Permission denied",
-        16 => b"Device busy",
-        22 => b"Invalid argument",
-        28 => b"No space left on device",
-        _ => b"an error that drives in memory do not answer",
+        2 => b"No such file or directory\n",
+        5 => b"Input/output error\n",
+        6 => b"Device not configured\n",
+        9 => b"Bad file descriptor\n",
+        13 => b"Permission denied\n",
+        16 => b"Device busy\n",
+        22 => b"Invalid argument\n",
+        28 => b"No space left on device\n",
+        _ => b"an error that drives in memory do not answer\n",
     }
 }

@@ -1,9 +1,10 @@
 //! What happens at the client's side.
 
 use super::client::Step;
-use super::{SlowClient, SlowCount, SlowEntry, SlowWorld};
+use super::run::SlowRun;
+use super::{SlowClient, SlowCount, SlowWorld};
 use dump_client::{Answer, AttemptFault, Progress, Run, State};
-use std::test::Fail;
+use std::alloc::AllocError;
 
 impl SlowWorld {
     fn stands_in(&self, state: State) -> bool {
@@ -13,7 +14,7 @@ impl SlowWorld {
         }
     }
 
-    pub(crate) fn start_run(&mut self, run: &Run, payload: &[u8]) -> Result<bool, Fail> {
+    pub(crate) fn start_run(&mut self, run: &Run, payload: &[u8]) -> Result<bool, AllocError> {
         let is_free = self.client.is_none()
             || self.stands_in(State::Finished)
             || self.stands_in(State::Abandoned);
@@ -21,14 +22,17 @@ impl SlowWorld {
         if !is_free || payload.len() != size {
             return Ok(false);
         }
-        let number = self.begun.len().saturating_add(1);
-        self.begun
-            .push(SlowClient::new(self.alloc, number, run, payload)?)?;
-        self.client = Some(SlowClient::new(self.alloc, number, run, payload)?);
+        self.begin(run, payload)
+    }
+
+    fn begin(&mut self, run: &Run, payload: &[u8]) -> Result<bool, AllocError> {
+        let place = self.runs.len();
+        self.runs.push(SlowRun::new(self.alloc, run, payload)?)?;
+        self.client = Some(SlowClient::new(self.alloc, place, run));
         Ok(true)
     }
 
-    pub(crate) fn connect(&mut self) -> Result<bool, Fail> {
+    pub(crate) fn connect(&mut self) -> Result<bool, AllocError> {
         if !self.stands_in(State::Ready) {
             return Ok(false);
         }
@@ -40,9 +44,8 @@ impl SlowWorld {
         Ok(true)
     }
 
-    pub(crate) fn send(&mut self, fails: bool) -> Result<bool, Fail> {
-        let alloc = self.alloc;
-        let (Some(client), Some(own)) = (&mut self.client, self.own) else {
+    pub(crate) fn send(&mut self, fails: bool) -> Result<bool, AllocError> {
+        let Some(client) = &mut self.client else {
             return Ok(false);
         };
         if client.state != State::ToSend {
@@ -53,32 +56,57 @@ impl SlowWorld {
             self.come_to(progress);
             return Ok(true);
         }
-        let text = client.request(alloc)?;
         client.state = State::Waiting;
-        if let Some(link) = self.link_mut(own) {
+        let mut text = Vec::new(self.alloc);
+        self.send_request(&mut text)
+    }
+
+    /// The client's next request is on the way. Its text is appended.
+    fn send_request(&mut self, text: &mut Vec<u8>) -> Result<bool, AllocError> {
+        self.push_request(text)?;
+        if let Some(own) = self.own
+            && let Some(link) = self.link_mut(own)
+        {
             link.send(text.as_slice())?;
         }
         Ok(true)
     }
 
-    pub(crate) fn to_client(&mut self, connection: usize, count: usize) -> Result<bool, Fail> {
-        let alloc = self.alloc;
+    /// Appends the client's next request.
+    fn push_request(&self, text: &mut Vec<u8>) -> Result<(), AllocError> {
+        if let Some(client) = &self.client
+            && let Some(run) = self.runs.get(client.run)
+        {
+            client.push_request(run, text)?;
+        }
+        Ok(())
+    }
+
+    pub(crate) fn to_client(
+        &mut self,
+        connection: usize,
+        count: usize,
+    ) -> Result<bool, AllocError> {
+        let mut piece = Vec::new(self.alloc);
+        self.bring_back(connection, count, &mut piece)
+    }
+
+    /// The same, with room for the bytes.
+    fn bring_back(
+        &mut self,
+        connection: usize,
+        count: usize,
+        piece: &mut Vec<u8>,
+    ) -> Result<bool, AllocError> {
         let Some(link) = self.link_mut(connection) else {
             return Ok(false);
         };
-        let Some(piece) = link.back.as_slice().get(..count) else {
-            return Ok(false);
-        };
-        if count == 0 || !link.other {
-            return Ok(false);
-        }
-        let piece = Vec::from_slice(alloc, piece)?;
-        let rest = Vec::from_slice(alloc, link.back.as_slice().get(count..).unwrap_or(&[]))?;
-        link.back = rest;
-        if link.is_client {
+        let is_client = link.is_client;
+        let is_possible = link.take_back(count, piece)?;
+        if is_possible && is_client {
             self.hear(connection, piece.as_slice())?;
         }
-        Ok(true)
+        Ok(is_possible)
     }
 
     /// The place of the reel that the connection opened for writing, or 0.
@@ -92,25 +120,34 @@ impl SlowWorld {
     }
 
     /// The client hears this on its connection.
-    fn hear(&mut self, connection: usize, piece: &[u8]) -> Result<(), Fail> {
-        let reel = self.reel_of(connection);
+    fn hear(&mut self, connection: usize, piece: &[u8]) -> Result<(), AllocError> {
         let Some(client) = &mut self.client else {
             return Ok(());
         };
         let before = client.counts.len();
         let progress = client.hear(piece)?;
-        if let Some(last) = client.counts.get(before) {
-            let count = SlowCount {
-                run: client.number,
+        if client.counts.len() > before {
+            self.count(connection)?;
+        }
+        self.come_to(progress);
+        Ok(())
+    }
+
+    /// The client's last volume is counted, on its connection.
+    fn count(&mut self, connection: usize) -> Result<(), AllocError> {
+        let reel = self.reel_of(connection);
+        if let Some(client) = &self.client
+            && let Some(last) = client.counts.last()
+        {
+            self.counts.push(SlowCount {
+                run: client.run,
                 volume: last.volume,
                 first: last.first,
                 count: last.count,
                 reel,
                 connection,
-            };
-            self.counts.push(count)?;
+            })?;
         }
-        self.come_to(progress);
         Ok(())
     }
 
@@ -173,32 +210,48 @@ impl SlowWorld {
         }
     }
 
-    pub(crate) fn enter(&mut self) -> Result<bool, Fail> {
-        let Some(client) = &self.client else {
+    /// The place of the run that is finished.
+    fn finished(&self) -> Option<usize> {
+        match &self.client {
+            Some(client) if client.state == State::Finished => Some(client.run),
+            _ => None,
+        }
+    }
+
+    pub(crate) fn enter(&mut self) -> Result<bool, AllocError> {
+        let Some(run) = self.finished() else {
             return Ok(false);
         };
-        if client.state != State::Finished || self.entered.contains(&client.number) {
+        if self.entered.contains(&run) {
             return Ok(false);
         }
-        self.entered.push(client.number)?;
-        let entry = SlowEntry {
-            name: Vec::from_slice(self.alloc, client.run.name().as_bytes())?,
-            level: client.run.level(),
-            date: client.run.date(),
-        };
-        self.enter_date(entry)?;
+        self.entered.push(run)?;
+        let place = self.date_place(run);
+        match self.dates.get_mut(place) {
+            Some(date) => *date = run,
+            None => self.dates.push(run)?,
+        }
         Ok(true)
     }
 
-    /// The entry takes the place of the one of its name and level, of which there is one at most, or the last place.
-    fn enter_date(&mut self, entry: SlowEntry) -> Result<(), Fail> {
-        for other in &mut self.dates {
-            if other.level == entry.level && other.name.as_slice() == entry.name.as_slice() {
-                other.date = entry.date;
-                return Ok(());
+    /// The place in dumpdates of the entry of the name and level of this run, of which there is one at most, or the place
+    /// behind the last.
+    fn date_place(&self, run: usize) -> usize {
+        for (place, other) in self.dates.iter().enumerate() {
+            if self.is_same_dump(run, *other) {
+                return place;
             }
         }
-        self.dates.push(entry)?;
-        Ok(())
+        self.dates.len()
+    }
+
+    /// Runs of one name and level.
+    fn is_same_dump(&self, run: usize, other: usize) -> bool {
+        match (self.runs.get(run), self.runs.get(other)) {
+            (Some(one), Some(other)) => {
+                one.run.level() == other.run.level() && one.run.name() == other.run.name()
+            }
+            _ => false,
+        }
     }
 }

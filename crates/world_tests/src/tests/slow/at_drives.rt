@@ -1,65 +1,89 @@
 //! What the operator does at the drives.
 
+use super::shop::SlowDrive;
 use super::{SlowShop, SlowWorld};
-use std::alloc::Global;
-use std::test::Fail;
+use std::alloc::AllocError;
+use std::mem::swap;
+
+/// Appends those of these reels that are not laid.
+fn push_others(bin: &mut Vec<usize>, reels: &[usize], laid: &[usize]) -> Result<(), AllocError> {
+    for reel in reels {
+        if !laid.contains(reel) {
+            bin.push(*reel)?;
+        }
+    }
+    Ok(())
+}
 
 impl SlowShop {
-    /// The places of the reels of these names, if no connection holds the drive, the names are distinct, and each is
-    /// that of a reel on the stack of the drive or in the bin.
-    fn places(
+    /// The place of the reel of this name, if it is on the stack of the drive or in the bin.
+    fn find_near(&self, drive: &SlowDrive, name: &[u8]) -> Option<usize> {
+        let place = self.find_reel(name)?;
+        if drive.stack.contains(&place) || self.bin.contains(&place) {
+            Some(place)
+        } else {
+            None
+        }
+    }
+
+    /// Appends the places of the reels of these names. False if a connection holds the drive, two names are the same, or one
+    /// is of no reel on the stack of the drive or in the bin.
+    fn push_places(
         &self,
-        alloc: Global,
         drive: usize,
         names: &[&[u8]],
-    ) -> Result<Option<Vec<usize>>, Fail> {
+        places: &mut Vec<usize>,
+    ) -> Result<bool, AllocError> {
         let Some(drive) = self.drives.get(drive) else {
-            return Ok(None);
+            return Ok(false);
         };
-        if drive.holder != 0 {
-            return Ok(None);
-        }
-        let mut places = Vec::new(alloc);
         for name in names {
-            let Some(place) = self.find_reel(name) else {
-                return Ok(None);
-            };
-            let is_near = drive.stack.contains(&place) || self.bin.contains(&place);
-            if !is_near || places.contains(&place) {
-                return Ok(None);
+            match self.find_near(drive, name) {
+                Some(place) if !places.contains(&place) => places.push(place)?,
+                _ => return Ok(false),
             }
-            places.push(place)?;
         }
-        Ok(Some(places))
+        Ok(drive.holder == 0)
     }
 
     /// These reels are the stack. Of the old stack the others go to the bin's end.
-    fn lay(&mut self, alloc: Global, drive: usize, reels: Vec<usize>) -> Result<(), Fail> {
-        let Some(drive) = self.drives.get_mut(drive) else {
-            return Err(Fail::new("no such drive"));
-        };
-        let mut bin = Vec::new(alloc);
-        for reel in self.bin.iter().chain(drive.stack.iter()) {
-            if !reels.contains(reel) {
-                bin.push(*reel)?;
-            }
+    fn lay(
+        &mut self,
+        drive: usize,
+        reels: &mut Vec<usize>,
+        bin: &mut Vec<usize>,
+    ) -> Result<(), AllocError> {
+        if let Some(drive) = self.drives.get_mut(drive) {
+            push_others(bin, self.bin.as_slice(), reels.as_slice())?;
+            push_others(bin, drive.stack.as_slice(), reels.as_slice())?;
+            swap(&mut self.bin, bin);
+            swap(&mut drive.stack, reels);
         }
-        self.bin = bin;
-        drive.stack = reels;
         Ok(())
+    }
+
+    /// The reels of these names are the stack of the drive, if they can be. The lists are empty before.
+    fn arrange(
+        &mut self,
+        drive: &[u8],
+        names: &[&[u8]],
+        reels: &mut Vec<usize>,
+        bin: &mut Vec<usize>,
+    ) -> Result<bool, AllocError> {
+        let Some(place) = self.find_drive(drive) else {
+            return Ok(false);
+        };
+        let is_possible = self.push_places(place, names, reels)?;
+        if is_possible {
+            self.lay(place, reels, bin)?;
+        }
+        Ok(is_possible)
     }
 }
 
 impl SlowWorld {
-    pub(crate) fn arrange(&mut self, drive: &[u8], names: &[&[u8]]) -> Result<bool, Fail> {
-        let alloc = self.alloc;
-        let Some(place) = self.shop.find_drive(drive) else {
-            return Ok(false);
-        };
-        let Some(reels) = self.shop.places(alloc, place, names)? else {
-            return Ok(false);
-        };
-        self.shop.lay(alloc, place, reels)?;
-        Ok(true)
+    pub(crate) fn arrange(&mut self, drive: &[u8], names: &[&[u8]]) -> Result<bool, AllocError> {
+        let (mut reels, mut bin) = (Vec::new(self.alloc), Vec::new(self.alloc));
+        self.shop.arrange(drive, names, &mut reels, &mut bin)
     }
 }

@@ -1,18 +1,87 @@
 //! What happens at the server, and on connections.
 
-use super::answer::Answer;
-use super::{SlowLink, SlowSide, SlowWorld};
+use super::{SlowLink, SlowShop, SlowSide, SlowWorld, drop_front};
 use rmt_wire::{Request, RequestReader};
-use std::test::Fail;
+use std::alloc::AllocError;
 use tape::Trouble;
+
+/// What became of the turn of a connection.
+enum Turn {
+    /// No request is whole.
+    Nothing,
+    /// What comes next is no request.
+    Broken,
+    Answered,
+    /// The reel at this place was opened for writing.
+    Opened(usize),
+}
 
 impl SlowLink {
     /// Bytes are sent to the server. After a cut they are lost.
-    pub(crate) fn send(&mut self, bytes: &[u8]) -> Result<(), Fail> {
+    pub(crate) fn send(&mut self, bytes: &[u8]) -> Result<(), AllocError> {
         if !self.cut {
             self.toward.extend_from_slice(bytes)?;
         }
         Ok(())
+    }
+
+    /// So many bytes reach the server. False where there are not as many, or no room for them.
+    fn bring(&mut self, count: usize) -> Result<bool, AllocError> {
+        let Some(side) = &mut self.side else {
+            return Ok(false);
+        };
+        let Some(piece) = self.toward.as_slice().get(..count) else {
+            return Ok(false);
+        };
+        if count == 0 || count > side.reader.room() {
+            return Ok(false);
+        }
+        side.reader.push(piece);
+        drop_front(&mut self.toward, count)?;
+        Ok(true)
+    }
+
+    /// So many bytes reach the other side, and are appended. False where there are not as many, or it is over.
+    pub(crate) fn take_back(
+        &mut self,
+        count: usize,
+        piece: &mut Vec<u8>,
+    ) -> Result<bool, AllocError> {
+        if count == 0 || count > self.back.len() || !self.other {
+            return Ok(false);
+        }
+        piece.extend_from_slice(self.back.as_slice().get(..count).unwrap_or(&[]))?;
+        drop_front(&mut self.back, count)?;
+        Ok(true)
+    }
+
+    /// The answer to the next request is on the way back. After a cut it is lost. Bytes that are read are appended to the
+    /// last argument too.
+    fn serve(
+        &mut self,
+        shop: &mut SlowShop,
+        connection: usize,
+        trouble: Trouble,
+        read: &mut Vec<u8>,
+    ) -> Result<Turn, AllocError> {
+        let Some(side) = &mut self.side else {
+            return Ok(Turn::Nothing);
+        };
+        let request = match side.reader.next() {
+            Ok(Some(request)) => request,
+            Ok(None) => return Ok(Turn::Nothing),
+            Err(_) => return Ok(Turn::Broken),
+        };
+        let is_open = matches!(request, Request::Open { .. });
+        let (answer, opened) = shop.answer(connection, side.opened, request, trouble, read)?;
+        side.opened = opened;
+        if !self.cut {
+            answer.push_onto(&mut self.back, read.as_slice())?;
+        }
+        Ok(match opened {
+            Some(opened) if is_open && opened.access > 0 => Turn::Opened(opened.reel),
+            _ => Turn::Answered,
+        })
     }
 
     /// The other side is over.
@@ -25,15 +94,14 @@ impl SlowLink {
 
 impl SlowWorld {
     /// A new connection, whose other side is the client, or a stranger.
-    pub(crate) fn join(&mut self, is_client: bool) -> Result<(), Fail> {
-        let alloc = self.alloc;
+    pub(crate) fn join(&mut self, is_client: bool) -> Result<(), AllocError> {
         let side = SlowSide {
-            reader: RequestReader::new(alloc)?,
+            reader: RequestReader::new(self.alloc)?,
             opened: None,
         };
         self.links.push(SlowLink {
-            toward: Vec::new(alloc),
-            back: Vec::new(alloc),
+            toward: Vec::new(self.alloc),
+            back: Vec::new(self.alloc),
             cut: false,
             other: true,
             is_client,
@@ -42,12 +110,12 @@ impl SlowWorld {
         Ok(())
     }
 
-    pub(crate) fn stranger(&mut self) -> Result<bool, Fail> {
+    pub(crate) fn stranger(&mut self) -> Result<bool, AllocError> {
         self.join(false)?;
         Ok(true)
     }
 
-    pub(crate) fn says(&mut self, connection: usize, bytes: &[u8]) -> Result<bool, Fail> {
+    pub(crate) fn says(&mut self, connection: usize, bytes: &[u8]) -> Result<bool, AllocError> {
         let Some(link) = self.link_mut(connection) else {
             return Ok(false);
         };
@@ -58,59 +126,44 @@ impl SlowWorld {
         Ok(true)
     }
 
-    pub(crate) fn to_server(&mut self, connection: usize, count: usize) -> Result<bool, Fail> {
-        let alloc = self.alloc;
-        let Some(link) = self.link_mut(connection) else {
-            return Ok(false);
-        };
-        let (Some(side), Some(piece)) = (&mut link.side, link.toward.as_slice().get(..count)) else {
-            return Ok(false);
-        };
-        if count == 0 || count > side.reader.room() {
-            return Ok(false);
+    pub(crate) fn to_server(
+        &mut self,
+        connection: usize,
+        count: usize,
+    ) -> Result<bool, AllocError> {
+        match self.link_mut(connection) {
+            Some(link) => link.bring(count),
+            None => Ok(false),
         }
-        side.reader.push(piece);
-        let rest = link.toward.as_slice().get(count..).unwrap_or(&[]);
-        link.toward = Vec::from_slice(alloc, rest)?;
-        Ok(true)
     }
 
-    pub(crate) fn serve(&mut self, connection: usize, trouble: Trouble) -> Result<bool, Fail> {
+    pub(crate) fn serve(
+        &mut self,
+        connection: usize,
+        trouble: Trouble,
+    ) -> Result<bool, AllocError> {
+        let mut read = Vec::new(self.alloc);
+        self.serve_with(connection, trouble, &mut read)
+    }
+
+    /// The same, with room for the bytes of a record that is read.
+    fn serve_with(
+        &mut self,
+        connection: usize,
+        trouble: Trouble,
+        read: &mut Vec<u8>,
+    ) -> Result<bool, AllocError> {
         let Some(place) = connection.checked_sub(1) else {
             return Ok(false);
         };
         let Some(link) = self.links.get_mut(place) else {
             return Ok(false);
         };
-        let Some(side) = &mut link.side else {
-            return Ok(false);
-        };
-        let request = match side.reader.next() {
-            Ok(Some(request)) => request,
-            Ok(None) => return Ok(false),
-            Err(_) => {
-                self.end_side(connection);
-                return Ok(true);
-            }
-        };
-        let is_open = matches!(request, Request::Open { .. });
-        let (answer, opened) = self.shop.answer(connection, side.opened, request, trouble)?;
-        side.opened = opened;
-        if let Some(opened) = opened
-            && is_open
-            && opened.access > 0
-        {
-            self.opens.push((connection, opened.reel))?;
-        }
-        self.reply(connection, &answer)
-    }
-
-    /// The answer is on the way back. After a cut it is lost.
-    fn reply(&mut self, connection: usize, answer: &Answer) -> Result<bool, Fail> {
-        if let Some(link) = self.link_mut(connection)
-            && !link.cut
-        {
-            answer.push_onto(&mut link.back)?;
+        match link.serve(&mut self.shop, connection, trouble, read)? {
+            Turn::Nothing => return Ok(false),
+            Turn::Broken => self.end_side(connection),
+            Turn::Answered => {}
+            Turn::Opened(reel) => self.opens.push((connection, reel))?,
         }
         Ok(true)
     }

@@ -1,9 +1,8 @@
 //! A client as a plain machine.
 
-use super::answer::push_line;
+use super::run::SlowRun;
 use dump_client::{AttemptFault, Progress, Run, State, VolumeCount};
 use std::alloc::{AllocError, Global};
-use std::test::Fail;
 
 /// The request that is to be sent, or was.
 #[derive(Clone, Copy, PartialEq, Eq)]
@@ -17,13 +16,27 @@ pub(crate) enum Step {
     Close,
 }
 
-/// The number of its run, the run and its payload, what it waits for, where it stands in an attempt, how many blocks
-/// were written in that, what is counted, and what was heard since the last request.
+impl Step {
+    /// The request, or how it begins, where it is the same in each run.
+    fn text(self) -> &'static [u8] {
+        match self {
+            Step::Open | Step::Block => b"",
+            Step::Rewind => b"I5\n1\n",
+            Step::Label => b"W1024\n",
+            Step::Mark => b"I0\n1\n",
+            Step::Unload => b"I6\n1\n",
+            Step::Close => b"C\n",
+        }
+    }
+}
+
+/// The place of its run among all, how many blocks of how many bytes that has, what it waits for, where it stands in an
+/// attempt, how many blocks were written in that, what is counted, and what was heard since the last request.
 #[derive(Drop)]
 pub(crate) struct SlowClient {
-    pub(crate) number: usize,
-    pub(crate) run: Run,
-    payload: Vec<u8>,
+    pub(crate) run: usize,
+    blocks: u32,
+    block_bytes: usize,
     pub(crate) state: State,
     pub(crate) step: Step,
     written: u32,
@@ -33,10 +46,11 @@ pub(crate) struct SlowClient {
 
 /// The number behind the first byte of a line, and the length of the line, once it is whole.
 fn number_line(bytes: &[u8]) -> Option<(u32, usize)> {
-    let mut number = 0u32;
-    for (at, byte) in bytes.iter().enumerate().skip(1) {
+    let (mut number, mut len) = (0u32, 1usize);
+    for byte in bytes.get(1..)? {
+        len = len.saturating_add(1);
         if *byte == b'\n' {
-            return Some((number, at.saturating_add(1)));
+            return Some((number, len));
         }
         let digit = u32::from(byte.wrapping_sub(b'0'));
         number = number.saturating_mul(10).saturating_add(digit);
@@ -70,22 +84,18 @@ fn fault_of(step: Step, is_done: bool, number: u32) -> AttemptFault {
 }
 
 impl SlowClient {
-    pub(crate) fn new(
-        alloc: Global,
-        number: usize,
-        run: &Run,
-        payload: &[u8],
-    ) -> Result<SlowClient, Fail> {
-        Ok(SlowClient {
-            number,
-            run: run.clone()?,
-            payload: Vec::from_slice(alloc, payload)?,
+    /// A client of the run at this place.
+    pub(crate) fn new(alloc: Global, place: usize, run: &Run) -> SlowClient {
+        SlowClient {
+            run: place,
+            blocks: run.blocks(),
+            block_bytes: run.block_bytes(),
             state: State::Ready,
             step: Step::Open,
             written: 0,
             counts: Vec::new(alloc),
             heard: Vec::new(alloc),
-        })
+        }
     }
 
     /// The volume that is next, and its first block.
@@ -106,67 +116,21 @@ impl SlowClient {
         self.heard.clear();
     }
 
-    /// The text of the next request.
-    pub(crate) fn request(&self, alloc: Global) -> Result<Vec<u8>, AllocError> {
+    /// Appends the text of the next request.
+    pub(crate) fn push_request(&self, run: &SlowRun, out: &mut Vec<u8>) -> Result<(), AllocError> {
         let (volume, first) = self.checkpoint();
-        let mut out = Vec::new(alloc);
+        out.extend_from_slice(self.step.text())?;
         match self.step {
-            Step::Open => {
-                out.extend_from_slice(b"O")?;
-                out.extend_from_slice(self.run.device())?;
-                out.extend_from_slice(b"\n2\n")?;
-            }
-            Step::Rewind => out.extend_from_slice(b"I5\n1\n")?,
-            Step::Label => {
-                out.extend_from_slice(b"W1024\n")?;
-                self.push_label(&mut out, volume, first)?;
-            }
-            Step::Block => {
-                push_line(&mut out, b"W", self.run.block_bytes() as u64)?;
-                self.push_block(&mut out, first.saturating_add(self.written))?;
-            }
-            Step::Mark => out.extend_from_slice(b"I0\n1\n")?,
-            Step::Unload => out.extend_from_slice(b"I6\n1\n")?,
-            Step::Close => out.extend_from_slice(b"C\n")?,
+            Step::Open => run.push_open(out),
+            Step::Label => run.push_label(out, volume, first),
+            Step::Block => run.push_write(out, first.saturating_add(self.written)),
+            _ => Ok(()),
         }
-        Ok(out)
-    }
-
-    /// Appends the label of a volume: six lines, and zero bytes up to 1,024.
-    pub(crate) fn push_label(
-        &self,
-        out: &mut Vec<u8>,
-        volume: u32,
-        first: u32,
-    ) -> Result<(), AllocError> {
-        let end = out.len().saturating_add(1024);
-        out.extend_from_slice(b"name ")?;
-        out.extend_from_slice(self.run.name().as_bytes())?;
-        out.push(b'\n')?;
-        push_line(out, b"level ", u64::from(self.run.level()))?;
-        push_line(out, b"date ", self.run.date())?;
-        push_line(out, b"since ", self.run.since())?;
-        push_line(out, b"volume ", u64::from(volume))?;
-        push_line(out, b"first ", u64::from(first))?;
-        for _ in out.len()..end {
-            out.push(0)?;
-        }
-        Ok(())
-    }
-
-    /// Appends the bytes of a block.
-    pub(crate) fn push_block(&self, out: &mut Vec<u8>, block: u32) -> Result<(), AllocError> {
-        let size = self.run.block_bytes();
-        let start = (block as usize).saturating_mul(size);
-        for byte in self.payload.iter().skip(start).take(size) {
-            out.push(*byte)?;
-        }
-        Ok(())
     }
 
     /// The step after the blocks written so far.
     fn next_block(&self) -> Step {
-        if self.checkpoint().1.saturating_add(self.written) < self.run.blocks() {
+        if self.checkpoint().1.saturating_add(self.written) < self.blocks {
             Step::Block
         } else {
             Step::Mark
@@ -174,7 +138,7 @@ impl SlowClient {
     }
 
     /// Takes a piece of what comes back.
-    pub(crate) fn hear(&mut self, piece: &[u8]) -> Result<Progress, Fail> {
+    pub(crate) fn hear(&mut self, piece: &[u8]) -> Result<Progress, AllocError> {
         self.heard.extend_from_slice(piece)?;
         let Some((is_done, number)) = reply_of(self.heard.as_slice()) else {
             return Ok(Progress::Waiting);
@@ -198,9 +162,7 @@ impl SlowClient {
             Step::Open if is_done => Some(Step::Rewind),
             Step::Rewind if is_done && number == 1 => Some(Step::Label),
             Step::Label if is_done && number == 1024 => Some(self.next_block()),
-            Step::Block if is_done && number as usize == self.run.block_bytes() => Some(
-                Step::Block,
-            ),
+            Step::Block if is_done && number as usize == self.block_bytes => Some(Step::Block),
             Step::Block if self.written > 0 && is_done && number == 0 => Some(Step::Mark),
             Step::Block if self.written > 0 && !is_done && number == 28 => Some(Step::Mark),
             Step::Mark if is_done && number == 1 => Some(Step::Unload),
@@ -210,7 +172,7 @@ impl SlowClient {
     }
 
     /// Goes on to this step. A block that was written, and a volume that was moved off, are counted.
-    fn go_on(&mut self, step: Step) -> Result<(), Fail> {
+    fn go_on(&mut self, step: Step) -> Result<(), AllocError> {
         let mut step = step;
         if step == Step::Block && self.step == Step::Block {
             self.written = self.written.saturating_add(1);
@@ -240,7 +202,7 @@ impl SlowClient {
 
     /// The attempt is over. The run is finished if all blocks are counted.
     fn end(&mut self) -> Progress {
-        self.state = if self.checkpoint().1 == self.run.blocks() {
+        self.state = if self.checkpoint().1 == self.blocks {
             State::Finished
         } else {
             State::Ready

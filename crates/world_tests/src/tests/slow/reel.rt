@@ -2,8 +2,7 @@
 
 use super::answer::Answer;
 use rmt_wire::Request;
-use std::alloc::Global;
-use std::test::Fail;
+use std::alloc::{AllocError, Global};
 use tape::Trouble;
 
 /// The entries of a reel, where `None` is a mark.
@@ -28,32 +27,40 @@ fn written(trouble: Trouble, count: u32) -> Option<u32> {
     }
 }
 
+/// The first of these bytes, so many or all.
+fn first_bytes(bytes: &[u8], count: u32) -> &[u8] {
+    bytes.get(..count as usize).unwrap_or(bytes)
+}
+
 impl SlowReel {
-    /// What a request of this access is answered at this place, and the place then.
+    /// What a request of this access is answered at this place, and the place then. Bytes that it reads are appended.
     pub(crate) fn answer(
         &mut self,
         access: u32,
         place: usize,
         request: Request<'_>,
         trouble: Trouble,
-    ) -> Result<(Answer, usize), Fail> {
+        read: &mut Vec<u8>,
+    ) -> Result<(Answer, usize), AllocError> {
         match request {
-            Request::Write { .. } | Request::WriteDropped { .. } if access == 0 => {
-                Ok((Answer::Error(9), place))
-            }
-            Request::Write { bytes } => self.write(place, bytes, trouble),
-            Request::WriteDropped { .. } => Ok((Answer::Error(22), place)),
-            Request::Read { .. } if access == 1 => Ok((Answer::Error(9), place)),
-            Request::Read { count } => self.read(place, count, trouble),
-            Request::Op { op: 0, .. } if access == 0 => Ok((Answer::Error(13), place)),
-            Request::Op { op: 0, count } => self.write_marks(place, count, trouble),
-            Request::Op { op: 1..=4, count } if count > 0 && trouble != Trouble::None => {
-                Ok((Answer::Error(5), place))
-            }
-            Request::Op { op, count } if op < 5 => Ok(self.space(place, op, count)),
-            Request::Op { op: 5, count } => Ok((Answer::Number(count), 0)),
-            Request::Op { op: 7, count } => Ok((Answer::Number(count), place)),
-            _ => Ok((Answer::Error(22), place)),
+            Request::Write { bytes } if access > 0 => self.write(place, bytes, trouble),
+            Request::WriteDropped { .. } if access > 0 => Ok((Answer::Error(22), place)),
+            Request::Read { count } if access != 1 => self.read(place, count, trouble, read),
+            Request::Op { op: 0, count } if access > 0 => self.write_marks(place, count, trouble),
+            Request::Op { op: 0, .. } => Ok((Answer::Error(13), place)),
+            Request::Op { op, count } => Ok(self.operate(place, op, count, trouble)),
+            _ => Ok((Answer::Error(9), place)),
+        }
+    }
+
+    /// What an operation is answered that writes nothing.
+    fn operate(&self, place: usize, op: u32, count: u32, trouble: Trouble) -> (Answer, usize) {
+        match op {
+            1..=4 if count > 0 && trouble != Trouble::None => (Answer::Error(5), place),
+            1..=4 => self.space(place, op, count),
+            5 => (Answer::Number(count), 0),
+            7 => (Answer::Number(count), place),
+            _ => (Answer::Error(22), place),
         }
     }
 
@@ -71,7 +78,7 @@ impl SlowReel {
         place: usize,
         bytes: &[u8],
         trouble: Trouble,
-    ) -> Result<(Answer, usize), Fail> {
+    ) -> Result<(Answer, usize), AllocError> {
         if bytes.is_empty() || bytes.len() > 65536 {
             return Ok((Answer::Error(22), place));
         }
@@ -93,7 +100,7 @@ impl SlowReel {
         place: usize,
         count: u32,
         trouble: Trouble,
-    ) -> Result<(Answer, usize), Fail> {
+    ) -> Result<(Answer, usize), AllocError> {
         if count == 0 {
             return Ok((Answer::Number(0), place));
         }
@@ -109,25 +116,29 @@ impl SlowReel {
         Ok(self.settled(place, count, trouble))
     }
 
-    fn read(&self, place: usize, count: u32, trouble: Trouble) -> Result<(Answer, usize), Fail> {
+    fn read(
+        &self,
+        place: usize,
+        count: u32,
+        trouble: Trouble,
+        read: &mut Vec<u8>,
+    ) -> Result<(Answer, usize), AllocError> {
         if count == 0 {
             return Ok((Answer::Error(22), place));
         }
         if trouble != Trouble::None {
             return Ok((Answer::Error(5), place));
         }
-        let Some(entry) = self.entries.get(place) else {
-            return Ok((Answer::Number(0), place));
-        };
-        let Some(bytes) = entry else {
-            return Ok((Answer::Number(0), place.saturating_add(1)));
-        };
-        let given = bytes
-            .as_slice()
-            .get(..count as usize)
-            .unwrap_or(bytes.as_slice());
-        let given = Vec::from_slice(self.alloc, given)?;
-        Ok((Answer::Bytes(given), place.saturating_add(1)))
+        match self.entries.get(place) {
+            Some(Some(bytes)) => {
+                let given = first_bytes(bytes.as_slice(), count);
+                read.extend_from_slice(given)?;
+                let len = u32::try_from(given.len()).unwrap_or(u32::MAX);
+                Ok((Answer::Number(len), place.saturating_add(1)))
+            }
+            Some(None) => Ok((Answer::Number(0), place.saturating_add(1))),
+            None => Ok((Answer::Number(0), place)),
+        }
     }
 
     /// Goes on (operations 1 and 3) or back (2 and 4), entry by entry, until as many marks (1 and 2) or records
@@ -135,14 +146,14 @@ impl SlowReel {
     fn space(&self, place: usize, op: u32, count: u32) -> (Answer, usize) {
         let (mut at, mut left) = (place, count);
         for _ in 0..self.entries.len() {
-            let Some((entry, then)) = self.neighbour(at, op % 2 == 1) else {
+            let Some((is_mark, then)) = self.neighbour(at, op % 2 == 1) else {
                 break;
             };
             if left == 0 {
                 break;
             }
             at = then;
-            if entry.is_none() == (op <= 2) {
+            if is_mark == (op <= 2) {
                 left = left.saturating_sub(1);
             } else if op > 2 {
                 break;
@@ -155,14 +166,12 @@ impl SlowReel {
         }
     }
 
-    /// The entry after the place, or the one before it, and the place on its other side.
-    fn neighbour(&self, at: usize, on: bool) -> Option<(&Option<Vec<u8>>, usize)> {
-        let (index, then) = if on {
-            (at, at.saturating_add(1))
-        } else {
-            (at.checked_sub(1)?, at.checked_sub(1)?)
-        };
-        Some((self.entries.get(index)?, then))
+    /// Whether the entry after the place, or the one before it, is a mark, and the place on its other side.
+    fn neighbour(&self, at: usize, on: bool) -> Option<(bool, usize)> {
+        let before = if on { at } else { at.checked_sub(1)? };
+        let is_mark = self.entries.get(before)?.is_none();
+        let then = if on { at.saturating_add(1) } else { before };
+        Some((is_mark, then))
     }
 
     /// Whether there is room for so many bytes after the entries before the place: 8 bytes and its own for a

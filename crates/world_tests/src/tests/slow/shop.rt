@@ -1,12 +1,11 @@
 //! Drives, reels and the bin, and what a session does with them.
 
-use super::Plan;
 use super::answer::Answer;
 use super::reel::SlowReel;
 use rmt_wire::Request;
 use std::alloc::{AllocError, Global};
-use std::test::Fail;
 use tape::Trouble;
+use tape_world::DriveSpec;
 
 /// A drive: its name, the places of the reels of its stack among all reels, and the connection that holds it, or 0.
 #[derive(Drop)]
@@ -27,6 +26,18 @@ pub(crate) struct Opened {
     pub(crate) online: bool,
 }
 
+impl SlowDrive {
+    /// The reel that an open of the drive gets, or the number of the error that it is answered.
+    fn first_reel(&self, trouble: Trouble) -> Result<usize, u32> {
+        match self.stack.first() {
+            _ if self.holder != 0 => Err(16),
+            None => Err(6),
+            Some(_) if trouble != Trouble::None => Err(5),
+            Some(reel) => Ok(*reel),
+        }
+    }
+}
+
 #[derive(Drop)]
 pub(crate) struct SlowShop {
     pub(crate) drives: Vec<SlowDrive>,
@@ -35,34 +46,44 @@ pub(crate) struct SlowShop {
 }
 
 impl SlowShop {
-    pub(crate) fn new(alloc: Global, plans: &[Plan]) -> Result<SlowShop, AllocError> {
-        let mut shop = SlowShop {
+    /// Without drives.
+    pub(crate) fn new(alloc: Global) -> SlowShop {
+        SlowShop {
             drives: Vec::new(alloc),
             reels: Vec::new(alloc),
             bin: Vec::new(alloc),
-        };
-        for plan in plans {
-            shop.add_drive(alloc, *plan)?;
         }
-        Ok(shop)
     }
 
-    fn add_drive(&mut self, alloc: Global, plan: Plan) -> Result<(), AllocError> {
-        let mut stack = Vec::new(alloc);
-        for name in plan.reels {
-            stack.push(self.reels.len())?;
+    pub(crate) fn add_drives(
+        &mut self,
+        alloc: Global,
+        drives: &[DriveSpec<'static>],
+    ) -> Result<(), AllocError> {
+        for drive in drives {
+            self.drives.push(SlowDrive {
+                name: drive.name,
+                stack: Vec::new(alloc),
+                holder: 0,
+            })?;
+            self.add_reels(alloc, drive)?;
+        }
+        Ok(())
+    }
+
+    /// The reels of this drive, which was added last, lie on its stack.
+    fn add_reels(&mut self, alloc: Global, drive: &DriveSpec<'static>) -> Result<(), AllocError> {
+        for name in drive.reels {
+            if let Some(last) = self.drives.last_mut() {
+                last.stack.push(self.reels.len())?;
+            }
             self.reels.push(SlowReel {
                 alloc,
                 name,
                 entries: Vec::new(alloc),
-                capacity: plan.capacity,
+                capacity: drive.capacity,
             })?;
         }
-        self.drives.push(SlowDrive {
-            name: plan.name,
-            stack,
-            holder: 0,
-        })?;
         Ok(())
     }
 
@@ -100,14 +121,15 @@ impl SlowShop {
         }
     }
 
-    /// What the session of this connection is answered, and what it has open then.
+    /// What the session of this connection is answered, and what it has open then. Bytes that it reads are appended.
     pub(crate) fn answer(
         &mut self,
         connection: usize,
         was: Option<Opened>,
         request: Request<'_>,
         trouble: Trouble,
-    ) -> Result<(Answer, Option<Opened>), Fail> {
+        read: &mut Vec<u8>,
+    ) -> Result<(Answer, Option<Opened>), AllocError> {
         if let Request::Open { device, mode } = request {
             self.close(was);
             return Ok(match self.open(connection, device, mode % 4, trouble) {
@@ -125,7 +147,7 @@ impl SlowShop {
             }
             _ if !opened.online => Ok((Answer::Error(6), was)),
             Request::Op { op: 6, count } => self.unload(opened, count, trouble),
-            _ => self.use_reel(opened, request, trouble),
+            _ => self.use_reel(opened, request, trouble, read),
         }
     }
 
@@ -139,15 +161,13 @@ impl SlowShop {
         if access == 3 {
             return Err(22);
         }
-        let place = self.find_drive(device).ok_or(2u32)?;
-        let drive = self.drives.get_mut(place).ok_or(2u32)?;
-        if drive.holder != 0 {
-            return Err(16);
-        }
-        let reel = *drive.stack.first().ok_or(6u32)?;
-        if trouble != Trouble::None {
-            return Err(5);
-        }
+        let Some(place) = self.find_drive(device) else {
+            return Err(2);
+        };
+        let Some(drive) = self.drives.get_mut(place) else {
+            return Err(2);
+        };
+        let reel = drive.first_reel(trouble)?;
         drive.holder = connection;
         Ok(Opened {
             drive: place,
@@ -163,35 +183,39 @@ impl SlowShop {
         opened: Opened,
         request: Request<'_>,
         trouble: Trouble,
-    ) -> Result<(Answer, Option<Opened>), Fail> {
+        read: &mut Vec<u8>,
+    ) -> Result<(Answer, Option<Opened>), AllocError> {
         let Some(reel) = self.reels.get_mut(opened.reel) else {
-            return Err(Fail::new("no such reel"));
+            return Ok((Answer::Error(6), None));
         };
-        let (answer, place) = reel.answer(opened.access, opened.place, request, trouble)?;
+        let (answer, place) = reel.answer(opened.access, opened.place, request, trouble, read)?;
         Ok((answer, Some(Opened { place, ..opened })))
     }
 
-    /// The reel is rewound, and goes from its stack, on which it is first, to the bin's end.
+    /// The reel is rewound, and moved off its stack.
     fn unload(
         &mut self,
         opened: Opened,
         count: u32,
         trouble: Trouble,
-    ) -> Result<(Answer, Option<Opened>), Fail> {
-        let rewound = Opened { place: 0, ..opened };
+    ) -> Result<(Answer, Option<Opened>), AllocError> {
+        let mut after = Opened { place: 0, ..opened };
         if trouble != Trouble::None {
-            return Ok((Answer::Error(5), Some(rewound)));
+            return Ok((Answer::Error(5), Some(after)));
         }
+        self.move_off(opened)?;
+        after.online = false;
+        Ok((Answer::Number(count), Some(after)))
+    }
+
+    /// The reel goes from its stack, on which it is first, to the bin's end.
+    fn move_off(&mut self, opened: Opened) -> Result<(), AllocError> {
         if let Some(drive) = self.drives.get_mut(opened.drive)
-            && drive.stack.first() == Some(&opened.reel)
+            && !drive.stack.is_empty()
         {
             drive.stack.remove(0);
         }
         self.bin.push(opened.reel)?;
-        let offline = Opened {
-            online: false,
-            ..rewound
-        };
-        Ok((Answer::Number(count), Some(offline)))
+        Ok(())
     }
 }
