@@ -1,16 +1,13 @@
 //! Attempts of a client at drives in memory, from its requests to the reels, as tables of moves. Capacities are in
 //! bytes.
 
-ghost use Rattle.std.specs.Prelude.{◌≤◌};
-
-use super::fixture::{BlocksDumper, FIRST_LABEL, THREE_RECORDS, blocks_dumper};
+use super::fixture::{BlocksDumper, FIRST_LABEL, THREE_RECORDS, blocks_dumper, is_filled};
 use super::link::Link;
 use drives::{ListStacks, ListedReel, Stacks};
 use dump_client::Progress::{Ended, Failed, Send};
 use dump_client::{Answer, AttemptFault, Progress, State, VolumeCount};
 use dumpdates::Dates;
 use std::alloc::Global;
-use std::process::Abort;
 use std::test::Fail;
 
 /// A label fits a reel of this capacity, and no block behind it.
@@ -171,12 +168,11 @@ const STALE: &[Move] = &[
 ];
 
 /// A dump of at most three blocks to reels of one capacity, in parts.
-#[derive(Clone, Copy)]
 struct Case {
     name: &'static str,
     capacity: u64,
     reels: Names,
-    blocks: u32,
+    blocks: u8,
     parts: &'static [&'static [Move]],
 }
 
@@ -267,9 +263,10 @@ fn is_said(link: &mut Link, asked: &[u8], wanted: &[u8]) -> bool {
 
 /// Whether bytes are these, and after them as many of `fill` as 1,024 take.
 fn is_record(bytes: &[u8], begin: &[u8], fill: u8) -> bool {
-    bytes.len() == 1024
-        && bytes.starts_with(begin)
-        && bytes.iter().skip(begin.len()).all(|b| *b == fill)
+    match bytes.strip_prefix(begin) {
+        Some(rest) => bytes.len() == 1024 && is_filled(rest, fill),
+        None => false,
+    }
 }
 
 /// Whether the next record of the open reel is such.
@@ -367,60 +364,48 @@ fn makes(alloc: Global, link: &mut Link, dumper: &mut BlocksDumper, next: Move) 
     }
 }
 
-/// Where the moves are not as is wanted: the first such, counted from 0.
-fn wrong_move(
-    alloc: Global,
-    link: &mut Link,
-    dumper: &mut BlocksDumper,
-    moves: &[Move],
-) -> Option<usize> {
-    for (at, next) in moves.iter().enumerate() {
+/// Makes these moves. Whether all was as is wanted.
+fn makes_all(alloc: Global, link: &mut Link, dumper: &mut BlocksDumper, moves: &[Move]) -> bool {
+    for next in moves {
         if !makes(alloc, link, dumper, *next) {
-            return Some(at);
+            return false;
         }
     }
-    None
+    true
 }
 
-/// Where the moves of these parts are not as is wanted: the first such part and move, counted from 0.
-fn wrong_part(
+/// Makes the moves of these parts. Whether all was as is wanted.
+fn makes_parts(
     alloc: Global,
     link: &mut Link,
     dumper: &mut BlocksDumper,
     parts: &[&[Move]],
-) -> Option<(usize, usize)> {
-    for (part, moves) in parts.iter().enumerate() {
-        if let Some(at) = wrong_move(alloc, link, dumper, moves) {
-            return Some((part, at));
+) -> bool {
+    for moves in parts {
+        if !makes_all(alloc, link, dumper, moves) {
+            return false;
         }
     }
-    None
+    true
 }
 
-/// Where a dump does not go as the moves of its parts say.
-fn wrong_in(alloc: Global, case: &Case) -> Result<Option<(usize, usize)>, Fail>
-    requires { case.now.blocks ≤ 3 }
-{
-    let mut dumper = blocks_dumper(alloc, case.blocks)?;
+/// Whether this client dumps as the case says.
+fn dumps_so(alloc: Global, dumper: &mut BlocksDumper, case: &Case) -> Result<bool, Fail> {
     let mut link = Link::new(alloc, case.capacity, case.reels)?;
-    Ok(wrong_part(alloc, &mut link, &mut dumper, case.parts))
+    Ok(makes_parts(alloc, &mut link, dumper, case.parts))
 }
 
-/// A dump goes as the moves of its parts say.
-fn check_case(rt: &impl Abort, alloc: Global, case: &Case) -> Result<(), Fail> {
-    if case.blocks > 3 {
-        return Err(Fail::new("too many blocks"));
-    }
-    let wrong = wrong_in(alloc, case)?;
-    let name = case.name;
-    assert!(rt; wrong.is_none(), "{name}: part and move {wrong:?}");
-    Ok(())
+/// Whether a dump goes as the case says.
+fn goes_so(alloc: Global, case: &Case) -> Result<bool, Fail> {
+    let mut dumper = blocks_dumper(alloc, case.blocks)?;
+    dumps_so(alloc, &mut dumper, case)
 }
 
 #[test]
 fn dumps(rt: HostRuntime) -> Result<(), Fail> {
-    for case in CASES {
-        check_case(&rt, rt.alloc(), &case)?;
+    for case in &CASES {
+        let name = case.name;
+        assert!(rt; goes_so(rt.alloc(), case)?, "{name}");
     }
     Ok(())
 }

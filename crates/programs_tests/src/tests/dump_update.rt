@@ -1,15 +1,12 @@
 //! Dumps over a peer in memory, and what is entered in dumpdates then.
 
-use super::fixture::{PayloadDumper, THREE_RECORDS, payload_dumper, peer};
+use super::fixture::{PayloadDumper, THREE_RECORDS, dump_prints, payload_dumper, peer};
 use super::store::{ENTERED, Kept, OLD};
 use rmt_peer::Peer;
-use rmt_programs::{MemoryPeer, dump, dump_and_update};
+use rmt_programs::{MemoryPeer, dump_and_update};
 use rmt_wire::Counted;
 use std::alloc::Global;
-use std::process::Abort;
 use std::test::Fail;
-
-const FIRST: &[u8] = b"volume 1: 2 blocks from 0\n";
 
 /// The client of a dump of 2,500 bytes, which are three blocks of 1,024.
 fn three_blocks(alloc: Global) -> Result<PayloadDumper, Fail> {
@@ -20,85 +17,92 @@ fn three_blocks(alloc: Global) -> Result<PayloadDumper, Fail> {
     }
 }
 
-/// The reels of a drive, what a dump to them prints, its status, and the dumpdates file then.
-type Row = (&'static [&'static [u8]], &'static [u8], u8, &'static [u8]);
+/// A dump to these reels, which is entered or not, what the operator says, what it prints, its status, and the dumpdates file then.
+struct Row {
+    reels: &'static [&'static [u8]],
+    is_entered: bool,
+    said: &'static [u8],
+    printed: &'static [u8],
+    status: u8,
+    dates: &'static [u8],
+}
 
-static ROWS: [Row; 2] = [
-    (
-        &[b"r1", b"r2"],
-        b"volume 1: 2 blocks from 0\nvolume 2: 1 blocks from 2\ndump complete: 2 volumes, 3 blocks\n",
-        0,
-        ENTERED,
-    ),
-    (
-        &[b"r1"],
-        b"volume 1: 2 blocks from 0\nvolume 2 failed: Refused 6\nretry?\ndump abandoned\n",
-        3,
-        OLD,
-    ),
+/// Two reels and one, and one without dumpdates.
+static ROWS: [Row; 3] = [
+    Row {
+        reels: &[b"r1", b"r2"],
+        is_entered: true,
+        said: b"",
+        printed: b"volume 1: 2 blocks from 0\nvolume 2: 1 blocks from 2\ndump complete: 2 volumes, 3 blocks\n",
+        status: 0,
+        dates: ENTERED,
+    },
+    Row {
+        reels: &[b"r1"],
+        is_entered: true,
+        said: b"",
+        printed: b"volume 1: 2 blocks from 0\nvolume 2 failed: Refused 6\nretry?\ndump abandoned\n",
+        status: 3,
+        dates: OLD,
+    },
+    Row {
+        reels: &[b"r1"],
+        is_entered: false,
+        said: b"no\n",
+        printed: b"volume 1: 2 blocks from 0\nvolume 2 failed: Refused 6\nretry?\ndump abandoned\n",
+        status: 3,
+        dates: OLD,
+    },
 ];
 
-/// Dumps at a peer, and enters the dump where it is complete. Answers its status, and what it printed.
-fn entered(
+/// Dumps at a peer, and enters the dump where it is complete. Whether it prints what the row says, with its status.
+fn enters(
     alloc: Global,
     client: &mut PayloadDumper,
     peer: &mut MemoryPeer,
     store: &mut Kept,
-) -> (u8, Vec<u8>) {
-    let mut operator = b"".as_slice();
+    row: &Row,
+) -> bool {
+    let mut operator = row.said;
     let mut printed = Vec::new(alloc);
     let mut out = Counted::new(&mut printed);
     let status = dump_and_update(alloc, client, peer, &mut operator, &mut out, store);
-    (status, printed)
+    status == row.status && printed.as_slice() == row.printed
 }
 
-/// Dumps three blocks to these reels, and enters the dump. Answers its status, and what it printed.
-fn dumped(alloc: Global, reels: &[&[u8]], store: &mut Kept) -> Result<(u8, Vec<u8>), Fail> {
-    let mut client = three_blocks(alloc)?;
-    let mut peer = peer(alloc, THREE_RECORDS, reels)?;
-    Ok(entered(alloc, &mut client, &mut peer, store))
-}
-
-/// A dump goes so.
-fn check_dump(rt: &impl Abort, alloc: Global, row: Row) -> Result<(), Fail> {
-    let (reels, wanted, status, dates) = row;
+/// Whether a dump at this peer goes as the row says.
+fn goes_at(
+    alloc: Global,
+    client: &mut PayloadDumper,
+    peer: &mut MemoryPeer,
+    row: &Row,
+) -> Result<bool, Fail> {
     let mut store = Kept::new(alloc, OLD, true, true)?;
-    let (got, printed) = dumped(alloc, reels, &mut store)?;
-    assert_eq!(rt; got, status);
-    assert_eq!(rt; printed.as_slice(), wanted);
-    assert_eq!(rt; store.text.as_slice(), dates);
-    Ok(())
-}
-
-#[test]
-fn two_reels_and_one(rt: HostRuntime) -> Result<(), Fail> {
-    for row in ROWS {
-        check_dump(&rt, rt.alloc(), row)?;
-    }
-    Ok(())
-}
-
-/// Dumps at a peer, to an operator who says no. Answers the status of the dump, and what it printed.
-fn dumped_once(alloc: Global, client: &mut PayloadDumper, peer: &mut MemoryPeer) -> (u8, Vec<u8>) {
-    let mut operator = b"no\n".as_slice();
-    let mut printed = Vec::new(alloc);
-    let mut out = Counted::new(&mut printed);
-    let status = dump(alloc, client, peer, &mut operator, &mut out);
+    let good = if row.is_entered {
+        enters(alloc, client, peer, &mut store, row)
+    } else {
+        dump_prints(alloc, client, peer, row.said, row.printed, row.status)
+    };
     peer.hang_up();
-    (status, printed)
+    Ok(good && store.text.as_slice() == row.dates)
 }
 
-/// Dumps three blocks to one reel. Answers the status of the dump, and what it printed.
-fn dumped_to_one(alloc: Global) -> Result<(u8, Vec<u8>), Fail> {
+/// Whether a dump of this client goes as the row says.
+fn goes_with(alloc: Global, client: &mut PayloadDumper, row: &Row) -> Result<bool, Fail> {
+    let mut peer = peer(alloc, THREE_RECORDS, row.reels)?;
+    goes_at(alloc, client, &mut peer, row)
+}
+
+/// Whether a dump of three blocks goes as the row says.
+fn goes(alloc: Global, row: &Row) -> Result<bool, Fail> {
     let mut client = three_blocks(alloc)?;
-    let mut peer = peer(alloc, THREE_RECORDS, &[b"r1".as_slice()])?;
-    Ok(dumped_once(alloc, &mut client, &mut peer))
+    goes_with(alloc, &mut client, row)
 }
 
 #[test]
-fn a_dump_without_dumpdates(rt: HostRuntime) -> Result<(), Fail> {
-    let (status, printed) = dumped_to_one(rt.alloc())?;
-    assert_eq!(&rt; status, 3);
-    assert!(&rt; printed.as_slice().starts_with(FIRST));
+fn dumps_and_their_dates(rt: HostRuntime) -> Result<(), Fail> {
+    for (at, row) in ROWS.iter().enumerate() {
+        assert!(rt; goes(rt.alloc(), row)?, "row {at}");
+    }
     Ok(())
 }

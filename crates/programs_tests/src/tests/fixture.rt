@@ -4,9 +4,11 @@ ghost use Rattle.std.specs.Prelude.{◌≡◌, ◌≤◌, ◌*◌, IfOk, IfSome,
 
 use super::progress::Seen;
 use drives::{DriveTable, ListStacks, LocalHolds};
-use dump_client::{Client, ListBlocks, Run};
+use dump_client::{Blocks, Client, ListBlocks, Run};
 use dump_files::{DumperFault, PayloadFile, Shown, dumper};
+use rmt_peer::{Peer, dump};
 use rmt_programs::{DumpLine, MemoryPeer};
+use rmt_wire::Counted;
 use std::alloc::Global;
 use std::test::Fail;
 use tape::MemoryMedium;
@@ -33,25 +35,47 @@ pub(super) type Payload = PayloadFile<MemoryMedium>;
 pub(super) type PayloadDumper = Client<Shown<Payload, Seen>>;
 
 /// So many blocks, of which each byte of block i is i.
-fn blocks_of(alloc: Global, blocks: u32) -> Result<Vec<u8>, Fail>
-    requires { blocks ≤ 3 }
+fn blocks_of(alloc: Global, blocks: u8) -> Result<Vec<u8>, Fail>
     ensures { IfOk result (λ bytes. length bytes.items ≡ blocks * 1024) }
 {
     let mut bytes = Vec::new(alloc);
     for block in 0..blocks {
-        bytes.extend_from_slice(&[block as u8; BLOCK_BYTES])?;
+        bytes.extend_from_slice(&[block; BLOCK_BYTES])?;
     }
     Ok(bytes)
 }
 
 /// A client that dumps so many blocks of `/usr` to `/dev/st0`.
-pub(super) fn blocks_dumper(alloc: Global, blocks: u32) -> Result<BlocksDumper, Fail>
-    requires { blocks ≤ 3 }
-{
-    let blocks_asked = u64::from(blocks);
-    let run = Run::new(DEVICE, "/usr", 0, 951782400, 0, 1024, blocks_asked)?;
-    let source = ListBlocks::new(blocks_of(alloc, blocks)?, BLOCK_BYTES, blocks);
+pub(super) fn blocks_dumper(alloc: Global, blocks: u8) -> Result<BlocksDumper, Fail> {
+    let run = Run::new(DEVICE, "/usr", 0, 951782400, 0, 1024, u64::from(blocks))?;
+    let source = ListBlocks::new(blocks_of(alloc, blocks)?, BLOCK_BYTES, u32::from(blocks));
     Ok(Client::new(alloc, run, source)?)
+}
+
+/// Whether each of the bytes is this one.
+pub(super) fn is_filled(bytes: &[u8], fill: u8) -> bool {
+    for byte in bytes {
+        if *byte != fill {
+            return false;
+        }
+    }
+    true
+}
+
+/// Dumps over a peer, to an operator who says that. Whether so much is printed, with this status.
+pub(super) fn dump_prints<B: Blocks, P: Peer>(
+    alloc: Global,
+    client: &mut Client<B>,
+    peer: &mut P,
+    said: &[u8],
+    wanted: &[u8],
+    status: u8,
+) -> bool {
+    let mut operator = said;
+    let mut printed = Vec::new(alloc);
+    let mut out = Counted::new(&mut printed);
+    let told = dump(alloc, client, peer, &mut operator, &mut out);
+    told == status && printed.as_slice() == wanted
 }
 
 /// The words of a dump of `/usr` at level 1, in blocks of this size.

@@ -1,7 +1,7 @@
 //! Dumps over a peer that is told what to reply.
 
 use super::fake::{FakePeer, Replies, Short};
-use super::fixture::{BlocksDumper, blocks_dumper};
+use super::fixture::{BlocksDumper, blocks_dumper, dump_prints};
 use rmt_peer::{dump, print_text};
 use rmt_wire::Counted;
 use std::alloc::Global;
@@ -20,62 +20,61 @@ const LAST: Replies<'static> = &[
 /// A drive without a reel.
 const EMPTY: Replies<'static> = &[b"E6\nDevice not configured\n"];
 
-/// A dump of three blocks: the replies of each connection, what the operator says, what is printed, and the status.
+/// A dump of so many blocks: the replies of each connection, what the operator says, what is printed, and the status.
 type Row = (
+    u8,
     &'static [Replies<'static>],
     &'static [u8],
     &'static [u8],
     u8,
 );
 
-/// Two volumes; an abandon; and a retry, where the third connection is made after `yes`, and the fourth cannot be.
-static ROWS: [Row; 3] = [
+/// Two volumes; an abandon; a retry, where the third connection is made after `yes`, and the fourth cannot be; and no connection.
+static ROWS: [Row; 4] = [
     (
+        3,
         &[FULL, LAST],
         b"",
         b"volume 1: 2 blocks from 0\nvolume 2: 1 blocks from 2\ndump complete: 2 volumes, 3 blocks\n",
         0,
     ),
     (
+        3,
         &[FULL, EMPTY],
         b"",
         b"volume 1: 2 blocks from 0\nvolume 2 failed: Refused 6\nretry?\ndump abandoned\n",
         3,
     ),
     (
+        3,
         &[EMPTY, FULL],
         b"yes\nno\n",
         b"volume 1 failed: Refused 6\nretry?\nvolume 1: 2 blocks from 0\nvolume 2 failed: ConnectionEnded\nretry?\ndump abandoned\n",
         3,
     ),
+    (
+        0,
+        &[],
+        b"",
+        b"volume 1 failed: ConnectionEnded\nretry?\ndump abandoned\n",
+        3,
+    ),
 ];
 
-/// Dumps over a peer, to an operator who says that. Answers what was printed, and the status.
-fn dumped(
-    alloc: Global,
-    client: &mut BlocksDumper,
-    peer: &mut FakePeer<'_>,
-    said: &[u8],
-) -> (Vec<u8>, u8) {
-    let mut says = said;
-    let mut printed = Vec::new(alloc);
-    let told = dump(
-        alloc,
-        client,
-        peer,
-        &mut says,
-        &mut Counted::new(&mut printed),
-    );
-    (printed, told)
+/// Whether a dump of this client goes as the row says.
+fn goes_with(alloc: Global, client: &mut BlocksDumper, row: &Row) -> bool {
+    let (_, connections, said, wanted, status) = *row;
+    let mut peer = FakePeer::new(alloc, connections);
+    dump_prints(alloc, client, &mut peer, said, wanted, status)
 }
 
-/// Whether a dump of three blocks goes as the row says.
+/// Whether a dump goes as the row says. That of no blocks begins with an attempt that is under way.
 fn goes(alloc: Global, row: &Row) -> Result<bool, Fail> {
-    let (connections, said, wanted, status) = *row;
-    let mut client = blocks_dumper(alloc, 3)?;
-    let mut peer = FakePeer::new(alloc, connections);
-    let (printed, told) = dumped(alloc, &mut client, &mut peer, said);
-    Ok(printed.as_slice() == wanted && told == status)
+    let mut client = blocks_dumper(alloc, row.0)?;
+    if row.0 == 0 && client.start().is_err() {
+        return Ok(false);
+    }
+    Ok(goes_with(alloc, &mut client, row))
 }
 
 #[test]
@@ -86,51 +85,31 @@ fn dumps_and_their_lines(rt: HostRuntime) -> Result<(), Fail> {
     Ok(())
 }
 
-/// Whether a dump over a peer, of which nine bytes can be printed, prints these, and fails once.
-fn fails_in_printing(
-    alloc: Global,
-    client: &mut BlocksDumper,
-    peer: &mut FakePeer<'_>,
-    wanted: &[u8],
-) -> bool {
-    let mut says: &[u8] = b"";
+/// Whether a dump, of which nine bytes can be printed, prints these, fails once, and sends nothing after the count.
+fn fails_in_printing(alloc: Global, client: &mut BlocksDumper) -> bool {
+    let mut peer = FakePeer::new(alloc, &[FULL, LAST]);
+    let mut operator: &[u8] = b"";
     let mut out = Counted::new(Short {
         taken: Vec::new(alloc),
         room: 9,
     });
-    let told = dump(alloc, client, peer, &mut says, &mut out);
-    (told, out.failures()) == (3, 1) && out.into_inner().taken.as_slice() == wanted
+    let told = dump(alloc, client, &mut peer, &mut operator, &mut out);
+    (told, out.failures()) == (3, 1)
+        && out.into_inner().taken.as_slice() == b"volume 1:".as_slice()
+        && peer.sent.ends_with(b"I0\n1\nI6\n1\nC\n")
 }
 
 /// Once a line could not be printed nothing more is printed or sent.
 #[test]
 fn a_fault_in_printing(rt: HostRuntime) -> Result<(), Fail> {
     let mut client = blocks_dumper(rt.alloc(), 3)?;
-    let mut peer = FakePeer::new(rt.alloc(), &[FULL, LAST]);
-    let failed = fails_in_printing(rt.alloc(), &mut client, &mut peer, b"volume 1:");
-    assert!(rt; failed && peer.sent.ends_with(b"I0\n1\nI6\n1\nC\n"));
-    Ok(())
-}
-
-/// An attempt that is under way, where there is no connection, fails.
-#[test]
-fn an_attempt_that_is_under_way(rt: HostRuntime) -> Result<(), Fail> {
-    let mut client = blocks_dumper(rt.alloc(), 0)?;
-    let mut peer = FakePeer::new(rt.alloc(), &[]);
-    assert!(rt; client.start().is_ok());
-    let (printed, told) = dumped(rt.alloc(), &mut client, &mut peer, b"");
-    assert_eq!(rt; told, 3);
-    assert_eq!(rt;
-        printed.as_slice(),
-        b"volume 1 failed: ConnectionEnded\nretry?\ndump abandoned\n".as_slice()
-    );
+    assert!(rt; fails_in_printing(rt.alloc(), &mut client));
     Ok(())
 }
 
 #[test]
-fn a_text(rt: HostRuntime) -> Result<(), Fail> {
+fn a_text(rt: HostRuntime) {
     let mut out = Counted::new(Vec::new(rt.alloc()));
     assert!(rt; print_text(&mut out, b"retry?\n"));
-    assert_eq!(rt; out.into_inner().as_slice(), b"retry?\n".as_slice());
-    Ok(())
+    assert!(rt; out.into_inner().as_slice() == b"retry?\n".as_slice());
 }

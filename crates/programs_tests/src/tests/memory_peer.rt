@@ -1,28 +1,24 @@
 //! Dumps, volumes that are read back, and operations, over drives in memory.
 
+ghost use Rattle.std.specs.Prelude.{◌≡◌, ◌≤◌, IfOk, length};
+
 use super::fixture::{
-    BlocksDumper, DEVICE, FIRST_LABEL, THREE_RECORDS, blocks_dumper, peer, peer_with,
+    DEVICE, FIRST_LABEL, THREE_RECORDS, blocks_dumper, dump_prints, is_filled, peer, peer_with,
 };
-use drives::Stacks;
+use drives::{DriveTable, ListStacks, LocalHolds, Stacks};
 use rmt_peer::Peer;
-use rmt_programs::{MemoryPeer, dump, mt, read_volume};
+use rmt_programs::{MemoryPeer, mt, read_volume};
 use rmt_wire::Counted;
 use std::alloc::Global;
 use std::test::Fail;
 
-/// Dumps at a peer, to an operator who says nothing. Answers what was printed, and the status.
-fn dumped(alloc: Global, client: &mut BlocksDumper, peer: &mut MemoryPeer) -> (Vec<u8>, u8) {
-    let mut says: &[u8] = b"";
-    let mut printed = Vec::new(alloc);
-    let told = dump(
-        alloc,
-        client,
-        peer,
-        &mut says,
-        &mut Counted::new(&mut printed),
-    );
-    (printed, told)
-}
+/// What two reels take of a dump of three blocks.
+const DUMPED: &[u8] =
+    b"volume 1: 2 blocks from 0\nvolume 2: 1 blocks from 2\ndump complete: 2 volumes, 3 blocks\n";
+
+/// What one reel takes of it.
+const ABANDONED: &[u8] =
+    b"volume 1: 2 blocks from 0\nvolume 2 failed: Refused 6\nretry?\ndump abandoned\n";
 
 /// Whether a dump of three blocks to the reels of a peer prints that, and has this status.
 fn is_dumped(
@@ -32,43 +28,56 @@ fn is_dumped(
     status: u8,
 ) -> Result<bool, Fail> {
     let mut client = blocks_dumper(alloc, 3)?;
-    let (printed, told) = dumped(alloc, &mut client, peer);
-    Ok(printed.as_slice() == wanted && told == status)
+    Ok(dump_prints(alloc, &mut client, peer, b"", wanted, status))
 }
 
-/// The same at a new peer with two reels.
-fn is_dumped_to_two(alloc: Global, wanted: &[u8], status: u8) -> Result<bool, Fail> {
-    let mut peer = peer(alloc, THREE_RECORDS, &[b"r1", b"r2"])?;
-    is_dumped(alloc, &mut peer, wanted, status)
+/// Writes a volume to the one reel of a peer, which is in the bin then.
+fn write_a_volume(alloc: Global, peer: &mut MemoryPeer) -> Result<(), Fail> {
+    if is_dumped(alloc, peer, ABANDONED, 3)? && peer.stacks().bin().len() == 1 {
+        return Ok(());
+    }
+    Err(Fail::new("not as dumped"))
 }
 
-#[test]
-fn two_volumes(rt: HostRuntime) -> Result<(), Fail> {
-    let lines =
-        b"volume 1: 2 blocks from 0\nvolume 2: 1 blocks from 2\ndump complete: 2 volumes, 3 blocks\n";
-    assert!(&rt; is_dumped_to_two(rt.alloc(), lines, 0)?);
+/// Drives in memory.
+type Drives = DriveTable<LocalHolds, ListStacks>;
+
+/// The drives of a peer after a volume was written to its one reel.
+fn drives_with_a_volume(alloc: Global) -> Result<Drives, Fail>
+    ensures { IfOk result (λ drives. length drives.stacks.shop.racks ≤ length drives.holds.numbers) }
+{
+    let mut peer = peer(alloc, THREE_RECORDS, &[b"r1"])?;
+    write_a_volume(alloc, &mut peer)?;
+    Ok(peer.into_drives())
+}
+
+/// Arranges these reels on the drive.
+fn lay_back(stacks: &mut ListStacks, names: &[&[u8]]) -> Result<(), Fail>
+    ensures { length stacks.new.shop.racks ≡ length stacks.old.shop.racks }
+{
+    let Some(drive) = stacks.drive(DEVICE) else {
+        return Err(Fail::new("no drive"));
+    };
+    if !stacks.can_arrange(drive, names) {
+        return Err(Fail::new("not to be arranged"));
+    }
+    stacks.arrange(drive, names)?;
     Ok(())
 }
 
-/// The peer with these reels arranged back on its drive.
-fn laid_back(alloc: Global, peer: MemoryPeer, names: &[&[u8]]) -> Result<MemoryPeer, Fail> {
-    let mut drives = peer.into_drives();
-    let Some(drive) = drives.stacks.drive(DEVICE) else {
-        return Err(Fail::new("no drive"));
-    };
-    if !drives.stacks.can_arrange(drive, names) {
-        return Err(Fail::new("not to be arranged"));
-    }
-    drives.stacks.arrange(drive, names)?;
+/// A peer whose one reel has a volume, and is laid back.
+fn peer_with_a_volume(alloc: Global) -> Result<MemoryPeer, Fail> {
+    let mut drives = drives_with_a_volume(alloc)?;
+    lay_back(&mut drives.stacks, &[b"r1"])?;
     peer_with(alloc, drives)
 }
 
 /// The bytes are those of the first two blocks.
 fn is_two_blocks(bytes: &[u8]) -> bool {
     match (bytes.get(..1024), bytes.get(1024..)) {
-        (Some(first), Some(rest)) => {
-            rest.len() == 1024 && first.iter().all(|b| *b == 0) && rest.iter().all(|b| *b == 1)
-        }
+        (Some(first), Some(rest)) => rest.len() == 1024
+            && is_filled(first, 0)
+            && is_filled(rest, 1),
         _ => false,
     }
 }
@@ -87,29 +96,6 @@ fn is_read_back(alloc: Global, peer: &mut MemoryPeer) -> bool {
     status == 0 && label.as_slice() == FIRST_LABEL && is_two_blocks(file.as_slice())
 }
 
-/// The peer after a volume was written to its one reel, which is in the bin.
-fn with_a_volume(alloc: Global) -> Result<MemoryPeer, Fail> {
-    let lines = b"volume 1: 2 blocks from 0\nvolume 2 failed: Refused 6\nretry?\ndump abandoned\n";
-    let mut peer = peer(alloc, THREE_RECORDS, &[b"r1"])?;
-    if !is_dumped(alloc, &mut peer, lines, 3)? || peer.stacks().bin().len() != 1 {
-        return Err(Fail::new("not as dumped"));
-    }
-    Ok(peer)
-}
-
-/// The peer with that reel laid back.
-fn laid_with_a_volume(alloc: Global) -> Result<MemoryPeer, Fail> {
-    let peer = with_a_volume(alloc)?;
-    laid_back(alloc, peer, &[b"r1"])
-}
-
-#[test]
-fn a_volume_is_read_back(rt: HostRuntime) -> Result<(), Fail> {
-    let mut peer = laid_with_a_volume(rt.alloc())?;
-    assert!(&rt; is_read_back(rt.alloc(), &mut peer));
-    Ok(())
-}
-
 /// An operation of count 1 prints that, and has this status.
 fn is_answered(alloc: Global, peer: &mut MemoryPeer, op: u8, printed: &[u8], status: u8) -> bool {
     let mut text = Vec::new(alloc);
@@ -119,32 +105,16 @@ fn is_answered(alloc: Global, peer: &mut MemoryPeer, op: u8, printed: &[u8], sta
 }
 
 /// Operations, each with what it prints and its status.
-type Operations<'a> = &'a [(u8, &'a [u8], u8)];
+type Operations = &'static [(u8, &'static [u8], u8)];
 
 /// These operations are answered so, one after the other.
-fn are_answered(alloc: Global, peer: &mut MemoryPeer, rows: Operations<'_>) -> bool {
+fn are_answered(alloc: Global, peer: &mut MemoryPeer, rows: Operations) -> bool {
     for (op, printed, status) in rows {
         if !is_answered(alloc, peer, *op, printed, *status) {
             return false;
         }
     }
     true
-}
-
-/// These operations are answered so on a drive with one empty reel.
-fn check_operations(alloc: Global, rows: Operations<'_>) -> Result<bool, Fail> {
-    let mut peer = peer(alloc, THREE_RECORDS, &[b"r1"])?;
-    Ok(are_answered(alloc, &mut peer, rows))
-}
-
-#[test]
-fn operations(rt: HostRuntime) -> Result<(), Fail> {
-    let alloc = rt.alloc();
-    assert!(&rt; check_operations(alloc, &[(0, b"A1\n", 0)])?);
-    assert!(&rt; check_operations(alloc, &[(3, b"E5 Input/output error\n", 3)])?);
-    let moved: Operations<'_> = &[(6, b"A1\n", 0), (7, b"E6 Device not configured\n", 3)];
-    assert!(&rt; check_operations(alloc, moved)?);
-    Ok(())
 }
 
 /// The next bytes, up to four, are these.
@@ -169,13 +139,6 @@ fn talks_in_pieces(peer: &mut MemoryPeer) -> bool {
     !early && taken && last && !late
 }
 
-#[test]
-fn pieces(rt: HostRuntime) -> Result<(), Fail> {
-    let mut peer = peer(rt.alloc(), THREE_RECORDS, &[b"r1"])?;
-    assert!(&rt; talks_in_pieces(&mut peer));
-    Ok(())
-}
-
 /// Where nothing is on the way back the connection is found ended.
 fn ends(peer: &mut MemoryPeer) -> bool {
     let opened = peer.connect() && peer.send(b"O/dev/st0\n2\n") && gives(peer, b"A0\n");
@@ -189,9 +152,97 @@ fn frees_the_drive(peer: &mut MemoryPeer) -> bool {
     ended && peer.stacks().reel(b"r1").is_some()
 }
 
+/// What passes with a peer.
+#[derive(Clone, Copy)]
+enum Talk {
+    /// A dump of three blocks.
+    Dump,
+    /// The volume of its reel is read back.
+    Reading,
+    /// Operations, one after the other.
+    Operations(Operations),
+    /// Requests that come in pieces.
+    Pieces,
+    /// The ends of two connections.
+    Ends,
+}
+
+/// What is talked of with a peer that has these reels, which are empty. Where there are none it has one with a volume.
+struct Case {
+    name: &'static str,
+    reels: &'static [&'static [u8]],
+    talk: Talk,
+}
+
+static CASES: [Case; 7] = [
+    Case {
+        name: "two volumes",
+        reels: &[b"r1", b"r2"],
+        talk: Talk::Dump,
+    },
+    Case {
+        name: "a volume is read back",
+        reels: &[],
+        talk: Talk::Reading,
+    },
+    Case {
+        name: "an operation",
+        reels: &[b"r1"],
+        talk: Talk::Operations(&[(0, b"A1\n", 0)]),
+    },
+    Case {
+        name: "one that fails",
+        reels: &[b"r1"],
+        talk: Talk::Operations(&[(3, b"E5 Input/output error\n", 3)]),
+    },
+    Case {
+        name: "one after the reel is gone",
+        reels: &[b"r1"],
+        talk: Talk::Operations(&[(6, b"A1\n", 0), (7, b"E6 Device not configured\n", 3)]),
+    },
+    Case {
+        name: "pieces",
+        reels: &[b"r1"],
+        talk: Talk::Pieces,
+    },
+    Case {
+        name: "an end",
+        reels: &[b"r1"],
+        talk: Talk::Ends,
+    },
+];
+
+/// Whether the talk with this peer goes as it should.
+fn goes(alloc: Global, peer: &mut MemoryPeer, talk: Talk) -> Result<bool, Fail> {
+    match talk {
+        Talk::Dump => is_dumped(alloc, peer, DUMPED, 0),
+        Talk::Reading => Ok(is_read_back(alloc, peer)),
+        Talk::Operations(rows) => Ok(are_answered(alloc, peer, rows)),
+        Talk::Pieces => Ok(talks_in_pieces(peer)),
+        Talk::Ends => Ok(frees_the_drive(peer)),
+    }
+}
+
+/// The peer of a case.
+fn peer_of(alloc: Global, reels: &[&[u8]]) -> Result<MemoryPeer, Fail> {
+    if reels.is_empty() {
+        peer_with_a_volume(alloc)
+    } else {
+        peer(alloc, THREE_RECORDS, reels)
+    }
+}
+
+/// Whether the case goes as it should, with a peer of its own.
+fn goes_anew(alloc: Global, case: &Case) -> Result<bool, Fail> {
+    let mut peer = peer_of(alloc, case.reels)?;
+    goes(alloc, &mut peer, case.talk)
+}
+
 #[test]
-fn an_end(rt: HostRuntime) -> Result<(), Fail> {
-    let mut peer = peer(rt.alloc(), THREE_RECORDS, &[b"r1"])?;
-    assert!(&rt; frees_the_drive(&mut peer));
+fn talks(rt: HostRuntime) -> Result<(), Fail> {
+    for case in &CASES {
+        let name = case.name;
+        assert!(rt; goes_anew(rt.alloc(), case)?, "{name}");
+    }
     Ok(())
 }

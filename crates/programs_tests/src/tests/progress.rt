@@ -2,6 +2,7 @@
 
 use dump_client::{Blocks, ListBlocks};
 use dump_files::{Clearing, Gauge, ProgressLine, Shown};
+use std::alloc::Global;
 use std::cell::Cell;
 use std::io::{self, Write};
 use std::test::Fail;
@@ -64,6 +65,14 @@ impl Clock for Ticking {
     }
 }
 
+/// Whether three blocks were begun, and the second was shown.
+fn is_shown(gauge: &Option<Seen>) -> bool {
+    match gauge {
+        Some(seen) => (seen.blocks, seen.shows, seen.last) == (3, 1, Some((1, 2))),
+        None => false,
+    }
+}
+
 #[test]
 fn a_block_is_shown_and_read(rt: HostRuntime) -> Result<(), Fail> {
     let payload = Vec::from_slice(rt.alloc(), b"abcdef")?;
@@ -74,13 +83,8 @@ fn a_block_is_shown_and_read(rt: HostRuntime) -> Result<(), Fail> {
         gauge,
     };
     let mut block = [0; 2];
-    assert_eq!(&rt; source.read(1, &mut block), Ok(()));
-    assert_eq!(&rt; &block, b"cd");
-    assert_eq!(&rt; source.failures(), 0);
-    let Some(seen) = source.gauge else {
-        return Err(Fail::new("no gauge"));
-    };
-    assert_eq!(&rt; (seen.blocks, seen.shows, seen.last), (3, 1, Some((1, 2))));
+    let read = source.read(1, &mut block) == Ok(()) && block == *b"cd" && source.failures() == 0;
+    assert!(rt; read && is_shown(&source.gauge));
     Ok(())
 }
 
@@ -112,7 +116,7 @@ static ROWS: [Row; 4] = [
     ),
 ];
 
-/// What is shown of such reads.
+/// Shows such reads.
 fn show(text: &mut Vec<u8>, bytes: usize, reads: &[u32]) {
     let clock = Ticking::new();
     let mut line = ProgressLine::new(&clock, text);
@@ -122,28 +126,37 @@ fn show(text: &mut Vec<u8>, bytes: usize, reads: &[u32]) {
     }
 }
 
+/// Whether that is shown of such reads.
+fn goes(alloc: Global, row: &Row) -> bool {
+    let (bytes, reads, wanted) = *row;
+    let mut text = Vec::new(alloc);
+    show(&mut text, bytes, reads);
+    text.as_slice() == wanted
+}
+
 #[test]
 fn lines_of_progress(rt: HostRuntime) {
-    for (bytes, reads, wanted) in ROWS {
-        let mut text = Vec::new(rt.alloc());
-        show(&mut text, bytes, reads);
-        assert!(rt; text.as_slice() == wanted, "{reads:?}, {bytes}");
+    for (at, row) in ROWS.iter().enumerate() {
+        assert!(rt; goes(rt.alloc(), row), "row {at}");
+    }
+}
+
+/// Whether the terminal is cleared.
+fn is_cleared(terminal: &Option<Vec<u8>>) -> bool {
+    match terminal {
+        Some(shown) => shown.as_slice() == CLEARED,
+        None => false,
     }
 }
 
 #[test]
-fn a_line_below_progress(rt: HostRuntime) -> Result<(), Fail> {
-    let alloc = rt.alloc();
+fn a_line_below_progress(rt: HostRuntime) {
     let mut out = Clearing {
-        lines: Vec::new(alloc),
-        terminal: Some(Vec::new(alloc)),
+        lines: Vec::new(rt.alloc()),
+        terminal: Some(Vec::new(rt.alloc())),
     };
-    out.write_all(b"retry?\n")?;
-    let Clearing { lines, terminal } = out;
-    assert_eq!(&rt; lines.as_slice(), b"retry?\n".as_slice());
-    let Some(terminal) = terminal else {
-        return Err(Fail::new("no terminal"));
-    };
-    assert_eq!(&rt; terminal.as_slice(), CLEARED);
-    Ok(())
+    let written = out.write_all(b"retry?\n").is_ok();
+    assert!(rt;
+        written && out.lines.as_slice() == b"retry?\n".as_slice() && is_cleared(&out.terminal)
+    );
 }

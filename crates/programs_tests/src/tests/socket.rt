@@ -1,29 +1,37 @@
 //! A peer over TCP, on the loopback, in one thread: what is sent waits in the socket.
 
 use rmt_peer::{Peer, SocketPeer};
-use std::io::{Read, Write};
-use std::net::{Net, TcpListener};
-use std::process::Abort;
+use std::alloc::Global;
+use std::io::{self, Read, Write};
+use std::net::{TcpListener, TcpStream};
 use std::test::Fail;
 
-/// A connection that this listener accepts carries a request and its answer, and ends where the peer hangs up.
-fn carries_a_request(
-    rt: &impl Abort,
-    listener: &TcpListener,
-    peer: &mut impl Peer,
-) -> Result<(), Fail> {
-    let (mut server, _) = listener.accept()?;
-    assert!(rt; peer.send(b"I7\n1\n"));
+/// Whether a request comes to the server's side of a connection, where it is answered.
+fn is_heard(server: &mut TcpStream) -> io::Result<bool> {
     let mut asked = [0; 5];
     server.read_exact(&mut asked)?;
-    assert_eq!(rt; asked.as_slice(), b"I7\n1\n".as_slice());
     server.write_all(b"A1\n")?;
+    Ok(asked == *b"I7\n1\n")
+}
+
+/// Whether the answer comes to the peer, which hangs up then.
+fn is_answered(peer: &mut impl Peer) -> bool {
     let mut into = [0; 8];
-    assert_eq!(rt; peer.receive(&mut into), 3);
-    assert_eq!(rt; &into[..3], b"A1\n".as_slice());
+    let count = peer.receive(&mut into);
     peer.hang_up();
-    assert_eq!(rt; server.read(&mut into)?, 0);
-    Ok(())
+    count == 3 && into.starts_with(b"A1\n")
+}
+
+/// Whether a connection carries a request and its answer, and ends where the peer hangs up.
+fn carries_a_request(server: &mut TcpStream, peer: &mut impl Peer) -> io::Result<bool> {
+    let carried = peer.send(b"I7\n1\n") && is_heard(server)? && is_answered(peer);
+    Ok(carried && server.read(&mut [0; 8])? == 0)
+}
+
+/// The same of the next connection that this listener accepts.
+fn carries_to(listener: &TcpListener, peer: &mut impl Peer) -> io::Result<bool> {
+    let (mut server, _) = listener.accept()?;
+    carries_a_request(&mut server, peer)
 }
 
 /// Without a connection nothing is sent, and nothing comes.
@@ -31,14 +39,23 @@ fn is_silent(peer: &mut impl Peer) -> bool {
     !peer.send(b"C\n") && peer.receive(&mut [0; 8]) == 0
 }
 
+/// Whether a peer carries a request to this listener, on its connection alone.
+fn carries_once(peer: &mut impl Peer, listener: &TcpListener) -> io::Result<bool> {
+    let early = is_silent(peer) && peer.connect();
+    Ok(early && carries_to(listener, peer)? && is_silent(peer))
+}
+
+/// The address of a listener.
+fn address_of(alloc: Global, listener: &TcpListener) -> Result<String, Fail> {
+    let address = listener.local_addr()?;
+    Ok(format!(in alloc; "{address}")?)
+}
+
 #[test]
 fn one_connection(rt: HostRuntime) -> Result<(), Fail> {
     let listener = TcpListener::bind(&rt, "127.0.0.1:0")?;
-    let address = format!(in rt.alloc(); "{}", listener.local_addr()?)?;
+    let address = address_of(rt.alloc(), &listener)?;
     let mut peer = SocketPeer::new(&rt, address.as_str());
-    assert!(rt; is_silent(&mut peer));
-    assert!(rt; peer.connect());
-    carries_a_request(&rt, &listener, &mut peer)?;
-    assert!(rt; is_silent(&mut peer));
+    assert!(rt; carries_once(&mut peer, &listener)?);
     Ok(())
 }
