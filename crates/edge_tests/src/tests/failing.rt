@@ -29,13 +29,13 @@ fn a_failed_read_gives_the_status_of_a_failure(rt: HostRuntime) {
     let mut taken = Vec::new(rt.alloc());
     let mut input = Counted::new(Failing);
     let mut output = Counted::new(&mut taken);
-    assert_eq!(rt; run_stdio(rt.alloc(), &mut input, &mut output, 1024), 1);
-    assert!(rt; taken.is_empty());
+    let status = run_stdio(rt.alloc(), &mut input, &mut output, 1024);
+    assert!(rt; status == 1 && taken.is_empty());
 }
 
 #[test]
 fn a_failed_write_gives_the_status_of_a_failure(rt: HostRuntime) {
     let mut input = Counted::new(b"C\n".as_slice());
     let mut output = Counted::new(Failing);
-    assert_eq!(rt; run_stdio(rt.alloc(), &mut input, &mut output, 1024), 1);
+    assert!(rt; run_stdio(rt.alloc(), &mut input, &mut output, 1024) == 1);
 }

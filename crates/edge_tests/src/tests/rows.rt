@@ -1,23 +1,24 @@
 //! Conversations with the drive in memory, and the status that each ends with.
 
+ghost use Rattle.std.specs.Prelude.{◌≡◌, IfOk, length};
+
 use drives::ListStacks;
 use rmt_serve::{TapeServer, run_stdio};
 use rmt_server::Served;
 use rmt_wire::Counted;
 use std::alloc::Global;
-use std::process::Abort;
 use std::test::Fail;
 
 /// A capacity in bytes that no row fills.
 const CAPACITY: u64 = 1048576;
 
-/// What is answered to these bytes, and with which status, by a reel of this capacity.
-fn check(rt: &impl Abort, alloc: Global, capacity: u64, bytes: &[u8], want: &[u8], status: u8) {
+/// Whether that is answered to these bytes, with this status, by a reel of this capacity.
+fn is_answered(alloc: Global, row: &Row<'_>) -> bool {
+    let (capacity, bytes, want, status) = *row;
     let mut taken = Vec::new(alloc);
     let mut input = Counted::new(bytes);
     let mut output = Counted::new(&mut taken);
-    assert_eq!(rt; run_stdio(alloc, &mut input, &mut output, capacity), status);
-    assert_eq!(rt; taken.as_slice(), want);
+    run_stdio(alloc, &mut input, &mut output, capacity) == status && taken.as_slice() == want
 }
 
 /// Two records and a mark, spaced over by every operation, past the ends and by no count.
@@ -28,10 +29,10 @@ const SPACED_ANSWERS: &[u8] =
     b"A0\nA1\nA1\nA1\nE5\nInput/output error\nE5\nInput/output error\nA2\nE5\nInput/output error\nA1\nE5\nInput/output error\nE5\nInput/output error\nA0\n";
 
 /// A conversation with a reel of so many bytes, its answers, and the status.
-type Row = (u64, &'static [u8], &'static [u8], u8);
+type Row<'a> = (u64, &'a [u8], &'a [u8], u8);
 
 /// A record that is read back; conversations with requests that are refused, or are none; and two with a reel that runs out.
-const ROWS: [Row; 19] = [
+static ROWS: [Row<'static>; 19] = [
     (
         CAPACITY,
         b"O/dev/st0\n2\nW5\nhelloI0\n1\nI5\n1\nR10\nR10\nC\n",
@@ -105,44 +106,57 @@ const ROWS: [Row; 19] = [
 
 #[test]
 fn each_conversation_is_answered(rt: HostRuntime) {
-    for (capacity, bytes, want, status) in ROWS {
-        check(&rt, rt.alloc(), capacity, bytes, want, status);
+    for (at, row) in ROWS.iter().enumerate() {
+        assert!(rt; is_answered(rt.alloc(), row), "row {at}");
     }
+}
+
+/// Writes of a record of 65,536 bytes, of one byte more, and of none.
+fn greatest(alloc: Global) -> Result<Vec<u8>, Fail> {
+    let data = Vec::from_elem(alloc, b'r', 65536)?;
+    let mut bytes = Vec::from_slice(alloc, b"O/dev/st0\n2\nW65536\n")?;
+    bytes.extend_from_slice(&data)?;
+    bytes.extend_from_slice(b"W65537\n")?;
+    bytes.extend_from_slice(&data)?;
+    bytes.extend_from_slice(b"rW0\nI7\n9\n")?;
+    Ok(bytes)
 }
 
 #[test]
 fn the_greatest_record_and_one_byte_more(rt: HostRuntime) -> Result<(), Fail> {
-    let data = Vec::from_elem(rt.alloc(), b'r', 65537)?;
-    let mut bytes = Vec::from_slice(rt.alloc(), b"O/dev/st0\n2\nW65536\n")?;
-    bytes.extend_from_slice(&data.as_slice()[..65536])?;
-    bytes.extend_from_slice(b"W65537\n")?;
-    bytes.extend_from_slice(data.as_slice())?;
-    bytes.extend_from_slice(b"W0\nI7\n9\n")?;
-    let want = b"A0\nA65536\nE22\nInvalid argument\nE22\nInvalid argument\nA9\n".as_slice();
-    check(&rt, rt.alloc(), CAPACITY, bytes.as_slice(), want, 0);
+    let bytes = greatest(rt.alloc())?;
+    let want = b"A0\nA65536\nE22\nInvalid argument\nE22\nInvalid argument\nA9\n";
+    assert!(rt; is_answered(rt.alloc(), &(CAPACITY, &bytes, want, 0)));
     Ok(())
 }
 
 /// Whether a drive of these stacks takes a record in one stream, and gives it back in the next.
-fn keeps_a_record(server: &mut TapeServer<ListStacks>, taken: &mut Vec<u8>) -> bool {
+fn keeps_a_record(alloc: Global, server: &mut TapeServer<ListStacks>) -> bool {
+    let mut taken = Vec::new(alloc);
     let mut first = Counted::new(b"O/dev/st0\n2\nW3\nabc".as_slice());
     let mut next = Counted::new(b"O/dev/st0\n0\nR9\nC\n".as_slice());
-    let mut output = Counted::new(taken);
+    let mut output = Counted::new(&mut taken);
     server.serve(&mut first, &mut output) == Some(Served::End)
         && server.serve(&mut next, &mut output) == Some(Served::End)
+        && taken.as_slice() == b"A0\nA3\nA0\nA3\nabcA0\n".as_slice()
+}
+
+/// One drive with one reel.
+fn one_drive(alloc: Global) -> Result<ListStacks, Fail>
+    ensures { IfOk result (λ stacks. length stacks.shop.racks ≡ 1) }
+{
+    let mut stacks = ListStacks::new(alloc);
+    let drive = stacks.add_drive(b"/dev/st0")?;
+    stacks.add_reel(drive, b"r1", 1024)?;
+    Ok(stacks)
 }
 
 #[test]
-fn drives_serve_one_stream_after_the_other(rt: HostRuntime) {
-    let mut stacks = ListStacks::new(rt.alloc());
-    let Ok(drive) = stacks.add_drive(b"/dev/st0") else {
-        panic!(rt; "there is memory");
-    };
-    let ready = stacks.add_reel(drive, b"r1", 1024).is_ok();
+fn drives_serve_one_stream_after_the_other(rt: HostRuntime) -> Result<(), Fail> {
+    let stacks = one_drive(rt.alloc())?;
     let Some(mut server) = TapeServer::new(rt.alloc(), 1, stacks) else {
-        panic!(rt; "there is memory");
+        return Err(Fail::new("no server"));
     };
-    let mut taken = Vec::new(rt.alloc());
-    assert!(rt; ready && keeps_a_record(&mut server, &mut taken));
-    assert_eq!(rt; taken.as_slice(), b"A0\nA3\nA0\nA3\nabcA0\n".as_slice());
+    assert!(rt; keeps_a_record(rt.alloc(), &mut server));
+    Ok(())
 }

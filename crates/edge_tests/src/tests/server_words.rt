@@ -1,21 +1,22 @@
 //! The words of `rmtd`.
 
 use clap::error::ErrorKind;
-use rmtd_words::{LineFault, ServerLine, is_device, number_of, server_line, server_words};
-use std::test::Fail;
+use rmtd_words::{
+    DriveWord, LineFault, ServerLine, is_device, number_of, server_line, server_words,
+};
+use std::alloc::Global;
 
 /// Words of a program.
 type Words = &'static [&'static str];
 
-/// What right words ask for. The drives are devices, each with its folder.
-#[derive(Clone, Copy)]
+/// What right words ask for.
 struct Wanted {
     stdio: bool,
     listen: Option<&'static str>,
     capacity: u64,
     connections: Option<u64>,
     bin: Option<&'static str>,
-    drives: &'static [(&'static str, &'static str)],
+    drives: &'static [DriveWord<'static>],
 }
 
 /// What is asked for by `--stdio` alone.
@@ -29,7 +30,7 @@ const STDIO: Wanted = Wanted {
 };
 
 /// Words that are right, and what they ask for.
-const RIGHT: [(Words, Wanted); 5] = [
+static RIGHT: [(Words, Wanted); 5] = [
     (&["rmtd", "--stdio"], STDIO),
     (
         &[
@@ -74,7 +75,16 @@ const RIGHT: [(Words, Wanted); 5] = [
             capacity: 1_048_576,
             connections: None,
             bin: Some("/bin"),
-            drives: &[("/dev/st0", "/srv/a=b"), ("st1", "c")],
+            drives: &[
+                DriveWord {
+                    device: "/dev/st0",
+                    folder: "/srv/a=b",
+                },
+                DriveWord {
+                    device: "st1",
+                    folder: "c",
+                },
+            ],
         },
     ),
     (
@@ -90,19 +100,6 @@ const RIGHT: [(Words, Wanted); 5] = [
     ),
 ];
 
-/// Whether the line has these drives.
-fn has_drives(line: &ServerLine<'_>, wanted: &[(&str, &str)]) -> bool {
-    if line.drives.len() != wanted.len() {
-        return false;
-    }
-    for (drive, wanted) in line.drives.iter().zip(wanted) {
-        if (drive.device, drive.folder) != *wanted {
-            return false;
-        }
-    }
-    true
-}
-
 /// Whether the line is this one.
 fn is_line(line: &ServerLine<'_>, wanted: &Wanted) -> bool {
     line.stdio == wanted.stdio
@@ -110,22 +107,26 @@ fn is_line(line: &ServerLine<'_>, wanted: &Wanted) -> bool {
         && line.capacity == wanted.capacity
         && line.connections == wanted.connections
         && line.bin == wanted.bin
-        && has_drives(line, wanted.drives)
+        && line.drives.as_slice() == wanted.drives
+}
+
+/// Whether the words ask for that.
+fn asks(alloc: Global, words: Words, wanted: &Wanted) -> bool {
+    match server_words(alloc, words) {
+        Ok(line) => is_line(&line, wanted),
+        Err(_) => false,
+    }
 }
 
 #[test]
 fn words_that_are_right(rt: HostRuntime) {
-    for (words, wanted) in RIGHT {
-        let good = match server_words(rt.alloc(), words) {
-            Ok(line) => is_line(&line, &wanted),
-            Err(_) => false,
-        };
-        assert!(rt; good, "{words:?}");
+    for (at, (words, wanted)) in RIGHT.iter().enumerate() {
+        assert!(rt; asks(rt.alloc(), words, wanted), "row {at}");
     }
 }
 
 /// Words that are refused: neither or both ways, words of no use, drives that are none, and numbers that are none.
-const REFUSED: [Words; 22] = [
+static REFUSED: [Words; 22] = [
     &["rmtd"],
     &["rmtd", "--stdio", "--listen", "x"],
     &["rmtd", "--stdio", "--stdio"],
@@ -150,45 +151,65 @@ const REFUSED: [Words; 22] = [
     &["rmtd", "--listen", "x", "--connections", "two"],
 ];
 
-#[test]
-fn words_that_are_wrong(rt: HostRuntime) {
-    for words in REFUSED {
-        let found = server_words(rt.alloc(), words).err();
-        assert!(rt; found == Some(LineFault::BadWords), "{words:?}");
+/// Whether the words are wrong.
+fn is_refused(alloc: Global, words: Words) -> bool {
+    match server_words(alloc, words) {
+        Ok(_) => false,
+        Err(fault) => fault == LineFault::BadWords,
     }
 }
 
 #[test]
-fn what_a_user_is_told(rt: HostRuntime) -> Result<(), Fail> {
-    let rows: [(Words, ErrorKind); 3] = [
-        (
-            &["rmtd", "--stdio", "--listen", "x"],
-            ErrorKind::ArgumentConflict,
-        ),
-        (&["rmtd", "--help"], ErrorKind::DisplayHelp),
-        (&["rmtd", "--version"], ErrorKind::DisplayVersion),
-    ];
-    for (words, kind) in rows {
-        let Some(error) = server_line(rt.alloc(), words).err() else {
-            return Err(Fail::new("the words were taken"));
-        };
-        assert_eq!(rt; error.kind(), kind);
+fn words_that_are_wrong(rt: HostRuntime) {
+    for (at, words) in REFUSED.iter().enumerate() {
+        assert!(rt; is_refused(rt.alloc(), words), "row {at}");
     }
-    Ok(())
 }
+
+/// Words of which a user is told something, and of which kind that is.
+static TOLD: [(Words, ErrorKind); 3] = [
+    (
+        &["rmtd", "--stdio", "--listen", "x"],
+        ErrorKind::ArgumentConflict,
+    ),
+    (&["rmtd", "--help"], ErrorKind::DisplayHelp),
+    (&["rmtd", "--version"], ErrorKind::DisplayVersion),
+];
+
+/// Whether something of this kind is told.
+fn is_told(alloc: Global, words: Words, kind: ErrorKind) -> bool {
+    match server_line(alloc, words) {
+        Ok(_) => false,
+        Err(error) => error.kind() == kind,
+    }
+}
+
+#[test]
+fn what_a_user_is_told(rt: HostRuntime) {
+    for (at, (words, kind)) in TOLD.iter().enumerate() {
+        assert!(rt; is_told(rt.alloc(), words, *kind), "row {at}");
+    }
+}
+
+/// A device with one byte too many.
+static LONGER: [u8; 256] = [b'd'; 256];
+
+/// Texts, and the numbers that they are.
+static NUMBERS: [(&str, Option<u64>); 6] = [
+    ("9223372036854775807", Some(9_223_372_036_854_775_807)),
+    ("007", Some(7)),
+    ("9223372036854775808", None),
+    ("+1", None),
+    ("", None),
+    ("1k", None),
+];
 
 #[test]
 fn devices_and_numbers(rt: HostRuntime) {
-    let longest = [b'd'; 255];
-    let longer = [b'd'; 256];
-    assert!(rt; is_device(b"d") && is_device(&longest));
-    assert!(rt; !is_device(b"") && !is_device(&longer) && !is_device(b"a\nb"));
-    assert_eq!(rt;
-        number_of("9223372036854775807"),
-        Some(9_223_372_036_854_775_807)
-    );
-    assert_eq!(rt; number_of("007"), Some(7));
-    for text in ["9223372036854775808", "+1", "", "1k"] {
-        assert_eq!(rt; number_of(text), None);
+    let good = is_device(b"d") && is_device(&LONGER[..255]);
+    let bad = is_device(b"") || is_device(&LONGER) || is_device(b"a\nb");
+    assert!(rt; good && !bad);
+    for (text, wanted) in &NUMBERS {
+        assert!(rt; number_of(text) == *wanted, "{text}");
     }
 }

@@ -3,204 +3,252 @@
 use clap::error::ErrorKind;
 use rmt_words::{DumpLine, RdumpLine, rdump_words};
 use std::alloc::Global;
-use std::process::Abort;
 
-/// The file and what is asked of it, by words that are taken.
-fn taken<'a>(
-    rt: &impl Abort,
-    alloc: Global,
-    words: &'a [&'a str],
-) -> (&'a str, Option<(&'a str, u8)>) {
-    match rdump_words(alloc, words) {
-        Ok(RdumpLine::Dates { file, asked }) => (file, asked),
-        Ok(_) => panic!(rt; "another command"),
-        Err(_) => panic!(rt; "the words were refused"),
-    }
+/// What words ask for, or how they are refused. The address is `h:1`, the device `d` and the file `f`.
+enum Wanted {
+    /// The file is asked for this name and level, or for all.
+    Dates(Option<(&'static str, u8)>),
+    /// A dump with this date, which is entered or not.
+    Dump(Option<u64>, bool),
+    /// A volume is read into `o`.
+    Read,
+    /// An operation and its count.
+    Operation(u32, u32),
+    /// They are refused with an error of this kind.
+    Error(ErrorKind),
+    /// They are refused.
+    Refused,
 }
 
-/// Words that ask a dumpdates file, the file, and what is asked of it.
-type Asking = (
-    &'static [&'static str],
-    (&'static str, Option<(&'static str, u8)>),
-);
+/// Words, and what is wanted of them.
+type Row = (&'static [&'static str], Wanted);
 
-const TAKEN: [Asking; 3] = [
-    (&["rdump", "dates", "--file", "f"], ("f", None)),
+static ROWS: [Row; 26] = [
+    (&["rdump", "dates", "--file", "f"], Wanted::Dates(None)),
     (
         &["rdump", "dates", "--level=9", "--name", "/usr", "--file=f"],
-        ("f", Some(("/usr", 9))),
+        Wanted::Dates(Some(("/usr", 9))),
     ),
     (
         &["rdump", "dates", "--file", "f", "--name=--", "--level", "0"],
-        ("f", Some(("--", 0))),
+        Wanted::Dates(Some(("--", 0))),
     ),
-];
-
-#[test]
-fn words_are_taken(rt: HostRuntime) {
-    for (words, wanted) in TAKEN {
-        assert_eq!(rt; taken(&rt, rt.alloc(), words), wanted);
-    }
-}
-
-/// Words that are refused, and the kind of the error.
-const REFUSED: [(&[&str], ErrorKind); 14] = [
     (
         &["rdump"],
-        ErrorKind::DisplayHelpOnMissingArgumentOrSubcommand,
+        Wanted::Error(ErrorKind::DisplayHelpOnMissingArgumentOrSubcommand),
     ),
-    (&["rdump", "--help"], ErrorKind::DisplayHelp),
-    (&["rdump", "dates", "--help"], ErrorKind::DisplayHelp),
-    (&["rdump", "date"], ErrorKind::InvalidSubcommand),
-    (&["rdump", "dates"], ErrorKind::MissingRequiredArgument),
+    (&["rdump", "--help"], Wanted::Error(ErrorKind::DisplayHelp)),
+    (
+        &["rdump", "dates", "--help"],
+        Wanted::Error(ErrorKind::DisplayHelp),
+    ),
+    (
+        &["rdump", "date"],
+        Wanted::Error(ErrorKind::InvalidSubcommand),
+    ),
+    (
+        &["rdump", "dates"],
+        Wanted::Error(ErrorKind::MissingRequiredArgument),
+    ),
     (
         &["rdump", "dates", "--file", "f", "--name", "n"],
-        ErrorKind::MissingRequiredArgument,
+        Wanted::Error(ErrorKind::MissingRequiredArgument),
     ),
     (
         &["rdump", "dates", "--file", "f", "--level", "1"],
-        ErrorKind::MissingRequiredArgument,
+        Wanted::Error(ErrorKind::MissingRequiredArgument),
     ),
     (
         &[
             "rdump", "dates", "--file", "f", "--name", "n", "--level", "10",
         ],
-        ErrorKind::ValueValidation,
+        Wanted::Error(ErrorKind::ValueValidation),
     ),
     (
         &[
             "rdump", "dates", "--file", "f", "--name", "n", "--level", "+5",
         ],
-        ErrorKind::ValueValidation,
+        Wanted::Error(ErrorKind::ValueValidation),
     ),
     (
         &[
             "rdump", "dates", "--file", "f", "--name", "n", "--level", "05",
         ],
-        ErrorKind::ValueValidation,
+        Wanted::Error(ErrorKind::ValueValidation),
     ),
     (
         &[
             "rdump", "dates", "--file", "f", "--name", "n", "--level", "",
         ],
-        ErrorKind::ValueValidation,
+        Wanted::Error(ErrorKind::ValueValidation),
     ),
     (
         &["rdump", "dates", "--file", "f", "--name=", "--level", "1"],
-        ErrorKind::ValueValidation,
+        Wanted::Error(ErrorKind::ValueValidation),
     ),
     (
         &[
             "rdump", "dates", "--file", "f", "--name", "a b", "--level", "1",
         ],
-        ErrorKind::ValueValidation,
+        Wanted::Error(ErrorKind::ValueValidation),
     ),
     (
         &["rdump", "dates", "--file", "f", "g"],
-        ErrorKind::UnknownArgument,
+        Wanted::Error(ErrorKind::UnknownArgument),
+    ),
+    (
+        &[
+            "rdump",
+            "dump",
+            "--to",
+            "h:1",
+            "--device",
+            "d",
+            "--fs",
+            "/usr",
+            "--level",
+            "1",
+            "--payload",
+            "p",
+            "--block",
+            "1024",
+            "--dumpdates=f",
+            "--date=9223372036854775807",
+            "--update",
+        ],
+        Wanted::Dump(Some(9223372036854775807), true),
+    ),
+    (
+        &[
+            "rdump",
+            "dump",
+            "--to",
+            "h:1",
+            "--device",
+            "d",
+            "--fs",
+            "/usr",
+            "--level",
+            "1",
+            "--payload",
+            "p",
+            "--block",
+            "1024",
+            "--dumpdates=f",
+        ],
+        Wanted::Dump(None, false),
+    ),
+    (
+        &[
+            "rdump",
+            "dump",
+            "--to",
+            "h:1",
+            "--device",
+            "d",
+            "--fs",
+            "/usr",
+            "--level",
+            "1",
+            "--payload",
+            "p",
+            "--block",
+            "1024",
+        ],
+        Wanted::Refused,
+    ),
+    (
+        &[
+            "rdump", "read", "--to", "h:1", "--device", "d", "--out", "o",
+        ],
+        Wanted::Read,
+    ),
+    (
+        &[
+            "rdump",
+            "mt",
+            "--to=h:1",
+            "--device=d",
+            "offline",
+            "2147483647",
+        ],
+        Wanted::Operation(6, 2147483647),
+    ),
+    (
+        &[
+            "rdump",
+            "mt",
+            "--to=h:1",
+            "--device=d",
+            "rewind",
+            "2147483648",
+        ],
+        Wanted::Refused,
+    ),
+    (
+        &["rdump", "mt", "--to=h:1", "--device=d", "eject", "1"],
+        Wanted::Refused,
+    ),
+    (
+        &["rdump", "mt", "--to=h:1", "--device=d", "nop", "+1"],
+        Wanted::Refused,
+    ),
+    (
+        &["rdump", "mt", "--to=h:1", "--device=d", "nop", ""],
+        Wanted::Refused,
     ),
 ];
 
-#[test]
-fn words_are_refused(rt: HostRuntime) {
-    for (words, kind) in REFUSED {
-        match rdump_words(rt.alloc(), words) {
-            Ok(_) => panic!(rt; "the words were taken"),
-            Err(error) => assert_eq!(rt; error.kind(), kind),
-        }
-    }
-}
-
-/// The words of a dump.
-const DUMPED: [&str; 17] = [
-    "rdump",
-    "dump",
-    "--to",
-    "h:1",
-    "--device",
-    "d",
-    "--fs",
-    "/usr",
-    "--level",
-    "1",
-    "--payload",
-    "p",
-    "--block",
-    "1024",
-    "--dumpdates=f",
-    "--date=9223372036854775807",
-    "--update",
-];
-
-/// What a dump is asked for, by words that are taken.
-fn dumped<'a>(alloc: Global, words: &'a [&'a str]) -> Option<DumpLine<'a>> {
-    match rdump_words(alloc, words) {
-        Ok(RdumpLine::Dump(line)) => Some(line),
-        _ => None,
-    }
-}
-
-#[test]
-fn words_of_a_dump(rt: HostRuntime) {
-    let Some(line) = dumped(rt.alloc(), DUMPED.as_slice()) else {
-        panic!(&rt; "no dump");
-    };
-    let DumpLine {
-        to,
-        device,
-        fs,
-        level,
-        payload,
-        block,
-        dumpdates,
-        date,
-        update,
-    } = line;
-    assert!(&rt; (to, device, fs, level) == ("h:1", "d", "/usr", 1));
-    assert!(&rt; (payload, block, dumpdates) == ("p", 1024, "f"));
-    assert!(&rt; (date, update) == (Some(9223372036854775807), true));
-    let short = dumped(rt.alloc(), &DUMPED.as_slice()[..15]).map(|it| (it.date, it.update));
-    assert!(&rt; short == Some((None, false)));
-    assert!(&rt; rdump_words(rt.alloc(), &DUMPED.as_slice()[..14]).is_err());
-}
-
-/// Whether words are those of the reading of a volume at `h:1` on `d` into `o`.
-fn is_read(alloc: Global, words: &[&str]) -> bool {
-    match rdump_words(alloc, words) {
-        Ok(RdumpLine::Read(line)) => (line.to, line.device, line.out) == ("h:1", "d", "o"),
+/// Whether the line asks a dumpdates file so.
+fn is_dates(line: RdumpLine<'_>, wanted: Option<(&str, u8)>) -> bool {
+    match line {
+        RdumpLine::Dates { file, asked } => file == "f" && asked == wanted,
         _ => false,
     }
 }
 
-/// Whether words ask for this operation and count at `h:1` on `d`, or are refused where none is wanted.
-fn is_operation(alloc: Global, words: &[&str], wanted: Option<(u32, u32)>) -> bool {
-    match rdump_words(alloc, words) {
-        Ok(RdumpLine::Mt(line)) => {
-            (line.to, line.device) == ("h:1", "d") && Some((line.op, line.count)) == wanted
+/// Whether the line is that of a dump of `/usr` with this date.
+fn is_dump(line: &DumpLine<'_>, date: Option<u64>, update: bool) -> bool {
+    (line.to, line.device, line.fs, line.level) == ("h:1", "d", "/usr", 1)
+        && (line.payload, line.block, line.dumpdates) == ("p", 1024, "f")
+        && (line.date, line.update) == (date, update)
+}
+
+/// Whether the line asks for what is wanted.
+fn is_line(line: RdumpLine<'_>, wanted: &Wanted) -> bool {
+    match (line, wanted) {
+        (_, Wanted::Dates(asked)) => is_dates(line, *asked),
+        (RdumpLine::Dump(dump), Wanted::Dump(date, update)) => is_dump(&dump, *date, *update),
+        (RdumpLine::Read(read), Wanted::Read) => {
+            (read.to, read.device, read.out) == ("h:1", "d", "o")
         }
-        Ok(_) => false,
-        Err(_) => wanted.is_none(),
+        (RdumpLine::Mt(mt), Wanted::Operation(op, count)) => {
+            (mt.to, mt.device) == ("h:1", "d") && (mt.op, mt.count) == (*op, *count)
+        }
+        _ => false,
     }
 }
 
-/// The words of an operation and of its count, and the operation that they ask for.
-const OPERATIONS: [(&str, &str, Option<(u32, u32)>); 5] = [
-    ("offline", "2147483647", Some((6, 2147483647))),
-    ("rewind", "2147483648", None),
-    ("eject", "1", None),
-    ("nop", "+1", None),
-    ("nop", "", None),
-];
+/// Whether an error of this kind is wanted.
+fn is_error(kind: ErrorKind, wanted: &Wanted) -> bool {
+    match wanted {
+        Wanted::Error(one) => kind == *one,
+        Wanted::Refused => true,
+        _ => false,
+    }
+}
+
+/// Whether that comes of the words.
+fn goes(alloc: Global, words: &[&str], wanted: &Wanted) -> bool {
+    match rdump_words(alloc, words) {
+        Ok(line) => is_line(line, wanted),
+        Err(error) => is_error(error.kind(), wanted),
+    }
+}
 
 #[test]
-fn words_of_a_read_and_an_operation(rt: HostRuntime) {
-    let words = [
-        "rdump", "read", "--to", "h:1", "--device", "d", "--out", "o",
-    ];
-    assert!(&rt; is_read(rt.alloc(), words.as_slice()));
-    for (op, count, wanted) in OPERATIONS {
-        let words = ["rdump", "mt", "--to=h:1", "--device=d", op, count];
-        let good = is_operation(rt.alloc(), words.as_slice(), wanted);
-        assert!(&rt; good, "{op} {count}");
+fn words(rt: HostRuntime) {
+    for (at, (words, wanted)) in ROWS.iter().enumerate() {
+        assert!(rt; goes(rt.alloc(), words, wanted), "row {at}");
     }
 }
