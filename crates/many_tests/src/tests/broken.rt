@@ -1,8 +1,8 @@
 //! Sessions that end while they hold a drive.
 
 use super::streams::{Counts, Gated, TURNS, Told, reaches};
-use super::table::{all_stacks, two_words};
-use rmt_many::{Incoming, serve_many};
+use super::table::serve_pairs;
+use rmt_many::Incoming;
 use std::sync::atomic::AtomicU64;
 use std::test::Fail;
 
@@ -53,8 +53,6 @@ impl<'a> Incoming for Breaking<'a> {
 /// However a session ends, its drive is free for the next one, and others go on.
 #[test]
 fn a_drive_is_free_after_each_end(rt: HostRuntime) -> Result<(), Fail> {
-    let alloc = rt.alloc();
-    let (table, seats) = two_words(alloc)?;
     let never = AtomicU64::new(0);
     let (steady, broken) = (Counts::new(), Counts::new());
     let pairs = Breaking {
@@ -63,8 +61,7 @@ fn a_drive_is_free_after_each_end(rt: HostRuntime) -> Result<(), Fail> {
         steady: &steady,
         broken: &broken,
     };
-    serve_many(&rt, alloc, pairs, &table, seats, all_stacks(alloc)?);
-    assert_eq!(rt; broken.all(), (6, 0, 4));
-    assert_eq!(rt; steady.all(), (2, 0, 1));
+    serve_pairs(&rt, rt.alloc(), pairs)?;
+    assert!(rt; broken.all() == (6, 0, 4) && steady.all() == (2, 0, 1));
     Ok(())
 }

@@ -1,8 +1,8 @@
 //! More pairs than seats.
 
 use super::streams::{Counts, Gated, TURNS, Told, reaches};
-use super::table::{all_stacks, two_words};
-use rmt_many::{Incoming, serve_many};
+use super::table::serve_pairs;
+use rmt_many::Incoming;
 use std::sync::atomic::{AtomicU64, Ordering};
 use std::test::Fail;
 
@@ -43,8 +43,6 @@ impl<'a> Incoming for OneByOne<'a> {
 /// Far more pairs than seats, of which each comes when a seat is free: each is answered.
 #[test]
 fn seats_serve_again(rt: HostRuntime) -> Result<(), Fail> {
-    let alloc = rt.alloc();
-    let (table, seats) = two_words(alloc)?;
     let (counts, sign) = (Counts::new(), AtomicU64::new(0));
     let pairs = OneByOne {
         left: 200,
@@ -52,8 +50,8 @@ fn seats_serve_again(rt: HostRuntime) -> Result<(), Fail> {
         counts: &counts,
         sign: &sign,
     };
-    serve_many(&rt, alloc, pairs, &table, seats, all_stacks(alloc)?);
-    assert_eq!(rt; counts.all(), (0, 200, 200));
+    serve_pairs(&rt, rt.alloc(), pairs)?;
+    assert!(rt; counts.all() == (0, 200, 200));
     Ok(())
 }
 
@@ -111,8 +109,6 @@ impl<'a> Incoming for Full<'a> {
 /// A pair that comes while 32 are served is let go without an answer, and one that comes after an end is served.
 #[test]
 fn a_pair_past_32_is_let_go(rt: HostRuntime) -> Result<(), Fail> {
-    let alloc = rt.alloc();
-    let (table, seats) = two_words(alloc)?;
     let sign = AtomicU64::new(0);
     let (seated, past, last) = (Counts::new(), Counts::new(), Counts::new());
     let pairs = Full {
@@ -122,9 +118,7 @@ fn a_pair_past_32_is_let_go(rt: HostRuntime) -> Result<(), Fail> {
         past: &past,
         last: &last,
     };
-    serve_many(&rt, alloc, pairs, &table, seats, all_stacks(alloc)?);
-    assert_eq!(rt; seated.all(), (0, 64, 32));
-    assert_eq!(rt; past.all(), (0, 0, 1));
-    assert_eq!(rt; last.all(), (0, 2, 1));
+    serve_pairs(&rt, rt.alloc(), pairs)?;
+    assert!(rt; seated.all() == (0, 64, 32) && past.all() == (0, 0, 1) && last.all() == (0, 2, 1));
     Ok(())
 }
