@@ -2,35 +2,36 @@
 
 ghost use Rattle.std.specs.Prelude.{◌≡◌, ◌<◌, IfOk, length};
 
-use super::reels::{lie, lie_there, two_empty_drives};
+use super::reels::{add_drives, lie, lie_there};
 use super::slow::shop::SlowShop;
-use drives::{ListStacks, Stacks, told_orders};
+use drives::{DriveFault, ListStacks, Stacks, told_orders};
 use std::alloc::Global;
 use std::test::Fail;
 use tape::Reel;
 
-/// Two drives: the first with the reels a and b, the second with c. The bin has d and e, on each of which its own
+/// Adds two drives: the first with the reels a and b, the second with c. The bin has d and e, on each of which its own
 /// letter is written.
-fn five_reels(alloc: Global) -> Result<ListStacks, Fail>
-    ensures { IfOk result (λ stacks. length stacks.shop.racks ≡ 2) }
-{
-    let mut stacks = two_empty_drives(alloc)?;
-    fill(&mut stacks)?;
-    Ok(stacks)
-}
-
-/// Gives two drives and the bin their five reels.
-fn fill(stacks: &mut ListStacks) -> Result<(), Fail>
-    requires { length stacks.old.shop.racks ≡ 2 }
+fn add_five_reels(stacks: &mut ListStacks) -> Result<(), Fail>
+    requires { length stacks.old.shop.racks ≡ 0 }
     ensures { IfOk result (λ _. length stacks.new.shop.racks ≡ 2) }
 {
+    add_drives(stacks)?;
     stacks.add_reel(0, b"d", 100)?;
+    move_first(stacks, b"d")?;
     stacks.add_reel(0, b"e", 100)?;
+    move_first(stacks, b"e")?;
+    add_other_reels(stacks)?;
+    Ok(())
+}
+
+/// Adds those on the stacks.
+fn add_other_reels(stacks: &mut ListStacks) -> Result<(), DriveFault>
+    requires { length stacks.old.shop.racks ≡ 2 }
+    ensures { length stacks.new.shop.racks ≡ 2 }
+{
     stacks.add_reel(0, b"a", 100)?;
     stacks.add_reel(0, b"b", 100)?;
-    stacks.add_reel(1, b"c", 100)?;
-    move_first(stacks, b"d")?;
-    move_first(stacks, b"e")
+    stacks.add_reel(1, b"c", 100)
 }
 
 /// Writes the letter on the first reel of the first drive, and moves it to the bin.
@@ -97,26 +98,23 @@ fn are_alike(stacks: &ListStacks, slow: &SlowShop) -> bool
 }
 
 /// Has the stacks and the plain ones arranged by these letters, at the first drive, where the plain ones say that it
-/// can be. Afterwards both have to have the same reels.
+/// can be. Answers whether both have the same reels afterwards.
 fn arrange_both(
     stacks: &mut ListStacks,
     slow: &mut SlowShop,
     names: &[&[u8]],
     letters: &[u8],
-) -> Result<(), Fail>
+) -> Result<bool, Fail>
     requires { length stacks.old.shop.racks ≡ 2 }
 {
     if stacks.can_arrange(0, names) != slow.can_arrange(letters) {
-        return Err(Fail::new("another answer"));
+        return Ok(false);
     }
     if stacks.can_arrange(0, names) {
         stacks.arrange(0, names)?;
         slow.arrange(letters)?;
     }
-    if !are_alike(stacks, slow) {
-        return Err(Fail::new("other reels"));
-    }
-    Ok(())
+    Ok(are_alike(stacks, slow))
 }
 
 /// The five reels of the drives and the bin, kept plainly.
@@ -135,34 +133,38 @@ fn names_of(alloc: Global, letters: &[u8]) -> Result<Vec<&[u8]>, Fail> {
     Ok(names)
 }
 
-/// Compares what comes of these letters at two drives with the five reels.
-fn compare(alloc: Global, stacks: &mut ListStacks, letters: &[u8]) -> Result<(), Fail>
-    requires { length stacks.old.shop.racks ≡ 2 }
+/// Whether these letters leave the five reels of new drives as the plain ones.
+fn arrange_alike(alloc: Global, stacks: &mut ListStacks, letters: &[u8]) -> Result<bool, Fail>
+    requires { length stacks.old.shop.racks ≡ 0 }
 {
-    let mut slow = five_names(alloc)?;
+    add_five_reels(stacks)?;
     let names = names_of(alloc, letters)?;
+    let mut slow = five_names(alloc)?;
     arrange_both(stacks, &mut slow, &names, letters)
 }
 
-/// Compares what comes of these letters.
-fn check(alloc: Global, letters: &[u8]) -> Result<(), Fail> {
-    let mut stacks = five_reels(alloc)?;
-    compare(alloc, &mut stacks, letters)
+/// The same by a number.
+fn is_alike(alloc: Global, number: u32) -> Result<bool, Fail> {
+    let letters = letters_of(alloc, number)?;
+    let mut stacks = ListStacks::new(alloc);
+    arrange_alike(alloc, &mut stacks, &letters)
 }
 
 #[test]
 fn every_short_order_leaves_what_plain_lists_say(rt: HostRuntime) -> Result<(), Fail> {
     for number in 0..2401 {
-        let letters = letters_of(rt.alloc(), number)?;
-        check(rt.alloc(), &letters)?;
+        let alike = is_alike(rt.alloc(), number)?;
+        assert!(rt; alike, "order {number}");
     }
     Ok(())
 }
 
 /// Whether the first drive's stack becomes the reels e and b.
 fn becomes_e_and_b(stacks: &mut ListStacks) -> Result<bool, Fail>
-    requires { length stacks.old.shop.racks ≡ 2 }
+    requires { length stacks.old.shop.racks ≡ 0 }
 {
+    told_orders();
+    add_five_reels(stacks)?;
     let names = [b"e".as_slice(), b"b".as_slice()];
     if !stacks.can_arrange(0, &names) {
         return Ok(false);
@@ -173,8 +175,7 @@ fn becomes_e_and_b(stacks: &mut ListStacks) -> Result<bool, Fail>
 
 #[test]
 fn a_stack_becomes_the_reels_that_are_named(rt: HostRuntime) -> Result<(), Fail> {
-    told_orders();
-    let mut stacks = five_reels(rt.alloc())?;
+    let mut stacks = ListStacks::new(rt.alloc());
     assert!(rt; becomes_e_and_b(&mut stacks)?);
     Ok(())
 }
@@ -199,17 +200,24 @@ fn hides_while_latched(stacks: &mut ListStacks) -> Result<bool, Fail>
     let mut reel = stacks.latch(0)?;
     let away = stacks.reel(b"a").is_none();
     let fixed = !stacks.can_arrange(0, &[]) && stacks.can_arrange(1, &[]);
-    reel.write(b"abc")?;
+    let written = reel.write(b"abc").is_ok();
     stacks.unlatch(0, reel);
-    Ok(away && fixed && stacks.reel(b"a").is_some())
+    Ok(away && fixed && written && stacks.reel(b"a").is_some())
+}
+
+/// Whether reels are found wherever they lie, but not while they are latched.
+fn finds_what_lies(stacks: &mut ListStacks) -> Result<bool, Fail>
+    requires { length stacks.old.shop.racks ≡ 0 }
+{
+    add_five_reels(stacks)?;
+    Ok(are_found(stacks) && hides_while_latched(stacks)?)
 }
 
 #[test]
 fn a_reel_is_found_wherever_it_lies_but_not_while_it_is_latched_nor_its_stack_arranged(
     rt: HostRuntime,
 ) -> Result<(), Fail> {
-    let mut stacks = five_reels(rt.alloc())?;
-    assert!(rt; are_found(&stacks));
-    assert!(rt; hides_while_latched(&mut stacks)?);
+    let mut stacks = ListStacks::new(rt.alloc());
+    assert!(rt; finds_what_lies(&mut stacks)?);
     Ok(())
 }

@@ -7,12 +7,27 @@ mod place;
 
 use drives::{DriveFault, Stacks};
 use fake::FakeRuntime;
-use place::Place;
-use reel_files::FolderStacks;
+use place::{Change, Place};
+use reel_files::{FileMedium, FolderStacks};
 use std::fs::{File, OpenOptions};
 use std::io::{self, ErrorKind};
 use std::rt::Files;
-use tape::Reel;
+use tape::{FileReel, Reel};
+
+/// Moves the latched reel of the drive to the bin.
+fn move_reel<R: Files<File = File> + AllocGlobal + Clone + Drop>(
+    stacks: &mut FolderStacks<R>,
+    drive: usize,
+    reel: FileReel<FileMedium>,
+) -> Result<(), DriveFault>
+    requires { drive < length stacks.old.rows }
+    ensures { length stacks.new.rows ≡ length stacks.old.rows }
+{
+    match stacks.offline(drive, reel) {
+        Ok(()) => Ok(()),
+        Err((_, fault)) => Err(fault),
+    }
+}
 
 /// Latches the first reel of the drive and moves it to the bin.
 fn move_first<R: Files<File = File> + AllocGlobal + Clone + Drop>(
@@ -22,10 +37,9 @@ fn move_first<R: Files<File = File> + AllocGlobal + Clone + Drop>(
     requires { drive < length stacks.old.rows }
     ensures { length stacks.new.rows ≡ length stacks.old.rows }
 {
-    let reel = stacks.latch(drive)?;
-    match stacks.offline(drive, reel) {
-        Ok(()) => Ok(()),
-        Err((_, fault)) => Err(fault),
+    match stacks.latch(drive) {
+        Ok(reel) => move_reel(stacks, drive, reel),
+        Err(fault) => Err(fault),
     }
 }
 
@@ -43,15 +57,14 @@ fn latch_and_drop<R: Files<File = File> + AllocGlobal + Clone + Drop>(
     }
 }
 
-/// Whether the drive's first reel is the one of that name: it is moved to the bin.
-fn moves(place: &Place, stacks: &mut FolderStacks<HostRuntime>, name: &str) -> io::Result<bool>
+/// Whether the drive's first reel becomes the file at that path of the bin: it is moved there.
+fn moves(place: &Place, stacks: &mut FolderStacks<HostRuntime>, path: &str) -> io::Result<bool>
     requires { length stacks.old.rows ≡ 2 }
     ensures { length stacks.new.rows ≡ 2 }
 {
-    let path = format!(in place.rt.alloc(); "bin/{name}")?;
-    let before = place.has(path.as_str())?;
-    let moved = move_first(stacks, 0);
-    Ok(!before && moved == Ok(()) && place.has(path.as_str())?)
+    let before = place.has(path)?;
+    let moved = move_first(stacks, 0) == Ok(());
+    Ok(!before && moved && place.has(path)?)
 }
 
 /// Whether the drive has no reel, and no call failed.
@@ -61,71 +74,103 @@ fn is_empty(stacks: &mut FolderStacks<HostRuntime>, drive: usize) -> bool
     latch_and_drop(stacks, drive) == Err(DriveFault::NoReel) && stacks.failures() == 0
 }
 
-/// Reels are latched in the order of the bytes of their names.
-fn in_byte_order(place: &Place, stacks: &mut FolderStacks<HostRuntime>) -> io::Result<bool>
+/// Whether the first drive has these reels, in order, and no others: they are moved to these paths of the bin.
+fn has_reels(
+    place: &Place,
+    stacks: &mut FolderStacks<HostRuntime>,
+    paths: &[&str],
+) -> io::Result<bool>
     requires { length stacks.old.rows ≡ 2 }
 {
-    let first = moves(place, stacks, "B")? && moves(place, stacks, "a10")?;
-    let last = moves(place, stacks, "a9")? && moves(place, stacks, "é")?;
-    Ok(first && last && is_empty(stacks, 0))
+    for path in paths {
+        if !moves(place, stacks, path)? {
+            return Ok(false);
+        }
+    }
+    Ok(is_empty(stacks, 0))
 }
 
-/// Folders and links are no reels.
-fn past_others(place: &Place, stacks: &mut FolderStacks<HostRuntime>) -> io::Result<bool>
-    requires { length stacks.old.rows ≡ 2 }
-{
-    place.put_folder("st0/a")?;
-    place.put_link("st0/b", "../other")?;
-    Ok(moves(place, stacks, "c")? && is_empty(stacks, 0))
-}
+/// The reels of `order`, in the order of the bytes of their names.
+const IN_BYTE_ORDER: &[&str] = &["bin/B", "bin/a10", "bin/a9", "bin/é"];
 
 /// Whether the record `hello` is written.
 fn writes_hello(reel: &mut impl Reel) -> bool {
     reel.write(b"hello").is_ok() && reel.op(0, 1).is_ok()
 }
 
-/// Whether the first drive's reel is latched, and the record `hello` is read.
-fn reads_hello(stacks: &mut FolderStacks<HostRuntime>) -> bool
+/// Whether the record `hello` is read.
+fn reads_hello(reel: &mut impl Reel) -> bool {
+    let mut into = [0; 9];
+    reel.read(&mut into) == Ok(5) && into == *b"hello\0\0\0\0"
+}
+
+/// Whether a record is written to the first drive's reel, which no other latch has, and is laid back.
+fn is_written(stacks: &mut FolderStacks<HostRuntime>) -> bool
     requires { length stacks.old.rows ≡ 2 }
+    ensures { length stacks.new.rows ≡ 2 }
 {
     let Ok(mut reel) = stacks.latch(0) else {
         return false;
     };
-    let mut into = [0; 9];
-    reel.read(&mut into) == Ok(5) && into == *b"hello\0\0\0\0"
+    let written = writes_hello(&mut reel);
+    let refused = latch_and_drop(stacks, 0) == Err(DriveFault::NoReel);
+    stacks.unlatch(0, reel);
+    written && refused
+}
+
+/// Whether the first drive's reel is latched, and the record is read.
+fn is_read(stacks: &mut FolderStacks<HostRuntime>) -> bool
+    requires { length stacks.old.rows ≡ 2 }
+{
+    match stacks.latch(0) {
+        Ok(mut reel) => reads_hello(&mut reel),
+        Err(_) => false,
+    }
 }
 
 /// Writes a record to the reel `r`, which is laid back, and reads it again.
 fn goes_round(place: &Place, stacks: &mut FolderStacks<HostRuntime>) -> io::Result<bool>
     requires { length stacks.old.rows ≡ 2 }
 {
-    let Ok(mut reel) = stacks.latch(0) else {
-        return Ok(false);
-    };
-    let written = writes_hello(&mut reel);
-    let refused = latch_and_drop(stacks, 0) == Err(DriveFault::NoReel);
-    stacks.unlatch(0, reel);
-    let read = reads_hello(stacks);
-    let lies = place.reads("st0/r", b"\x05\0\0\0hello\x05\0\0\0\0\0\0\0")?;
-    Ok(written && refused && read && lies && stacks.failures() == 0)
+    let kept = is_written(stacks) && is_read(stacks) && stacks.failures() == 0;
+    Ok(kept && place.reads("st0/r", b"\x05\0\0\0hello\x05\0\0\0\0\0\0\0")?)
 }
 
-/// The first drive's reel does not go over what the bin has, and the reel is handed back.
-fn is_kept(place: &Place, stacks: &mut FolderStacks<HostRuntime>) -> io::Result<bool>
+/// Whether the record `1` is read.
+fn reads_one(reel: &mut impl Reel) -> bool {
+    let mut into = [0; 2];
+    reel.read(&mut into) == Ok(1) && into == *b"1\0"
+}
+
+/// Whether the first drive's reel does not go over what the bin has, and is handed back.
+fn is_handed_back(stacks: &mut FolderStacks<HostRuntime>) -> bool
     requires { length stacks.old.rows ≡ 2 }
     ensures { length stacks.new.rows ≡ 2 }
 {
     let Ok(reel) = stacks.latch(0) else {
-        return Ok(false);
+        return false;
     };
     let Err((mut reel, DriveFault::NameTaken)) = stacks.offline(0, reel) else {
-        return Ok(false);
+        return false;
     };
-    let mut into = [0; 2];
-    let same = reel.read(&mut into) == Ok(1) && into == *b"1\0";
+    let same = reads_one(&mut reel);
     stacks.unlatch(0, reel);
-    Ok(same && place.has("st0/r")? && stacks.failures() == 0)
+    same && stacks.failures() == 0
 }
+
+/// The same, and whether the file lies where it was.
+fn is_kept(place: &Place, stacks: &mut FolderStacks<HostRuntime>) -> io::Result<bool>
+    requires { length stacks.old.rows ≡ 2 }
+    ensures { length stacks.new.rows ≡ 2 }
+{
+    Ok(is_handed_back(stacks) && place.has("st0/r")?)
+}
+
+/// A link to nowhere comes in the place of the bin's file.
+static LINK_IN_BIN: [(&str, Change<'static>); 2] = [
+    ("bin/r", Change::Remove),
+    ("bin/r", Change::Link("nowhere")),
+];
 
 /// No move goes over a file of the bin, nor over a link to nowhere.
 fn over_none(place: &Place, stacks: &mut FolderStacks<HostRuntime>) -> io::Result<bool>
@@ -133,8 +178,7 @@ fn over_none(place: &Place, stacks: &mut FolderStacks<HostRuntime>) -> io::Resul
 {
     let second = move_first(stacks, 1) == Ok(());
     let kept = is_kept(place, stacks)? && place.reads("bin/r", b"two")?;
-    place.remove_file("bin/r")?;
-    place.put_link("bin/r", "nowhere")?;
+    place.change_all(&LINK_IN_BIN)?;
     Ok(second && kept && is_kept(place, stacks)?)
 }
 
@@ -142,13 +186,12 @@ fn over_none(place: &Place, stacks: &mut FolderStacks<HostRuntime>) -> io::Resul
 fn waits_for_locks(place: &Place, stacks: &mut FolderStacks<HostRuntime>) -> io::Result<bool>
     requires { length stacks.old.rows ≡ 2 }
 {
-    let other = place.file("st0/r")?;
-    other.lock()?;
+    let other = place.lock("st0/r")?;
     let refused = latch_and_drop(stacks, 0) == Err(DriveFault::Device) && stacks.failures() == 1;
-    other.unlock()?;
-    let bin = place.file("bin")?;
-    bin.lock()?;
+    drop(other);
+    let bin = place.lock("bin")?;
     let unmoved = move_first(stacks, 0) == Err(DriveFault::Device) && stacks.failures() == 2;
+    drop(bin);
     Ok(refused && unmoved && place.has("st0/r")?)
 }
 
@@ -165,143 +208,102 @@ fn is_had_once(one: &mut FolderStacks<HostRuntime>, other: &mut FolderStacks<Hos
     refused && latch_and_drop(other, 0) == Ok(())
 }
 
+/// The same, with another open of the place.
+fn is_had_by_one(place: &Place, stacks: &mut FolderStacks<HostRuntime>) -> io::Result<bool>
+    requires { length stacks.old.rows ≡ 2 }
+{
+    let mut other = place.open(place.rt)?;
+    Ok(is_had_once(stacks, &mut other))
+}
+
+/// Another file comes in the place of the first drive's.
+static OTHER_FILE: [(&str, Change<'static>); 2] = [
+    ("st0/r", Change::Remove),
+    ("st0/r", Change::Write("other")),
+];
+
+/// Whether another file that has the name of the latched reel is not moved, which is a failure.
+fn is_not_moved(place: &Place, stacks: &mut FolderStacks<HostRuntime>) -> bool
+    requires { length stacks.old.rows ≡ 2 }
+{
+    let Ok(reel) = stacks.latch(0) else {
+        return false;
+    };
+    let changed = place.change_all(&OTHER_FILE).is_ok();
+    let refused = move_reel(stacks, 0, reel) == Err(DriveFault::Device);
+    changed && refused && stacks.failures() == 1
+}
+
 /// Another file has the name of the latched reel. It is not moved.
 fn moves_no_other_file(place: &Place, stacks: &mut FolderStacks<HostRuntime>) -> io::Result<bool>
     requires { length stacks.old.rows ≡ 2 }
 {
-    let Ok(reel) = stacks.latch(0) else {
-        return Ok(false);
-    };
-    place.remove_file("st0/r")?;
-    place.put("st0/r", "other")?;
-    let refused = matches!(stacks.offline(0, reel), Err((_, DriveFault::Device)));
-    let kept = place.reads("st0/r", b"other")? && !place.has("bin/r")?;
-    Ok(refused && kept && stacks.failures() == 1)
+    Ok(is_not_moved(place, stacks) && place.reads("st0/r", b"other")? && !place.has("bin/r")?)
 }
+
+/// A folder of a stack, and that of the bin, are removed.
+static NO_FOLDERS: [(&str, Change<'static>); 2] = [
+    ("st0", Change::RemoveFolder),
+    ("bin", Change::RemoveFolder),
+];
 
 /// A folder that is missing is a failure.
 fn misses_folders(place: &Place, stacks: &mut FolderStacks<HostRuntime>) -> io::Result<bool>
     requires { length stacks.old.rows ≡ 2 }
 {
-    place.remove_folder("st0")?;
-    place.remove_folder("bin")?;
+    place.change_all(&NO_FOLDERS)?;
     let first = latch_and_drop(stacks, 0) == Err(DriveFault::Device) && stacks.failures() == 1;
     let second = move_first(stacks, 1) == Err(DriveFault::Device) && stacks.failures() == 2;
     Ok(first && second)
 }
 
-/// Whether that folder is the first that cannot be used, for that reason.
-fn is_fault(
+/// Changes, the folder that is the first that cannot be used then, and why.
+type Unusable = (
+    &'static [(&'static str, Change<'static>)],
+    &'static str,
+    ErrorKind,
+);
+
+static UNUSABLE: [Unusable; 3] = [
+    (
+        &[("bin", Change::CloseFolder)],
+        "bin",
+        ErrorKind::PermissionDenied,
+    ),
+    (
+        &[("st1", Change::RemoveFolder), ("st1", Change::Write(""))],
+        "st1",
+        ErrorKind::NotADirectory,
+    ),
+    (&[("st0", Change::RemoveFolder)], "st0", ErrorKind::NotFound),
+];
+
+/// Whether the folder of that path is the first that cannot be used, for that reason.
+fn is_fault(stacks: &FolderStacks<HostRuntime>, path: &str, kind: ErrorKind) -> bool {
+    match stacks.find_fault() {
+        Some(fault) => fault.folder == path && fault.reason.kind() == kind,
+        None => false,
+    }
+}
+
+/// Makes the changes, and answers whether a look names that folder then.
+fn finds_fault(
     place: &Place,
     stacks: &FolderStacks<HostRuntime>,
-    inner: &str,
-    kind: ErrorKind,
+    row: &Unusable,
 ) -> io::Result<bool> {
-    let path = place.path(inner)?;
-    let Some(fault) = stacks.find_fault() else {
-        return Ok(false);
-    };
-    Ok(fault.folder == path.as_str() && fault.reason.kind() == kind)
+    place.change_all(row.0)?;
+    let path = place.path(row.1)?;
+    Ok(is_fault(stacks, path.as_str(), row.2))
 }
 
 /// A look names the first folder that cannot be used.
 fn finds_faults(place: &Place, stacks: &FolderStacks<HostRuntime>) -> io::Result<bool> {
-    let none = stacks.find_fault().is_none();
-    place.close_folder("bin")?;
-    let unwritable = is_fault(place, stacks, "bin", ErrorKind::PermissionDenied)?;
-    place.remove_folder("st1")?;
-    place.put("st1", "")?;
-    let no_folder = is_fault(place, stacks, "st1", ErrorKind::NotADirectory)?;
-    place.remove_folder("st0")?;
-    let missing = is_fault(place, stacks, "st0", ErrorKind::NotFound)?;
-    Ok(none && unwritable && no_folder && missing)
-}
-
-/// What is tried.
-#[derive(Clone, Copy)]
-enum Trial {
-    InByteOrder,
-    PastOthers,
-    GoesRound,
-    OverNone,
-    WaitsForLocks,
-    IsHadOnce,
-    MovesNoOtherFile,
-    MissesFolders,
-    FindsFaults,
-}
-
-/// Each trial, its name, and the files that lie there before, with their text.
-static TRIALS: [(Trial, &str, &[(&str, &str)]); 9] = [
-    (
-        Trial::InByteOrder,
-        "order",
-        &[
-            ("st0/a9", ""),
-            ("st0/é", ""),
-            ("st0/a10", ""),
-            ("st0/B", ""),
-        ],
-    ),
-    (Trial::PastOthers, "links", &[("other", ""), ("st0/c", "")]),
-    (Trial::GoesRound, "record", &[("st0/r", "")]),
-    (
-        Trial::OverNone,
-        "taken",
-        &[("st0/r", "\x01\0\0\01\x01\0\0\0"), ("st1/r", "two")],
-    ),
-    (Trial::WaitsForLocks, "locked", &[("st0/r", "")]),
-    (Trial::IsHadOnce, "once", &[("st0/r", "")]),
-    (Trial::MovesNoOtherFile, "other", &[("st0/r", "")]),
-    (Trial::MissesFolders, "missing", &[("st1/r", "")]),
-    (Trial::FindsFaults, "look", &[]),
-];
-
-/// Whether the trial goes as it has to.
-fn goes(trial: Trial, place: &Place, stacks: &mut FolderStacks<HostRuntime>) -> io::Result<bool>
-    requires { length stacks.old.rows ≡ 2 }
-{
-    match trial {
-        Trial::InByteOrder => in_byte_order(place, stacks),
-        Trial::PastOthers => past_others(place, stacks),
-        Trial::GoesRound => goes_round(place, stacks),
-        Trial::OverNone => over_none(place, stacks),
-        Trial::WaitsForLocks => waits_for_locks(place, stacks),
-        Trial::IsHadOnce => Ok(is_had_once(stacks, &mut place.open(place.rt)?)),
-        Trial::MovesNoOtherFile => moves_no_other_file(place, stacks),
-        Trial::MissesFolders => misses_folders(place, stacks),
-        Trial::FindsFaults => finds_faults(place, stacks),
+    let mut right = stacks.find_fault().is_none();
+    for row in &UNUSABLE {
+        right &= finds_fault(place, stacks, row)?;
     }
-}
-
-/// Whether the trial goes as it has to, in a place with these files.
-fn goes_in(
-    rt: HostRuntime,
-    trial: Trial,
-    place: &Place,
-    files: &[(&str, &str)],
-) -> io::Result<bool> {
-    for (path, text) in files {
-        place.put(path, text)?;
-    }
-    let mut stacks = place.open(rt)?;
-    goes(trial, place, &mut stacks)
-}
-
-/// Whether the trial goes as it has to, in a new place of this name, which is removed then.
-fn goes_at(rt: HostRuntime, trial: Trial, name: &str, files: &[(&str, &str)]) -> io::Result<bool> {
-    let place = Place::new(rt, name)?;
-    let right = goes_in(rt, trial, &place, files)?;
-    place.remove()?;
     Ok(right)
-}
-
-#[test]
-fn each_trial_goes_as_it_has_to(rt: HostRuntime) -> io::Result<()> {
-    for (trial, name, files) in &TRIALS {
-        assert!(rt; goes_at(rt, *trial, name, files)?, "{name}");
-    }
-    Ok(())
 }
 
 /// Whether a latch fails where a folder lists a name that is no text, and a move where a rename fails.
@@ -309,32 +311,126 @@ fn fails(stacks: &mut FolderStacks<FakeRuntime>, lists_no_text: bool) -> bool
     requires { length stacks.old.rows ≡ 2 }
 {
     let failed = if lists_no_text {
-        latch_and_drop(stacks, 0) == Err(DriveFault::Device)
+        latch_and_drop(stacks, 0)
     } else {
-        move_first(stacks, 0) == Err(DriveFault::Device)
+        move_first(stacks, 0)
     };
-    failed && stacks.failures() == 1
+    failed == Err(DriveFault::Device) && stacks.failures() == 1
 }
 
-/// Whether a failure is told at the place, and its reel is kept.
-fn fails_in(place: &Place, fake: FakeRuntime) -> io::Result<bool> {
-    place.put("st0/r", "")?;
-    let refused = fails(&mut place.open(fake)?, fake.lists_no_text);
-    Ok(refused && place.has("st0/r")? && !place.has("bin/r")?)
+/// Whether what the system refuses is a failure, and the reel is kept.
+fn is_failure(place: &Place, lists_no_text: bool) -> io::Result<bool> {
+    let rt = place.rt;
+    let mut stacks = place.open(FakeRuntime { rt, lists_no_text })?;
+    Ok(fails(&mut stacks, lists_no_text) && place.has("st0/r")? && !place.has("bin/r")?)
 }
 
-/// The same in a new place of this name, which is removed then.
-fn fails_at(rt: HostRuntime, lists_no_text: bool, name: &str) -> io::Result<bool> {
+/// What is tried.
+#[derive(Clone, Copy)]
+enum Trial {
+    /// The first drive has the reels at these paths of the bin, once they are moved there.
+    HasReels(&'static [&'static str]),
+    GoesRound,
+    OverNone,
+    WaitsForLocks,
+    IsHadByOne,
+    MovesNoOtherFile,
+    MissesFolders,
+    FindsFaults,
+    /// The system lists a name that is no text, or else renames no file.
+    IsFailure(bool),
+}
+
+/// Each trial, its name, and the changes that make what lies there before.
+type Row = (
+    Trial,
+    &'static str,
+    &'static [(&'static str, Change<'static>)],
+);
+
+const EMPTY_REEL: &[(&str, Change<'static>)] = &[("st0/r", Change::Write(""))];
+
+static TRIALS: [Row; 11] = [
+    (
+        Trial::HasReels(IN_BYTE_ORDER),
+        "order",
+        &[
+            ("st0/a9", Change::Write("")),
+            ("st0/é", Change::Write("")),
+            ("st0/a10", Change::Write("")),
+            ("st0/B", Change::Write("")),
+        ],
+    ),
+    // Folders and links are no reels.
+    (
+        Trial::HasReels(&["bin/c"]),
+        "links",
+        &[
+            ("other", Change::Write("")),
+            ("st0/c", Change::Write("")),
+            ("st0/a", Change::MakeFolder),
+            ("st0/b", Change::Link("../other")),
+        ],
+    ),
+    (Trial::GoesRound, "record", EMPTY_REEL),
+    (
+        Trial::OverNone,
+        "taken",
+        &[
+            ("st0/r", Change::Write("\x01\0\0\01\x01\0\0\0")),
+            ("st1/r", Change::Write("two")),
+        ],
+    ),
+    (Trial::WaitsForLocks, "locked", EMPTY_REEL),
+    (Trial::IsHadByOne, "once", EMPTY_REEL),
+    (Trial::MovesNoOtherFile, "other", EMPTY_REEL),
+    (
+        Trial::MissesFolders,
+        "missing",
+        &[("st1/r", Change::Write(""))],
+    ),
+    (Trial::FindsFaults, "look", &[]),
+    (Trial::IsFailure(true), "text", EMPTY_REEL),
+    (Trial::IsFailure(false), "rename", EMPTY_REEL),
+];
+
+/// Whether the trial goes as it has to.
+fn goes(trial: Trial, place: &Place, stacks: &mut FolderStacks<HostRuntime>) -> io::Result<bool>
+    requires { length stacks.old.rows ≡ 2 }
+{
+    match trial {
+        Trial::HasReels(paths) => has_reels(place, stacks, paths),
+        Trial::GoesRound => goes_round(place, stacks),
+        Trial::OverNone => over_none(place, stacks),
+        Trial::WaitsForLocks => waits_for_locks(place, stacks),
+        Trial::IsHadByOne => is_had_by_one(place, stacks),
+        Trial::MovesNoOtherFile => moves_no_other_file(place, stacks),
+        Trial::MissesFolders => misses_folders(place, stacks),
+        Trial::FindsFaults => finds_faults(place, stacks),
+        Trial::IsFailure(lists_no_text) => is_failure(place, lists_no_text),
+    }
+}
+
+/// Whether the trial goes as it has to in the place.
+fn goes_in(place: &Place, trial: Trial) -> io::Result<bool> {
+    let mut stacks = place.open(place.rt)?;
+    goes(trial, place, &mut stacks)
+}
+
+/// Whether the trial goes as it has to, in a new place of its name, which is removed then.
+fn goes_anew(rt: HostRuntime, (trial, name, changes): Row) -> io::Result<bool> {
     let place = Place::new(rt, name)?;
-    let failed = fails_in(&place, FakeRuntime { rt, lists_no_text })?;
+    place.change_all(changes)?;
+    let right = goes_in(&place, trial)?;
     place.remove()?;
-    Ok(failed)
+    Ok(right)
 }
 
 #[test]
-fn what_the_system_refuses_is_a_failure(rt: HostRuntime) -> io::Result<()> {
-    for (lists_no_text, name) in [(true, "text"), (false, "rename")] {
-        assert!(rt; fails_at(rt, lists_no_text, name)?, "{name}");
+fn each_trial_goes_as_it_has_to(rt: HostRuntime) -> io::Result<()> {
+    for row in &TRIALS {
+        let right = goes_anew(rt, *row)?;
+        assert!(rt; right, "{}", row.1);
     }
     Ok(())
 }

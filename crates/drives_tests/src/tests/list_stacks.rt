@@ -1,12 +1,15 @@
 //! Drives, stacks and bin in memory: order, names, troubles.
 
 ghost use Rattle.std.specs.Prelude.{◌≡◌, ◌<◌, length};
+ghost use Rattle.drives.specs.ListShop.{IsShop};
+ghost use Rattle.drives.specs.Stacking.{HasLatched};
 
-use super::reels::{are, latch_and_drop, lie, lie_there, move_first, two_drives};
+use super::reels::{add_three_reels, are, latch_and_drop, lie, lie_there, move_first};
 use drives::{DriveFault, ListStacks, Stacks, lying_troubles};
+use std::alloc::Global;
 use std::process::Abort;
 use std::test::Fail;
-use tape::Reel;
+use tape::{Reel, TroubledReel};
 
 /// Names of drives that are added, and what each addition answers.
 static ADDED: [(&[u8], Result<usize, DriveFault>); 4] = [
@@ -53,9 +56,15 @@ fn write_first(stacks: &mut ListStacks) -> Result<(), Fail>
     ensures { length stacks.new.shop.racks ≡ 2 }
 {
     let mut reel = stacks.latch(0)?;
-    reel.write(b"abc")?;
+    let written = reel.write(b"abc");
     stacks.unlatch(0, reel);
-    Ok(())
+    Ok(written?)
+}
+
+/// Whether that record is read.
+fn reads(reel: &mut TroubledReel) -> bool {
+    let mut into = [0; 5];
+    reel.read(&mut into) == Ok(3) && into == *b"abc\0\0"
 }
 
 /// Whether the record is read from that reel, which is moved to the bin.
@@ -63,19 +72,17 @@ fn reads_and_moves_first(stacks: &mut ListStacks) -> Result<bool, Fail>
     requires { length stacks.old.shop.racks ≡ 2 }
 {
     let mut reel = stacks.latch(0)?;
-    let mut into = [0; 5];
-    let given = reel.read(&mut into)?;
-    let moved = stacks.offline(0, reel).is_ok();
-    Ok(given == 3 && into == *b"abc\0\0" && moved && stacks.failures() == 0)
+    let read = reads(&mut reel);
+    Ok(stacks.offline(0, reel).is_ok() && read && stacks.failures() == 0)
 }
 
-#[test]
-fn a_reel_goes_round(rt: HostRuntime) -> Result<(), Fail> {
+/// Whether a reel is read as it was written, and moved.
+fn goes_round(stacks: &mut ListStacks) -> Result<bool, Fail>
+    requires { length stacks.old.shop.racks ≡ 2 }
+{
     lying_troubles();
-    let mut stacks = two_drives(rt.alloc())?;
-    write_first(&mut stacks)?;
-    assert!(rt; reads_and_moves_first(&mut stacks)?);
-    Ok(())
+    write_first(stacks)?;
+    reads_and_moves_first(stacks)
 }
 
 /// Whether a reel that is latched, and laid back, stays first.
@@ -99,32 +106,23 @@ fn latches_one(stacks: &mut ListStacks) -> bool
     first && again && other && stacks.failures() == 0
 }
 
-#[test]
-fn one_reel_of_a_drive_is_latched_and_stays_first(rt: HostRuntime) -> Result<(), Fail> {
-    let mut stacks = two_drives(rt.alloc())?;
-    assert!(rt; stays_first(&mut stacks)?);
-    assert!(rt; latches_one(&mut stacks));
-    Ok(())
-}
-
 /// Whether all reels of both drives come to the end of the bin as they are moved.
-fn move_in_order(stacks: &mut ListStacks) -> Result<bool, Fail>
+fn moves_in_order(stacks: &mut ListStacks) -> Result<bool, Fail>
     requires { length stacks.old.shop.racks ≡ 2 }
 {
+    let none = lie_there(stacks.stack(0), false) && lie(stacks, b"ab", b"c", b"");
     move_first(stacks, 0)?;
     let one = lie(stacks, b"b", b"c", b"a");
-    move_first(stacks, 1)?;
-    move_first(stacks, 0)?;
-    let all = lie(stacks, b"", b"", b"acb");
-    Ok(one && all && latch_and_drop(stacks, 0) == Err(DriveFault::NoReel))
+    Ok(none && one && moves_all(stacks)?)
 }
 
-#[test]
-fn reels_are_added_at_the_end_and_moved_to_the_end_of_the_bin(rt: HostRuntime) -> Result<(), Fail> {
-    let mut stacks = two_drives(rt.alloc())?;
-    assert!(rt; lie_there(stacks.stack(0), false) && lie(&stacks, b"ab", b"c", b""));
-    assert!(rt; move_in_order(&mut stacks)?);
-    Ok(())
+/// Whether the other two reels come to the end of the bin.
+fn moves_all(stacks: &mut ListStacks) -> Result<bool, Fail>
+    requires { length stacks.old.shop.racks ≡ 2 }
+{
+    move_first(stacks, 1)?;
+    move_first(stacks, 0)?;
+    Ok(lie(stacks, b"", b"", b"acb") && latch_and_drop(stacks, 0) == Err(DriveFault::NoReel))
 }
 
 /// Whether no reel of that name is added, since the name is taken.
@@ -136,14 +134,12 @@ fn refuses(stacks: &mut ListStacks, drive: usize, name: &[u8]) -> bool
 }
 
 /// Whether a name is taken on each stack, also while its reel is latched.
-fn is_taken_on_stacks(stacks: &mut ListStacks) -> Result<bool, Fail>
+fn is_taken_on_stacks(stacks: &mut ListStacks) -> bool
     requires { length stacks.old.shop.racks ≡ 2 }
 {
     let taken = refuses(stacks, 0, b"a") && refuses(stacks, 1, b"b");
-    let reel = stacks.latch(0)?;
-    let latched = refuses(stacks, 1, b"a");
-    drop(reel);
-    Ok(taken && latched)
+    let latched = latch_and_drop(stacks, 0) == Ok(());
+    taken && latched && refuses(stacks, 1, b"a")
 }
 
 /// Whether a name is taken in the bin, and another is not.
@@ -154,13 +150,6 @@ fn is_taken_in_bin(stacks: &mut ListStacks) -> Result<bool, Fail>
     let taken = refuses(stacks, 1, b"a") && are(stacks.stack(1), b"c");
     stacks.add_reel(1, b"d", 5)?;
     Ok(taken && are(stacks.stack(1), b"cd"))
-}
-
-#[test]
-fn a_reel_name_is_taken_on_each_stack_and_in_the_bin(rt: HostRuntime) -> Result<(), Fail> {
-    assert!(rt; is_taken_on_stacks(&mut two_drives(rt.alloc())?)?);
-    assert!(rt; is_taken_in_bin(&mut two_drives(rt.alloc())?)?);
-    Ok(())
 }
 
 /// Whether a latch fails for a trouble, and tells one failure.
@@ -184,41 +173,103 @@ fn meets_one_latch(stacks: &mut ListStacks) -> bool
 }
 
 /// Whether a trouble waits past a stack that gives no reel.
-fn waits_for_a_reel(stacks: &mut ListStacks) -> Result<bool, Fail>
+fn waits_for_a_reel(stacks: &mut ListStacks) -> bool
     requires { length stacks.old.shop.racks ≡ 2 }
 {
-    let reel = stacks.latch(1)?;
+    let latched = latch_and_drop(stacks, 1) == Ok(());
     stacks.trouble(true);
     let none = latch_and_drop(stacks, 1) == Err(DriveFault::NoReel) && stacks.failures() == 0;
-    let failed = fails(stacks);
-    drop(reel);
-    Ok(none && failed)
+    latched && none && fails(stacks)
 }
 
-#[test]
-fn a_trouble_meets_one_latch_or_waits_for_a_reel(rt: HostRuntime) -> Result<(), Fail> {
-    assert!(rt; meets_one_latch(&mut two_drives(rt.alloc())?));
-    assert!(rt; waits_for_a_reel(&mut two_drives(rt.alloc())?)?);
-    Ok(())
+/// Whether the first drive's reel, which one failed move left first on its stack, is moved by the next.
+fn moves_again(stacks: &mut ListStacks, reel: TroubledReel) -> bool
+    requires two { length stacks.old.shop.racks ≡ 2 }
+    requires latched { HasLatched IsShop stacks.old 0 }
+{
+    let kept = stacks.failures() == 1 && are(stacks.stack(0), b"ab");
+    let moved = stacks.offline(0, reel).is_ok();
+    kept && moved && stacks.failures() == 1 && are(stacks.bin(), b"a")
 }
 
-/// Whether a trouble meets the next move, and no other: the reel is first on its stack until then.
+/// Whether a trouble meets the next move, and no other.
 fn meets_one_move(stacks: &mut ListStacks) -> Result<bool, Fail>
     requires { length stacks.old.shop.racks ≡ 2 }
 {
     let reel = stacks.latch(0)?;
     stacks.trouble(true);
-    let Err((reel, DriveFault::Device)) = stacks.offline(0, reel) else {
-        return Ok(false);
-    };
-    let kept = stacks.failures() == 1 && are(stacks.stack(0), b"ab");
-    let moved = stacks.offline(0, reel).is_ok();
-    Ok(kept && moved && stacks.failures() == 1 && are(stacks.bin(), b"a"))
+    match stacks.offline(0, reel) {
+        Err((reel, DriveFault::Device)) => Ok(moves_again(stacks, reel)),
+        _ => Ok(false),
+    }
+}
+
+/// What is tried at two drives with their three reels.
+#[derive(Clone, Copy)]
+enum Trial {
+    GoesRound,
+    StaysFirst,
+    MovesInOrder,
+    IsTakenOnStacks,
+    IsTakenInBin,
+    MeetsOneLatch,
+    WaitsForAReel,
+    MeetsOneMove,
+}
+
+/// Each trial, and what it shows.
+static TRIALS: [(Trial, &str); 8] = [
+    (Trial::GoesRound, "a reel goes round"),
+    (
+        Trial::StaysFirst,
+        "one reel of a drive is latched and stays first",
+    ),
+    (
+        Trial::MovesInOrder,
+        "reels are added at the end and moved to the end of the bin",
+    ),
+    (Trial::IsTakenOnStacks, "a name is taken on each stack"),
+    (Trial::IsTakenInBin, "a name is taken in the bin"),
+    (Trial::MeetsOneLatch, "a trouble meets one latch"),
+    (Trial::WaitsForAReel, "a trouble waits for a reel"),
+    (Trial::MeetsOneMove, "a trouble meets one move"),
+];
+
+/// Whether the trial goes as it has to.
+fn goes(trial: Trial, stacks: &mut ListStacks) -> Result<bool, Fail>
+    requires { length stacks.old.shop.racks ≡ 2 }
+{
+    match trial {
+        Trial::GoesRound => goes_round(stacks),
+        Trial::StaysFirst => Ok(stays_first(stacks)? && latches_one(stacks)),
+        Trial::MovesInOrder => moves_in_order(stacks),
+        Trial::IsTakenOnStacks => Ok(is_taken_on_stacks(stacks)),
+        Trial::IsTakenInBin => is_taken_in_bin(stacks),
+        Trial::MeetsOneLatch => Ok(meets_one_latch(stacks)),
+        Trial::WaitsForAReel => Ok(waits_for_a_reel(stacks)),
+        Trial::MeetsOneMove => meets_one_move(stacks),
+    }
+}
+
+/// The same, once the drives are added.
+fn goes_with_drives(trial: Trial, stacks: &mut ListStacks) -> Result<bool, Fail>
+    requires { length stacks.old.shop.racks ≡ 0 }
+{
+    add_three_reels(stacks)?;
+    goes(trial, stacks)
+}
+
+/// Whether the trial goes as it has to at new drives.
+fn goes_anew(alloc: Global, trial: Trial) -> Result<bool, Fail> {
+    let mut stacks = ListStacks::new(alloc);
+    goes_with_drives(trial, &mut stacks)
 }
 
 #[test]
-fn a_trouble_meets_one_move(rt: HostRuntime) -> Result<(), Fail> {
-    let mut stacks = two_drives(rt.alloc())?;
-    assert!(rt; meets_one_move(&mut stacks)?);
+fn each_trial_goes_as_it_has_to(rt: HostRuntime) -> Result<(), Fail> {
+    for (trial, name) in &TRIALS {
+        let right = goes_anew(rt.alloc(), *trial)?;
+        assert!(rt; right, "{name}");
+    }
     Ok(())
 }

@@ -2,7 +2,7 @@
 
 ghost use Rattle.std.specs.Prelude.{◌≡◌, ◌<◌, length};
 
-use super::reels::{are, lie_there, two_drives};
+use super::reels::{add_three_reels, are, lie_there};
 use super::slow::shop::{Round, SlowDrive, SlowShop};
 use drives::{DriveFault, ListStacks, ListedReel, Stacks};
 use std::alloc::Global;
@@ -44,48 +44,55 @@ fn round_of(number: u32) -> Round {
     }
 }
 
+/// Whether the drives and the bin have the reels that the plain ones have.
+fn are_alike(stacks: &ListStacks, slow: &SlowShop) -> bool
+    requires { length stacks.now.shop.racks ≡ 2 }
+{
+    is_as(stacks.stack(0), &slow.first)
+        && is_as(stacks.stack(1), &slow.second)
+        && are(stacks.bin(), &slow.bin)
+        && lie_there(stacks.bin(), false)
+}
+
 /// Has the stacks and the plain ones make the round of that number, at the first drive where it is even and else at
-/// the second. They have to answer alike and have the same reels then.
-fn compare(stacks: &mut ListStacks, slow: &mut SlowShop, number: u32) -> Result<(), Fail>
+/// the second. Answers whether they answer alike and have the same reels then.
+fn go_alike(stacks: &mut ListStacks, slow: &mut SlowShop, number: u32) -> Result<bool, Fail>
     requires { length stacks.old.shop.racks ≡ 2 }
     ensures { length stacks.new.shop.racks ≡ 2 }
 {
     let drive = if number % 2 == 0 { 0 } else { 1 };
     let round = round_of(number);
-    if act(stacks, drive, round)? != slow.act(drive, round)? {
-        return Err(Fail::new("another answer"));
-    }
-    let alike = is_as(stacks.stack(0), &slow.first)
-        && is_as(stacks.stack(1), &slow.second)
-        && are(stacks.bin(), &slow.bin)
-        && lie_there(stacks.bin(), false);
-    if !alike {
-        return Err(Fail::new("other reels"));
-    }
-    Ok(())
+    let wanted = slow.act(drive, round)?;
+    Ok(act(stacks, drive, round)? == wanted && are_alike(stacks, slow))
 }
 
-/// Four rounds, by the digits of a number in base 6.
-fn compare_four(stacks: &mut ListStacks, slow: &mut SlowShop, number: u32) -> Result<(), Fail>
-    requires { length stacks.old.shop.racks ≡ 2 }
+/// Four rounds at two drives with their three reels, by the digits of a number in base 6.
+fn four_go_alike(stacks: &mut ListStacks, slow: &mut SlowShop, number: u32) -> Result<bool, Fail>
+    requires { length stacks.old.shop.racks ≡ 0 }
 {
-    compare(stacks, slow, number)?;
-    compare(stacks, slow, number / 6)?;
-    compare(stacks, slow, number / 36)?;
-    compare(stacks, slow, number / 216)
+    add_three_reels(stacks)?;
+    let mut rest = number;
+    for _ in 0..4 {
+        if !go_alike(stacks, slow, rest)? {
+            return Ok(false);
+        }
+        rest /= 6;
+    }
+    Ok(true)
 }
 
-/// The four rounds of that number, at two drives with their three reels.
-fn check(alloc: Global, number: u32) -> Result<(), Fail> {
-    let mut stacks = two_drives(alloc)?;
+/// The same at new drives.
+fn is_alike(alloc: Global, number: u32) -> Result<bool, Fail> {
     let mut slow = SlowShop::new(alloc, b"ab", b"c")?;
-    compare_four(&mut stacks, &mut slow, number)
+    let mut stacks = ListStacks::new(alloc);
+    four_go_alike(&mut stacks, &mut slow, number)
 }
 
 #[test]
 fn four_rounds_leave_what_plain_lists_say(rt: HostRuntime) -> Result<(), Fail> {
     for number in 0..1296 {
-        check(rt.alloc(), number)?;
+        let alike = is_alike(rt.alloc(), number)?;
+        assert!(rt; alike, "rounds {number}");
     }
     Ok(())
 }

@@ -3,37 +3,27 @@
 ghost use Rattle.std.specs.Prelude.{◌≡◌, ◌<◌, IfOk, length};
 
 use drives::{DriveFault, ListStacks, ListedReel, Stacks};
-use std::alloc::Global;
 use std::test::Fail;
 
-/// Two drives: the first with the reels a and b, the second with c.
-pub(super) fn two_drives(alloc: Global) -> Result<ListStacks, Fail>
-    ensures { IfOk result (λ stacks. length stacks.shop.racks ≡ 2) }
-{
-    let mut stacks = two_empty_drives(alloc)?;
-    fill(&mut stacks)?;
-    Ok(stacks)
-}
-
-/// Two drives without reels.
-pub(super) fn two_empty_drives(alloc: Global) -> Result<ListStacks, Fail>
-    ensures { IfOk result (λ stacks. length stacks.shop.racks ≡ 2) }
-{
-    let mut stacks = ListStacks::new(alloc);
-    stacks.add_drive(b"/dev/st0")?;
-    stacks.add_drive(b"/dev/st1")?;
-    Ok(stacks)
-}
-
-/// Gives two drives their three reels.
-fn fill(stacks: &mut ListStacks) -> Result<(), Fail>
-    requires { length stacks.old.shop.racks ≡ 2 }
+/// Adds two drives without reels.
+pub(super) fn add_drives(stacks: &mut ListStacks) -> Result<(), DriveFault>
+    requires { length stacks.old.shop.racks ≡ 0 }
     ensures { IfOk result (λ _. length stacks.new.shop.racks ≡ 2) }
 {
+    stacks.add_drive(b"/dev/st0")?;
+    stacks.add_drive(b"/dev/st1")?;
+    Ok(())
+}
+
+/// Adds two drives: the first with the reels a and b, the second with c.
+pub(super) fn add_three_reels(stacks: &mut ListStacks) -> Result<(), DriveFault>
+    requires { length stacks.old.shop.racks ≡ 0 }
+    ensures { IfOk result (λ _. length stacks.new.shop.racks ≡ 2) }
+{
+    add_drives(stacks)?;
     stacks.add_reel(0, b"a", 100)?;
     stacks.add_reel(0, b"b", 100)?;
-    stacks.add_reel(1, b"c", 100)?;
-    Ok(())
+    stacks.add_reel(1, b"c", 100)
 }
 
 /// Whether these are reels of these names, in order.

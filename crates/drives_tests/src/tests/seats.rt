@@ -1,26 +1,28 @@
-//! Every short list of takes, gives and looks of two seats, and who holds each drive after each, against plain lists.
+//! Steps of two seats: rows that were written by hand, and every short list of steps beside plain lists.
 
-ghost use Rattle.std.specs.Prelude.{◌≡◌, ◌≢◌, ◌<◌, ◌≤◌, length};
+ghost use Rattle.std.specs.Prelude.{◌≡◌, ◌≢◌, ◌<◌, ◌≤◌, IfOk, length};
 ghost use Rattle.drives.specs.declared.view.View.{View};
 ghost use Rattle.drives.specs.Local.{IsSeatOf};
 
-use super::slow::holds::{SlowHolds, SlowSeat};
+use super::slow::holds::SlowPair;
 use drives::{Holds, LocalHolds, LocalSeat, Taken};
 use std::alloc::Global;
 use std::process::Abort;
 use std::test::Fail;
 
-/// Has the seat of this number and the plain one take the drive, give it back where the seat holds it, or look. Answers
-/// whether both answer alike.
-fn act(
-    holds: &mut LocalHolds,
-    seat: &mut LocalSeat,
-    number: u64,
-    slow: &mut SlowHolds,
-    slow_seat: &mut SlowSeat,
-    kind: usize,
-    drive: usize,
-) -> Result<bool, Fail>
+/// What a seat does at a drive, and what that has to come to.
+#[derive(Clone, Copy)]
+pub(crate) enum Step {
+    /// It takes the drive, which is answered so.
+    Take(Taken),
+    /// It gives the drive back where it holds it, as it does or not.
+    Give(bool),
+    /// It asks for the drive's holder, which is the seat of that number, or none at 0.
+    Look(u64),
+}
+
+/// Has the seat of that number do a step at the drive. Answers whether it comes to what it has to.
+fn goes(holds: &mut LocalHolds, seat: &mut LocalSeat, number: u64, drive: usize, step: Step) -> bool
     requires own { IsSeatOf holds.old seat.old }
     requires number { seat.old.number ≡ number }
     requires drive { drive < length holds.old.numbers }
@@ -29,49 +31,41 @@ fn act(
     ensures others { (v : View) → v.number ≢ seat.old.number → IsSeatOf holds.old v → IsSeatOf holds.new v }
     ensures drives { length holds.new.numbers ≡ length holds.old.numbers }
 {
-    match kind {
-        0 => {
-            let wanted = match slow.take(slow_seat, drive)? {
-                0 => Taken::Held,
-                found => Taken::Busy(found),
-            };
-            Ok(holds.take(seat, drive) == wanted)
-        }
-        1 => {
-            if holds.number_at(drive) == number {
+    match step {
+        Step::Take(wanted) => holds.take(seat, drive) == wanted,
+        Step::Look(wanted) => holds.holder(seat, drive) == wanted,
+        Step::Give(wanted) => {
+            let held = holds.number_at(drive) == number;
+            if held {
                 holds.give(seat, drive);
-                slow.give(slow_seat, drive)?;
             }
-            Ok(true)
+            held == wanted
         }
-        _ => Ok(holds.holder(seat, drive) == slow.holder(drive)),
     }
 }
 
-/// Whether the first so many drives have the holders that the plain ones have, and the seat holds those that the plain one
-/// took.
-fn agree(holds: &LocalHolds, slow: &SlowHolds, seat: &SlowSeat, drives: usize) -> bool
-    requires { drives ≤ length holds.now.numbers }
+/// The first two seats.
+pub(super) fn two_seats(holds: &mut LocalHolds) -> Result<(LocalSeat, LocalSeat), Fail>
+    requires new { holds.old.last ≡ 0 }
+    ensures first { IfOk result (λ seats. IsSeatOf holds.new seats.0) }
+    ensures second { IfOk result (λ seats. IsSeatOf holds.new seats.1) }
+    ensures one { IfOk result (λ seats. seats.0.number ≡ 1) }
+    ensures two { IfOk result (λ seats. seats.1.number ≡ 2) }
+    ensures drives { length holds.new.numbers ≡ length holds.old.numbers }
 {
-    for drive in 0..drives {
-        let number = holds.number_at(drive);
-        if number != slow.holder(drive) || (number == seat.number) != seat.has(drive) {
-            return false;
-        }
+    match (holds.seat(), holds.seat()) {
+        (Some(first), Some(second)) => Ok((first, second)),
+        _ => Err(Fail::new("no seat")),
     }
-    true
 }
 
-/// Two seats at some drives, and the plain ones beside them.
+/// Two seats at some drives.
 #[derive(Drop)]
 struct Pair {
     drives: usize,
     holds: LocalHolds,
     first: LocalSeat,
     second: LocalSeat,
-    slow: SlowHolds,
-    slow_first: SlowSeat,
-    slow_second: SlowSeat,
     ghost some: { 1 ≤ drives },
     ghost all: { length holds.numbers ≡ drives },
     ghost own_first: { IsSeatOf holds first },
@@ -87,72 +81,107 @@ impl Pair {
         requires few { drives ≤ 64 }
     {
         let mut holds = LocalHolds::new(alloc, drives)?;
-        let (Some(first), Some(second)) = (holds.seat(), holds.seat()) else {
-            return Err(Fail::new("no seat"));
-        };
-        let slow = SlowHolds::new(alloc, drives)?;
+        let (first, second) = two_seats(&mut holds)?;
         Ok(Pair {
             drives,
             holds,
             first,
             second,
-            slow,
-            slow_first: SlowSeat::new(alloc, 1),
-            slow_second: SlowSeat::new(alloc, 2),
         })
     }
 
-    /// Has one of the seats act, by an event's number. Answers whether both answer alike.
-    fn act(&mut self, event: usize) -> Result<bool, Fail> {
-        let kind = event / 2 % 3;
-        let drive = event / 6 % self.drives;
-        let (holds, slow) = (&mut self.holds, &mut self.slow);
-        if event % 2 == 0 {
-            act(
-                holds,
-                &mut self.first,
-                1,
-                slow,
-                &mut self.slow_first,
-                kind,
-                drive,
-            )
+    /// Has the first seat, or else the second, do a step at the drive. Answers whether it comes to what it has to.
+    fn goes(&mut self, first: bool, drive: usize, step: Step) -> bool {
+        if drive >= self.drives {
+            return false;
+        }
+        if first {
+            goes(&mut self.holds, &mut self.first, 1, drive, step)
         } else {
-            act(
-                holds,
-                &mut self.second,
-                2,
-                slow,
-                &mut self.slow_second,
-                kind,
-                drive,
-            )
+            goes(&mut self.holds, &mut self.second, 2, drive, step)
         }
     }
 
-    /// Whether the drives have the holders that the plain ones have.
-    fn agrees(&self) -> bool {
-        agree(&self.holds, &self.slow, &self.slow_first, self.drives)
-            && agree(&self.holds, &self.slow, &self.slow_second, self.drives)
+    /// The number of the seat that holds the drive, or 0. None where there is no such drive.
+    fn holder(&self, drive: usize) -> Option<u64> {
+        if drive < self.drives {
+            Some(self.holds.number_at(drive))
+        } else {
+            None
+        }
     }
 }
 
-/// Makes so many events, of which the number has one digit each. Answers whether all went alike.
-fn run(alloc: Global, drives: usize, events: usize, number: usize) -> Result<bool, Fail>
-    requires some { 1 ≤ drives }
-    requires few { drives ≤ 64 }
-{
-    let mut pair = Pair::new(alloc, drives)?;
-    step(&mut pair, 6 * drives, events, number)
+/// Whether the first seat has a turn, or else the second, at which drive, its step, and the number of the seat that holds
+/// the drive then.
+type Row = (bool, usize, Step, u64);
+
+/// One drive goes from seat to seat.
+static ONE_DRIVE: [Row; 6] = [
+    (true, 0, Step::Take(Taken::Held), 1),
+    (false, 0, Step::Take(Taken::Busy(1)), 1),
+    (false, 0, Step::Look(1), 1),
+    (true, 0, Step::Give(true), 0),
+    (false, 0, Step::Look(0), 0),
+    (false, 0, Step::Take(Taken::Held), 2),
+];
+
+/// Of two drives each seat holds one.
+static TWO_DRIVES: [Row; 6] = [
+    (true, 1, Step::Take(Taken::Held), 1),
+    (false, 1, Step::Take(Taken::Busy(1)), 1),
+    (false, 0, Step::Take(Taken::Held), 2),
+    (true, 0, Step::Look(2), 2),
+    (false, 0, Step::Give(true), 0),
+    (true, 0, Step::Look(0), 0),
+];
+
+/// Whether the seats do all steps as they have to.
+fn all_go(pair: &mut Pair, rows: &[Row]) -> bool {
+    for (first, drive, step, holder) in rows {
+        if !pair.goes(*first, *drive, *step) || pair.holder(*drive) != Some(*holder) {
+            return false;
+        }
+    }
+    true
 }
 
-/// Makes so many events, of which the number has one digit each in that base.
-fn step(pair: &mut Pair, base: usize, events: usize, number: usize) -> Result<bool, Fail>
-    requires { 1 ≤ base }
-{
+#[test]
+fn one_seat_holds_a_drive(rt: HostRuntime) -> Result<(), Fail> {
+    assert!(rt; all_go(&mut Pair::new(rt.alloc(), 1)?, &ONE_DRIVE));
+    assert!(rt; all_go(&mut Pair::new(rt.alloc(), 2)?, &TWO_DRIVES));
+    Ok(())
+}
+
+/// Whether the drives have the holders that the plain ones have.
+fn is_like(pair: &Pair, slow: &SlowPair) -> bool {
+    for drive in 0..pair.drives {
+        if !slow.is_held_by(drive, pair.holds.number_at(drive)) {
+            return false;
+        }
+    }
+    true
+}
+
+/// Has a seat and the plain one do a step, by its number. Answers whether both come to the same.
+fn step_alike(pair: &mut Pair, slow: &mut SlowPair, number: usize) -> Result<bool, Fail> {
+    let first = number % 2 == 0;
+    let drive = number / 6 % pair.drives;
+    let step = slow.step(first, number / 2 % 3, drive)?;
+    Ok(pair.goes(first, drive, step) && is_like(pair, slow))
+}
+
+/// Does so many steps, of which the number has one digit each. Answers whether all went alike.
+fn go_alike(
+    pair: &mut Pair,
+    slow: &mut SlowPair,
+    steps: usize,
+    number: usize,
+) -> Result<bool, Fail> {
+    let base = pair.drives.saturating_mul(6);
     let mut rest = number;
-    for _ in 0..events {
-        if !pair.act(rest % base)? || !pair.agrees() {
+    for _ in 0..steps {
+        if !step_alike(pair, slow, rest % base)? {
             return Ok(false);
         }
         rest /= base;
@@ -160,19 +189,30 @@ fn step(pair: &mut Pair, base: usize, events: usize, number: usize) -> Result<bo
     Ok(true)
 }
 
+/// The same with new seats.
+fn run(alloc: Global, drives: usize, steps: usize, number: usize) -> Result<bool, Fail>
+    requires some { 1 ≤ drives }
+    requires few { drives ≤ 64 }
+{
+    let mut slow = SlowPair::new(alloc, drives)?;
+    let mut pair = Pair::new(alloc, drives)?;
+    go_alike(&mut pair, &mut slow, steps, number)
+}
+
 /// All numbers up to this have to go alike.
 fn run_all(
     rt: &impl Abort,
     alloc: Global,
     drives: usize,
-    events: usize,
+    steps: usize,
     numbers: usize,
 ) -> Result<(), Fail>
     requires some { 1 ≤ drives }
     requires few { drives ≤ 64 }
 {
     for number in 0..numbers {
-        assert!(rt; run(alloc, drives, events, number)?, "steps {number}");
+        let alike = run(alloc, drives, steps, number)?;
+        assert!(rt; alike, "steps {number}");
     }
     Ok(())
 }
@@ -185,21 +225,4 @@ fn every_five_steps_at_one_drive(rt: HostRuntime) -> Result<(), Fail> {
 #[test]
 fn every_three_steps_at_two_drives(rt: HostRuntime) -> Result<(), Fail> {
     run_all(&rt, rt.alloc(), 2, 3, 1728)
-}
-
-#[test]
-fn a_drive_goes_from_seat_to_seat(rt: HostRuntime) -> Result<(), Fail> {
-    let mut holds = LocalHolds::new(rt.alloc(), 1)?;
-    let (Some(mut first), Some(mut second)) = (holds.seat(), holds.seat()) else {
-        return Err(Fail::new("no seat"));
-    };
-    let held = holds.take(&mut first, 0) == Taken::Held;
-    let busy = holds.take(&mut second, 0) == Taken::Busy(1);
-    let told = holds.holder(&mut second, 0) == 1 && holds.number_at(0) == 1;
-    assert!(rt; held && busy && told);
-    holds.give(&mut first, 0);
-    let freed = holds.holder(&mut second, 0) == 0 && holds.number_at(0) == 0;
-    assert!(rt; freed && holds.take(&mut second, 0) == Taken::Held);
-    assert!(rt; holds.number_at(0) == 2);
-    Ok(())
 }

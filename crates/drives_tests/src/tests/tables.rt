@@ -1,12 +1,16 @@
-//! Who holds a drive, and what an open of one latches.
+//! What an open of a drive latches, and whom it refuses.
 
 ghost use Rattle.std.specs.Prelude.{◌≡◌, [], ◌∷◌, Some, IfOk, length, codes};
+ghost use Rattle.drives.specs.Local.{IsSeatOf};
 ghost use Rattle.drives.specs.Shop.{shop, rack, slot, kept_reel};
 ghost use Rattle.drives.specs.ListShop.{IsShop, StacksCanFail, with_shop, empty_shop, with_reel, with_drive};
 
-use drives::{DriveFault, DriveTable, Holds, ListStacks, LocalHolds, Stacks, Taken};
+use super::seats::two_seats;
+use drives::{DriveFault, DriveTable, Holds, ListStacks, LocalHolds, LocalSeat, Stacks};
 use std::alloc::Global;
 use std::test::Fail;
+
+type Drives = DriveTable<LocalHolds, ListStacks>;
 
 /// The drive `/dev/st0` with one empty reel.
 fn one_reel(alloc: Global) -> Result<ListStacks, Fail>
@@ -21,55 +25,78 @@ fn one_reel(alloc: Global) -> Result<ListStacks, Fail>
     Ok(stacks)
 }
 
-#[test]
-fn one_seat_holds_a_drive(rt: HostRuntime) -> Result<(), Fail> {
-    let mut holds = LocalHolds::new(rt.alloc(), 2)?;
-    let (Some(mut first), Some(mut second)) = (holds.seat(), holds.seat()) else {
-        return Err(Fail::new("no seat"));
-    };
-    let held = holds.take(&mut first, 1) == Taken::Held;
-    let busy = holds.take(&mut second, 1) == Taken::Busy(1);
-    assert!(rt; held && busy && holds.take(&mut second, 0) == Taken::Held);
-    let told = holds.holder(&mut first, 0) == 2;
-    holds.give(&mut second, 0);
-    assert!(rt; told && holds.holder(&mut first, 0) == 0);
-    Ok(())
+/// That drive, which no seat holds.
+fn one_drive(alloc: Global) -> Result<Drives, Fail>
+    ensures one { IfOk result (λ drives. length drives.stacks.shop.racks ≡ 1) }
+    ensures same { IfOk result (λ drives. length drives.holds.numbers ≡ 1) }
+    ensures new { IfOk result (λ drives. drives.holds.last ≡ 0) }
+{
+    let holds = LocalHolds::new(alloc, 1)?;
+    let stacks = one_reel(alloc)?;
+    Ok(DriveTable { holds, stacks })
+}
+
+/// Whether an open of the drive of that name is refused so.
+fn refuses(drives: &mut Drives, seat: &mut LocalSeat, name: &[u8], wanted: DriveFault) -> bool
+    requires seat { IsSeatOf drives.old.holds seat.old }
+    requires one { length drives.old.stacks.shop.racks ≡ 1 }
+    requires same { length drives.old.holds.numbers ≡ 1 }
+    ensures seat { IsSeatOf drives.new.holds seat.new }
+    ensures one { length drives.new.stacks.shop.racks ≡ 1 }
+    ensures same { length drives.new.holds.numbers ≡ 1 }
+{
+    matches!(drives.open(seat, name), Err(fault) if fault == wanted)
+}
+
+/// Opens the drive, moves its reel to the bin, and gives the drive back. Answers whether it is the first.
+fn opens_first(drives: &mut Drives, seat: &mut LocalSeat) -> Result<bool, DriveFault>
+    requires seat { IsSeatOf drives.old.holds seat.old }
+    requires one { length drives.old.stacks.shop.racks ≡ 1 }
+    requires same { length drives.old.holds.numbers ≡ 1 }
+    ensures seat { IsSeatOf drives.new.holds seat.new }
+    ensures one { length drives.new.stacks.shop.racks ≡ 1 }
+    ensures same { length drives.new.holds.numbers ≡ 1 }
+{
+    let (drive, reel) = drives.open(seat, b"/dev/st0")?;
+    let moved = drives.stacks.offline(drive, reel).is_ok();
+    drives.holds.give(seat, drive);
+    Ok(moved && drive == 0)
+}
+
+/// Whether an open latches the drive's reel, and is refused where there is no such drive, and once no reel is there.
+fn latches(drives: &mut Drives) -> Result<bool, Fail>
+    requires one { length drives.old.stacks.shop.racks ≡ 1 }
+    requires same { length drives.old.holds.numbers ≡ 1 }
+    requires new { drives.old.holds.last ≡ 0 }
+{
+    let (mut seat, _) = two_seats(&mut drives.holds)?;
+    let unknown = refuses(drives, &mut seat, b"/dev/st9", DriveFault::NoSuchDrive);
+    let opened = opens_first(drives, &mut seat)?;
+    let none = refuses(drives, &mut seat, b"/dev/st0", DriveFault::NoReel);
+    Ok(unknown && opened && none && drives.holds.holder(&mut seat, 0) == 0)
 }
 
 #[test]
 fn an_open_latches(rt: HostRuntime) -> Result<(), Fail> {
-    let holds = LocalHolds::new(rt.alloc(), 1)?;
-    let stacks = one_reel(rt.alloc())?;
-    let mut drives = DriveTable { holds, stacks };
-    let Some(mut seat) = drives.holds.seat() else {
-        return Err(Fail::new("no seat"));
-    };
-    let unknown = matches!(
-        drives.open(&mut seat, b"/dev/st9"),
-        Err(DriveFault::NoSuchDrive)
-    );
-    let (drive, reel) = drives.open(&mut seat, b"/dev/st0")?;
-    let moved = drives.stacks.offline(drive, reel).is_ok();
-    assert!(rt; unknown && drive == 0 && moved);
-    drives.holds.give(&mut seat, drive);
-    let none = matches!(drives.open(&mut seat, b"/dev/st0"), Err(DriveFault::NoReel));
-    assert!(rt; none && drives.holds.holder(&mut seat, 0) == 0);
+    let mut drives = one_drive(rt.alloc())?;
+    assert!(rt; latches(&mut drives)?);
     Ok(())
+}
+
+/// Whether the second seat is refused a drive that the first one has opened.
+fn is_opened_once(drives: &mut Drives) -> Result<bool, Fail>
+    requires one { length drives.old.stacks.shop.racks ≡ 1 }
+    requires same { length drives.old.holds.numbers ≡ 1 }
+    requires new { drives.old.holds.last ≡ 0 }
+{
+    let (mut first, mut second) = two_seats(&mut drives.holds)?;
+    let opened = drives.open(&mut first, b"/dev/st0").is_ok();
+    Ok(opened && refuses(drives, &mut second, b"/dev/st0", DriveFault::Busy(1)))
 }
 
 #[test]
 fn a_second_open_is_refused(rt: HostRuntime) -> Result<(), Fail> {
-    let mut holds = LocalHolds::new(rt.alloc(), 1)?;
-    let (Some(mut first), Some(mut second)) = (holds.seat(), holds.seat()) else {
-        return Err(Fail::new("no seat"));
-    };
-    let stacks = one_reel(rt.alloc())?;
-    let mut drives = DriveTable { holds, stacks };
-    let opened = drives.open(&mut first, b"/dev/st0").is_ok();
-    let busy = matches!(
-        drives.open(&mut second, b"/dev/st0"),
-        Err(DriveFault::Busy(1))
-    );
-    assert!(rt; opened && busy);
+    let mut drives = one_drive(rt.alloc())?;
+    assert!(rt; is_opened_once(&mut drives)?);
     Ok(())
 }

@@ -8,6 +8,55 @@ use std::os::unix::fs::{PermissionsExt, symlink};
 use std::rt::Files;
 use std::{io, process};
 
+/// What is done at a path.
+#[derive(Clone, Copy)]
+pub(super) enum Change<'a> {
+    /// A file of this text is written.
+    Write(&'a str),
+    /// A folder is made.
+    MakeFolder,
+    /// A link to there is made.
+    Link(&'a str),
+    /// The file or link is removed.
+    Remove,
+    /// The empty folder is removed.
+    RemoveFolder,
+    /// Nobody may write in the folder any more.
+    CloseFolder,
+}
+
+/// Makes the change at the path.
+fn change_at(rt: &HostRuntime, path: &str, change: Change<'_>) -> io::Result<()> {
+    match change {
+        Change::Write(text) => fs::write(rt, path, text),
+        Change::MakeFolder => fs::create_dir(rt, path),
+        Change::Link(target) => symlink(rt, target, path),
+        Change::Remove => fs::remove_file(rt, path),
+        Change::RemoveFolder => fs::remove_dir(rt, path),
+        Change::CloseFolder => close_folder(rt, path),
+    }
+}
+
+/// Lets nobody write in the folder.
+fn close_folder(rt: &HostRuntime, path: &str) -> io::Result<()> {
+    let mut mode = fs::metadata(rt, path)?.permissions();
+    mode.set_mode(0o555);
+    fs::set_permissions(rt, path, mode)
+}
+
+/// What lies at the path, open to read, with its lock.
+fn open_locked(rt: &HostRuntime, path: &str) -> io::Result<File> {
+    let file = File::open(rt, path)?;
+    file.lock()?;
+    Ok(file)
+}
+
+/// Whether the file has these bytes.
+fn has_bytes(rt: &HostRuntime, path: &str, bytes: &[u8]) -> io::Result<bool> {
+    let found = fs::read(rt, path)?;
+    Ok(found.as_slice() == bytes)
+}
+
 /// The drives `/dev/st0` and `/dev/st1` of reels of 100 bytes, with these stacks and this bin.
 fn open_folders<R: Files<File = File> + AllocGlobal + Clone + Drop>(
     rt: R,
@@ -30,6 +79,13 @@ fn open_folders<R: Files<File = File> + AllocGlobal + Clone + Drop>(
     Ok(FolderStacks::open(rt, &drives, bin, 100)?)
 }
 
+/// The stacks and the bin of each place.
+static FOLDERS: [(&str, Change<'static>); 3] = [
+    ("st0", Change::MakeFolder),
+    ("st1", Change::MakeFolder),
+    ("bin", Change::MakeFolder),
+];
+
 /// A folder with the stacks `st0` and `st1` and the folder `bin`.
 #[derive(Drop)]
 pub(super) struct Place {
@@ -49,9 +105,7 @@ impl Place {
 
     fn make_folders(&self) -> io::Result<()> {
         fs::create_dir(&self.rt, self.top.as_str())?;
-        self.put_folder("st0")?;
-        self.put_folder("st1")?;
-        self.put_folder("bin")
+        self.change_all(&FOLDERS)
     }
 
     /// The path of what lies there.
@@ -59,53 +113,36 @@ impl Place {
         Ok(format!(in self.rt.alloc(); "{}/{inner}", self.top)?)
     }
 
-    /// Writes a file there.
-    pub(super) fn put(&self, inner: &str, text: &str) -> io::Result<()> {
-        fs::write(&self.rt, self.path(inner)?.as_str(), text)
+    /// Makes the change there.
+    pub(super) fn change(&self, inner: &str, change: Change<'_>) -> io::Result<()> {
+        let path = self.path(inner)?;
+        change_at(&self.rt, path.as_str(), change)
     }
 
-    /// Makes a folder there.
-    pub(super) fn put_folder(&self, inner: &str) -> io::Result<()> {
-        fs::create_dir(&self.rt, self.path(inner)?.as_str())
+    /// Makes each change where it belongs.
+    pub(super) fn change_all(&self, changes: &[(&str, Change<'_>)]) -> io::Result<()> {
+        for (inner, change) in changes {
+            self.change(inner, *change)?;
+        }
+        Ok(())
     }
 
-    /// Makes a link there.
-    pub(super) fn put_link(&self, inner: &str, target: &str) -> io::Result<()> {
-        symlink(&self.rt, target, self.path(inner)?.as_str())
-    }
-
-    /// Removes the file there.
-    pub(super) fn remove_file(&self, inner: &str) -> io::Result<()> {
-        fs::remove_file(&self.rt, self.path(inner)?.as_str())
-    }
-
-    /// Removes the empty folder there.
-    pub(super) fn remove_folder(&self, inner: &str) -> io::Result<()> {
-        fs::remove_dir(&self.rt, self.path(inner)?.as_str())
-    }
-
-    /// Lets nobody write in the folder there.
-    pub(super) fn close_folder(&self, inner: &str) -> io::Result<()> {
-        let folder = self.path(inner)?;
-        let mut mode = fs::metadata(&self.rt, folder.as_str())?.permissions();
-        mode.set_mode(0o555);
-        fs::set_permissions(&self.rt, folder.as_str(), mode)
-    }
-
-    /// What lies there, open to read.
-    pub(super) fn file(&self, inner: &str) -> io::Result<File> {
-        File::open(&self.rt, self.path(inner)?.as_str())
+    /// What lies there, open to read, with its lock.
+    pub(super) fn lock(&self, inner: &str) -> io::Result<File> {
+        let path = self.path(inner)?;
+        open_locked(&self.rt, path.as_str())
     }
 
     /// Whether something lies there.
     pub(super) fn has(&self, inner: &str) -> io::Result<bool> {
-        fs::exists(&self.rt, self.path(inner)?.as_str())
+        let path = self.path(inner)?;
+        fs::exists(&self.rt, path.as_str())
     }
 
     /// Whether the file there has these bytes.
     pub(super) fn reads(&self, inner: &str, bytes: &[u8]) -> io::Result<bool> {
-        let found = fs::read(&self.rt, self.path(inner)?.as_str())?;
-        Ok(found.as_slice() == bytes)
+        let path = self.path(inner)?;
+        has_bytes(&self.rt, path.as_str(), bytes)
     }
 
     /// The drives `/dev/st0` and `/dev/st1` of reels of 100 bytes.

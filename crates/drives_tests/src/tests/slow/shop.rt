@@ -99,15 +99,20 @@ impl SlowShop {
     /// The stack of the first drive becomes these reels. Those of the bin among them leave it, and what was on the
     /// stack and is not among them comes to its end.
     pub(crate) fn arrange(&mut self, names: &[u8]) -> Result<(), Fail> {
-        let mut bin = Vec::new(self.alloc);
-        for name in self.bin.iter().chain(self.first.names.iter()) {
-            if !names.contains(name) {
-                bin.push(*name)?;
-            }
-        }
-        self.bin = bin;
-        self.first.names.clear();
-        self.first.names.extend_from_slice(names)?;
+        self.bin.extend_from_slice(self.first.names.as_slice())?;
+        self.bin = without(self.alloc, &self.bin, names)?;
+        self.first.names = Vec::from_slice(self.alloc, names)?;
         Ok(())
     }
+}
+
+/// Those of the names that are not among the others.
+fn without(alloc: Global, names: &[u8], others: &[u8]) -> Result<Vec<u8>, Fail> {
+    let mut left = Vec::new(alloc);
+    for name in names {
+        if !others.contains(name) {
+            left.push(*name)?;
+        }
+    }
+    Ok(left)
 }
