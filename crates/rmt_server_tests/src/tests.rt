@@ -23,5 +23,12 @@ mod three;
 mod troubled;
 mod turns;
 
+use std::process::Abort;
+
 /// A capacity in bytes that no row fills.
 pub(crate) const CAPACITY: u64 = 1048576;
+
+/// What the row of that number says has to be so.
+pub(crate) fn check_row(rt: &impl Abort, at: usize, right: bool) {
+    assert!(rt; right, "row {at}");
+}

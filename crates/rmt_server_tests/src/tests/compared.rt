@@ -6,39 +6,46 @@ ghost use Rattle.rmt_server.specs.State.{state, IsAt};
 ghost use Rattle.drives.specs.contracts.local.LocalHoldsHolds.TheImpl.{ghosts as of_holds};
 ghost use Rattle.drives.specs.contracts.list.ListStacksStacks.TheImpl.{ghosts as of_stacks};
 
-use super::CAPACITY;
 use super::dice::{Dice, next_request};
 use super::fixture::{Client, Drives, begin};
-use super::pieces::{Pieces, check_at};
+use super::pieces::{Pieces, is_served};
 use super::rows::{LARGEST, LARGEST_ANSWERS, ROWS, with_data};
 use super::slow::{Answer, SlowServer, error_text};
 use super::spelled::{spell, spell_answer};
+use super::{CAPACITY, check_row};
 use rmt_wire::{Reply, RequestReader};
-use std::alloc::Global;
-use std::process::Abort;
+use std::alloc::{AllocError, Global};
 use std::test::Fail;
 
 /// Capacities about the sizes of small records, and for a few of the greatest.
-const CAPACITIES: [u64; 7] = [0, 4, 13, 40, 200, 65548, 200000];
+static CAPACITIES: [u64; 7] = [0, 4, 13, 40, 200, 65548, 200000];
 
 /// How many requests are made of each server.
 const REQUESTS: usize = 200;
 
-/// Whether the reply is that answer.
-fn is_same(reply: &Reply<'_>, answer: &Answer) -> bool {
-    match (reply, answer) {
-        (Reply::Done { number }, Answer::Number(wanted)) => number == wanted,
-        (Reply::Data { bytes }, Answer::Bytes(wanted)) => *bytes == wanted.as_slice(),
-        (Reply::Data { bytes }, Answer::Number(0)) => bytes.is_empty(),
-        (Reply::Error { number, text }, Answer::Error(wanted)) => {
-            number == wanted && *text == error_text(*wanted)
-        }
+/// Whether a read of these bytes is that answer.
+fn is_read(bytes: &[u8], answer: &Answer) -> bool {
+    match answer {
+        Answer::Number(0) => bytes.is_empty(),
+        Answer::Bytes(wanted) => bytes == wanted.as_slice(),
         _ => false,
     }
 }
 
+/// Whether the reply is that answer.
+fn is_same(reply: &Reply<'_>, answer: &Answer) -> bool {
+    match reply {
+        Reply::Done { number } => matches!(answer, Answer::Number(wanted) if number == wanted),
+        Reply::Data { bytes } => is_read(bytes, answer),
+        Reply::Error { number, text } => {
+            matches!(answer, Answer::Error(wanted) if number == wanted)
+                && *text == error_text(*number)
+        }
+    }
+}
+
 /// The bytes that every write of these tests is cut from.
-fn filler(alloc: Global) -> Result<Vec<u8>, Fail> {
+fn filler(alloc: Global) -> Result<Vec<u8>, AllocError> {
     let mut bytes = Vec::from_elem(alloc, b'z', 65537)?;
     for (at, byte) in bytes.iter_mut().enumerate() {
         *byte = (at % 251) as u8;
@@ -55,7 +62,7 @@ struct Chance {
 }
 
 impl Chance {
-    fn new(alloc: Global, seed: usize, capacity: u64) -> Result<Chance, Fail> {
+    fn new(alloc: Global, seed: usize, capacity: u64) -> Result<Chance, AllocError> {
         let filler = filler(alloc)?;
         Ok(Chance {
             dice: Dice::new(seed),
@@ -70,10 +77,11 @@ impl Chance {
         alloc: Global,
         requests: &mut Vec<u8>,
         answers: &mut Vec<u8>,
-    ) -> Result<(), Fail> {
+    ) -> Result<(), AllocError> {
         let request = next_request(&mut self.dice, self.filler.as_slice());
         spell(alloc, &request, self.dice.pick(3), requests)?;
-        spell_answer(alloc, &self.server.answer(request)?, answers)
+        let answer = self.server.answer(request)?;
+        spell_answer(alloc, &answer, answers)
     }
 }
 
@@ -83,7 +91,7 @@ fn append_all(
     chance: &mut Chance,
     requests: &mut Vec<u8>,
     answers: &mut Vec<u8>,
-) -> Result<(), Fail> {
+) -> Result<(), AllocError> {
     for _ in 0..REQUESTS {
         chance.append(alloc, requests, answers)?;
     }
@@ -97,39 +105,41 @@ fn append_stream(
     capacity: u64,
     requests: &mut Vec<u8>,
     answers: &mut Vec<u8>,
-) -> Result<(), Fail> {
+) -> Result<(), AllocError> {
     let mut chance = Chance::new(alloc, seed, capacity)?;
     append_all(alloc, &mut chance, requests, answers)
 }
 
-/// Writes a stream of requests by chance, and what the plain server answers, and has it served.
-fn check_written(
-    rt: &impl Abort,
+/// How many bytes are given at once at most.
+static PIECES: [usize; 3] = [usize::MAX, 7, 65549];
+
+/// Whether the requests are answered so in pieces of each of those sizes.
+fn are_answered(
     alloc: Global,
-    seed: usize,
     capacity: u64,
-    requests: &mut Vec<u8>,
-    answers: &mut Vec<u8>,
-) -> Result<(), Fail> {
-    append_stream(alloc, seed, capacity, requests, answers)?;
-    for most in &[usize::MAX, 7, 65549] {
-        let input = Pieces::each(requests.as_slice(), *most);
-        check_at(rt, alloc, capacity, input, answers.as_slice(), 0)?;
+    requests: &[u8],
+    answers: &[u8],
+) -> Result<bool, Fail> {
+    for most in &PIECES {
+        if !is_served(alloc, capacity, Pieces::each(requests, *most), answers, 0)? {
+            return Ok(false);
+        }
     }
-    Ok(())
+    Ok(true)
 }
 
-/// The same with a new stream.
-fn check_stream(rt: &impl Abort, alloc: Global, seed: usize, capacity: u64) -> Result<(), Fail> {
+/// Whether a stream of requests by chance is answered as the plain server does.
+fn stream_is_answered(alloc: Global, seed: usize, capacity: u64) -> Result<bool, Fail> {
     let mut requests = Vec::new(alloc);
     let mut answers = Vec::new(alloc);
-    check_written(rt, alloc, seed, capacity, &mut requests, &mut answers)
+    append_stream(alloc, seed, capacity, &mut requests, &mut answers)?;
+    are_answered(alloc, capacity, requests.as_slice(), answers.as_slice())
 }
 
 #[test]
 fn a_stream_by_chance_is_answered_as_the_plain_server_does(rt: HostRuntime) -> Result<(), Fail> {
     for (seed, capacity) in CAPACITIES.iter().enumerate() {
-        check_stream(&rt, rt.alloc(), seed, *capacity)?;
+        check_row(&rt, seed, stream_is_answered(rt.alloc(), seed, *capacity)?);
     }
     Ok(())
 }
@@ -145,43 +155,43 @@ fn is_answered(chance: &mut Chance, drives: &mut Drives, session: &mut Client) -
     Ok(is_same(&reply, &wanted))
 }
 
-/// Has both carry out requests by chance.
-fn check_answers(
-    rt: &impl Abort,
+/// Has both carry out requests by chance. It tells whether all went the same.
+fn are_answered_alike(
     chance: &mut Chance,
     drives: &mut Drives,
     session: &mut Client,
-) -> Result<(), Fail>
+) -> Result<bool, Fail>
+    requires { IsAt (kinds of_holds of_stacks of_reel) (state drives.old session.old) }
+    ensures { IsAt (kinds of_holds of_stacks of_reel) (state drives.new session.new) }
+{
+    for _ in 0..REQUESTS {
+        if !is_answered(chance, drives, session)? {
+            return Ok(false);
+        }
+    }
+    Ok(true)
+}
+
+/// The same with a session that ends then.
+fn ends_alike(chance: &mut Chance, drives: &mut Drives, session: &mut Client) -> Result<bool, Fail>
     requires { IsAt (kinds of_holds of_stacks of_reel) (state drives.old session.old) }
 {
-    for at in 0..REQUESTS {
-        assert!(rt; is_answered(chance, drives, session)?, "request {at}");
-    }
+    let alike = are_answered_alike(chance, drives, session)?;
     session.end(drives);
-    Ok(())
+    Ok(alike)
 }
 
-/// The same with a new session.
-fn check_beside(
-    rt: &impl Abort,
-    alloc: Global,
-    capacity: u64,
-    chance: &mut Chance,
-) -> Result<(), Fail> {
-    let (mut drives, mut session) = begin(alloc, capacity)?;
-    check_answers(rt, chance, &mut drives, &mut session)
-}
-
-/// The same with a new plain server.
-fn check_session(rt: &impl Abort, alloc: Global, seed: usize, capacity: u64) -> Result<(), Fail> {
-    let mut chance = Chance::new(alloc, seed, capacity)?;
-    check_beside(rt, alloc, capacity, &mut chance)
+/// The same with a new session and a new plain server.
+fn session_is_alike(alloc: Global, seed: usize, capacity: u64) -> Result<bool, Fail> {
+    let mut chance = Chance::new(alloc, seed.saturating_add(100), capacity)?;
+    let mut one = begin(alloc, capacity)?;
+    ends_alike(&mut chance, &mut one.drives, &mut one.session)
 }
 
 #[test]
 fn a_session_by_chance_answers_as_the_plain_server_does(rt: HostRuntime) -> Result<(), Fail> {
     for (seed, capacity) in CAPACITIES.iter().enumerate() {
-        check_session(&rt, rt.alloc(), seed.saturating_add(100), *capacity)?;
+        check_row(&rt, seed, session_is_alike(rt.alloc(), seed, *capacity)?);
     }
     Ok(())
 }
@@ -227,16 +237,10 @@ fn is_plain(alloc: Global, stream: &[u8], want: &[u8]) -> Result<bool, Fail> {
     answer_all(alloc, stream, want, &mut wire, &mut server, &mut answers)
 }
 
-/// The plain server has to answer so.
-fn check_plain(rt: &impl Abort, alloc: Global, stream: &[u8], want: &[u8]) -> Result<(), Fail> {
-    assert!(rt; is_plain(alloc, stream, want)?);
-    Ok(())
-}
-
 #[test]
 fn the_plain_server_answers_what_was_written_by_hand(rt: HostRuntime) -> Result<(), Fail> {
-    for (stream, want, _) in &ROWS {
-        check_plain(&rt, rt.alloc(), stream, want)?;
+    for (at, (stream, want, _)) in ROWS.iter().enumerate() {
+        check_row(&rt, at, is_plain(rt.alloc(), stream, want)?);
     }
     Ok(())
 }
@@ -244,5 +248,6 @@ fn the_plain_server_answers_what_was_written_by_hand(rt: HostRuntime) -> Result<
 #[test]
 fn the_plain_server_answers_the_greatest_record(rt: HostRuntime) -> Result<(), Fail> {
     let largest = with_data(rt.alloc(), &LARGEST)?;
-    check_plain(&rt, rt.alloc(), largest.as_slice(), LARGEST_ANSWERS)
+    assert!(rt; is_plain(rt.alloc(), largest.as_slice(), LARGEST_ANSWERS)?);
+    Ok(())
 }

@@ -31,7 +31,7 @@ impl Dice {
 }
 
 /// Names of which the first is the drive's.
-const DEVICES: [&[u8]; 6] = [
+static DEVICES: [&[u8]; 6] = [
     b"/dev/st0",
     b"/dev/st0",
     b"/dev/st0",
@@ -41,16 +41,16 @@ const DEVICES: [&[u8]; 6] = [
 ];
 
 /// Each access, small, with higher bits, and at the greatest number.
-const MODES: [u32; 10] = [2, 2, 2, 0, 1, 3, 513, 2147483646, 2147483644, 2147483647];
+static MODES: [u32; 10] = [2, 2, 2, 0, 1, 3, 513, 2147483646, 2147483644, 2147483647];
 
 /// Lengths of writes, up to one byte past the greatest record.
-const LENGTHS: [usize; 10] = [0, 1, 1, 2, 3, 5, 30, 65535, 65536, 65537];
+static LENGTHS: [usize; 10] = [0, 1, 1, 2, 3, 5, 30, 65535, 65536, 65537];
 
 /// Counts of reads.
-const COUNTS: [u32; 8] = [0, 1, 2, 10, 65535, 65536, 65537, 2147483647];
+static COUNTS: [u32; 8] = [0, 1, 2, 10, 65535, 65536, 65537, 2147483647];
 
 /// The operations that there are but the one that takes the reel away, a number above them, and the greatest.
-const OPERATIONS: [u32; 17] = [0, 0, 5, 5, 5, 0, 1, 2, 3, 4, 1, 2, 3, 4, 7, 8, 2147483647];
+static OPERATIONS: [u32; 17] = [0, 0, 5, 5, 5, 0, 1, 2, 3, 4, 1, 2, 3, 4, 7, 8, 2147483647];
 
 /// The operation that takes the reel away, which is asked for once in so many operations.
 const OFFLINE: u32 = 6;
@@ -58,7 +58,7 @@ const OFFLINE: u32 = 6;
 const SELDOM: usize = 40;
 
 /// Counts of operations.
-const TIMES: [u32; 6] = [0, 1, 1, 2, 5, 2147483647];
+static TIMES: [u32; 6] = [0, 1, 1, 2, 5, 2147483647];
 
 /// A request by chance. Writes are cut from the filler.
 pub(crate) fn next_request<'a>(dice: &mut Dice, filler: &'a [u8]) -> Request<'a> {

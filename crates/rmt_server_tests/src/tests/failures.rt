@@ -6,88 +6,64 @@ use super::pieces::{Pieces, Wanted};
 use super::script::{READ_BACK_ANSWERS, READ_BACK_BYTES, answered_of};
 use rmt_server::ServeFault;
 use std::alloc::Global;
-use std::io::{self, ErrorKind, Read};
-use std::process::Abort;
 use std::test::Fail;
 
-/// It gives its bytes, and then fails.
-#[derive(Clone, Copy)]
-struct Breaking<'a> {
-    rest: &'a [u8],
-}
-
-impl Read for Breaking<'_> {
-    fn read(&mut self, buf: &mut [u8]) -> io::Result<usize> {
-        if self.rest.is_empty() {
-            return Err(ErrorKind::ConnectionReset.into());
-        }
-        let count = buf.len().min(self.rest.len());
-        buf[..count].copy_from_slice(&self.rest[..count]);
-        self.rest = &self.rest[count..];
-        Ok(count)
-    }
-}
-
-/// The input fails behind its first `len` bytes.
-fn check_reader(rt: &impl Abort, alloc: Global, len: usize) -> Result<(), Fail> {
+/// Whether the session ends so where the input fails behind its first `len` bytes.
+fn ends_with_input(alloc: Global, len: usize) -> Result<bool, Fail> {
     let (answered, _) = answered_of(len);
-    let input = Breaking {
-        rest: &READ_BACK_BYTES[..len.min(READ_BACK_BYTES.len())],
-    };
-    let want = &READ_BACK_ANSWERS[..answered.min(READ_BACK_ANSWERS.len())];
-    let mut output = Wanted::all(want);
+    let input = Pieces::broken(READ_BACK_BYTES.get(..len).unwrap_or(&[]));
+    let mut output = Wanted::all(READ_BACK_ANSWERS.get(..answered).unwrap_or(&[]));
     let ended = serve_once(alloc, input, &mut output, CAPACITY)?;
-    assert!(rt; ended.is(Err(ServeFault::Input), 1, 0) && output.is_met());
-    Ok(())
+    Ok(ended.is(Err(ServeFault::Input), 1, 0) && output.is_met())
 }
 
 #[test]
 fn a_failing_reader_ends_the_session(rt: HostRuntime) -> Result<(), Fail> {
     for len in 0..READ_BACK_BYTES.len() {
-        check_reader(&rt, rt.alloc(), len)?;
+        assert!(rt; ends_with_input(rt.alloc(), len)?);
     }
     Ok(())
 }
 
-/// The output fails, or takes none, behind its first `room` bytes. It takes at most `most` a call.
-fn check_writer(
-    rt: &impl Abort,
-    alloc: Global,
-    room: usize,
-    most: usize,
-    fails: bool,
-) -> Result<(), Fail> {
-    let want = &READ_BACK_ANSWERS[..room.min(READ_BACK_ANSWERS.len())];
-    let mut output = Wanted::narrow(want, room, most, fails);
-    let input = Pieces::whole(READ_BACK_BYTES);
-    let ended = serve_once(alloc, input, &mut output, CAPACITY)?;
-    assert!(rt; ended.is(Err(ServeFault::Output), 0, 1) && output.is_met());
-    Ok(())
-}
-
 /// How many bytes the output takes a call, and whether it fails then or takes none.
-const WAYS: [(usize, bool); 4] = [
+type Way = (usize, bool);
+
+static WAYS: [Way; 4] = [
     (usize::MAX, true),
     (usize::MAX, false),
     (2, true),
     (2, false),
 ];
 
+/// Whether the session ends so where the output fails, or takes none, behind its first `room` bytes.
+fn ends_with_output(alloc: Global, room: usize, (most, fails): Way) -> Result<bool, Fail> {
+    let want = READ_BACK_ANSWERS.get(..room).unwrap_or(&[]);
+    let mut output = Wanted::narrow(want, room, most, fails);
+    let input = Pieces::whole(READ_BACK_BYTES);
+    let ended = serve_once(alloc, input, &mut output, CAPACITY)?;
+    Ok(ended.is(Err(ServeFault::Output), 0, 1) && output.is_met())
+}
+
 #[test]
 fn a_failing_writer_ends_the_session(rt: HostRuntime) -> Result<(), Fail> {
     for room in 0..READ_BACK_ANSWERS.len() {
-        for (most, fails) in &WAYS {
-            check_writer(&rt, rt.alloc(), room, *most, *fails)?;
+        for way in &WAYS {
+            assert!(rt; ends_with_output(rt.alloc(), room, *way)?);
         }
     }
     Ok(())
 }
 
-#[test]
-fn a_writer_may_take_a_byte_a_call(rt: HostRuntime) -> Result<(), Fail> {
+/// Whether the session is answered where the output takes a byte a call.
+fn ends_with_bytes(alloc: Global) -> Result<bool, Fail> {
     let mut output = Wanted::narrow(READ_BACK_ANSWERS, 26, 1, true);
     let input = Pieces::whole(READ_BACK_BYTES);
-    let ended = serve_once(rt.alloc(), input, &mut output, CAPACITY)?;
-    assert!(rt; ended.status() == 0 && output.is_met());
+    let ended = serve_once(alloc, input, &mut output, CAPACITY)?;
+    Ok(ended.status() == 0 && output.is_met())
+}
+
+#[test]
+fn a_writer_may_take_a_byte_a_call(rt: HostRuntime) -> Result<(), Fail> {
+    assert!(rt; ends_with_bytes(rt.alloc())?);
     Ok(())
 }

@@ -1,15 +1,17 @@
 //! One drive in memory, and one stream that is served with it.
 
-ghost use Rattle.std.specs.Prelude.{◌≡◌, ◌≤◌, IfOk, [], length};
+ghost use Rattle.std.specs.Prelude.{◌≡◌, ◌≤◌, ◌+◌, IfOk, [], length};
 ghost use Rattle.tape.specs.contracts.troubled.TroubledReelReel.TheImpl.{ghosts as of_reel};
+ghost use Rattle.drives.specs.declared.view.View.{View};
 ghost use Rattle.drives.specs.Opening.{kinds};
 ghost use Rattle.rmt_wire.specs.RequestReader.{Unread};
+ghost use Rattle.rmt_server.specs.declared.session.desk.Desk.{Desk};
 ghost use Rattle.rmt_server.specs.State.{state, IsAt};
 ghost use Rattle.drives.specs.contracts.local.LocalHoldsHolds.TheImpl.{ghosts as of_holds};
 ghost use Rattle.drives.specs.contracts.list.ListStacksStacks.TheImpl.{ghosts as of_stacks};
 
 use drives::{DriveTable, Holds, ListStacks, LocalHolds, Stacks};
-use rmt_server::{ServeFault, Served, Session, serve};
+use rmt_server::{ServeFault, Served, Session, more_seats, serve};
 use rmt_wire::{Counted, RequestReader};
 use std::alloc::Global;
 use std::io::{Read, Write};
@@ -73,20 +75,53 @@ pub(crate) fn one_reel(alloc: Global, capacity: u64) -> Result<ListStacks, Fail>
     Ok(stacks)
 }
 
-/// One drive with one empty reel, and a session with nothing open.
-pub(crate) fn begin(alloc: Global, capacity: u64) -> Result<(Drives, Client), Fail>
-    ensures { IfOk result (λ made. IsAt (kinds of_holds of_stacks of_reel) (state made.0 made.1)) }
+/// A session with nothing open, of a new seat at the drives.
+pub(crate) fn new_session<S: Stacks>(
+    alloc: Global,
+    drives: &mut DriveTable<LocalHolds, S>,
+) -> Result<Session<LocalHolds, S>, Fail>
+    requires { S.drives drives.old.stacks ≤ length drives.old.holds.numbers }
+    ensures at { IfOk result (λ session. IsAt (kinds of_holds S.Stacks S.Reel.Reel) (state drives.new session)) }
+    ensures number { IfOk result (λ session. session.seat.number ≡ drives.new.holds.last) }
+    ensures next { IfOk result (λ _. drives.new.holds.last ≡ drives.old.holds.last + 1) }
+    ensures numbers { drives.new.holds.numbers ≡ drives.old.holds.numbers }
+    ensures stacks { drives.new.stacks ≡ drives.old.stacks }
+    ensures others { (desk : Desk View S.Reel) → IsAt (kinds of_holds S.Stacks S.Reel.Reel) (state drives.old desk) →
+        IsAt (kinds of_holds S.Stacks S.Reel.Reel) (state drives.new desk) }
 {
-    let mut holds = LocalHolds::new(alloc, 1)?;
-    let Some(seat) = holds.seat() else {
+    more_seats::<S>();
+    let Some(seat) = drives.holds.seat() else {
         return Err(Fail::new("no seat"));
     };
-    let stacks = one_reel(alloc, capacity)?;
-    let drives = DriveTable { holds, stacks };
     match Session::new(alloc, seat) {
-        Ok(session) => Ok((drives, session)),
+        Ok(session) => Ok(session),
         Err(_) => Err(Fail::new("no session")),
     }
+}
+
+/// One drive with one empty reel.
+fn one_drive(alloc: Global, capacity: u64) -> Result<Drives, Fail>
+    ensures { IfOk result (λ drives. length drives.stacks.shop.racks ≤ length drives.holds.numbers) }
+{
+    let holds = LocalHolds::new(alloc, 1)?;
+    let stacks = one_reel(alloc, capacity)?;
+    Ok(DriveTable { holds, stacks })
+}
+
+/// Drives, and a session with them.
+#[derive(Drop)]
+pub(crate) struct One {
+    pub(crate) drives: Drives,
+    pub(crate) session: Client,
+}
+
+/// One drive with one empty reel, and a session with nothing open.
+pub(crate) fn begin(alloc: Global, capacity: u64) -> Result<One, Fail>
+    ensures { IfOk result (λ one. IsAt (kinds of_holds of_stacks of_reel) (state one.drives one.session)) }
+{
+    let mut drives = one_drive(alloc, capacity)?;
+    let session = new_session(alloc, &mut drives)?;
+    Ok(One { drives, session })
 }
 
 /// Serves one stream.
@@ -122,8 +157,8 @@ fn serve_new<R: Read, W: Write>(
 ) -> Result<Ended, Fail>
     requires empty { Unread wire.old [] }
 {
-    let (mut drives, mut session) = begin(alloc, capacity)?;
-    Ok(end_of(input, output, wire, &mut session, &mut drives))
+    let mut one = begin(alloc, capacity)?;
+    Ok(end_of(input, output, wire, &mut one.session, &mut one.drives))
 }
 
 /// Serves the stream, and looks at the drives then.

@@ -4,15 +4,17 @@ use super::CAPACITY;
 use super::fixture::serve_once;
 use std::alloc::Global;
 use std::io::{self, ErrorKind, Read, Write};
-use std::process::Abort;
+use std::ops::Range;
 use std::test::Fail;
 
-/// It gives two texts, the second after the first, never bytes of both in one call, and at most `most` a call.
+/// It gives two texts, the second after the first, never bytes of both in one call, and at most `most` a call. Behind them
+/// it ends, or fails.
 #[derive(Clone, Copy)]
 pub(crate) struct Pieces<'a> {
     first: &'a [u8],
     second: &'a [u8],
     most: usize,
+    fails: bool,
 }
 
 impl<'a> Pieces<'a> {
@@ -27,6 +29,7 @@ impl<'a> Pieces<'a> {
             first: bytes,
             second: &[],
             most,
+            fails: false,
         }
     }
 
@@ -37,6 +40,17 @@ impl<'a> Pieces<'a> {
             first: &bytes[..at],
             second: &bytes[at..],
             most: usize::MAX,
+            fails: false,
+        }
+    }
+
+    /// As many at once as are asked for, and a failure behind them.
+    pub(crate) fn broken(bytes: &'a [u8]) -> Self {
+        Pieces {
+            first: bytes,
+            second: &[],
+            most: usize::MAX,
+            fails: true,
         }
     }
 }
@@ -46,6 +60,9 @@ impl Read for Pieces<'_> {
         if self.first.is_empty() {
             self.first = self.second;
             self.second = &[];
+        }
+        if self.first.is_empty() && self.fails {
+            return Err(ErrorKind::ConnectionReset.into());
         }
         let count = buf.len().min(self.first.len()).min(self.most);
         buf[..count].copy_from_slice(&self.first[..count]);
@@ -105,55 +122,44 @@ impl Write for Wanted<'_> {
     }
 }
 
-/// What is answered to the pieces with a reel of that capacity, and with which status.
-pub(crate) fn check_at(
-    rt: &impl Abort,
+/// Whether the pieces are answered so with a reel of that capacity, and with that status.
+pub(crate) fn is_served(
     alloc: Global,
     capacity: u64,
     input: Pieces<'_>,
     want: &[u8],
     status: u8,
-) -> Result<(), Fail> {
+) -> Result<bool, Fail> {
     let mut output = Wanted::all(want);
     let ended = serve_once(alloc, input, &mut output, capacity)?;
-    assert!(rt; ended.status() == status && output.is_met());
-    Ok(())
+    Ok(ended.status() == status && output.is_met())
 }
 
-/// The same with the capacity of these tests.
-pub(crate) fn check(
-    rt: &impl Abort,
-    alloc: Global,
-    input: Pieces<'_>,
-    want: &[u8],
-    status: u8,
-) -> Result<(), Fail> {
-    check_at(rt, alloc, CAPACITY, input, want, status)
-}
-
-/// The same in one piece, and a byte a piece.
-pub(crate) fn check_pieces(
-    rt: &impl Abort,
+/// The same in one piece, and a byte a piece, with the capacity of these tests.
+pub(crate) fn is_served_in_pieces(
     alloc: Global,
     bytes: &[u8],
     want: &[u8],
     status: u8,
-) -> Result<(), Fail> {
-    check(rt, alloc, Pieces::whole(bytes), want, status)?;
-    check(rt, alloc, Pieces::each(bytes, 1), want, status)
+) -> Result<bool, Fail> {
+    Ok(
+        is_served(alloc, CAPACITY, Pieces::whole(bytes), want, status)?
+            && is_served(alloc, CAPACITY, Pieces::each(bytes, 1), want, status)?,
+    )
 }
 
-/// The same in one piece, a byte a piece, and cut in two at every place.
-pub(crate) fn check_cuts(
-    rt: &impl Abort,
+/// The same cut in two at each of these places.
+pub(crate) fn is_served_cut(
     alloc: Global,
     bytes: &[u8],
+    places: Range<usize>,
     want: &[u8],
     status: u8,
-) -> Result<(), Fail> {
-    check_pieces(rt, alloc, bytes, want, status)?;
-    for at in 0..bytes.len() {
-        check(rt, alloc, Pieces::cut(bytes, at), want, status)?;
+) -> Result<bool, Fail> {
+    for at in places {
+        if !is_served(alloc, CAPACITY, Pieces::cut(bytes, at), want, status)? {
+            return Ok(false);
+        }
     }
-    Ok(())
+    Ok(true)
 }

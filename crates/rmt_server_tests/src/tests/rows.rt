@@ -1,15 +1,15 @@
 //! Streams whose answers were written by hand.
 
-use super::pieces::{Pieces, check, check_cuts, check_pieces};
+use super::check_row;
+use super::pieces::{is_served_cut, is_served_in_pieces};
 use std::alloc::{AllocError, Global};
-use std::process::Abort;
 use std::test::Fail;
 
 /// A stream, what it is answered, and how it ends: 0 between two requests, 2 inside one, 3 at bytes that are no
 /// request.
 pub(crate) type Row = (&'static [u8], &'static [u8], u8);
 
-pub(crate) const ROWS: [Row; 17] = [
+pub(crate) static ROWS: [Row; 18] = [
     // a record is read back
     (
         b"O/dev/st0\n2\nW5\nhelloI0\n1\nI5\n1\nR10\nR10\nC\n",
@@ -38,6 +38,8 @@ pub(crate) const ROWS: [Row; 17] = [
     // so does a bad number
     (b"W99999999999\n", b"", 3),
     (b"W3x", b"", 3),
+    // nothing is answered past bytes that are no request
+    (b"C\nXC\nC\n", b"E9\nBad file descriptor\n", 3),
     // a write loses the old tail
     (
         b"O/dev/st0\n2\nW3\nabcW2\ndeI5\n1\nW1\nxR5\nC\n",
@@ -70,10 +72,18 @@ pub(crate) const ROWS: [Row; 17] = [
     ),
 ];
 
+/// Whether the stream is answered so in one piece, a byte a piece, and cut in two at every place.
+fn is_answered(alloc: Global, (bytes, want, status): Row) -> Result<bool, Fail> {
+    Ok(
+        is_served_in_pieces(alloc, bytes, want, status)?
+            && is_served_cut(alloc, bytes, 0..bytes.len(), want, status)?,
+    )
+}
+
 #[test]
 fn streams_are_answered_as_was_written_by_hand(rt: HostRuntime) -> Result<(), Fail> {
-    for (bytes, want, status) in &ROWS {
-        check_cuts(&rt, rt.alloc(), bytes, want, *status)?;
+    for (at, row) in ROWS.iter().enumerate() {
+        check_row(&rt, at, is_answered(rt.alloc(), *row)?);
     }
     Ok(())
 }
@@ -93,7 +103,7 @@ pub(crate) fn with_data(alloc: Global, lines: &[Line]) -> Result<Vec<u8>, AllocE
 }
 
 /// The greatest record, one byte more, none, and an operation that does nothing.
-pub(crate) const LARGEST: [Line; 3] = [
+pub(crate) static LARGEST: [Line; 3] = [
     (b"O/dev/st0\n2\nW65536\n", 65536),
     (b"W65537\n", 65537),
     (b"W0\nI7\n9\n", 0),
@@ -104,31 +114,32 @@ pub(crate) const LARGEST_ANSWERS: &[u8] =
 
 /// The places in the lines of `LARGEST`, and a few on each side of both ends of its data: there are 19 bytes
 /// before the first data, 7 between the two, and 8 after them.
-const LINE_PLACES: [(usize, usize); 4] = [
+static LINE_PLACES: [(usize, usize); 4] = [
     (0, 23),
     (65551, 65567),
     (131095, 131107),
     (70000, 70001),
 ];
 
-/// The stream at each cut of those places, in one piece, and a byte a piece.
-fn check_places(rt: &impl Abort, alloc: Global, bytes: &[u8], want: &[u8]) -> Result<(), Fail> {
+/// Whether the stream is answered so cut in two at those places, in one piece, and a byte a piece.
+fn is_answered_at_places(alloc: Global, bytes: &[u8], want: &[u8]) -> Result<bool, Fail> {
     for (from, to) in &LINE_PLACES {
-        for at in *from..*to {
-            check(rt, alloc, Pieces::cut(bytes, at), want, 0)?;
+        if !is_served_cut(alloc, bytes, *from..*to, want, 0)? {
+            return Ok(false);
         }
     }
-    check_pieces(rt, alloc, bytes, want, 0)
+    is_served_in_pieces(alloc, bytes, want, 0)
 }
 
 #[test]
 fn the_greatest_record_and_one_byte_more(rt: HostRuntime) -> Result<(), Fail> {
     let bytes = with_data(rt.alloc(), &LARGEST)?;
-    check_places(&rt, rt.alloc(), bytes.as_slice(), LARGEST_ANSWERS)
+    assert!(rt; is_answered_at_places(rt.alloc(), bytes.as_slice(), LARGEST_ANSWERS)?);
+    Ok(())
 }
 
 /// Counts at their limits.
-const LIMITS: [Line; 5] = [
+static LIMITS: [Line; 5] = [
     (b"O/dev/st0\n2147483646\nW0000065536\n", 65536),
     (b"I5\n2147483647\nR65537\nR1\n", 0),
     (b"I5\n0\nR2147483647\nI7\n2147483647\n", 0),
@@ -136,7 +147,7 @@ const LIMITS: [Line; 5] = [
     (b"I2147483647\n0\nR2147483648\nC\n", 0),
 ];
 
-const LIMITS_ANSWERS: [Line; 5] = [
+static LIMITS_ANSWERS: [Line; 5] = [
     (b"A0\nA65536\nA2147483647\nA65536\n", 65536),
     (b"A0\nA0\nA65536\n", 65536),
     (b"A2147483647\nA0\nA65535\n", 65535),
@@ -144,10 +155,15 @@ const LIMITS_ANSWERS: [Line; 5] = [
     (b"E22\nInvalid argument\n", 0),
 ];
 
-#[test]
-fn counts_at_their_limits(rt: HostRuntime) -> Result<(), Fail> {
-    let alloc = rt.alloc();
+/// Whether those are answered so.
+fn limits_are_answered(alloc: Global) -> Result<bool, Fail> {
     let bytes = with_data(alloc, &LIMITS)?;
     let want = with_data(alloc, &LIMITS_ANSWERS)?;
-    check_pieces(&rt, alloc, bytes.as_slice(), want.as_slice(), 3)
+    is_served_in_pieces(alloc, bytes.as_slice(), want.as_slice(), 3)
+}
+
+#[test]
+fn counts_at_their_limits(rt: HostRuntime) -> Result<(), Fail> {
+    assert!(rt; limits_are_answered(rt.alloc())?);
+    Ok(())
 }

@@ -4,7 +4,7 @@
 pub(crate) type Turn = (&'static [u8], &'static [u8]);
 
 /// A record is written and read back.
-pub(crate) const READ_BACK: [Turn; 7] = [
+pub(crate) static READ_BACK: [Turn; 7] = [
     (b"O/dev/st0\n2\n", b"A0\n"),
     (b"W5\nhello", b"A5\n"),
     (b"I0\n1\n", b"A1\n"),
@@ -25,7 +25,7 @@ pub(crate) const READ_BACK_ANSWERS: &[u8] = b"A0\nA5\nA1\nA1\nA5\nhelloA0\nA0\n"
 pub(crate) fn answered_of(len: usize) -> (usize, bool) {
     let mut end = 0usize;
     let mut answered = 0usize;
-    for (request, answer) in READ_BACK {
+    for (request, answer) in &READ_BACK {
         end = end.saturating_add(request.len());
         if end > len {
             return (answered, end.saturating_sub(request.len()) == len);

@@ -2,18 +2,17 @@
 
 use super::CAPACITY;
 use super::fixture::serve_once;
-use super::pieces::{Pieces, Wanted, check, check_at};
+use super::pieces::{Pieces, Wanted, is_served};
 use super::script::{READ_BACK_ANSWERS, READ_BACK_BYTES};
 use rmt_server::{ServeFault, Served};
 use rmt_wire::WireFault;
-use std::alloc::Global;
-use std::process::Abort;
+use std::alloc::{AllocError, Global};
 use std::test::Fail;
 
 /// Bytes, their answers, how they end, and the first record of the reel then. The drive has to be free.
 type Ending = (&'static [u8], &'static [u8], Served, &'static [u8]);
 
-const ENDINGS: [Ending; 6] = [
+static ENDINGS: [Ending; 6] = [
     (b"", b"", Served::End, b""),
     (READ_BACK_BYTES, READ_BACK_ANSWERS, Served::End, b"hello"),
     (
@@ -37,30 +36,23 @@ const ENDINGS: [Ending; 6] = [
     ),
 ];
 
-fn check_ending(rt: &impl Abort, alloc: Global, row: &Ending) -> Result<(), Fail> {
-    let (bytes, answers, ending, record) = *row;
+/// Whether the bytes are answered and end so.
+fn ends(alloc: Global, (bytes, answers, ending, record): Ending) -> Result<bool, Fail> {
     let mut output = Wanted::all(answers);
     let ended = serve_once(alloc, bytes, &mut output, CAPACITY)?;
-    assert!(rt; ended.is(Ok(ending), 0, 0) && output.is_met() && ended.has_record(record));
-    Ok(())
+    Ok(ended.is(Ok(ending), 0, 0) && output.is_met() && ended.has_record(record))
 }
 
 #[test]
 fn each_ending_closes_what_is_open(rt: HostRuntime) -> Result<(), Fail> {
     for row in &ENDINGS {
-        check_ending(&rt, rt.alloc(), row)?;
+        assert!(rt; ends(rt.alloc(), *row)?);
     }
     Ok(())
 }
 
-#[test]
-fn nothing_is_answered_past_bytes_that_are_no_request(rt: HostRuntime) -> Result<(), Fail> {
-    let input = Pieces::whole(b"C\nXC\nC\n");
-    check(&rt, rt.alloc(), input, b"E9\nBad file descriptor\n", 3)
-}
-
 /// A capacity, and what is answered then to a record of 4 bytes and a mark.
-const CAPACITIES: [(u64, &[u8]); 3] = [
+static CAPACITIES: [(u64, &[u8]); 3] = [
     (16, b"A0\nA4\nA1\n"),
     (15, b"A0\nA0\nA1\n"),
     (3, b"A0\nA0\nE28\nNo space left on device\n"),
@@ -70,19 +62,26 @@ const CAPACITIES: [(u64, &[u8]); 3] = [
 fn the_capacity_is_that_of_the_reel(rt: HostRuntime) -> Result<(), Fail> {
     let input = Pieces::whole(b"O/dev/st0\n2\nW4\nfourI0\n1\n");
     for (capacity, want) in &CAPACITIES {
-        check_at(&rt, rt.alloc(), *capacity, input, want, 0)?;
+        assert!(rt; is_served(rt.alloc(), *capacity, input, want, 0)?);
     }
     Ok(())
 }
 
+/// Each fault, and the name that it prints.
+static NAMES: [(ServeFault, &str); 2] = [
+    (ServeFault::Input, "Input"),
+    (ServeFault::Output, "Output"),
+];
+
 /// Whether the fault prints that name.
-fn has_name(alloc: Global, fault: ServeFault, name: &str) -> Result<bool, Fail> {
+fn prints(alloc: Global, fault: ServeFault, name: &str) -> Result<bool, AllocError> {
     Ok(format!(in alloc; "{fault}")?.as_str() == name)
 }
 
 #[test]
 fn faults_print_their_names(rt: HostRuntime) -> Result<(), Fail> {
-    assert!(rt; has_name(rt.alloc(), ServeFault::Input, "Input")?);
-    assert!(rt; has_name(rt.alloc(), ServeFault::Output, "Output")?);
+    for (fault, name) in &NAMES {
+        assert!(rt; prints(rt.alloc(), *fault, name)?);
+    }
     Ok(())
 }

@@ -7,8 +7,9 @@ ghost use Rattle.rmt_server.specs.State.{state, IsAt};
 ghost use Rattle.drives.specs.contracts.local.LocalHoldsHolds.TheImpl.{ghosts as of_holds};
 ghost use Rattle.drives.specs.contracts.list.ListStacksStacks.TheImpl.{ghosts as of_stacks};
 
-use super::fixture::{Client, Drives, begin, first_holder};
-use super::talk::check_talk;
+use super::check_row;
+use super::fixture::{Client, Drives, One, begin, first_holder};
+use super::talk::is_answered;
 use rmt_server::Session;
 use std::alloc::Global;
 use std::process::Abort;
@@ -19,12 +20,14 @@ use tape::{Reel, Trouble};
 /// device of the first drive's reel has failed after them.
 pub(crate) type Step = (Option<Trouble>, &'static [u8], &'static [u8], u64);
 
-/// Sets the trouble of the reel that is online.
-fn set(session: &mut Client, drives: &Drives, trouble: Trouble)
+/// Sets the trouble of the reel that is online, if there is one to set.
+fn set(session: &mut Client, drives: &Drives, trouble: Option<Trouble>)
     requires { IsAt (kinds of_holds of_stacks of_reel) (state drives.now session.old) }
     ensures { IsAt (kinds of_holds of_stacks of_reel) (state drives.now session.new) }
 {
-    session.trouble(trouble);
+    if let Some(trouble) = trouble {
+        session.trouble(trouble);
+    }
 }
 
 /// How often the device of the first drive's reel has failed, if that is online.
@@ -37,62 +40,76 @@ fn failures(session: &Client) -> Option<u64> {
     }
 }
 
-/// Makes one step.
-fn check_step(
-    rt: &impl Abort,
-    alloc: Global,
-    session: &mut Client,
-    drives: &mut Drives,
-    step: Step,
-) -> Result<(), Fail>
+/// Makes one step. Answers whether it goes as it has to.
+fn goes(alloc: Global, session: &mut Client, drives: &mut Drives, step: Step) -> Result<bool, Fail>
     requires { IsAt (kinds of_holds of_stacks of_reel) (state drives.old session.old) }
     ensures { IsAt (kinds of_holds of_stacks of_reel) (state drives.new session.new) }
 {
     let (trouble, requests, want, failed) = step;
-    if let Some(trouble) = trouble {
-        set(session, drives, trouble);
+    set(session, drives, trouble);
+    Ok(is_answered(alloc, session, drives, requests, want)? && failures(session) == Some(failed))
+}
+
+/// Makes the steps.
+fn all_go(
+    alloc: Global,
+    session: &mut Client,
+    drives: &mut Drives,
+    steps: &[Step],
+) -> Result<bool, Fail>
+    requires { IsAt (kinds of_holds of_stacks of_reel) (state drives.old session.old) }
+    ensures { IsAt (kinds of_holds of_stacks of_reel) (state drives.new session.new) }
+{
+    let mut right = true;
+    for step in steps {
+        right &= goes(alloc, session, drives, *step)?;
     }
-    check_talk(rt, alloc, session, drives, requests, want)?;
-    assert!(rt; failures(session) == Some(failed));
-    Ok(())
+    Ok(right)
 }
 
 /// Makes the steps, and ends the session. Nothing is open before and then.
-fn check_session(
-    rt: &impl Abort,
+fn is_session(
     alloc: Global,
-    drives: &mut Drives,
     session: &mut Client,
+    drives: &mut Drives,
     steps: &[Step],
-) -> Result<(), Fail>
+) -> Result<bool, Fail>
     requires { IsAt (kinds of_holds of_stacks of_reel) (state drives.old session.old) }
 {
-    assert!(rt; session.reel().is_none());
-    for step in steps {
-        check_step(rt, alloc, session, drives, *step)?;
-    }
+    let right = session.reel().is_none() && all_go(alloc, session, drives, steps)?;
     session.end(drives);
-    assert!(rt; session.reel().is_none() && first_holder(drives) == Some(0));
-    Ok(())
+    Ok(right && session.reel().is_none() && first_holder(drives) == Some(0))
 }
 
 /// The same with a new session, and a reel of 100 bytes.
-pub(crate) fn check_steps(rt: &impl Abort, alloc: Global, steps: &[Step]) -> Result<(), Fail> {
-    let (mut drives, mut session) = begin(alloc, 100)?;
-    check_session(rt, alloc, &mut drives, &mut session, steps)
+pub(crate) fn is_new_session(alloc: Global, steps: &[Step]) -> Result<bool, Fail> {
+    let mut one = begin(alloc, 100)?;
+    is_session(alloc, &mut one.session, &mut one.drives, steps)
+}
+
+/// All sessions have to go as is written.
+pub(crate) fn check_sessions(
+    rt: &impl Abort,
+    alloc: Global,
+    sessions: &[&[Step]],
+) -> Result<(), Fail> {
+    for (at, steps) in sessions.iter().enumerate() {
+        check_row(rt, at, is_new_session(alloc, steps)?);
+    }
+    Ok(())
 }
 
 /// The session opens, writes, rewinds and reads.
-const READ_BACK: [Step; 1] = [(
+static READ_BACK: [&[Step]; 1] = [&[(
     None,
     b"O/dev/st0\n2\nW3\nabcI5\n7\nR2\n",
     b"A0\nA3\nA7\nA2\nab",
     0,
-)];
+)]];
 
 #[test]
 fn a_session_from_beginning_to_end(rt: HostRuntime) -> Result<(), Fail> {
-    check_steps(&rt, rt.alloc(), &READ_BACK)
+    check_sessions(&rt, rt.alloc(), &READ_BACK)
 }
 
 /// Ends a session, and begins another at its seat.
@@ -108,57 +125,49 @@ fn begin_again(alloc: Global, drives: &mut Drives, session: Client) -> Result<Cl
     }
 }
 
-/// A session with nothing open answers so, and then reads what was written before it.
-fn check_read(
-    rt: &impl Abort,
-    alloc: Global,
-    session: &mut Client,
-    drives: &mut Drives,
-) -> Result<(), Fail>
+/// Whether a session with nothing open answers so, and then reads what was written before it.
+fn reads(alloc: Global, session: &mut Client, drives: &mut Drives) -> Result<bool, Fail>
     requires { IsAt (kinds of_holds of_stacks of_reel) (state drives.old session.old) }
 {
-    check_talk(
-        rt,
-        alloc,
-        session,
-        drives,
-        b"R9\n",
-        b"E9\nBad file descriptor\n",
-    )?;
+    let nothing = b"E9\nBad file descriptor\n";
+    let refused = is_answered(alloc, session, drives, b"R9\n", nothing)?;
     let read = b"O/dev/st0\n0\nR9\n";
-    check_talk(rt, alloc, session, drives, read, b"A0\nA3\nabc")
+    Ok(refused && is_answered(alloc, session, drives, read, b"A0\nA3\nabc")?)
 }
 
-/// The same with a session that begins where another ended.
-fn check_again(
-    rt: &impl Abort,
-    alloc: Global,
-    session: Client,
-    drives: &mut Drives,
-) -> Result<(), Fail>
+/// The same of a session that begins where another ends.
+fn reads_again(alloc: Global, drives: &mut Drives, session: Client) -> Result<bool, Fail>
     requires { IsAt (kinds of_holds of_stacks of_reel) (state drives.old session) }
 {
     let mut session = begin_again(alloc, drives, session)?;
-    check_read(rt, alloc, &mut session, drives)
+    reads(alloc, &mut session, drives)
 }
 
-/// A session writes, and then another one reads from its seat.
-fn check_seat(
-    rt: &impl Abort,
-    alloc: Global,
-    session: Client,
-    drives: &mut Drives,
-) -> Result<(), Fail>
-    requires { IsAt (kinds of_holds of_stacks of_reel) (state drives.old session) }
+/// Whether a session writes.
+fn writes(alloc: Global, session: &mut Client, drives: &mut Drives) -> Result<bool, Fail>
+    requires { IsAt (kinds of_holds of_stacks of_reel) (state drives.old session.old) }
+    ensures { IsAt (kinds of_holds of_stacks of_reel) (state drives.new session.new) }
 {
-    let mut session = session;
     let written = b"O/dev/st0\n2\nW3\nabc";
-    check_talk(rt, alloc, &mut session, drives, written, b"A0\nA3\n")?;
-    check_again(rt, alloc, session, drives)
+    is_answered(alloc, session, drives, written, b"A0\nA3\n")
+}
+
+/// Whether a session writes, and then another one reads from its seat.
+fn serves_again(alloc: Global, one: One) -> Result<bool, Fail>
+    requires { IsAt (kinds of_holds of_stacks of_reel) (state one.drives one.session) }
+{
+    let One {
+        mut drives,
+        mut session,
+    } = one;
+    let written = writes(alloc, &mut session, &mut drives)?;
+    let read = reads_again(alloc, &mut drives, session)?;
+    Ok(written && read)
 }
 
 #[test]
 fn a_seat_serves_again(rt: HostRuntime) -> Result<(), Fail> {
-    let (mut drives, session) = begin(rt.alloc(), 100)?;
-    check_seat(&rt, rt.alloc(), session, &mut drives)
+    let one = begin(rt.alloc(), 100)?;
+    assert!(rt; serves_again(rt.alloc(), one)?);
+    Ok(())
 }

@@ -3,8 +3,7 @@
 pub(crate) mod shop;
 
 use rmt_wire::Request;
-use std::alloc::Global;
-use std::test::Fail;
+use std::alloc::{AllocError, Global};
 
 /// What a request is answered.
 #[derive(Drop)]
@@ -38,16 +37,20 @@ impl SlowServer {
     }
 
     /// Carries out a request.
-    pub(crate) fn answer(&mut self, request: Request<'_>) -> Result<Answer, Fail> {
+    pub(crate) fn answer(&mut self, request: Request<'_>) -> Result<Answer, AllocError> {
         match request {
             Request::Open { device, mode } => Ok(self.open(device, mode)),
             Request::Close => Ok(self.close()),
-            _ if self.opened.is_none() => Ok(Answer::Error(9)),
-            _ if self.in_bin => Ok(Answer::Error(6)),
-            Request::Write { bytes } => self.write(bytes),
-            Request::WriteDropped { .. } => Ok(self.refuse_dropped()),
-            Request::Read { count } => self.read(count),
-            Request::Op { op, count } => self.operate(op, count),
+            _ => self.answer_open(request),
+        }
+    }
+
+    /// Carries out a request that is for what is open.
+    fn answer_open(&mut self, request: Request<'_>) -> Result<Answer, AllocError> {
+        match self.opened {
+            None => Ok(Answer::Error(9)),
+            Some(_) if self.in_bin => Ok(Answer::Error(6)),
+            Some((access, place)) => self.carry_out(access, place, request),
         }
     }
 
@@ -74,13 +77,27 @@ impl SlowServer {
         Answer::Number(0)
     }
 
-    fn write(&mut self, bytes: &[u8]) -> Result<Answer, Fail> {
-        let Some((access, place)) = self.opened else {
-            return Ok(Answer::Error(9));
-        };
-        if access == 0 {
-            return Ok(Answer::Error(9));
+    /// Carries out a request that the access may refuse, at the place.
+    fn carry_out(
+        &mut self,
+        access: u32,
+        place: usize,
+        request: Request<'_>,
+    ) -> Result<Answer, AllocError> {
+        match request {
+            Request::Write { .. } | Request::WriteDropped { .. } if access == 0 => {
+                Ok(Answer::Error(9))
+            }
+            Request::Read { .. } if access == 1 => Ok(Answer::Error(9)),
+            Request::WriteDropped { .. } | Request::Read { count: 0 } => Ok(Answer::Error(22)),
+            Request::Write { bytes } => self.write(access, place, bytes),
+            Request::Read { count } => self.read(access, place, count),
+            Request::Op { op, count } => self.operate(access, place, op, count),
+            Request::Open { .. } | Request::Close => Ok(Answer::Error(9)),
         }
+    }
+
+    fn write(&mut self, access: u32, place: usize, bytes: &[u8]) -> Result<Answer, AllocError> {
         if bytes.is_empty() || bytes.len() > 65536 {
             return Ok(Answer::Error(22));
         }
@@ -94,39 +111,24 @@ impl SlowServer {
         Ok(Answer::Number(bytes.len() as u32))
     }
 
-    fn refuse_dropped(&self) -> Answer {
-        match self.opened {
-            Some((1, _)) | Some((2, _)) => Answer::Error(22),
-            _ => Answer::Error(9),
-        }
-    }
-
-    fn read(&mut self, count: u32) -> Result<Answer, Fail> {
-        let Some((access, place)) = self.opened else {
-            return Ok(Answer::Error(9));
-        };
-        if access == 1 {
-            return Ok(Answer::Error(9));
-        }
-        if count == 0 {
-            return Ok(Answer::Error(22));
-        }
+    fn read(&mut self, access: u32, place: usize, count: u32) -> Result<Answer, AllocError> {
         let Some(entry) = self.entries.get(place) else {
             return Ok(Answer::Number(0));
         };
         self.opened = Some((access, place.saturating_add(1)));
-        let Some(bytes) = entry else {
-            return Ok(Answer::Number(0));
-        };
-        let given = bytes.len().min(count as usize);
-        let given = bytes.as_slice().get(..given).unwrap_or(&[]);
-        Ok(Answer::Bytes(Vec::from_slice(self.alloc, given)?))
+        match entry {
+            Some(bytes) => first_bytes(self.alloc, bytes, count as usize),
+            None => Ok(Answer::Number(0)),
+        }
     }
 
-    fn operate(&mut self, op: u32, count: u32) -> Result<Answer, Fail> {
-        let Some((access, place)) = self.opened else {
-            return Ok(Answer::Error(9));
-        };
+    fn operate(
+        &mut self,
+        access: u32,
+        place: usize,
+        op: u32,
+        count: u32,
+    ) -> Result<Answer, AllocError> {
         match op {
             0 if access == 0 => Ok(Answer::Error(13)),
             0 => self.write_marks(access, place, count),
@@ -144,7 +146,7 @@ impl SlowServer {
         }
     }
 
-    fn write_marks(&mut self, access: u32, place: usize, count: u32) -> Result<Answer, Fail> {
+    fn write_marks(&mut self, access: u32, place: usize, count: u32) -> Result<Answer, AllocError> {
         if count == 0 {
             return Ok(Answer::Number(0));
         }
@@ -152,11 +154,17 @@ impl SlowServer {
             return Ok(Answer::Error(28));
         }
         self.entries.truncate(place);
+        self.push_marks(count)?;
+        self.opened = Some((access, self.entries.len()));
+        Ok(Answer::Number(count))
+    }
+
+    /// Appends so many marks.
+    fn push_marks(&mut self, count: u32) -> Result<(), AllocError> {
         for _ in 0..count {
             self.entries.push(None)?;
         }
-        self.opened = Some((access, self.entries.len()));
-        Ok(Answer::Number(count))
+        Ok(())
     }
 
     /// Goes on (operations 1 and 3) or back (2 and 4), entry by entry, until as many marks (1 and 2) or records
@@ -164,14 +172,14 @@ impl SlowServer {
     fn space(&mut self, access: u32, place: usize, op: u32, count: u32) -> Answer {
         let (mut at, mut left) = (place, count);
         for _ in 0..self.entries.len() {
-            let Some((entry, then)) = self.neighbour(at, op % 2 == 1) else {
+            let Some((is_mark, then)) = self.neighbour(at, op % 2 == 1) else {
                 break;
             };
             if left == 0 {
                 break;
             }
             at = then;
-            if entry.is_none() == (op <= 2) {
+            if is_mark == (op <= 2) {
                 left = left.saturating_sub(1);
             } else if op > 2 {
                 break;
@@ -185,28 +193,39 @@ impl SlowServer {
         }
     }
 
-    /// The entry after the place, or the one before it, and the place on its other side.
-    fn neighbour(&self, at: usize, on: bool) -> Option<(&Option<Vec<u8>>, usize)> {
-        let (index, then) = if on {
-            (at, at.saturating_add(1))
+    /// Whether the entry after the place, or the one before it, is a mark, and the place on its other side.
+    fn neighbour(&self, at: usize, on: bool) -> Option<(bool, usize)> {
+        let then = if on {
+            at.saturating_add(1)
         } else {
-            (at.checked_sub(1)?, at.checked_sub(1)?)
+            at.checked_sub(1)?
         };
-        Some((self.entries.get(index)?, then))
+        let entry = self.entries.get(at.min(then))?;
+        Some((entry.is_none(), then))
     }
 
-    /// Whether there is room for so many bytes after the entries before the place: 8 bytes and its own for a
-    /// record, 4 for a mark.
+    /// Whether there is room for so many bytes after the entries before the place.
     fn fits(&self, place: usize, size: u64) -> bool {
         let mut sum = size;
         for entry in self.entries.iter().take(place) {
-            sum = sum.saturating_add(match entry {
-                Some(bytes) => (bytes.len() as u64).saturating_add(8),
-                None => 4,
-            });
+            sum = sum.saturating_add(size_of(entry));
         }
         sum <= self.capacity
     }
+}
+
+/// How many bytes the entry takes: a record 8 and its own, a mark 4.
+fn size_of(entry: &Option<Vec<u8>>) -> u64 {
+    match entry {
+        Some(bytes) => (bytes.len() as u64).saturating_add(8),
+        None => 4,
+    }
+}
+
+/// The answer that gives so many bytes at most.
+fn first_bytes(alloc: Global, bytes: &[u8], count: usize) -> Result<Answer, AllocError> {
+    let given = bytes.get(..count).unwrap_or(bytes);
+    Ok(Answer::Bytes(Vec::from_slice(alloc, given)?))
 }
 
 /// The text that is sent beside an error's number.

@@ -11,7 +11,6 @@ use drives::{DriveTable, Holds, Stacks};
 use rmt_server::Session;
 use rmt_wire::{Counted, NUMBER_LIMIT, Request, RequestReader, write_reply};
 use std::alloc::Global;
-use std::process::Abort;
 use std::test::Fail;
 
 /// How many requests a text of these tests has at most.
@@ -27,62 +26,70 @@ fn is_sayable(request: &Request<'_>) -> bool
     }
 }
 
-/// Has the session carry out the reader's next request, if there is one, and writes the reply.
+/// Has the session carry out a request, and writes the reply. Answers whether a reply can say the request's count, and
+/// there was room for it.
+fn answer<H: Holds, S: Stacks>(
+    session: &mut Session<H, S>,
+    drives: &mut DriveTable<H, S>,
+    request: Request<'_>,
+    replies: &mut Counted<Wanted<'_>>,
+) -> bool
+    requires { IsAt (kinds H.Holds S.Stacks S.Reel.Reel) (state drives.old session.old) }
+    ensures { IsAt (kinds H.Holds S.Stacks S.Reel.Reel) (state drives.new session.new) }
+{
+    if !is_sayable(&request) {
+        return false;
+    }
+    let reply = session.carry_out(drives, request);
+    write_reply(replies, &reply).is_ok()
+}
+
+/// The same with the reader's next request, if there is one.
 fn answer_next<H: Holds, S: Stacks>(
     wire: &mut RequestReader,
     session: &mut Session<H, S>,
     drives: &mut DriveTable<H, S>,
     replies: &mut Counted<Wanted<'_>>,
-) -> Result<(), Fail>
+) -> bool
     requires { IsAt (kinds H.Holds S.Stacks S.Reel.Reel) (state drives.old session.old) }
     ensures { IsAt (kinds H.Holds S.Stacks S.Reel.Reel) (state drives.new session.new) }
 {
-    let Ok(Some(request)) = wire.next() else {
-        return Ok(());
-    };
-    if !is_sayable(&request) {
-        return Err(Fail::new("no reply says that count"));
-    }
-    let reply = session.carry_out(drives, request);
-    match write_reply(replies, &reply) {
-        Ok(()) => Ok(()),
-        Err(_) => Err(Fail::new("no room for the reply")),
+    match wire.next() {
+        Ok(Some(request)) => answer(session, drives, request, replies),
+        _ => true,
     }
 }
 
-/// Has the session carry out the requests that these bytes are, which it has to answer with those.
+/// Has the session carry out the requests that these bytes are. Answers whether the replies are those.
 fn talk<H: Holds, S: Stacks>(
-    rt: &impl Abort,
     wire: &mut RequestReader,
     session: &mut Session<H, S>,
     drives: &mut DriveTable<H, S>,
     requests: &[u8],
     want: &[u8],
-) -> Result<(), Fail>
+) -> bool
     requires { IsAt (kinds H.Holds S.Stacks S.Reel.Reel) (state drives.old session.old) }
     ensures { IsAt (kinds H.Holds S.Stacks S.Reel.Reel) (state drives.new session.new) }
 {
     let mut replies = Counted::new(Wanted::all(want));
-    assert!(rt; wire.push(requests) == requests.len());
+    let mut right = wire.push(requests) == requests.len();
     for _ in 0..REQUESTS {
-        answer_next(wire, session, drives, &mut replies)?;
+        right &= answer_next(wire, session, drives, &mut replies);
     }
-    assert!(rt; replies.into_inner().is_met());
-    Ok(())
+    right && replies.into_inner().is_met()
 }
 
 /// The same with a new reader.
-pub(crate) fn check_talk<H: Holds, S: Stacks>(
-    rt: &impl Abort,
+pub(crate) fn is_answered<H: Holds, S: Stacks>(
     alloc: Global,
     session: &mut Session<H, S>,
     drives: &mut DriveTable<H, S>,
     requests: &[u8],
     want: &[u8],
-) -> Result<(), Fail>
+) -> Result<bool, Fail>
     requires { IsAt (kinds H.Holds S.Stacks S.Reel.Reel) (state drives.old session.old) }
     ensures { IsAt (kinds H.Holds S.Stacks S.Reel.Reel) (state drives.new session.new) }
 {
     let mut wire = RequestReader::new(alloc)?;
-    talk(rt, &mut wire, session, drives, requests, want)
+    Ok(talk(&mut wire, session, drives, requests, want))
 }

@@ -1,27 +1,21 @@
 //! Three sessions that share two drives, against rows that were written by hand and against plain lists.
 
-ghost use Rattle.std.specs.Prelude.{◌≡◌, ◌≢◌, ◌≤◌, ◌<◌, IfOk, length};
-ghost use Rattle.drives.specs.Holding.{HoldsJust};
-ghost use Rattle.drives.specs.Local.{IsSeatOf};
+ghost use Rattle.std.specs.Prelude.{◌≡◌, ◌≢◌, ◌<◌, ◌≤◌, IfOk, length};
 ghost use Rattle.tape.specs.contracts.troubled.TroubledReelReel.TheImpl.{ghosts as of_reel};
 ghost use Rattle.drives.specs.Opening.{kinds};
 ghost use Rattle.rmt_server.specs.State.{state, IsAt};
 ghost use Rattle.drives.specs.contracts.local.LocalHoldsHolds.TheImpl.{ghosts as of_holds};
 ghost use Rattle.drives.specs.contracts.list.ListStacksStacks.TheImpl.{ghosts as of_stacks};
-ghost use Rattle.std.specs.Prelude.{None};
 
-use super::CAPACITY;
+use super::fixture::{Client, Drives, new_session};
 use super::slow::error_text;
 use super::slow::shop::{Event, SlowShop};
-use drives::{DriveTable, Holds, ListStacks, ListedReel, LocalHolds, LocalSeat, Stacks};
-use rmt_server::{Session, more_seats, one_holder, stacks_trouble};
+use super::{CAPACITY, check_row};
+use drives::{DriveFault, DriveTable, Holds, ListStacks, ListedReel, LocalHolds, Stacks};
+use rmt_server::{more_seats, one_holder, stacks_trouble};
 use rmt_wire::{Reply, Request};
 use std::alloc::Global;
 use std::test::Fail;
-
-type Drives = DriveTable<LocalHolds, ListStacks>;
-
-type Client = Session<LocalHolds, ListStacks>;
 
 /// What stands for a reply that none of these requests may have.
 const WRONG: u32 = u32::MAX;
@@ -124,40 +118,35 @@ fn answer(
     carry(drives, session, other, another, request)
 }
 
-/// Adds the drives `/dev/st0` with the reels `a` and `b`, and `/dev/st1` with the reel `c`.
-fn add_two(stacks: &mut ListStacks) -> Result<(), Fail>
+/// Adds the reels `a` and `b` to the first drive, and `c` to the second.
+fn add_reels(stacks: &mut ListStacks) -> Result<(), DriveFault>
+    requires { length stacks.old.shop.racks ≡ 2 }
+    ensures { length stacks.new.shop.racks ≡ 2 }
+{
+    stacks.add_reel(0, b"a", CAPACITY)?;
+    stacks.add_reel(0, b"b", CAPACITY)?;
+    stacks.add_reel(1, b"c", CAPACITY)
+}
+
+/// Adds the drives `/dev/st0` and `/dev/st1`.
+fn add_drives(stacks: &mut ListStacks) -> Result<(), DriveFault>
     requires { length stacks.old.shop.racks ≡ 0 }
     ensures { IfOk result (λ _. length stacks.new.shop.racks ≡ 2) }
 {
-    let first = stacks.add_drive(device(0))?;
-    stacks.add_reel(first, b"a", CAPACITY)?;
-    stacks.add_reel(first, b"b", CAPACITY)?;
-    let second = stacks.add_drive(device(1))?;
-    stacks.add_reel(second, b"c", CAPACITY)?;
+    stacks.add_drive(device(0))?;
+    stacks.add_drive(device(1))?;
     Ok(())
 }
 
-/// Those drives alone.
-fn two_drives(alloc: Global) -> Result<ListStacks, Fail>
-    ensures { IfOk result (λ stacks. length stacks.shop.racks ≡ 2) }
+/// Those drives with those reels.
+fn two_drives(alloc: Global) -> Result<Drives, Fail>
+    ensures { IfOk result (λ drives. length drives.stacks.shop.racks ≤ length drives.holds.numbers) }
 {
+    let holds = LocalHolds::new(alloc, 2)?;
     let mut stacks = ListStacks::new(alloc);
-    add_two(&mut stacks)?;
-    Ok(stacks)
-}
-
-/// A session with nothing open, of this seat at these drives.
-fn client(alloc: Global, seat: LocalSeat, drives: &Drives) -> Result<Client, Fail>
-    requires own { IsSeatOf drives.now.holds seat }
-    requires idle { HoldsJust seat None }
-    requires enough { length drives.now.stacks.shop.racks ≤ length drives.now.holds.numbers }
-    ensures at { IfOk result (λ s. IsAt (kinds of_holds of_stacks of_reel) (state drives.now s)) }
-    ensures seat { IfOk result (λ s. s.seat ≡ seat) }
-{
-    match Session::new(alloc, seat) {
-        Ok(session) => Ok(session),
-        Err(_) => Err(Fail::new("no session")),
-    }
+    add_drives(&mut stacks)?;
+    add_reels(&mut stacks)?;
+    Ok(DriveTable { holds, stacks })
 }
 
 /// The drives, and three sessions with them.
@@ -178,16 +167,10 @@ struct Three {
 impl Three {
     /// Nothing is open. The seats have the numbers 1 to 3.
     fn new(alloc: Global) -> Result<Three, Fail> {
-        let mut holds = LocalHolds::new(alloc, 2)?;
-        let (Some(first), Some(second), Some(third)) = (holds.seat(), holds.seat(), holds.seat())
-        else {
-            return Err(Fail::new("no seat"));
-        };
-        let stacks = two_drives(alloc)?;
-        let drives = DriveTable { holds, stacks };
-        let first = client(alloc, first, &drives)?;
-        let second = client(alloc, second, &drives)?;
-        let third = client(alloc, third, &drives)?;
+        let mut drives = two_drives(alloc)?;
+        let first = new_session(alloc, &mut drives)?;
+        let second = new_session(alloc, &mut drives)?;
+        let third = new_session(alloc, &mut drives)?;
         Ok(Three {
             drives,
             first,
@@ -266,7 +249,7 @@ fn is_step(three: &mut Three, slow: &mut SlowShop, number: usize, event: Event) 
 }
 
 /// What a session can be asked for in the lists.
-const EVENTS: [Event; 5] = [
+static EVENTS: [Event; 5] = [
     Event::Open(0),
     Event::Offline,
     Event::Open(1),
@@ -297,7 +280,7 @@ type Row = (usize, Event, u32, u64, u64);
 
 /// Each session has a drive; a held one is refused, and what the asking session had is free then. The end of a session
 /// frees its drive.
-const TWO_SESSIONS: [Row; 6] = [
+const TWO_SESSIONS: &[Row] = &[
     (1, Event::Open(0), 0, 1, 0),
     (2, Event::Open(1), 0, 1, 2),
     (2, Event::Open(0), 16, 1, 0),
@@ -307,7 +290,7 @@ const TWO_SESSIONS: [Row; 6] = [
 ];
 
 /// Each refusal of an open comes after what was open is given back.
-const REFUSED: [Row; 8] = [
+const REFUSED: &[Row] = &[
     (1, Event::Close, 9, 0, 0),
     (1, Event::Open(1), 0, 0, 1),
     (1, Event::OpenForNone, 22, 0, 0),
@@ -319,7 +302,7 @@ const REFUSED: [Row; 8] = [
 ];
 
 /// A drive whose reel lies in the bin stays held, also with an empty stack; the next reel is latched by the next open.
-const AWAY: [Row; 13] = [
+const AWAY: &[Row] = &[
     (1, Event::Offline, 9, 0, 0),
     (1, Event::Open(1), 0, 0, 1),
     (1, Event::Offline, 1, 0, 1),
@@ -336,7 +319,7 @@ const AWAY: [Row; 13] = [
 ];
 
 /// A latch that is told to fail fails once, after what was open is closed.
-const FAILED_LATCH: [Row; 5] = [
+const FAILED_LATCH: &[Row] = &[
     (2, Event::Open(1), 0, 0, 2),
     (1, Event::Trouble, 0, 0, 2),
     (2, Event::Open(0), 5, 0, 0),
@@ -345,7 +328,7 @@ const FAILED_LATCH: [Row; 5] = [
 ];
 
 /// A move that is told to fail fails once.
-const FAILED_MOVE: [Row; 4] = [
+const FAILED_MOVE: &[Row] = &[
     (1, Event::Open(0), 0, 1, 0),
     (1, Event::Trouble, 0, 1, 0),
     (1, Event::Offline, 5, 1, 0),
@@ -353,7 +336,7 @@ const FAILED_MOVE: [Row; 4] = [
 ];
 
 /// The same up to the failure: the reel lies where it was.
-const MET_ONCE: [Row; 3] = [
+const MET_ONCE: &[Row] = &[
     (1, Event::Open(0), 0, 1, 0),
     (1, Event::Trouble, 0, 1, 0),
     (1, Event::Offline, 5, 1, 0),
@@ -406,33 +389,35 @@ fn is_plan(three: &mut Three, plan: Plan<'_>) -> bool {
 
 /// Does the same with new sessions.
 fn is_met(alloc: Global, plan: Plan<'_>) -> Result<bool, Fail> {
-    let mut three = Three::new(alloc)?;
-    Ok(is_plan(&mut three, plan))
+    match Three::new(alloc) {
+        Ok(mut three) => Ok(is_plan(&mut three, plan)),
+        Err(fail) => Err(fail),
+    }
 }
 
-const SHARED: [Table; 6] = [
+static SHARED: [Table; 6] = [
     Table {
-        rows: &TWO_SESSIONS,
+        rows: TWO_SESSIONS,
         names: [b"ab", b"c", b""],
     },
     Table {
-        rows: &REFUSED,
+        rows: REFUSED,
         names: [b"b", b"c", b"a"],
     },
     Table {
-        rows: &AWAY,
+        rows: AWAY,
         names: [b"b", b"", b"ca"],
     },
     Table {
-        rows: &FAILED_LATCH,
+        rows: FAILED_LATCH,
         names: [b"b", b"c", b"a"],
     },
     Table {
-        rows: &FAILED_MOVE,
+        rows: FAILED_MOVE,
         names: [b"b", b"c", b"a"],
     },
     Table {
-        rows: &MET_ONCE,
+        rows: MET_ONCE,
         names: [b"ab", b"c", b""],
     },
 ];
@@ -449,7 +434,7 @@ fn drives_are_shared_as_was_written_by_hand(rt: HostRuntime) -> Result<(), Fail>
 #[test]
 fn every_four_requests_of_three_sessions(rt: HostRuntime) -> Result<(), Fail> {
     for list in 0..50625 {
-        assert!(rt; is_met(rt.alloc(), Plan::List(4, list))?, "list {list}");
+        check_row(&rt, list, is_met(rt.alloc(), Plan::List(4, list))?);
     }
     Ok(())
 }

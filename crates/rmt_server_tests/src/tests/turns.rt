@@ -7,7 +7,6 @@ use super::script::{READ_BACK, READ_BACK_ANSWERS, answered_of};
 use std::alloc::Global;
 use std::cell::Cell;
 use std::io::{self, ErrorKind, Read, Write};
-use std::process::Abort;
 use std::test::Fail;
 
 /// It gives `READ_BACK`, at most `most` bytes a call and never bytes of two requests. It fails where the answers to
@@ -17,9 +16,17 @@ struct Asking<'a> {
     answered: &'a Cell<usize>,
     given: usize,
     next: usize,
-    at: usize,
+    rest: &'static [u8],
     most: usize,
     is_early: bool,
+}
+
+/// The request of that number, or nothing behind the last.
+fn request_at(number: usize) -> &'static [u8] {
+    match READ_BACK.get(number) {
+        Some((request, _)) => request,
+        None => &[],
+    }
 }
 
 impl Read for Asking<'_> {
@@ -29,18 +36,14 @@ impl Read for Asking<'_> {
         if self.is_early {
             return Err(ErrorKind::Other.into());
         }
-        let Some((request, _)) = READ_BACK.get(self.next) else {
-            return Ok(0);
-        };
-        let rest = request.get(self.at..).unwrap_or(&[]);
-        let count = buf.len().min(rest.len()).min(self.most);
-        buf[..count].copy_from_slice(&rest[..count]);
-        self.given = self.given.saturating_add(count);
-        self.at = self.at.saturating_add(count);
-        if self.at == request.len() {
+        if self.rest.is_empty() {
+            self.rest = request_at(self.next);
             self.next = self.next.saturating_add(1);
-            self.at = 0;
         }
+        let count = buf.len().min(self.rest.len()).min(self.most);
+        buf[..count].copy_from_slice(&self.rest[..count]);
+        self.rest = &self.rest[count..];
+        self.given = self.given.saturating_add(count);
         Ok(count)
     }
 }
@@ -65,15 +68,15 @@ impl Write for Answers<'_> {
     }
 }
 
-/// The client gives at most `most` bytes a call.
-fn check_turns(rt: &impl Abort, alloc: Global, most: usize) -> Result<(), Fail> {
+/// Whether all is answered where the client gives at most `most` bytes a call.
+fn takes_turns(alloc: Global, most: usize) -> Result<bool, Fail> {
     let answered = Cell::new(0usize);
     let mut taken = Wanted::all(READ_BACK_ANSWERS);
     let input = Asking {
         answered: &answered,
         given: 0,
         next: 0,
-        at: 0,
+        rest: &[],
         most,
         is_early: false,
     };
@@ -82,12 +85,13 @@ fn check_turns(rt: &impl Abort, alloc: Global, most: usize) -> Result<(), Fail> 
         taken: &mut taken,
     };
     let ended = serve_once(alloc, input, output, CAPACITY)?;
-    assert!(rt; ended.status() == 0 && taken.is_met());
-    Ok(())
+    Ok(ended.status() == 0 && taken.is_met())
 }
 
 #[test]
 fn each_request_is_answered_before_the_next_is_read(rt: HostRuntime) -> Result<(), Fail> {
-    check_turns(&rt, rt.alloc(), usize::MAX)?;
-    check_turns(&rt, rt.alloc(), 1)
+    for most in [usize::MAX, 1] {
+        assert!(rt; takes_turns(rt.alloc(), most)?);
+    }
+    Ok(())
 }

@@ -3,7 +3,7 @@ use Rattle.drives.specs.contracts.local.LocalHoldsHolds.TheImpl.{ghosts as of_ho
 use Rattle.drives.specs.contracts.list.ListStacksStacks.TheImpl.{ghosts as of_stacks}
 use Rattle.drives.specs.Opening.{kinds}
 use Rattle.rmt_server.specs.State.{state, IsAt}
-use Rattle.rmt_server_tests.proofs.tests.session.check_session.Given as goal
+use Rattle.rmt_server_tests.proofs.tests.compared.are_answered_alike.Given as goal
 
-abbrev pub invariant-loop-step : goal.invariant-loop-step
-invariant-loop-step g l = IsAt (kinds of_holds of_stacks of_reel) (state l.drives l.session)
+abbrev pub invariant-loop : goal.invariant-loop
+invariant-loop l = IsAt (kinds of_holds of_stacks of_reel) (state l.drives l.session)

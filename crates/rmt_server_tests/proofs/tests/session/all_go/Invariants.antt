@@ -3,7 +3,7 @@ use Rattle.drives.specs.contracts.local.LocalHoldsHolds.TheImpl.{ghosts as of_ho
 use Rattle.drives.specs.contracts.list.ListStacksStacks.TheImpl.{ghosts as of_stacks}
 use Rattle.drives.specs.Opening.{kinds}
 use Rattle.rmt_server.specs.State.{state, IsAt}
-use Rattle.rmt_server_tests.proofs.tests.compared.check_answers.Given as goal
+use Rattle.rmt_server_tests.proofs.tests.session.all_go.Given as goal
 
-abbrev pub invariant-loop-at : goal.invariant-loop-at
-invariant-loop-at g l = IsAt (kinds of_holds of_stacks of_reel) (state l.drives l.session)
+abbrev pub invariant-loop-step : goal.invariant-loop-step
+invariant-loop-step l = IsAt (kinds of_holds of_stacks of_reel) (state l.drives l.session)
