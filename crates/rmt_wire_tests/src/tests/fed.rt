@@ -1,7 +1,7 @@
 //! A reader of requests fed in pieces, beside the slow program.
 
 use super::checked::expect_of;
-use super::slow::{Parts, is_same, split, taken};
+use super::slow::{Parts, is_same, joined, split, taken};
 use rmt_wire::{Request, RequestReader, WireFault};
 use std::alloc::{AllocError, Global};
 use std::process::Abort;
@@ -129,7 +129,7 @@ impl<'a> Fed<'a> {
         let Some((fault, _)) = self.want.fault else {
             return true;
         };
-        for more in [b"".as_slice(), b"C\n", b"\n", b"R1\n"] {
+        for more in &MORE {
             self.reader.push(more);
             if next_of(&mut self.reader, None) != Next::None(Some(fault)) {
                 return false;
@@ -137,7 +137,27 @@ impl<'a> Fed<'a> {
         }
         true
     }
+
+    /// Feeds it the stream in a piece of `first` bytes, and then in pieces of one size. It tells whether the reader does
+    /// as it is to.
+    fn feed_all(&mut self, first: usize, size: usize) -> bool {
+        if !self.feed(first) {
+            return false;
+        }
+        for _ in 0..=self.stream.len() {
+            if !self.feed(size) {
+                return false;
+            }
+            if self.pushed == self.stream.len() {
+                return self.stays();
+            }
+        }
+        false
+    }
 }
+
+/// What is pushed behind a fault.
+static MORE: [&[u8]; 4] = [b"", b"C\n", b"\n", b"R1\n"];
 
 /// Whether a reader does as it is to where the stream is fed in a piece of `first` bytes, and then in pieces of one
 /// size.
@@ -149,18 +169,7 @@ fn is_fed(
     size: usize,
 ) -> Result<bool, AllocError> {
     let mut fed = Fed::new(alloc, stream, want)?;
-    if !fed.feed(first) {
-        return Ok(false);
-    }
-    for _ in 0..=stream.len() {
-        if !fed.feed(size) {
-            return Ok(false);
-        }
-        if fed.pushed == stream.len() {
-            return Ok(fed.stays());
-        }
-    }
-    Ok(false)
+    Ok(fed.feed_all(first, size))
 }
 
 /// Whether the reader gives what the slow program says: of the stream in one piece, and in pieces of one byte.
@@ -239,33 +248,16 @@ fn is_split(
     are_same(&found.requests, requests) && found.rest == rest && without_place(found.fault) == fault
 }
 
-/// The reader gives what the slow program says: of the stream in one piece, and in pieces of one byte.
-pub(super) fn check_pieces(rt: &impl Abort, alloc: Global, stream: &[u8]) -> Result<(), Fail> {
-    check_parts(rt, alloc, stream, &split(alloc, stream)?)
+/// The reader gives what the slow program says.
+pub(super) fn check_split(rt: &impl Abort, alloc: Global, stream: &[u8]) -> Result<(), Fail> {
+    let found = split(alloc, stream)?;
+    check_fed(rt, alloc, stream, &found)
 }
 
-/// The reader gives these parts: of the stream in one piece, and in pieces of one byte.
-fn check_parts(
-    rt: &impl Abort,
-    alloc: Global,
-    stream: &[u8],
-    found: &Parts<'_>,
-) -> Result<(), Fail> {
-    let is_fed = is_fed_in_pieces(alloc, stream, found)?;
-    expect_of(rt, is_fed, "pieces", stream);
-    Ok(())
-}
-
-/// The same, and of the stream cut in two.
-fn check_cuts(
-    rt: &impl Abort,
-    alloc: Global,
-    stream: &[u8],
-    found: &Parts<'_>,
-) -> Result<(), Fail> {
-    check_parts(rt, alloc, stream, found)?;
-    let is_fed = is_fed_in_cuts(alloc, stream, found)?;
-    expect_of(rt, is_fed, "cut", stream);
+/// The reader gives these parts: of the stream in one piece, in pieces of one byte, and cut in two.
+fn check_fed(rt: &impl Abort, alloc: Global, stream: &[u8], found: &Parts<'_>) -> Result<(), Fail> {
+    let is_fed = is_fed_in_pieces(alloc, stream, found)? && is_fed_in_cuts(alloc, stream, found)?;
+    expect_of(rt, is_fed, "fed", stream);
     Ok(())
 }
 
@@ -282,21 +274,41 @@ pub(super) fn check_by_hand(
     let found = split(alloc, stream)?;
     let is_split = is_split(&found, requests, rest, fault);
     expect_of(rt, is_split, "split", stream);
-    check_cuts(rt, alloc, stream, &found)
+    check_fed(rt, alloc, stream, &found)
 }
 
-/// The last byte of the stream is this fault, or none, and the reader says so once it comes, as a piece of its own.
+/// This byte behind these is this fault, or none, and the reader says so once it comes, as a piece of its own.
 pub(super) fn check_last_byte(
+    rt: &impl Abort,
+    alloc: Global,
+    before: &[u8],
+    byte: u8,
+    fault: Option<WireFault>,
+) -> Result<(), Fail> {
+    let stream = joined(alloc, &[before, &[byte]])?;
+    check_end(rt, alloc, &stream, fault)
+}
+
+/// The last byte of the stream is so.
+fn check_end(
     rt: &impl Abort,
     alloc: Global,
     stream: &[u8],
     fault: Option<WireFault>,
 ) -> Result<(), Fail> {
     let found = split(alloc, stream)?;
-    let len = stream.len();
-    let is_shown = found.fault == shown_by(fault, len);
-    expect_of(rt, is_shown, "fault", stream);
-    let is_fed = is_fed(alloc, stream, &found, len.saturating_sub(1), len)?;
-    expect_of(rt, is_fed, "cut", stream);
+    let is_well = ends_so(alloc, stream, &found, shown_by(fault, stream.len()))?;
+    expect_of(rt, is_well, "last byte", stream);
     Ok(())
+}
+
+/// Whether the parts of a stream have this fault, and the reader gives them where the last byte is a piece of its own.
+fn ends_so(
+    alloc: Global,
+    stream: &[u8],
+    found: &Parts<'_>,
+    fault: Option<(WireFault, usize)>,
+) -> Result<bool, AllocError> {
+    let len = stream.len();
+    Ok(found.fault == fault && is_fed(alloc, stream, found, len.saturating_sub(1), len)?)
 }

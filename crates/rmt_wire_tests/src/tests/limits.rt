@@ -1,63 +1,42 @@
 //! Numbers, lines and data at their limits and one past them.
 
-use super::checked::{expect_of, same};
+use super::checked::same;
 use super::fed::{Next, check_by_hand, next_of};
+use super::slow::joined;
 use rmt_wire::{Request, RequestReader, WireFault};
 use std::alloc::{AllocError, Global};
 use std::process::Abort;
 use std::test::Fail;
 
-/// The parts, one after the other.
-pub(super) fn joined(alloc: Global, parts: &[&[u8]]) -> Result<Vec<u8>, AllocError> {
-    let mut text = Vec::new(alloc);
-    for part in parts {
-        text.extend_from_slice(part)?;
-    }
-    Ok(text)
-}
-
-/// Reads, and their counts.
-static READS: [(&[u8], u32); 3] = [
-    (b"R0\n", 0),
-    (b"R0000000007\n", 7),
-    (b"R2147483647\n", 2147483647),
+/// Lines at their limits, as parts of a stream, and the requests that they are. Where there are none a request has only
+/// begun.
+static LINES: [(&[&[u8]], &[Request]); 7] = [
+    (&[b"O", b"\n1\n"], &[OPEN_NONE]),
+    (&[b"O", &[b'0'; 255], b"\n1\n"], &[OPEN_LONGEST]),
+    (&[b"C", b"\n"], &[Request::Close]),
+    (&[b"C", &[b'0'; 255], b"\n"], &[Request::Close]),
+    (&[b"O", &[b'0'; 255]], &[]),
+    (&[b"C", &[b'0'; 255]], &[]),
+    (&[b"Ost0\n2", &[b' '; 254], b"\n"], &[OPEN]),
 ];
 
-/// Bytes that are bad numbers.
-static BAD: [&[u8]; 11] = [
-    b"R\n",
-    b"R2147483648\n",
-    b"R4294967297\n",
-    b"R00000000007\n",
-    b"R-1\n",
-    b"R7 \n",
-    b"O/dev/st0\n\n",
-    b"O/dev/st0\n 2\n",
-    b"O/dev/st0\n00000000002\n",
-    b"O/dev/st0\n2x\n",
-    b"I7\n\n",
-];
+const OPEN_NONE: Request = Request::Open {
+    device: b"",
+    mode: 1,
+};
 
-/// Each of the streams is a bad number.
-fn check_bad(rt: &impl Abort, alloc: Global, streams: &[&[u8]]) -> Result<(), Fail> {
-    for stream in streams {
-        let fault = Some(WireFault::BadNumber);
-        check_by_hand(rt, alloc, stream, &[], stream, fault)?;
-    }
-    Ok(())
-}
+const OPEN_LONGEST: Request = Request::Open {
+    device: &[b'0'; 255],
+    mode: 1,
+};
 
-#[test]
-fn numbers(rt: HostRuntime) -> Result<(), Fail> {
-    for (stream, count) in &READS {
-        let requests = [Request::Read { count: *count }];
-        check_by_hand(&rt, rt.alloc(), stream, &requests, b"", None)?;
-    }
-    check_bad(&rt, rt.alloc(), &BAD)
-}
+const OPEN: Request = Request::Open {
+    device: b"st0",
+    mode: 2,
+};
 
-/// The parts joined are these requests, and a rest without a fault.
-fn check_joined(
+/// The parts joined are these requests, or one that has only begun.
+pub(super) fn check_line(
     rt: &impl Abort,
     alloc: Global,
     parts: &[&[u8]],
@@ -65,12 +44,36 @@ fn check_joined(
 ) -> Result<(), Fail> {
     let stream = joined(alloc, parts)?;
     let rest = if requests.is_empty() {
-        stream.as_slice()
+        &stream[..]
     } else {
         b""
     };
     check_by_hand(rt, alloc, &stream, requests, rest, None)
 }
+
+/// Each line is so.
+fn check_lines(
+    rt: &impl Abort,
+    alloc: Global,
+    lines: &[(&[&[u8]], &[Request<'_>])],
+) -> Result<(), Fail> {
+    for (parts, requests) in lines {
+        check_line(rt, alloc, parts, requests)?;
+    }
+    Ok(())
+}
+
+#[test]
+fn the_longest_lines(rt: HostRuntime) -> Result<(), Fail> {
+    check_lines(&rt, rt.alloc(), &LINES)
+}
+
+/// Lines of a byte more.
+static TOO_LONG: [&[&[u8]]; 3] = [
+    &[b"O", &[b'0'; 256]],
+    &[b"C", &[b'0'; 256]],
+    &[b"Ost0\n2", &[b' '; 255], b"\n"],
+];
 
 /// The parts joined are no request, since a line is too long.
 fn check_too_long(rt: &impl Abort, alloc: Global, parts: &[&[u8]]) -> Result<(), Fail> {
@@ -79,44 +82,17 @@ fn check_too_long(rt: &impl Abort, alloc: Global, parts: &[&[u8]]) -> Result<(),
     check_by_hand(rt, alloc, &stream, &[], &stream, fault)
 }
 
-/// An open of this device, and a close with the same text.
-fn check_device(rt: &impl Abort, alloc: Global, device: &[u8]) -> Result<(), Fail> {
-    let open = [Request::Open { device, mode: 1 }];
-    check_joined(rt, alloc, &[b"O", device, b"\n1\n"], &open)?;
-    check_joined(rt, alloc, &[b"C", device, b"\n"], &[Request::Close])
-}
-
-/// This letter and a line without its end: the longest is no fault, and one byte more is.
-fn check_letter(
-    rt: &impl Abort,
-    alloc: Global,
-    letter: &[u8],
-    line: &[u8; 256],
-) -> Result<(), Fail> {
-    let (longest, _) = line.split_at(255);
-    check_joined(rt, alloc, &[letter, longest], &[])?;
-    check_too_long(rt, alloc, &[letter, line])
+/// Each of these is so.
+fn check_all_too_long(rt: &impl Abort, alloc: Global, lines: &[&[&[u8]]]) -> Result<(), Fail> {
+    for parts in lines {
+        check_too_long(rt, alloc, parts)?;
+    }
+    Ok(())
 }
 
 #[test]
-fn device_and_close_lines(rt: HostRuntime) -> Result<(), Fail> {
-    let alloc = rt.alloc();
-    check_device(&rt, alloc, b"")?;
-    check_device(&rt, alloc, &[b'0'; 255])?;
-    check_letter(&rt, alloc, b"O", &[b'0'; 256])?;
-    check_letter(&rt, alloc, b"C", &[b'0'; 256])
-}
-
-#[test]
-fn mode_lines(rt: HostRuntime) -> Result<(), Fail> {
-    let spaces = [b' '; 255];
-    let (fit, _) = spaces.split_at(254);
-    let open = Request::Open {
-        device: b"st0",
-        mode: 2,
-    };
-    check_joined(&rt, rt.alloc(), &[b"Ost0\n2", fit, b"\n"], &[open])?;
-    check_too_long(&rt, rt.alloc(), &[b"Ost0\n2", &spaces, b"\n"])
+fn lines_of_a_byte_more(rt: HostRuntime) -> Result<(), Fail> {
+    check_all_too_long(&rt, rt.alloc(), &TOO_LONG)
 }
 
 /// A reader has so much room, and is empty where it has all.
@@ -154,6 +130,17 @@ fn check_none(rt: &impl Abort, reader: &mut RequestReader) {
     assert!(rt; next_of(reader, None) == Next::None(None));
 }
 
+/// These bytes, then so many of one kind, and a close.
+fn long_stream(
+    alloc: Global,
+    before: &[u8],
+    byte: u8,
+    count: usize,
+) -> Result<Vec<u8>, AllocError> {
+    let data = vec![in alloc; byte; count]?;
+    joined(alloc, &[before, &data, b"C\n"])
+}
+
 /// The largest write and a byte more fill a reader.
 fn check_filled(rt: &impl Abort, reader: &mut RequestReader, stream: &[u8], data: &[u8]) {
     same(rt, stream.len(), 65550);
@@ -165,16 +152,16 @@ fn check_filled(rt: &impl Abort, reader: &mut RequestReader, stream: &[u8], data
 }
 
 /// The same of these data with a new reader.
-fn check_largest(rt: &impl Abort, alloc: Global, data: &[u8]) -> Result<(), Fail> {
-    let stream = joined(alloc, &[b"W0000065536\n", data, b"C\n"])?;
-    check_filled(rt, &mut RequestReader::new(alloc)?, &stream, data);
+fn check_largest(rt: &impl Abort, alloc: Global, stream: &[u8]) -> Result<(), Fail> {
+    let data = stream.get(12..65548).unwrap_or(&[]);
+    check_filled(rt, &mut RequestReader::new(alloc)?, stream, data);
     Ok(())
 }
 
 #[test]
 fn the_largest_request_fills_a_reader(rt: HostRuntime) -> Result<(), Fail> {
-    let data = vec![in rt.alloc(); b'\n'; 65536]?;
-    check_largest(&rt, rt.alloc(), &data)
+    let stream = long_stream(rt.alloc(), b"W0000065536\n", b'\n', 65536)?;
+    check_largest(&rt, rt.alloc(), &stream)
 }
 
 /// A write is dropped, of which these data come a hundred times.
@@ -216,7 +203,6 @@ fn check_stream(rt: &impl Abort, alloc: Global, stream: &[u8]) -> Result<(), Fai
 
 #[test]
 fn a_dropped_write_behind_a_request_takes_room(rt: HostRuntime) -> Result<(), Fail> {
-    let data = vec![in rt.alloc(); b'x'; 65537]?;
-    let stream = joined(rt.alloc(), &[b"R1\nW65537\n", &data, b"C\n"])?;
+    let stream = long_stream(rt.alloc(), b"R1\nW65537\n", b'x', 65537)?;
     check_stream(&rt, rt.alloc(), &stream)
 }

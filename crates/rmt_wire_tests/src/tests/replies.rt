@@ -1,10 +1,9 @@
 //! Replies whose texts are written by hand: those of whole conversations, and single ones at their limits.
 
 use super::checked::same;
-use super::limits::joined;
-use super::reply_fed::{check_begun, check_replies, check_whole};
-use super::slow;
+use super::reply_fed::{Row, check_begun, check_replies, check_rows, check_whole};
 use super::slow::reply::Wanted;
+use super::slow::{self, joined};
 use rmt_wire::{Reply, Request};
 use std::alloc::{AllocError, Global};
 use std::process::Abort;
@@ -80,37 +79,26 @@ fn check_all(rt: &impl Abort, alloc: Global, conversations: &[Conversation]) -> 
     Ok(())
 }
 
-static WRITTEN_AND_READ: [Conversation; 1] = [(
-    b"O/dev/st0\n2\nW5\nhelloI0\n1\nI5\n1\nR10\nR10\nC\n",
-    b"A0\nA5\nA1\nA1\nA5\nhelloA0\nA0\n",
-    &[
-        ZERO,
-        Reply::Done { number: 5 },
-        ONE,
-        ONE,
-        Reply::Data { bytes: b"hello" },
-        NONE,
-        ZERO,
-    ],
-)];
-
-#[test]
-fn a_record_written_and_read_back(rt: HostRuntime) -> Result<(), Fail> {
-    check_all(&rt, rt.alloc(), &WRITTEN_AND_READ)
-}
-
-static NOTHING: [Conversation; 3] = [
+static CONVERSATIONS: [Conversation; 16] = [
+    // a record is written and read back
+    (
+        b"O/dev/st0\n2\nW5\nhelloI0\n1\nI5\n1\nR10\nR10\nC\n",
+        b"A0\nA5\nA1\nA1\nA5\nhelloA0\nA0\n",
+        &[
+            ZERO,
+            Reply::Done { number: 5 },
+            ONE,
+            ONE,
+            Reply::Data { bytes: b"hello" },
+            NONE,
+            ZERO,
+        ],
+    ),
+    // nothing at all
     (b"", b"", &[]),
     (b"W99999999999\n", b"", &[]),
     (b"W3x", b"", &[]),
-];
-
-#[test]
-fn nothing_at_all(rt: HostRuntime) -> Result<(), Fail> {
-    check_all(&rt, rt.alloc(), &NOTHING)
-}
-
-static ALONE: [Conversation; 6] = [
+    // one reply alone
     (b"W3\nabc", b"E9\nBad file descriptor\n", &[CLOSED]),
     (b"O/dev/st0\n2\nW5\nhel", b"A0\n", &[ZERO]),
     (b"O/dev/st0\n2\nS\n", b"A0\n", &[ZERO]),
@@ -121,14 +109,7 @@ static ALONE: [Conversation; 6] = [
         b"E2\nNo such file or directory\n",
         &[MISSING],
     ),
-];
-
-#[test]
-fn one_reply_alone(rt: HostRuntime) -> Result<(), Fail> {
-    check_all(&rt, rt.alloc(), &ALONE)
-}
-
-static ONE_ACCESS: [Conversation; 2] = [
+    // a drive of one access
     (
         b"O/dev/st0\n0\nW1\nxI0\n1\n",
         b"A0\nE9\nBad file descriptor\nE13\nPermission denied\n",
@@ -139,30 +120,7 @@ static ONE_ACCESS: [Conversation; 2] = [
         b"A0\nE9\nBad file descriptor\n",
         &[ZERO, CLOSED],
     ),
-];
-
-#[test]
-fn a_drive_of_one_access(rt: HostRuntime) -> Result<(), Fail> {
-    check_all(&rt, rt.alloc(), &ONE_ACCESS)
-}
-
-/// What is answered to the largest write, one byte more, none, and an operation.
-static LARGEST: [Reply; 5] = [
-    ZERO,
-    Reply::Done { number: 65536 },
-    REFUSED,
-    REFUSED,
-    Reply::Done { number: 9 },
-];
-
-#[test]
-fn the_largest_write_and_one_more(rt: HostRuntime) -> Result<(), Fail> {
-    let text = b"A0\nA65536\nE22\nInvalid argument\nE22\nInvalid argument\nA9\n";
-    let wanted = [Wanted::Number; 5];
-    check_replies(&rt, rt.alloc(), text, &wanted, &LARGEST, b"", None)
-}
-
-static SPACING: [Conversation; 2] = [
+    // spacing over marks
     (
         b"O/dev/st0\n2\nI3\n1\nI8\n1\n",
         b"A0\nE5\nInput/output error\nE22\nInvalid argument\n",
@@ -185,14 +143,7 @@ static SPACING: [Conversation; 2] = [
             ZERO,
         ],
     ),
-];
-
-#[test]
-fn spacing_over_marks(rt: HostRuntime) -> Result<(), Fail> {
-    check_all(&rt, rt.alloc(), &SPACING)
-}
-
-static WRITTEN_ANEW_AND_OFF: [Conversation; 2] = [
+    // a reel written anew, and one taken off
     (
         b"O/dev/st0\n2\nW3\nabcW2\ndeI5\n1\nW1\nxR5\nC\n",
         b"A0\nA3\nA2\nA1\nA1\nA0\nA0\n",
@@ -214,67 +165,165 @@ static WRITTEN_ANEW_AND_OFF: [Conversation; 2] = [
 ];
 
 #[test]
-fn a_reel_written_anew_and_one_taken_off(rt: HostRuntime) -> Result<(), Fail> {
-    check_all(&rt, rt.alloc(), &WRITTEN_ANEW_AND_OFF)
+fn conversations(rt: HostRuntime) -> Result<(), Fail> {
+    check_all(&rt, rt.alloc(), &CONVERSATIONS)
 }
 
-/// Each text is a reply that has only begun, to one who waits for this.
-fn check_all_begun(
-    rt: &impl Abort,
-    alloc: Global,
-    texts: &[&[u8]],
-    wanted: Wanted,
-) -> Result<(), Fail> {
-    for text in texts {
-        check_begun(rt, alloc, text, wanted)?;
-    }
-    Ok(())
-}
-
-/// Texts, and their numbers.
-static NUMBERS: [(&[u8], u32); 7] = [
-    (b"A0\n", 0),
-    (b"A00\n", 0),
-    (b"A0000000000\n", 0),
-    (b"A1025\n", 1025),
-    (b"A01025\n", 1025),
-    (b"A0000000005\n", 5),
-    (b"A2147483647\n", 2147483647),
+/// Numbers and data, and beginnings of them.
+static ROWS: [Row; 27] = [
+    // numbers
+    (
+        b"A0\n",
+        &[Wanted::Number],
+        &[Reply::Done { number: 0 }],
+        b"",
+        None,
+    ),
+    (
+        b"A00\n",
+        &[Wanted::Number],
+        &[Reply::Done { number: 0 }],
+        b"",
+        None,
+    ),
+    (
+        b"A0000000000\n",
+        &[Wanted::Number],
+        &[Reply::Done { number: 0 }],
+        b"",
+        None,
+    ),
+    (
+        b"A1025\n",
+        &[Wanted::Number],
+        &[Reply::Done { number: 1025 }],
+        b"",
+        None,
+    ),
+    (
+        b"A01025\n",
+        &[Wanted::Number],
+        &[Reply::Done { number: 1025 }],
+        b"",
+        None,
+    ),
+    (
+        b"A0000000005\n",
+        &[Wanted::Number],
+        &[Reply::Done { number: 5 }],
+        b"",
+        None,
+    ),
+    (
+        b"A2147483647\n",
+        &[Wanted::Number],
+        &[Reply::Done { number: 2147483647 }],
+        b"",
+        None,
+    ),
+    // beginnings of them
+    (b"", &[Wanted::Number], &[], b"", None),
+    (b"A", &[Wanted::Number], &[], b"A", None),
+    (b"A0", &[Wanted::Number], &[], b"A0", None),
+    (b"A0000000000", &[Wanted::Number], &[], b"A0000000000", None),
+    (b"A2147483647", &[Wanted::Number], &[], b"A2147483647", None),
+    // data of reads
+    (
+        b"A0\n",
+        &[Wanted::DataUpTo(0)],
+        &[Reply::Data { bytes: b"" }],
+        b"",
+        None,
+    ),
+    (
+        b"A0\n",
+        &[Wanted::DataUpTo(65536)],
+        &[Reply::Data { bytes: b"" }],
+        b"",
+        None,
+    ),
+    (
+        b"A0000000000\n",
+        &[Wanted::DataUpTo(1)],
+        &[Reply::Data { bytes: b"" }],
+        b"",
+        None,
+    ),
+    (
+        b"A4\nabcd",
+        &[Wanted::DataUpTo(4)],
+        &[Reply::Data { bytes: b"abcd" }],
+        b"",
+        None,
+    ),
+    (
+        b"A4\nabcd",
+        &[Wanted::DataUpTo(65536)],
+        &[Reply::Data { bytes: b"abcd" }],
+        b"",
+        None,
+    ),
+    (
+        b"A0000000004\nabcd",
+        &[Wanted::DataUpTo(5)],
+        &[Reply::Data { bytes: b"abcd" }],
+        b"",
+        None,
+    ),
+    (
+        b"A1\n\n",
+        &[Wanted::DataUpTo(1)],
+        &[Reply::Data { bytes: b"\n" }],
+        b"",
+        None,
+    ),
+    (
+        b"A3\nA0\n",
+        &[Wanted::DataUpTo(3)],
+        &[Reply::Data { bytes: b"A0\n" }],
+        b"",
+        None,
+    ),
+    (
+        b"A6\nE5\nx\n\0",
+        &[Wanted::DataUpTo(10)],
+        &[Reply::Data {
+            bytes: b"E5\nx\n\0",
+        }],
+        b"",
+        None,
+    ),
+    // beginnings of them
+    (b"A", &[Wanted::DataUpTo(4)], &[], b"A", None),
+    (b"A4", &[Wanted::DataUpTo(4)], &[], b"A4", None),
+    (b"A4\n", &[Wanted::DataUpTo(4)], &[], b"A4\n", None),
+    (b"A4\nabc", &[Wanted::DataUpTo(4)], &[], b"A4\nabc", None),
+    (
+        b"A04\n\n\n\n",
+        &[Wanted::DataUpTo(4)],
+        &[],
+        b"A04\n\n\n\n",
+        None,
+    ),
+    // the largest write, one byte more, none, and an operation
+    (
+        b"A0\nA65536\nE22\nInvalid argument\nE22\nInvalid argument\nA9\n",
+        &[Wanted::Number; 5],
+        &[
+            ZERO,
+            Reply::Done { number: 65536 },
+            REFUSED,
+            REFUSED,
+            Reply::Done { number: 9 },
+        ],
+        b"",
+        None,
+    ),
 ];
 
-static BEGUN_NUMBERS: [&[u8]; 5] = [b"", b"A", b"A0", b"A0000000000", b"A2147483647"];
-
 #[test]
-fn numbers(rt: HostRuntime) -> Result<(), Fail> {
-    for (text, number) in &NUMBERS {
-        let reply = Reply::Done { number: *number };
-        check_whole(&rt, rt.alloc(), text, Wanted::Number, reply)?;
-    }
-    check_all_begun(&rt, rt.alloc(), &BEGUN_NUMBERS, Wanted::Number)
-}
-
-/// Texts, how many bytes are waited for, and the data.
-static DATA: [(&[u8], u32, &[u8]); 9] = [
-    (b"A0\n", 0, b""),
-    (b"A0\n", 65536, b""),
-    (b"A0000000000\n", 1, b""),
-    (b"A4\nabcd", 4, b"abcd"),
-    (b"A4\nabcd", 65536, b"abcd"),
-    (b"A0000000004\nabcd", 5, b"abcd"),
-    (b"A1\n\n", 1, b"\n"),
-    (b"A3\nA0\n", 3, b"A0\n"),
-    (b"A6\nE5\nx\n\0", 10, b"E5\nx\n\0"),
-];
-
-static BEGUN_DATA: [&[u8]; 5] = [b"A", b"A4", b"A4\n", b"A4\nabc", b"A04\n\n\n\n"];
-
-#[test]
-fn data_of_reads(rt: HostRuntime) -> Result<(), Fail> {
-    for (text, most, bytes) in &DATA {
-        let reply = Reply::Data { bytes };
-        check_whole(&rt, rt.alloc(), text, Wanted::DataUpTo(*most), reply)?;
-    }
-    check_all_begun(&rt, rt.alloc(), &BEGUN_DATA, Wanted::DataUpTo(4))
+fn numbers_and_data(rt: HostRuntime) -> Result<(), Fail> {
+    check_rows(&rt, rt.alloc(), &ROWS)
 }
 
 /// The largest reply, which has these data.
@@ -291,61 +340,117 @@ fn the_largest_reply(rt: HostRuntime) -> Result<(), Fail> {
     check_largest(&rt, rt.alloc(), &given)
 }
 
-/// Texts, the numbers of the errors, and what they say.
-static ERRORS: [(&[u8], u32, &[u8]); 5] = [
-    (b"E6\nDevice not configured\n", 6, b"Device not configured"),
+/// A text, the error that it is, if it is one, and the rest.
+type Begun = (&'static [u8], &'static [Reply<'static>], &'static [u8]);
+
+static ERRORS: [Begun; 10] = [
+    (b"E6\nDevice not configured\n", &[OFFLINE], b""),
+    (b"E0000000006\nDevice not configured\n", &[OFFLINE], b""),
     (
-        b"E0000000006\nDevice not configured\n",
-        6,
-        b"Device not configured",
+        b"E0\n\n",
+        &[Reply::Error {
+            number: 0,
+            text: b"",
+        }],
+        b"",
     ),
-    (b"E0\n\n", 0, b""),
-    (b"E2147483647\nA0\n", 2147483647, b"A0"),
-    (b"E5\n\0\r\xff \n", 5, b"\0\r\xff "),
+    (
+        b"E2147483647\nA0\n",
+        &[Reply::Error {
+            number: 2147483647,
+            text: b"A0",
+        }],
+        b"",
+    ),
+    (
+        b"E5\n\0\r\xff \n",
+        &[Reply::Error {
+            number: 5,
+            text: b"\0\r\xff ",
+        }],
+        b"",
+    ),
+    (b"E", &[], b"E"),
+    (b"E6", &[], b"E6"),
+    (b"E2147483647", &[], b"E2147483647"),
+    (b"E6\n", &[], b"E6\n"),
+    (
+        b"E6\nDevice not configured",
+        &[],
+        b"E6\nDevice not configured",
+    ),
 ];
 
-static BEGUN_ERRORS: [&[u8]; 5] = [
-    b"E",
-    b"E6",
-    b"E2147483647",
-    b"E6\n",
-    b"E6\nDevice not configured",
-];
+/// What is waited for where an error comes.
+static WAITS: [Wanted; 3] = [Wanted::Number, Wanted::DataUpTo(0), Wanted::DataUpTo(65536)];
 
-/// The errors of one who waits for this.
-fn check_errors(rt: &impl Abort, alloc: Global, wanted: Wanted) -> Result<(), Fail> {
-    for (text, number, said) in &ERRORS {
-        let reply = Reply::Error {
-            number: *number,
-            text: said,
-        };
-        check_whole(rt, alloc, text, wanted, reply)?;
+/// The text is so much of an error, whatever is waited for.
+fn check_error(
+    rt: &impl Abort,
+    alloc: Global,
+    text: &[u8],
+    replies: &[Reply<'_>],
+    rest: &[u8],
+) -> Result<(), Fail> {
+    for wanted in &WAITS {
+        check_replies(rt, alloc, text, &[*wanted], replies, rest, None)?;
     }
-    check_all_begun(rt, alloc, &BEGUN_ERRORS, wanted)
+    Ok(())
+}
+
+/// Each text is so much of an error.
+fn check_errors(rt: &impl Abort, alloc: Global, rows: &[Begun]) -> Result<(), Fail> {
+    for (text, replies, rest) in rows {
+        check_error(rt, alloc, text, replies, rest)?;
+    }
+    Ok(())
 }
 
 #[test]
 fn errors(rt: HostRuntime) -> Result<(), Fail> {
-    check_errors(&rt, rt.alloc(), Wanted::Number)?;
-    check_errors(&rt, rt.alloc(), Wanted::DataUpTo(0))?;
-    check_errors(&rt, rt.alloc(), Wanted::DataUpTo(65536))
+    check_errors(&rt, rt.alloc(), &ERRORS)
 }
 
-/// An error with this line, of which these bytes are kept: it has only begun without its end.
-fn check_kept(rt: &impl Abort, alloc: Global, line: &[u8], kept: &[u8]) -> Result<(), Fail> {
-    check_begun(rt, alloc, &joined(alloc, &[b"E5\n", line])?, Wanted::Number)?;
-    let reply = Reply::Error {
-        number: 5,
-        text: kept,
-    };
-    let text = joined(alloc, &[b"E5\n", line, b"\n"])?;
-    check_whole(rt, alloc, &text, Wanted::Number, reply)
+/// Errors with lines of 255 bytes and more, of which 255 are kept, and that have only begun without their ends.
+static LONG: [(&[&[u8]], &[Reply]); 6] = [
+    (&[b"E5\n", &[b'z'; 255]], &[]),
+    (&[b"E5\n", &[b'z'; 255], b"\n"], &[KEPT]),
+    (&[b"E5\n", &[b'z'; 256]], &[]),
+    (&[b"E5\n", &[b'z'; 256], b"\n"], &[KEPT]),
+    (&[b"E5\n", &[b'z'; 2000]], &[]),
+    (&[b"E5\n", &[b'z'; 2000], b"\n"], &[KEPT]),
+];
+
+const KEPT: Reply = Reply::Error {
+    number: 5,
+    text: &[b'z'; 255],
+};
+
+/// The parts joined are these replies, or a reply that has only begun.
+fn check_parts(
+    rt: &impl Abort,
+    alloc: Global,
+    parts: &[&[u8]],
+    replies: &[Reply<'_>],
+) -> Result<(), Fail> {
+    let text = joined(alloc, parts)?;
+    let rest = if replies.is_empty() { &text[..] } else { b"" };
+    check_replies(rt, alloc, &text, &[Wanted::Number], replies, rest, None)
+}
+
+/// Each of these is so.
+fn check_long(
+    rt: &impl Abort,
+    alloc: Global,
+    rows: &[(&[&[u8]], &[Reply<'_>])],
+) -> Result<(), Fail> {
+    for (parts, replies) in rows {
+        check_parts(rt, alloc, parts, replies)?;
+    }
+    Ok(())
 }
 
 #[test]
 fn of_a_long_text_the_beginning_counts(rt: HostRuntime) -> Result<(), Fail> {
-    let kept = [b'z'; 255];
-    check_kept(&rt, rt.alloc(), &[b'z'; 255], &kept)?;
-    check_kept(&rt, rt.alloc(), &[b'z'; 256], &kept)?;
-    check_kept(&rt, rt.alloc(), &[b'z'; 2000], &kept)
+    check_long(&rt, rt.alloc(), &LONG)
 }

@@ -3,6 +3,7 @@
 use super::checked::expect_of;
 use super::fed::{is_beside, shown_by};
 use super::listener::{Listener, Next};
+use super::slow::joined;
 use super::slow::reply::{Replies, Wanted, is_same, split, taken};
 use rmt_wire::{Reply, WireFault};
 use std::alloc::{AllocError, Global};
@@ -119,7 +120,7 @@ impl<'a> Fed<'a> {
         let Some((fault, _)) = self.now.fault else {
             return true;
         };
-        for more in [b"".as_slice(), b"A0\n", b"\n", b"E5\nx\n"] {
+        for more in &MORE {
             self.reader.push(more);
             if !self.is_at(fault) {
                 return false;
@@ -152,7 +153,20 @@ impl<'a> Fed<'a> {
         }
         false
     }
+
+    /// Feeds it one exchange after the other, each so. It tells whether the reader does as it is to, at the end too.
+    fn feed_all(&mut self, exchanges: &[Exchange<'a>], first: usize, size: usize) -> bool {
+        for exchange in exchanges {
+            if !self.exchange(*exchange, first, size) {
+                return false;
+            }
+        }
+        self.stays()
+    }
 }
+
+/// What is pushed behind a fault.
+static MORE: [&[u8]; 4] = [b"", b"A0\n", b"\n", b"E5\nx\n"];
 
 /// Whether a reader does as it is to in one exchange after the other, each in a piece of `first` bytes and then in pieces
 /// of one size.
@@ -166,12 +180,7 @@ fn is_fed(
         return Ok(true);
     };
     let mut fed = Fed::new(alloc, *exchange)?;
-    for exchange in exchanges {
-        if !fed.exchange(*exchange, first, size) {
-            return Ok(false);
-        }
-    }
-    Ok(fed.stays())
+    Ok(fed.feed_all(exchanges, first, size))
 }
 
 /// Whether the bytes are cut here: short ones everywhere, long ones beside their ends, the end of the reply, and the end
@@ -206,9 +215,15 @@ fn has_long(exchanges: &[Exchange<'_>]) -> bool {
 /// not long, and cut in two.
 pub(super) fn are_given(alloc: Global, exchanges: &[Exchange<'_>]) -> Result<bool, AllocError> {
     let small = if has_long(exchanges) { 1000 } else { 1 };
-    if !is_fed(alloc, exchanges, 100000, 100000)? || !is_fed(alloc, exchanges, small, small)? {
-        return Ok(false);
-    }
+    Ok(
+        is_fed(alloc, exchanges, 100000, 100000)?
+            && is_fed(alloc, exchanges, small, small)?
+            && are_fed_in_cuts(alloc, exchanges)?,
+    )
+}
+
+/// Whether a reader does as it is to in each exchange alone, cut in two.
+fn are_fed_in_cuts(alloc: Global, exchanges: &[Exchange<'_>]) -> Result<bool, AllocError> {
     for exchange in exchanges {
         if !is_fed_in_cuts(alloc, *exchange)? {
             return Ok(false);
@@ -357,9 +372,35 @@ pub(super) fn check_replies(
     fault: Option<(WireFault, usize)>,
 ) -> Result<(), Fail> {
     let found = split(alloc, stream, wanted)?;
-    let is_by_hand = are_same(&found.replies, replies) && found.rest == rest;
-    expect_of(rt, is_by_hand && found.fault == fault, "split", stream);
+    expect_of(rt, is_split(&found, replies, rest, fault), "split", stream);
     check_found(rt, alloc, stream, wanted, &found)
+}
+
+/// Whether the parts of a stream are these.
+fn is_split(
+    found: &Replies<'_>,
+    replies: &[Reply<'_>],
+    rest: &[u8],
+    fault: Option<(WireFault, usize)>,
+) -> bool {
+    are_same(&found.replies, replies) && found.rest == rest && found.fault == fault
+}
+
+/// A text, what is waited for, the replies that it begins with, the rest, and the fault of that.
+pub(super) type Row = (
+    &'static [u8],
+    &'static [Wanted],
+    &'static [Reply<'static>],
+    &'static [u8],
+    Option<(WireFault, usize)>,
+);
+
+/// The texts are as in the rows.
+pub(super) fn check_rows(rt: &impl Abort, alloc: Global, rows: &[Row]) -> Result<(), Fail> {
+    for (text, wanted, replies, rest, fault) in rows {
+        check_replies(rt, alloc, text, wanted, replies, rest, *fault)?;
+    }
+    Ok(())
 }
 
 /// These are what beginnings of the bytes have, and what a reader gives of them.
@@ -370,10 +411,9 @@ fn check_found(
     wanted: &[Wanted],
     found: &Replies<'_>,
 ) -> Result<(), Fail> {
-    let is_well = has_beginnings(alloc, stream, wanted, found)?;
-    expect_of(rt, is_well, "beginnings", stream);
-    let is_well = is_given(alloc, stream, wanted, found)?;
-    expect_of(rt, is_well, "reader", stream);
+    let is_well = has_beginnings(alloc, stream, wanted, found)?
+        && is_given(alloc, stream, wanted, found)?;
+    expect_of(rt, is_well, "beginnings and reader", stream);
     Ok(())
 }
 
@@ -398,25 +438,43 @@ pub(super) fn check_begun(
     check_replies(rt, alloc, text, &[wanted], &[], text, None)
 }
 
-/// The last byte of a text is this fault, or none, and a reader says so once it comes, as a piece of its own.
+/// This byte behind these is this fault, or none, to one who waits for this, and a reader says so,
+/// where they come whole, and where the byte is a piece of its own.
 pub(super) fn check_last_byte(
     rt: &impl Abort,
     alloc: Global,
-    text: &[u8],
-    wanted: Wanted,
+    before: &[u8],
+    byte: u8,
+    wanted: &[Wanted],
     fault: Option<WireFault>,
 ) -> Result<(), Fail> {
-    let found = split(alloc, text, &[wanted])?;
-    let len = text.len();
-    let is_shown = found.fault == shown_by(fault, len);
-    expect_wanted(rt, is_shown, text, wanted);
-    let exchange = exchange_at(text, &[wanted], &found, 0, true);
-    let is_well = is_fed(alloc, &[exchange], len.saturating_sub(1), len)?;
-    expect_wanted(rt, is_well, text, wanted);
+    let text = joined(alloc, &[before, &[byte]])?;
+    check_end(rt, alloc, &text, wanted, fault)
+}
+
+/// The last byte of a text is so.
+fn check_end(
+    rt: &impl Abort,
+    alloc: Global,
+    text: &[u8],
+    wanted: &[Wanted],
+    fault: Option<WireFault>,
+) -> Result<(), Fail> {
+    let found = split(alloc, text, wanted)?;
+    let exchange = exchange_at(text, wanted, &found, 0, true);
+    let is_shown = found.fault == shown_by(fault, text.len());
+    expect_of(
+        rt,
+        is_shown && is_shown_last(alloc, exchange)?,
+        "last byte",
+        text,
+    );
     Ok(())
 }
 
-/// It is so of this text, where that is waited for.
-fn expect_wanted(rt: &impl Abort, is_so: bool, text: &[u8], wanted: Wanted) {
-    assert!(rt; is_so, "{text:?} {wanted:?}");
+/// Whether a reader does as it is to where the exchange comes whole, and where its last byte is a piece of its own.
+fn is_shown_last(alloc: Global, exchange: Exchange<'_>) -> Result<bool, AllocError> {
+    let len = exchange.bytes.len();
+    let before = len.saturating_sub(1);
+    Ok(is_fed(alloc, &[exchange], before, len)? && is_fed(alloc, &[exchange], len, len)?)
 }

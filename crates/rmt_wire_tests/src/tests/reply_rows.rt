@@ -1,92 +1,215 @@
 //! Replies as a client meets them, by hand: the least and the greatest that a reader keeps, and bytes that come too
 //! early or too late.
 
-use super::checked::{expect_at, same};
-use super::limits::joined;
+use super::checked::{expect, same};
 use super::listener::{Listener, Next};
-use super::reply_fed::{Exchange, are_given, check_last_byte, check_replies};
+use super::reply_fed::{Exchange, Row, are_given, check_rows};
+use super::slow::joined;
 use super::slow::reply::Wanted;
 use rmt_wire::{Reply, WireFault};
 use std::alloc::{AllocError, Global};
 use std::process::Abort;
 use std::test::Fail;
 
-/// A text, the replies that it begins with, the rest, and the fault of that.
-type Row = (
-    &'static [u8],
-    &'static [Reply<'static>],
-    &'static [u8],
-    Option<(WireFault, usize)>,
-);
-
-/// The texts are as in the rows to one who waits for this.
-fn check_rows(rt: &impl Abort, alloc: Global, wanted: Wanted, rows: &[Row]) -> Result<(), Fail> {
-    for (text, replies, rest, fault) in rows {
-        check_replies(rt, alloc, text, &[wanted], replies, rest, *fault)?;
-    }
-    Ok(())
-}
-
 const DONE: Reply = Reply::Done { number: 1 };
 
-static REWIND: [Row; 5] = [
-    (b"A0000000001\n", &[DONE], b"", None),
+const DATA: Reply = Reply::Data { bytes: b"abc" };
+
+static ROWS: [Row; 32] = [
+    // answers to a rewind
+    (b"A0000000001\n", &[Wanted::Number], &[DONE], b"", None),
     (
         b"A00000000001\n",
+        &[Wanted::Number],
         &[],
         b"A00000000001\n",
         Some((WireFault::BadNumber, 12)),
     ),
-    (b"A\n", &[], b"A\n", Some((WireFault::BadNumber, 2))),
-    (b"B1\n", &[], b"B1\n", Some((WireFault::NotAReply, 1))),
-    (b"A1\nA", &[DONE], b"A", Some((WireFault::TooMuchData, 4))),
-];
-
-#[test]
-fn answers_to_a_rewind(rt: HostRuntime) -> Result<(), Fail> {
-    check_rows(&rt, rt.alloc(), Wanted::Number, &REWIND)
-}
-
-const DATA: Reply = Reply::Data { bytes: b"abc" };
-
-static THREE_BYTES: [Row; 4] = [
-    (b"A3\nabc", &[DATA], b"", None),
-    (b"A03\nabc", &[DATA], b"", None),
-    (b"A4\n", &[], b"A4\n", Some((WireFault::TooMuchData, 2))),
+    (
+        b"A\n",
+        &[Wanted::Number],
+        &[],
+        b"A\n",
+        Some((WireFault::BadNumber, 2)),
+    ),
+    (
+        b"B1\n",
+        &[Wanted::Number],
+        &[],
+        b"B1\n",
+        Some((WireFault::NotAReply, 1)),
+    ),
+    (
+        b"A1\nA",
+        &[Wanted::Number],
+        &[DONE],
+        b"A",
+        Some((WireFault::TooMuchData, 4)),
+    ),
+    // data of three bytes
+    (b"A3\nabc", &[Wanted::DataUpTo(3)], &[DATA], b"", None),
+    (b"A03\nabc", &[Wanted::DataUpTo(3)], &[DATA], b"", None),
+    (
+        b"A4\n",
+        &[Wanted::DataUpTo(3)],
+        &[],
+        b"A4\n",
+        Some((WireFault::TooMuchData, 2)),
+    ),
     (
         b"A3\nabcd",
+        &[Wanted::DataUpTo(3)],
         &[DATA],
         b"d",
         Some((WireFault::TooMuchData, 7)),
     ),
+    // texts that begin no reply
+    (
+        b"X\n",
+        &[Wanted::Number],
+        &[],
+        b"X\n",
+        Some((WireFault::NotAReply, 1)),
+    ),
+    (
+        b"F5\nMedium error\n",
+        &[Wanted::Number],
+        &[],
+        b"F5\nMedium error\n",
+        Some((WireFault::NotAReply, 1)),
+    ),
+    (
+        b"\n",
+        &[Wanted::DataUpTo(65536)],
+        &[],
+        b"\n",
+        Some((WireFault::NotAReply, 1)),
+    ),
+    (
+        b"A\n",
+        &[Wanted::Number],
+        &[],
+        b"A\n",
+        Some((WireFault::BadNumber, 2)),
+    ),
+    (
+        b"A-1\n",
+        &[Wanted::Number],
+        &[],
+        b"A-1\n",
+        Some((WireFault::BadNumber, 2)),
+    ),
+    (
+        b"A5\r\n",
+        &[Wanted::Number],
+        &[],
+        b"A5\r\n",
+        Some((WireFault::BadNumber, 3)),
+    ),
+    (
+        b"A2147483648\n",
+        &[Wanted::Number],
+        &[],
+        b"A2147483648\n",
+        Some((WireFault::BadNumber, 11)),
+    ),
+    (
+        b"A00000000005\n",
+        &[Wanted::Number],
+        &[],
+        b"A00000000005\n",
+        Some((WireFault::BadNumber, 12)),
+    ),
+    (
+        b"E\nDevice busy\n",
+        &[Wanted::DataUpTo(65536)],
+        &[],
+        b"E\nDevice busy\n",
+        Some((WireFault::BadNumber, 2)),
+    ),
+    (
+        b"E16 Device busy\n",
+        &[Wanted::DataUpTo(65536)],
+        &[],
+        b"E16 Device busy\n",
+        Some((WireFault::BadNumber, 4)),
+    ),
+    (
+        b"E99999999999\n\n",
+        &[Wanted::DataUpTo(65536)],
+        &[],
+        b"E99999999999\n\n",
+        Some((WireFault::BadNumber, 11)),
+    ),
+    (
+        b"A\n",
+        &[Wanted::DataUpTo(65536)],
+        &[],
+        b"A\n",
+        Some((WireFault::BadNumber, 2)),
+    ),
+    (
+        b"A65537\n",
+        &[Wanted::DataUpTo(65536)],
+        &[],
+        b"A65537\n",
+        Some((WireFault::TooMuchData, 6)),
+    ),
+    (
+        b"A2147483648\n",
+        &[Wanted::DataUpTo(65536)],
+        &[],
+        b"A2147483648\n",
+        Some((WireFault::TooMuchData, 7)),
+    ),
+    (
+        b"A00000065537\n",
+        &[Wanted::DataUpTo(65536)],
+        &[],
+        b"A00000065537\n",
+        Some((WireFault::TooMuchData, 12)),
+    ),
+    (
+        b"A00000065536\n",
+        &[Wanted::DataUpTo(65536)],
+        &[],
+        b"A00000065536\n",
+        Some((WireFault::BadNumber, 12)),
+    ),
+    // bytes that nobody waits for
+    (b"A", &[], &[], b"A", Some((WireFault::TooMuchData, 1))),
+    (b"E", &[], &[], b"E", Some((WireFault::TooMuchData, 1))),
+    (b"\n", &[], &[], b"\n", Some((WireFault::TooMuchData, 1))),
+    (b"\0", &[], &[], b"\0", Some((WireFault::TooMuchData, 1))),
+    (
+        b"A0\nA0\n",
+        &[Wanted::Number],
+        &[Reply::Done { number: 0 }],
+        b"A0\n",
+        Some((WireFault::TooMuchData, 4)),
+    ),
+    (
+        b"E5\nBusy\n\n",
+        &[Wanted::Number],
+        &[Reply::Error {
+            number: 5,
+            text: b"Busy",
+        }],
+        b"\n",
+        Some((WireFault::TooMuchData, 9)),
+    ),
+    (
+        b"A1\nA2\nabc",
+        &[Wanted::Number, Wanted::DataUpTo(9)],
+        &[Reply::Done { number: 1 }, Reply::Data { bytes: b"ab" }],
+        b"c",
+        Some((WireFault::TooMuchData, 9)),
+    ),
 ];
 
 #[test]
-fn data_of_three_bytes(rt: HostRuntime) -> Result<(), Fail> {
-    check_rows(&rt, rt.alloc(), Wanted::DataUpTo(3), &THREE_BYTES)
-}
-
-/// This byte, before a reply is waited for, and behind one.
-fn check_byte(rt: &impl Abort, alloc: Global, byte: u8) -> Result<(), Fail> {
-    let early = Exchange {
-        bytes: &[byte],
-        wanted: None,
-        reply: None,
-        end: 1,
-        fault: Some((WireFault::TooMuchData, 1)),
-    };
-    expect_at(rt, are_given(alloc, &[early])?, byte as usize);
-    let late = Some(WireFault::TooMuchData);
-    let text = [b'A', b'1', b'\n', byte];
-    check_last_byte(rt, alloc, &text, Wanted::Number, late)
-}
-
-#[test]
-fn each_byte_that_nobody_waits_for(rt: HostRuntime) -> Result<(), Fail> {
-    for byte in 0..=255u8 {
-        check_byte(&rt, rt.alloc(), byte)?;
-    }
-    Ok(())
+fn replies_by_hand(rt: HostRuntime) -> Result<(), Fail> {
+    check_rows(&rt, rt.alloc(), &ROWS)
 }
 
 /// An error with a text of so many bytes.
@@ -103,16 +226,17 @@ fn of_ten_thousand_bytes_of_text_255_are_kept(rt: HostRuntime) -> Result<(), Fai
 
 /// These bytes twice are two errors with a text of 10,000 bytes.
 fn check_long(rt: &impl Abort, alloc: Global, bytes: &[u8]) -> Result<(), Fail> {
-    let text = bytes.get(3..258).unwrap_or(&[]);
     let error = Exchange {
         bytes,
         wanted: Some(Wanted::Number),
-        reply: Some(Reply::Error { number: 5, text }),
+        reply: Some(Reply::Error {
+            number: 5,
+            text: &[b'z'; 255],
+        }),
         end: 10004,
         fault: None,
     };
-    assert!(rt; text == [b'z'; 255].as_slice());
-    assert!(rt; are_given(alloc, &[error, error])?);
+    expect(rt, are_given(alloc, &[error, error])?, "two long texts");
     Ok(())
 }
 
@@ -132,7 +256,7 @@ fn a_text_longer_than_a_reader(rt: HostRuntime) -> Result<(), Fail> {
 }
 
 /// A reader has all of its room.
-fn check_empty(rt: &impl Abort, reader: &Listener) {
+pub(super) fn check_empty(rt: &impl Abort, reader: &Listener) {
     assert!(rt; reader.is_empty() && reader.room() == 65548);
 }
 

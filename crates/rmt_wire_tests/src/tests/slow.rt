@@ -7,7 +7,7 @@ use rmt_wire::{Request, WireFault};
 use std::alloc::{AllocError, Global};
 
 /// What makes a beginning of a request whole, but for the data of a write. One of these does for each beginning.
-const ENDS: [&[u8]; 6] = [b"", b"\n", b"0\n", b"\n0\n", b"0\n0\n", b"C\n"];
+static ENDS: [&[u8]; 6] = [b"", b"\n", b"0\n", b"\n0\n", b"0\n0\n", b"C\n"];
 
 /// A stream as its requests, and what follows the last one.
 #[derive(Drop)]
@@ -22,33 +22,64 @@ pub(crate) struct Parts<'a> {
 
 /// The parts of a stream. There is one way only to split it.
 pub(crate) fn split(alloc: Global, stream: &[u8]) -> Result<Parts<'_>, AllocError> {
-    let mut requests = Vec::new(alloc);
-    let mut ends = Vec::new(alloc);
-    let mut rest = stream;
-    for _ in 0..stream.len() {
-        let Some((request, later)) = first(rest) else {
-            break;
-        };
-        requests.push(request)?;
-        ends.push(stream.len().saturating_sub(later.len()))?;
-        rest = later;
+    let mut parts = Parts {
+        requests: Vec::new(alloc),
+        ends: Vec::new(alloc),
+        rest: stream,
+        fault: None,
+    };
+    parts.take_all(alloc, stream.len())?;
+    Ok(parts)
+}
+
+impl<'a> Parts<'a> {
+    /// Takes the requests off the rest, which is a stream of so many bytes, and then the fault of what is left.
+    fn take_all(&mut self, alloc: Global, len: usize) -> Result<(), AllocError> {
+        for _ in 0..len {
+            let Some((request, later)) = first(self.rest) else {
+                break;
+            };
+            self.take(request, later, len)?;
+        }
+        let before = len.saturating_sub(self.rest.len());
+        self.fault = placed(fault_of(alloc, self.rest)?, before);
+        Ok(())
     }
-    let before = stream.len().saturating_sub(rest.len());
-    let fault = match fault_of(alloc, rest)? {
+
+    /// Takes a request off the rest of a stream of so many bytes.
+    fn take(
+        &mut self,
+        request: Request<'a>,
+        later: &'a [u8],
+        len: usize,
+    ) -> Result<(), AllocError> {
+        self.requests.push(request)?;
+        self.ends.push(len.saturating_sub(later.len()))?;
+        self.rest = later;
+        Ok(())
+    }
+}
+
+/// The fault, with so many bytes more that show it.
+fn placed(fault: Option<(WireFault, usize)>, before: usize) -> Option<(WireFault, usize)> {
+    match fault {
         Some((fault, len)) => Some((fault, before.saturating_add(len))),
         None => None,
-    };
-    Ok(Parts {
-        requests,
-        ends,
-        rest,
-        fault,
-    })
+    }
+}
+
+/// The parts, one after the other.
+pub(crate) fn joined(alloc: Global, parts: &[&[u8]]) -> Result<Vec<u8>, AllocError> {
+    let mut text = Vec::new(alloc);
+    for part in parts {
+        text.extend_from_slice(part)?;
+    }
+    Ok(text)
 }
 
 /// How much of a reader's room these bytes take, which were pushed and not given.
 pub(crate) fn taken(unread: &[u8]) -> usize {
-    match write_line(unread) {
+    match counted_line(unread, b'W') {
         Some((count, later)) if count > 65536 => {
             let line = unread.len().saturating_sub(later.len());
             line.saturating_add(later.len().saturating_sub(count as usize))
@@ -139,14 +170,13 @@ fn written(count: u32, bytes: &[u8]) -> Option<Request<'_>> {
     Some(Request::Write { bytes })
 }
 
-/// The line of a write, as its count, and the bytes after it.
-fn write_line(text: &[u8]) -> Option<(u32, &[u8])> {
-    let (letter, lines) = text.split_first()?;
-    let (line, later) = cut_line(lines)?;
-    if *letter != b'W' {
-        return None;
+/// The line of this letter and a number, as that number, and the bytes after it.
+fn counted_line(text: &[u8], wanted: u8) -> Option<(u32, &[u8])> {
+    let (line, later) = cut_line(text)?;
+    match line.split_first() {
+        Some((letter, digits)) if *letter == wanted => Some((number(digits)?, later)),
+        _ => None,
     }
-    Some((number(line)?, later))
 }
 
 /// The first place where this byte stands.
@@ -222,19 +252,22 @@ fn value(digits: &[u8]) -> u64 {
 
 /// Whether some bytes can follow that make a request.
 fn is_open(alloc: Global, bytes: &[u8]) -> Result<bool, AllocError> {
-    for end in ENDS {
-        let mut whole = Vec::from_slice(alloc, bytes)?;
-        whole.extend_from_slice(end)?;
-        if spelled(&whole).is_some() || lacks_data(&whole) {
+    for end in &ENDS {
+        if is_whole(&joined(alloc, &[bytes, end])?) {
             return Ok(true);
         }
     }
     Ok(false)
 }
 
+/// Whether the text is a request, or a write but for some of its data.
+fn is_whole(text: &[u8]) -> bool {
+    spelled(text).is_some() || lacks_data(text)
+}
+
 /// Whether the text is a write but for some of its data.
 fn lacks_data(text: &[u8]) -> bool {
-    match write_line(text) {
+    match counted_line(text, b'W') {
         Some((count, later)) => later.len() < count as usize,
         None => false,
     }

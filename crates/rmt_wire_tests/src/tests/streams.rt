@@ -1,7 +1,7 @@
 //! Whole conversations, whose requests are written by hand.
 
-use super::fed::{check_by_hand, check_pieces};
-use super::limits::joined;
+use super::fed::{check_by_hand, check_split};
+use super::limits::check_line;
 use rmt_wire::{Request, WireFault};
 use std::alloc::Global;
 use std::process::Abort;
@@ -25,7 +25,7 @@ type Row = (
     Option<WireFault>,
 );
 
-static ROWS: [Row; 16] = [
+static ROWS: [Row; 30] = [
     (
         ROUND,
         &[
@@ -103,6 +103,62 @@ static ROWS: [Row; 16] = [
         Some(WireFault::BadNumber),
     ),
     (b"W3x", &[], b"W3x", Some(WireFault::BadNumber)),
+    // the least and the greatest count, and one with all its digits
+    (b"R0\n", &[Request::Read { count: 0 }], b"", None),
+    (b"R0000000007\n", &[Request::Read { count: 7 }], b"", None),
+    (
+        b"R2147483647\n",
+        &[Request::Read { count: 2147483647 }],
+        b"",
+        None,
+    ),
+    // bad numbers
+    (b"R\n", &[], b"R\n", Some(WireFault::BadNumber)),
+    (
+        b"R2147483648\n",
+        &[],
+        b"R2147483648\n",
+        Some(WireFault::BadNumber),
+    ),
+    (
+        b"R4294967297\n",
+        &[],
+        b"R4294967297\n",
+        Some(WireFault::BadNumber),
+    ),
+    (
+        b"R00000000007\n",
+        &[],
+        b"R00000000007\n",
+        Some(WireFault::BadNumber),
+    ),
+    (b"R-1\n", &[], b"R-1\n", Some(WireFault::BadNumber)),
+    (b"R7 \n", &[], b"R7 \n", Some(WireFault::BadNumber)),
+    (
+        b"O/dev/st0\n\n",
+        &[],
+        b"O/dev/st0\n\n",
+        Some(WireFault::BadNumber),
+    ),
+    (
+        b"O/dev/st0\n 2\n",
+        &[],
+        b"O/dev/st0\n 2\n",
+        Some(WireFault::BadNumber),
+    ),
+    (
+        b"O/dev/st0\n00000000002\n",
+        &[],
+        b"O/dev/st0\n00000000002\n",
+        Some(WireFault::BadNumber),
+    ),
+    (
+        b"O/dev/st0\n2x\n",
+        &[],
+        b"O/dev/st0\n2x\n",
+        Some(WireFault::BadNumber),
+    ),
+    (b"I7\n\n", &[], b"I7\n\n", Some(WireFault::BadNumber)),
     // spacing over marks
     (
         b"O/dev/st0\n2\nI3\n1\nI8\n1\n",
@@ -163,19 +219,24 @@ static ROWS: [Row; 16] = [
     ),
 ];
 
-#[test]
-fn streams_are_split_as_by_hand(rt: HostRuntime) -> Result<(), Fail> {
-    for (stream, requests, rest, fault) in &ROWS {
-        check_by_hand(&rt, rt.alloc(), stream, requests, rest, *fault)?;
+/// The streams are as in the rows.
+fn check_rows(rt: &impl Abort, alloc: Global, rows: &[Row]) -> Result<(), Fail> {
+    for (stream, requests, rest, fault) in rows {
+        check_by_hand(rt, alloc, stream, requests, rest, *fault)?;
     }
     Ok(())
+}
+
+#[test]
+fn streams_are_split_as_by_hand(rt: HostRuntime) -> Result<(), Fail> {
+    check_rows(&rt, rt.alloc(), &ROWS)
 }
 
 #[test]
 fn every_beginning_of_a_conversation(rt: HostRuntime) -> Result<(), Fail> {
     for len in 0..=ROUND.len() {
         let (stream, _) = ROUND.split_at(len);
-        check_pieces(&rt, rt.alloc(), stream)?;
+        check_split(&rt, rt.alloc(), stream)?;
     }
     Ok(())
 }
@@ -183,8 +244,6 @@ fn every_beginning_of_a_conversation(rt: HostRuntime) -> Result<(), Fail> {
 /// The largest write, one of these data, which are a byte more, one of no data, and an operation.
 fn check_large(rt: &impl Abort, alloc: Global, data: &[u8]) -> Result<(), Fail> {
     let largest = data.get(1..).unwrap_or(&[]);
-    let open = b"O/dev/st0\n2\nW65536\n".as_slice();
-    let stream = joined(alloc, &[open, largest, b"W65537\n", data, b"W0\nI7\n9\n"])?;
     let requests = [
         OPEN,
         Request::Write { bytes: largest },
@@ -192,7 +251,9 @@ fn check_large(rt: &impl Abort, alloc: Global, data: &[u8]) -> Result<(), Fail> 
         Request::Write { bytes: b"" },
         Request::Op { op: 7, count: 9 },
     ];
-    check_by_hand(rt, alloc, &stream, &requests, b"", None)
+    let open = b"O/dev/st0\n2\nW65536\n".as_slice();
+    let parts = [open, largest, b"W65537\n", data, b"W0\nI7\n9\n"];
+    check_line(rt, alloc, &parts, &requests)
 }
 
 #[test]

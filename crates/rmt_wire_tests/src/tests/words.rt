@@ -1,4 +1,5 @@
 //! What stands beside the reader: answers, counted streams, the law of the grammar.
+ghost use Rattle.std.specs.Prelude.{◌≤◌, length};
 ghost use Rattle.rmt_wire.specs.Lent.{plain_reply};
 ghost use Rattle.rmt_wire.specs.Reply.{ReplyHasSpelling};
 ghost use Rattle.rmt_wire.specs.Reply.PlainReply.{Error};
@@ -7,6 +8,7 @@ use super::calls::check_failed;
 use super::checked::expect;
 use rmt_wire::{Counted, OutputFault, Reply, WireFault, one_reading, short_replies, write_reply};
 use std::alloc::Global;
+use std::fmt::Display;
 use std::io::{Read, Write};
 use std::process::Abort;
 use std::test::Fail;
@@ -28,40 +30,61 @@ fn refuse(rt: &impl Abort, out: &mut Said, number: u32, text: &[u8])
     say(rt, out, Reply::Error { number, text });
 }
 
-#[test]
-fn answers_of_a_conversation(rt: HostRuntime) {
-    let mut out = Counted::new(Vec::new(rt.alloc()));
-    say(&rt, &mut out, Reply::Done { number: 0 });
-    say(&rt, &mut out, Reply::Done { number: 5 });
-    say(&rt, &mut out, Reply::Done { number: 1 });
-    say(&rt, &mut out, Reply::Data { bytes: b"hello" });
-    say(&rt, &mut out, Reply::Data { bytes: b"" });
-    say(&rt, &mut out, Reply::Done { number: 10 });
-    say(&rt, &mut out, Reply::Done { number: 2147483647 });
-    say(&rt, &mut out, Reply::Done { number: 7 });
-    say(&rt, &mut out, Reply::Data { bytes: b"abc" });
-    let want = b"A0\nA5\nA1\nA5\nhelloA0\nA10\nA2147483647\nA7\nA3\nabc".as_slice();
-    assert!(rt; out.into_inner().as_slice() == want);
+/// Writes numbers and data.
+fn answer_first(rt: &impl Abort, out: &mut Said) {
+    say(rt, out, Reply::Done { number: 0 });
+    say(rt, out, Reply::Done { number: 5 });
+    say(rt, out, Reply::Done { number: 1 });
+    say(rt, out, Reply::Data { bytes: b"hello" });
+    say(rt, out, Reply::Data { bytes: b"" });
 }
 
+/// Writes more of them, and the greatest number.
+fn answer_then(rt: &impl Abort, out: &mut Said) {
+    say(rt, out, Reply::Done { number: 10 });
+    say(rt, out, Reply::Done { number: 2147483647 });
+    say(rt, out, Reply::Done { number: 7 });
+    say(rt, out, Reply::Data { bytes: b"abc" });
+}
+
+/// Writes errors.
+fn refuse_each(rt: &impl Abort, out: &mut Said) {
+    refuse(rt, out, 9, b"Bad file descriptor");
+    refuse(rt, out, 13, b"Permission denied");
+    refuse(rt, out, 0, b"");
+}
+
+/// What is written of all these.
+const SAID: &[u8] = b"A0\nA5\nA1\nA5\nhelloA0\nA10\nA2147483647\nA7\nA3\nabc\
+E9\nBad file descriptor\nE13\nPermission denied\nE0\n\n";
+
 #[test]
-fn refusals(rt: HostRuntime) {
+fn answers_and_refusals(rt: HostRuntime) {
     let mut out = Counted::new(Vec::new(rt.alloc()));
-    refuse(&rt, &mut out, 9, b"Bad file descriptor");
-    refuse(&rt, &mut out, 13, b"Permission denied");
-    refuse(&rt, &mut out, 0, b"");
-    let want = b"E9\nBad file descriptor\nE13\nPermission denied\nE0\n\n".as_slice();
-    assert!(rt; out.into_inner().as_slice() == want);
+    answer_first(&rt, &mut out);
+    answer_then(&rt, &mut out);
+    refuse_each(&rt, &mut out);
+    assert!(rt; out.into_inner().as_slice() == SAID);
+}
+
+/// The text of a reply with these data.
+fn text_of(rt: &impl Abort, alloc: Global, bytes: &[u8]) -> Vec<u8>
+    requires { length bytes.now ≤ 65536 }
+{
+    let mut out = Counted::new(Vec::new(alloc));
+    say(rt, &mut out, Reply::Data { bytes });
+    out.into_inner()
+}
+
+/// Whether the text is a reply with these data, which are 65,536 bytes.
+fn is_largest(text: &[u8], data: &[u8]) -> bool {
+    text.get(..7) == Some(b"A65536\n".as_slice()) && text.get(7..) == Some(data)
 }
 
 #[test]
 fn a_read_of_the_largest_record(rt: HostRuntime) -> Result<(), Fail> {
     let data = vec![in rt.alloc(); b'E'; 65536]?;
-    let mut out = Counted::new(Vec::new(rt.alloc()));
-    say(&rt, &mut out, Reply::Data { bytes: &data });
-    let text = out.into_inner();
-    assert!(rt; text.get(..7) == Some(b"A65536\n".as_slice()));
-    assert!(rt; text.get(7..) == Some(data.as_slice()));
+    assert!(rt; is_largest(&text_of(&rt, rt.alloc(), &data), &data));
     Ok(())
 }
 
@@ -85,11 +108,15 @@ fn counted_readers_pass_bytes_on(rt: HostRuntime) {
     check_two(&rt, &mut input, &mut piece, 1);
 }
 
+/// Whether it takes three bytes, and no failure is counted.
+fn takes_three(out: &mut Said) -> bool {
+    matches!(out.write(b"abc"), Ok(3)) && out.flush().is_ok() && out.failures() == 0
+}
+
 #[test]
 fn counted_writers_pass_bytes_on(rt: HostRuntime) {
     let mut out = Counted::new(Vec::new(rt.alloc()));
-    assert!(rt; matches!(out.write(b"abc"), Ok(3)));
-    assert!(rt; out.flush().is_ok() && out.failures() == 0);
+    assert!(rt; takes_three(&mut out));
     assert!(rt; out.into_inner().as_slice() == b"abc".as_slice());
 }
 
@@ -101,9 +128,16 @@ fn a_full_stream_is_an_output_fault(rt: HostRuntime) {
     assert!(rt; room == *b"A3\na");
 }
 
-/// Whether the fault prints this name.
-fn is_named(alloc: Global, fault: WireFault, name: &str) -> Result<bool, Fail> {
-    Ok(fault.to_string(alloc)?.as_str() == name)
+/// The fault prints this name.
+fn check_name<F: Display>(
+    rt: &impl Abort,
+    alloc: Global,
+    fault: &F,
+    name: &str,
+) -> Result<(), Fail> {
+    let is_named = fault.to_string(alloc)?.as_str() == name;
+    expect(rt, is_named, name);
+    Ok(())
 }
 
 static NAMES: [(WireFault, &str); 5] = [
@@ -114,13 +148,22 @@ static NAMES: [(WireFault, &str); 5] = [
     (WireFault::TooMuchData, "TooMuchData"),
 ];
 
+/// The faults print their names.
+fn check_names(rt: &impl Abort, alloc: Global, rows: &[(WireFault, &str)]) -> Result<(), Fail> {
+    for (fault, name) in rows {
+        check_name(rt, alloc, fault, name)?;
+    }
+    Ok(())
+}
+
 #[test]
 fn names_of_faults(rt: HostRuntime) -> Result<(), Fail> {
-    for (fault, name) in &NAMES {
-        expect(&rt, is_named(rt.alloc(), *fault, name)?, name);
-    }
-    assert!(rt; OutputFault.to_string(rt.alloc())?.as_str() == "Output");
+    check_names(&rt, rt.alloc(), &NAMES)?;
+    check_name(&rt, rt.alloc(), &OutputFault, "Output")
+}
+
+#[test]
+fn laws_are_called() {
     one_reading();
     short_replies();
-    Ok(())
 }

@@ -95,18 +95,27 @@ fn data_of_few_bytes(rt: HostRuntime) -> Result<(), Fail> {
     Ok(())
 }
 
+/// Errors of a server.
+fn check_first_errors(rt: &impl Abort, alloc: Global) -> Result<(), Fail> {
+    check_error(rt, alloc, 2, b"No such file or directory")?;
+    check_error(rt, alloc, 5, b"Input/output error")?;
+    check_error(rt, alloc, 6, b"Device not configured")?;
+    check_error(rt, alloc, 9, b"Bad file descriptor")
+}
+
+/// Further errors of it.
+fn check_further_errors(rt: &impl Abort, alloc: Global) -> Result<(), Fail> {
+    check_error(rt, alloc, 12, b"Cannot allocate memory")?;
+    check_error(rt, alloc, 13, b"Permission denied")?;
+    check_error(rt, alloc, 16, b"Device busy")?;
+    check_error(rt, alloc, 22, b"Invalid argument")?;
+    check_error(rt, alloc, 28, b"No space left on device")
+}
+
 #[test]
 fn errors_of_a_server(rt: HostRuntime) -> Result<(), Fail> {
-    let alloc = rt.alloc();
-    check_error(&rt, alloc, 2, b"No such file or directory")?;
-    check_error(&rt, alloc, 5, b"Input/output error")?;
-    check_error(&rt, alloc, 6, b"Device not configured")?;
-    check_error(&rt, alloc, 9, b"Bad file descriptor")?;
-    check_error(&rt, alloc, 12, b"Cannot allocate memory")?;
-    check_error(&rt, alloc, 13, b"Permission denied")?;
-    check_error(&rt, alloc, 16, b"Device busy")?;
-    check_error(&rt, alloc, 22, b"Invalid argument")?;
-    check_error(&rt, alloc, 28, b"No space left on device")
+    check_first_errors(&rt, rt.alloc())?;
+    check_further_errors(&rt, rt.alloc())
 }
 
 #[test]
@@ -118,10 +127,9 @@ fn errors_at_the_limits(rt: HostRuntime) -> Result<(), Fail> {
 
 #[test]
 fn the_longest_text(rt: HostRuntime) -> Result<(), Fail> {
-    let said = [b'z'; 255];
     let reply = Reply::Error {
         number: 5,
-        text: &said,
+        text: &[b'z'; 255],
     };
     check_written(&rt, rt.alloc(), &reply, Wanted::Number)
 }

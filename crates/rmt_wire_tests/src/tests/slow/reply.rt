@@ -4,12 +4,12 @@
 ghost use Rattle.rmt_wire.specs.Lent.{plain_wanted};
 ghost use Rattle.rmt_wire.specs.ReplyReader.{IsWithin};
 
-use super::{are_digits, cut_line, last_line, number, value};
+use super::{are_digits, counted_line, cut_line, joined, last_line, number, placed, value};
 use rmt_wire::{Reply, WireFault};
 use std::alloc::{AllocError, Global};
 
 /// What makes a beginning of a reply whole, but for its data. One of these does for each beginning.
-const ENDS: [&[u8]; 6] = [b"", b"\n", b"0\n", b"\n\n", b"0\n\n", b"A0\n"];
+static ENDS: [&[u8]; 6] = [b"", b"\n", b"0\n", b"\n\n", b"0\n\n", b"A0\n"];
 
 /// What a client waits for: a number, or the data of a read, of at most so many bytes. An error comes in place of
 /// each.
@@ -56,57 +56,51 @@ pub(crate) fn split<'a>(
         rest: stream,
         fault: None,
     };
-    found.take_all(stream.len(), wanted)?;
-    let next = wanted.get(found.replies.len()).copied();
-    found.fault = fault_from(alloc, stream, found.rest, next)?;
+    found.take_all(alloc, stream.len(), wanted)?;
     Ok(found)
 }
 
-impl Replies<'_> {
-    /// Takes the replies off the rest of a stream of so many bytes, as long as there are some.
-    fn take_all(&mut self, len: usize, wanted: &[Wanted]) -> Result<(), AllocError> {
+impl<'a> Replies<'a> {
+    /// Takes the replies off the rest, which is a stream of so many bytes, and then the fault of what is left.
+    fn take_all(&mut self, alloc: Global, len: usize, wanted: &[Wanted]) -> Result<(), AllocError> {
         for kind in wanted {
             let Some((reply, later)) = first(self.rest, *kind) else {
                 break;
             };
-            self.replies.push(reply)?;
-            self.ends.push(len.saturating_sub(later.len()))?;
-            self.rest = later;
+            self.take(reply, later, len)?;
         }
+        let next = wanted.get(self.replies.len()).copied();
+        let before = len.saturating_sub(self.rest.len());
+        self.fault = placed(fault_of(alloc, self.rest, next)?, before);
         Ok(())
     }
-}
 
-/// The fault of the rest of a stream, and how many bytes of the stream end with the byte that shows it.
-fn fault_from(
-    alloc: Global,
-    stream: &[u8],
-    rest: &[u8],
-    wanted: Option<Wanted>,
-) -> Result<Option<(WireFault, usize)>, AllocError> {
-    let before = stream.len().saturating_sub(rest.len());
-    match fault_of(alloc, rest, wanted)? {
-        Some((fault, len)) => Ok(Some((fault, before.saturating_add(len)))),
-        None => Ok(None),
+    /// Takes a reply off the rest of a stream of so many bytes.
+    fn take(&mut self, reply: Reply<'a>, later: &'a [u8], len: usize) -> Result<(), AllocError> {
+        self.replies.push(reply)?;
+        self.ends.push(len.saturating_sub(later.len()))?;
+        self.rest = later;
+        Ok(())
     }
 }
 
 /// How much of a reader's room these bytes take, which were pushed and not given, where this is waited for.
 pub(crate) fn taken(unread: &[u8], wanted: Option<Wanted>) -> usize {
-    let Some((b'E', lines)) = unread.split_first() else {
-        return unread.len();
-    };
-    let Some((line, text)) = cut_line(lines) else {
-        return unread.len();
-    };
-    if wanted.is_none() || number(line).is_none() {
-        return unread.len();
+    match counted_line(unread, b'E') {
+        Some((_, text)) if wanted.is_some() => {
+            let dropped = said(text).len().saturating_sub(255);
+            unread.len().saturating_sub(dropped)
+        }
+        _ => unread.len(),
     }
-    let said = match cut_line(text) {
+}
+
+/// What has come of the line of an error's text.
+fn said(text: &[u8]) -> &[u8] {
+    match cut_line(text) {
         Some((said, _)) => said,
         None => text,
-    };
-    unread.len().saturating_sub(said.len().saturating_sub(255))
+    }
 }
 
 /// Whether both are the same reply.
@@ -175,34 +169,27 @@ fn is_open(alloc: Global, bytes: &[u8], wanted: Option<Wanted>) -> Result<bool, 
     let Some(kind) = wanted else {
         return Ok(bytes.is_empty());
     };
-    for end in ENDS {
-        let mut whole = Vec::from_slice(alloc, bytes)?;
-        whole.extend_from_slice(end)?;
-        if spelled(&whole, kind).is_some() || lacks_data(&whole, kind) {
+    for end in &ENDS {
+        if is_whole(&joined(alloc, &[bytes, end])?, kind) {
             return Ok(true);
         }
     }
     Ok(false)
 }
 
+/// Whether the text is a reply to one who waits for this, or one but for some of its data.
+fn is_whole(text: &[u8], wanted: Wanted) -> bool {
+    spelled(text, wanted).is_some() || lacks_data(text, wanted)
+}
+
 /// Whether the text is a reply to a read but for some of its data.
 fn lacks_data(text: &[u8], wanted: Wanted) -> bool {
-    match (data_line(text), wanted) {
+    match (counted_line(text, b'A'), wanted) {
         (Some((count, later)), Wanted::DataUpTo(most)) => {
             count <= most && later.len() < count as usize
         }
         _ => false,
     }
-}
-
-/// The line of a reply with data, as their count, and the bytes after it.
-fn data_line(text: &[u8]) -> Option<(u32, &[u8])> {
-    let (letter, lines) = text.split_first()?;
-    let (line, later) = cut_line(lines)?;
-    if *letter != b'A' {
-        return None;
-    }
-    Some((number(line)?, later))
 }
 
 /// The fault of bytes that begin no reply that is waited for, and how many of them end with the first byte that shows
