@@ -3,6 +3,17 @@
 use super::slow::SlowEntry;
 use dumpdates::{Dates, Entry};
 use std::alloc::Global;
+use std::process::Abort;
+
+/// It is so, or the test ends with this.
+pub(crate) fn expect(rt: &impl Abort, is_so: bool, what: &str) {
+    assert!(rt; is_so, "{what}");
+}
+
+/// The same at one of some places, dates or years.
+pub(crate) fn expect_at(rt: &impl Abort, is_so: bool, at: u64) {
+    assert!(rt; is_so, "at {at}");
+}
 
 /// Enters a dump into a list. Whether that is an entry, and was done.
 pub(crate) fn enter(dates: &mut Dates, name: &str, level: u8, date: u64) -> bool {

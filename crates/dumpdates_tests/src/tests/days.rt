@@ -2,7 +2,7 @@
 
 ghost use Rattle.std.specs.Prelude.{◌<◌, ◌≤◌};
 
-use super::calls::{enter, has_text};
+use super::calls::{enter, expect, expect_at, has_text};
 use super::slow::{date_text, month_days};
 use dumpdates::Dates;
 use std::alloc::{AllocError, Global};
@@ -147,7 +147,7 @@ fn is_written(alloc: Global, date: u64, text: &str) -> Result<bool, AllocError> 
 
 fn check_printed(rt: &impl Abort, alloc: Global, rows: &[(u64, &str)]) -> Result<(), AllocError> {
     for (date, text) in rows {
-        assert!(rt; is_written(alloc, *date, text)?, "{date}");
+        expect(rt, is_written(alloc, *date, text)?, text);
     }
     Ok(())
 }
@@ -161,7 +161,7 @@ fn as_date_prints_them(rt: HostRuntime) -> Result<(), Fail> {
 fn check_day(rt: &impl Abort, alloc: Global, walk: &Walk, second: u64) -> Result<(), AllocError> {
     let text = text_at(alloc, walk, second)?;
     let date = walk.number.wrapping_mul(86_400).wrapping_add(second);
-    assert!(rt; is_written(alloc, date, &text)?, "{text}");
+    expect(rt, is_written(alloc, date, &text)?, &text);
     Ok(())
 }
 
@@ -172,8 +172,7 @@ fn each_day_to_2104(rt: HostRuntime) -> Result<(), Fail> {
         check_day(&rt, rt.alloc(), &walk, number * 7919 % 86_400)?;
         walk.step();
     }
-    assert!(rt; walk.number == 49_308);
-    assert!(rt; walk.is_at(2105, 0, 1));
+    assert!(rt; walk.number == 49_308 && walk.is_at(2105, 0, 1));
     Ok(())
 }
 
@@ -209,10 +208,10 @@ fn are_days(dates: &Dates, first: u64) -> bool {
     let mut number = first;
     for at in 0..dates.len() {
         let date = number.wrapping_mul(86_400).wrapping_add(number % 86_400);
-        if dates.get(at).map(|e| e.date) != Some(date) {
-            return false;
+        match dates.get(at) {
+            Some(entry) if entry.date == date => number = number.saturating_add(1),
+            _ => return false,
         }
-        number = number.saturating_add(1);
     }
     true
 }
@@ -234,7 +233,7 @@ fn check_year(
 ) -> Result<(), AllocError> {
     let first = walk.number;
     let text = year_text(alloc, walk)?;
-    assert!(rt; is_year(alloc, &text, first), "{year}");
+    expect_at(rt, is_year(alloc, &text, first), year);
     Ok(())
 }
 
@@ -244,7 +243,6 @@ fn each_day_of_the_range(rt: HostRuntime) -> Result<(), Fail> {
     for year in 1970..10000u64 {
         check_year(&rt, rt.alloc(), &mut walk, year)?;
     }
-    assert!(rt; walk.is_at(10000, 0, 1));
-    assert!(rt; walk.number == 2_932_897);
+    assert!(rt; walk.is_at(10000, 0, 1) && walk.number == 2_932_897);
     Ok(())
 }

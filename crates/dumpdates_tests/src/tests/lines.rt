@@ -2,7 +2,7 @@
 
 ghost use Rattle.std.specs.Prelude.{◌<◌, length};
 
-use super::calls::{has_text, is_read_as};
+use super::calls::{expect, expect_at, has_text, is_read_as};
 use super::slow::{read, text_read};
 use dumpdates::{Dates, DatesFault};
 use std::alloc::{AllocError, Global};
@@ -69,7 +69,7 @@ fn check_each_byte(rt: &impl Abort, alloc: Global, at: usize) -> Result<(), Allo
     requires { at < length LINE.now }
 {
     for byte in 0..=255u8 {
-        assert!(rt; agree_with(alloc, at, byte)?, "{byte} at {at}");
+        expect_at(rt, agree_with(alloc, at, byte)?, u64::from(byte));
     }
     Ok(())
 }
@@ -77,7 +77,7 @@ fn check_each_byte(rt: &impl Abort, alloc: Global, at: usize) -> Result<(), Allo
 #[test]
 fn any_byte_in_any_place(rt: HostRuntime) -> Result<(), Fail> {
     for at in 0..LINE.len() {
-        assert!(rt; agree_without(rt.alloc(), at)?, "without {at}");
+        expect_at(&rt, agree_without(rt.alloc(), at)?, at as u64);
         check_each_byte(&rt, rt.alloc(), at)?;
     }
     Ok(())
@@ -133,7 +133,7 @@ static NO_DATES: [&str; 10] = [
 /// Texts of one line with this fault.
 fn check_refused(rt: &impl Abort, alloc: Global, lines: &[&str], fault: DatesFault) {
     for line in lines {
-        assert!(rt; is_refused(alloc, line.as_bytes(), fault), "{line}");
+        expect(rt, is_refused(alloc, line.as_bytes(), fault), line);
     }
 }
 

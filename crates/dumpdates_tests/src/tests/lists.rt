@@ -2,7 +2,7 @@
 
 ghost use Rattle.std.specs.Prelude.{◌<◌};
 
-use super::calls::{enter, has_text};
+use super::calls::{enter, expect_at, has_text};
 use super::slow::{SlowEntry, base, entered, slow_entry, text};
 use dumpdates::{Dates, DatesFault};
 use std::alloc::{AllocError, Global};
@@ -87,10 +87,10 @@ fn check_list(rt: &impl Abort, alloc: Global, len: usize, number: usize) -> Resu
     requires { number < 512 }
 {
     let list = list_numbered(alloc, len, number)?;
-    for other in [number, number / 8, number / 64 + number] {
-        let good = agree_numbered(alloc, &list, other)?;
-        assert!(rt; good, "{len}, {number}, {other}");
-    }
+    let is_well = agree_numbered(alloc, &list, number)?
+        && agree_numbered(alloc, &list, number / 8)?
+        && agree_numbered(alloc, &list, number / 64 + number)?;
+    expect_at(rt, is_well, number as u64);
     Ok(())
 }
 

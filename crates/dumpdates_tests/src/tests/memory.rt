@@ -10,17 +10,15 @@ const TEXT: &[u8] = b"/usr                             0 Tue Feb 29 00:00:00 200
 /usr                             1 Tue Feb 29 00:00:00 2000\n\
 /home                            0 Thu Jan  1 00:00:00 1970\n";
 
-/// A list that is written and takes a new entry.
-fn check_ample(rt: &impl Abort, dates: &mut Dates) {
-    assert!(rt; has_text(dates, TEXT));
-    assert!(rt; enter(dates, "/var", 1, 5));
-    assert!(rt; dates.base("/var", 2) == 5);
+/// Whether a list is written, and takes a new entry.
+fn is_ample(dates: &mut Dates) -> bool {
+    has_text(dates, TEXT) && enter(dates, "/var", 1, 5) && dates.base("/var", 2) == 5
 }
 
 #[test]
 fn ample_memory(rt: HostRuntime) -> Result<(), Fail> {
     let mut dates = Dates::read(rt.alloc(), TEXT)?;
-    check_ample(&rt, &mut dates);
+    assert!(rt; is_ample(&mut dates));
     Ok(())
 }
 
@@ -46,14 +44,12 @@ fn changes_or_not(rt: &impl Abort, dates: &mut Dates, entry: Entry<'_>) {
     assert!(rt; dates.base("/var", 9) == 0);
     let entered = had(rt, dates.enter(entry)).is_some();
     let wanted = if entered { entry.date } else { 0 };
-    assert!(rt; dates.base("/var", 9) == wanted);
-    assert!(rt; dates.base("/usr", 1) == 951782400);
+    assert!(rt; dates.base("/var", 9) == wanted && dates.base("/usr", 1) == 951782400);
 }
 
 /// An entry in the place of one of its name and level, which takes no memory.
 fn changes(rt: &impl Abort, dates: &mut Dates, entry: Entry<'_>) {
-    assert!(rt; dates.enter(entry).is_ok());
-    assert!(rt; dates.base("/usr", 2) == 951782400);
+    assert!(rt; dates.enter(entry).is_ok() && dates.base("/usr", 2) == 951782400);
 }
 
 /// The text, written where memory is had.

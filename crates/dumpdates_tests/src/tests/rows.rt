@@ -1,6 +1,6 @@
 //! Texts, entries and dates that were worked out by hand.
 
-use super::calls::{dates_of, enter, has_text, is_read_as};
+use super::calls::{dates_of, enter, expect, expect_at, has_text, is_read_as};
 use super::slow::{read, slow_list, text, text_read};
 use dumpdates::{
     Dates, DatesFault, Entry, LAST_SECOND, is_name, one_entry, one_reading, written_and_read,
@@ -72,7 +72,7 @@ a                                3 Tue Feb 29 12:34:56 2000\n\
 
 fn check_written(rt: &impl Abort, alloc: Global, rows: &[(&[Row], &str)]) {
     for (entries, wanted) in rows {
-        assert!(rt; is_written(alloc, entries, wanted.as_bytes()), "{wanted}");
+        expect(rt, is_written(alloc, entries, wanted.as_bytes()), wanted);
     }
 }
 
@@ -104,7 +104,7 @@ fn check_spelled(
     rows: &[(&str, &[Row])],
 ) -> Result<(), AllocError> {
     for (bytes, entries) in rows {
-        assert!(rt; spells(alloc, bytes.as_bytes(), entries)?, "{bytes}");
+        expect(rt, spells(alloc, bytes.as_bytes(), entries)?, bytes);
     }
     Ok(())
 }
@@ -136,7 +136,7 @@ static BAD: [(&str, DatesFault); 10] = [
 
 fn check_bad(rt: &impl Abort, alloc: Global, rows: &[(&str, DatesFault)]) {
     for (bytes, fault) in rows {
-        assert!(rt; has_fault(alloc, bytes.as_bytes(), *fault), "{bytes}");
+        expect(rt, has_fault(alloc, bytes.as_bytes(), *fault), bytes);
     }
 }
 
@@ -159,7 +159,7 @@ static BASES: [Row; 4] = [
 
 fn check_bases(rt: &impl Abort, dates: &Dates) {
     for (name, level, wanted) in &BASES {
-        assert!(rt; dates.base(name, *level) == *wanted, "{name} {level}");
+        expect(rt, dates.base(name, *level) == *wanted, name);
     }
 }
 
@@ -176,19 +176,21 @@ const DOUBLES: &[u8] = b"/usr                             0 Thu Jan  1 00:01:40 
 
 const NO_DOUBLES: &[u8] = b"/usr                             0 Thu Jan  1 00:01:10 1970\n";
 
-fn check_doubles(rt: &impl Abort, dates: &mut Dates) {
-    assert!(rt; dates.base("/usr", 1) == 100);
-    assert!(rt; has_text(dates, DOUBLES));
-    assert!(rt; enter(dates, "/usr", 0, 70));
-    assert!(rt; dates.base("/usr", 1) == 70);
-    assert!(rt; has_text(dates, NO_DOUBLES));
+/// Whether a list has that base date, and this text.
+fn is_at(dates: &Dates, base: u64, text: &[u8]) -> bool {
+    dates.base("/usr", 1) == base && has_text(dates, text)
+}
+
+/// Whether the doubles are there, and an entry takes them out.
+fn loses_doubles(dates: &mut Dates) -> bool {
+    is_at(dates, 100, DOUBLES) && enter(dates, "/usr", 0, 70) && is_at(dates, 70, NO_DOUBLES)
 }
 
 #[test]
 fn doubles_are_read_and_taken_out(rt: HostRuntime) -> Result<(), Fail> {
     let bytes = b"/usr 0 Thu Jan 1 00:01:40 1970\n/usr 0 Thu Jan 1 00:00:50 1970\n";
     let mut dates = Dates::read(rt.alloc(), bytes)?;
-    check_doubles(&rt, &mut dates);
+    assert!(rt; loses_doubles(&mut dates));
     Ok(())
 }
 
@@ -203,17 +205,15 @@ const KEPT_PLACES: &[u8] = b"/usr                             0 Tue Feb 29 00:00
 /usr                             1 Wed Mar  1 00:00:00 2000\n\
 /home                            0 Thu Jan  1 00:00:00 1970\n";
 
-fn check_kept(rt: &impl Abort, dates: &mut Dates) {
-    for _ in 0..2 {
-        assert!(rt; enter(dates, "/usr", 1, 951868800));
-        assert!(rt; has_text(dates, KEPT_PLACES));
-    }
+/// Whether it has that text once the entry is entered.
+fn is_kept(dates: &mut Dates) -> bool {
+    enter(dates, "/usr", 1, 951868800) && has_text(dates, KEPT_PLACES)
 }
 
 #[test]
 fn entering_keeps_places(rt: HostRuntime) -> Result<(), Fail> {
     let mut dates = list_of(rt.alloc(), &PLACES).ok_or("a list")?;
-    check_kept(&rt, &mut dates);
+    assert!(rt; is_kept(&mut dates) && is_kept(&mut dates));
     Ok(())
 }
 
@@ -228,7 +228,7 @@ static LIMITS: [(&str, u8, u64, bool); 4] = [
 fn check_limits(rt: &impl Abort) {
     for (name, level, date, good) in &LIMITS {
         let made = Entry::new(name, *level, *date).is_some();
-        assert!(rt; made == *good, "{level} {date}");
+        expect_at(rt, made == *good, *date);
     }
 }
 
@@ -256,10 +256,26 @@ static NAMES: [(&str, bool); 12] = [
     ("\u{e9}", false),
 ];
 
+/// Whether a name is one, here and in an entry.
+fn is_taken(name: &str) -> bool {
+    is_name(name.as_bytes())
+        && Entry::new(name, 0, 0).is_some()
+        && Entry::new(name, 9, LAST_SECOND).is_some()
+}
+
+/// Whether a name is none, here and in an entry.
+fn is_refused(name: &str) -> bool {
+    !is_name(name.as_bytes()) && Entry::new(name, 0, 0).is_none()
+}
+
 fn check_names(rt: &impl Abort, rows: &[(&str, bool)]) {
     for (name, good) in rows {
-        assert!(rt; is_name(name.as_bytes()) == *good, "{name}");
-        assert!(rt; Entry::new(name, 0, 0).is_some() == *good, "{name}");
+        let is_well = if *good {
+            is_taken(name)
+        } else {
+            is_refused(name)
+        };
+        expect(rt, is_well, name);
     }
 }
 
@@ -267,16 +283,6 @@ fn check_names(rt: &impl Abort, rows: &[(&str, bool)]) {
 fn names_that_are_some_and_none(rt: HostRuntime) {
     check_names(&rt, &NAMES);
     assert!(rt; !is_name(&[255]) && !is_name(&[b'a', 0]));
-}
-
-/// Whether a name is one, here and in an entry.
-fn is_taken(name: &str) -> bool {
-    is_name(name.as_bytes()) && Entry::new(name, 9, LAST_SECOND).is_some()
-}
-
-/// Whether a name is none, here and in an entry.
-fn is_refused(name: &str) -> bool {
-    !is_name(name.as_bytes()) && Entry::new(name, 0, 0).is_none()
 }
 
 /// A name of so many bytes.
@@ -305,12 +311,19 @@ static FIELDS: [Row; 3] = [
 ];
 
 fn check_places(rt: &impl Abort, dates: &Dates) {
-    assert!(rt; dates.len() == 3);
     for (at, fields) in FIELDS.iter().enumerate() {
-        let told = dates.get(at).map(|e| (e.name, e.level, e.date));
-        assert!(rt; told == Some(*fields), "{at}");
+        expect_at(rt, is_entry(dates, at, *fields), at as u64);
     }
-    assert!(rt; dates.get(3).is_none() && dates.get(usize::MAX).is_none());
+    let has_no_more = dates.get(3).is_none() && dates.get(usize::MAX).is_none();
+    expect(rt, dates.len() == 3 && has_no_more, "three entries");
+}
+
+/// Whether a list has this entry at that place.
+fn is_entry(dates: &Dates, at: usize, fields: Row) -> bool {
+    match dates.get(at) {
+        Some(entry) => (entry.name, entry.level, entry.date) == fields,
+        None => false,
+    }
 }
 
 /// Each entry by its place, and none behind the last.
@@ -338,10 +351,16 @@ static FAULTS: [(DatesFault, &str); 3] = [
     (DatesFault::OutOfMemory, "out of memory"),
 ];
 
+/// Whether the fault prints this name.
+fn is_named(alloc: Global, fault: DatesFault, name: &str) -> Result<bool, AllocError> {
+    let printed = fault.to_string(alloc)?;
+    Ok(printed.as_str() == name)
+}
+
 #[test]
 fn names_of_faults(rt: HostRuntime) -> Result<(), Fail> {
     for (fault, name) in &FAULTS {
-        assert!(rt; fault.to_string(rt.alloc())?.as_str() == *name, "{name}");
+        expect(&rt, is_named(rt.alloc(), *fault, name)?, name);
     }
     Ok(())
 }

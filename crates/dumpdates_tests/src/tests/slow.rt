@@ -1,7 +1,7 @@
 //! The file read and written, and its list asked and changed, computed anew from whole lists, to compare with. Days are
 //! counted year by year and month by month from 1970 on. The names and limits are those of the file, written anew.
 
-ghost use Rattle.std.specs.Prelude.{◌^◌, ◌<◌, ◌≤◌, IfSome};
+ghost use Rattle.std.specs.Prelude.{◌≤◌};
 
 use dumpdates::DatesFault;
 use std::alloc::{AllocError, Global};
@@ -124,7 +124,22 @@ fn spoken<'a>(words: &[&'a [u8]]) -> Option<(&'a str, u8, Option<u64>)> {
 
 /// The place of a word in a list.
 fn place(list: &[&str], word: &[u8]) -> Option<usize> {
-    list.iter().position(|w| w.as_bytes() == word)
+    for (at, one) in list.iter().enumerate() {
+        if one.as_bytes() == word {
+            return Some(at);
+        }
+    }
+    None
+}
+
+/// Whether each byte of a word lies between these.
+fn are_within(word: &[u8], least: u8, greatest: u8) -> bool {
+    for byte in word {
+        if *byte < least || *byte > greatest {
+            return false;
+        }
+    }
+    true
 }
 
 /// The level that a word is.
@@ -134,7 +149,7 @@ fn spoken_level(word: &[u8]) -> Option<u8> {
 
 /// The name that a word is.
 fn spoken_name<'a>(word: &'a [u8]) -> Option<&'a str> {
-    if word.len() > 255 || !word.iter().all(|b| *b > 32 && *b < 127) {
+    if word.len() > 255 || !are_within(word, 33, 126) {
         return None;
     }
     std::str::from_utf8(word).ok()
@@ -153,13 +168,21 @@ fn spoken_date(words: &[&[u8]]) -> Option<Option<u64>> {
 }
 
 /// The number of so many digits that a word is.
-fn number(word: &[u8], least: usize, most: usize) -> Option<u64>
-    ensures { IfSome result (λ n. n < 2 ^ 32) }
-{
-    if word.len() < least || word.len() > most || !word.iter().all(|b| b.is_ascii_digit()) {
+fn number(word: &[u8], least: usize, most: usize) -> Option<u64> {
+    if word.len() < least || word.len() > most || !are_within(word, b'0', b'9') {
         return None;
     }
-    Some(u64::from(std::str::from_utf8(word).ok()?.parse::<u32>().ok()?))
+    Some(value(word))
+}
+
+/// What these few digits write.
+fn value(digits: &[u8]) -> u64 {
+    let mut value = 0u64;
+    for digit in digits {
+        let unit = u64::from(digit.wrapping_sub(b'0'));
+        value = value.wrapping_mul(10).wrapping_add(unit);
+    }
+    value
 }
 
 /// The second of the day, where the word has the shape of a time; where it is no time, a second of no day.
@@ -320,19 +343,31 @@ pub(crate) fn entered(
     entry: &SlowEntry,
 ) -> Result<Vec<SlowEntry>, AllocError> {
     let mut list = Vec::new(alloc);
+    push_entered(alloc, &mut list, entries, entry)?;
+    Ok(list)
+}
+
+/// Adds the entries of that list to one without entries.
+fn push_entered(
+    alloc: Global,
+    list: &mut Vec<SlowEntry>,
+    entries: &[SlowEntry],
+    entry: &SlowEntry,
+) -> Result<(), AllocError> {
     let mut is_in = false;
     for old in entries {
         let is_same = has_key(old, entry);
-        if !is_same || !is_in {
-            let date = if is_same { entry.date } else { old.date };
-            push(alloc, &mut list, &old.name, old.level, date)?;
+        if !is_same {
+            push(alloc, list, &old.name, old.level, old.date)?;
+        } else if !is_in {
+            push(alloc, list, &entry.name, entry.level, entry.date)?;
         }
         is_in = is_in || is_same;
     }
-    if !is_in {
-        push(alloc, &mut list, &entry.name, entry.level, entry.date)?;
+    if is_in {
+        return Ok(());
     }
-    Ok(list)
+    push(alloc, list, &entry.name, entry.level, entry.date)
 }
 
 /// Whether both entries have one name and one level.
