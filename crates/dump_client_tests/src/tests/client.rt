@@ -4,9 +4,8 @@ use super::play::Move::{
     Asks, AsksPadded, AsksStep, CannotStart, CannotTake, Fails, Goes, Hears, HearsIt, Stands,
     Starts, Takes, Tells, Volume,
 };
-use super::play::{Case, Move, ONCE, check_cases};
+use super::play::{Case, Move, ONCE, check_case, check_cases};
 use super::slow::SlowRun;
-use super::talk::{BLOCKS, RUN};
 use dump_client::Progress::{Ended, Send};
 use dump_client::{Answer, AttemptFault, State};
 use std::test::Fail;
@@ -203,66 +202,75 @@ const GREATEST_BLOCKS: &[Move] = &[
     Stands(State::Finished, &[(1, 0, 2)], (2, 2)),
 ];
 
-static CASES: [Case; 8] = [
+static CASES: [Case; 6] = [
     Case {
         name: "a run without blocks",
-        run: RUN,
-        blocks: &[],
+        blocks: 0,
         pieces: ONCE,
         moves: WITHOUT_BLOCKS,
     },
     Case {
         name: "a reel too small",
-        run: RUN,
-        blocks: &[&[0; 1024]],
+        blocks: 1,
         pieces: ONCE,
         moves: TOO_SMALL,
     },
     Case {
         name: "a run that is abandoned",
-        run: RUN,
-        blocks: &[&[0; 1024]],
+        blocks: 1,
         pieces: ONCE,
         moves: ABANDONED,
     },
     Case {
         name: "calls in a wrong state",
-        run: RUN,
-        blocks: &[],
+        blocks: 0,
         pieces: ONCE,
         moves: IN_A_WRONG_STATE,
     },
     Case {
         name: "two volumes",
-        run: RUN,
-        blocks: &BLOCKS,
+        blocks: 3,
         pieces: &[b"A0\n", b"E28\nany text\n", b"E28\n\n"],
         moves: TWO_VOLUMES,
     },
     Case {
         name: "a label that is refused",
-        run: RUN,
-        blocks: &BLOCKS,
+        blocks: 3,
         pieces: ONCE,
         moves: LABEL_REFUSED,
     },
-    Case {
-        name: "small blocks",
-        run: OTHER,
-        blocks: &[&[0; 3], &[1; 3]],
-        pieces: ONCE,
-        moves: SMALL_BLOCKS,
-    },
-    Case {
-        name: "the greatest blocks",
-        run: GREATEST,
-        blocks: &[&[0; 65536], &[1; 65536]],
-        pieces: ONCE,
-        moves: GREATEST_BLOCKS,
-    },
 ];
+
+/// The conversations.
+fn cases() -> &'static [Case] {
+    &CASES
+}
 
 #[test]
 fn whole_attempts(rt: HostRuntime) -> Result<(), Fail> {
-    check_cases(&rt, rt.alloc(), &CASES)
+    check_cases(&rt, rt.alloc(), cases())
+}
+
+static SMALL: [&[u8]; 2] = [&[0; 3], &[1; 3]];
+
+static SMALL_CASE: Case = Case {
+    name: "small blocks",
+    blocks: 2,
+    pieces: ONCE,
+    moves: SMALL_BLOCKS,
+};
+
+static LARGE: [&[u8]; 2] = [&[0; 65536], &[1; 65536]];
+
+static GREATEST_CASE: Case = Case {
+    name: "the greatest blocks",
+    blocks: 2,
+    pieces: ONCE,
+    moves: GREATEST_BLOCKS,
+};
+
+#[test]
+fn blocks_of_other_sizes(rt: HostRuntime) -> Result<(), Fail> {
+    check_case(&rt, rt.alloc(), OTHER, &SMALL, &SMALL_CASE)?;
+    check_case(&rt, rt.alloc(), GREATEST, &LARGE, &GREATEST_CASE)
 }

@@ -1,11 +1,9 @@
 //! An attempt whose replies come in pieces, and one that is cut off behind each byte of them.
 
-ghost use Rattle.std.specs.Prelude.{◌<◌};
-
 use super::slow::{Scripted, script};
-use super::talk::{BLOCKS, RUN, Talk};
+use super::talk::{BLOCKS, RUN, Talk, expect_at};
 use dump_client::{AttemptFault, Progress, State};
-use std::alloc::Global;
+use std::alloc::{AllocError, Global};
 use std::process::Abort;
 use std::test::Fail;
 
@@ -25,28 +23,61 @@ static REPLIES: [&[u8]; 9] = [
 /// How many of them have come when the volume is counted.
 const COUNTED: usize = 8;
 
+/// How the replies of an attempt come.
+#[derive(Clone, Copy)]
+enum Way {
+    /// In pieces of so many bytes.
+    Pieces(usize),
+    /// One of them in two pieces, cut behind so many bytes, and all others whole.
+    InTwo(usize, usize),
+    /// So many bytes of them, and then the connection ends. Where they end with a reply, it is said whether the next
+    /// request has been sent.
+    CutOff(usize, bool),
+}
+
 /// A client of three blocks that writes two of them to its first volume.
 #[derive(Drop)]
 struct Attempt {
     talk: Talk,
     script: Vec<Scripted>,
+    /// The script of the second volume.
+    last: Vec<Scripted>,
     /// How many replies have come whole.
     whole: usize,
 }
 
 impl Attempt {
-    /// It has started.
+    /// It has not started.
     fn new(alloc: Global) -> Result<Attempt, Fail> {
-        let script = script(alloc, RUN, &BLOCKS, 1, 0, 2)?;
-        let mut talk = Talk::new(alloc, 3)?;
-        if script.len() != REPLIES.len() || !talk.starts() {
-            return Err(Fail::new("no attempt of as many steps"));
-        }
-        Ok(Attempt {
-            talk,
-            script,
+        let mut attempt = Attempt {
+            talk: Talk::new(alloc, 3)?,
+            script: Vec::new(alloc),
+            last: Vec::new(alloc),
             whole: 0,
-        })
+        };
+        attempt.write_scripts(alloc)?;
+        Ok(attempt)
+    }
+
+    /// Writes the scripts of both volumes.
+    fn write_scripts(&mut self, alloc: Global) -> Result<(), AllocError> {
+        self.script = script(alloc, RUN, &BLOCKS, 1, 0, 2)?;
+        self.last = script(alloc, RUN, &BLOCKS, 2, 2, 1)?;
+        Ok(())
+    }
+
+    /// It starts, with as many steps as there are replies.
+    fn starts(&mut self) -> bool {
+        self.script.len() == REPLIES.len() && self.talk.starts()
+    }
+
+    /// It goes on to its end with replies that come so.
+    fn goes_on(&mut self, way: Way) -> bool {
+        match way {
+            Way::Pieces(most) => self.goes_on_to_the_end(most),
+            Way::InTwo(at, cut) => self.goes_on_with_a_cut(at, cut),
+            Way::CutOff(bytes, asks) => self.finishes_after_a_cut(bytes, asks),
+        }
     }
 
     /// It asks what is next.
@@ -80,12 +111,10 @@ impl Attempt {
     }
 
     /// It asks, and hears a reply in pieces of so many bytes.
-    fn goes_on_in_pieces(&mut self, reply: &[u8], most: usize) -> bool
-        requires { 0 < most }
-    {
+    fn goes_on_in_pieces(&mut self, reply: &[u8], most: usize) -> bool {
         let mut good = self.asks();
         let mut left = reply.len();
-        for piece in reply.chunks(most) {
+        for piece in reply.chunks(most.max(1)) {
             good = good
                 && if piece.len() < left {
                     self.hears_part(piece)
@@ -98,9 +127,7 @@ impl Attempt {
     }
 
     /// It asks and hears to the end of the attempt, in pieces of so many bytes.
-    fn goes_on_to_the_end(&mut self, most: usize) -> bool
-        requires { 0 < most }
-    {
+    fn goes_on_to_the_end(&mut self, most: usize) -> bool {
         for reply in &REPLIES {
             if !self.goes_on_in_pieces(reply, most) {
                 return false;
@@ -178,101 +205,74 @@ impl Attempt {
     }
 
     /// The second volume is written, and the run finished.
-    fn finishes(&mut self, last: &[Scripted]) -> bool {
+    fn finishes(&mut self) -> bool {
         self.talk.starts()
-            && self.talk.goes_through(last, 0, last.len())
+            && self.talk.goes_through(&self.last, 0, self.last.len())
             && self
                 .talk
                 .stands(State::Finished, &[(1, 0, 2), (2, 2, 1)], (3, 3))
     }
 
     /// The connection ends behind so many bytes of the replies, and the run is dumped to its end on others.
-    fn finishes_after_a_cut(&mut self, bytes: usize, asks: bool, last: &[Scripted]) -> bool {
-        self.goes_on_for(bytes, asks) && self.is_cut() && self.goes_anew() && self.finishes(last)
+    fn finishes_after_a_cut(&mut self, bytes: usize, asks: bool) -> bool {
+        self.goes_on_for(bytes, asks) && self.is_cut() && self.goes_anew() && self.finishes()
     }
 }
 
-/// Whether an attempt whose replies all come in pieces of so many bytes goes to its end.
-fn goes_in_pieces(alloc: Global, most: usize) -> Result<bool, Fail>
-    requires { 0 < most }
-{
+/// Whether an attempt goes to its end with replies that come so.
+fn goes_so(alloc: Global, way: Way) -> Result<bool, Fail> {
     let mut attempt = Attempt::new(alloc)?;
-    Ok(attempt.goes_on_to_the_end(most))
+    Ok(attempt.starts() && attempt.goes_on(way))
 }
 
-/// All replies come in pieces of so many bytes.
-fn check_pieces(rt: &impl Abort, alloc: Global, most: usize) -> Result<(), Fail>
-    requires { 0 < most }
-{
-    let good = goes_in_pieces(alloc, most)?;
-    assert!(rt; good, "{most}");
+/// It goes so, where this is the place of the cut.
+fn check_way(rt: &impl Abort, alloc: Global, way: Way, at: usize) -> Result<(), Fail> {
+    expect_at(rt, goes_so(alloc, way)?, at);
     Ok(())
 }
 
+/// How many bytes a piece has.
+static SIZES: [usize; 4] = [100, 1, 2, 3];
+
 #[test]
 fn replies_in_pieces(rt: HostRuntime) -> Result<(), Fail> {
-    let alloc = rt.alloc();
-    check_pieces(&rt, alloc, 100)?;
-    check_pieces(&rt, alloc, 1)?;
-    check_pieces(&rt, alloc, 2)?;
-    check_pieces(&rt, alloc, 3)
+    for size in &SIZES {
+        check_way(&rt, rt.alloc(), Way::Pieces(*size), *size)?;
+    }
+    Ok(())
 }
 
-/// Whether an attempt goes to its end where one reply comes in two pieces, and all others whole.
-fn goes_with_a_cut(alloc: Global, at: usize, cut: usize) -> Result<bool, Fail> {
-    let mut attempt = Attempt::new(alloc)?;
-    Ok(attempt.goes_on_with_a_cut(at, cut))
-}
-
-/// One reply comes in two pieces, and all others whole.
-fn check_two_pieces(rt: &impl Abort, alloc: Global, at: usize, cut: usize) -> Result<(), Fail> {
-    let good = goes_with_a_cut(alloc, at, cut)?;
-    assert!(rt; good, "{at}, {cut}");
+/// One reply comes in two pieces, cut behind each number of bytes.
+fn check_in_two(rt: &impl Abort, alloc: Global, number: usize, len: usize) -> Result<(), Fail> {
+    for cut in 0..len {
+        check_way(rt, alloc, Way::InTwo(number, cut), cut)?;
+    }
     Ok(())
 }
 
 #[test]
 fn each_reply_in_two(rt: HostRuntime) -> Result<(), Fail> {
     for (number, reply) in REPLIES.iter().enumerate() {
-        for cut in 0..reply.len() {
-            check_two_pieces(&rt, rt.alloc(), number, cut)?;
-        }
+        check_in_two(&rt, rt.alloc(), number, reply.len())?;
     }
     Ok(())
 }
 
-/// Whether the run is finished after such a cut, with this script of its last volume.
-fn goes_past_a_cut(
-    alloc: Global,
-    bytes: usize,
-    asks: bool,
-    last: &[Scripted],
-) -> Result<bool, Fail> {
-    let mut attempt = Attempt::new(alloc)?;
-    Ok(attempt.finishes_after_a_cut(bytes, asks, last))
-}
-
-/// Whether the run is finished after such a cut.
-fn is_finished_after(alloc: Global, bytes: usize, asks: bool) -> Result<bool, Fail> {
-    let last = script(alloc, RUN, &BLOCKS, 2, 2, 1)?;
-    goes_past_a_cut(alloc, bytes, asks, &last)
-}
-
-/// The run is finished after such a cut.
-fn check_cut(rt: &impl Abort, alloc: Global, bytes: usize, asks: bool) -> Result<(), Fail> {
-    let good = is_finished_after(alloc, bytes, asks)?;
-    assert!(rt; good, "{bytes}, {asks}");
-    Ok(())
+/// How many bytes the replies have.
+fn all_bytes() -> usize {
+    let mut all = 0usize;
+    for reply in &REPLIES {
+        all = all.saturating_add(reply.len());
+    }
+    all
 }
 
 #[test]
 fn a_cut_behind_each_byte(rt: HostRuntime) -> Result<(), Fail> {
-    let all = REPLIES
-        .iter()
-        .fold(0usize, |sum, reply| sum.saturating_add(reply.len()));
+    let all = all_bytes();
     for bytes in 0..all {
-        check_cut(&rt, rt.alloc(), bytes, false)?;
-        check_cut(&rt, rt.alloc(), bytes, true)?;
+        check_way(&rt, rt.alloc(), Way::CutOff(bytes, false), bytes)?;
+        check_way(&rt, rt.alloc(), Way::CutOff(bytes, true), bytes)?;
     }
-    check_cut(&rt, rt.alloc(), all, false)
+    check_way(&rt, rt.alloc(), Way::CutOff(all, false), all)
 }

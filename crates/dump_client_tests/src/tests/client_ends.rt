@@ -5,7 +5,6 @@ use super::play::Move::{
     Volume,
 };
 use super::play::{Case, Move, ONCE, check_cases};
-use super::talk::{BLOCKS, RUN};
 use dump_client::Progress::{Ended, Send, Waiting};
 use dump_client::{Answer, AttemptFault, State};
 use std::test::Fail;
@@ -133,63 +132,60 @@ const ABANDONED: &[Move] = &[
 static CASES: [Case; 8] = [
     Case {
         name: "bytes with the reply that counts",
-        run: RUN,
-        blocks: &[],
+        blocks: 0,
         pieces: &[b"A1\nzz", b"A1\nA0\n", b"A1\nA", b"A0000000001\n\n"],
         moves: WITH_THE_COUNT,
     },
     Case {
         name: "bytes before the close is asked",
-        run: RUN,
-        blocks: &[],
+        blocks: 0,
         pieces: NOISE,
         moves: BEFORE_THE_CLOSE,
     },
     Case {
         name: "answers to the close",
-        run: RUN,
-        blocks: &[],
+        blocks: 0,
         pieces: ANSWERS,
         moves: TO_THE_CLOSE,
     },
     Case {
         name: "the connection ends before the close",
-        run: RUN,
-        blocks: &[],
+        blocks: 0,
         pieces: ONCE,
         moves: CUT_BEFORE_THE_CLOSE,
     },
     Case {
         name: "the connection ends at the close",
-        run: RUN,
-        blocks: &[],
+        blocks: 0,
         pieces: &[b"", b"A", b"E5\n", b"E5\nzz"],
         moves: CUT_AT_THE_CLOSE,
     },
     Case {
         name: "a volume that is not the last",
-        run: RUN,
-        blocks: &BLOCKS,
+        blocks: 3,
         pieces: ONCE,
         moves: NOT_THE_LAST,
     },
     Case {
         name: "a client between attempts",
-        run: RUN,
-        blocks: &BLOCKS,
+        blocks: 3,
         pieces: ONCE,
         moves: BETWEEN_ATTEMPTS,
     },
     Case {
         name: "an abandoned client",
-        run: RUN,
-        blocks: &BLOCKS,
+        blocks: 3,
         pieces: ONCE,
         moves: ABANDONED,
     },
 ];
 
+/// The conversations.
+fn cases() -> &'static [Case] {
+    &CASES
+}
+
 #[test]
 fn ends_of_attempts(rt: HostRuntime) -> Result<(), Fail> {
-    check_cases(&rt, rt.alloc(), &CASES)
+    check_cases(&rt, rt.alloc(), cases())
 }

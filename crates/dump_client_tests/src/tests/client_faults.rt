@@ -2,13 +2,12 @@
 //! second volume. Of three blocks, the first is counted, and the others are to be written.
 
 use super::play::Move::{
-    AsksStep, Ends, Fails, FailsAt, Goes, Hears, HearsIt, IsIdle, Stands, Starts, Takes, Volume,
+    AsksStep, Ends, Fails, FailsAt, FailsAtLong, Goes, Hears, HearsIt, IsIdle, Stands, Starts,
+    Takes, Volume,
 };
-use super::play::{Case, Move, ONCE, ONE_COUNTED, Play, check_cases, long_error};
-use super::talk::{BLOCKS, RUN};
+use super::play::{Case, Move, ONCE, ONE_COUNTED, check_cases};
 use dump_client::Progress::{Failed, Send, Waiting};
 use dump_client::{Answer, AttemptFault, State};
-use std::alloc::Global;
 use std::test::Fail;
 
 /// The steps of the second volume's script.
@@ -138,90 +137,59 @@ const BEFORE_A_REQUEST: &[Move] = &[
     Stands(State::Asking, ONE_COUNTED, (2, 1)),
 ];
 
-static CASES: [Case; 4] = [
-    Case {
-        name: "replies to the write of a block",
-        run: RUN,
-        blocks: &BLOCKS,
-        pieces: ONCE,
-        moves: TO_A_BLOCK,
-    },
-    Case {
-        name: "replies to other requests",
-        run: RUN,
-        blocks: &BLOCKS,
-        pieces: ONCE,
-        moves: TO_OTHERS,
-    },
-    Case {
-        name: "the connection ends before the count",
-        run: RUN,
-        blocks: &BLOCKS,
-        pieces: &[b"", b"E5\n", b"E5\nzz", b"A1"],
-        moves: CUT,
-    },
-    Case {
-        name: "pieces while a request is to be sent",
-        run: RUN,
-        blocks: &BLOCKS,
-        pieces: ONCE,
-        moves: BEFORE_A_REQUEST,
-    },
-];
-
-#[test]
-fn unwanted_replies(rt: HostRuntime) -> Result<(), Fail> {
-    check_cases(&rt, rt.alloc(), &CASES)
-}
-
-/// The first volume is counted, and the second is to be written.
-const SECOND: &[Move] = &[Volume(1, 0, 1), Starts, Goes(0, 8), Volume(2, 1, 2)];
-
-/// The second volume is written.
-const FINISHES: &[Move] = &[
+/// The text of an error can be longer than all else that is kept of a reply. The dump then goes on to its end.
+const LONG_TEXTS: &[Move] = &[
+    Volume(1, 0, 1),
+    Starts,
+    Goes(0, 8),
+    Volume(2, 1, 2),
+    FailsAtLong(LAST_BLOCK, 10000),
+    FailsAtLong(LAST_BLOCK, 65548),
+    FailsAtLong(LAST_BLOCK, 200000),
     Starts,
     Goes(0, 8),
     Stands(State::Finished, &[(1, 0, 1), (2, 1, 2)], (3, 3)),
 ];
 
-/// Makes these moves. Whether all was as is wanted.
-fn makes_all(play: &mut Play, moves: &[Move]) -> Result<bool, Fail> {
-    for next in moves {
-        if !play.makes(*next, b"")? {
-            return Ok(false);
-        }
-    }
-    Ok(true)
+static CASES: [Case; 5] = [
+    Case {
+        name: "replies to the write of a block",
+        blocks: 3,
+        pieces: ONCE,
+        moves: TO_A_BLOCK,
+    },
+    Case {
+        name: "replies to other requests",
+        blocks: 3,
+        pieces: ONCE,
+        moves: TO_OTHERS,
+    },
+    Case {
+        name: "the connection ends before the count",
+        blocks: 3,
+        pieces: &[b"", b"E5\n", b"E5\nzz", b"A1"],
+        moves: CUT,
+    },
+    Case {
+        name: "pieces while a request is to be sent",
+        blocks: 3,
+        pieces: ONCE,
+        moves: BEFORE_A_REQUEST,
+    },
+    Case {
+        name: "long texts of errors",
+        blocks: 3,
+        pieces: ONCE,
+        moves: LONG_TEXTS,
+    },
+];
+
+/// The conversations.
+fn cases() -> &'static [Case] {
+    &CASES
 }
 
-/// Whether an attempt that hears an error with a text of this size fails for it.
-fn fails_at_long_text(alloc: Global, play: &mut Play, size: usize) -> Result<bool, Fail> {
-    let error = long_error(alloc, b"E5\n", size)?;
-    Ok(play.fails_at(LAST_BLOCK, &error, AttemptFault::Refused(5)))
-}
-
-/// Whether attempts that hear errors with texts of these sizes fail for them, and the dump then goes on to its end.
-fn fails_at_long_texts(alloc: Global, play: &mut Play) -> Result<bool, Fail> {
-    if !makes_all(play, SECOND)? {
-        return Ok(false);
-    }
-    for size in [10000, 65548, 200000] {
-        if !fails_at_long_text(alloc, play, size)? {
-            return Ok(false);
-        }
-    }
-    makes_all(play, FINISHES)
-}
-
-/// The same of a client that has not started.
-fn goes_past_long_texts(alloc: Global) -> Result<bool, Fail> {
-    let mut play = Play::new(alloc, RUN, &BLOCKS)?;
-    fails_at_long_texts(alloc, &mut play)
-}
-
-/// The text of an error can be longer than all else that is kept of a reply.
 #[test]
-fn long_texts_of_errors(rt: HostRuntime) -> Result<(), Fail> {
-    assert!(rt; goes_past_long_texts(rt.alloc())?);
-    Ok(())
+fn unwanted_replies(rt: HostRuntime) -> Result<(), Fail> {
+    check_cases(&rt, rt.alloc(), cases())
 }

@@ -2,7 +2,6 @@
 
 use super::play::Move::{AsksInVain, Goes, IsIdle, Stands, Starts, Takes, Trouble, Volume};
 use super::play::{Case, Move, ONCE, check_cases};
-use super::talk::{BLOCKS, RUN};
 use dump_client::{Answer, AttemptFault, State};
 use std::test::Fail;
 
@@ -92,35 +91,36 @@ const LASTS: &[Move] = &[
 static CASES: [Case; 4] = [
     Case {
         name: "each block fails",
-        run: RUN,
-        blocks: &BLOCKS,
+        blocks: 3,
         pieces: ONCE,
         moves: EACH_BLOCK,
     },
     Case {
         name: "a block of a second volume fails",
-        run: RUN,
-        blocks: &BLOCKS,
+        blocks: 3,
         pieces: ONCE,
         moves: SECOND_VOLUME,
     },
     Case {
         name: "requests without a block do not read",
-        run: RUN,
-        blocks: &BLOCKS,
+        blocks: 3,
         pieces: ONCE,
         moves: WITHOUT_A_BLOCK,
     },
     Case {
         name: "trouble that lasts",
-        run: RUN,
-        blocks: &BLOCKS,
+        blocks: 3,
         pieces: ONCE,
         moves: LASTS,
     },
 ];
 
+/// The conversations.
+fn cases() -> &'static [Case] {
+    &CASES
+}
+
 #[test]
 fn blocks_that_cannot_be_read(rt: HostRuntime) -> Result<(), Fail> {
-    check_cases(&rt, rt.alloc(), &CASES)
+    check_cases(&rt, rt.alloc(), cases())
 }

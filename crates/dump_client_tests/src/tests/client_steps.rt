@@ -2,7 +2,7 @@
 
 use super::slow::Answer::{A, E};
 use super::slow::{Answer, Next, Scripted, Wish, comes_next, script};
-use super::talk::{BLOCKS, Counted, RUN, Talk, wanted_reply};
+use super::talk::{BLOCKS, Counted, RUN, Talk, expect_at, wanted_reply};
 use dump_client::{Progress, State};
 use std::alloc::{AllocError, Global};
 use std::process::Abort;
@@ -184,11 +184,9 @@ fn check_step(
     script: &[Scripted],
     step: usize,
 ) -> Result<(), Fail> {
-    let (size, first, count) = (attempt.size, attempt.first, attempt.count);
     for reply in &REPLIES {
-        let (answer, _) = *reply;
-        let good = attempt.is_answered(alloc, script, step, *reply)?;
-        assert!(rt; good, "{size}, {first}, {count}: {step}, {answer:?}");
+        let is_well = attempt.is_answered(alloc, script, step, *reply)?;
+        expect_at(rt, is_well, step);
     }
     Ok(())
 }

@@ -1,7 +1,7 @@
 //! Conversations of a client, as tables of moves.
 
 use super::slow::{Scripted, SlowRun, script};
-use super::talk::{Counted, Talk};
+use super::talk::{BLOCKS, Counted, RUN, Talk};
 use dump_client::{Answer, AttemptFault, Progress, State};
 use std::alloc::Global;
 use std::process::Abort;
@@ -42,6 +42,10 @@ pub(crate) enum Move {
     Fails(&'static [u8], AttemptFault),
     /// An attempt starts, goes up to this step, and fails of a piece; the operator wants another. One block is counted.
     FailsAt(usize, &'static [u8], AttemptFault),
+    /// The same of an error 5 with a text of so many bytes.
+    FailsAtLong(usize, usize),
+    /// The same as `HearsEachWay` of an error 28 with a text of so many bytes, first of all but its last byte.
+    HearsLong(usize, usize),
     /// The connection ends, and this comes of it.
     Ends(Progress),
     /// The operator's answer is taken.
@@ -64,8 +68,8 @@ pub(crate) enum Move {
 #[derive(Clone, Copy)]
 pub(crate) struct Case {
     pub(crate) name: &'static str,
-    pub(crate) run: SlowRun,
-    pub(crate) blocks: Payload,
+    /// How many blocks are dumped.
+    pub(crate) blocks: usize,
     pub(crate) pieces: &'static [&'static [u8]],
     pub(crate) moves: &'static [Move],
 }
@@ -78,7 +82,7 @@ pub(crate) const ONE_COUNTED: &[Counted] = &[(1, 0, 1)];
 
 /// A client with the blocks of its run, and the script of a volume.
 #[derive(Drop)]
-pub(crate) struct Play {
+struct Play {
     alloc: Global,
     run: SlowRun,
     blocks: Payload,
@@ -88,10 +92,8 @@ pub(crate) struct Play {
 
 impl Play {
     /// It has not started.
-    pub(crate) fn new(alloc: Global, run: SlowRun, blocks: Payload) -> Result<Play, Fail> {
-        let Ok(count) = u32::try_from(blocks.len()) else {
-            return Err(Fail::new("too many blocks"));
-        };
+    fn new(alloc: Global, run: SlowRun, blocks: Payload) -> Result<Play, Fail> {
+        let count = u32::try_from(blocks.len()).ok().ok_or("few blocks")?;
         Ok(Play {
             alloc,
             run,
@@ -124,7 +126,7 @@ impl Play {
     }
 
     /// The attempt at the second volume fails at this step of this piece, and another can start.
-    pub(crate) fn fails_at(&mut self, step: usize, piece: &[u8], fault: AttemptFault) -> bool {
+    fn fails_at(&mut self, step: usize, piece: &[u8], fault: AttemptFault) -> bool {
         self.starts_to(step)
             && self.talk.fails(piece, fault)
             && self.talk.stands(State::Asking, ONE_COUNTED, (2, 1))
@@ -145,29 +147,59 @@ impl Play {
         true
     }
 
+    /// The attempt at the second volume fails at this step of an error with a text of so many bytes.
+    fn fails_at_long(&mut self, step: usize, size: usize) -> Result<bool, Fail> {
+        let error = long_error(self.alloc, b"E5\n", size)?;
+        Ok(self.fails_at(step, &error, AttemptFault::Refused(5)))
+    }
+
+    /// An error with a text of so many bytes fails the attempt at this step, however it comes, and all but its last byte does
+    /// not.
+    fn hears_long(&mut self, step: usize, size: usize) -> Result<bool, Fail> {
+        let error = long_error(self.alloc, b"E28\n", size)?;
+        Ok(self.hears_error(step, &error))
+    }
+
+    /// The same of this error.
+    fn hears_error(&mut self, step: usize, error: &[u8]) -> bool {
+        let begun = error.get(..error.len().saturating_sub(1)).unwrap_or(&[]);
+        let failed = Progress::Failed(AttemptFault::Refused(28));
+        self.hears_each_way(step, begun, Progress::Waiting)
+            && self.hears_each_way(step, error, failed)
+    }
+
     /// Sets whether reads of the payload fail.
     fn has_trouble(&mut self, fails: bool) -> bool {
         self.talk.client.source_trouble(fails);
         true
     }
 
-    /// Makes a move that asks something. None for any other.
-    fn asks(&mut self, next: Move) -> Result<Option<bool>, Fail> {
-        Ok(Some(match next {
-            Move::Volume(number, first, count) => self.turns_to(number, first, count)?,
+    /// Makes a move, with the piece of the case. Whether all was as is wanted.
+    fn makes(&mut self, next: Move, it: &[u8]) -> Result<bool, Fail> {
+        match next {
+            Move::Volume(number, first, count) => self.turns_to(number, first, count),
+            Move::AsksPadded(text, zeros) => self.asks_padded(text, zeros),
+            Move::FailsAtLong(step, size) => self.fails_at_long(step, size),
+            Move::HearsLong(step, size) => self.hears_long(step, size),
+            _ => Ok(self.asks(next, it)),
+        }
+    }
+
+    /// Makes a move that asks something, or any other.
+    fn asks(&mut self, next: Move, it: &[u8]) -> bool {
+        match next {
             Move::Goes(from, to) => self.talk.goes_through(&self.script, from, to),
             Move::Asks(text) => self.talk.asks(text),
-            Move::AsksPadded(text, zeros) => self.asks_padded(text, zeros)?,
             Move::AsksStep(step) => self.talk.asks_step(&self.script, step),
             Move::AsksNothing => self.talk.asks_nothing(),
             Move::AsksInVain(fault) => self.talk.asks_in_vain(fault),
-            _ => return Ok(None),
-        }))
+            _ => self.hears(next, it),
+        }
     }
 
-    /// Makes a move in which something is heard. None for any other.
-    fn hears(&mut self, next: Move, it: &[u8]) -> Option<bool> {
-        Some(match next {
+    /// Makes a move in which something is heard, or any other.
+    fn hears(&mut self, next: Move, it: &[u8]) -> bool {
+        match next {
             Move::Hears(piece, progress) => self.talk.hears(piece, progress),
             Move::HearsIt(progress) => self.talk.hears(it, progress),
             Move::HearsBy(size, progress) => self.talk.hears_by(it, size, progress),
@@ -175,8 +207,8 @@ impl Play {
             Move::Fails(piece, fault) => self.talk.fails(piece, fault),
             Move::FailsAt(step, piece, fault) => self.fails_at(step, piece, fault),
             Move::Ends(progress) => self.talk.ends(progress),
-            _ => return None,
-        })
+            _ => self.stands(next),
+        }
     }
 
     /// Makes any other move.
@@ -194,35 +226,16 @@ impl Play {
             _ => false,
         }
     }
-
-    /// Makes a move, with the piece of the case. Whether all was as is wanted.
-    pub(crate) fn makes(&mut self, next: Move, it: &[u8]) -> Result<bool, Fail> {
-        if let Some(good) = self.asks(next)? {
-            return Ok(good);
-        }
-        match self.hears(next, it) {
-            Some(good) => Ok(good),
-            None => Ok(self.stands(next)),
-        }
-    }
 }
 
 /// An error that begins so and has a text of so many bytes.
-pub(crate) fn long_error(alloc: Global, begin: &[u8], size: usize) -> Result<Vec<u8>, Fail> {
+fn long_error(alloc: Global, begin: &[u8], size: usize) -> Result<Vec<u8>, Fail> {
     let mut error = Vec::from_slice(alloc, begin)?;
     for _ in 0..size {
         error.push(b'z')?;
     }
     error.push(b'\n')?;
     Ok(error)
-}
-
-/// A conversation goes as its moves say, with each piece of the case.
-pub(crate) fn check_case(rt: &impl Abort, alloc: Global, case: &Case) -> Result<(), Fail> {
-    for it in case.pieces {
-        check_with(rt, alloc, case, it)?;
-    }
-    Ok(())
 }
 
 /// Where these moves are not as is wanted: the first such, counted from 0.
@@ -236,23 +249,46 @@ fn wrong_move(play: &mut Play, moves: &[Move], it: &[u8]) -> Result<Option<usize
 }
 
 /// Where the conversation does not go so with this piece.
-fn wrong_in(alloc: Global, case: &Case, it: &[u8]) -> Result<Option<usize>, Fail> {
-    let mut play = Play::new(alloc, case.run, case.blocks)?;
+fn wrong_in(
+    alloc: Global,
+    run: SlowRun,
+    blocks: Payload,
+    case: &Case,
+    it: &[u8],
+) -> Result<Option<usize>, Fail> {
+    let mut play = Play::new(alloc, run, first_of(blocks, case.blocks))?;
     wrong_move(&mut play, case.moves, it)
 }
 
-/// It goes so with this piece.
-fn check_with(rt: &impl Abort, alloc: Global, case: &Case, it: &[u8]) -> Result<(), Fail> {
-    let wrong = wrong_in(alloc, case, it)?;
-    let name = case.name;
-    assert!(rt; wrong.is_none(), "{name}: move {wrong:?}, {it:?}");
+/// So many of the blocks.
+fn first_of(blocks: Payload, count: usize) -> Payload {
+    blocks.get(..count).unwrap_or(&[])
+}
+
+/// No move is wrong.
+fn expect_none(rt: &impl Abort, wrong: Option<usize>, name: &str) {
+    assert!(rt; wrong.is_none(), "{name}: move {wrong:?}");
+}
+
+/// A conversation goes as its moves say, with each piece of the case, where this is the run, and these are its first blocks.
+pub(crate) fn check_case(
+    rt: &impl Abort,
+    alloc: Global,
+    run: SlowRun,
+    blocks: Payload,
+    case: &Case,
+) -> Result<(), Fail> {
+    for it in case.pieces {
+        let wrong = wrong_in(alloc, run, blocks, case, it)?;
+        expect_none(rt, wrong, case.name);
+    }
     Ok(())
 }
 
 /// Each of these conversations goes as its moves say.
 pub(crate) fn check_cases(rt: &impl Abort, alloc: Global, cases: &[Case]) -> Result<(), Fail> {
     for case in cases {
-        check_case(rt, alloc, case)?;
+        check_case(rt, alloc, RUN, &BLOCKS, case)?;
     }
     Ok(())
 }

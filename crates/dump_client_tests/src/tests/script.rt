@@ -1,18 +1,28 @@
 //! Labels and scripts that were worked out by hand.
 
+use super::next::BLOCKS;
 use super::slow::{Answer, Scripted, Wish, grants, label, script};
-use super::talk::RUN;
-use std::alloc::Global;
+use super::talk::{RUN, expect_at};
 use std::test::Fail;
 
 const LABEL: &[u8] = b"name /usr\nlevel 0\ndate 951782400\nsince 0\nvolume 1\nfirst 0\n";
+
+/// Whether all of these bytes are that one.
+fn are_all(bytes: &[u8], wanted: u8) -> bool {
+    for byte in bytes {
+        if *byte != wanted {
+            return false;
+        }
+    }
+    true
+}
 
 /// Whether these bytes are that text of 58 bytes, and zeros up to 1,024.
 fn is_label(label: &[u8]) -> bool {
     LABEL.len() == 58
         && label.len() == 1024
         && label.starts_with(LABEL)
-        && label.iter().skip(58).all(|b| *b == 0)
+        && are_all(label.get(58..).unwrap_or(&[]), 0)
 }
 
 #[test]
@@ -22,42 +32,43 @@ fn the_label_of_a_first_volume(rt: HostRuntime) -> Result<(), Fail> {
     Ok(())
 }
 
-/// The request that writes the label.
-fn label_request(alloc: Global) -> Result<Vec<u8>, Fail> {
-    let mut request = Vec::from_slice(alloc, b"W1024\n")?;
-    request.extend_from_slice(LABEL)?;
-    request.extend_from_slice(&[0; 966])?;
-    Ok(request)
+/// A request, but for the zero bytes at its end, how many these are, and what it wants.
+type Step = (&'static [u8], usize, Wish);
+
+/// The run of no blocks: six requests, of which the third writes the label.
+static STEPS: [Step; 6] = [
+    (b"O/dev/st0\n2\n", 0, Wish::AnyNumber),
+    (b"I5\n1\n", 0, Wish::Number(1)),
+    (
+        b"W1024\nname /usr\nlevel 0\ndate 951782400\nsince 0\nvolume 1\nfirst 0\n",
+        966,
+        Wish::Number(1024),
+    ),
+    (b"I0\n1\n", 0, Wish::Number(1)),
+    (b"I6\n1\n", 0, Wish::Number(1)),
+    (b"C\n", 0, Wish::Anything),
+];
+
+/// Whether the bytes are these, with so many zero bytes behind them.
+fn is_padded(bytes: &[u8], text: &[u8], zeros: usize) -> bool {
+    let rest = bytes.get(text.len()..).unwrap_or(&[]);
+    bytes.starts_with(text) && rest.len() == zeros && are_all(rest, 0)
 }
 
 /// Whether these are the steps of a script.
-fn are_steps(script: &[Scripted], wanted: &[(&[u8], Wish)]) -> bool {
-    let mut pairs = script.iter().zip(wanted);
+fn are_steps(script: &[Scripted], wanted: &[Step]) -> bool {
+    for (step, (text, zeros, wish)) in script.iter().zip(wanted) {
+        if !is_padded(&step.text, text, *zeros) || step.wish != *wish {
+            return false;
+        }
+    }
     script.len() == wanted.len()
-        && pairs.all(|(step, (text, wish))| step.text.as_slice() == *text && step.wish == *wish)
 }
 
-/// Whether the script of a run of no blocks has six requests, of which the third is this one.
-fn is_script_of_none(script: &[Scripted], label_request: &[u8]) -> bool {
-    are_steps(
-        script,
-        &[
-            (b"O/dev/st0\n2\n".as_slice(), Wish::AnyNumber),
-            (b"I5\n1\n".as_slice(), Wish::Number(1)),
-            (label_request, Wish::Number(1024)),
-            (b"I0\n1\n".as_slice(), Wish::Number(1)),
-            (b"I6\n1\n".as_slice(), Wish::Number(1)),
-            (b"C\n".as_slice(), Wish::Anything),
-        ],
-    )
-}
-
-/// The run of no blocks: six requests.
 #[test]
 fn a_run_of_no_blocks(rt: HostRuntime) -> Result<(), Fail> {
-    let label_request = label_request(rt.alloc())?;
     let script = script(rt.alloc(), RUN, &[], 1, 0, 0)?;
-    assert!(rt; is_script_of_none(&script, &label_request));
+    assert!(rt; are_steps(&script, &STEPS));
     Ok(())
 }
 
@@ -76,7 +87,9 @@ static WISHES: [Wish; 9] = [
 
 /// Whether a request writes a block of these bytes.
 fn writes(text: &[u8], byte: u8) -> bool {
-    text.len() == 1030 && text.starts_with(b"W1024\n") && text.iter().skip(6).all(|b| *b == byte)
+    text.len() == 1030
+        && text.starts_with(b"W1024\n")
+        && are_all(text.get(6..).unwrap_or(&[]), byte)
 }
 
 /// Whether the steps of a script wish for these.
@@ -107,16 +120,8 @@ fn writes_blocks(script: &[Scripted], from: usize) -> bool {
 /// Of three blocks two are written, and a third is refused.
 #[test]
 fn a_volume_with_a_block_refused(rt: HostRuntime) -> Result<(), Fail> {
-    let script = script(
-        rt.alloc(),
-        RUN,
-        &[&[1; 1024], &[2; 1024], &[3; 1024]],
-        1,
-        0,
-        2,
-    )?;
-    assert!(rt; has_wishes(&script));
-    assert!(rt; writes_blocks(&script, 3));
+    let script = script(rt.alloc(), RUN, &BLOCKS, 1, 0, 2)?;
+    assert!(rt; has_wishes(&script) && writes_blocks(&script, 3));
     Ok(())
 }
 
@@ -135,7 +140,7 @@ static ANSWERS: [(Wish, Answer, bool); 9] = [
 
 #[test]
 fn answers_that_are_wanted(rt: HostRuntime) {
-    for (wish, answer, wanted) in &ANSWERS {
-        assert!(rt; grants(*wish, *answer) == *wanted, "{answer:?}, {wanted}");
+    for (at, (wish, answer, wanted)) in ANSWERS.iter().enumerate() {
+        expect_at(&rt, grants(*wish, *answer) == *wanted, at);
     }
 }

@@ -16,7 +16,7 @@ pub(crate) struct SlowRun {
 }
 
 /// What is heard in answer to a request, as its letter and number.
-#[derive(Clone, Copy, Debug, PartialEq, Eq)]
+#[derive(Clone, Copy)]
 pub(crate) enum Answer {
     A(u32),
     E(u32),
@@ -60,8 +60,7 @@ fn push_number(out: &mut Vec<u8>, number: u64) -> Result<(), AllocError> {
 
 /// Appends a word, a space, a number and the end of the line.
 fn push_line(out: &mut Vec<u8>, word: &str, number: u64) -> Result<(), AllocError> {
-    out.extend_from_slice(word.as_bytes())?;
-    out.push(b' ')?;
+    push_parts(out, &[word.as_bytes(), b" "])?;
     push_number(out, number)?;
     out.push(b'\n')?;
     Ok(())
@@ -69,14 +68,23 @@ fn push_line(out: &mut Vec<u8>, word: &str, number: u64) -> Result<(), AllocErro
 
 /// Appends the text of a volume's label.
 fn push_text(out: &mut Vec<u8>, run: SlowRun, volume: u64, first: u64) -> Result<(), AllocError> {
-    out.extend_from_slice(b"name ")?;
-    out.extend_from_slice(run.name.as_bytes())?;
-    out.push(b'\n')?;
-    push_line(out, "level", run.level)?;
-    push_line(out, "date", run.date)?;
-    push_line(out, "since", run.since)?;
-    push_line(out, "volume", volume)?;
-    push_line(out, "first", first)
+    push_parts(out, &[b"name ", run.name.as_bytes(), b"\n"])?;
+    let lines = [
+        ("level", run.level),
+        ("date", run.date),
+        ("since", run.since),
+        ("volume", volume),
+        ("first", first),
+    ];
+    push_lines(out, &lines)
+}
+
+/// Appends a line for each word and number.
+fn push_lines(out: &mut Vec<u8>, lines: &[(&str, u64)]) -> Result<(), AllocError> {
+    for (word, number) in lines {
+        push_line(out, word, *number)?;
+    }
+    Ok(())
 }
 
 /// The label of a volume.
@@ -101,44 +109,24 @@ pub(crate) struct Scripted {
     pub(crate) wish: Wish,
 }
 
-/// A text of a script.
-fn asked(alloc: Global, text: &[u8], wish: Wish) -> Result<Scripted, AllocError> {
-    Ok(Scripted {
-        text: Vec::from_slice(alloc, text)?,
-        wish,
-    })
+/// Appends these parts as one text.
+fn push_parts(out: &mut Vec<u8>, parts: &[&[u8]]) -> Result<(), AllocError> {
+    for part in parts {
+        out.extend_from_slice(part)?;
+    }
+    Ok(())
 }
 
-/// A write of these bytes.
-fn write(alloc: Global, bytes: &[u8], wish: Wish) -> Result<Scripted, AllocError> {
-    let mut text = Vec::new(alloc);
-    text.push(b'W')?;
-    push_number(&mut text, bytes.len() as u64)?;
-    text.push(b'\n')?;
-    text.extend_from_slice(bytes)?;
-    Ok(Scripted { text, wish })
-}
-
-/// What opens the device.
-fn open(alloc: Global, run: SlowRun) -> Result<Scripted, AllocError> {
-    let mut text = Vec::new(alloc);
-    text.push(b'O')?;
-    text.extend_from_slice(run.device.as_bytes())?;
-    text.extend_from_slice(b"\n2\n")?;
-    Ok(Scripted {
-        text,
-        wish: Wish::AnyNumber,
-    })
-}
-
-/// Appends a text.
+/// Appends a request of these parts.
 fn push_asked(
     all: &mut Vec<Scripted>,
     alloc: Global,
-    text: &[u8],
+    parts: &[&[u8]],
     wish: Wish,
 ) -> Result<(), AllocError> {
-    all.push(asked(alloc, text, wish)?)?;
+    let mut text = Vec::new(alloc);
+    push_parts(&mut text, parts)?;
+    all.push(Scripted { text, wish })?;
     Ok(())
 }
 
@@ -149,8 +137,9 @@ fn push_write(
     bytes: &[u8],
     wish: Wish,
 ) -> Result<(), AllocError> {
-    all.push(write(alloc, bytes, wish)?)?;
-    Ok(())
+    let mut count = Vec::new(alloc);
+    push_number(&mut count, bytes.len() as u64)?;
+    push_asked(all, alloc, &[b"W", &count, b"\n", bytes], wish)
 }
 
 /// Appends what begins a volume: the open, the rewind and the label.
@@ -161,8 +150,9 @@ fn push_begin(
     volume: u64,
     first: u64,
 ) -> Result<(), AllocError> {
-    all.push(open(alloc, run)?)?;
-    push_asked(all, alloc, b"I5\n1\n", Wish::Number(1))?;
+    let device = run.device.as_bytes();
+    push_asked(all, alloc, &[b"O", device, b"\n2\n"], Wish::AnyNumber)?;
+    push_asked(all, alloc, &[b"I5\n1\n"], Wish::Number(1))?;
     let label = label(alloc, run, volume, first)?;
     push_write(all, alloc, &label, Wish::Number(1024))
 }
@@ -175,11 +165,11 @@ fn push_blocks(
     blocks: &[&[u8]],
     (first, end): (usize, usize),
 ) -> Result<(), AllocError> {
+    let bytes = Wish::Number(run.block_bytes);
     for (number, block) in blocks.iter().enumerate() {
-        if number >= first && number < end {
-            push_write(all, alloc, block, Wish::Number(run.block_bytes))?;
-        } else if number == end {
-            push_write(all, alloc, block, Wish::NoRoom)?;
+        if number >= first && number <= end {
+            let wish = if number < end { bytes } else { Wish::NoRoom };
+            push_write(all, alloc, block, wish)?;
         }
     }
     Ok(())
@@ -187,9 +177,9 @@ fn push_blocks(
 
 /// Appends what closes a volume.
 fn push_end(all: &mut Vec<Scripted>, alloc: Global) -> Result<(), AllocError> {
-    push_asked(all, alloc, b"I0\n1\n", Wish::Number(1))?;
-    push_asked(all, alloc, b"I6\n1\n", Wish::Number(1))?;
-    push_asked(all, alloc, b"C\n", Wish::Anything)
+    push_asked(all, alloc, &[b"I0\n1\n"], Wish::Number(1))?;
+    push_asked(all, alloc, &[b"I6\n1\n"], Wish::Number(1))?;
+    push_asked(all, alloc, &[b"C\n"], Wish::Anything)
 }
 
 /// The script of a volume that has so many blocks of these from `first` on.
@@ -202,16 +192,23 @@ pub(crate) fn script(
     count: usize,
 ) -> Result<Vec<Scripted>, AllocError> {
     let mut all = Vec::new(alloc);
-    push_begin(&mut all, alloc, run, volume, first as u64)?;
-    push_blocks(
-        &mut all,
-        alloc,
-        run,
-        blocks,
-        (first, first.saturating_add(count)),
-    )?;
-    push_end(&mut all, alloc)?;
+    push_volume(&mut all, alloc, run, blocks, volume, (first, count))?;
     Ok(all)
+}
+
+/// Appends the script of a volume that has so many blocks of these from `first` on.
+fn push_volume(
+    all: &mut Vec<Scripted>,
+    alloc: Global,
+    run: SlowRun,
+    blocks: &[&[u8]],
+    volume: u64,
+    (first, count): (usize, usize),
+) -> Result<(), AllocError> {
+    push_begin(all, alloc, run, volume, first as u64)?;
+    let end = first.saturating_add(count);
+    push_blocks(all, alloc, run, blocks, (first, end))?;
+    push_end(all, alloc)
 }
 
 /// What comes next in an attempt.
@@ -229,11 +226,12 @@ pub(crate) enum Next {
 
 /// Whether a script wants these answers, as far as they go.
 fn wants(script: &[Scripted], answers: &[Answer]) -> bool {
+    for (step, answer) in script.iter().zip(answers) {
+        if !grants(step.wish, *answer) {
+            return false;
+        }
+    }
     answers.len() <= script.len()
-        && script
-            .iter()
-            .zip(answers)
-            .all(|(step, answer)| grants(step.wish, *answer))
 }
 
 /// What a script that wants these answers has next.

@@ -6,7 +6,13 @@ use dump_client::{
     Answer, AttemptFault, Client, ListBlocks, Progress, Run, StartFault, State, VolumeCount,
 };
 use std::alloc::Global;
+use std::process::Abort;
 use std::test::Fail;
+
+/// It is so at this place, or the test ends.
+pub(crate) fn expect_at(rt: &impl Abort, is_so: bool, at: usize) {
+    assert!(rt; is_so, "at {at}");
+}
 
 /// The run of these tests.
 pub(crate) const RUN: SlowRun = SlowRun {
@@ -19,7 +25,7 @@ pub(crate) const RUN: SlowRun = SlowRun {
 };
 
 /// The first blocks of it: each byte of a block is its number.
-pub(crate) const BLOCKS: [&[u8]; 3] = [&[0; 1024], &[1; 1024], &[2; 1024]];
+pub(crate) static BLOCKS: [&[u8]; 3] = [&[0; 1024], &[1; 1024], &[2; 1024]];
 
 /// A volume that is counted: its number, its first block, and how many blocks it has.
 pub(crate) type Counted = (u32, u32, u32);
@@ -96,6 +102,9 @@ fn are_counts(found: &[VolumeCount], wanted: &[Counted]) -> bool {
     true
 }
 
+/// What is heard where no attempt is under way.
+static NOISE: [&[u8]; 5] = [b"A0\n", b"A1", b"E5\nzz\n", b"zz", b""];
+
 impl Talk {
     /// A client that has not started, of the run with so many blocks.
     pub(crate) fn new(alloc: Global, blocks: u32) -> Result<Talk, Fail> {
@@ -147,7 +156,7 @@ impl Talk {
     /// No attempt is under way: nothing comes of what it hears, it asks nothing, and it stays as it is.
     pub(crate) fn is_idle(&mut self) -> bool {
         let state = self.client.state();
-        for piece in [b"A0\n".as_slice(), b"A1", b"E5\nzz\n", b"zz", b""] {
+        for piece in &NOISE {
             if !self.hears(piece, Progress::Idle) {
                 return false;
             }
