@@ -1,19 +1,12 @@
 //! A reader of requests fed in pieces, beside the slow program.
 
 use super::checked::expect_of;
+use super::listener::Next;
 use super::slow::{Parts, is_same, joined, split, taken};
 use rmt_wire::{Request, RequestReader, WireFault};
 use std::alloc::{AllocError, Global};
 use std::process::Abort;
 use std::test::Fail;
-
-/// What a reader gives: the request that is wanted, another one, or none, and then perhaps a fault.
-#[derive(Clone, Copy, PartialEq, Eq)]
-pub(super) enum Next {
-    Wanted,
-    Other,
-    None(Option<WireFault>),
-}
 
 /// What a reader gives next, where this is wanted.
 pub(super) fn next_of(reader: &mut RequestReader, wanted: Option<&Request<'_>>) -> Next {

@@ -1,7 +1,8 @@
 //! Numbers, lines and data at their limits and one past them.
 
 use super::checked::same;
-use super::fed::{Next, check_by_hand, next_of};
+use super::fed::{check_by_hand, next_of};
+use super::listener::Next;
 use super::slow::joined;
 use rmt_wire::{Request, RequestReader, WireFault};
 use std::alloc::{AllocError, Global};
@@ -115,14 +116,8 @@ fn check_push(
 
 /// It gives this request, and has so much room then.
 fn check_next(rt: &impl Abort, reader: &mut RequestReader, wanted: Request<'_>, room: usize) {
-    let is_wanted = next_of(reader, Some(&wanted)) == Next::Wanted;
-    expect_request(rt, is_wanted, wanted);
+    assert!(rt; next_of(reader, Some(&wanted)) == Next::Wanted);
     check_room(rt, reader, room);
-}
-
-/// It is so of this request.
-fn expect_request(rt: &impl Abort, is_so: bool, wanted: Request<'_>) {
-    assert!(rt; is_so, "{wanted:?}");
 }
 
 /// It gives no request now, and no fault.

@@ -5,7 +5,7 @@ use rmt_wire::{Reply, ReplyReader, WireFault};
 use std::alloc::{AllocError, Global};
 use std::marker::Model;
 
-/// What a reader gives: the reply that is wanted, another one, or none, and then perhaps a fault.
+/// What a reader gives: the request or the reply that is wanted, another one, or none, and then perhaps a fault.
 #[derive(Clone, Copy, PartialEq, Eq)]
 pub(crate) enum Next {
     Wanted,

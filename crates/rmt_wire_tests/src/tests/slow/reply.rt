@@ -13,7 +13,7 @@ static ENDS: [&[u8]; 6] = [b"", b"\n", b"0\n", b"\n\n", b"0\n\n", b"A0\n"];
 
 /// What a client waits for: a number, or the data of a read, of at most so many bytes. An error comes in place of
 /// each.
-#[derive(Clone, Copy, Debug)]
+#[derive(Clone, Copy)]
 pub(crate) enum Wanted {
     Number,
     DataUpTo(u32),
