@@ -70,10 +70,14 @@ fn read_words<'a>(command: &str, fields: &mut Fields<'a>) -> Option<Line<'a>> {
         "to-server" => read_to_server(fields),
         "to-client" => read_to_client(fields),
         "pump" => read_pump(fields),
-        _ => Some(Line::Event {
-            event: read_event(command, fields)?,
-        }),
+        _ => read_other(command, fields),
     }
+}
+
+/// Any other event.
+fn read_other<'a>(command: &str, fields: &mut Fields<'a>) -> Option<Line<'a>> {
+    let event = read_event(command, fields)?;
+    Some(Line::Event { event })
 }
 
 /// A drive: its device, the capacity of its reels, and their names.
@@ -92,9 +96,16 @@ fn read_drive<'a>(fields: &mut Fields<'a>) -> Option<Line<'a>> {
 fn read_run<'a>(fields: &mut Fields<'a>) -> Option<Line<'a>> {
     let device = fields.device()?;
     let name = str::from_utf8(fields.field()?).ok()?;
-    let [level, date, since, block, blocks] = read_numbers(fields)?;
-    let run = Run::new(device, name, level, date, since, block, blocks).ok()?;
-    Some(Line::Run { run })
+    run_of(device, name, read_numbers(fields)?)
+}
+
+/// The run of this device, name and numbers, if they are one's.
+fn run_of<'a>(device: &[u8], name: &str, numbers: [u64; 5]) -> Option<Line<'a>> {
+    let [level, date, since, block, blocks] = numbers;
+    match Run::new(device, name, level, date, since, block, blocks) {
+        Ok(run) => Some(Line::Run { run }),
+        Err(_) => None,
+    }
 }
 
 /// Five numbers, one after the other.
@@ -146,17 +157,29 @@ fn read_event<'a>(command: &str, fields: &mut Fields<'a>) -> Option<Event<'a>> {
     match command {
         "serve" => read_serve(fields),
         "send" => read_send(fields),
-        "cut" => Some(Event::Cut {
-            connection: fields.connection()?,
-        }),
-        "end-server" => Some(Event::EndAtServer {
-            connection: fields.connection()?,
-        }),
-        "end-client" => Some(Event::EndAtClient {
-            connection: fields.connection()?,
-        }),
+        "cut" => read_cut(fields),
+        "end-server" => read_end_at_server(fields),
+        "end-client" => read_end_at_client(fields),
         _ => read_word(command),
     }
+}
+
+/// A connection.
+fn read_cut<'a>(fields: &mut Fields<'a>) -> Option<Event<'a>> {
+    let connection = fields.connection()?;
+    Some(Event::Cut { connection })
+}
+
+/// A connection.
+fn read_end_at_server<'a>(fields: &mut Fields<'a>) -> Option<Event<'a>> {
+    let connection = fields.connection()?;
+    Some(Event::EndAtServer { connection })
+}
+
+/// A connection.
+fn read_end_at_client<'a>(fields: &mut Fields<'a>) -> Option<Event<'a>> {
+    let connection = fields.connection()?;
+    Some(Event::EndAtClient { connection })
 }
 
 /// The event that a command is which takes nothing.

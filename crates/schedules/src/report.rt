@@ -1,5 +1,5 @@
 //! What a world has come to.
-ghost use Rattle.std.specs.Prelude.{◌≡◌, ◌++◌, codes, decimal, map, length, IfOk, OnOk};
+ghost use Rattle.std.specs.Prelude.{◌≡◌, ◌++◌, [], codes, decimal, map, length, IfOk, OnOk};
 ghost use Rattle.std.specs.List.{flat_map};
 ghost use Rattle.drives.specs.Shop.{names_of};
 ghost use Rattle.dumpdates.specs.Text.{written};
@@ -23,12 +23,25 @@ pub(crate) fn report_of(
     ensures { IfOk result (λ text. text.items ≡ report_text (map plain_line drives.now) world.now) }
 {
     let mut text = Vec::new(alloc);
-    push_all_reels(&mut text, world, drives)?;
-    push_stacks(&mut text, world, drives)?;
-    push_names(&mut text, "bin", world.bin())?;
-    push_counts(&mut text, world)?;
-    push_dates(&mut text, world)?;
+    push_report(&mut text, world, drives)?;
     Ok(text)
+}
+
+/// Appends all lines of a report, to no text.
+fn push_report(
+    text: &mut Vec<u8>,
+    world: &World,
+    drives: &[DriveLine<'_>],
+) -> Result<(), AllocError>
+    requires { text.old.items ≡ [] }
+    ensures { OnOk result (text.new.items ≡ report_text (map plain_line drives.now) world.now) }
+{
+    push_all_reels(text, world, drives)?;
+    push_stacks(text, world, drives)?;
+    push_names(text, "bin", world.bin())?;
+    push_counts(text, world)?;
+    push_dates(text, world)?;
+    Ok(())
 }
 
 /// Appends a line for each reel of these drives.

@@ -53,8 +53,10 @@ fn run_at<W: Write>(
     requires { AreGoodDrives (map plain_line drives.now) }
     ensures { IsRun W.contents out.old result out.new }
 {
-    let mut world = world_of(alloc, drives)?;
-    play_and_report(alloc, &mut world, drives, lines, out)
+    match world_of(alloc, drives) {
+        Ok(mut world) => play_and_report(alloc, &mut world, drives, lines, out),
+        Err(_) => Err(Halt::OutOfMemory),
+    }
 }
 
 /// Plays what is left in a world where nothing has happened yet, and prints the report.

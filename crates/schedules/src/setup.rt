@@ -23,6 +23,19 @@ pub(crate) fn read_drives<'a>(
     ensures { MatchResult result (λ d. AreGoodDrives (map plain_line d.items)) (λ halt. halt ≢ StreamFailed) }
 {
     let mut drives = Vec::new(alloc);
+    add_drives(alloc, &mut drives, lines)?;
+    Ok(drives)
+}
+
+/// Adds the drives that the lines begin with to none, as `read_drives` answers them.
+fn add_drives<'a>(
+    alloc: Global,
+    drives: &mut Vec<DriveLine<'a>>,
+    lines: &mut Lines<'a>,
+) -> Result<(), Halt>
+    requires { drives.old.items ≡ [] }
+    ensures { MatchResult result (λ _. AreGoodDrives (map plain_line drives.new.items)) (λ halt. halt ≢ StreamFailed) }
+{
     let mut ahead = *lines;
     while let Some(text) = ahead.command() {
         let Some(
@@ -36,13 +49,13 @@ pub(crate) fn read_drives<'a>(
             break;
         };
         *lines = ahead;
-        add_drive(alloc, &mut drives, device, capacity, reels)?;
+        add_drive(alloc, drives, device, capacity, reels)?;
     }
     if drives.is_empty() {
         *lines = ahead;
         return Err(Halt::BadLine);
     }
-    Ok(drives)
+    Ok(())
 }
 
 /// Adds a drive behind the others. Answers `BadLine` where a world can't have them all.
@@ -55,8 +68,8 @@ fn add_drive<'a>(
 ) -> Result<(), Halt>
     ensures { MatchResult result (λ _. AreGoodDrives (map plain_line drives.new.items)) (λ halt. halt ≢ StreamFailed) }
 {
-    let reels = reels.list(alloc)?;
     drives.reserve(1)?;
+    let reels = reels.list(alloc)?;
     drives.push_reserved(DriveLine {
         device,
         capacity,

@@ -2,7 +2,7 @@ use Rattle.std.proofs.Common.{◌≤◌, length, map}
 use Rattle.tape_events.specs.First.{AreGoodDrives}
 use Rattle.schedules.specs.Cut.{left_in}
 use Rattle.schedules.specs.Drives.{plain_line}
-use Rattle.schedules.proofs.setup.read_drives.Given as goal
+use Rattle.schedules.proofs.setup.add_drives.Given as goal
 
 abbrev pub invariant-loop-text : goal.invariant-loop-text
 invariant-loop-text l = 1 ≤ length l.drives.items → AreGoodDrives (map plain_line l.drives.items)
