@@ -8,7 +8,7 @@ ghost use Rattle.dump_client.specs.Listening.{IsWaiting, IsSaid, IsHeard, IsList
 use rmt_wire::{Reply, ReplyReader, WireFault};
 
 /// A reply without its text: what a client looks at.
-#[derive(Clone, Copy, Debug, PartialEq, Eq)]
+#[derive(Clone, Copy)]
 pub(crate) enum Said {
     /// The number that an operation answers.
     Number(u32),
@@ -17,7 +17,7 @@ pub(crate) enum Said {
 }
 
 /// What bytes came to where a reply is waited for.
-#[derive(Clone, Copy, Debug, PartialEq, Eq)]
+#[derive(Clone, Copy)]
 pub(crate) enum Listened {
     /// They are a beginning of a reply.
     Waits,

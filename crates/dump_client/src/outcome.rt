@@ -15,7 +15,7 @@ const NO_ROOM: u32 = 28;
 
 /// What comes next in an attempt: a request, its failure, the count of its volume, which ends before this block, or its
 /// end.
-#[derive(Clone, Copy, Debug, PartialEq, Eq)]
+#[derive(Clone, Copy)]
 pub(crate) enum Outcome {
     GoesOn(Step),
     Fails(AttemptFault),

@@ -2,7 +2,7 @@
 
 /// A request of an attempt to write a volume, in their order. Blocks are numbered from 0 in the run; `Mark` and
 /// `Unload` carry the first block that is not written, with which the volume ends.
-#[derive(Clone, Copy, Debug, PartialEq, Eq)]
+#[derive(Clone, Copy, PartialEq, Eq)]
 pub(crate) enum Step {
     Open,
     Rewind,

@@ -166,7 +166,7 @@ fn line_of(place: Place, blocks: u32, rate: u64) -> ArrayString<LINE_ROOM> {
 ///
 /// A volume ends at the block for which it has no room: that is read again, and begins the next one. An attempt that
 /// failed is made again from the first block of its volume.
-#[derive(Clone, Copy, Debug, PartialEq, Eq)]
+#[derive(Clone, Copy)]
 struct Place {
     volume: u32,
     first: u32,

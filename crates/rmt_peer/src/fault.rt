@@ -2,16 +2,13 @@
 use thiserror::Error;
 
 /// Why a request has no reply.
-#[derive(Clone, Copy, Debug, PartialEq, Eq, Error)]
+#[derive(Clone, Copy)]
 pub(crate) enum CallFault {
     /// The connection ended before the reply came whole.
-    #[error("ConnectionEnded")]
     ConnectionEnded,
     /// What came is no reply to it, or more than one.
-    #[error("Botched")]
     Botched,
     /// Memory for the request or its reply was refused.
-    #[error("OutOfMemory")]
     OutOfMemory,
 }
 

@@ -9,7 +9,7 @@ use rmt_wire::Reply;
 use tape::TapeFault;
 
 /// Why a request was refused, as errno names it.
-#[derive(Clone, Copy, Debug, PartialEq, Eq)]
+#[derive(Clone, Copy)]
 pub(crate) enum Refusal {
     NoSuchFile,
     InputOutput,

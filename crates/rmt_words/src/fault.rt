@@ -2,7 +2,7 @@
 use clap::error::ErrorKind;
 
 /// What is wrong with words that clap takes.
-#[derive(Clone, Copy, Debug)]
+#[derive(Clone, Copy)]
 pub(crate) enum WordFault {
     /// No command is given.
     NoCommand,

@@ -3,7 +3,7 @@
 use std::alloc::AllocError;
 
 /// Why a line is not run, or not to its end.
-#[derive(Clone, Copy, Debug, PartialEq, Eq)]
+#[derive(Clone, Copy)]
 pub(crate) enum Halt {
     /// It is no line of a schedule, or does not stand where it may.
     BadLine,

@@ -15,7 +15,7 @@ use rmt_wire::Request;
 use tape::MTOFFL;
 
 /// What a request gave.
-#[derive(Clone, Copy, Debug, PartialEq, Eq)]
+#[derive(Clone, Copy)]
 pub(crate) enum Given {
     /// It was done, and this is the number to answer.
     Number(u32),
