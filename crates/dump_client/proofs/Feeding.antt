@@ -1,26 +1,62 @@
 -- What comes of a piece, by what all the bytes are that came since the request.
-use Rattle.std.proofs.Common.{◌≡◌, ℕ, Bool, true, false, List, [], ◌++◌, length, length-append, take, drop, arith, refl, sym, ◌∙◌, subst, Some, None, Result, Ok, Err}
+use Rattle.std.proofs.Common.{◌≡◌, ◌≢◌, ◌⊎◌, inl, inr, ℕ, Bool, true, false, List, [], ◌++◌, length, length-append, take, drop, arith, refl, sym, ◌∙◌, subst, Some, None, Result, Ok, Err}
 use Rattle.std.proofs.lemmas.List.{length-take-le}
 use Rattle.rmt_wire.specs.Reply.{PlainReply}
 use Rattle.rmt_wire.specs.ReplyReader as reader
 use Rattle.rmt_wire.specs.ReplyReader.{ReplyUnread}
 use Rattle.rmt_wire.specs.Reply.Wanted.{Number}
-use Rattle.dump_client.specs.Position.Heard.{Reply, Noise}
+use Rattle.dump_client.specs.Position.Heard.{Reply, Noise, End}
 use Rattle.dump_client.specs.Listening.{IsWaiting, IsSaid, IsListened}
-use Rattle.dump_client.specs.Standing.{Standing, HearsAt, FedAt}
-use Rattle.dump_client.specs.Client.{HasFedAt, ReadBy, is_source_fault}
+use Rattle.dump_client.specs.Standing.{Standing, standing, IsOver, HearsAt, FedAt, CutAt, StartedAt}
+use Rattle.dump_client.specs.Client.{HasFedAt, unanswered, AppendedBy, AskedAt, IsPayload, ReadBy, IsScarce, IsFaultAt, is_source_fault}
+use Rattle.dump_run.specs.Run.{PlainRun}
+use Rattle.dump_client.specs.declared.count.VolumeCount.{VolumeCount}
 use Rattle.dump_run.specs.declared.blocks.SourceFailed.{SourceFailed}
 use Rattle.dump_client.specs.declared.fault.AttemptFault.{AttemptFault}
 use Rattle.dump_client.specs.declared.fault.AttemptFault.TheVariants.{Refused, Botched, ConnectionEnded, ShortWrite, ReelTooSmall, SourceFault, OutOfMemory}
+use Rattle.dump_client.specs.declared.fault.StartFault.{StartFault}
+use Rattle.dump_client.specs.declared.fault.StartFault.TheVariants as starts
 use Rattle.dump_client.specs.declared.listen.Said.{Said}
 use Rattle.dump_client.specs.declared.listen.Listened.TheVariants as listened
 use Rattle.dump_client.specs.declared.stage.Stage.{Stage}
-use Rattle.dump_client.specs.declared.stage.Stage.TheVariants.{ToSend, Waiting}
+use Rattle.dump_client.specs.declared.stage.Stage.TheVariants.{Ready, ToSend, Waiting, Asking, Finished, Abandoned}
 use Rattle.dump_client.specs.declared.stage.Progress.{Progress}
 use Rattle.dump_client.specs.declared.stage.Progress.TheVariants as moved
 use Rattle.dump_client.specs.declared.step.Step.{Step}
 use Rattle.dump_client.specs.declared.step.Step.TheVariants.{Open, Rewind, Label, Block, Mark, Unload, Close}
 use Rattle.dump_client.proofs.Listening.{waiting_anew}
+
+-- what a client keeps of its invariant where it stands there
+abbrev pub Keeps : {B : Type 0} → (B → List (List ℕ) → Type 0) → B → List ℕ → reader.ReplyHeld → Standing → Type 0
+Keeps {B} holds source block r s =
+    (length block ≡ s.run.block_bytes) × ((payload : List (List ℕ)) → holds source payload → IsPayload s.run payload)
+    × ((bytes : List ℕ) × HasFedAt s.stage r bytes)
+
+pub over_keeps : {B : Type 0} (holds : B → List (List ℕ) → Type 0) (source : B) (block : List ℕ) (r : reader.ReplyHeld) (run : PlainRun) (counts : List VolumeCount)
+    (new : Standing) → IsOver run counts new → length block ≡ run.block_bytes → ((payload : List (List ℕ)) → holds source payload → IsPayload run payload)
+    → Keeps holds source block r new
+over_keeps holds source block r run counts new (inl h) size told = subst (Keeps holds source block r) (sym h.1) (size, told, ([], refl))
+over_keeps holds source block r run counts new (inr h) size told = subst (Keeps holds source block r) (sym h.1) (size, told, ([], refl))
+
+-- an attempt that does not start changes nothing
+pub start_refused : (stage : Stage) (old : Standing) (room : ℕ) (fault : StartFault) (new : Standing) → StartedAt stage old room (Err fault) new → new ≡ old
+start_refused Ready old room starts.OutOfMemory new h = h.1
+start_refused Ready old room starts.WrongState new h = absurd h
+start_refused (ToSend step) old room fault new h = h.1
+start_refused (Waiting step) old room fault new h = h.1
+start_refused Asking old room fault new h = h.1
+start_refused Finished old room fault new h = h.1
+start_refused Abandoned old room fault new h = h.1
+
+-- one that starts was at rest, and has its first request to send
+pub start_done : (stage : Stage) (old : Standing) (room : ℕ) (new : Standing) → StartedAt stage old room (Ok tt) new
+    → (stage ≡ Ready) × (new ≡ standing old.run old.counts (ToSend Open))
+start_done Ready old room new h = (refl, h)
+start_done (ToSend step) old room new h = let e = h.0 in absurd cc
+start_done (Waiting step) old room new h = let e = h.0 in absurd cc
+start_done Asking old room new h = let e = h.0 in absurd cc
+start_done Finished old room new h = let e = h.0 in absurd cc
+start_done Abandoned old room new h = let e = h.0 in absurd cc
 
 -- a beginning of a reply
 pub fed_waits : (old : Standing) (step : Step) (r new_reader : reader.ReplyHeld) (bytes piece : List ℕ) → Waiting step ≡ old.stage → (IsWaiting Number r bytes → IsListened Number (bytes ++ piece) listened.Waits new_reader)
@@ -52,6 +88,60 @@ waiting_at stage step r bytes at h = subst (λ s. HasFedAt s r bytes → IsWaiti
 
 pub fed_at_waiting : (stage : Stage) (step : Step) (r : reader.ReplyHeld) (bytes : List ℕ) → Waiting step ≡ stage → IsWaiting Number r bytes → HasFedAt stage r bytes
 fed_at_waiting stage step r bytes at w = subst (λ s. HasFedAt s r bytes) at w
+
+-- bytes that nobody waits for
+pub fed_unasked : (old : Standing) (step : Step) (bytes piece : List ℕ) (progress : Progress) (new : Standing) → ToSend step ≡ old.stage → piece ≢ []
+    → HearsAt old step Noise false progress new → FedAt old.stage old bytes piece progress new
+fed_unasked old step bytes piece progress new at some heard = subst (λ s. FedAt s old bytes piece progress new) at (inr (some, heard))
+
+pub unanswered_waiting : (stage : Stage) (step : Step) (r : reader.ReplyHeld) (bytes : List ℕ) → Waiting step ≡ stage → IsWaiting Number r bytes
+    → HasFedAt stage r (unanswered stage bytes)
+unanswered_waiting stage step r bytes at w = subst (λ s. HasFedAt s r (unanswered s bytes)) at w
+
+-- before a request nothing is fed
+pub none_fed : (stage : Stage) (step : Step) (r : reader.ReplyHeld) (bytes : List ℕ) → ToSend step ≡ stage → HasFedAt stage r bytes → bytes ≡ []
+none_fed stage step r bytes at h = subst (λ s. HasFedAt s r bytes → bytes ≡ []) at (λ k. k.1) h
+
+pub over_fed : (run : PlainRun) (counts : List VolumeCount) (new : Standing) (r : reader.ReplyHeld) (bytes : List ℕ) → IsOver run counts new → bytes ≡ []
+    → HasFedAt new.stage r bytes
+over_fed run counts new r bytes (inl h) none = subst (λ n. HasFedAt n.stage r bytes) (sym h.1) none
+over_fed run counts new r bytes (inr h) none = subst (λ n. HasFedAt n.stage r bytes) (sym h.1) none
+
+-- a request that was appended was asked for
+pub asked_done : (told : List (List ℕ) → Type 0) (old : Standing) (step : Step) (capacity : ℕ) (before now : List ℕ) (new : Standing) → ToSend step ≡ old.stage
+    → AppendedBy told old step capacity before (Ok tt) now → new ≡ standing old.run old.counts (Waiting step)
+    → AskedAt old.stage told old capacity before (Ok true) now new
+asked_done told old step capacity before now new at h is =
+    subst (λ s. AskedAt s told old capacity before (Ok true) now new) at (h.0, h.1, h.2, h.3, is)
+
+scarce_close : (fault : AttemptFault) (capacity len : ℕ) → IsFaultAt Close fault capacity len → IsScarce capacity len
+scarce_close OutOfMemory capacity len h = h
+scarce_close (Refused n) capacity len h = absurd h
+scarce_close Botched capacity len h = absurd h
+scarce_close ConnectionEnded capacity len h = absurd h
+scarce_close ShortWrite capacity len h = absurd h
+scarce_close ReelTooSmall capacity len h = absurd h
+scarce_close SourceFault capacity len h = absurd h
+
+-- at the close none is, where memory is scarce
+pub asked_over : (told : List (List ℕ) → Type 0) (old : Standing) (step : Step) (capacity : ℕ) (before now : List ℕ) (fault : AttemptFault) (new : Standing)
+    → ToSend step ≡ old.stage → step ≡ Close → AppendedBy told old step capacity before (Err fault) now → IsOver old.run old.counts new
+    → AskedAt old.stage told old capacity before (Ok false) now new
+asked_over told old step capacity before now fault new at is h over =
+    subst (λ s. AskedAt s told old capacity before (Ok false) now new) at
+    (is, subst (λ s. IsFaultAt s fault capacity (length before) → IsScarce capacity (length before)) (sym is) (scarce_close fault capacity (length before)) h.0, h.1, over)
+
+pub asked_failed : (told : List (List ℕ) → Type 0) (old : Standing) (step : Step) (capacity : ℕ) (before now : List ℕ) (fault : AttemptFault) (new : Standing)
+    → ToSend step ≡ old.stage → step ≢ Close → AppendedBy told old step capacity before (Err fault) now → new ≡ standing old.run old.counts Asking
+    → AskedAt old.stage told old capacity before (Err fault) now new
+asked_failed told old step capacity before now fault new at other h is =
+    subst (λ s. AskedAt s told old capacity before (Err fault) now new) at (other, h.0, h.1, is)
+
+-- the connection ends in an attempt
+pub cut_in : (old : Standing) (stage : Stage) (step : Step) (progress : Progress) (new : Standing) → stage ≡ old.stage
+    → (stage ≡ ToSend step) ⊎ (stage ≡ Waiting step) → HearsAt old step End false progress new → CutAt old.stage old progress new
+cut_in old stage step progress new at (inl is) heard = subst (λ s. CutAt s old progress new) (sym is ∙ at) heard
+cut_in old stage step progress new at (inr is) heard = subst (λ s. CutAt s old progress new) (sym is ∙ at) heard
 
 -- a reply is waited for anew, where none was
 pub fed_anew : (stage new_stage : Stage) (step : Step) (r new_reader : reader.ReplyHeld) (bytes : List ℕ) → ToSend step ≡ stage → new_stage ≡ Waiting step

@@ -89,7 +89,6 @@ impl<H: Holds, S: Stacks> Session<H, S> {
     /// without an error has 0 for an open or a close, the count for a write or an operation, or the bytes of a read.
     ///
     /// The drives are those of the seat and of what is open, and the stacks have no more of them than the holds.
-    #[tactic(auto, using(crate::proofs::ServeSteps::carried, crate::proofs::Spelling::outcome_spelled, crate::proofs::Spelling::number_short, crate::proofs::Spelling::outcome_short))]
     pub fn carry_out(&mut self, drives: &mut DriveTable<H, S>, request: Request<'_>) -> Reply<'_>
         requires { IsAt (kinds H.Holds S.Stacks S.Reel.Reel) (state drives.old self.old) }
         ensures* rests { sem 𝓛 (Rests (the_row H.row S.row H.Seat.row S.Reel.row H.Holds S.Stacks S.Reel.Reel) self.entry (λ new.

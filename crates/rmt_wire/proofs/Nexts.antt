@@ -1,7 +1,7 @@
 -- One call of a reader's `next`.
 use Rattle.std.proofs.Common.{◌≡◌, ℕ, eqb, true, min, ◌+◌, ◌-◌, ◌<◌, ◌≤◌, List, [], ◌++◌, length, take, drop, Option, Some, None, Result, Ok, Err, refl, sym, ap, subst, ◌∙◌, arith}
 use Rattle.std.proofs.lemmas.Bool.Decides.{nat_tests}
-use Rattle.std.proofs.lemmas.List.{take_rest, nil_from_length, length-append, length-drop, length-take-le, drop-append-le, drop-take, drop-drop}
+use Rattle.std.proofs.lemmas.List.{take_all, take_rest, nil_from_length, length-append, length-drop, length-take-le, drop-append-le, drop-take, drop-drop}
 use Rattle.rmt_wire.specs.Request.{PlainRequest, SpellsRequest}
 use Rattle.rmt_wire.specs.Request.PlainRequest.{Open, Close, Write, WriteDropped, Read, Op}
 use Rattle.rmt_wire.specs.RequestParts.{Gives}
@@ -190,3 +190,7 @@ has_let_go old items start dropped gone line all same within e kept_line g is =
       unread = λ bytes u. subst (λ l. Unread (held l (dropped + gone)) bytes) (sym new) (let_go_unread kept dropped gone line bytes e' (omega arith) (omega arith) u);
       taken = λ bytes u. (let t = taken_kept kept dropped bytes u in omega arith);
     }
+
+-- the bytes of a slice from a place on
+pub seen_from : (all items : List ℕ) (start : ℕ) → all ≡ items → take (length all - start) (drop start all) ≡ drop start items
+seen_from all items start e = take_all _ _ (omega (arith, length-drop start all)) ∙ ap (drop start) e

@@ -15,3 +15,4 @@ pub mod Taking
 pub mod Walks
 pub mod Scanning
 pub mod Held
+pub mod Memory

@@ -1,5 +1,5 @@
 -- Calls of a medium in a row.
-use Rattle.std.proofs.Common.{◌≡◌, ◌⊎◌, ℕ, ◌+◌, ◌<◌, ◌≤◌, List, length, Result, Ok, Err, inl, inr, refl, ◌∙◌, arith}
+use Rattle.std.proofs.Common.{◌≡◌, ◌⊎◌, false, true, ℕ, ◌+◌, ◌<◌, ◌≤◌, List, length, Result, Ok, Err, inl, inr, refl, ◌∙◌, arith}
 use Rattle.tape.specs.Failures.{HasRisen, Steps}
 use Rattle.tape.specs.Medium.{MediumCall, MediumStep, HasFailed, bytes_added, MediumKind, IsMediumCall}
 use Rattle.tape.specs.FileSteps.{IsRun}
@@ -7,6 +7,10 @@ use Rattle.tape.specs.FileSteps.{IsRun}
 pub run_call : {S : Type 0} {m : MediumKind S} {old new : S} {call : MediumCall} → IsMediumCall m old call new
     → IsRun m (MediumStep call) (bytes_added call) (HasFailed call) old new
 run_call c = record { step = c.step; failed = c.failed; same = c.same; counted = c.counted; able = c.able; quiet = c.quiet; room = c.room }
+
+-- an answer that is no error is none
+pub no_error : false ≡ true → ⊥
+no_error f = cc
 
 -- what a run does, said otherwise
 pub run_as : {S : Type 0} {m : MediumKind S} {old new : S} {first does : List ℕ → List ℕ → Type 0} {less added : ℕ} {fails F : Type 0}

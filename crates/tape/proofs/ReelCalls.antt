@@ -3,14 +3,14 @@ use Rattle.std.proofs.Common.{◌≡◌, ◌⊎◌, ◌↔◌, IsTrue, Bool, tru
 use Rattle.std.proofs.lemmas.List.{length-replicate, take-replicate, take_min, take_all}
 use Rattle.std.proofs.lemmas.Bool.{cases_lt}
 use Rattle.std.specs.Prelude.{◌-◌, MatchResult}
-use Rattle.tape.specs.Tape.{PlainEntry, Tape, TapeRequest, TapeAnswer, TapeStep, SpaceStep, stands_at, records_met, passed_for_records, offset_of, tape, entries_of, done_answer}
+use Rattle.tape.specs.Tape.{PlainEntry, Tape, TapeRequest, TapeAnswer, TapeStep, SpaceStep, stands_at, marks_met, records_met, passed_for_marks, passed_for_records, offset_of, tape, entries_of, done_answer}
 use Rattle.tape.specs.Tape.PlainEntry.{Record, Mark}
-use Rattle.tape.specs.Tape.TapeRequest.{Write, WriteMarks, Read, ForwardRecords, BackRecords, Rewind, Nothing, Unknown}
+use Rattle.tape.specs.Tape.TapeRequest.{Write, WriteMarks, Read, ForwardFiles, BackFiles, ForwardRecords, BackRecords, Rewind, Nothing, Unknown}
 use Rattle.tape.specs.Tape.TapeAnswer.{Done, Fault}
 use Rattle.tape.specs.Call.{IsCall, CanAnswer, CanSpace}
 use Rattle.tape.specs.Medium.{MediumKind}
 use Rattle.tape.specs.RecordFile.{IsFile, FileTape, HoldsTape, IsFileCall, image_added}
-use Rattle.tape.specs.FileSteps.{IsRun, IsReelRun, IsWalked, Puts, ahead, moved, records_request}
+use Rattle.tape.specs.FileSteps.{IsRun, IsReelRun, IsWalked, Puts, ahead, moved, files_request, records_request}
 use Rattle.tape.specs.declared.file_reel.walk.Way.{Way}
 use Rattle.tape.specs.declared.file_reel.walk.Way.TheVariants.{Forward, Back}
 use Rattle.tape.proofs.MediumRuns.{run_as}
@@ -175,6 +175,15 @@ space_by {m = m} way count at left met far request old b (Err fault) run never w
     (file_call old (record { medium = b; offset = at; capacity = old.capacity }) request (Fault EndOrMark) (walked_run way count at left met far old b run never)
     (λ e. cc) (λ f. absurd f) (can (Fault EndOrMark) (inr (omega arith, inl refl))) (λ e. cc) (omega arith)
     (λ file t u f d. step (Fault EndOrMark) t u (let e = d.1 in omega arith, d.0)))
+
+pub files_spaced : {M : Type 0} {m : MediumKind M} {F : Type 0} (way : Way) (count at left : ℕ) (old : FileTape M) (b : M) (r : Result Unit TapeFault)
+    → IsRun m (Walked way count at left (λ t. marks_met (ahead way t)) (λ t. passed_for_marks count (ahead way t)) old) 0 F old.medium b → (F → ⊥) → left ≤ count
+    → MatchResult r (λ _. left ≡ 0) (λ fault. (fault ≡ EndOrMark) × (0 < left))
+    → FileCall m old (record { medium = b; offset = at; capacity = old.capacity }) (files_request way count) (done_answer r)
+files_spaced Forward count at left old b r run never within answered =
+    space_by Forward count at left _ _ (ForwardFiles count) old b r run never within answered (λ answer t u s. s) (λ answer c. c)
+files_spaced Back count at left old b r run never within answered =
+    space_by Back count at left _ _ (BackFiles count) old b r run never within answered (λ answer t u s. s) (λ answer c. c)
 
 pub records_spaced : {M : Type 0} {m : MediumKind M} {F : Type 0} (way : Way) (count at left : ℕ) (old : FileTape M) (b : M) (r : Result Unit TapeFault)
     → IsRun m (Walked way count at left (λ t. records_met (ahead way t)) (λ t. passed_for_records count (ahead way t)) old) 0 F old.medium b → (F → ⊥) → left ≤ count

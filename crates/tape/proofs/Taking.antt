@@ -1,19 +1,21 @@
 -- A record that is read at the place.
-use Rattle.std.proofs.Common.{◌≡◌, Bool, ℕ, ◌+◌, ◌<◌, ◌≤◌, min, List, [], ◌∷◌, ◌++◌, length, take, drop, Some, inl, inr, refl, sym, ap, subst, ◌∙◌, append_assoc, length-append, length-drop, drop-drop, arith}
+use Rattle.std.proofs.Common.{◌≡◌, Bool, false, true, ℕ, ◌+◌, ◌<◌, ◌≤◌, min, List, [], ◌∷◌, ◌++◌, length, take, drop, Option, Some, Ok, Err, inl, inr, refl, sym, ap, subst, ◌∙◌, append_assoc, length-append, length-drop, length-take, drop-drop, arith}
 use Rattle.std.proofs.lemmas.List.{take_at, drop_at, take_all, take_min, append_cancel_right, take-append-le}
 use Rattle.tape.specs.Tape.{PlainEntry, Tape, Passes, tape, mark_count}
 use Rattle.tape.specs.Tape.PlainEntry.{Record, Mark}
 use Rattle.tape.specs.Tape.TapeRequest.{Read}
 use Rattle.tape.specs.Tape.TapeAnswer.{Gave, Fault}
 use Rattle.tape.specs.List.{bytes_of}
-use Rattle.tape.specs.Medium.{MediumKind, IsReadAt}
+use Rattle.tape.specs.Medium.{MediumKind, IsReadAt, IsMediumCall}
+use Rattle.tape.specs.Medium.MediumCall.{ReadAt}
+use Rattle.tape.specs.declared.medium.MediumFailed.{MediumFailed}
 use Rattle.tape.specs.RecordFile.{length_bytes, image_of, images_of, IsFile, FileTape}
 use Rattle.tape.specs.FileSteps.{IsRun, IsReelRun, IsPassed, first_length, size_by_length}
 use Rattle.tape.specs.declared.fault.TapeFault.TheVariants.{Device}
 use Rattle.tape.specs.declared.file_reel.walk.Way.TheVariants.{Forward}
 use Rattle.tape.proofs.Spelling.{length_length_bytes, body_of, image_parts}
 use Rattle.tape.proofs.Places.{parted, back_is}
-use Rattle.tape.proofs.MediumRuns.{run_as}
+use Rattle.tape.proofs.MediumRuns.{no_error, run_as, run_call, run_then}
 use Rattle.tape.proofs.ReelCalls.{FileCall, file_call}
 use Rattle.tape.proofs.Passing.{next_passed}
 
@@ -126,3 +128,46 @@ read_enough x at n got count want given t f is least long short read =
     let r = read.0 in
     let size = k.2 in
     omega (arith, ap length k.1, length-drop (at + 4) x, length-append (bytes_of s.0) k.0)
+
+-- the length at the place was read, and then the bytes behind it
+abbrev Reads : ℕ → ℕ → ℕ → List ℕ → List ℕ → List ℕ → Type 0
+Reads at n got given x z = (z ≡ x) × ((t : Tape) → IsFile x at t → Some n ≡ first_length t.after) × IsReadAt (at + 4) given got x
+
+pub read_run : {M : Type 0} {m : MediumKind M} {a b c : M} (at n got : ℕ) (length_there : Option ℕ) (given : List ℕ)
+    → IsRun m (λ x y. (y ≡ x) × ((t : Tape) → IsFile x at t → length_there ≡ first_length t.after)) 0 (false ≡ true) a b
+    → IsMediumCall m b (ReadAt (at + 4) given (Ok got)) c → length_there ≡ Some n → IsRun m (Reads at n got given) 0 ⊥ a c
+read_run at n got length_there given first call is =
+    run_then first (run_call call) no_error no_error (λ f. absurd f) (omega arith)
+    (λ x y z held s r.
+    let P : List ℕ → Type 0 = λ l. IsReadAt (at + 4) given got l in
+    (r.0 ∙ s.0, λ t f. sym is ∙ s.1 t f, subst P s.0 r.1))
+
+-- the call where a record was cut short, which no file has
+pub cut_short : {M : Type 0} {m : MediumKind M} (old new : FileTape M) (n got count want : ℕ) (given : List ℕ)
+    → IsRun m (Reads old.offset n got given) 0 ⊥ old.medium new.medium → new.capacity ≡ old.capacity
+    → count ≡ min want n → length given ≡ count → got < count → FileCall m old new (Read want) (Gave [])
+cut_short old new n got count want given run same least size short =
+    gave_call old new want [] run (λ f. f) (omega arith) same
+    (λ x y t f s. absurd (read_enough x old.offset n got count want given t f (s.1 t f) least size short s.2))
+
+-- the call where the record was read
+pub given_whole : {M : Type 0} {m : MediumKind M} (old new : FileTape M) (n got count want : ℕ) (given rest : List ℕ)
+    → IsRun m (Reads old.offset n got given) 0 ⊥ old.medium new.medium → new.capacity ≡ old.capacity → new.offset ≡ old.offset + size_by_length n
+    → count ≡ min want n → length given ≡ count → count ≤ got → FileCall m old new (Read want) (Gave (take count (given ++ rest)))
+given_whole old new n got count want given rest run same place least size enough =
+    gave_call old new want (take count (given ++ rest)) run (λ f. f) (omega (arith, length-take count (given ++ rest))) same
+    (λ x y t f s.
+    let w = read_whole x old.offset n got count want given rest t f (s.1 t f) least size enough s.2 in
+    let P : List ℕ → Type 0 = λ l. IsFile l new.offset w.0 in
+    let Q : ℕ → Type 0 = λ k. IsFile x k w.0 in
+    (w.0, subst P (sym s.0) (subst Q (sym place) w.1), w.2))
+
+-- the call where the bytes could not be read
+pub failed_behind : {M : Type 0} {m : MediumKind M} {b : M} (old new : FileTape M) (want : ℕ) (length_there : Option ℕ) (given : List ℕ) (fault : MediumFailed)
+    → IsRun m (λ x y. (y ≡ x) × ((t : Tape) → IsFile x old.offset t → length_there ≡ first_length t.after)) 0 (false ≡ true) old.medium b
+    → IsMediumCall m b (ReadAt (old.offset + 4) given (Err fault)) new.medium → new.offset ≡ old.offset → new.capacity ≡ old.capacity
+    → FileCall m old new (Read want) (Fault Device)
+failed_behind {M} {m} old new want length_there given fault first call here same =
+    let run : IsRun m (λ x z. z ≡ x) 0 (Unit {0}) old.medium new.medium
+    = run_then first (run_call call) no_error (λ f. tt) (λ f. refl) (omega arith) (λ x y z held s r. r.0 ∙ s.0) in
+    failed_read old new want run tt here same (λ x y s. s)

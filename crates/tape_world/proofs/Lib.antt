@@ -3,6 +3,8 @@ pub mod Sound
 pub mod Server
 pub mod Reached
 pub mod Clients
+pub mod Refused
+pub mod Absent
 pub mod Starting
 pub mod Ending
 pub mod Talking

@@ -17,7 +17,6 @@ use std::alloc::AllocError;
 ///
 /// It fails only where `out` has less spare room than the text has bytes and the memory for more is refused. Then `out`
 /// is as it was.
-#[tactic(auto, using(crate::proofs::Spelling::reply_text_spells))]
 pub fn push_reply(out: &mut Vec<u8>, reply: &Reply<'_>) -> Result<(), AllocError>
     requires { ReplyHasSpelling (plain_reply reply.now) }
     ensures appended { OnOk result (out.new.items ≡ out.old.items ++ reply_text (plain_reply reply.now)) }

@@ -24,7 +24,6 @@ pub struct OutputFault;
 /// at most `LINE_LIMIT` bytes. The head of a reply is one write, as far as the stream takes it, and so are the data.
 ///
 /// It gives `OutputFault` at the first write of the stream that fails, or takes none of its bytes, and writes no more.
-#[tactic(auto, using(crate::proofs::Spelling::reply_text_spells))]
 pub fn write_reply<W: Write>(out: &mut Counted<W>, reply: &Reply<'_>) -> Result<(), OutputFault>
     requires { ReplyHasSpelling (plain_reply reply.now) }
     ensures written { OnOk result (Appends (W.contents out.old.inner) (W.contents out.new.inner) (reply_text (plain_reply reply.now))) }

@@ -18,7 +18,6 @@ use std::alloc::AllocError;
 ///
 /// It fails only where `out` has less spare room than the text has bytes and the memory for more is refused. Then `out`
 /// is as it was.
-#[tactic(auto, using(crate::proofs::Spelling::request_text_spells))]
 pub fn push_request(out: &mut Vec<u8>, request: &Request<'_>) -> Result<(), AllocError>
     requires { HasSpelling (plain_request request.now) }
     ensures appended { OnOk result (out.new.items ≡ out.old.items ++ request_text (plain_request request.now)) }

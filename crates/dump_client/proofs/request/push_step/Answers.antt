@@ -1,10 +1,10 @@
 use Rattle.std.proofs.Common.{refl, ◌∙◌, ap}
 use Rattle.std.specs.Vec.{vec_capacity}
-use Rattle.rmt_wire.specs.Request.PlainRequest.{Open, Write, Op}
+use Rattle.rmt_wire.specs.Request.PlainRequest.{Open, Write, Op, Close}
 use Rattle.dump_run.specs.Label as labels
 use Rattle.dump_client.specs.Standing.{checkpoint_of}
 use Rattle.dump_client.specs.declared.step.Step.TheVariants as steps
-use Rattle.dump_client.proofs.Appended.{appended_at, block_read, block_failed}
+use Rattle.dump_client.proofs.Appended.{appended_at, pushed_counted, pushed_able, block_read, block_failed}
 use Rattle.dump_client.proofs.request.push_step.Goals as goal
 
 -- src/request.rt:27:1
@@ -56,3 +56,68 @@ pub returns-in-Unload-clause-appended : goal.returns-in-Unload-clause-appended
 returns-in-Unload-clause-appended g c =
     appended_at (g.B.Blocks.holds c.args.source.now) c.args.ledger.now.at c.args.step (steps.Unload c.in-Unload.field-0) (Op 6 1) (vec_capacity c.args.out.now) c.args.out.now.items
     c.push_op-in-Unload.result c.push_op-in-Unload.new.out.items c.in-Unload.is (λ payload t. refl, refl) c.push_op-in-Unload.ensures
+
+pub returns-in-Open-clause-counted : goal.returns-in-Open-clause-counted
+returns-in-Open-clause-counted g c =
+    pushed_counted (Open c.run.result.now.device 2) (vec_capacity c.args.out.now) c.args.out.now.items c.push_open.result c.push_open.new.out.items
+    (g.B.Blocks.failures c.args.source.now) c.push_open.ensures
+
+pub returns-in-Open-clause-able : goal.returns-in-Open-clause-able
+returns-in-Open-clause-able g c =
+    pushed_able (Open c.run.result.now.device 2) (vec_capacity c.args.out.now) c.args.out.now.items c.push_open.result c.push_open.new.out.items
+    (g.B.Blocks.can_fail c.args.source.now) c.push_open.ensures
+
+pub returns-in-Rewind-clause-counted : goal.returns-in-Rewind-clause-counted
+returns-in-Rewind-clause-counted g c =
+    pushed_counted (Op 5 1) (vec_capacity c.args.out.now) c.args.out.now.items c.push_op.result c.push_op.new.out.items
+    (g.B.Blocks.failures c.args.source.now) c.push_op.ensures
+
+pub returns-in-Rewind-clause-able : goal.returns-in-Rewind-clause-able
+returns-in-Rewind-clause-able g c =
+    pushed_able (Op 5 1) (vec_capacity c.args.out.now) c.args.out.now.items c.push_op.result c.push_op.new.out.items
+    (g.B.Blocks.can_fail c.args.source.now) c.push_op.ensures
+
+pub returns-in-Label-clause-counted : goal.returns-in-Label-clause-counted
+returns-in-Label-clause-counted g c =
+    pushed_counted (Write (labels.label c.args.ledger.now.at.run (checkpoint_of c.args.ledger.now.at.counts).0 (checkpoint_of c.args.ledger.now.at.counts).1)) (vec_capacity c.args.out.now) c.args.out.now.items c.push_label.result c.push_label.new.out.items
+    (g.B.Blocks.failures c.args.source.now) c.push_label.ensures
+
+pub returns-in-Label-clause-able : goal.returns-in-Label-clause-able
+returns-in-Label-clause-able g c =
+    pushed_able (Write (labels.label c.args.ledger.now.at.run (checkpoint_of c.args.ledger.now.at.counts).0 (checkpoint_of c.args.ledger.now.at.counts).1)) (vec_capacity c.args.out.now) c.args.out.now.items c.push_label.result c.push_label.new.out.items
+    (g.B.Blocks.can_fail c.args.source.now) c.push_label.ensures
+
+pub returns-in-Mark-clause-counted : goal.returns-in-Mark-clause-counted
+returns-in-Mark-clause-counted g c =
+    pushed_counted (Op 0 1) (vec_capacity c.args.out.now) c.args.out.now.items c.push_op-in-Mark.result c.push_op-in-Mark.new.out.items
+    (g.B.Blocks.failures c.args.source.now) c.push_op-in-Mark.ensures
+
+pub returns-in-Mark-clause-able : goal.returns-in-Mark-clause-able
+returns-in-Mark-clause-able g c =
+    pushed_able (Op 0 1) (vec_capacity c.args.out.now) c.args.out.now.items c.push_op-in-Mark.result c.push_op-in-Mark.new.out.items
+    (g.B.Blocks.can_fail c.args.source.now) c.push_op-in-Mark.ensures
+
+pub returns-in-Unload-clause-counted : goal.returns-in-Unload-clause-counted
+returns-in-Unload-clause-counted g c =
+    pushed_counted (Op 6 1) (vec_capacity c.args.out.now) c.args.out.now.items c.push_op-in-Unload.result c.push_op-in-Unload.new.out.items
+    (g.B.Blocks.failures c.args.source.now) c.push_op-in-Unload.ensures
+
+pub returns-in-Unload-clause-able : goal.returns-in-Unload-clause-able
+returns-in-Unload-clause-able g c =
+    pushed_able (Op 6 1) (vec_capacity c.args.out.now) c.args.out.now.items c.push_op-in-Unload.result c.push_op-in-Unload.new.out.items
+    (g.B.Blocks.can_fail c.args.source.now) c.push_op-in-Unload.ensures
+
+pub returns-in-Close-clause-counted : goal.returns-in-Close-clause-counted
+returns-in-Close-clause-counted g c =
+    pushed_counted Close (vec_capacity c.args.out.now) c.args.out.now.items c.push-in-Close.result c.push-in-Close.new.out.items
+    (g.B.Blocks.failures c.args.source.now) c.push-in-Close.ensures
+
+pub returns-in-Close-clause-able : goal.returns-in-Close-clause-able
+returns-in-Close-clause-able g c =
+    pushed_able Close (vec_capacity c.args.out.now) c.args.out.now.items c.push-in-Close.result c.push-in-Close.new.out.items
+    (g.B.Blocks.can_fail c.args.source.now) c.push-in-Close.ensures
+
+pub returns-in-Close-clause-appended : goal.returns-in-Close-clause-appended
+returns-in-Close-clause-appended g c =
+    appended_at (g.B.Blocks.holds c.args.source.now) c.args.ledger.now.at c.args.step steps.Close Close (vec_capacity c.args.out.now) c.args.out.now.items
+    c.push-in-Close.result c.push-in-Close.new.out.items c.in-Close.is (λ payload t. refl, refl) c.push-in-Close.ensures

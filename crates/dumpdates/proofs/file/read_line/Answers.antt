@@ -1,3 +1,4 @@
+use Rattle.std.proofs.Common.{rules}
 use Rattle.std.proofs.lemmas.Result.{err_from_is_err_and}
 use Rattle.dumpdates.specs.Found.{plain_found}
 use Rattle.dumpdates.proofs.Shapes.{spelled_is_entry}
@@ -15,3 +16,9 @@ pub returns-in_err-last-clause-refused : goal.returns-in_err-last-clause-refused
 returns-in_err-last-clause-refused c =
     let p = err_from_is_err_and c.from_residual-in_err-last.result c.from_residual-in_err-last.ensures.1 in
     rw (p.1, p.2) (plain_found c.in-Ok-Some.found, rw c.in-Ok-Some.field-0-is at c.in-Ok-Some.ensures)
+
+pub returns-in-Err-BadShape-clause-added : goal.returns-in-Err-BadShape-clause-added
+returns-in-Err-BadShape-clause-added c = search rules
+
+pub returns-in-Err-NoDate-clause-refused : goal.returns-in-Err-NoDate-clause-refused
+returns-in-Err-NoDate-clause-refused c = search rules

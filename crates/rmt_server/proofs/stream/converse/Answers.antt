@@ -1,4 +1,4 @@
-use Rattle.std.proofs.Common.{◌++◌, [], take, refl, arith, ◌∙◌}
+use Rattle.std.proofs.Common.{rules, ◌++◌, [], take, refl, arith, ◌∙◌}
 use Rattle.std.proofs.KnownBytes.{Consumes-nil, Consumes-trans}
 use Rattle.rmt_server.proofs.Answering.{advances_none, answered_none, settled_empty, read_cut, read_faulty, read_answered}
 use Rattle.rmt_server.proofs.stream.converse.Goals as goal
@@ -51,3 +51,9 @@ loop-wire-preserved g c =
             so_far.2 (λ rest settled. let w = c.in_ok-fault-in-Ok.ensures.answers rest settled in rw c.in_default.is at w),
       ),
     )
+
+pub returns-in-Err-clause-converses : goal.returns-in-Err-clause-converses
+returns-in-Err-clause-converses g c = search rules
+
+pub returns-in-Err-clause-steady : goal.returns-in-Err-clause-steady
+returns-in-Err-clause-steady g c = search rules

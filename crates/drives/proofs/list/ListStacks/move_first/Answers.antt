@@ -1,6 +1,6 @@
 use Rattle.drives.specs.Shop.{EachReelOnce}
 use Rattle.drives.specs.ListShop.{ListShop}
-use Rattle.std.proofs.Common.{◌<◌, vec_capacity, sym, subst, ap, ◌∙◌, ◌++◌, ◌∷◌, []}
+use Rattle.std.proofs.Common.{rules, ◌<◌, vec_capacity, sym, subst, ap, ◌∙◌, ◌++◌, ◌∷◌, []}
 use Rattle.drives.specs.contracts.list.ListStacks.{the_view}
 use Rattle.drives.proofs.ListShop.{stocked_moved, value_some, read_some, room_some}
 use Rattle.drives.proofs.list.ListStacks.move_first.Goals as goal
@@ -30,3 +30,6 @@ returns-then-self-clause-once c = subst (λ (s : ListShop). EachReelOnce s.shop)
 
 pub returns-clause-once : goal.returns-clause-once
 returns-clause-once c = subst (λ (s : ListShop). EachReelOnce s.shop) c.self.view_is c.self.invariant.once
+
+pub returns-then-self-clause-back : goal.returns-then-self-clause-back
+returns-then-self-clause-back c = search rules

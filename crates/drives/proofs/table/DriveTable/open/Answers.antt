@@ -1,7 +1,7 @@
-use Rattle.std.proofs.Common.{ℕ, ◌<◌, sym, subst, ◌∙◌, ap, ◌≡◌, Some, arith}
+use Rattle.std.proofs.Common.{rules, refl, ℕ, ◌<◌, sym, subst, ◌∙◌, ap, ◌≡◌, Some, arith}
 use Rattle.drives.proofs.Held.{given_back}
 use Rattle.drives.proofs.Refused.{latch_refused, word_given_back}
-use Rattle.drives.specs.Holding.{given}
+use Rattle.drives.specs.Holding.{given, last_drive}
 use Rattle.drives.specs.Opening.{kinds}
 use Rattle.drives.proofs.table.DriveTable.open.Goals as goal
 
@@ -30,4 +30,55 @@ returns-in-Err-clause-opens g c =
       same_seats = c.give.ensures.same_seats ∙ c.in_default-take.ensures.same_seats;
       step = refused.step;
       call = refused.call;
+    }
+
+pub returns-in_default-clause-opens : goal.returns-in_default-clause-opens
+returns-in_default-clause-opens g c = record {
+  view = refl;
+  own = c.requires.seat;
+  asked = λ d is. absurd cc;
+  found = λ d n is tells. absurd cc;
+  told = λ d n tells. tells;
+  others = λ s n was. was;
+  same_holds = refl;
+  same_seats = refl;
+  step = λ s h. (s, h, ((c.in_default.ensures.named s h), refl));
+  call = refl;
+}
+
+pub returns-in-Busy-clause-opens : goal.returns-in-Busy-clause-opens
+returns-in-Busy-clause-opens g c =
+    let d = c.in-Some.drive in
+    let asked : last_drive (g.H.Holds.shows c.take.new.seat) ≡ Some d = ap last_drive c.in-Busy.ensures.step in
+    let below : d < g.H.Holds.drives c.args.self.now.holds = omega (arith, c.in-Some.ensures.below, c.requires.drives) in
+    record {
+      view = (c.in-Busy.ensures.answer, (d, c.in-Busy.ensures.step));
+      own = c.in-Busy.ensures.own;
+      asked = λ e is. subst (λ n. n < g.H.Holds.drives c.args.self.now.holds) (some_same (sym asked ∙ is)) below;
+      found = λ e n is tells. c.in-Busy.ensures.found n (subst (λ m. g.H.Holds.tells c.args.self.now.holds m n) (sym (some_same (sym asked ∙ is))) tells);
+      told = search rules;
+      others = c.in-Busy.ensures.others;
+      same_holds = c.in-Busy.ensures.same_drives;
+      same_seats = c.in-Busy.ensures.same_seats;
+      step = λ s h. (s, h, (d, asked, c.in-Some.ensures.named s h, refl));
+      call = refl;
+    }
+
+pub returns-in-Ok-clause-opens : goal.returns-in-Ok-clause-opens
+returns-in-Ok-clause-opens g c =
+    let d = c.in-Some.drive in
+    let take = c.in_default-take.ensures in
+    let asked : last_drive (g.H.Holds.shows c.take.new.seat) ≡ Some d = ap last_drive take.step in
+    let below : d < g.H.Holds.drives c.args.self.now.holds = omega (arith, c.in-Some.ensures.below, c.requires.drives) in
+    record {
+      view = (take.answer.0, take.answer.1, take.answer.2, take.step);
+      own = take.own;
+      asked = λ e is. subst (λ n. n < g.H.Holds.drives c.args.self.now.holds) (some_same (sym asked ∙ is)) below;
+      found = λ e n is tells. take.found n (subst (λ m. g.H.Holds.tells c.args.self.now.holds m n) (sym (some_same (sym asked ∙ is))) tells);
+      told = take.told;
+      others = take.others;
+      same_holds = take.same_drives;
+      same_seats = take.same_seats;
+      step = λ s h. (let n = c.in-Ok.ensures.step s h in (n.0, n.1, (asked, c.in-Some.ensures.named s h, n.2)));
+      call = c.in-Ok.ensures;
     }

@@ -1,8 +1,9 @@
-use Rattle.std.proofs.Common.{List, ℕ, ◌++◌, sym, ◌∙◌, ap, subst}
+use Rattle.std.proofs.Common.{arith, rules, List, ℕ, [], ◌++◌, sym, ◌∙◌, ap, subst}
+use Rattle.std.proofs.lemmas.Grind.{common_steps}
 use Rattle.dump_client.specs.Standing.{FedAt}
-use Rattle.dump_client.specs.Client.{HasFed, IsPayload, unanswered}
+use Rattle.dump_client.specs.Client.{HasFed, HasFedAt, IsPayload, unanswered}
 use Rattle.dump_client.specs.declared.stage.Progress.TheVariants as moved
-use Rattle.dump_client.proofs.Feeding.{fed_waits, fed_reply, fed_noise, waiting_at, fed_at_waiting}
+use Rattle.dump_client.proofs.Feeding.{fed_waits, fed_reply, fed_noise, waiting_at, fed_at_waiting, fed_unasked, unanswered_waiting}
 use Rattle.dump_client.proofs.client.Client.feed.Goals as goal
 
 -- src/client.rt:167:36
@@ -45,3 +46,49 @@ returns-in-Noise-clause-moved g c =
     subst (λ h. (bytes : List ℕ) → HasFed h bytes → FedAt h.at.stage h.at bytes c.args.piece.now c.noise-in-Noise.result c.noise-in-Noise.new.self.at) c.self.view_is
     (λ bytes k. fed_noise c.self.inside.ledger.at c.in-Waiting.step c.self.inside.reader c.listen.new.reader bytes c.args.piece.now c.noise-in-Noise.result c.noise-in-Noise.new.self.at
     c.in-Waiting.ensures.value (c.in-Noise.ensures.listened bytes) c.noise-in-Noise.ensures.heard k)
+
+pub returns-in-ToSend-clause-moved : goal.returns-in-ToSend-clause-moved
+returns-in-ToSend-clause-moved g c = grind (arith, common_steps)
+
+pub invariant_of-self : goal.invariant_of-self
+invariant_of-self g c = (
+  c.self.invariant.0 ∙ ap (λ r. r.block_bytes) (sym c.noise.ensures.same_run),
+  subst (λ r. (payload : List (List ℕ)) → g.B.Blocks.holds c.self.inside.source payload → IsPayload r payload) (sym c.noise.ensures.same_run) c.self.invariant.1,
+  (unanswered c.noise.new.self.at.stage [], c.noise.ensures.fed c.self.inside.reader []),
+)
+
+pub invariant_of-self-in-Noise : goal.invariant_of-self-in-Noise
+invariant_of-self-in-Noise g c = (
+  c.self.invariant.0 ∙ ap (λ r. r.block_bytes) (sym c.noise-in-Noise.ensures.same_run),
+  subst (λ r. (payload : List (List ℕ)) → g.B.Blocks.holds c.self.inside.source payload → IsPayload r payload) (sym c.noise-in-Noise.ensures.same_run) c.self.invariant.1,
+  (unanswered c.noise-in-Noise.new.self.at.stage [], c.noise-in-Noise.ensures.fed c.listen.new.reader []),
+)
+
+pub returns-in-ToSend-2-clause-moved : goal.returns-in-ToSend-2-clause-moved
+returns-in-ToSend-2-clause-moved g c =
+    subst (λ h. (bytes : List ℕ) → HasFed h bytes → FedAt h.at.stage h.at bytes c.args.piece.now c.noise.result c.noise.new.self.at) c.self.view_is
+    (λ bytes k. fed_unasked c.self.inside.ledger.at c.in-ToSend.field-0 bytes c.args.piece.now c.noise.result c.noise.new.self.at
+    c.in-ToSend.ensures.value (search rules) c.noise.ensures.heard)
+
+pub returns-in-ToSend-2-clause-fed : goal.returns-in-ToSend-2-clause-fed
+returns-in-ToSend-2-clause-fed g c = λ bytes k. c.noise.ensures.fed c.self.inside.reader (bytes ++ c.args.piece.now)
+
+pub returns-in-Noise-clause-fed : goal.returns-in-Noise-clause-fed
+returns-in-Noise-clause-fed g c = λ bytes k. c.noise-in-Noise.ensures.fed c.listen.new.reader (bytes ++ c.args.piece.now)
+
+pub returns-in-Reply-clause-fed : goal.returns-in-Reply-clause-fed
+returns-in-Reply-clause-fed g c =
+    let stage = c.reply.new.self.at.stage in
+    subst (λ h. (bytes : List ℕ) → HasFed h bytes → HasFedAt stage c.listen.new.reader (unanswered stage (bytes ++ c.args.piece.now))) c.self.view_is
+    (λ bytes k.
+    let waits = waiting_at c.self.inside.ledger.at.stage c.in-Waiting.step c.self.inside.reader bytes c.in-Waiting.ensures.value k in
+    let listened = c.in-Reply.ensures.listened bytes waits in
+    c.reply.ensures.fed c.listen.new.reader (bytes ++ c.args.piece.now) listened.5)
+
+pub returns-in-Waits-clause-fed : goal.returns-in-Waits-clause-fed
+returns-in-Waits-clause-fed g c =
+    let stage = c.self.inside.ledger.at.stage in
+    subst (λ h. (bytes : List ℕ) → HasFed h bytes → HasFedAt stage c.listen.new.reader (unanswered stage (bytes ++ c.args.piece.now))) c.self.view_is
+    (λ bytes k.
+    let waits = waiting_at stage c.in-Waiting.step c.self.inside.reader bytes c.in-Waiting.ensures.value k in
+    unanswered_waiting stage c.in-Waiting.step c.listen.new.reader (bytes ++ c.args.piece.now) c.in-Waiting.ensures.value (c.in-Waits.ensures.listened bytes waits))

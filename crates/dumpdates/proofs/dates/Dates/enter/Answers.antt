@@ -1,4 +1,4 @@
-use Rattle.std.proofs.Common.{◌≡◌, ◌∙◌, sym, ap}
+use Rattle.std.proofs.Common.{rules, ◌≡◌, ◌∙◌, sym, ap}
 use Rattle.dumpdates.specs.Dates.{others, entered}
 use Rattle.dumpdates.specs.Stored.{plain_entry}
 use Rattle.dumpdates.proofs.Entering.{absent, on_err_any}
@@ -16,3 +16,6 @@ returns-in_ok-append-in-None-clause-entered c =
     let e = plain_entry c.args.entry in
     let a = absent e c.self.inside.entries.items (rw c.deref.ensures.value at (sym c.in-None.ensures)) in
     c.in_ok-append-in-None.ensures.last ∙ sym a.1 ∙ ap (λ d. entered d e) c.self.view_is
+
+pub returns-in-Some-clause-entered : goal.returns-in-Some-clause-entered
+returns-in-Some-clause-entered c = search rules

@@ -1,4 +1,5 @@
-use Rattle.std.proofs.Common.{◌≡◌, ◌∙◌, ap, sym, subst}
+use Rattle.std.proofs.Common.{arith, ◌≡◌, ◌∙◌, ap, sym, subst}
+use Rattle.std.proofs.lemmas.Grind.{common_steps}
 use Rattle.std.proofs.lemmas.List.{take_all}
 use Rattle.dumpdates.specs.Lines.{SpellsDates}
 use Rattle.dumpdates.specs.Stored.{plain_all}
@@ -14,3 +15,6 @@ returns-clause-spelled c =
     let whole : text ≡ written (plain_all items) =
     c.loop-entry.invariant ∙ ap (λ xs. written (plain_all xs)) (take_all c.loop-entry.entry-index c.deref-entry-items.result.now c.loop-entry-test.false ∙ c.deref-entry-items.ensures.value) in
     subst (λ d. SpellsDates text d) c.self.view_is (subst (λ t. SpellsDates t (plain_all items)) (sym whole) (written_spells (plain_all items) (stored_entries items)))
+
+pub loop-entry-preserved : goal.loop-entry-preserved
+loop-entry-preserved c = grind (arith, common_steps)

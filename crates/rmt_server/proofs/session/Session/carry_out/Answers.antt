@@ -1,4 +1,4 @@
-use Rattle.std.proofs.Common.{◌≡◌, length, take, refl, Ok, rules, arith}
+use Rattle.std.proofs.Common.{◌≡◌, length, take, refl, Ok, Err, rules, arith}
 use Rattle.std.proofs.lemmas.Grind.{common_steps}
 use Rattle.drives.specs.Opening.{kinds}
 use Rattle.rmt_wire.specs.Lent.{plain_request}
@@ -6,9 +6,10 @@ use Rattle.rmt_wire.specs.Limits.{data_limit}
 use Rattle.rmt_wire.specs.Reply.PlainReply.{Data}
 use Rattle.rmt_server.specs.State.{state}
 use Rattle.rmt_server.specs.Carrying.{CarriesOut}
+use Rattle.rmt_server.specs.Refusals.{refused}
 use Rattle.rmt_server.specs.declared.session.dispatch.Given.TheVariants.{Bytes}
 use Rattle.rmt_server.proofs.ServeSteps.{carried}
-use Rattle.rmt_server.proofs.Spelling.{outcome_spelled, outcome_short}
+use Rattle.rmt_server.proofs.Spelling.{outcome_spelled, outcome_short, number_short}
 use Rattle.rmt_server.proofs.session.Session.carry_out.Goals as goal
 
 pub returns-in-Ok-Bytes : goal.returns-in-Ok-Bytes
@@ -26,4 +27,32 @@ returns-in-Ok-Bytes g c =
         spelling = λ s. outcome_spelled (Ok (Bytes c.in-Ok-Bytes.count)) c.dispatch-outcome.new.buffer full tt;
         short = λ s. outcome_short (Ok (Bytes c.in-Ok-Bytes.count)) c.dispatch-outcome.new.buffer full tt;
       },
+    )
+
+pub invariant_of-self : goal.invariant_of-self
+invariant_of-self g c = grind (arith, common_steps)
+
+pub invariant_of-self-in-Ok-Bytes : goal.invariant_of-self-in-Ok-Bytes
+invariant_of-self-in-Ok-Bytes g c = grind (arith, common_steps)
+
+pub returns-in-Ok-Number : goal.returns-in-Ok-Number
+returns-in-Ok-Number g c =
+    let k = kinds g.H.Holds g.S.Stacks g.S.Reel.Reel in
+    let old = state c.args.drives.now c.args.self.now in
+    let new = state c.dispatch-outcome.new.drives c.dispatch-outcome.new.desk in (
+      (refl, λ x. tt, carried k old (plain_request c.args.request) _ new c.requires (search rules)),
+      record { rests = tt; spelling = search rules; short = λ s. number_short _ (search rules) },
+    )
+
+pub returns-in-Err : goal.returns-in-Err
+returns-in-Err g c =
+    let k = kinds g.H.Holds g.S.Stacks g.S.Reel.Reel in
+    let old = state c.args.drives.now c.args.self.now in
+    let new = state c.dispatch-outcome.new.drives c.dispatch-outcome.new.desk in
+    let buffer = c.dispatch-outcome.new.buffer in
+    let effect : CarriesOut k old (plain_request c.args.request) (refused c.in-Err.refusal) new = search rules in
+    let full : length buffer ≡ data_limit = omega (arith, c.dispatch-outcome.auto.buffer, c.as_mut_slice.ensures.value, c.as_mut_slice.ensures.len, c.self.invariant) in
+    rw c.reply.ensures (
+      (refl, λ x. tt, carried k old (plain_request c.args.request) _ new c.requires effect),
+      record { rests = tt; spelling = λ s. outcome_spelled (Err c.in-Err.refusal) buffer full tt; short = λ s. outcome_short (Err c.in-Err.refusal) buffer full tt },
     )

@@ -1,12 +1,76 @@
-use Rattle.std.proofs.Common.{rules, map}
+use Rattle.std.proofs.Common.{rules, map, refl, sym, subst, ap, ◌∙◌, ◌≡◌}
 use Rattle.tape_world.specs.Seen.{names_in}
-use Rattle.tape_world.proofs.ServingStock.{stocked_arranged}
+use Rattle.tape_world.proofs.ServingStock.{stocked_arranged, stocked_same}
+use Rattle.tape_events.specs.World.{World}
+use Rattle.tape_events.specs.Rows.{MayArrange}
+use Rattle.std.specs.Prelude.{IsTrue}
+use Rattle.std.specs.List.{list_all}
+use Rattle.std.proofs.lemmas.Bool.{false≢true}
+use Rattle.drives.specs.Arranging.{is_piled}
+use Rattle.tape_world.proofs.Absent.{named_same, may_be, may_parts, if_err, if_ok}
+use Rattle.tape_events.specs.Changes.{calm}
+use Rattle.tape_events.specs.Steps.{Happens}
+use Rattle.tape_events.specs.Events.PlainEvent.{Arrange}
+use Rattle.tape_host.specs.Halls.{hosted, restacked}
+use Rattle.tape_world.specs.contracts.ends.Ends.{the_view}
+use Rattle.tape_world.proofs.Refused.{sound_same}
 use Rattle.tape_world.proofs.ends.Ends.arrange.Goals as goal
 
 pub invariant_of-self-2 : goal.invariant_of-self-2
-invariant_of-self-2 c = (
-  search rules,
-  c.self.invariant.1,
-  stocked_arranged (names_in c.self.inside.books) c.self.inside.host.hall.shop c.arrange.new.self.hall.shop c.in-Some.place (map (λ n. n.now) c.args.reels.now)
-      (search rules) c.self.invariant.2,
+invariant_of-self-2 c =
+    let is : c.arrange.new.self ≡ hosted (restacked c.self.inside.host.hall c.in-Some.place (map (λ n. n.now) c.args.reels.now)) c.self.inside.host.ready
+    = if_ok c.arrange.result _ _ c.arrange.ensures.arranged (sym c.is_err.ensures.value ∙ c.if-is_err.false) in (
+      search rules,
+      c.self.invariant.1,
+      stocked_arranged (names_in c.self.inside.books) c.self.inside.host.hall.shop c.arrange.new.self.hall.shop c.in-Some.place
+          (map (λ n. n.now) c.args.reels.now) (ap (λ h. h.hall.shop) is) c.self.invariant.2,
+    )
+
+pub returns-in_default : goal.returns-in_default
+returns-in_default c = (
+  refl,
+  λ may. (
+      let here : MayArrange c.self.inside.host.hall c.args.drive.now (map (λ n. n.now) c.args.reels.now)
+      = subst (λ (w : World). MayArrange w.hall c.args.drive.now (map (λ n. n.now) c.args.reels.now)) (sym c.self.view_is) may in
+      c.in_default.ensures here.0 here.1.0 here.1.1),
 )
+
+pub returns-then-not-can_arrange : goal.returns-then-not-can_arrange
+returns-then-not-can_arrange c = (
+  refl,
+  λ may. (
+      let here : MayArrange c.self.inside.host.hall c.args.drive.now (map (λ n. n.now) c.args.reels.now)
+      = subst (λ (w : World). MayArrange w.hall c.args.drive.now (map (λ n. n.now) c.args.reels.now)) (sym c.self.view_is) may in
+      let same = named_same c.args.drive.now c.self.inside.host.hall.shop here.0 c.in-Some.place here.1 c.in-Some.ensures in
+      let yes = may_be c.self.inside.host.hall.shop c.in-Some.place (map (λ n. n.now) c.args.reels.now)
+      (c.can_arrange.ensures.free (search rules)) here.3
+      (subst (λ d. IsTrue (list_all (is_piled c.self.inside.host.hall.shop d) (map (λ n. n.now) c.args.reels.now))) same here.4) in
+      absurd (false≢true (c.if-not-can_arrange.ensures.may ∙ yes))),
+)
+
+pub invariant_of-self : goal.invariant_of-self
+invariant_of-self c =
+    let same : c.arrange.new.self ≡ c.self.inside.host = if_err c.arrange.result _ _ c.arrange.ensures.arranged (sym c.is_err.ensures.value ∙ c.if-is_err.true) in (
+      sound_same (the_view c.self.inside) _ (ap (λ h. record (the_view c.self.inside) { hall = h.hall }) same) c.self.invariant.0,
+      c.self.invariant.1,
+      stocked_same _ c.self.inside.host.hall.shop c.arrange.new.self.hall.shop (ap (λ h. h.hall.shop) same) c.self.invariant.2,
+    )
+
+pub returns-then-is_err : goal.returns-then-is_err
+returns-then-is_err c =
+    let same : c.arrange.new.self ≡ c.self.inside.host = if_err c.arrange.result _ _ c.arrange.ensures.arranged (sym c.is_err.ensures.value ∙ c.if-is_err.true) in
+    ap (λ h. record (the_view c.self.inside) { hall = h.hall }) same ∙ c.self.view_is
+
+pub returns : goal.returns
+returns c =
+    let w = the_view c.self.inside in
+    let is : c.arrange.new.self ≡ hosted (restacked c.self.inside.host.hall c.in-Some.place (map (λ n. n.now) c.args.reels.now)) c.self.inside.host.ready
+    = if_ok c.arrange.result _ _ c.arrange.ensures.arranged (sym c.is_err.ensures.value ∙ c.if-is_err.false) in
+    let may = may_parts c.self.inside.host.hall.shop c.in-Some.place (map (λ n. n.now) c.args.reels.now) (sym c.if-not-can_arrange.ensures.may) in
+    subst (λ (v : World). Happens v (Arrange c.args.drive.now (map (λ n. n.now) c.args.reels.now)) (record (calm w) { hall = c.arrange.new.self.hall })) c.self.view_is (
+      (c.in-Some.place, c.in-Some.ensures, search rules, may.0, may.1),
+      (c.in-Some.place, c.in-Some.ensures, ap (λ h. record (calm w) { hall = h.hall }) is),
+    )
+
+pub arrange-requires-clause-free : goal.arrange-requires-clause-free
+arrange-requires-clause-free c = search rules

@@ -1,20 +1,24 @@
 use Rattle.std.proofs.Common.{rules, ◌≡◌, ◌+◌, refl, sym, ap, subst, ◌∙◌, Some, None, map, option_map, length, ◌++◌, ◌∷◌, [], arith}
 use Rattle.std.proofs.lemmas.List.{map-append, length-map}
 use Rattle.std.proofs.lemmas.Option.{same_Some}
+use Rattle.std.proofs.lemmas.Bool.{false≢true}
 use Rattle.rmt_wire.specs.ReplyReader.{reply_held}
-use Rattle.dump_client.specs.Standing.{standing}
+use Rattle.dump_client.specs.Standing.{standing, state_of}
 use Rattle.dump_client.specs.declared.step.Step.TheVariants.{Open}
 use Rattle.dump_client.specs.declared.stage.Stage.TheVariants.{Ready, ToSend}
 use Rattle.tape_host.specs.Halls.{joined}
 use Rattle.tape_events.specs.World.{World, Caller}
 use Rattle.tape_events.specs.Changes.{calm, new_link}
+use Rattle.tape_events.specs.Events.PlainEvent.{Connect}
 use Rattle.tape_events.specs.Rows.{StandsIn}
 use Rattle.tape_events.specs.Steps.{caller, connected, fresh}
 use Rattle.tape_world.specs.contracts.ends.Ends.{the_view}
-use Rattle.tape_world.specs.Seen.{seen_caller, seen_link}
+use Rattle.tape_world.specs.Seen.{seen_caller, seen_link, world_of}
 use Rattle.tape_world.proofs.Clients.{sourced_same}
 use Rattle.tape_world.proofs.Starting.{stands_ready, started, started_caller, connected_sound}
 use Rattle.tape_world.proofs.ServingStock.{stocked_same}
+use Rattle.tape_world.proofs.Sound.{refused_event}
+use Rattle.tape_world.proofs.Refused.{sound_same, unstarted_event, unstarted_seen, unstarted_sourced}
 use Rattle.tape_world.proofs.ends.Ends.connect.Goals as goal
 
 pub invariant_of-self-2 : goal.invariant_of-self-2
@@ -62,3 +66,60 @@ returns c =
             ∙ ap (λ (w : World). connected w (seen_caller i.before)) c.self.view_is,
       ),
     )
+
+pub invariant_of-self : goal.invariant_of-self
+invariant_of-self c = (
+  sound_same (the_view c.self.inside) _
+      (ap (λ items. record (the_view c.self.inside) { links = map seen_link items }) c.in_err-reserve.ensures.items) c.self.invariant.0,
+  c.self.invariant.1,
+  c.self.invariant.2,
+)
+
+pub invariant_of-self-in_err-prepare : goal.invariant_of-self-in_err-prepare
+invariant_of-self-in_err-prepare c = (
+  sound_same (the_view c.self.inside) _
+      (ap (λ items. record (the_view c.self.inside) { hall = c.prepare.new.self.hall; links = map seen_link items }) c.in_ok-reserve.ensures.items
+      ∙ ap (λ h. record (the_view c.self.inside) { hall = h.hall }) c.in_err-prepare.ensures) c.self.invariant.0,
+  c.self.invariant.1,
+  stocked_same _ c.self.inside.host.hall.shop c.prepare.new.self.hall.shop (ap (λ h. h.hall.shop) c.in_err-prepare.ensures) c.self.invariant.2,
+)
+
+-- where the client could start no attempt, the world is seen as before
+unstarted : (c : goal.After-from_residual-in_err-dumping) → world_of c.prepare.new.self.hall c.reserve.new.self.items c.self.inside.begun.items
+    c.start_attempt.new.caller c.self.inside.own c.self.inside.books c.self.inside.dates ≡ the_view c.self.inside
+unstarted c =
+    let V = the_view c.self.inside in
+    let client = option_map seen_caller c.start_attempt.new.caller in
+    ap (λ items. record V { hall = c.prepare.new.self.hall; links = map seen_link items; caller = client }) c.in_ok-reserve.ensures.items
+    ∙ ap (λ h. record V { hall = h.hall; caller = client }) c.in_ok-prepare.ensures
+    ∙ ap (λ x. record V { caller = x }) (unstarted_seen c.self.inside.caller c.start_attempt.new.caller c.in_err-dumping.field-0.0 c.in_err-dumping.ensures)
+
+pub invariant_of-self-in_err-dumping : goal.invariant_of-self-in_err-dumping
+invariant_of-self-in_err-dumping c = (
+  sound_same (the_view c.self.inside) _ (unstarted c) c.self.invariant.0,
+  unstarted_sourced c.self.inside.begun.items c.self.inside.caller c.start_attempt.new.caller c.in_err-dumping.field-0.0 c.in_err-dumping.ensures
+      c.self.invariant.1,
+  stocked_same _ c.self.inside.host.hall.shop c.prepare.new.self.hall.shop (ap (λ h. h.hall.shop) c.in_ok-prepare.ensures) c.self.invariant.2,
+)
+
+pub returns-then-not-stands_in : goal.returns-then-not-stands_in
+returns-then-not-stands_in c = (
+  refl,
+  λ (x, is, ready). absurd (false≢true (sym c.if-not-stands_in.true ∙ c.stands_in.ensures.1 (x, is, ap state_of ready))),
+)
+
+pub returns-in_err-reserve : goal.returns-in_err-reserve
+returns-in_err-reserve c =
+    refused_event c.args.self.now _ Connect c.from_residual.result c.from_residual.ensures.1
+    (ap (λ items. record (the_view c.self.inside) { links = map seen_link items }) c.in_err-reserve.ensures.items ∙ c.self.view_is)
+
+pub returns-in_err-prepare : goal.returns-in_err-prepare
+returns-in_err-prepare c =
+    refused_event c.args.self.now _ Connect c.from_residual-in_err-prepare.result c.from_residual-in_err-prepare.ensures.1
+    (ap (λ items. record (the_view c.self.inside) { hall = c.prepare.new.self.hall; links = map seen_link items }) c.in_ok-reserve.ensures.items
+    ∙ ap (λ h. record (the_view c.self.inside) { hall = h.hall }) c.in_err-prepare.ensures ∙ c.self.view_is)
+
+pub returns-in_err-dumping : goal.returns-in_err-dumping
+returns-in_err-dumping c =
+    unstarted_event c.args.self.now _ Connect c.from_residual-in_err-dumping.result c.in_err-dumping.field-0.0 c.self.inside.caller c.start_attempt.new.caller
+    c.in_err-dumping.ensures c.from_residual-in_err-dumping.ensures.1 (unstarted c ∙ c.self.view_is)

@@ -6,6 +6,8 @@ use Rattle.tape_world.specs.contracts.ends.Ends.{the_view}
 use Rattle.tape_world.specs.Linking.{severed}
 use Rattle.tape_world.specs.Seen.{seen_link}
 use Rattle.tape_world.proofs.Sound.{link_sound, links_after, link_is, same_link}
+use Rattle.tape_world.proofs.Absent.{none_found, link_first}
+use Rattle.tape_world.proofs.HearingWorld.{link_within}
 use Rattle.tape_world.proofs.ends.Ends.cut.Goals as goal
 
 pub returns-then-link : goal.returns-then-link
@@ -42,3 +44,19 @@ returns c = (
       c.deref_mut.ensures.value c.cut.ensures)
       ∙ ap (λ (w : World). record (calm w) { links = changed severed w.links c.args.connection }) c.self.view_is,
 )
+
+pub returns-in_default : goal.returns-in_default
+returns-in_default c = (
+  refl,
+  λ (x, at, whole). none_found c.args.self.now c.self.inside.links.items c.deref.result.now c.args.connection (option_copied c.find.result) x
+      (ap (λ w. w.links) (sym c.self.view_is)) c.deref.ensures.value c.find.ensures (ap option_copied c.in_default.is) at,
+)
+
+pub cut-requires-clause-first : goal.cut-requires-clause-first
+cut-requires-clause-first c = link_first c.deref.result.now c.args.connection (option_copied c.find.result) c.in-Some.link.now c.find.ensures
+    (ap option_copied c.in-Some.is)
+
+pub cut-requires-clause-last : goal.cut-requires-clause-last
+cut-requires-clause-last c =
+    link_within c.deref.result.now c.deref_mut.result.now c.args.connection (option_copied c.find.result) c.in-Some.link.now
+    (c.deref.ensures.value ∙ sym c.deref_mut.ensures.value) c.find.ensures (ap option_copied c.in-Some.is)

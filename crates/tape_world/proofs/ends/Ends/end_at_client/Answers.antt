@@ -8,6 +8,8 @@ use Rattle.tape_world.specs.Seen.{seen_link, seen_caller}
 use Rattle.tape_world.proofs.Sound.{links_after, link_is}
 use Rattle.tape_world.proofs.Clients.{sourced_same}
 use Rattle.tape_world.proofs.Ending.{strangers_sound, ended, ended_sound, ended_world, ended_step, strangers_step, clients_step}
+use Rattle.tape_world.proofs.Absent.{none_found, link_first}
+use Rattle.tape_world.proofs.HearingWorld.{link_within}
 use Rattle.tape_world.proofs.ends.Ends.end_at_client.Goals as goal
 
 pub invariant_of-self : goal.invariant_of-self
@@ -80,3 +82,19 @@ returns c =
             ∙ ap (λ (w : World). ended_world w c.args.connection c.end_attempt-self-inside.result (option_map seen_caller c.end_attempt-self-inside.new.caller)) c.self.view_is)),
       ),
     )
+
+pub returns-in_default : goal.returns-in_default
+returns-in_default c = (
+  refl,
+  λ (x, live, shut). none_found c.args.self.now c.self.inside.links.items c.deref.result.now c.args.connection (option_copied c.find.result) x
+      (ap (λ w. w.links) (sym c.self.view_is)) c.deref.ensures.value c.find.ensures (ap option_copied c.in_default.is) live.0,
+)
+
+pub end_there-requires-clause-first : goal.end_there-requires-clause-first
+end_there-requires-clause-first c = link_first c.deref.result.now c.args.connection (option_copied c.find.result) c.in-Some.link.now c.find.ensures
+    (ap option_copied c.in-Some.is)
+
+pub end_there-requires-clause-last : goal.end_there-requires-clause-last
+end_there-requires-clause-last c =
+    link_within c.deref.result.now c.deref_mut.result.now c.args.connection (option_copied c.find.result) c.in-Some.link.now
+    (c.deref.ensures.value ∙ sym c.deref_mut.ensures.value) c.find.ensures (ap option_copied c.in-Some.is)

@@ -1,4 +1,5 @@
-use Rattle.std.proofs.Common.{refl, ap, subst, sym, ◌∙◌}
+use Rattle.std.proofs.Common.{arith, refl, ap, subst, sym, ◌∙◌}
+use Rattle.std.proofs.lemmas.Grind.{elements}
 use Rattle.std.specs.Prelude.{length}
 use Rattle.std.specs.Option.{option_copied}
 use Rattle.tape_events.specs.World.{World}
@@ -8,6 +9,8 @@ use Rattle.tape_world.specs.Seen.{seen_link}
 use Rattle.tape_world.proofs.Sound.{links_after, link_is, length_changed, changed_clients}
 use Rattle.tape_world.proofs.Server.{Stays, ended_is, ended_stays, hall_sound, side_found, room_live}
 use Rattle.tape_world.proofs.ServingStock.{stocked_ended}
+use Rattle.tape_world.proofs.Absent.{none_found, link_first}
+use Rattle.tape_world.proofs.HearingWorld.{link_within}
 use Rattle.tape_world.proofs.ends.Ends.end_at_server.Goals as goal
 
 pub invariant_of-self : goal.invariant_of-self
@@ -42,3 +45,22 @@ returns c =
       ap (λ ls. record (calm w) { hall = c.end.new.self.hall; links = ls }) links
           ∙ ap (λ h. record (calm w) { hall = h; links = changed over_here w.links c.args.connection }) halls ∙ ap (λ (v : World). ended_at (calm v) c.args.connection) c.self.view_is,
     )
+
+pub returns-then-not-link : goal.returns-then-not-link
+returns-then-not-link c = grind (arith, elements)
+
+pub returns-in_default : goal.returns-in_default
+returns-in_default c = (
+  refl,
+  λ (s, x, live, at, shut). none_found c.args.self.now c.self.inside.links.items c.deref.result.now c.args.connection (option_copied c.find.result) x
+      (ap (λ w. w.links) (sym c.self.view_is)) c.deref.ensures.value c.find.ensures (ap option_copied c.in_default.is) at,
+)
+
+pub end_here-requires-clause-first : goal.end_here-requires-clause-first
+end_here-requires-clause-first c = link_first c.deref.result.now c.args.connection (option_copied c.find.result) c.in-Some.link.now c.find.ensures
+    (ap option_copied c.in-Some.is)
+
+pub end_here-requires-clause-last : goal.end_here-requires-clause-last
+end_here-requires-clause-last c =
+    link_within c.deref.result.now c.deref_mut.result.now c.args.connection (option_copied c.find.result) c.in-Some.link.now
+    (c.deref.ensures.value ∙ sym c.deref_mut.ensures.value) c.find.ensures (ap option_copied c.in-Some.is)

@@ -1,11 +1,12 @@
-use Rattle.std.proofs.Common.{rules, sym, ap, ◌∙◌, Some, option_map}
+use Rattle.std.proofs.Common.{rules, sym, ap, ◌∙◌, Some, option_map, refl}
 use Rattle.tape_events.specs.World.{World}
 use Rattle.tape_events.specs.Changes.{calm}
 use Rattle.tape_events.specs.Steps.{caller}
-use Rattle.dump_client.specs.Standing.{standing, stage_after}
+use Rattle.dump_client.specs.Standing.{standing, stage_after, state_of}
 use Rattle.tape_world.specs.Seen.{seen_caller}
 use Rattle.tape_world.specs.contracts.ends.Ends.{the_view}
-use Rattle.tape_world.proofs.Clients.{answered, answered_caller}
+use Rattle.tape_world.proofs.Clients.{answered, answered_caller, answered_sound, sourced_same}
+use Rattle.std.proofs.lemmas.Bool.{false≢true}
 use Rattle.tape_world.proofs.ends.Ends.respond.Goals as goal
 
 pub returns : goal.returns
@@ -23,4 +24,19 @@ returns c =
             ∙ ap (λ (w : World). record (calm w) { caller = Some (caller a.before.number (standing a.before.client.at.run a.before.client.at.counts (stage_after c.args.answer)) a.after.client.reader) })
             c.self.view_is,
       ),
+    )
+
+pub returns-then-not-stands_in : goal.returns-then-not-stands_in
+returns-then-not-stands_in c = (
+  refl,
+  λ (x, is, asks). absurd (false≢true (sym c.if-not-stands_in.true ∙ c.stands_in.ensures.1 (x, is, ap state_of asks))),
+)
+
+pub invariant_of-self : goal.invariant_of-self
+invariant_of-self c =
+    let asks = c.stands_in.ensures.0 c.if-not-stands_in.false in
+    let a = answered c.self.inside.caller c.give_answer.new.caller c.args.answer asks.0 (ap (λ w. w.caller) c.self.view_is ∙ asks.1) asks.2 c.give_answer.ensures in (
+      answered_sound (the_view c.self.inside) _ c.self.inside.caller c.give_answer.new.caller c.args.answer refl refl refl refl refl refl a c.self.invariant.0,
+      sourced_same c.self.inside.begun.items c.self.inside.caller c.give_answer.new.caller a.before a.after a.was a.is a.same c.self.invariant.1,
+      c.self.invariant.2,
     )

@@ -1,4 +1,5 @@
-use Rattle.std.proofs.Common.{◌≡◌, refl, sym, ap, subst, ◌∙◌, map, option_map, length, Option, ℕ}
+use Rattle.std.proofs.Common.{arith, ◌≡◌, refl, sym, ap, subst, ◌∙◌, map, option_map, length, Option, ℕ}
+use Rattle.std.proofs.lemmas.Grind.{common_steps}
 use Rattle.std.specs.Prelude.{◌≤◌}
 use Rattle.std.specs.Vec.{with_items}
 use Rattle.tape_events.specs.World.{World}
@@ -11,6 +12,8 @@ use Rattle.tape_world.specs.Seen.{names_in, seen_begun, seen_caller, seen_link, 
 use Rattle.tape_world.specs.Talking.{talked}
 use Rattle.tape_world.proofs.Sound.{links_after}
 use Rattle.tape_world.proofs.Sending.{to_send, has_own, own_within, own_after, own_gone, own_stays, talked_sound, talked_sourced, talked_event, talked_world}
+use Rattle.std.proofs.lemmas.Bool.{false≢true}
+use Rattle.dump_client.specs.Standing.{state_of}
 use Rattle.tape_world.proofs.ends.Ends.send.Goals.{then-is_some, else-is_some}
 use Rattle.tape_world.proofs.ends.Ends.send.Goals as goal
 
@@ -71,3 +74,18 @@ returns c =
     (links_after (talked text failure) c.self.inside.links.len c.self.inside.links.items c.deref_mut.result.now c.send_own.new.links c.in-Some.own
     c.self.inside.links.ok.0 c.deref_mut.ensures.value is)
     ∙ ap (λ w. talked_world w c.in-Some.own text failure caller) c.self.view_is)
+
+pub invariant_of-self : goal.invariant_of-self
+invariant_of-self c = grind (arith, common_steps)
+
+pub returns-in_err-failure : goal.returns-in_err-failure
+returns-in_err-failure c = grind (arith, common_steps)
+
+pub returns-then-not-stands_in : goal.returns-then-not-stands_in
+returns-then-not-stands_in c = (
+  refl,
+  λ (x, is, at). absurd (false≢true (sym c.if-not-stands_in.true ∙ c.stands_in.ensures.1 (x, is, ap state_of at.1))),
+)
+
+pub send_own-requires-clause-first : goal.send_own-requires-clause-first
+send_own-requires-clause-first c = (own_within (the_view c.self.inside) c.self.inside.links.items c.in-Some.own refl c.in-Some.is c.self.invariant.0.owned).0

@@ -1,6 +1,6 @@
 use Rattle.std.proofs.Common.{rules, ◌≡◌, refl, sym, ap, subst, ◌∙◌}
 use Rattle.std.specs.Prelude.{map, take, drop, length, ◌++◌, option_map}
-use Rattle.std.specs.Option.{option_to_list}
+use Rattle.std.specs.Option.{option_to_list, option_copied}
 use Rattle.tape_events.specs.World.{World}
 use Rattle.tape_events.specs.Changes.{calm, changed, opening}
 use Rattle.tape_events.specs.Events.PlainEvent.{Serve}
@@ -8,8 +8,12 @@ use Rattle.tape_events.specs.Steps.{Happens}
 use Rattle.tape_world.specs.contracts.ends.Ends.{the_view}
 use Rattle.tape_world.specs.Seen.{seen_link, seen_opening, names_in}
 use Rattle.tape_world.specs.Serving.{Serves, opened_in}
-use Rattle.tape_world.proofs.ServingStock.{stocked}
+use Rattle.tape_world.proofs.ServingStock.{stocked, stocked_same}
 use Rattle.tape_world.proofs.ServingRow.{serves_sound, serves_keeps, serves_opened_in, serves_happens, serves_world, nothing_there, same_links, opened_known, opens_after, known_in}
+use Rattle.tape_world.proofs.Refused.{sound_same}
+use Rattle.tape_world.proofs.Sound.{refused_event, links_same}
+use Rattle.tape_world.proofs.Absent.{link_first, some_found}
+use Rattle.tape_world.proofs.HearingWorld.{link_within}
 use Rattle.tape_world.proofs.ends.Ends.serve.Goals as goal
 
 pub invariant_of-self-in-Nothing : goal.invariant_of-self-in-Nothing
@@ -74,3 +78,48 @@ returns c =
     (opens_after c.self.inside.books.names.items c.deref-2.result.now c.self.inside.books.opens.items c.reserve.new.self.items c.note_opening.new.opens.items
     (option_to_list (option_map (opening c.args.connection) (opened_in c.take_turn_at.new.host.hall c.args.connection c.in_ok-turn.turn)))
     c.deref-2.ensures.value c.in_ok-reserve.ensures.items c.note_opening.ensures))
+
+pub invariant_of-self : goal.invariant_of-self
+invariant_of-self c = (
+  sound_same (the_view c.self.inside) _ (ap (λ items. record (the_view c.self.inside) { opens = map (seen_opening (names_in c.self.inside.books)) items }) c.in_err-reserve.ensures.items) c.self.invariant.0,
+  c.self.invariant.1,
+  c.self.invariant.2,
+)
+
+pub returns-in_err-reserve : goal.returns-in_err-reserve
+returns-in_err-reserve c =
+    refused_event c.args.self.now _ (Serve c.args.connection c.args.trouble) c.from_residual.result c.from_residual.ensures.1
+    (ap (λ items. record (the_view c.self.inside) { opens = map (seen_opening (names_in c.self.inside.books)) items }) c.in_err-reserve.ensures.items ∙ c.self.view_is)
+
+pub take_turn_at-requires-clause-first : goal.take_turn_at-requires-clause-first
+take_turn_at-requires-clause-first c =
+    let (link, is) = some_found c.find.result c.if-is_none.ensures in
+    link_first c.deref.result.now c.args.connection (option_copied c.find.result) link.now c.find.ensures (ap option_copied is)
+
+pub take_turn_at-requires-clause-last : goal.take_turn_at-requires-clause-last
+take_turn_at-requires-clause-last c =
+    let (link, is) = some_found c.find.result c.if-is_none.ensures in
+    link_within c.deref.result.now c.deref_mut.result.now c.args.connection (option_copied c.find.result) link.now
+    (c.deref.ensures.value ∙ sym c.deref_mut.ensures.value) c.find.ensures (ap option_copied is)
+
+pub invariant_of-self-in_err-turn : goal.invariant_of-self-in_err-turn
+invariant_of-self-in_err-turn c = (
+  sound_same (the_view c.self.inside) _ (ap (λ ls. record (the_view c.self.inside) { hall = c.take_turn_at.new.host.hall; links = ls; opens = map (seen_opening (names_in c.self.inside.books)) c.reserve.new.self.items })
+      (links_same c.self.inside.links.len c.self.inside.links.items c.deref_mut.result.now c.take_turn_at.new.links c.self.inside.links.ok.0 c.deref_mut.ensures.value
+      c.in_err-turn.ensures.refused.0)
+      ∙ ap (λ h. record (the_view c.self.inside) { hall = h.hall; opens = map (seen_opening (names_in c.self.inside.books)) c.reserve.new.self.items })
+      c.in_err-turn.ensures.refused.1
+      ∙ ap (λ items. record (the_view c.self.inside) { opens = map (seen_opening (names_in c.self.inside.books)) items }) c.in_ok-reserve.ensures.items) c.self.invariant.0,
+  c.self.invariant.1,
+  stocked_same _ c.self.inside.host.hall.shop c.take_turn_at.new.host.hall.shop (ap (λ h. h.hall.shop) c.in_err-turn.ensures.refused.1) c.self.invariant.2,
+)
+
+pub returns-in_err-turn : goal.returns-in_err-turn
+returns-in_err-turn c =
+    refused_event c.args.self.now _ (Serve c.args.connection c.args.trouble) c.from_residual-in_err-turn.result c.from_residual-in_err-turn.ensures.1
+    (ap (λ ls. record (the_view c.self.inside) { hall = c.take_turn_at.new.host.hall; links = ls; opens = map (seen_opening (names_in c.self.inside.books)) c.reserve.new.self.items })
+    (links_same c.self.inside.links.len c.self.inside.links.items c.deref_mut.result.now c.take_turn_at.new.links c.self.inside.links.ok.0 c.deref_mut.ensures.value
+    c.in_err-turn.ensures.refused.0)
+    ∙ ap (λ h. record (the_view c.self.inside) { hall = h.hall; opens = map (seen_opening (names_in c.self.inside.books)) c.reserve.new.self.items })
+    c.in_err-turn.ensures.refused.1
+    ∙ ap (λ items. record (the_view c.self.inside) { opens = map (seen_opening (names_in c.self.inside.books)) items }) c.in_ok-reserve.ensures.items ∙ c.self.view_is)

@@ -1,4 +1,4 @@
-use Rattle.std.proofs.Common.{rules, ◌≡◌, ◌+◌, refl, sym, ap, subst, ◌∙◌, Some, map, length, ◌++◌, ◌∷◌, [], arith}
+use Rattle.std.proofs.Common.{rules, ◌≡◌, ◌+◌, refl, sym, ap, subst, ◌∙◌, Some, map, length, ◌++◌, ◌∷◌, [], arith, ◌*◌}
 use Rattle.std.proofs.lemmas.List.{map-append, length-map}
 use Rattle.tape_events.specs.World.{World}
 use Rattle.tape_events.specs.Changes.{calm}
@@ -7,8 +7,13 @@ use Rattle.tape_events.specs.Steps.{begun, caller}
 use Rattle.dump_run.specs.Blocks.{cut_blocks}
 use Rattle.tape_world.specs.contracts.ends.Ends.{the_view}
 use Rattle.tape_world.specs.Seen.{seen_begun}
-use Rattle.tape_world.specs.Holding.{is_in_attempt}
+use Rattle.tape_world.specs.Holding.{is_in_attempt, IsSourced}
 use Rattle.tape_world.proofs.Starting.{begun_sound, begun_is, begun_sourced, plain_begun}
+use Rattle.tape_world.proofs.Refused.{sound_same}
+use Rattle.tape_world.proofs.Sound.{refused_event}
+use Rattle.tape_events.specs.Events.PlainEvent.{StartRun}
+use Rattle.std.proofs.lemmas.Bool.{false≢true}
+use Rattle.tape_world.proofs.ends.Ends.start_run.Goals.{then-not-has_no_run-via-then-not-has_no_run, then-not-has_no_run-via-else-not-has_no_run+then-payload-bytes}
 use Rattle.tape_world.proofs.ends.Ends.start_run.Goals as goal
 
 pub invariant_of-self-2 : goal.invariant_of-self-2
@@ -49,3 +54,49 @@ returns c =
             ∙ ap (λ (w : World). begun w run c.args.payload.now reader) c.self.view_is,
       ),
     )
+
+pub invariant_of-self : goal.invariant_of-self
+invariant_of-self c = (
+  sound_same (the_view c.self.inside) _ (ap (λ items. record (the_view c.self.inside) { begun = map seen_begun items }) c.in_err-reserve.ensures.items) c.self.invariant.0,
+  subst (λ bs. IsSourced bs c.self.inside.caller) (sym c.in_err-reserve.ensures.items) c.self.invariant.1,
+  c.self.invariant.2,
+)
+
+pub invariant_of-self-in_err-begun : goal.invariant_of-self-in_err-begun
+invariant_of-self-in_err-begun c = (
+  sound_same (the_view c.self.inside) _ (ap (λ items. record (the_view c.self.inside) { begun = map seen_begun items }) c.in_ok-reserve.ensures.items) c.self.invariant.0,
+  subst (λ bs. IsSourced bs c.self.inside.caller) (sym c.in_ok-reserve.ensures.items) c.self.invariant.1,
+  c.self.invariant.2,
+)
+
+pub invariant_of-self-in_err-client : goal.invariant_of-self-in_err-client
+invariant_of-self-in_err-client c = (
+  sound_same (the_view c.self.inside) _ (ap (λ items. record (the_view c.self.inside) { begun = map seen_begun items }) c.in_ok-reserve.ensures.items) c.self.invariant.0,
+  subst (λ bs. IsSourced bs c.self.inside.caller) (sym c.in_ok-reserve.ensures.items) c.self.invariant.1,
+  c.self.invariant.2,
+)
+
+pub returns-in_err-reserve : goal.returns-in_err-reserve
+returns-in_err-reserve c =
+    refused_event c.args.self.now _ (StartRun c.args.run.now c.args.payload.now) c.from_residual.result c.from_residual.ensures.1
+    (ap (λ items. record (the_view c.self.inside) { begun = map seen_begun items }) c.in_err-reserve.ensures.items ∙ c.self.view_is)
+
+pub returns-in_err-begun : goal.returns-in_err-begun
+returns-in_err-begun c =
+    refused_event c.args.self.now _ (StartRun c.args.run.now c.args.payload.now) c.from_residual-in_err-begun.result c.from_residual-in_err-begun.ensures.1
+    (ap (λ items. record (the_view c.self.inside) { begun = map seen_begun items }) c.in_ok-reserve.ensures.items ∙ c.self.view_is)
+
+pub returns-in_err-client : goal.returns-in_err-client
+returns-in_err-client c =
+    refused_event c.args.self.now _ (StartRun c.args.run.now c.args.payload.now) c.from_residual-in_err-client.result c.from_residual-in_err-client.ensures.1
+    (ap (λ items. record (the_view c.self.inside) { begun = map seen_begun items }) c.in_ok-reserve.ensures.items ∙ c.self.view_is)
+
+pub returns-then-not-has_no_run : goal.returns-then-not-has_no_run
+returns-then-not-has_no_run c = (
+  refl,
+  λ (idle, run, is). elim c.then-not-has_no_run.branch [
+    | then-not-has_no_run-via-then-not-has_no_run w ↦ absurd (false≢true (sym w.if-not-has_no_run.true ∙ c.has_no_run.ensures.1 idle))
+    | then-not-has_no_run-via-else-not-has_no_run+then-payload-bytes w ↦
+        absurd (w.if-payload-bytes.true (is ∙ ap (λ n. n * c.args.run.now.block_bytes) (sym c.blocks-2.ensures.told) ∙ ap (λ n. c.blocks-2.result * n) (sym c.block_bytes.ensures.told)))
+  ],
+)

@@ -1,7 +1,7 @@
-use Rattle.std.proofs.Common.{rules, ◌≡◌, ◌∙◌, refl, sym, ap, subst, arith, map, option_map, None, Some}
+use Rattle.std.proofs.Common.{◌∙◌, refl, sym, ap, subst, arith, map, option_map}
 use Rattle.std.specs.Prelude.{◌≤◌, ◌++◌, length, take, drop}
 use Rattle.std.specs.Option.{option_copied}
-use Rattle.tape_events.specs.World.{World, Dumping}
+use Rattle.tape_events.specs.World.{World}
 use Rattle.tape_events.specs.Changes.{calm, changed}
 use Rattle.tape_events.specs.Events.PlainEvent.{ToClient}
 use Rattle.tape_events.specs.Steps.{Happens}
@@ -9,9 +9,12 @@ use Rattle.tape_world.specs.contracts.ends.Ends.{the_view}
 use Rattle.tape_world.specs.Hearing.{come_back, heard_on, HasHeard}
 use Rattle.tape_world.specs.Holding.{IsClients}
 use Rattle.tape_world.specs.Seen.{names_in, seen_caller, seen_count, seen_link}
-use Rattle.tape_world.proofs.Clients.{sourced_same}
+use Rattle.tape_world.proofs.Clients.{sourced_same, not_both}
 use Rattle.tape_world.proofs.HearingWorld.{attempts, counts_kept, dropped_step, heard_sound, heard_step, heard_world, link_within}
-use Rattle.tape_world.proofs.Sound.{link_is, link_sound, links_after}
+use Rattle.tape_world.proofs.Sound.{link_is, link_sound, links_after, refused_event, same_link}
+use Rattle.tape_world.proofs.Absent.{none_found, link_first, none_left, some_found}
+use Rattle.tape_world.proofs.Refused.{sound_same}
+use Rattle.tape_world.proofs.ends.Ends.to_client.Goals.{then-not-link-via-then-not-link, then-not-link-via-else-not-link+then-count-eq0, then-not-link-via-else-not-link+else-count-eq0+then-way-count}
 use Rattle.tape_world.proofs.ends.Ends.to_client.Goals as goal
 
 pub invariant_of-self : goal.invariant_of-self
@@ -31,7 +34,7 @@ returns-then-is_none c =
     let there
     = link_is w c.self.inside.links.items c.deref.result.now c.args.connection (option_copied c.find.result) c.in-Some.link.now refl c.deref.ensures.value
     c.find.ensures (ap option_copied c.in-Some.is) in
-    let none : l.dump ≡ None = search rules in
+    let none = none_left c.in-Some.link.now.dump c.if-is_none.ensures in
     let links
     = links_after (come_back c.args.count) c.self.inside.links.len c.self.inside.links.items c.deref_mut.result.now c.come_back.new.links c.args.connection
     c.self.inside.links.ok.0 c.deref_mut.ensures.value c.come_back.ensures in
@@ -49,7 +52,7 @@ returns-then-is_none c =
 pub hear-heard-requires : goal.hear-heard-requires
 hear-heard-requires c =
     let w = the_view c.self.inside in
-    let some : (d : Dumping) × (c.in-Some.link.now.dump ≡ Some d) = search rules in
+    let some = some_found c.in-Some.link.now.dump c.if-is_none.ensures in
     let there
     = link_is w c.self.inside.links.items c.deref.result.now c.args.connection (option_copied c.find.result) c.in-Some.link.now refl c.deref.ensures.value
     c.find.ensures (ap option_copied c.in-Some.is) in
@@ -64,7 +67,7 @@ settle-requires-clause-last c =
 pub invariant_of-self-2 : goal.invariant_of-self-2
 invariant_of-self-2 c =
     let w = the_view c.self.inside in
-    let some : (d : Dumping) × (c.in-Some.link.now.dump ≡ Some d) = search rules in
+    let some = some_found c.in-Some.link.now.dump c.if-is_none.ensures in
     let there
     = link_is w c.self.inside.links.items c.deref.result.now c.args.connection (option_copied c.find.result) c.in-Some.link.now refl c.deref.ensures.value
     c.find.ensures (ap option_copied c.in-Some.is) in
@@ -82,7 +85,7 @@ pub returns : goal.returns
 returns c =
     let w = the_view c.self.inside in
     let l = seen_link c.in-Some.link.now in
-    let some : (d : Dumping) × (c.in-Some.link.now.dump ≡ Some d) = search rules in
+    let some = some_found c.in-Some.link.now.dump c.if-is_none.ensures in
     let there
     = link_is w c.self.inside.links.items c.deref.result.now c.args.connection (option_copied c.find.result) c.in-Some.link.now refl c.deref.ensures.value
     c.find.ensures (ap option_copied c.in-Some.is) in
@@ -114,4 +117,53 @@ returns c =
             c.settle.ensures.own
             ∙ ap (λ x. heard_world w c.args.connection c.args.count heard.is_over caller x heard.failure) counts),
       ),
+    )
+
+pub returns-in_default : goal.returns-in_default
+returns-in_default c = (
+  refl,
+  λ (x, live, part). none_found c.args.self.now c.self.inside.links.items c.deref.result.now c.args.connection (option_copied c.find.result) x
+      (ap (λ w. w.links) (sym c.self.view_is)) c.deref.ensures.value c.find.ensures (ap option_copied c.in_default.is) live.0,
+)
+
+pub settle-requires-clause-first : goal.settle-requires-clause-first
+settle-requires-clause-first c = link_first c.deref.result.now c.args.connection (option_copied c.find.result) c.in-Some.link.now c.find.ensures
+    (ap option_copied c.in-Some.is)
+
+pub come_back-requires-clause-first : goal.come_back-requires-clause-first
+come_back-requires-clause-first c = link_first c.deref.result.now c.args.connection (option_copied c.find.result) c.in-Some.link.now c.find.ensures
+    (ap option_copied c.in-Some.is)
+
+pub come_back-requires-clause-last : goal.come_back-requires-clause-last
+come_back-requires-clause-last c =
+    link_within c.deref.result.now c.deref_mut.result.now c.args.connection (option_copied c.find.result) c.in-Some.link.now
+    (c.deref.ensures.value ∙ sym c.deref_mut.ensures.value) c.find.ensures (ap option_copied c.in-Some.is)
+
+pub invariant_of-self-in_err-reserve : goal.invariant_of-self-in_err-reserve
+invariant_of-self-in_err-reserve c = (
+  sound_same (the_view c.self.inside) _ (ap (λ items. record (the_view c.self.inside) { counts = map (seen_count (names_in c.self.inside.books)) items }) c.in_err-reserve.ensures.items) c.self.invariant.0,
+  c.self.invariant.1,
+  c.self.invariant.2,
+)
+
+pub returns-in_err-reserve : goal.returns-in_err-reserve
+returns-in_err-reserve c =
+    refused_event c.args.self.now _ (ToClient c.args.connection c.args.count) c.from_residual.result c.from_residual.ensures.1
+    (ap (λ items. record (the_view c.self.inside) { counts = map (seen_count (names_in c.self.inside.books)) items }) c.in_err-reserve.ensures.items ∙ c.self.view_is)
+
+pub returns-then-not-link : goal.returns-then-not-link
+returns-then-not-link c =
+    let there = link_is c.args.self.now c.self.inside.links.items c.deref.result.now c.args.connection (option_copied c.find.result) c.in-Some.link.now
+    (ap (λ w. w.links) (sym c.self.view_is)) c.deref.ensures.value c.find.ensures (ap option_copied c.in-Some.is) in (
+      refl,
+      λ (x, live, part). (
+          let same = same_link c.args.self.now c.args.connection x (seen_link c.in-Some.link.now) live.0 there in
+          let other = ap (λ l. l.other) same in
+          let back = ap (λ l. length l.back) same in
+          let way = ap length c.bytes-way.ensures in
+          elim c.then-not-link.branch [
+            | then-not-link-via-then-not-link w ↦ not_both x.other (other ∙ w.if-not-link.true) live.1
+            | then-not-link-via-else-not-link+then-count-eq0 w ↦ absurd (omega (arith, w.if-count-eq0.true, part.0))
+            | then-not-link-via-else-not-link+else-count-eq0+then-way-count w ↦ absurd (omega (arith, w.if-way-count.true, part.1, back, way))
+          ]),
     )

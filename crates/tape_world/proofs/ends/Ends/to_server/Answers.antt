@@ -1,4 +1,5 @@
-use Rattle.std.proofs.Common.{refl, ap, subst, ◌∙◌, arith}
+use Rattle.std.proofs.Common.{refl, ap, subst, ◌∙◌, arith, sym}
+use Rattle.std.proofs.lemmas.Grind.{elements}
 use Rattle.std.specs.Prelude.{length, map, ◌≤◌, ◌++◌, take, drop}
 use Rattle.rmt_wire.specs.RequestReader.{Unread}
 use Rattle.std.specs.Option.{option_copied}
@@ -13,6 +14,8 @@ use Rattle.tape_world.proofs.Sound.{links_after, link_is, length_changed, change
 use Rattle.tape_world.proofs.Server.{hall_sound}
 use Rattle.tape_world.proofs.Reached.{reaches, reaches_stays}
 use Rattle.tape_world.proofs.ServingStock.{stocked_same}
+use Rattle.tape_world.proofs.Absent.{none_found, link_first}
+use Rattle.tape_world.proofs.HearingWorld.{link_within}
 use Rattle.tape_world.proofs.ends.Ends.to_server.Goals as goal
 
 pub invariant_of-self : goal.invariant_of-self
@@ -60,3 +63,25 @@ returns c =
             ∙ ap (λ h. record (calm w) { hall = h; links = changed (arrived c.args.count) w.links c.args.connection }) push.hall_is,
       ),
     )
+
+pub returns-in_default : goal.returns-in_default
+returns-in_default c = grind (arith, elements)
+
+pub returns-then-count-eq0 : goal.returns-then-count-eq0
+returns-then-count-eq0 c = grind (arith, elements)
+
+pub returns-in_default-find : goal.returns-in_default-find
+returns-in_default-find c = (
+  refl,
+  λ (s, x, live, at, part, room). none_found c.args.self.now c.self.inside.links.items c.deref.result.now c.args.connection (option_copied c.find.result) x
+      (ap (λ w. w.links) (sym c.self.view_is)) c.deref.ensures.value c.find.ensures (ap option_copied c.in_default-find.is) at,
+)
+
+pub arrive-requires-clause-first : goal.arrive-requires-clause-first
+arrive-requires-clause-first c = link_first c.deref.result.now c.args.connection (option_copied c.find.result) c.in-Some-find.link.now c.find.ensures
+    (ap option_copied c.in-Some-find.is)
+
+pub arrive-requires-clause-last : goal.arrive-requires-clause-last
+arrive-requires-clause-last c =
+    link_within c.deref.result.now c.deref_mut.result.now c.args.connection (option_copied c.find.result) c.in-Some-find.link.now
+    (c.deref.ensures.value ∙ sym c.deref_mut.ensures.value) c.find.ensures (ap option_copied c.in-Some-find.is)

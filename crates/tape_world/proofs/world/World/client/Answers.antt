@@ -12,3 +12,6 @@ returns-clause-payload c =
     subst (λ (w : World). TellsPayload w c.in_ok-caller.caller.now.client.source) (ap (λ i. i.ends) c.self-inside.view_is ∙ c.self.view_is)
     (payload (the_view e) e.begun.items e.caller c.in_ok-caller.caller.now refl refl is c.self-inside.invariant.0.begun
     c.self-inside.invariant.1)
+
+pub returns-in_err-caller-clause-told : goal.returns-in_err-caller-clause-told
+returns-in_err-caller-clause-told c = search rules
