@@ -1,5 +1,4 @@
-//! Tests of `dump_client`, by its public calls alone, beside a plain slow client. They stand here so that `dump_client` is proved
-//! once.
+//! Tests of `dump_client`, by its public calls alone. They stand here so that `dump_client` is proved once.
 #![tactic(auto)]
 
 #[cfg(test)]

@@ -1,4 +1,4 @@
-//! A client's attempts against what was written by hand, and against a client computed plainly.
+//! A client's attempts against what was written by hand.
 
 mod client;
 mod client_cut;
@@ -9,8 +9,6 @@ mod client_steps;
 mod faults;
 mod laws;
 mod listen;
-mod next;
 mod play;
 mod script;
-mod slow;
 mod talk;

@@ -1,19 +1,20 @@
 //! Whole attempts and runs of a client, with what it tells at each moment.
 
 use super::play::Move::{
-    Asks, AsksPadded, AsksStep, CannotStart, CannotTake, Fails, Goes, Hears, HearsIt, Stands,
-    Starts, Takes, Tells, Volume,
+    Asks, AsksStep, CannotStart, CannotTake, Fails, Goes, Hears, HearsIt, Stands, Starts, Takes,
+    Tells, Writes,
 };
 use super::play::{Case, Move, ONCE, check_case, check_cases};
-use super::slow::SlowRun;
+use super::script::Volume::{
+    AllThree, FirstBlock, FirstTwo, GreatestBlocks, LastBlock, NoBlocks, SmallBlocks,
+};
+use super::talk::Dumped;
 use dump_client::Progress::{Ended, Send};
 use dump_client::{Answer, AttemptFault, State};
 use std::test::Fail;
 
-/// The write of the first label: 58 bytes of text, and 966 zero bytes.
-const LABEL: &[u8] = b"W1024\nname /usr\nlevel 0\ndate 951782400\nsince 0\nvolume 1\nfirst 0\n";
-
 const WITHOUT_BLOCKS: &[Move] = &[
+    Writes(NoBlocks),
     Stands(State::Ready, &[], (1, 0)),
     Starts,
     Stands(State::ToSend, &[], (1, 0)),
@@ -25,7 +26,7 @@ const WITHOUT_BLOCKS: &[Move] = &[
     Stands(State::Waiting, &[], (1, 0)),
     Hears(b"A1\n", Send),
     Stands(State::ToSend, &[], (1, 0)),
-    AsksPadded(LABEL, 966),
+    AsksStep(2),
     Stands(State::Waiting, &[], (1, 0)),
     Hears(b"A1024\n", Send),
     Stands(State::ToSend, &[], (1, 0)),
@@ -45,7 +46,7 @@ const WITHOUT_BLOCKS: &[Move] = &[
 
 /// The reel has room for the label alone.
 const TOO_SMALL: &[Move] = &[
-    Volume(1, 0, 1),
+    Writes(FirstBlock),
     Starts,
     Goes(0, 3),
     AsksStep(3),
@@ -60,7 +61,7 @@ const TOO_SMALL: &[Move] = &[
 ];
 
 const ABANDONED: &[Move] = &[
-    Volume(1, 0, 1),
+    Writes(FirstBlock),
     Starts,
     Goes(0, 3),
     AsksStep(3),
@@ -77,7 +78,7 @@ const IN_A_WRONG_STATE: &[Move] = &[
     Starts,
     CannotStart,
     CannotTake,
-    Volume(1, 0, 0),
+    Writes(NoBlocks),
     AsksStep(0),
     CannotStart,
     CannotTake,
@@ -119,7 +120,7 @@ const IN_A_WRONG_STATE: &[Move] = &[
 
 /// Three blocks on two reels, of which the first refuses the third block.
 const TWO_VOLUMES: &[Move] = &[
-    Volume(1, 0, 2),
+    Writes(FirstTwo),
     Starts,
     Goes(0, 5),
     AsksStep(5),
@@ -131,7 +132,7 @@ const TWO_VOLUMES: &[Move] = &[
     Asks(b"C\n"),
     Hears(b"A0\n", Ended),
     Stands(State::Ready, &[(1, 0, 2)], (2, 2)),
-    Volume(2, 2, 1),
+    Writes(LastBlock),
     Starts,
     Goes(0, 7),
     Stands(State::Finished, &[(1, 0, 2), (2, 2, 1)], (3, 3)),
@@ -140,7 +141,7 @@ const TWO_VOLUMES: &[Move] = &[
 
 /// The reel has no room for the label.
 const LABEL_REFUSED: &[Move] = &[
-    Volume(1, 0, 3),
+    Writes(AllThree),
     Starts,
     Goes(0, 2),
     AsksStep(2),
@@ -157,7 +158,7 @@ const LABEL_REFUSED: &[Move] = &[
 ];
 
 /// A run of which nothing is as in the others.
-const OTHER: SlowRun = SlowRun {
+const OTHER: Dumped = Dumped {
     device: "/dev/nst1",
     name: "/home",
     level: 9,
@@ -167,8 +168,8 @@ const OTHER: SlowRun = SlowRun {
 };
 
 /// Blocks that are not of the label's size: each write is answered with the bytes that it has.
-const SMALL_BLOCKS: &[Move] = &[
-    Volume(1, 0, 2),
+const SMALL: &[Move] = &[
+    Writes(SmallBlocks),
     Starts,
     Goes(0, 2),
     AsksStep(2),
@@ -186,7 +187,7 @@ const SMALL_BLOCKS: &[Move] = &[
 ];
 
 /// The same with the greatest size.
-const GREATEST: SlowRun = SlowRun {
+const GREATEST: Dumped = Dumped {
     device: "/dev/nst1",
     name: "/home",
     level: 9,
@@ -195,8 +196,8 @@ const GREATEST: SlowRun = SlowRun {
     block_bytes: 65536,
 };
 
-const GREATEST_BLOCKS: &[Move] = &[
-    Volume(1, 0, 2),
+const LARGE: &[Move] = &[
+    Writes(GreatestBlocks),
     Starts,
     Goes(0, 8),
     Stands(State::Finished, &[(1, 0, 2)], (2, 2)),
@@ -241,36 +242,27 @@ static CASES: [Case; 6] = [
     },
 ];
 
-/// The conversations.
-fn cases() -> &'static [Case] {
-    &CASES
-}
-
 #[test]
 fn whole_attempts(rt: HostRuntime) -> Result<(), Fail> {
-    check_cases(&rt, rt.alloc(), cases())
+    check_cases(&rt, rt.alloc(), &CASES)
 }
-
-static SMALL: [&[u8]; 2] = [&[0; 3], &[1; 3]];
 
 static SMALL_CASE: Case = Case {
     name: "small blocks",
     blocks: 2,
     pieces: ONCE,
-    moves: SMALL_BLOCKS,
+    moves: SMALL,
 };
-
-static LARGE: [&[u8]; 2] = [&[0; 65536], &[1; 65536]];
 
 static GREATEST_CASE: Case = Case {
     name: "the greatest blocks",
     blocks: 2,
     pieces: ONCE,
-    moves: GREATEST_BLOCKS,
+    moves: LARGE,
 };
 
 #[test]
 fn blocks_of_other_sizes(rt: HostRuntime) -> Result<(), Fail> {
-    check_case(&rt, rt.alloc(), OTHER, &SMALL, &SMALL_CASE)?;
-    check_case(&rt, rt.alloc(), GREATEST, &LARGE, &GREATEST_CASE)
+    check_case(&rt, rt.alloc(), OTHER, &SMALL_CASE)?;
+    check_case(&rt, rt.alloc(), GREATEST, &GREATEST_CASE)
 }

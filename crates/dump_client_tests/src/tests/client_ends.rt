@@ -1,10 +1,11 @@
-//! A client behind the count of a volume, and one between attempts.
+//! A client after the count of a volume, and one between attempts.
 
 use super::play::Move::{
     Asks, AsksNothing, AsksStep, Ends, Fails, Goes, Hears, HearsIt, IsIdle, Stands, Starts, Takes,
-    Volume,
+    Writes,
 };
 use super::play::{Case, Move, ONCE, check_cases};
+use super::script::Volume::{FirstTwo, LastBlock, NoBlocks};
 use dump_client::Progress::{Ended, Send, Waiting};
 use dump_client::{Answer, AttemptFault, State};
 use std::test::Fail;
@@ -14,7 +15,7 @@ const FINISHED: Move = Stands(State::Finished, &[(1, 0, 0)], (2, 0));
 
 /// Bytes come with the reply that counts.
 const WITH_THE_COUNT: &[Move] = &[
-    Volume(1, 0, 0),
+    Writes(NoBlocks),
     Starts,
     Goes(0, 4),
     Asks(b"I6\n1\n"),
@@ -24,7 +25,7 @@ const WITH_THE_COUNT: &[Move] = &[
 
 /// Bytes come before the close is asked for.
 const BEFORE_THE_CLOSE: &[Move] = &[
-    Volume(1, 0, 0),
+    Writes(NoBlocks),
     Starts,
     Goes(0, 4),
     Asks(b"I6\n1\n"),
@@ -41,7 +42,7 @@ const NOISE: &[&[u8]] = &[b"z", b"zz", b"A0\n", b"E5\n\n", b"\n", &[255, 0]];
 
 /// Each answer to the close ends the attempt, whether or not it is one.
 const TO_THE_CLOSE: &[Move] = &[
-    Volume(1, 0, 0),
+    Writes(NoBlocks),
     Starts,
     Goes(0, 4),
     Asks(b"I6\n1\n"),
@@ -54,6 +55,7 @@ const TO_THE_CLOSE: &[Move] = &[
 const ANSWERS: &[&[u8]] = &[
     b"A0\n",
     b"A1\n",
+    b"A77\n",
     b"A2147483647\n",
     b"E5\nInput/output error\n",
     b"E28\n\n",
@@ -64,9 +66,9 @@ const ANSWERS: &[&[u8]] = &[
     &[0],
 ];
 
-/// The connection ends behind the count, before the close.
+/// The connection ends after the count, before the close.
 const CUT_BEFORE_THE_CLOSE: &[Move] = &[
-    Volume(1, 0, 0),
+    Writes(NoBlocks),
     Starts,
     Goes(0, 4),
     Asks(b"I6\n1\n"),
@@ -75,9 +77,9 @@ const CUT_BEFORE_THE_CLOSE: &[Move] = &[
     FINISHED,
 ];
 
-/// The connection ends behind a beginning of the reply to the close.
+/// The connection ends after a beginning of the reply to the close.
 const CUT_AT_THE_CLOSE: &[Move] = &[
-    Volume(1, 0, 0),
+    Writes(NoBlocks),
     Starts,
     Goes(0, 4),
     Asks(b"I6\n1\n"),
@@ -90,7 +92,7 @@ const CUT_AT_THE_CLOSE: &[Move] = &[
 
 /// Before the run is at its end, an attempt that is over leads to the next one.
 const NOT_THE_LAST: &[Move] = &[
-    Volume(1, 0, 2),
+    Writes(FirstTwo),
     Starts,
     Goes(0, 7),
     AsksStep(7),
@@ -102,7 +104,7 @@ const NOT_THE_LAST: &[Move] = &[
 const BETWEEN_ATTEMPTS: &[Move] = &[
     IsIdle,
     Stands(State::Ready, &[], (1, 0)),
-    Volume(1, 0, 2),
+    Writes(FirstTwo),
     Starts,
     Goes(0, 9),
     IsIdle,
@@ -114,9 +116,9 @@ const BETWEEN_ATTEMPTS: &[Move] = &[
     Takes(Answer::Retry),
     IsIdle,
     Stands(State::Ready, &[(1, 0, 2)], (2, 2)),
-    Volume(2, 2, 1),
+    Writes(LastBlock),
     Starts,
-    Goes(0, 8),
+    Goes(0, 7),
     IsIdle,
     Stands(State::Finished, &[(1, 0, 2), (2, 2, 1)], (3, 3)),
 ];
@@ -180,12 +182,7 @@ static CASES: [Case; 8] = [
     },
 ];
 
-/// The conversations.
-fn cases() -> &'static [Case] {
-    &CASES
-}
-
 #[test]
 fn ends_of_attempts(rt: HostRuntime) -> Result<(), Fail> {
-    check_cases(&rt, rt.alloc(), cases())
+    check_cases(&rt, rt.alloc(), &CASES)
 }

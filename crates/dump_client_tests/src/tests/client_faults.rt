@@ -2,10 +2,12 @@
 //! second volume. Of three blocks, the first is counted, and the others are to be written.
 
 use super::play::Move::{
-    AsksStep, Ends, Fails, FailsAt, FailsAtLong, Goes, Hears, HearsIt, IsIdle, Stands, Starts,
-    Takes, Volume,
+    AsksStep, Ends, Fails, FailsAt, Goes, Hears, HearsIt, HearsLong, IsIdle, LeadsTo, Stands,
+    Starts, Takes, Writes,
 };
-use super::play::{Case, Move, ONCE, ONE_COUNTED, check_cases};
+use super::play::{Case, Move, ONCE, check_cases};
+use super::script::Volume::{FirstBlock, LastTwo};
+use super::talk::Counted;
 use dump_client::Progress::{Failed, Send, Waiting};
 use dump_client::{Answer, AttemptFault, State};
 use std::test::Fail;
@@ -15,42 +17,49 @@ const OPEN: usize = 0;
 
 const REWIND: usize = 1;
 
-const FIRST_BLOCK: usize = 3;
+const LABEL: usize = 2;
 
-const LAST_BLOCK: usize = 4;
+const FIRST: usize = 3;
+
+const LAST: usize = 4;
 
 const MARK: usize = 5;
 
 const UNLOAD: usize = 6;
 
+/// The first volume has the first block of the run.
+const ONE_COUNTED: &[Counted] = &[(1, 0, 1)];
+
 /// Replies to the write of a block.
 const TO_A_BLOCK: &[Move] = &[
-    Volume(1, 0, 1),
+    Writes(FirstBlock),
     Starts,
     Goes(0, 8),
-    Volume(2, 1, 2),
-    FailsAt(FIRST_BLOCK, b"A1025\n", AttemptFault::ShortWrite),
-    FailsAt(FIRST_BLOCK, b"A1023\n", AttemptFault::ShortWrite),
-    FailsAt(FIRST_BLOCK, b"A1\nA1024\n", AttemptFault::ShortWrite),
-    FailsAt(FIRST_BLOCK, b"X\n", AttemptFault::Botched),
-    FailsAt(FIRST_BLOCK, b"A99999999999\n", AttemptFault::Botched),
-    FailsAt(FIRST_BLOCK, b"A2147483648", AttemptFault::Botched),
-    FailsAt(FIRST_BLOCK, b"A1024\nA", AttemptFault::Botched),
-    FailsAt(
-        FIRST_BLOCK,
-        b"E16\nDevice busy\n",
-        AttemptFault::Refused(16),
-    ),
-    FailsAt(FIRST_BLOCK, b"E0\n\n", AttemptFault::Refused(0)),
-    FailsAt(LAST_BLOCK, b"A1025\n", AttemptFault::ShortWrite),
-    FailsAt(LAST_BLOCK, b"A1023\n", AttemptFault::ShortWrite),
-    FailsAt(LAST_BLOCK, b"A1\nA1024\n", AttemptFault::ShortWrite),
-    FailsAt(LAST_BLOCK, b"X\n", AttemptFault::Botched),
-    FailsAt(LAST_BLOCK, b"A99999999999\n", AttemptFault::Botched),
-    FailsAt(LAST_BLOCK, b"A2147483648", AttemptFault::Botched),
-    FailsAt(LAST_BLOCK, b"A1024\nA", AttemptFault::Botched),
-    FailsAt(LAST_BLOCK, b"E16\nDevice busy\n", AttemptFault::Refused(16)),
-    FailsAt(LAST_BLOCK, b"E0\n\n", AttemptFault::Refused(0)),
+    Writes(LastTwo),
+    FailsAt(FIRST, b"A0\n", AttemptFault::ReelTooSmall),
+    FailsAt(FIRST, b"E28\n\n", AttemptFault::ReelTooSmall),
+    FailsAt(FIRST, b"A1025\n", AttemptFault::ShortWrite),
+    FailsAt(FIRST, b"A1023\n", AttemptFault::ShortWrite),
+    FailsAt(FIRST, b"A1\nA1024\n", AttemptFault::ShortWrite),
+    FailsAt(FIRST, b"X\n", AttemptFault::Botched),
+    FailsAt(FIRST, b"A99999999999\n", AttemptFault::Botched),
+    FailsAt(FIRST, b"A2147483648", AttemptFault::Botched),
+    FailsAt(FIRST, b"A1024\nA", AttemptFault::Botched),
+    FailsAt(FIRST, b"E16\nDevice busy\n", AttemptFault::Refused(16)),
+    FailsAt(FIRST, b"E0\n\n", AttemptFault::Refused(0)),
+    FailsAt(LAST, b"A1025\n", AttemptFault::ShortWrite),
+    FailsAt(LAST, b"A1023\n", AttemptFault::ShortWrite),
+    FailsAt(LAST, b"A1\nA1024\n", AttemptFault::ShortWrite),
+    FailsAt(LAST, b"X\n", AttemptFault::Botched),
+    FailsAt(LAST, b"A99999999999\n", AttemptFault::Botched),
+    FailsAt(LAST, b"A2147483648", AttemptFault::Botched),
+    FailsAt(LAST, b"A1024\nA", AttemptFault::Botched),
+    FailsAt(LAST, b"E16\nDevice busy\n", AttemptFault::Refused(16)),
+    FailsAt(LAST, b"E0\n\n", AttemptFault::Refused(0)),
+    LeadsTo(FIRST, b"A1024\n", LAST),
+    LeadsTo(LAST, b"A0\n", MARK),
+    LeadsTo(LAST, b"E28\n\n", MARK),
+    LeadsTo(LAST, b"A1024\n", MARK),
     Starts,
     Goes(0, 8),
     Stands(State::Finished, &[(1, 0, 1), (2, 1, 2)], (3, 3)),
@@ -58,10 +67,10 @@ const TO_A_BLOCK: &[Move] = &[
 
 /// Replies where an operation was asked for, and where a device was to be opened.
 const TO_OTHERS: &[Move] = &[
-    Volume(1, 0, 1),
+    Writes(FirstBlock),
     Starts,
     Goes(0, 8),
-    Volume(2, 1, 2),
+    Writes(LastTwo),
     FailsAt(OPEN, b"A0\nA1\n", AttemptFault::Botched),
     FailsAt(OPEN, b"E28\n\n", AttemptFault::Refused(28)),
     FailsAt(OPEN, b"E2\n\n", AttemptFault::Refused(2)),
@@ -72,6 +81,10 @@ const TO_OTHERS: &[Move] = &[
     FailsAt(REWIND, b"A00000000001\n", AttemptFault::Botched),
     FailsAt(REWIND, b"E28\n\n", AttemptFault::Refused(28)),
     FailsAt(REWIND, b"E5\nzz\n", AttemptFault::Refused(5)),
+    FailsAt(LABEL, b"A0\n", AttemptFault::ReelTooSmall),
+    FailsAt(LABEL, b"E28\n\n", AttemptFault::ReelTooSmall),
+    FailsAt(LABEL, b"A1023\n", AttemptFault::ShortWrite),
+    FailsAt(LABEL, b"E5\nzz\n", AttemptFault::Refused(5)),
     FailsAt(MARK, b"A0\n", AttemptFault::Botched),
     FailsAt(MARK, b"A2\n", AttemptFault::Botched),
     FailsAt(MARK, b"A\n", AttemptFault::Botched),
@@ -95,10 +108,10 @@ const TO_OTHERS: &[Move] = &[
 
 /// The end of the connection, while a reply is waited for and while a request is to be sent.
 const CUT: &[Move] = &[
-    Volume(1, 0, 1),
+    Writes(FirstBlock),
     Starts,
     Goes(0, 8),
-    Volume(2, 1, 2),
+    Writes(LastTwo),
     Starts,
     Goes(0, REWIND),
     AsksStep(REWIND),
@@ -120,10 +133,10 @@ const CUT: &[Move] = &[
 
 /// An empty piece changes nothing, and one byte in place of a request fails the attempt.
 const BEFORE_A_REQUEST: &[Move] = &[
-    Volume(1, 0, 1),
+    Writes(FirstBlock),
     Starts,
     Goes(0, 8),
-    Volume(2, 1, 2),
+    Writes(LastTwo),
     Starts,
     Goes(0, REWIND),
     AsksStep(REWIND),
@@ -139,13 +152,14 @@ const BEFORE_A_REQUEST: &[Move] = &[
 
 /// The text of an error can be longer than all else that is kept of a reply. The dump then goes on to its end.
 const LONG_TEXTS: &[Move] = &[
-    Volume(1, 0, 1),
+    Writes(FirstBlock),
     Starts,
     Goes(0, 8),
-    Volume(2, 1, 2),
-    FailsAtLong(LAST_BLOCK, 10000),
-    FailsAtLong(LAST_BLOCK, 65548),
-    FailsAtLong(LAST_BLOCK, 200000),
+    Writes(LastTwo),
+    HearsLong(LAST, 10000),
+    HearsLong(LAST, 65548),
+    HearsLong(LAST, 200000),
+    Stands(State::Ready, ONE_COUNTED, (2, 1)),
     Starts,
     Goes(0, 8),
     Stands(State::Finished, &[(1, 0, 1), (2, 1, 2)], (3, 3)),
@@ -184,12 +198,7 @@ static CASES: [Case; 5] = [
     },
 ];
 
-/// The conversations.
-fn cases() -> &'static [Case] {
-    &CASES
-}
-
 #[test]
 fn unwanted_replies(rt: HostRuntime) -> Result<(), Fail> {
-    check_cases(&rt, rt.alloc(), cases())
+    check_cases(&rt, rt.alloc(), &CASES)
 }

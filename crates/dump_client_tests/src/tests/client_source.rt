@@ -1,13 +1,14 @@
 //! A client whose blocks cannot be read. A script's first block is its step 3, counted from 0.
 
-use super::play::Move::{AsksInVain, Goes, IsIdle, Stands, Starts, Takes, Trouble, Volume};
+use super::play::Move::{AsksInVain, Goes, IsIdle, Stands, Starts, Takes, Trouble, Writes};
 use super::play::{Case, Move, ONCE, check_cases};
+use super::script::Volume::{AllThree, FirstBlock, FirstTwo, LastTwo};
 use dump_client::{Answer, AttemptFault, State};
 use std::test::Fail;
 
 /// Each block fails in turn, and then the volume is written from its label on.
 const EACH_BLOCK: &[Move] = &[
-    Volume(1, 0, 3),
+    Writes(AllThree),
     Starts,
     Goes(0, 3),
     Trouble(true),
@@ -39,10 +40,10 @@ const EACH_BLOCK: &[Move] = &[
 
 /// A block of a second volume fails: what is counted stays.
 const SECOND_VOLUME: &[Move] = &[
-    Volume(1, 0, 1),
+    Writes(FirstBlock),
     Starts,
     Goes(0, 8),
-    Volume(2, 1, 2),
+    Writes(LastTwo),
     Starts,
     Goes(0, 4),
     Trouble(true),
@@ -58,7 +59,7 @@ const SECOND_VOLUME: &[Move] = &[
 
 /// Only the request of a block reads one, and the end of a reel is met at a block that was read.
 const WITHOUT_A_BLOCK: &[Move] = &[
-    Volume(1, 0, 2),
+    Writes(FirstTwo),
     Trouble(true),
     Starts,
     Goes(0, 3),
@@ -71,7 +72,7 @@ const WITHOUT_A_BLOCK: &[Move] = &[
 
 /// A source that is still in trouble fails the next attempt, and one that is given up is not read.
 const LASTS: &[Move] = &[
-    Volume(1, 0, 3),
+    Writes(AllThree),
     Starts,
     Goes(0, 3),
     Trouble(true),
@@ -115,12 +116,7 @@ static CASES: [Case; 4] = [
     },
 ];
 
-/// The conversations.
-fn cases() -> &'static [Case] {
-    &CASES
-}
-
 #[test]
 fn blocks_that_cannot_be_read(rt: HostRuntime) -> Result<(), Fail> {
-    check_cases(&rt, rt.alloc(), cases())
+    check_cases(&rt, rt.alloc(), &CASES)
 }

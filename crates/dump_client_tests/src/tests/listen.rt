@@ -1,7 +1,8 @@
 //! What comes of replies, of beginnings of them and of noise, in one piece and in many.
 
-use super::play::Move::{AsksStep, Goes, HearsBy, HearsEachWay, HearsLong, Stands, Starts, Volume};
+use super::play::Move::{AsksStep, Goes, HearsBy, HearsEachWay, HearsLong, Stands, Starts, Writes};
 use super::play::{Case, Move, ONCE, check_cases};
+use super::script::Volume::NoBlocks;
 use dump_client::Progress::{Ended, Failed, Send, Waiting};
 use dump_client::{AttemptFault, State};
 use std::test::Fail;
@@ -13,45 +14,45 @@ const LABEL: usize = 2;
 
 /// A number that is not the label's size.
 const ANOTHER_NUMBER: &[Move] = &[
-    Volume(1, 0, 0),
+    Writes(NoBlocks),
     HearsEachWay(OPEN, Send),
     HearsEachWay(LABEL, Failed(AttemptFault::ShortWrite)),
 ];
 
 const ZERO: &[Move] = &[
-    Volume(1, 0, 0),
+    Writes(NoBlocks),
     HearsEachWay(OPEN, Send),
     HearsEachWay(LABEL, Failed(AttemptFault::ReelTooSmall)),
 ];
 
 const NO_ROOM: &[Move] = &[
-    Volume(1, 0, 0),
+    Writes(NoBlocks),
     HearsEachWay(OPEN, Failed(AttemptFault::Refused(28))),
     HearsEachWay(LABEL, Failed(AttemptFault::ReelTooSmall)),
 ];
 
 const BUSY: &[Move] = &[
-    Volume(1, 0, 0),
+    Writes(NoBlocks),
     HearsEachWay(OPEN, Failed(AttemptFault::Refused(16))),
     HearsEachWay(LABEL, Failed(AttemptFault::Refused(16))),
 ];
 
 /// What begins a reply is waited on.
 const BEGINNING: &[Move] = &[
-    Volume(1, 0, 0),
+    Writes(NoBlocks),
     HearsEachWay(OPEN, Waiting),
     HearsEachWay(LABEL, Waiting),
 ];
 
 const NOISE: &[Move] = &[
-    Volume(1, 0, 0),
+    Writes(NoBlocks),
     HearsEachWay(OPEN, Failed(AttemptFault::Botched)),
     HearsEachWay(LABEL, Failed(AttemptFault::Botched)),
 ];
 
-/// A byte behind the reply that counts, in its piece.
+/// A byte after the reply that counts, in its piece.
 const FOLLOWED: &[Move] = &[
-    Volume(1, 0, 0),
+    Writes(NoBlocks),
     Starts,
     Goes(0, 4),
     AsksStep(4),
@@ -61,7 +62,7 @@ const FOLLOWED: &[Move] = &[
 
 /// The same reply in a piece of its own.
 const ALONE: &[Move] = &[
-    Volume(1, 0, 0),
+    Writes(NoBlocks),
     Starts,
     Goes(0, 4),
     AsksStep(4),
@@ -71,7 +72,7 @@ const ALONE: &[Move] = &[
 
 /// The same reply byte by byte.
 const BYTE_BY_BYTE: &[Move] = &[
-    Volume(1, 0, 0),
+    Writes(NoBlocks),
     Starts,
     Goes(0, 4),
     AsksStep(4),
@@ -81,7 +82,7 @@ const BYTE_BY_BYTE: &[Move] = &[
 
 /// The text of an error can be longer than all that is kept of a reply.
 const LONG_TEXTS: &[Move] = &[
-    Volume(1, 0, 0),
+    Writes(NoBlocks),
     HearsLong(OPEN, 10000),
     HearsLong(OPEN, 70000),
 ];
@@ -125,7 +126,7 @@ static CASES: [Case; 10] = [
         moves: NOISE,
     },
     Case {
-        name: "bytes behind a reply",
+        name: "bytes after a reply",
         blocks: 0,
         pieces: &[b"A1\nA"],
         moves: FOLLOWED,
@@ -150,12 +151,7 @@ static CASES: [Case; 10] = [
     },
 ];
 
-/// The conversations.
-fn cases() -> &'static [Case] {
-    &CASES
-}
-
 #[test]
 fn replies_beginnings_and_noise(rt: HostRuntime) -> Result<(), Fail> {
-    check_cases(&rt, rt.alloc(), cases())
+    check_cases(&rt, rt.alloc(), &CASES)
 }

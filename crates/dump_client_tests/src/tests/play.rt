@@ -1,28 +1,25 @@
 //! Conversations of a client, as tables of moves.
 
-use super::slow::{Scripted, SlowRun, script};
-use super::talk::{BLOCKS, Counted, RUN, Talk};
+use super::script::{Script, Volume, script_of};
+use super::talk::{Counted, Dumped, Talk, USR};
 use dump_client::{Answer, AttemptFault, Progress, State};
 use std::alloc::Global;
 use std::process::Abort;
 use std::test::Fail;
 
-/// The blocks of a run.
-pub(crate) type Payload = &'static [&'static [u8]];
-
 /// One move of a conversation, and what is wanted of it. Steps of a script are counted from 0.
 #[derive(Clone, Copy)]
 pub(crate) enum Move {
-    /// From here on the script is that of the volume of this number, from this block on, with so many blocks.
-    Volume(u64, usize, usize),
+    /// From here on the script is that of this volume.
+    Writes(Volume),
     /// An attempt starts.
     Starts,
     /// What the script says is asked and answered as is wanted, from one of its steps up to another.
     Goes(usize, usize),
+    /// The same of all its steps. Each reply comes in pieces of so many bytes, and its last byte alone.
+    GoesBy(usize),
     /// This is asked.
     Asks(&'static [u8]),
-    /// This is asked, with so many zero bytes behind it.
-    AsksPadded(&'static [u8], usize),
     /// What the script says at this step is asked.
     AsksStep(usize),
     /// Nothing is asked.
@@ -40,11 +37,14 @@ pub(crate) enum Move {
     HearsEachWay(usize, Progress),
     /// A piece is heard, and fails the attempt so.
     Fails(&'static [u8], AttemptFault),
-    /// An attempt starts, goes up to this step, and fails of a piece; the operator wants another. One block is counted.
+    /// An attempt starts, goes up to this step, and hears a piece; what the script says at another step is asked then. The
+    /// attempt is cut off, and the operator wants another.
+    LeadsTo(usize, &'static [u8], usize),
+    /// An attempt starts, goes up to this step, and fails of a piece; the operator wants another.
     FailsAt(usize, &'static [u8], AttemptFault),
-    /// The same of an error 5 with a text of so many bytes.
-    FailsAtLong(usize, usize),
-    /// The same as `HearsEachWay` of an error 28 with a text of so many bytes, first of all but its last byte.
+    /// An attempt starts, goes up to this step, and the connection ends after a beginning of a reply; the operator wants another.
+    CutAt(usize, &'static [u8]),
+    /// The same as `HearsEachWay` of an error 5 with a text of so many bytes, first of all but its last byte.
     HearsLong(usize, usize),
     /// The connection ends, and this comes of it.
     Ends(Progress),
@@ -69,7 +69,7 @@ pub(crate) enum Move {
 pub(crate) struct Case {
     pub(crate) name: &'static str,
     /// How many blocks are dumped.
-    pub(crate) blocks: usize,
+    pub(crate) blocks: u32,
     pub(crate) pieces: &'static [&'static [u8]],
     pub(crate) moves: &'static [Move],
 }
@@ -77,63 +77,73 @@ pub(crate) struct Case {
 /// The pieces of a case whose moves name no piece of it.
 pub(crate) const ONCE: &[&[u8]] = &[b""];
 
-/// The first volume has the first block of the run.
-pub(crate) const ONE_COUNTED: &[Counted] = &[(1, 0, 1)];
-
-/// A client with the blocks of its run, and the script of a volume.
+/// A client with the script of a volume.
 #[derive(Drop)]
 struct Play {
     alloc: Global,
-    run: SlowRun,
-    blocks: Payload,
     talk: Talk,
-    script: Vec<Scripted>,
+    script: &'static Script,
 }
 
 impl Play {
     /// It has not started.
-    fn new(alloc: Global, run: SlowRun, blocks: Payload) -> Result<Play, Fail> {
-        let count = u32::try_from(blocks.len()).ok().ok_or("few blocks")?;
+    fn new(alloc: Global, dumped: Dumped, blocks: u32) -> Result<Play, Fail> {
         Ok(Play {
             alloc,
-            run,
-            blocks,
-            talk: Talk::of(alloc, run, count)?,
-            script: Vec::new(alloc),
+            talk: Talk::new(alloc, dumped, blocks)?,
+            script: script_of(Volume::NoBlocks),
         })
     }
 
     /// From here on the script is that of this volume.
-    fn turns_to(&mut self, number: u64, first: usize, count: usize) -> Result<bool, Fail> {
-        self.script = script(self.alloc, self.run, self.blocks, number, first, count)?;
-        Ok(true)
-    }
-
-    /// It asks this, with so many zero bytes behind it.
-    fn asks_padded(&mut self, text: &[u8], zeros: usize) -> Result<bool, Fail> {
-        let mut whole = Vec::from_slice(self.alloc, text)?;
-        for _ in 0..zeros {
-            whole.push(0)?;
-        }
-        Ok(self.talk.asks(&whole))
+    fn turns_to(&mut self, volume: Volume) -> bool {
+        self.script = script_of(volume);
+        true
     }
 
     /// It starts, and asks what the script says up to this step.
     fn starts_to(&mut self, step: usize) -> bool {
         self.talk.starts()
-            && self.talk.goes_through(&self.script, 0, step)
-            && self.talk.asks_step(&self.script, step)
+            && self.talk.goes_through(self.script.steps, 0, step)
+            && self.talk.asks_step(self.script.steps, step)
     }
 
-    /// The attempt at the second volume fails at this step of this piece, and another can start.
-    fn fails_at(&mut self, step: usize, piece: &[u8], fault: AttemptFault) -> bool {
-        self.starts_to(step)
-            && self.talk.fails(piece, fault)
-            && self.talk.stands(State::Asking, ONE_COUNTED, (2, 1))
+    /// It is in this state, and the volume is not counted.
+    fn is_open(&self, state: State) -> bool {
+        self.talk
+            .stands(state, self.script.counted, self.script.next)
+    }
+
+    /// The attempt has failed: nothing is counted, and another can start once the operator wants it.
+    fn can_go_anew(&mut self) -> bool {
+        self.is_open(State::Asking)
             && self.talk.is_idle()
-            && self.talk.stands(State::Asking, ONE_COUNTED, (2, 1))
+            && self.is_open(State::Asking)
             && self.talk.takes(Answer::Retry)
-            && self.talk.stands(State::Ready, ONE_COUNTED, (2, 1))
+            && self.is_open(State::Ready)
+    }
+
+    /// The attempt fails at this step of this piece, and another can start.
+    fn fails_at(&mut self, step: usize, piece: &[u8], fault: AttemptFault) -> bool {
+        self.starts_to(step) && self.talk.fails(piece, fault) && self.can_go_anew()
+    }
+
+    /// The connection ends at this step after a beginning of a reply, and another attempt can start.
+    fn is_cut_at(&mut self, step: usize, begun: &[u8]) -> bool {
+        let failed = Progress::Failed(AttemptFault::ConnectionEnded);
+        self.starts_to(step)
+            && self.talk.hears(begun, Progress::Waiting)
+            && self.talk.ends(failed)
+            && self.can_go_anew()
+    }
+
+    /// This piece leads from this step to that one, and the volume is not counted.
+    fn leads_to(&mut self, step: usize, piece: &[u8], to: usize) -> bool {
+        self.starts_to(step)
+            && self.talk.hears(piece, Progress::Send)
+            && self.is_open(State::ToSend)
+            && self.talk.asks_step(self.script.steps, to)
+            && self.talk.tries_anew()
     }
 
     /// Byte by byte, in longer pieces, and whole: each time an attempt goes up to this step, and this comes of the bytes there.
@@ -147,23 +157,17 @@ impl Play {
         true
     }
 
-    /// The attempt at the second volume fails at this step of an error with a text of so many bytes.
-    fn fails_at_long(&mut self, step: usize, size: usize) -> Result<bool, Fail> {
-        let error = long_error(self.alloc, b"E5\n", size)?;
-        Ok(self.fails_at(step, &error, AttemptFault::Refused(5)))
-    }
-
     /// An error with a text of so many bytes fails the attempt at this step, however it comes, and all but its last byte does
     /// not.
     fn hears_long(&mut self, step: usize, size: usize) -> Result<bool, Fail> {
-        let error = long_error(self.alloc, b"E28\n", size)?;
+        let error = long_error(self.alloc, size)?;
         Ok(self.hears_error(step, &error))
     }
 
     /// The same of this error.
     fn hears_error(&mut self, step: usize, error: &[u8]) -> bool {
         let begun = error.get(..error.len().saturating_sub(1)).unwrap_or(&[]);
-        let failed = Progress::Failed(AttemptFault::Refused(28));
+        let failed = Progress::Failed(AttemptFault::Refused(5));
         self.hears_each_way(step, begun, Progress::Waiting)
             && self.hears_each_way(step, error, failed)
     }
@@ -177,9 +181,6 @@ impl Play {
     /// Makes a move, with the piece of the case. Whether all was as is wanted.
     fn makes(&mut self, next: Move, it: &[u8]) -> Result<bool, Fail> {
         match next {
-            Move::Volume(number, first, count) => self.turns_to(number, first, count),
-            Move::AsksPadded(text, zeros) => self.asks_padded(text, zeros),
-            Move::FailsAtLong(step, size) => self.fails_at_long(step, size),
             Move::HearsLong(step, size) => self.hears_long(step, size),
             _ => Ok(self.asks(next, it)),
         }
@@ -188,11 +189,23 @@ impl Play {
     /// Makes a move that asks something, or any other.
     fn asks(&mut self, next: Move, it: &[u8]) -> bool {
         match next {
-            Move::Goes(from, to) => self.talk.goes_through(&self.script, from, to),
-            Move::Asks(text) => self.talk.asks(text),
-            Move::AsksStep(step) => self.talk.asks_step(&self.script, step),
+            Move::Goes(from, to) => self.talk.goes_through(self.script.steps, from, to),
+            Move::GoesBy(size) => self.talk.goes_by(self.script.steps, size),
+            Move::Asks(text) => self.talk.asks(text, (0, 0)),
+            Move::AsksStep(step) => self.talk.asks_step(self.script.steps, step),
             Move::AsksNothing => self.talk.asks_nothing(),
             Move::AsksInVain(fault) => self.talk.asks_in_vain(fault),
+            _ => self.attempts(next, it),
+        }
+    }
+
+    /// Makes a move that is a whole attempt, or any other.
+    fn attempts(&mut self, next: Move, it: &[u8]) -> bool {
+        match next {
+            Move::HearsEachWay(step, progress) => self.hears_each_way(step, it, progress),
+            Move::LeadsTo(step, piece, to) => self.leads_to(step, piece, to),
+            Move::FailsAt(step, piece, fault) => self.fails_at(step, piece, fault),
+            Move::CutAt(step, begun) => self.is_cut_at(step, begun),
             _ => self.hears(next, it),
         }
     }
@@ -203,9 +216,7 @@ impl Play {
             Move::Hears(piece, progress) => self.talk.hears(piece, progress),
             Move::HearsIt(progress) => self.talk.hears(it, progress),
             Move::HearsBy(size, progress) => self.talk.hears_by(it, size, progress),
-            Move::HearsEachWay(step, progress) => self.hears_each_way(step, it, progress),
             Move::Fails(piece, fault) => self.talk.fails(piece, fault),
-            Move::FailsAt(step, piece, fault) => self.fails_at(step, piece, fault),
             Move::Ends(progress) => self.talk.ends(progress),
             _ => self.stands(next),
         }
@@ -214,11 +225,11 @@ impl Play {
     /// Makes any other move.
     fn stands(&mut self, next: Move) -> bool {
         match next {
+            Move::Writes(volume) => self.turns_to(volume),
             Move::Starts => self.talk.starts(),
             Move::Takes(answer) => self.talk.takes(answer),
             Move::CannotStart => self.talk.cannot_start(),
-            Move::CannotTake => self.talk.cannot_take(Answer::Retry)
-                && self.talk.cannot_take(Answer::Abandon),
+            Move::CannotTake => self.talk.cannot_take(),
             Move::IsIdle => self.talk.is_idle(),
             Move::Trouble(fails) => self.has_trouble(fails),
             Move::Stands(state, counts, next) => self.talk.stands(state, counts, next),
@@ -228,12 +239,11 @@ impl Play {
     }
 }
 
-/// An error that begins so and has a text of so many bytes.
-fn long_error(alloc: Global, begin: &[u8], size: usize) -> Result<Vec<u8>, Fail> {
-    let mut error = Vec::from_slice(alloc, begin)?;
-    for _ in 0..size {
-        error.push(b'z')?;
-    }
+/// An error with a text of so many bytes.
+fn long_error(alloc: Global, size: usize) -> Result<Vec<u8>, Fail> {
+    let mut error = Vec::from_slice(alloc, b"E5\n")?;
+    let end = error.len().saturating_add(size);
+    error.resize(end, b'z')?;
     error.push(b'\n')?;
     Ok(error)
 }
@@ -248,21 +258,10 @@ fn wrong_move(play: &mut Play, moves: &[Move], it: &[u8]) -> Result<Option<usize
     Ok(None)
 }
 
-/// Where the conversation does not go so with this piece.
-fn wrong_in(
-    alloc: Global,
-    run: SlowRun,
-    blocks: Payload,
-    case: &Case,
-    it: &[u8],
-) -> Result<Option<usize>, Fail> {
-    let mut play = Play::new(alloc, run, first_of(blocks, case.blocks))?;
+/// Where the conversation of a run does not go so with this piece.
+fn wrong_in(alloc: Global, dumped: Dumped, case: &Case, it: &[u8]) -> Result<Option<usize>, Fail> {
+    let mut play = Play::new(alloc, dumped, case.blocks)?;
     wrong_move(&mut play, case.moves, it)
-}
-
-/// So many of the blocks.
-fn first_of(blocks: Payload, count: usize) -> Payload {
-    blocks.get(..count).unwrap_or(&[])
 }
 
 /// No move is wrong.
@@ -270,16 +269,15 @@ fn expect_none(rt: &impl Abort, wrong: Option<usize>, name: &str) {
     assert!(rt; wrong.is_none(), "{name}: move {wrong:?}");
 }
 
-/// A conversation goes as its moves say, with each piece of the case, where this is the run, and these are its first blocks.
+/// A conversation of a run goes as its moves say, with each piece of the case.
 pub(crate) fn check_case(
     rt: &impl Abort,
     alloc: Global,
-    run: SlowRun,
-    blocks: Payload,
+    dumped: Dumped,
     case: &Case,
 ) -> Result<(), Fail> {
     for it in case.pieces {
-        let wrong = wrong_in(alloc, run, blocks, case, it)?;
+        let wrong = wrong_in(alloc, dumped, case, it)?;
         expect_none(rt, wrong, case.name);
     }
     Ok(())
@@ -288,7 +286,7 @@ pub(crate) fn check_case(
 /// Each of these conversations goes as its moves say.
 pub(crate) fn check_cases(rt: &impl Abort, alloc: Global, cases: &[Case]) -> Result<(), Fail> {
     for case in cases {
-        check_case(rt, alloc, RUN, &BLOCKS, case)?;
+        check_case(rt, alloc, USR, case)?;
     }
     Ok(())
 }

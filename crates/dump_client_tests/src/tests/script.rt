@@ -1,146 +1,217 @@
-//! Labels and scripts that were worked out by hand.
+//! The requests of attempts, written by hand, and replies to them that are wanted.
 
-use super::next::BLOCKS;
-use super::slow::{Answer, Scripted, Wish, grants, label, script};
-use super::talk::{RUN, expect_at};
-use std::test::Fail;
+use super::talk::Counted;
 
-const LABEL: &[u8] = b"name /usr\nlevel 0\ndate 951782400\nsince 0\nvolume 1\nfirst 0\n";
+/// A request, as its text and the byte that follows it so many times, and a reply that is wanted.
+pub(crate) type Step = (&'static [u8], (u8, usize), &'static [u8]);
 
-/// Whether all of these bytes are that one.
-fn are_all(bytes: &[u8], wanted: u8) -> bool {
-    for byte in bytes {
-        if *byte != wanted {
-            return false;
-        }
-    }
-    true
+/// An attempt at a volume: what is counted before it, its number and first block, and its steps.
+pub(crate) struct Script {
+    pub(crate) counted: &'static [Counted],
+    pub(crate) next: (u32, u32),
+    pub(crate) steps: &'static [Step],
 }
 
-/// Whether these bytes are that text of 58 bytes, and zeros up to 1,024.
-fn is_label(label: &[u8]) -> bool {
-    LABEL.len() == 58
-        && label.len() == 1024
-        && label.starts_with(LABEL)
-        && are_all(label.get(58..).unwrap_or(&[]), 0)
+/// A volume that is written in these tests.
+#[derive(Clone, Copy)]
+pub(crate) enum Volume {
+    /// The volume of a run of no blocks.
+    NoBlocks,
+    /// A first volume of one block, after which another is refused.
+    FirstBlock,
+    /// A first volume of two blocks, after which a third is refused.
+    FirstTwo,
+    /// A volume of three blocks, which are the run.
+    AllThree,
+    /// A second volume of the last two blocks of three.
+    LastTwo,
+    /// A second volume of the last block of three.
+    LastBlock,
+    /// A first volume of two blocks, with other replies that are wanted as well.
+    OtherReplies,
+    /// The volume of a run of two blocks of 3 bytes.
+    SmallBlocks,
+    /// The same with the greatest size.
+    GreatestBlocks,
 }
 
-#[test]
-fn the_label_of_a_first_volume(rt: HostRuntime) -> Result<(), Fail> {
-    let label = label(rt.alloc(), RUN, 1, 0)?;
-    assert!(rt; is_label(&label));
-    Ok(())
-}
+/// No byte follows the text of a request.
+const NONE: (u8, usize) = (0, 0);
 
-/// A request, but for the zero bytes at its end, how many these are, and what it wants.
-type Step = (&'static [u8], usize, Wish);
+const OPEN: Step = (b"O/dev/st0\n2\n", NONE, b"A0\n");
 
-/// The run of no blocks: six requests, of which the third writes the label.
-static STEPS: [Step; 6] = [
-    (b"O/dev/st0\n2\n", 0, Wish::AnyNumber),
-    (b"I5\n1\n", 0, Wish::Number(1)),
-    (
-        b"W1024\nname /usr\nlevel 0\ndate 951782400\nsince 0\nvolume 1\nfirst 0\n",
-        966,
-        Wish::Number(1024),
-    ),
-    (b"I0\n1\n", 0, Wish::Number(1)),
-    (b"I6\n1\n", 0, Wish::Number(1)),
-    (b"C\n", 0, Wish::Anything),
-];
+const REWIND: Step = (b"I5\n1\n", NONE, b"A1\n");
 
-/// Whether the bytes are these, with so many zero bytes behind them.
-fn is_padded(bytes: &[u8], text: &[u8], zeros: usize) -> bool {
-    let rest = bytes.get(text.len()..).unwrap_or(&[]);
-    bytes.starts_with(text) && rest.len() == zeros && are_all(rest, 0)
-}
+const MARK: Step = (b"I0\n1\n", NONE, b"A1\n");
 
-/// Whether these are the steps of a script.
-fn are_steps(script: &[Scripted], wanted: &[Step]) -> bool {
-    for (step, (text, zeros, wish)) in script.iter().zip(wanted) {
-        if !is_padded(&step.text, text, *zeros) || step.wish != *wish {
-            return false;
-        }
-    }
-    script.len() == wanted.len()
-}
+const UNLOAD: Step = (b"I6\n1\n", NONE, b"A1\n");
 
-#[test]
-fn a_run_of_no_blocks(rt: HostRuntime) -> Result<(), Fail> {
-    let script = script(rt.alloc(), RUN, &[], 1, 0, 0)?;
-    assert!(rt; are_steps(&script, &STEPS));
-    Ok(())
-}
+const CLOSE: Step = (b"C\n", NONE, b"A0\n");
 
-/// What is wished for at the steps of a volume of two blocks after which a third is refused.
-static WISHES: [Wish; 9] = [
-    Wish::AnyNumber,
-    Wish::Number(1),
-    Wish::Number(1024),
-    Wish::Number(1024),
-    Wish::Number(1024),
-    Wish::NoRoom,
-    Wish::Number(1),
-    Wish::Number(1),
-    Wish::Anything,
-];
+/// The write of the first label: 58 bytes of text, and 966 zero bytes.
+const LABEL: Step = (
+    b"W1024\nname /usr\nlevel 0\ndate 951782400\nsince 0\nvolume 1\nfirst 0\n",
+    (0, 966),
+    b"A1024\n",
+);
 
-/// Whether a request writes a block of these bytes.
-fn writes(text: &[u8], byte: u8) -> bool {
-    text.len() == 1030
-        && text.starts_with(b"W1024\n")
-        && are_all(text.get(6..).unwrap_or(&[]), byte)
-}
+/// The label of a second volume from the block 1 on.
+const LABEL_FROM_1: Step = (
+    b"W1024\nname /usr\nlevel 0\ndate 951782400\nsince 0\nvolume 2\nfirst 1\n",
+    (0, 966),
+    b"A1024\n",
+);
 
-/// Whether the steps of a script wish for these.
-fn has_wishes(script: &[Scripted]) -> bool {
-    if script.len() != WISHES.len() {
-        return false;
-    }
-    for (step, wish) in script.iter().zip(&WISHES) {
-        if step.wish != *wish {
-            return false;
-        }
-    }
-    true
-}
+/// The label of a second volume from the block 2 on.
+const LABEL_FROM_2: Step = (
+    b"W1024\nname /usr\nlevel 0\ndate 951782400\nsince 0\nvolume 2\nfirst 2\n",
+    (0, 966),
+    b"A1024\n",
+);
 
-/// Whether three requests of a script from this step on write blocks of the bytes 1, 2 and 3.
-fn writes_blocks(script: &[Scripted], from: usize) -> bool {
-    let mut byte = 0u8;
-    for step in script.iter().skip(from).take(3) {
-        byte = byte.wrapping_add(1);
-        if !writes(&step.text, byte) {
-            return false;
-        }
-    }
-    true
-}
+const BLOCK_0: Step = (b"W1024\n", (0, 1024), b"A1024\n");
 
-/// Of three blocks two are written, and a third is refused.
-#[test]
-fn a_volume_with_a_block_refused(rt: HostRuntime) -> Result<(), Fail> {
-    let script = script(rt.alloc(), RUN, &BLOCKS, 1, 0, 2)?;
-    assert!(rt; has_wishes(&script) && writes_blocks(&script, 3));
-    Ok(())
-}
+const BLOCK_1: Step = (b"W1024\n", (1, 1024), b"A1024\n");
 
-/// A wish, an answer, and whether that is one that is wanted.
-static ANSWERS: [(Wish, Answer, bool); 9] = [
-    (Wish::AnyNumber, Answer::A(7), true),
-    (Wish::AnyNumber, Answer::E(2), false),
-    (Wish::Number(1), Answer::A(1), true),
-    (Wish::Number(1), Answer::A(0), false),
-    (Wish::NoRoom, Answer::A(0), true),
-    (Wish::NoRoom, Answer::E(28), true),
-    (Wish::NoRoom, Answer::A(1), false),
-    (Wish::NoRoom, Answer::E(5), false),
-    (Wish::Anything, Answer::E(5), true),
-];
+const BLOCK_2: Step = (b"W1024\n", (2, 1024), b"A1024\n");
 
-#[test]
-fn answers_that_are_wanted(rt: HostRuntime) {
-    for (at, (wish, answer, wanted)) in ANSWERS.iter().enumerate() {
-        expect_at(&rt, grants(*wish, *answer) == *wanted, at);
+/// Blocks for which there is no room.
+const BLOCK_1_REFUSED: Step = (b"W1024\n", (1, 1024), b"A0\n");
+
+const BLOCK_2_REFUSED: Step = (b"W1024\n", (2, 1024), b"A0\n");
+
+static NO_BLOCKS: Script = Script {
+    counted: &[],
+    next: (1, 0),
+    steps: &[OPEN, REWIND, LABEL, MARK, UNLOAD, CLOSE],
+};
+
+static FIRST_BLOCK: Script = Script {
+    counted: &[],
+    next: (1, 0),
+    steps: &[
+        OPEN,
+        REWIND,
+        LABEL,
+        BLOCK_0,
+        BLOCK_1_REFUSED,
+        MARK,
+        UNLOAD,
+        CLOSE,
+    ],
+};
+
+static FIRST_TWO: Script = Script {
+    counted: &[],
+    next: (1, 0),
+    steps: &[
+        OPEN,
+        REWIND,
+        LABEL,
+        BLOCK_0,
+        BLOCK_1,
+        BLOCK_2_REFUSED,
+        MARK,
+        UNLOAD,
+        CLOSE,
+    ],
+};
+
+static ALL_THREE: Script = Script {
+    counted: &[],
+    next: (1, 0),
+    steps: &[
+        OPEN, REWIND, LABEL, BLOCK_0, BLOCK_1, BLOCK_2, MARK, UNLOAD, CLOSE,
+    ],
+};
+
+static LAST_TWO: Script = Script {
+    counted: &[(1, 0, 1)],
+    next: (2, 1),
+    steps: &[
+        OPEN,
+        REWIND,
+        LABEL_FROM_1,
+        BLOCK_1,
+        BLOCK_2,
+        MARK,
+        UNLOAD,
+        CLOSE,
+    ],
+};
+
+static LAST_BLOCK: Script = Script {
+    counted: &[(1, 0, 2)],
+    next: (2, 2),
+    steps: &[OPEN, REWIND, LABEL_FROM_2, BLOCK_2, MARK, UNLOAD, CLOSE],
+};
+
+static OTHER_REPLIES: Script = Script {
+    counted: &[],
+    next: (1, 0),
+    steps: &[
+        (b"O/dev/st0\n2\n", NONE, b"A7\n"),
+        (b"I5\n1\n", NONE, b"A0000000001\n"),
+        LABEL,
+        (b"W1024\n", (0, 1024), b"A01024\n"),
+        BLOCK_1,
+        (b"W1024\n", (2, 1024), b"E28\nNo space left on device\n"),
+        MARK,
+        UNLOAD,
+        (b"C\n", NONE, b"E5\nInput/output error\n"),
+    ],
+};
+
+/// The open of another run's device, and the write of its label: 70 bytes of text, and 954 zero bytes.
+const OTHER_OPEN: Step = (b"O/dev/nst1\n2\n", NONE, b"A0\n");
+
+const OTHER_LABEL: Step = (
+    b"W1024\nname /home\nlevel 9\ndate 253402300799\nsince 951782400\nvolume 1\nfirst 0\n",
+    (0, 954),
+    b"A1024\n",
+);
+
+static SMALL_BLOCKS: Script = Script {
+    counted: &[],
+    next: (1, 0),
+    steps: &[
+        OTHER_OPEN,
+        REWIND,
+        OTHER_LABEL,
+        (b"W3\n", (0, 3), b"A3\n"),
+        (b"W3\n", (1, 3), b"A3\n"),
+        MARK,
+        UNLOAD,
+        CLOSE,
+    ],
+};
+
+static GREATEST_BLOCKS: Script = Script {
+    counted: &[],
+    next: (1, 0),
+    steps: &[
+        OTHER_OPEN,
+        REWIND,
+        OTHER_LABEL,
+        (b"W65536\n", (0, 65536), b"A65536\n"),
+        (b"W65536\n", (1, 65536), b"A65536\n"),
+        MARK,
+        UNLOAD,
+        CLOSE,
+    ],
+};
+
+/// How the volume is written.
+pub(crate) fn script_of(volume: Volume) -> &'static Script {
+    match volume {
+        Volume::NoBlocks => &NO_BLOCKS,
+        Volume::FirstBlock => &FIRST_BLOCK,
+        Volume::FirstTwo => &FIRST_TWO,
+        Volume::AllThree => &ALL_THREE,
+        Volume::LastTwo => &LAST_TWO,
+        Volume::LastBlock => &LAST_BLOCK,
+        Volume::OtherReplies => &OTHER_REPLIES,
+        Volume::SmallBlocks => &SMALL_BLOCKS,
+        Volume::GreatestBlocks => &GREATEST_BLOCKS,
     }
 }

@@ -1,21 +1,26 @@
 //! A client whose requests are looked at, and whose replies are fed, by hand. Each call answers whether all was as is
 //! wanted.
 
-use super::slow::{Scripted, SlowRun, Wish};
+use super::script::Step;
 use dump_client::{
     Answer, AttemptFault, Client, ListBlocks, Progress, Run, StartFault, State, VolumeCount,
 };
 use std::alloc::Global;
-use std::process::Abort;
 use std::test::Fail;
 
-/// It is so at this place, or the test ends.
-pub(crate) fn expect_at(rt: &impl Abort, is_so: bool, at: usize) {
-    assert!(rt; is_so, "at {at}");
+/// What a run is made of, but for how many blocks it has. Each byte of a block is its number.
+#[derive(Clone, Copy)]
+pub(crate) struct Dumped {
+    pub(crate) device: &'static str,
+    pub(crate) name: &'static str,
+    pub(crate) level: u64,
+    pub(crate) date: u64,
+    pub(crate) since: u64,
+    pub(crate) block_bytes: u64,
 }
 
 /// The run of these tests.
-pub(crate) const RUN: SlowRun = SlowRun {
+pub(crate) const USR: Dumped = Dumped {
     device: "/dev/st0",
     name: "/usr",
     level: 0,
@@ -23,9 +28,6 @@ pub(crate) const RUN: SlowRun = SlowRun {
     since: 0,
     block_bytes: 1024,
 };
-
-/// The first blocks of it: each byte of a block is its number.
-pub(crate) static BLOCKS: [&[u8]; 3] = [&[0; 1024], &[1; 1024], &[2; 1024]];
 
 /// A volume that is counted: its number, its first block, and how many blocks it has.
 pub(crate) type Counted = (u32, u32, u32);
@@ -41,27 +43,26 @@ pub(crate) struct Talk {
 fn payload(alloc: Global, blocks: u32, size: usize) -> Result<Vec<u8>, Fail> {
     let mut payload = Vec::new(alloc);
     for number in 0..blocks {
-        for _ in 0..size {
-            payload.push((number % 256) as u8)?;
-        }
+        let end = payload.len().saturating_add(size);
+        payload.resize(end, (number % 256) as u8)?;
     }
     Ok(payload)
 }
 
 /// A client of this run with so many blocks.
-fn client_of(alloc: Global, run: SlowRun, blocks: u32) -> Result<Client<ListBlocks>, Fail> {
-    let size = run.block_bytes as usize;
+fn client_of(alloc: Global, dumped: Dumped, blocks: u32) -> Result<Client<ListBlocks>, Fail> {
+    let size = dumped.block_bytes as usize;
     let payload = payload(alloc, blocks, size)?;
     if (blocks as usize).checked_mul(size) != Some(payload.len()) {
         return Err(Fail::new("the payload has another size"));
     }
     let Ok(run) = Run::new(
-        run.device.as_bytes(),
-        run.name,
-        run.level,
-        run.date,
-        run.since,
-        run.block_bytes,
+        dumped.device.as_bytes(),
+        dumped.name,
+        dumped.level,
+        dumped.date,
+        dumped.since,
+        dumped.block_bytes,
         u64::from(blocks),
     ) else {
         return Err(Fail::new("no run"));
@@ -70,22 +71,28 @@ fn client_of(alloc: Global, run: SlowRun, blocks: u32) -> Result<Client<ListBloc
     Ok(Client::new(alloc, run, source)?)
 }
 
-/// A reply that is wanted.
-pub(crate) fn wanted_reply(wish: Wish) -> &'static [u8] {
-    match wish {
-        Wish::Number(1) => b"A1\n",
-        Wish::Number(3) => b"A3\n",
-        Wish::Number(65536) => b"A65536\n",
-        Wish::Number(_) => b"A1024\n",
-        Wish::AnyNumber | Wish::NoRoom | Wish::Anything => b"A0\n",
+/// Whether all of these bytes are that one.
+fn are_all(bytes: &[u8], wanted: u8) -> bool {
+    for byte in bytes {
+        if *byte != wanted {
+            return false;
+        }
     }
+    true
 }
 
-/// What comes of a reply that is wanted.
-fn wanted_progress(wish: Wish) -> Progress {
-    match wish {
-        Wish::Anything => Progress::Ended,
-        _ => Progress::Send,
+/// Whether the bytes are this text, and a byte that follows it so many times.
+fn is_filled(bytes: &[u8], text: &[u8], (byte, times): (u8, usize)) -> bool {
+    let rest = bytes.get(text.len()..).unwrap_or(&[]);
+    bytes.starts_with(text) && rest.len() == times && are_all(rest, byte)
+}
+
+/// What comes of a reply that is wanted to this request.
+fn wanted_progress(text: &[u8]) -> Progress {
+    if text.starts_with(b"C") {
+        Progress::Ended
+    } else {
+        Progress::Send
     }
 }
 
@@ -106,15 +113,10 @@ fn are_counts(found: &[VolumeCount], wanted: &[Counted]) -> bool {
 static NOISE: [&[u8]; 5] = [b"A0\n", b"A1", b"E5\nzz\n", b"zz", b""];
 
 impl Talk {
-    /// A client that has not started, of the run with so many blocks.
-    pub(crate) fn new(alloc: Global, blocks: u32) -> Result<Talk, Fail> {
-        Talk::of(alloc, RUN, blocks)
-    }
-
-    /// A client that has not started, of this run with so many blocks.
-    pub(crate) fn of(alloc: Global, run: SlowRun, blocks: u32) -> Result<Talk, Fail> {
+    /// A client of this run with so many blocks, that has not started.
+    pub(crate) fn new(alloc: Global, dumped: Dumped, blocks: u32) -> Result<Talk, Fail> {
         Ok(Talk {
-            client: client_of(alloc, run, blocks)?,
+            client: client_of(alloc, dumped, blocks)?,
             asked: Vec::new(alloc),
         })
     }
@@ -129,12 +131,12 @@ impl Talk {
         self.is_in(State::Ready) && self.client.start() == Ok(()) && self.is_in(State::ToSend)
     }
 
-    /// It asks just this.
-    pub(crate) fn asks(&mut self, text: &[u8]) -> bool {
+    /// It asks just this text, and a byte that follows it so many times.
+    pub(crate) fn asks(&mut self, text: &[u8], fill: (u8, usize)) -> bool {
         let before = self.asked.len();
         self.is_in(State::ToSend)
             && self.client.next_request(&mut self.asked) == Ok(true)
-            && self.asked.get(before..) == Some(text)
+            && is_filled(self.asked.get(before..).unwrap_or(&[]), text, fill)
             && self.is_in(State::Waiting)
     }
 
@@ -169,7 +171,7 @@ impl Talk {
         self.client.feed(piece) == progress
     }
 
-    /// This comes of bytes that are heard in pieces of so many, behind an empty one, up to the piece of which something comes.
+    /// This comes of bytes that are heard in pieces of so many, after an empty one, up to the piece of which something comes.
     pub(crate) fn hears_by(&mut self, bytes: &[u8], size: usize, progress: Progress) -> bool {
         let mut found = self.client.feed(b"");
         for piece in bytes.chunks(size.max(1)) {
@@ -191,22 +193,41 @@ impl Talk {
         self.client.ended() == progress
     }
 
-    /// It asks what the script says, and hears the replies that are wanted, from one of its steps up to another. They are
+    /// It asks what the steps say, and hears the replies that are wanted, from one of the steps up to another. They are
     /// counted from 0.
-    pub(crate) fn goes_through(&mut self, script: &[Scripted], from: usize, to: usize) -> bool {
-        for step in script.iter().take(to).skip(from) {
-            let reply = wanted_reply(step.wish);
-            if !self.asks(&step.text) || !self.hears(reply, wanted_progress(step.wish)) {
+    pub(crate) fn goes_through(&mut self, steps: &[Step], from: usize, to: usize) -> bool {
+        for (text, fill, reply) in steps.iter().take(to).skip(from) {
+            if !self.asks(text, *fill) || !self.hears(reply, wanted_progress(text)) {
                 return false;
             }
         }
         true
     }
 
-    /// It asks what the script says at this step, counted from 0.
-    pub(crate) fn asks_step(&mut self, script: &[Scripted], step: usize) -> bool {
-        match script.get(step) {
-            Some(next) => self.asks(&next.text),
+    /// The same of all steps. Each reply comes in pieces of so many bytes, and its last byte alone.
+    pub(crate) fn goes_by(&mut self, steps: &[Step], size: usize) -> bool {
+        for (text, fill, reply) in steps {
+            if !self.asks(text, *fill) || !self.hears_last(reply, size, wanted_progress(text)) {
+                return false;
+            }
+        }
+        true
+    }
+
+    /// Nothing comes of a reply in pieces of so many bytes, and this of its last byte.
+    fn hears_last(&mut self, reply: &[u8], size: usize, progress: Progress) -> bool {
+        match reply.split_last() {
+            Some((last, begun)) => {
+                self.hears_by(begun, size, Progress::Waiting) && self.hears(&[*last], progress)
+            }
+            None => false,
+        }
+    }
+
+    /// It asks what this step says, counted from 0.
+    pub(crate) fn asks_step(&mut self, steps: &[Step], step: usize) -> bool {
+        match steps.get(step) {
+            Some((text, fill, _)) => self.asks(text, *fill),
             None => false,
         }
     }
@@ -223,11 +244,6 @@ impl Talk {
         self.client.answer(answer) == Ok(())
     }
 
-    /// The operator has the volume tried again, and the next attempt starts.
-    pub(crate) fn retries(&mut self) -> bool {
-        self.takes(Answer::Retry) && self.starts()
-    }
-
     /// It does not start, and stays as it is.
     pub(crate) fn cannot_start(&mut self) -> bool {
         let state = self.client.state();
@@ -235,9 +251,11 @@ impl Talk {
     }
 
     /// It takes no answer, and stays as it is.
-    pub(crate) fn cannot_take(&mut self, answer: Answer) -> bool {
+    pub(crate) fn cannot_take(&mut self) -> bool {
         let state = self.client.state();
-        self.client.answer(answer) == Err(StartFault::WrongState) && self.is_in(state)
+        self.client.answer(Answer::Retry) == Err(StartFault::WrongState)
+            && self.client.answer(Answer::Abandon) == Err(StartFault::WrongState)
+            && self.is_in(state)
     }
 
     /// It is in this state, with these counts, and this volume and block come next.
