@@ -1,11 +1,9 @@
-//! Whole streams against bytes that were written by hand, and against a server computed plainly.
+//! Sessions and whole streams against answers that were written by hand.
 //!
 //! Where the capacity of the reel does not matter it is a mebibyte.
 
 mod ample;
 mod beginnings;
-mod compared;
-mod dice;
 mod failures;
 mod fixture;
 mod full_bin;
@@ -16,8 +14,6 @@ mod rows;
 mod script;
 mod served;
 mod session;
-mod slow;
-mod spelled;
 mod talk;
 mod three;
 mod troubled;

@@ -8,7 +8,7 @@ use rmt_server::ServeFault;
 use std::alloc::Global;
 use std::test::Fail;
 
-/// Whether the session ends so where the input fails behind its first `len` bytes.
+/// Whether the session ends so where the input fails after its first `len` bytes.
 fn ends_with_input(alloc: Global, len: usize) -> Result<bool, Fail> {
     let (answered, _) = answered_of(len);
     let input = Pieces::broken(READ_BACK_BYTES.get(..len).unwrap_or(&[]));
@@ -35,7 +35,7 @@ static WAYS: [Way; 4] = [
     (2, false),
 ];
 
-/// Whether the session ends so where the output fails, or takes none, behind its first `room` bytes.
+/// Whether the session ends so where the output fails, or takes none, after its first `room` bytes.
 fn ends_with_output(alloc: Global, room: usize, (most, fails): Way) -> Result<bool, Fail> {
     let want = READ_BACK_ANSWERS.get(..room).unwrap_or(&[]);
     let mut output = Wanted::narrow(want, room, most, fails);

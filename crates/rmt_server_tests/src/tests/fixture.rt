@@ -100,28 +100,12 @@ pub(crate) fn new_session<S: Stacks>(
 }
 
 /// One drive with one empty reel.
-fn one_drive(alloc: Global, capacity: u64) -> Result<Drives, Fail>
+pub(crate) fn one_drive(alloc: Global, capacity: u64) -> Result<Drives, Fail>
     ensures { IfOk result (λ drives. length drives.stacks.shop.racks ≤ length drives.holds.numbers) }
 {
     let holds = LocalHolds::new(alloc, 1)?;
     let stacks = one_reel(alloc, capacity)?;
     Ok(DriveTable { holds, stacks })
-}
-
-/// Drives, and a session with them.
-#[derive(Drop)]
-pub(crate) struct One {
-    pub(crate) drives: Drives,
-    pub(crate) session: Client,
-}
-
-/// One drive with one empty reel, and a session with nothing open.
-pub(crate) fn begin(alloc: Global, capacity: u64) -> Result<One, Fail>
-    ensures { IfOk result (λ one. IsAt (kinds of_holds of_stacks of_reel) (state one.drives one.session)) }
-{
-    let mut drives = one_drive(alloc, capacity)?;
-    let session = new_session(alloc, &mut drives)?;
-    Ok(One { drives, session })
 }
 
 /// Serves one stream.
@@ -147,7 +131,7 @@ fn serve_counted<R: Read, W: Write>(
     serve_new(alloc, input, output, &mut wire, capacity)
 }
 
-/// The same with new drives and a new session.
+/// The same with new drives.
 fn serve_new<R: Read, W: Write>(
     alloc: Global,
     input: &mut Counted<R>,
@@ -157,8 +141,23 @@ fn serve_new<R: Read, W: Write>(
 ) -> Result<Ended, Fail>
     requires empty { Unread wire.old [] }
 {
-    let mut one = begin(alloc, capacity)?;
-    Ok(end_of(input, output, wire, &mut one.session, &mut one.drives))
+    let mut drives = one_drive(alloc, capacity)?;
+    serve_at(alloc, input, output, wire, &mut drives)
+}
+
+/// The same with a new session.
+fn serve_at<R: Read, W: Write>(
+    alloc: Global,
+    input: &mut Counted<R>,
+    output: &mut Counted<W>,
+    wire: &mut RequestReader,
+    drives: &mut Drives,
+) -> Result<Ended, Fail>
+    requires few { length drives.old.stacks.shop.racks ≤ length drives.old.holds.numbers }
+    requires empty { Unread wire.old [] }
+{
+    let mut session = new_session(alloc, drives)?;
+    Ok(end_of(input, output, wire, &mut session, drives))
 }
 
 /// Serves the stream, and looks at the drives then.

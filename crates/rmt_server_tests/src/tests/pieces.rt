@@ -7,7 +7,7 @@ use std::io::{self, ErrorKind, Read, Write};
 use std::ops::Range;
 use std::test::Fail;
 
-/// It gives two texts, the second after the first, never bytes of both in one call, and at most `most` a call. Behind them
+/// It gives two texts, the second after the first, never bytes of both in one call, and at most `most` a call. After them
 /// it ends, or fails.
 #[derive(Clone, Copy)]
 pub(crate) struct Pieces<'a> {
@@ -44,7 +44,7 @@ impl<'a> Pieces<'a> {
         }
     }
 
-    /// As many at once as are asked for, and a failure behind them.
+    /// As many at once as are asked for, and a failure after them.
     pub(crate) fn broken(bytes: &'a [u8]) -> Self {
         Pieces {
             first: bytes,

@@ -1,5 +1,6 @@
 //! What a session answers where the bin refuses its reel.
 
+ghost use Rattle.std.specs.Prelude.{◌≤◌, IfOk, length};
 ghost use Rattle.tape.specs.contracts.list.ListReelReel.TheImpl.{ghosts as of_reel};
 ghost use Rattle.drives.specs.Opening.{kinds};
 ghost use Rattle.rmt_server.specs.State.{state, IsAt};
@@ -11,6 +12,7 @@ use super::full_bin::{FullBin, Why};
 use super::talk::is_answered;
 use drives::{DriveTable, LocalHolds};
 use rmt_server::Session;
+use rmt_wire::RequestReader;
 use std::alloc::Global;
 use std::test::Fail;
 
@@ -30,18 +32,33 @@ fn answers(
 ) -> Result<bool, Fail>
     requires { IsAt (kinds of_holds of_stacks of_reel) (state drives.old session.old) }
 {
-    let right = is_answered(alloc, session, drives, REQUESTS, want)?;
+    let mut wire = RequestReader::new(alloc)?;
+    let right = is_answered(&mut wire, session, drives, REQUESTS, want);
     session.end(drives);
     Ok(right)
 }
 
-/// The bin refuses the reel, which is answered so. Then it is open at its beginning.
-fn is_refused(alloc: Global, why: Why, want: &[u8]) -> Result<bool, Fail> {
+/// One drive, of whose bin that is so.
+fn full_drives(alloc: Global, why: Why) -> Result<Drives, Fail>
+    ensures { IfOk result (λ drives. 1 ≤ length drives.holds.numbers) }
+{
     let holds = LocalHolds::new(alloc, 1)?;
     let stacks = FullBin::new(alloc, why);
-    let mut drives = DriveTable { holds, stacks };
-    let mut session = new_session(alloc, &mut drives)?;
-    answers(alloc, &mut session, &mut drives, want)
+    Ok(DriveTable { holds, stacks })
+}
+
+/// The same with a new session.
+fn answers_new(alloc: Global, drives: &mut Drives, want: &[u8]) -> Result<bool, Fail>
+    requires { 1 ≤ length drives.old.holds.numbers }
+{
+    let mut session = new_session(alloc, drives)?;
+    answers(alloc, &mut session, drives, want)
+}
+
+/// The bin refuses the reel, which is answered so. Then it is open at its beginning.
+fn is_refused(alloc: Global, why: Why, want: &[u8]) -> Result<bool, Fail> {
+    let mut drives = full_drives(alloc, why)?;
+    answers_new(alloc, &mut drives, want)
 }
 
 /// Why the bin refuses the reel, and what is answered then.

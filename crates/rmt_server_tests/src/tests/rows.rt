@@ -7,9 +7,9 @@ use std::test::Fail;
 
 /// A stream, what it is answered, and how it ends: 0 between two requests, 2 inside one, 3 at bytes that are no
 /// request.
-pub(crate) type Row = (&'static [u8], &'static [u8], u8);
+type Row = (&'static [u8], &'static [u8], u8);
 
-pub(crate) static ROWS: [Row; 18] = [
+static ROWS: [Row; 23] = [
     // a record is read back
     (
         b"O/dev/st0\n2\nW5\nhelloI0\n1\nI5\n1\nR10\nR10\nC\n",
@@ -70,6 +70,36 @@ pub(crate) static ROWS: [Row; 18] = [
         b"A0\nA1\nA1\nA1\nE5\nInput/output error\nE5\nInput/output error\nA2\nE5\nInput/output error\nA1\nE5\nInput/output error\nE5\nInput/output error\nA0\n",
         0,
     ),
+    // a mode without an access is refused before the name is looked for, and a name is that of a drive whole
+    (
+        b"O/dev/st9\n3\nO/dev/st0 \n2\nO\n2\n",
+        b"E22\nInvalid argument\nE2\nNo such file or directory\nE2\nNo such file or directory\n",
+        0,
+    ),
+    // what is open is closed by an open that is refused
+    (
+        b"O/dev/st0\n2\nO/dev/st9\n2\nR1\nC\n",
+        b"A0\nE2\nNo such file or directory\nE9\nBad file descriptor\nE9\nBad file descriptor\n",
+        0,
+    ),
+    // the access is that of the mode modulo 4
+    (
+        b"O/dev/st0\n2147483647\nO/dev/st0\n2147483644\nW1\nxR1\n",
+        b"E22\nInvalid argument\nA0\nE9\nBad file descriptor\nA0\n",
+        0,
+    ),
+    // the access is asked before the count is
+    (
+        b"O/dev/st0\n0\nW0\nO/dev/st0\n1\nR0\nI8\n0\n",
+        b"A0\nE9\nBad file descriptor\nA0\nE9\nBad file descriptor\nE22\nInvalid argument\n",
+        0,
+    ),
+    // numbers may begin with zeros, and a close may have a text
+    (
+        b"O/dev/st0\n002\nW0000000003\nabcI05\n001\nR009\nC0 O\n",
+        b"A0\nA3\nA1\nA3\nabcA0\n",
+        0,
+    ),
 ];
 
 /// Whether the stream is answered so in one piece, a byte a piece, and cut in two at every place.
@@ -88,29 +118,28 @@ fn streams_are_answered_as_was_written_by_hand(rt: HostRuntime) -> Result<(), Fa
     Ok(())
 }
 
-/// A text, and how many bytes of data there are behind it.
+/// A text, and how many bytes of data there are after it.
 type Line = (&'static [u8], usize);
 
 /// The texts, each with its data.
-pub(crate) fn with_data(alloc: Global, lines: &[Line]) -> Result<Vec<u8>, AllocError> {
-    let data = Vec::from_elem(alloc, b'd', 65537)?;
+fn with_data(alloc: Global, lines: &[Line]) -> Result<Vec<u8>, AllocError> {
     let mut bytes = Vec::new(alloc);
     for (line, count) in lines {
         bytes.extend_from_slice(line)?;
-        bytes.extend_from_slice(&data[..(*count).min(data.len())])?;
+        let end = bytes.len().saturating_add(*count);
+        bytes.resize(end, b'd')?;
     }
     Ok(bytes)
 }
 
 /// The greatest record, one byte more, none, and an operation that does nothing.
-pub(crate) static LARGEST: [Line; 3] = [
+static LARGEST: [Line; 3] = [
     (b"O/dev/st0\n2\nW65536\n", 65536),
     (b"W65537\n", 65537),
     (b"W0\nI7\n9\n", 0),
 ];
 
-pub(crate) const LARGEST_ANSWERS: &[u8] =
-    b"A0\nA65536\nE22\nInvalid argument\nE22\nInvalid argument\nA9\n";
+const LARGEST_ANSWERS: &[u8] = b"A0\nA65536\nE22\nInvalid argument\nE22\nInvalid argument\nA9\n";
 
 /// The places in the lines of `LARGEST`, and a few on each side of both ends of its data: there are 19 bytes
 /// before the first data, 7 between the two, and 8 after them.
@@ -139,7 +168,8 @@ fn the_greatest_record_and_one_byte_more(rt: HostRuntime) -> Result<(), Fail> {
 }
 
 /// Counts at their limits.
-static LIMITS: [Line; 5] = [
+static LIMITS: [Line; 6] = [
+    (b"W65537\n", 65537),
     (b"O/dev/st0\n2147483646\nW0000065536\n", 65536),
     (b"I5\n2147483647\nR65537\nR1\n", 0),
     (b"I5\n0\nR2147483647\nI7\n2147483647\n", 0),
@@ -147,7 +177,8 @@ static LIMITS: [Line; 5] = [
     (b"I2147483647\n0\nR2147483648\nC\n", 0),
 ];
 
-static LIMITS_ANSWERS: [Line; 5] = [
+static LIMITS_ANSWERS: [Line; 6] = [
+    (b"E9\nBad file descriptor\n", 0),
     (b"A0\nA65536\nA2147483647\nA65536\n", 65536),
     (b"A0\nA0\nA65536\n", 65536),
     (b"A2147483647\nA0\nA65535\n", 65535),

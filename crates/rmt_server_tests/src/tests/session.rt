@@ -1,6 +1,6 @@
 //! A session from its beginning to its end, and the steps between.
 
-ghost use Rattle.std.specs.Prelude.{IfOk};
+ghost use Rattle.std.specs.Prelude.{◌≤◌, IfOk, length};
 ghost use Rattle.tape.specs.contracts.troubled.TroubledReelReel.TheImpl.{ghosts as of_reel};
 ghost use Rattle.drives.specs.Opening.{kinds};
 ghost use Rattle.rmt_server.specs.State.{state, IsAt};
@@ -8,9 +8,10 @@ ghost use Rattle.drives.specs.contracts.local.LocalHoldsHolds.TheImpl.{ghosts as
 ghost use Rattle.drives.specs.contracts.list.ListStacksStacks.TheImpl.{ghosts as of_stacks};
 
 use super::check_row;
-use super::fixture::{Client, Drives, One, begin, first_holder};
+use super::fixture::{Client, Drives, first_holder, new_session, one_drive};
 use super::talk::is_answered;
 use rmt_server::Session;
+use rmt_wire::RequestReader;
 use std::alloc::Global;
 use std::process::Abort;
 use std::test::Fail;
@@ -41,71 +42,83 @@ fn failures(session: &Client) -> Option<u64> {
 }
 
 /// Makes one step. Answers whether it goes as it has to.
-fn goes(alloc: Global, session: &mut Client, drives: &mut Drives, step: Step) -> Result<bool, Fail>
+fn goes(wire: &mut RequestReader, session: &mut Client, drives: &mut Drives, step: Step) -> bool
     requires { IsAt (kinds of_holds of_stacks of_reel) (state drives.old session.old) }
     ensures { IsAt (kinds of_holds of_stacks of_reel) (state drives.new session.new) }
 {
     let (trouble, requests, want, failed) = step;
     set(session, drives, trouble);
-    Ok(is_answered(alloc, session, drives, requests, want)? && failures(session) == Some(failed))
+    is_answered(wire, session, drives, requests, want) && failures(session) == Some(failed)
 }
 
 /// Makes the steps.
 fn all_go(
-    alloc: Global,
+    wire: &mut RequestReader,
     session: &mut Client,
     drives: &mut Drives,
     steps: &[Step],
-) -> Result<bool, Fail>
+) -> bool
     requires { IsAt (kinds of_holds of_stacks of_reel) (state drives.old session.old) }
     ensures { IsAt (kinds of_holds of_stacks of_reel) (state drives.new session.new) }
 {
     let mut right = true;
     for step in steps {
-        right &= goes(alloc, session, drives, *step)?;
+        right &= goes(wire, session, drives, *step);
     }
-    Ok(right)
+    right
 }
 
 /// Makes the steps, and ends the session. Nothing is open before and then.
 fn is_session(
-    alloc: Global,
+    wire: &mut RequestReader,
     session: &mut Client,
     drives: &mut Drives,
     steps: &[Step],
-) -> Result<bool, Fail>
+) -> bool
     requires { IsAt (kinds of_holds of_stacks of_reel) (state drives.old session.old) }
 {
-    let right = session.reel().is_none() && all_go(alloc, session, drives, steps)?;
+    let right = session.reel().is_none() && all_go(wire, session, drives, steps);
     session.end(drives);
-    Ok(right && session.reel().is_none() && first_holder(drives) == Some(0))
+    right && session.reel().is_none() && first_holder(drives) == Some(0)
 }
 
-/// The same with a new session, and a reel of 100 bytes.
-pub(crate) fn is_new_session(alloc: Global, steps: &[Step]) -> Result<bool, Fail> {
-    let mut one = begin(alloc, 100)?;
-    is_session(alloc, &mut one.session, &mut one.drives, steps)
+/// The same with a new session.
+fn is_new_session(
+    alloc: Global,
+    wire: &mut RequestReader,
+    drives: &mut Drives,
+    steps: &[Step],
+) -> Result<bool, Fail>
+    requires { length drives.old.stacks.shop.racks ≤ length drives.old.holds.numbers }
+{
+    let mut session = new_session(alloc, drives)?;
+    Ok(is_session(wire, &mut session, drives, steps))
+}
+
+/// The same with a drive whose reel is of 100 bytes.
+fn is_new(alloc: Global, wire: &mut RequestReader, steps: &[Step]) -> Result<bool, Fail> {
+    let mut drives = one_drive(alloc, 100)?;
+    is_new_session(alloc, wire, &mut drives, steps)
 }
 
 /// All sessions have to go as is written.
 pub(crate) fn check_sessions(
     rt: &impl Abort,
     alloc: Global,
-    sessions: &[&[Step]],
+    sessions: &[[Step; 2]],
 ) -> Result<(), Fail> {
+    let mut wire = RequestReader::new(alloc)?;
     for (at, steps) in sessions.iter().enumerate() {
-        check_row(rt, at, is_new_session(alloc, steps)?);
+        check_row(rt, at, is_new(alloc, &mut wire, steps)?);
     }
     Ok(())
 }
 
-/// The session opens, writes, rewinds and reads.
-static READ_BACK: [&[Step]; 1] = [&[(
-    None,
-    b"O/dev/st0\n2\nW3\nabcI5\n7\nR2\n",
-    b"A0\nA3\nA7\nA2\nab",
-    0,
-)]];
+/// The session opens and writes, then it rewinds and reads.
+static READ_BACK: [[Step; 2]; 1] = [[
+    (None, b"O/dev/st0\n2\nW3\nabc", b"A0\nA3\n", 0),
+    (None, b"I5\n7\nR2\n", b"A7\nA2\nab", 0),
+]];
 
 #[test]
 fn a_session_from_beginning_to_end(rt: HostRuntime) -> Result<(), Fail> {
@@ -125,49 +138,30 @@ fn begin_again(alloc: Global, drives: &mut Drives, session: Client) -> Result<Cl
     }
 }
 
-/// Whether a session with nothing open answers so, and then reads what was written before it.
-fn reads(alloc: Global, session: &mut Client, drives: &mut Drives) -> Result<bool, Fail>
-    requires { IsAt (kinds of_holds of_stacks of_reel) (state drives.old session.old) }
+/// Whether a session writes, and then another one, with nothing open, reads that from its seat.
+fn serves_again(alloc: Global, wire: &mut RequestReader, drives: &mut Drives) -> Result<bool, Fail>
+    requires { length drives.old.stacks.shop.racks ≤ length drives.old.holds.numbers }
 {
-    let nothing = b"E9\nBad file descriptor\n";
-    let refused = is_answered(alloc, session, drives, b"R9\n", nothing)?;
-    let read = b"O/dev/st0\n0\nR9\n";
-    Ok(refused && is_answered(alloc, session, drives, read, b"A0\nA3\nabc")?)
-}
-
-/// The same of a session that begins where another ends.
-fn reads_again(alloc: Global, drives: &mut Drives, session: Client) -> Result<bool, Fail>
-    requires { IsAt (kinds of_holds of_stacks of_reel) (state drives.old session) }
-{
+    let mut session = new_session(alloc, drives)?;
+    let writes = b"O/dev/st0\n2\nW3\nabc";
+    let written = is_answered(wire, &mut session, drives, writes, b"A0\nA3\n");
     let mut session = begin_again(alloc, drives, session)?;
-    reads(alloc, &mut session, drives)
+    let reads = b"R9\nO/dev/st0\n0\nR9\n";
+    let answers = b"E9\nBad file descriptor\nA0\nA3\nabc";
+    Ok(is_answered(wire, &mut session, drives, reads, answers) && written)
 }
 
-/// Whether a session writes.
-fn writes(alloc: Global, session: &mut Client, drives: &mut Drives) -> Result<bool, Fail>
-    requires { IsAt (kinds of_holds of_stacks of_reel) (state drives.old session.old) }
-    ensures { IsAt (kinds of_holds of_stacks of_reel) (state drives.new session.new) }
+/// The same with a new reader.
+fn is_served_again(alloc: Global, drives: &mut Drives) -> Result<bool, Fail>
+    requires { length drives.old.stacks.shop.racks ≤ length drives.old.holds.numbers }
 {
-    let written = b"O/dev/st0\n2\nW3\nabc";
-    is_answered(alloc, session, drives, written, b"A0\nA3\n")
-}
-
-/// Whether a session writes, and then another one reads from its seat.
-fn serves_again(alloc: Global, one: One) -> Result<bool, Fail>
-    requires { IsAt (kinds of_holds of_stacks of_reel) (state one.drives one.session) }
-{
-    let One {
-        mut drives,
-        mut session,
-    } = one;
-    let written = writes(alloc, &mut session, &mut drives)?;
-    let read = reads_again(alloc, &mut drives, session)?;
-    Ok(written && read)
+    let mut wire = RequestReader::new(alloc)?;
+    serves_again(alloc, &mut wire, drives)
 }
 
 #[test]
 fn a_seat_serves_again(rt: HostRuntime) -> Result<(), Fail> {
-    let one = begin(rt.alloc(), 100)?;
-    assert!(rt; serves_again(rt.alloc(), one)?);
+    let mut drives = one_drive(rt.alloc(), 100)?;
+    assert!(rt; is_served_again(rt.alloc(), &mut drives)?);
     Ok(())
 }

@@ -10,8 +10,6 @@ use super::pieces::Wanted;
 use drives::{DriveTable, Holds, Stacks};
 use rmt_server::Session;
 use rmt_wire::{Counted, NUMBER_LIMIT, Request, RequestReader, write_reply};
-use std::alloc::Global;
-use std::test::Fail;
 
 /// How many requests a text of these tests has at most.
 pub(crate) const REQUESTS: usize = 32;
@@ -61,7 +59,7 @@ fn answer_next<H: Holds, S: Stacks>(
 }
 
 /// Has the session carry out the requests that these bytes are. Answers whether the replies are those.
-fn talk<H: Holds, S: Stacks>(
+pub(crate) fn is_answered<H: Holds, S: Stacks>(
     wire: &mut RequestReader,
     session: &mut Session<H, S>,
     drives: &mut DriveTable<H, S>,
@@ -77,19 +75,4 @@ fn talk<H: Holds, S: Stacks>(
         right &= answer_next(wire, session, drives, &mut replies);
     }
     right && replies.into_inner().is_met()
-}
-
-/// The same with a new reader.
-pub(crate) fn is_answered<H: Holds, S: Stacks>(
-    alloc: Global,
-    session: &mut Session<H, S>,
-    drives: &mut DriveTable<H, S>,
-    requests: &[u8],
-    want: &[u8],
-) -> Result<bool, Fail>
-    requires { IsAt (kinds H.Holds S.Stacks S.Reel.Reel) (state drives.old session.old) }
-    ensures { IsAt (kinds H.Holds S.Stacks S.Reel.Reel) (state drives.new session.new) }
-{
-    let mut wire = RequestReader::new(alloc)?;
-    Ok(talk(&mut wire, session, drives, requests, want))
 }

@@ -1,4 +1,4 @@
-//! Three sessions that share two drives, against rows that were written by hand and against plain lists.
+//! Three sessions that share two drives.
 
 ghost use Rattle.std.specs.Prelude.{◌≡◌, ◌≢◌, ◌<◌, ◌≤◌, IfOk, length};
 ghost use Rattle.tape.specs.contracts.troubled.TroubledReelReel.TheImpl.{ghosts as of_reel};
@@ -7,36 +7,60 @@ ghost use Rattle.rmt_server.specs.State.{state, IsAt};
 ghost use Rattle.drives.specs.contracts.local.LocalHoldsHolds.TheImpl.{ghosts as of_holds};
 ghost use Rattle.drives.specs.contracts.list.ListStacksStacks.TheImpl.{ghosts as of_stacks};
 
+use super::CAPACITY;
 use super::fixture::{Client, Drives, new_session};
-use super::slow::error_text;
-use super::slow::shop::{Event, SlowShop};
-use super::{CAPACITY, check_row};
 use drives::{DriveFault, DriveTable, Holds, ListStacks, ListedReel, LocalHolds, Stacks};
 use rmt_server::{more_seats, one_holder, stacks_trouble};
 use rmt_wire::{Reply, Request};
 use std::alloc::Global;
 use std::test::Fail;
 
-/// What stands for a reply that none of these requests may have.
-const WRONG: u32 = u32::MAX;
+/// What a session does.
+#[derive(Clone, Copy)]
+enum Event {
+    /// It opens the drive of that number for both.
+    Open(usize),
+    /// It opens the first drive for no access.
+    OpenForNone,
+    /// It has its reel moved to the bin.
+    Offline,
+    Close,
+    End,
+    /// The next latch or move of the stacks fails, of whichever session.
+    Trouble,
+}
 
-/// The number of a reply.
-fn number_of(reply: Reply<'_>) -> u32 {
-    match reply {
-        Reply::Done { number } => number,
-        Reply::Error { number, text } if text == error_text(number) => number,
-        _ => WRONG,
+/// The text beside the number of an error. None of these requests is answered with another one.
+fn text_of(number: u32) -> &'static [u8] {
+    match number {
+        2 => b"No such file or directory",
+        5 => b"Input/output error",
+        6 => b"Device not configured",
+        9 => b"Bad file descriptor",
+        16 => b"Device busy",
+        22 => b"Invalid argument",
+        _ => b"",
     }
 }
 
-/// Has a session carry out a request, beside two others.
+/// Whether the reply says that number: below 2 that of what was done, else that of an error.
+fn is_answer(reply: &Reply<'_>, wanted: u32) -> bool {
+    match reply {
+        Reply::Done { number } => *number == wanted && wanted < 2,
+        Reply::Error { number, text } => *number == wanted && *text == text_of(wanted),
+        Reply::Data { .. } => false,
+    }
+}
+
+/// Whether a session answers a request so, beside two others.
 fn carry(
     drives: &mut Drives,
     session: &mut Client,
     other: &Client,
     another: &Client,
     request: Request<'_>,
-) -> u32
+    wanted: u32,
+) -> bool
     requires at { IsAt (kinds of_holds of_stacks of_reel) (state drives.old session.old) }
     requires other { IsAt (kinds of_holds of_stacks of_reel) (state drives.old other.now) }
     requires another { IsAt (kinds of_holds of_stacks of_reel) (state drives.old another.now) }
@@ -48,7 +72,7 @@ fn carry(
     ensures number { session.new.seat.number ≡ session.old.seat.number }
 {
     one_holder::<ListStacks>();
-    number_of(session.carry_out(drives, request))
+    is_answer(&session.carry_out(drives, request), wanted)
 }
 
 /// Ends a session beside two others.
@@ -76,14 +100,15 @@ fn device(drive: usize) -> &'static [u8] {
     }
 }
 
-/// Has a session do what it is asked for, beside two others.
-fn answer(
+/// Whether a session does that beside two others, and is answered so.
+fn does(
     drives: &mut Drives,
     session: &mut Client,
     other: &Client,
     another: &Client,
     event: Event,
-) -> u32
+    wanted: u32,
+) -> bool
     requires at { IsAt (kinds of_holds of_stacks of_reel) (state drives.old session.old) }
     requires other { IsAt (kinds of_holds of_stacks of_reel) (state drives.old other.now) }
     requires another { IsAt (kinds of_holds of_stacks of_reel) (state drives.old another.now) }
@@ -107,15 +132,15 @@ fn answer(
         Event::Close => Request::Close,
         Event::End => {
             end(drives, session, other, another);
-            return 0;
+            return wanted == 0;
         }
         Event::Trouble => {
             stacks_trouble::<LocalHolds>();
             drives.stacks.trouble(true);
-            return 0;
+            return wanted == 0;
         }
     };
-    carry(drives, session, other, another, request)
+    carry(drives, session, other, another, request, wanted)
 }
 
 /// Adds the reels `a` and `b` to the first drive, and `c` to the second.
@@ -179,17 +204,38 @@ impl Three {
         })
     }
 
-    /// What the session of that number answers: the number of a reply, or that of the error.
-    fn answer(&mut self, number: usize, event: Event) -> u32 {
+    /// Whether the session of that number does that, and is answered so.
+    fn does(&mut self, number: usize, event: Event, wanted: u32) -> bool {
         let drives = &mut self.drives;
         match number {
-            1 => answer(drives, &mut self.first, &self.second, &self.third, event),
-            2 => answer(drives, &mut self.second, &self.first, &self.third, event),
-            _ => answer(drives, &mut self.third, &self.first, &self.second, event),
+            1 => does(
+                drives,
+                &mut self.first,
+                &self.second,
+                &self.third,
+                event,
+                wanted,
+            ),
+            2 => does(
+                drives,
+                &mut self.second,
+                &self.first,
+                &self.third,
+                event,
+                wanted,
+            ),
+            _ => does(
+                drives,
+                &mut self.third,
+                &self.first,
+                &self.second,
+                event,
+                wanted,
+            ),
         }
     }
 
-    /// The number of the seat that holds the drive, or 0. None where there is no such drive, or no seat is left to ask.
+    /// The number of the seat that holds the drive, or 0. None where no seat is left to ask.
     fn holder(&mut self, drive: usize) -> Option<u64> {
         more_seats::<ListStacks>();
         let drive = self.drives.stacks.drive(device(drive))?;
@@ -226,171 +272,110 @@ fn has_stack(stacks: &ListStacks, drive: usize, names: &[u8]) -> bool {
     }
 }
 
-/// Whether the stacks and the bin have the reels that the plain ones have.
-fn has_reels(stacks: &ListStacks, slow: &SlowShop) -> bool {
-    has_stack(stacks, 0, slow.stack(0))
-        && has_stack(stacks, 1, slow.stack(1))
-        && has_names(stacks.bin(), slow.bin())
+/// Whether both stacks and the bin have those names.
+fn has_reels(stacks: &ListStacks, [first, second, bin]: [&[u8]; 3]) -> bool {
+    has_stack(stacks, 0, first) && has_stack(stacks, 1, second) && has_names(stacks.bin(), bin)
 }
 
-/// Whether both have the same open in the session of that number, the same holders, reels and count of failures.
-fn is_like(three: &mut Three, slow: &SlowShop, number: usize) -> bool {
-    three.online(number) == slow.online(number)
-        && three.holder(0) == Some(slow.holder(0))
-        && three.holder(1) == Some(slow.holder(1))
-        && three.drives.stacks.failures() == slow.failures()
-        && has_reels(&three.drives.stacks, slow)
-}
-
-/// Has both do one thing, and compares what they answer and what is there then.
-fn is_step(three: &mut Three, slow: &mut SlowShop, number: usize, event: Event) -> bool {
-    let answer = slow.answer(number, event);
-    three.answer(number, event) == answer && is_like(three, slow, number)
-}
-
-/// What a session can be asked for in the lists.
-static EVENTS: [Event; 5] = [
-    Event::Open(0),
-    Event::Offline,
-    Event::Open(1),
-    Event::Close,
-    Event::End,
-];
-
-/// How many things there are to do: each event by each session.
-const KINDS: usize = 15;
-
-/// Does so many things, of which the number has one digit each, with the plain sessions beside. It tells whether all
-/// was the same.
-fn is_list(three: &mut Three, length: usize, list: usize) -> bool {
-    let mut slow = SlowShop::new();
-    let mut rest = list;
-    for _ in 0..length {
-        let event = EVENTS.get(rest % 5).copied().unwrap_or(Event::End);
-        if !is_step(three, &mut slow, 1 + rest / 5 % 3, event) {
-            return false;
-        }
-        rest /= KINDS;
-    }
-    true
-}
-
-/// A row: the session, what it is asked for and answers, and who holds each drive then.
-type Row = (usize, Event, u32, u64, u64);
+/// A row: the number of the session, what it does and is answered, who holds each drive then, and the drive that the
+/// session has open with its reel.
+type Row = (usize, Event, u32, [u64; 2], Option<usize>);
 
 /// Each session has a drive; a held one is refused, and what the asking session had is free then. The end of a session
 /// frees its drive.
 const TWO_SESSIONS: &[Row] = &[
-    (1, Event::Open(0), 0, 1, 0),
-    (2, Event::Open(1), 0, 1, 2),
-    (2, Event::Open(0), 16, 1, 0),
-    (1, Event::Open(0), 0, 1, 0),
-    (1, Event::End, 0, 0, 0),
-    (2, Event::Open(0), 0, 2, 0),
+    (1, Event::Open(0), 0, [1, 0], Some(0)),
+    (2, Event::Open(1), 0, [1, 2], Some(1)),
+    (2, Event::Open(0), 16, [1, 0], None),
+    (1, Event::Open(0), 0, [1, 0], Some(0)),
+    (1, Event::End, 0, [0, 0], None),
+    (2, Event::Open(0), 0, [2, 0], Some(0)),
 ];
 
 /// Each refusal of an open comes after what was open is given back.
 const REFUSED: &[Row] = &[
-    (1, Event::Close, 9, 0, 0),
-    (1, Event::Open(1), 0, 0, 1),
-    (1, Event::OpenForNone, 22, 0, 0),
-    (2, Event::Open(0), 0, 2, 0),
-    (2, Event::Open(9), 2, 0, 0),
-    (3, Event::Open(0), 0, 3, 0),
-    (3, Event::Offline, 1, 3, 0),
-    (3, Event::OpenForNone, 22, 0, 0),
+    (1, Event::Close, 9, [0, 0], None),
+    (1, Event::Open(1), 0, [0, 1], Some(1)),
+    (1, Event::OpenForNone, 22, [0, 0], None),
+    (2, Event::Open(0), 0, [2, 0], Some(0)),
+    (2, Event::Open(9), 2, [0, 0], None),
+    (3, Event::Open(0), 0, [3, 0], Some(0)),
+    (3, Event::Offline, 1, [3, 0], None),
+    (3, Event::OpenForNone, 22, [0, 0], None),
 ];
 
 /// A drive whose reel lies in the bin stays held, also with an empty stack; the next reel is latched by the next open.
 const AWAY: &[Row] = &[
-    (1, Event::Offline, 9, 0, 0),
-    (1, Event::Open(1), 0, 0, 1),
-    (1, Event::Offline, 1, 0, 1),
-    (1, Event::Offline, 6, 0, 1),
-    (2, Event::Open(1), 16, 0, 1),
-    (1, Event::Close, 0, 0, 0),
-    (2, Event::Open(1), 6, 0, 0),
-    (3, Event::Open(0), 0, 3, 0),
-    (3, Event::Offline, 1, 3, 0),
-    (2, Event::Open(0), 16, 3, 0),
-    (3, Event::End, 0, 0, 0),
-    (2, Event::Open(0), 0, 2, 0),
-    (2, Event::Close, 0, 0, 0),
+    (1, Event::Offline, 9, [0, 0], None),
+    (1, Event::Open(1), 0, [0, 1], Some(1)),
+    (1, Event::Offline, 1, [0, 1], None),
+    (1, Event::Offline, 6, [0, 1], None),
+    (2, Event::Open(1), 16, [0, 1], None),
+    (1, Event::Close, 0, [0, 0], None),
+    (2, Event::Open(1), 6, [0, 0], None),
+    (3, Event::Open(0), 0, [3, 0], Some(0)),
+    (3, Event::Offline, 1, [3, 0], None),
+    (2, Event::Open(0), 16, [3, 0], None),
+    (3, Event::End, 0, [0, 0], None),
+    (2, Event::Open(0), 0, [2, 0], Some(0)),
+    (2, Event::Close, 0, [0, 0], None),
 ];
 
 /// A latch that is told to fail fails once, after what was open is closed.
 const FAILED_LATCH: &[Row] = &[
-    (2, Event::Open(1), 0, 0, 2),
-    (1, Event::Trouble, 0, 0, 2),
-    (2, Event::Open(0), 5, 0, 0),
-    (2, Event::Open(0), 0, 2, 0),
-    (2, Event::Offline, 1, 2, 0),
+    (2, Event::Open(1), 0, [0, 2], Some(1)),
+    (1, Event::Trouble, 0, [0, 2], None),
+    (2, Event::Open(0), 5, [0, 0], None),
+    (2, Event::Open(0), 0, [2, 0], Some(0)),
+    (2, Event::Offline, 1, [2, 0], None),
 ];
 
 /// A move that is told to fail fails once.
 const FAILED_MOVE: &[Row] = &[
-    (1, Event::Open(0), 0, 1, 0),
-    (1, Event::Trouble, 0, 1, 0),
-    (1, Event::Offline, 5, 1, 0),
-    (1, Event::Offline, 1, 1, 0),
+    (1, Event::Open(0), 0, [1, 0], Some(0)),
+    (1, Event::Trouble, 0, [1, 0], Some(0)),
+    (1, Event::Offline, 5, [1, 0], Some(0)),
+    (1, Event::Offline, 1, [1, 0], None),
 ];
 
 /// The same up to the failure: the reel lies where it was.
 const MET_ONCE: &[Row] = &[
-    (1, Event::Open(0), 0, 1, 0),
-    (1, Event::Trouble, 0, 1, 0),
-    (1, Event::Offline, 5, 1, 0),
+    (1, Event::Open(0), 0, [1, 0], Some(0)),
+    (1, Event::Trouble, 0, [1, 0], Some(0)),
+    (1, Event::Offline, 5, [1, 0], Some(0)),
 ];
 
-/// Does what the row says, with the plain sessions beside. It tells whether all is as in the row.
-fn is_row(three: &mut Three, slow: &mut SlowShop, row: &Row) -> bool {
-    let (number, event, wanted, first, second) = *row;
-    slow.answer(number, event) == wanted
-        && three.answer(number, event) == wanted
-        && is_like(three, slow, number)
-        && slow.holder(0) == first
-        && slow.holder(1) == second
+/// Whether the row goes as it has to.
+fn is_row(three: &mut Three, row: &Row) -> bool {
+    let (number, event, wanted, [first, second], online) = *row;
+    three.does(number, event, wanted)
+        && three.holder(0) == Some(first)
+        && three.holder(1) == Some(second)
+        && three.online(number) == online
 }
 
-/// Rows, and the names of the reels that the stacks and the bin have then.
-#[derive(Clone, Copy)]
+/// Rows, and the names of the reels that both stacks and the bin have then, and how often a latch or a move failed.
 struct Table {
     rows: &'static [Row],
     names: [&'static [u8]; 3],
+    failures: u64,
 }
 
-/// Does what the rows say. It tells whether all is as in the table.
+/// Whether three sessions do what the table says.
 fn is_table(three: &mut Three, table: &Table) -> bool {
-    let mut slow = SlowShop::new();
     for row in table.rows {
-        if !is_row(three, &mut slow, row) {
+        if !is_row(three, row) {
             return false;
         }
     }
-    slow.has_names(table.names)
+    let stacks = &three.drives.stacks;
+    has_reels(stacks, table.names) && stacks.failures() == table.failures
 }
 
-/// What new sessions do.
-#[derive(Clone, Copy)]
-enum Plan<'a> {
-    /// What the rows say.
-    Table(&'a Table),
-    /// So many things, of which the number has one digit each.
-    List(usize, usize),
-}
-
-/// Does what the plan says. It tells whether all was as it has to be.
-fn is_plan(three: &mut Three, plan: Plan<'_>) -> bool {
-    match plan {
-        Plan::Table(table) => is_table(three, table),
-        Plan::List(length, list) => is_list(three, length, list),
-    }
-}
-
-/// Does the same with new sessions.
-fn is_met(alloc: Global, plan: Plan<'_>) -> Result<bool, Fail> {
+/// The same with new sessions.
+fn is_met(alloc: Global, table: &Table) -> Result<bool, Fail> {
     match Three::new(alloc) {
-        Ok(mut three) => Ok(is_plan(&mut three, plan)),
+        Ok(mut three) => Ok(is_table(&mut three, table)),
         Err(fail) => Err(fail),
     }
 }
@@ -399,42 +384,39 @@ static SHARED: [Table; 6] = [
     Table {
         rows: TWO_SESSIONS,
         names: [b"ab", b"c", b""],
+        failures: 0,
     },
     Table {
         rows: REFUSED,
         names: [b"b", b"c", b"a"],
+        failures: 0,
     },
     Table {
         rows: AWAY,
         names: [b"b", b"", b"ca"],
+        failures: 0,
     },
     Table {
         rows: FAILED_LATCH,
         names: [b"b", b"c", b"a"],
+        failures: 1,
     },
     Table {
         rows: FAILED_MOVE,
         names: [b"b", b"c", b"a"],
+        failures: 1,
     },
     Table {
         rows: MET_ONCE,
         names: [b"ab", b"c", b""],
+        failures: 1,
     },
 ];
 
 #[test]
 fn drives_are_shared_as_was_written_by_hand(rt: HostRuntime) -> Result<(), Fail> {
     for table in &SHARED {
-        assert!(rt; is_met(rt.alloc(), Plan::Table(table))?);
-    }
-    Ok(())
-}
-
-/// Lists of fewer things are the beginnings of these.
-#[test]
-fn every_four_requests_of_three_sessions(rt: HostRuntime) -> Result<(), Fail> {
-    for list in 0..50625 {
-        check_row(&rt, list, is_met(rt.alloc(), Plan::List(4, list))?);
+        assert!(rt; is_met(rt.alloc(), table)?);
     }
     Ok(())
 }

@@ -21,7 +21,7 @@ struct Asking<'a> {
     is_early: bool,
 }
 
-/// The request of that number, or nothing behind the last.
+/// The request of that number, or nothing after the last.
 fn request_at(number: usize) -> &'static [u8] {
     match READ_BACK.get(number) {
         Some((request, _)) => request,
@@ -90,8 +90,7 @@ fn takes_turns(alloc: Global, most: usize) -> Result<bool, Fail> {
 
 #[test]
 fn each_request_is_answered_before_the_next_is_read(rt: HostRuntime) -> Result<(), Fail> {
-    for most in [usize::MAX, 1] {
-        assert!(rt; takes_turns(rt.alloc(), most)?);
-    }
+    assert!(rt; takes_turns(rt.alloc(), usize::MAX)?);
+    assert!(rt; takes_turns(rt.alloc(), 1)?);
     Ok(())
 }
