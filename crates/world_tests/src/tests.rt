@@ -1,14 +1,14 @@
-//! What a world has to do, and the same events in the plain one.
+//! What a world has to do, by hand.
 
-mod chance;
-mod dice;
 mod drive_specs;
-mod fixture;
-mod headline;
+mod dump;
+mod entries;
 mod laws;
-mod lists;
-mod real;
+mod line;
+mod moments;
+mod place;
+mod reels;
 mod rows;
-mod same;
+mod scene;
 mod schedules;
-mod slow;
+mod world;

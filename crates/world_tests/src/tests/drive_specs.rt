@@ -1,6 +1,8 @@
 //! Which drives a world can have, and the operator's orders in a new one.
 
-use super::real::{make, new_world};
+use super::place::check_place;
+use super::reels::has_stack;
+use super::world::{make, new_world};
 use std::process::Abort;
 use std::test::Fail;
 use tape_world::{DriveSpec, Event, World, good_drives};
@@ -75,8 +77,8 @@ fn named_by(names: &[u8; 65]) -> [DriveSpec<'_>; 65] {
 
 /// Checks these rows.
 fn check_specs(rt: &impl Abort, rows: &[(&[DriveSpec<'_>], bool)]) {
-    for (drives, is_good) in rows {
-        assert!(rt; good_drives(drives) == *is_good);
+    for (at, (drives, is_good)) in rows.iter().enumerate() {
+        check_place(rt, at, good_drives(drives) == *is_good);
     }
 }
 
@@ -108,9 +110,26 @@ fn check_orders(
     Ok(())
 }
 
+/// The stacks that the orders leave. There is no drive of the last name.
+static LAID: [(&[u8], Option<&[&[u8]]>); 3] = [
+    (b"/dev/st0", Some(&[b"b"])),
+    (b"/dev/st1", Some(&[b"a", b"c"])),
+    (b"/dev/st9", None),
+];
+
+/// Checks these stacks, and that the bin is empty.
+fn check_laid(rt: &impl Abort, world: &World, stacks: &[(&[u8], Option<&[&[u8]]>)]) {
+    for (at, (drive, names)) in stacks.iter().enumerate() {
+        check_place(rt, at, has_stack(world, drive, *names));
+    }
+    assert!(rt; world.bin().is_empty());
+}
+
 #[test]
 fn a_new_world_takes_orders(rt: HostRuntime) -> Result<(), Fail> {
     let (drives, _) = SPECS[2];
     let mut world = new_world(rt.alloc(), drives)?;
-    check_orders(world.as_mut(), &ORDERS)
+    check_orders(world.as_mut(), &ORDERS)?;
+    check_laid(&rt, world.as_ref(), &LAID);
+    Ok(())
 }

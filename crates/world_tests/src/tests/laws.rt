@@ -1,4 +1,4 @@
-//! The laws of the plain world, each called once.
+//! The laws of the world as plain data, each called once.
 
 use tape_events::{kept, one_request, one_run, smooth};
 

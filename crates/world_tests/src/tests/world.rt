@@ -1,7 +1,5 @@
-//! The world that is tested.
+//! New worlds, and lists of events in them.
 
-use super::same::difference;
-use super::slow::SlowWorld;
 use std::alloc::Global;
 use std::boxed::Box;
 use std::test::Fail;
@@ -30,14 +28,4 @@ pub(crate) fn make(
         return Err(Fail::new(format_args!("{made:?} in place of {wanted:?}")));
     }
     Ok(())
-}
-
-/// The world has to be as the plain one.
-pub(crate) fn check_like(world: &World, slow: &SlowWorld) -> Result<(), Fail> {
-    let part = difference(world, slow);
-    if part.is_empty() {
-        Ok(())
-    } else {
-        Err(Fail::new(part))
-    }
 }
