@@ -1,11 +1,10 @@
-//! Holds, stacks and their table, one call after another, and beside plain lists.
+//! Holds, stacks and their table, one call after another.
 
 mod arrange;
 mod faults;
 mod folders;
 mod list_stacks;
-mod orders;
 mod reels;
+mod rounds;
 mod seats;
-mod slow;
 mod tables;

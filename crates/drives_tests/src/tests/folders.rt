@@ -58,7 +58,11 @@ fn latch_and_drop<R: Files<File = File> + AllocGlobal + Clone + Drop>(
 }
 
 /// Whether the drive's first reel becomes the file at that path of the bin: it is moved there.
-fn moves(place: &Place, stacks: &mut FolderStacks<HostRuntime>, path: &str) -> io::Result<bool>
+fn moves<R: Files<File = File> + AllocGlobal + Clone + Drop>(
+    place: &Place,
+    stacks: &mut FolderStacks<R>,
+    path: &str,
+) -> io::Result<bool>
     requires { length stacks.old.rows ≡ 2 }
     ensures { length stacks.new.rows ≡ 2 }
 {
@@ -68,16 +72,19 @@ fn moves(place: &Place, stacks: &mut FolderStacks<HostRuntime>, path: &str) -> i
 }
 
 /// Whether the drive has no reel, and no call failed.
-fn is_empty(stacks: &mut FolderStacks<HostRuntime>, drive: usize) -> bool
+fn is_empty<R: Files<File = File> + AllocGlobal + Clone + Drop>(
+    stacks: &mut FolderStacks<R>,
+    drive: usize,
+) -> bool
     requires { drive < length stacks.old.rows }
 {
     latch_and_drop(stacks, drive) == Err(DriveFault::NoReel) && stacks.failures() == 0
 }
 
 /// Whether the first drive has these reels, in order, and no others: they are moved to these paths of the bin.
-fn has_reels(
+fn has_reels<R: Files<File = File> + AllocGlobal + Clone + Drop>(
     place: &Place,
-    stacks: &mut FolderStacks<HostRuntime>,
+    stacks: &mut FolderStacks<R>,
     paths: &[&str],
 ) -> io::Result<bool>
     requires { length stacks.old.rows ≡ 2 }
@@ -105,7 +112,9 @@ fn reads_hello(reel: &mut impl Reel) -> bool {
 }
 
 /// Whether a record is written to the first drive's reel, which no other latch has, and is laid back.
-fn is_written(stacks: &mut FolderStacks<HostRuntime>) -> bool
+fn is_written<R: Files<File = File> + AllocGlobal + Clone + Drop>(
+    stacks: &mut FolderStacks<R>,
+) -> bool
     requires { length stacks.old.rows ≡ 2 }
     ensures { length stacks.new.rows ≡ 2 }
 {
@@ -119,7 +128,7 @@ fn is_written(stacks: &mut FolderStacks<HostRuntime>) -> bool
 }
 
 /// Whether the first drive's reel is latched, and the record is read.
-fn is_read(stacks: &mut FolderStacks<HostRuntime>) -> bool
+fn is_read<R: Files<File = File> + AllocGlobal + Clone + Drop>(stacks: &mut FolderStacks<R>) -> bool
     requires { length stacks.old.rows ≡ 2 }
 {
     match stacks.latch(0) {
@@ -129,7 +138,10 @@ fn is_read(stacks: &mut FolderStacks<HostRuntime>) -> bool
 }
 
 /// Writes a record to the reel `r`, which is laid back, and reads it again.
-fn goes_round(place: &Place, stacks: &mut FolderStacks<HostRuntime>) -> io::Result<bool>
+fn goes_round<R: Files<File = File> + AllocGlobal + Clone + Drop>(
+    place: &Place,
+    stacks: &mut FolderStacks<R>,
+) -> io::Result<bool>
     requires { length stacks.old.rows ≡ 2 }
 {
     let kept = is_written(stacks) && is_read(stacks) && stacks.failures() == 0;
@@ -143,7 +155,9 @@ fn reads_one(reel: &mut impl Reel) -> bool {
 }
 
 /// Whether the first drive's reel does not go over what the bin has, and is handed back.
-fn is_handed_back(stacks: &mut FolderStacks<HostRuntime>) -> bool
+fn is_handed_back<R: Files<File = File> + AllocGlobal + Clone + Drop>(
+    stacks: &mut FolderStacks<R>,
+) -> bool
     requires { length stacks.old.rows ≡ 2 }
     ensures { length stacks.new.rows ≡ 2 }
 {
@@ -159,7 +173,10 @@ fn is_handed_back(stacks: &mut FolderStacks<HostRuntime>) -> bool
 }
 
 /// The same, and whether the file lies where it was.
-fn is_kept(place: &Place, stacks: &mut FolderStacks<HostRuntime>) -> io::Result<bool>
+fn is_kept<R: Files<File = File> + AllocGlobal + Clone + Drop>(
+    place: &Place,
+    stacks: &mut FolderStacks<R>,
+) -> io::Result<bool>
     requires { length stacks.old.rows ≡ 2 }
     ensures { length stacks.new.rows ≡ 2 }
 {
@@ -173,7 +190,10 @@ static LINK_IN_BIN: [(&str, Change<'static>); 2] = [
 ];
 
 /// No move goes over a file of the bin, nor over a link to nowhere.
-fn over_none(place: &Place, stacks: &mut FolderStacks<HostRuntime>) -> io::Result<bool>
+fn over_none<R: Files<File = File> + AllocGlobal + Clone + Drop>(
+    place: &Place,
+    stacks: &mut FolderStacks<R>,
+) -> io::Result<bool>
     requires { length stacks.old.rows ≡ 2 }
 {
     let second = move_first(stacks, 1) == Ok(());
@@ -183,7 +203,10 @@ fn over_none(place: &Place, stacks: &mut FolderStacks<HostRuntime>) -> io::Resul
 }
 
 /// Another handle has the lock of the reel, and then of the bin. Both are failures.
-fn waits_for_locks(place: &Place, stacks: &mut FolderStacks<HostRuntime>) -> io::Result<bool>
+fn waits_for_locks<R: Files<File = File> + AllocGlobal + Clone + Drop>(
+    place: &Place,
+    stacks: &mut FolderStacks<R>,
+) -> io::Result<bool>
     requires { length stacks.old.rows ≡ 2 }
 {
     let other = place.lock("st0/r")?;
@@ -196,7 +219,10 @@ fn waits_for_locks(place: &Place, stacks: &mut FolderStacks<HostRuntime>) -> io:
 }
 
 /// While a reel is latched another open of the same folders cannot have it, and it is had once it was laid back.
-fn is_had_once(one: &mut FolderStacks<HostRuntime>, other: &mut FolderStacks<HostRuntime>) -> bool
+fn is_had_once<
+    R: Files<File = File> + AllocGlobal + Clone + Drop,
+    S: Files<File = File> + AllocGlobal + Clone + Drop,
+>(one: &mut FolderStacks<R>, other: &mut FolderStacks<S>) -> bool
     requires one { length one.old.rows ≡ 2 }
     requires other { length other.old.rows ≡ 2 }
 {
@@ -209,7 +235,10 @@ fn is_had_once(one: &mut FolderStacks<HostRuntime>, other: &mut FolderStacks<Hos
 }
 
 /// The same, with another open of the place.
-fn is_had_by_one(place: &Place, stacks: &mut FolderStacks<HostRuntime>) -> io::Result<bool>
+fn is_had_by_one<R: Files<File = File> + AllocGlobal + Clone + Drop>(
+    place: &Place,
+    stacks: &mut FolderStacks<R>,
+) -> io::Result<bool>
     requires { length stacks.old.rows ≡ 2 }
 {
     let mut other = place.open(place.rt)?;
@@ -223,7 +252,10 @@ static OTHER_FILE: [(&str, Change<'static>); 2] = [
 ];
 
 /// Whether another file that has the name of the latched reel is not moved, which is a failure.
-fn is_not_moved(place: &Place, stacks: &mut FolderStacks<HostRuntime>) -> bool
+fn is_not_moved<R: Files<File = File> + AllocGlobal + Clone + Drop>(
+    place: &Place,
+    stacks: &mut FolderStacks<R>,
+) -> bool
     requires { length stacks.old.rows ≡ 2 }
 {
     let Ok(reel) = stacks.latch(0) else {
@@ -235,7 +267,10 @@ fn is_not_moved(place: &Place, stacks: &mut FolderStacks<HostRuntime>) -> bool
 }
 
 /// Another file has the name of the latched reel. It is not moved.
-fn moves_no_other_file(place: &Place, stacks: &mut FolderStacks<HostRuntime>) -> io::Result<bool>
+fn moves_no_other_file<R: Files<File = File> + AllocGlobal + Clone + Drop>(
+    place: &Place,
+    stacks: &mut FolderStacks<R>,
+) -> io::Result<bool>
     requires { length stacks.old.rows ≡ 2 }
 {
     Ok(is_not_moved(place, stacks) && place.reads("st0/r", b"other")? && !place.has("bin/r")?)
@@ -248,7 +283,10 @@ static NO_FOLDERS: [(&str, Change<'static>); 2] = [
 ];
 
 /// A folder that is missing is a failure.
-fn misses_folders(place: &Place, stacks: &mut FolderStacks<HostRuntime>) -> io::Result<bool>
+fn misses_folders<R: Files<File = File> + AllocGlobal + Clone + Drop>(
+    place: &Place,
+    stacks: &mut FolderStacks<R>,
+) -> io::Result<bool>
     requires { length stacks.old.rows ≡ 2 }
 {
     place.change_all(&NO_FOLDERS)?;
@@ -279,7 +317,11 @@ static UNUSABLE: [Unusable; 3] = [
 ];
 
 /// Whether the folder of that path is the first that cannot be used, for that reason.
-fn is_fault(stacks: &FolderStacks<HostRuntime>, path: &str, kind: ErrorKind) -> bool {
+fn is_fault<R: Files<File = File> + AllocGlobal + Clone + Drop>(
+    stacks: &FolderStacks<R>,
+    path: &str,
+    kind: ErrorKind,
+) -> bool {
     match stacks.find_fault() {
         Some(fault) => fault.folder == path && fault.reason.kind() == kind,
         None => false,
@@ -287,9 +329,9 @@ fn is_fault(stacks: &FolderStacks<HostRuntime>, path: &str, kind: ErrorKind) -> 
 }
 
 /// Makes the changes, and answers whether a look names that folder then.
-fn finds_fault(
+fn finds_fault<R: Files<File = File> + AllocGlobal + Clone + Drop>(
     place: &Place,
-    stacks: &FolderStacks<HostRuntime>,
+    stacks: &FolderStacks<R>,
     row: &Unusable,
 ) -> io::Result<bool> {
     place.change_all(row.0)?;
@@ -298,7 +340,10 @@ fn finds_fault(
 }
 
 /// A look names the first folder that cannot be used.
-fn finds_faults(place: &Place, stacks: &FolderStacks<HostRuntime>) -> io::Result<bool> {
+fn finds_faults<R: Files<File = File> + AllocGlobal + Clone + Drop>(
+    place: &Place,
+    stacks: &FolderStacks<R>,
+) -> io::Result<bool> {
     let mut right = stacks.find_fault().is_none();
     for row in &UNUSABLE {
         right &= finds_fault(place, stacks, row)?;
@@ -307,7 +352,10 @@ fn finds_faults(place: &Place, stacks: &FolderStacks<HostRuntime>) -> io::Result
 }
 
 /// Whether a latch fails where a folder lists a name that is no text, and a move where a rename fails.
-fn fails(stacks: &mut FolderStacks<FakeRuntime>, lists_no_text: bool) -> bool
+fn fails<R: Files<File = File> + AllocGlobal + Clone + Drop>(
+    stacks: &mut FolderStacks<R>,
+    lists_no_text: bool,
+) -> bool
     requires { length stacks.old.rows ≡ 2 }
 {
     let failed = if lists_no_text {
@@ -395,7 +443,11 @@ static TRIALS: [Row; 11] = [
 ];
 
 /// Whether the trial goes as it has to.
-fn goes(trial: Trial, place: &Place, stacks: &mut FolderStacks<HostRuntime>) -> io::Result<bool>
+fn goes<R: Files<File = File> + AllocGlobal + Clone + Drop>(
+    trial: Trial,
+    place: &Place,
+    stacks: &mut FolderStacks<R>,
+) -> io::Result<bool>
     requires { length stacks.old.rows ≡ 2 }
 {
     match trial {

@@ -1,9 +1,11 @@
 //! Two drives with reels of one letter, and what lies where.
 
 ghost use Rattle.std.specs.Prelude.{◌≡◌, ◌<◌, IfOk, length};
+ghost use Rattle.drives.specs.ListShop.{IsShop};
+ghost use Rattle.drives.specs.Stacking.{HasLatched};
 
 use drives::{DriveFault, ListStacks, ListedReel, Stacks};
-use std::test::Fail;
+use tape::TroubledReel;
 
 /// Adds two drives without reels.
 pub(super) fn add_drives(stacks: &mut ListStacks) -> Result<(), DriveFault>
@@ -15,63 +17,57 @@ pub(super) fn add_drives(stacks: &mut ListStacks) -> Result<(), DriveFault>
     Ok(())
 }
 
-/// Adds two drives: the first with the reels a and b, the second with c.
+/// Adds the reels a and b at the first drive, and c at the second.
 pub(super) fn add_three_reels(stacks: &mut ListStacks) -> Result<(), DriveFault>
-    requires { length stacks.old.shop.racks ≡ 0 }
-    ensures { IfOk result (λ _. length stacks.new.shop.racks ≡ 2) }
+    requires { length stacks.old.shop.racks ≡ 2 }
+    ensures { length stacks.new.shop.racks ≡ 2 }
 {
-    add_drives(stacks)?;
     stacks.add_reel(0, b"a", 100)?;
     stacks.add_reel(0, b"b", 100)?;
     stacks.add_reel(1, b"c", 100)
 }
 
-/// Whether these are reels of these names, in order.
-pub(super) fn are(reels: &[ListedReel], names: &[u8]) -> bool {
-    for (reel, name) in reels.iter().zip(names) {
-        if reel.name() != [*name].as_slice() {
+/// Whether the reel has that letter as its name. While it is latched the letter is a capital.
+fn is_shown(reel: &ListedReel, letter: u8) -> bool {
+    reel.name() == [letter.to_ascii_lowercase()].as_slice()
+        && reel.reel().is_some() == letter.is_ascii_lowercase()
+}
+
+/// Whether these are reels of these letters, in order.
+fn are(reels: &[ListedReel], letters: &str) -> bool {
+    for (reel, letter) in reels.iter().zip(letters.as_bytes()) {
+        if !is_shown(reel, *letter) {
             return false;
         }
     }
-    reels.len() == names.len()
+    reels.len() == letters.len()
 }
 
-/// Whether the first of the reels alone is away, where it is latched, or else none.
-pub(super) fn lie_there(reels: &[ListedReel], latched: bool) -> bool {
-    for (place, reel) in reels.iter().enumerate() {
-        if reel.reel().is_some() == (latched && place == 0) {
-            return false;
-        }
-    }
-    true
-}
+/// The letters of the reels of the first drive, of the second, and of the bin, in order. Those of latched reels are
+/// capitals.
+pub(super) type Letters = [&'static str; 3];
 
-/// Whether the drives and the bin have reels of these names, in order.
-pub(super) fn lie(stacks: &ListStacks, first: &[u8], second: &[u8], bin: &[u8]) -> bool
+/// Whether the drives and the bin have these reels.
+pub(super) fn lie(stacks: &ListStacks, letters: &Letters) -> bool
     requires { length stacks.now.shop.racks ≡ 2 }
 {
-    are(stacks.stack(0), first) && are(stacks.stack(1), second) && are(stacks.bin(), bin)
+    are(stacks.stack(0), letters[0])
+        && are(stacks.stack(1), letters[1])
+        && are(stacks.bin(), letters[2])
 }
 
-/// Latches the first reel of the drive, and drops it.
-pub(super) fn latch_and_drop(stacks: &mut ListStacks, drive: usize) -> Result<(), DriveFault>
-    requires { drive < length stacks.old.shop.racks }
+/// Moves the latched reel of the drive to the bin.
+pub(super) fn move_reel(
+    stacks: &mut ListStacks,
+    drive: usize,
+    reel: TroubledReel,
+) -> Result<(), DriveFault>
+    requires drive { drive < length stacks.old.shop.racks }
+    requires latched { HasLatched IsShop stacks.old drive }
     ensures { length stacks.new.shop.racks ≡ length stacks.old.shop.racks }
 {
-    match stacks.latch(drive) {
-        Ok(_) => Ok(()),
-        Err(fault) => Err(fault),
-    }
-}
-
-/// Latches the first reel of the drive and moves it to the bin.
-pub(super) fn move_first(stacks: &mut ListStacks, drive: usize) -> Result<(), Fail>
-    requires { drive < length stacks.old.shop.racks }
-    ensures { length stacks.new.shop.racks ≡ length stacks.old.shop.racks }
-{
-    let reel = stacks.latch(drive)?;
     match stacks.offline(drive, reel) {
         Ok(()) => Ok(()),
-        Err(_) => Err(Fail::new("not moved")),
+        Err((_, fault)) => Err(fault),
     }
 }

@@ -1,18 +1,16 @@
-//! Steps of two seats: rows that were written by hand, and every short list of steps beside plain lists.
+//! Steps of two seats, and who holds which drive after each.
 
 ghost use Rattle.std.specs.Prelude.{◌≡◌, ◌≢◌, ◌<◌, ◌≤◌, IfOk, length};
 ghost use Rattle.drives.specs.declared.view.View.{View};
 ghost use Rattle.drives.specs.Local.{IsSeatOf};
 
-use super::slow::holds::SlowPair;
 use drives::{Holds, LocalHolds, LocalSeat, Taken};
 use std::alloc::Global;
-use std::process::Abort;
 use std::test::Fail;
 
 /// What a seat does at a drive, and what that has to come to.
 #[derive(Clone, Copy)]
-pub(crate) enum Step {
+enum Step {
     /// It takes the drive, which is answered so.
     Take(Taken),
     /// It gives the drive back where it holds it, as it does or not.
@@ -117,9 +115,11 @@ impl Pair {
 type Row = (bool, usize, Step, u64);
 
 /// One drive goes from seat to seat.
-static ONE_DRIVE: [Row; 6] = [
+static ONE_DRIVE: [Row; 8] = [
     (true, 0, Step::Take(Taken::Held), 1),
+    (true, 0, Step::Take(Taken::Busy(1)), 1),
     (false, 0, Step::Take(Taken::Busy(1)), 1),
+    (false, 0, Step::Give(false), 1),
     (false, 0, Step::Look(1), 1),
     (true, 0, Step::Give(true), 0),
     (false, 0, Step::Look(0), 0),
@@ -146,83 +146,19 @@ fn all_go(pair: &mut Pair, rows: &[Row]) -> bool {
     true
 }
 
+/// The same with new seats at so many drives.
+fn all_go_anew(alloc: Global, drives: usize, rows: &[Row]) -> Result<bool, Fail>
+    requires some { 1 ≤ drives }
+    requires few { drives ≤ 64 }
+{
+    let mut pair = Pair::new(alloc, drives)?;
+    Ok(all_go(&mut pair, rows))
+}
+
 #[test]
 fn one_seat_holds_a_drive(rt: HostRuntime) -> Result<(), Fail> {
-    assert!(rt; all_go(&mut Pair::new(rt.alloc(), 1)?, &ONE_DRIVE));
-    assert!(rt; all_go(&mut Pair::new(rt.alloc(), 2)?, &TWO_DRIVES));
+    let one = all_go_anew(rt.alloc(), 1, &ONE_DRIVE)?;
+    let two = all_go_anew(rt.alloc(), 2, &TWO_DRIVES)?;
+    assert!(rt; one && two);
     Ok(())
-}
-
-/// Whether the drives have the holders that the plain ones have.
-fn is_like(pair: &Pair, slow: &SlowPair) -> bool {
-    for drive in 0..pair.drives {
-        if !slow.is_held_by(drive, pair.holds.number_at(drive)) {
-            return false;
-        }
-    }
-    true
-}
-
-/// Has a seat and the plain one do a step, by its number. Answers whether both come to the same.
-fn step_alike(pair: &mut Pair, slow: &mut SlowPair, number: usize) -> Result<bool, Fail> {
-    let first = number % 2 == 0;
-    let drive = number / 6 % pair.drives;
-    let step = slow.step(first, number / 2 % 3, drive)?;
-    Ok(pair.goes(first, drive, step) && is_like(pair, slow))
-}
-
-/// Does so many steps, of which the number has one digit each. Answers whether all went alike.
-fn go_alike(
-    pair: &mut Pair,
-    slow: &mut SlowPair,
-    steps: usize,
-    number: usize,
-) -> Result<bool, Fail> {
-    let base = pair.drives.saturating_mul(6);
-    let mut rest = number;
-    for _ in 0..steps {
-        if !step_alike(pair, slow, rest % base)? {
-            return Ok(false);
-        }
-        rest /= base;
-    }
-    Ok(true)
-}
-
-/// The same with new seats.
-fn run(alloc: Global, drives: usize, steps: usize, number: usize) -> Result<bool, Fail>
-    requires some { 1 ≤ drives }
-    requires few { drives ≤ 64 }
-{
-    let mut slow = SlowPair::new(alloc, drives)?;
-    let mut pair = Pair::new(alloc, drives)?;
-    go_alike(&mut pair, &mut slow, steps, number)
-}
-
-/// All numbers up to this have to go alike.
-fn run_all(
-    rt: &impl Abort,
-    alloc: Global,
-    drives: usize,
-    steps: usize,
-    numbers: usize,
-) -> Result<(), Fail>
-    requires some { 1 ≤ drives }
-    requires few { drives ≤ 64 }
-{
-    for number in 0..numbers {
-        let alike = run(alloc, drives, steps, number)?;
-        assert!(rt; alike, "steps {number}");
-    }
-    Ok(())
-}
-
-#[test]
-fn every_five_steps_at_one_drive(rt: HostRuntime) -> Result<(), Fail> {
-    run_all(&rt, rt.alloc(), 1, 5, 7776)
-}
-
-#[test]
-fn every_three_steps_at_two_drives(rt: HostRuntime) -> Result<(), Fail> {
-    run_all(&rt, rt.alloc(), 2, 3, 1728)
 }

@@ -78,8 +78,8 @@ fn latches(drives: &mut Drives) -> Result<bool, Fail>
 
 #[test]
 fn an_open_latches(rt: HostRuntime) -> Result<(), Fail> {
-    let mut drives = one_drive(rt.alloc())?;
-    assert!(rt; latches(&mut drives)?);
+    let right = latches(&mut one_drive(rt.alloc())?)?;
+    assert!(rt; right);
     Ok(())
 }
 
@@ -96,7 +96,7 @@ fn is_opened_once(drives: &mut Drives) -> Result<bool, Fail>
 
 #[test]
 fn a_second_open_is_refused(rt: HostRuntime) -> Result<(), Fail> {
-    let mut drives = one_drive(rt.alloc())?;
-    assert!(rt; is_opened_once(&mut drives)?);
+    let right = is_opened_once(&mut one_drive(rt.alloc())?)?;
+    assert!(rt; right);
     Ok(())
 }

@@ -26,7 +26,7 @@ pub(super) enum Change<'a> {
 }
 
 /// Makes the change at the path.
-fn change_at(rt: &HostRuntime, path: &str, change: Change<'_>) -> io::Result<()> {
+fn change_at<R: Files>(rt: &R, path: &str, change: Change<'_>) -> io::Result<()> {
     match change {
         Change::Write(text) => fs::write(rt, path, text),
         Change::MakeFolder => fs::create_dir(rt, path),
@@ -38,21 +38,21 @@ fn change_at(rt: &HostRuntime, path: &str, change: Change<'_>) -> io::Result<()>
 }
 
 /// Lets nobody write in the folder.
-fn close_folder(rt: &HostRuntime, path: &str) -> io::Result<()> {
+fn close_folder<R: Files>(rt: &R, path: &str) -> io::Result<()> {
     let mut mode = fs::metadata(rt, path)?.permissions();
     mode.set_mode(0o555);
     fs::set_permissions(rt, path, mode)
 }
 
 /// What lies at the path, open to read, with its lock.
-fn open_locked(rt: &HostRuntime, path: &str) -> io::Result<File> {
+fn open_locked<R: Files<File = File>>(rt: &R, path: &str) -> io::Result<File> {
     let file = File::open(rt, path)?;
     file.lock()?;
     Ok(file)
 }
 
 /// Whether the file has these bytes.
-fn has_bytes(rt: &HostRuntime, path: &str, bytes: &[u8]) -> io::Result<bool> {
+fn has_bytes<R: Files + AllocGlobal>(rt: &R, path: &str, bytes: &[u8]) -> io::Result<bool> {
     let found = fs::read(rt, path)?;
     Ok(found.as_slice() == bytes)
 }
