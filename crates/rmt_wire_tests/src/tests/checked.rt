@@ -7,11 +7,6 @@ pub(crate) fn expect(rt: &impl Abort, is_so: bool, what: &str) {
     assert!(rt; is_so, "{what}");
 }
 
-/// The same at one of some places or counts.
-pub(crate) fn expect_at(rt: &impl Abort, is_so: bool, at: usize) {
-    assert!(rt; is_so, "at {at}");
-}
-
 /// The same of these bytes.
 pub(crate) fn expect_of(rt: &impl Abort, is_so: bool, what: &str, bytes: &[u8]) {
     assert!(rt; is_so, "{what}: {bytes:?}");
@@ -19,5 +14,10 @@ pub(crate) fn expect_of(rt: &impl Abort, is_so: bool, what: &str, bytes: &[u8]) 
 
 /// Both counts are the same.
 pub(crate) fn same(rt: &impl Abort, found: usize, wanted: usize) {
+    assert!(rt; found == wanted);
+}
+
+/// Both texts are the same.
+pub(crate) fn same_text(rt: &impl Abort, found: &[u8], wanted: &[u8]) {
     assert!(rt; found == wanted);
 }

@@ -1,7 +1,7 @@
 //! Streams whose failures are counted, a call at a time.
 
-use super::checked::expect;
-use super::fake::{After, FailsOnce, Fake};
+use super::checked::{expect, same, same_text};
+use super::fake::{Fake, Trouble};
 use rmt_wire::Counted;
 use std::alloc::Global;
 use std::io::{ErrorKind, Read, Write};
@@ -31,47 +31,82 @@ fn write<W: Write>(out: &mut Counted<W>, bytes: &[u8]) -> Answer {
 /// The reads of these rooms answer so.
 fn check_reads<R: Read>(rt: &impl Abort, input: &mut Counted<R>, reads: &[(usize, Answer)]) {
     for (room, answer) in reads {
-        assert!(rt; read(input, *room) == *answer);
+        expect(rt, read(input, *room) == *answer, "a read");
+    }
+}
+
+/// The writes answer so.
+fn check_writes<W: Write>(rt: &impl Abort, out: &mut Counted<W>, writes: &[(&[u8], Answer)]) {
+    for (bytes, answer) in writes {
+        expect(rt, write(out, bytes) == *answer, "a write");
     }
 }
 
 #[test]
 fn failed_reads_are_counted(rt: HostRuntime) {
-    let mut input = Counted::new(Fake::new(rt.alloc(), 2, 2, After::Failure));
-    let failed = Err(ErrorKind::BrokenPipe);
+    let kind = ErrorKind::BrokenPipe;
+    let mut input = Counted::new(Fake::new(rt.alloc(), 2, 2, 9, Trouble::Failure(kind)));
     let no_room = (0, (Ok(0), 0));
-    let reads = [(3, (Ok(2), 0)), no_room, (3, (failed, 1)), (3, (failed, 2))];
+    let reads = [
+        (3, (Ok(2), 0)),
+        no_room,
+        (3, (Err(kind), 1)),
+        (3, (Err(kind), 2)),
+    ];
     check_reads(&rt, &mut input, &reads);
 }
 
-#[test]
-fn the_end_of_a_reader_is_no_failure(rt: HostRuntime) {
-    let mut input = Counted::new(b"ab".as_slice());
-    check_reads(&rt, &mut input, &[(3, (Ok(2), 0)), (3, (Ok(0), 0))]);
+/// Reads just these bytes into room for two, and no failure is counted.
+fn reads(input: &mut Counted<&[u8]>, bytes: &[u8]) -> bool {
+    let mut piece = [0u8; 2];
+    let count = input.read(&mut piece).ok();
+    count == Some(bytes.len()) && piece.get(..bytes.len()) == Some(bytes) && input.failures() == 0
 }
 
-/// The write answers so.
-fn check_write<W: Write>(rt: &impl Abort, out: &mut Counted<W>, bytes: &[u8], answer: Answer) {
-    assert!(rt; write(out, bytes) == answer);
+#[test]
+fn counted_readers_pass_bytes_on(rt: HostRuntime) {
+    let mut input = Counted::new(b"abc".as_slice());
+    let is_read = reads(&mut input, b"ab") && reads(&mut input, b"c");
+    expect(&rt, is_read, "all bytes are read");
+    expect(&rt, reads(&mut input, b""), "the end is no failure");
+}
+
+/// Whether it takes three bytes, and no failure is counted.
+fn takes_three(out: &mut Counted<Vec<u8>>) -> bool {
+    matches!(out.write(b"abc"), Ok(3)) && out.flush().is_ok() && out.failures() == 0
+}
+
+#[test]
+fn counted_writers_pass_bytes_on(rt: HostRuntime) {
+    let mut out = Counted::new(Vec::new(rt.alloc()));
+    expect(&rt, takes_three(&mut out), "three bytes");
+    same_text(&rt, &out.into_inner(), b"abc");
 }
 
 /// A stream takes one byte, and answers the second write so.
-fn check_second(rt: &impl Abort, alloc: Global, after: After, second: Result<usize, ErrorKind>) {
-    let mut out = Counted::new(Fake::new(alloc, 1, 1, after));
-    check_write(rt, &mut out, b"ab", (Ok(1), 0));
-    assert!(rt; out.flush().is_err());
-    expect(rt, out.failures() == 0, "a flush is not counted");
-    check_write(rt, &mut out, b"b", (second, 1));
+fn check_second(
+    rt: &impl Abort,
+    alloc: Global,
+    trouble: Trouble,
+    second: Result<usize, ErrorKind>,
+) {
+    let mut out = Counted::new(Fake::new(alloc, 1, 1, 9, trouble));
+    check_writes(rt, &mut out, &[(b"ab", (Ok(1), 0))]);
+    expect(rt, out.flush().is_err(), "a flush is passed on");
+    check_writes(rt, &mut out, &[(b"b", (second, 1)), (b"b", (second, 2))]);
 }
 
 #[test]
 fn failed_and_empty_writes_are_counted(rt: HostRuntime) {
-    let failed = Err(ErrorKind::BrokenPipe);
-    check_second(&rt, rt.alloc(), After::Failure, failed);
-    check_second(&rt, rt.alloc(), After::TakesNone, Ok(0));
-    let mut none = Counted::new(Fake::new(rt.alloc(), 1, 0, After::TakesNone));
-    let is_taken = write(&mut none, b"") == (Ok(0), 0);
-    expect(&rt, is_taken, "of no bytes none can be taken");
+    let kind = ErrorKind::BrokenPipe;
+    check_second(&rt, rt.alloc(), Trouble::Failure(kind), Err(kind));
+    check_second(&rt, rt.alloc(), Trouble::TakesNone, Ok(0));
+}
+
+#[test]
+fn of_no_bytes_none_can_be_taken(rt: HostRuntime) {
+    let mut out = Counted::new(Fake::new(rt.alloc(), 1, 0, 9, Trouble::TakesNone));
+    check_writes(&rt, &mut out, &[(b"", (Ok(0), 0))]);
 }
 
 /// Failures after which a caller may want to ask again.
@@ -81,59 +116,41 @@ static KINDS: [ErrorKind; 3] = [
     ErrorKind::BrokenPipe,
 ];
 
-/// The reads answer so, where the second one fails in that way, and each is one call.
-fn check_read_calls(rt: &impl Abort, alloc: Global, kind: ErrorKind, reads: &[(usize, Answer)]) {
-    let mut input = Counted::new(FailsOnce::new(alloc, 2, 1, kind));
-    check_reads(rt, &mut input, reads);
-    let is_asked_once = input.into_inner().calls == reads.len();
-    expect(rt, is_asked_once, "each read is one call");
+/// A stream of two bytes a call, of which the second call fails in this way.
+fn fails_once(alloc: Global, kind: ErrorKind) -> Counted<Fake> {
+    Counted::new(Fake::new(alloc, 2, 1, 1, Trouble::Failure(kind)))
 }
 
-/// None to all of three reads, where the second one fails in that way.
-fn check_read_kind(rt: &impl Abort, alloc: Global, kind: ErrorKind) {
+/// Three reads, of which the second one fails in that way, are three calls.
+fn check_read_kind(rt: &impl Abort, mut input: Counted<Fake>, kind: ErrorKind) {
     let reads = [(3, (Ok(2), 0)), (3, (Err(kind), 1)), (3, (Ok(2), 1))];
-    for count in 0..=3usize {
-        check_read_calls(rt, alloc, kind, &reads[..count]);
-    }
+    check_reads(rt, &mut input, &reads);
+    same(rt, input.into_inner().calls, 3);
 }
 
 #[test]
 fn a_failed_read_is_given_and_not_asked_again(rt: HostRuntime) {
     for kind in &KINDS {
-        check_read_kind(&rt, rt.alloc(), *kind);
+        check_read_kind(&rt, fails_once(rt.alloc(), *kind), *kind);
     }
 }
 
-/// The first of three writes answer as they are to, where the second one fails in that way. It gives the writer then.
-fn check_writes(rt: &impl Abort, alloc: Global, kind: ErrorKind, count: usize) -> FailsOnce {
-    let mut out = Counted::new(FailsOnce::new(alloc, 2, 1, kind));
-    let writes = [
-        (b"abc".as_slice(), (Ok(2), 0)),
-        (b"c", (Err(kind), 1)),
-        (b"d", (Ok(1), 1)),
-    ];
-    check_each(rt, &mut out, &writes[..count.min(3)]);
-    out.into_inner()
-}
-
-/// The writes answer so.
-fn check_each(rt: &impl Abort, out: &mut Counted<FailsOnce>, writes: &[(&[u8], Answer)]) {
-    for (bytes, answer) in writes {
-        check_write(rt, out, bytes, *answer);
-    }
-}
-
-/// The failed write is the last call of two writes, and a third one goes on.
-fn check_write_kind(rt: &impl Abort, alloc: Global, kind: ErrorKind) {
-    let is_last = check_writes(rt, alloc, kind, 2).calls == 2;
-    expect(rt, is_last, "the failed write was its last");
-    let wrote = check_writes(rt, alloc, kind, 3);
-    assert!(rt; wrote.taken.as_slice() == b"abd".as_slice());
+/// Three writes, of which the second one fails in that way, are three calls.
+fn check_write_kind(rt: &impl Abort, mut out: Counted<Fake>, kind: ErrorKind) {
+    let first = (b"abc".as_slice(), (Ok(2), 0));
+    check_writes(
+        rt,
+        &mut out,
+        &[first, (b"c", (Err(kind), 1)), (b"d", (Ok(1), 1))],
+    );
+    let fake = out.into_inner();
+    same(rt, fake.calls, 3);
+    same_text(rt, &fake.taken, b"abd");
 }
 
 #[test]
 fn a_failed_write_is_given_and_not_asked_again(rt: HostRuntime) {
     for kind in &KINDS {
-        check_write_kind(&rt, rt.alloc(), *kind);
+        check_write_kind(&rt, fails_once(rt.alloc(), *kind), *kind);
     }
 }

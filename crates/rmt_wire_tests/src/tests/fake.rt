@@ -1,51 +1,68 @@
-//! Streams for tests, which take or give a few bytes a call and fail in mid-stream, for good or once.
+//! A stream for tests, which takes or gives a few bytes a call and fails in mid-stream, for good or for some calls.
 ghost use Rattle.std.specs.Prelude.{◌≡◌, IfOk};
 
 use std::alloc::Global;
 use std::io::{self, ErrorKind, Read, Write};
 
-/// What a call answers after the last that works.
+/// What a call answers that does not work.
 #[derive(Clone, Copy)]
-pub(crate) enum After {
-    Failure,
+pub(crate) enum Trouble {
+    Failure(ErrorKind),
     TakesNone,
 }
 
-/// It takes at most `piece` bytes a call, for `calls` calls.
+/// It takes or gives at most `piece` bytes a call. After `before` calls come `failing` ones that do not work; all others do.
 #[derive(Drop)]
 pub(crate) struct Fake {
     pub(crate) taken: Vec<u8>,
-    pub(crate) piece: usize,
+    piece: usize,
+    before: usize,
+    failing: usize,
+    trouble: Trouble,
+    /// How often it was called.
     pub(crate) calls: usize,
-    pub(crate) after: After,
 }
 
 impl Fake {
-    pub(crate) fn new(alloc: Global, piece: usize, calls: usize, after: After) -> Self {
+    pub(crate) fn new(
+        alloc: Global,
+        piece: usize,
+        before: usize,
+        failing: usize,
+        trouble: Trouble,
+    ) -> Self {
         Fake {
             taken: Vec::new(alloc),
             piece,
-            calls,
-            after,
+            before,
+            failing,
+            trouble,
+            calls: 0,
         }
     }
 
-    fn answer_after(&self) -> io::Result<usize>
+    /// Counts a call, and answers whether it works.
+    fn works_now(&mut self) -> bool {
+        let call = self.calls;
+        self.calls = call.saturating_add(1);
+        call < self.before || call.saturating_sub(self.before) >= self.failing
+    }
+
+    fn answer(&self) -> io::Result<usize>
         ensures { IfOk result (λ n. n ≡ 0) }
     {
-        match self.after {
-            After::Failure => Err(ErrorKind::BrokenPipe.into()),
-            After::TakesNone => Ok(0),
+        match self.trouble {
+            Trouble::Failure(kind) => Err(kind.into()),
+            Trouble::TakesNone => Ok(0),
         }
     }
 }
 
 impl Write for Fake {
     fn write(&mut self, buf: &[u8]) -> io::Result<usize> {
-        if self.calls == 0 {
-            return self.answer_after();
+        if !self.works_now() {
+            return self.answer();
         }
-        self.calls -= 1;
         let count = buf.len().min(self.piece);
         self.taken.extend_from_slice(&buf[..count])?;
         Ok(count)
@@ -58,66 +75,8 @@ impl Write for Fake {
 
 impl Read for Fake {
     fn read(&mut self, buf: &mut [u8]) -> io::Result<usize> {
-        if self.calls == 0 {
-            return self.answer_after();
-        }
-        self.calls -= 1;
-        let count = buf.len().min(self.piece);
-        buf[..count].fill(b'x');
-        Ok(count)
-    }
-}
-
-/// It takes or gives at most `piece` bytes a call. Of its calls one fails, in this way, and all others work.
-#[derive(Drop)]
-pub(crate) struct FailsOnce {
-    pub(crate) taken: Vec<u8>,
-    pub(crate) piece: usize,
-    /// How many calls work before the one that fails.
-    pub(crate) before: usize,
-    pub(crate) kind: ErrorKind,
-    /// How often it was called.
-    pub(crate) calls: usize,
-}
-
-impl FailsOnce {
-    pub(crate) fn new(alloc: Global, piece: usize, before: usize, kind: ErrorKind) -> Self {
-        FailsOnce {
-            taken: Vec::new(alloc),
-            piece,
-            before,
-            kind,
-            calls: 0,
-        }
-    }
-
-    /// Counts a call, and answers whether it is the one that fails.
-    fn fails_now(&mut self) -> bool {
-        let call = self.calls;
-        self.calls = call.saturating_add(1);
-        call == self.before
-    }
-}
-
-impl Write for FailsOnce {
-    fn write(&mut self, buf: &[u8]) -> io::Result<usize> {
-        if self.fails_now() {
-            return Err(self.kind.into());
-        }
-        let count = buf.len().min(self.piece);
-        self.taken.extend_from_slice(&buf[..count])?;
-        Ok(count)
-    }
-
-    fn flush(&mut self) -> io::Result<()> {
-        Ok(())
-    }
-}
-
-impl Read for FailsOnce {
-    fn read(&mut self, buf: &mut [u8]) -> io::Result<usize> {
-        if self.fails_now() {
-            return Err(self.kind.into());
+        if !self.works_now() {
+            return self.answer();
         }
         let count = buf.len().min(self.piece);
         buf[..count].fill(b'x');

@@ -1,7 +1,7 @@
 //! Each byte at the places where a byte can rule every request out.
 
-use super::fed::check_last_byte;
-use rmt_wire::WireFault;
+use super::checked::expect_of;
+use rmt_wire::{RequestReader, WireFault};
 use std::alloc::Global;
 use std::process::Abort;
 use std::test::Fail;
@@ -36,12 +36,28 @@ fn fault_unless(next: &[u8], byte: u8, fault: WireFault) -> Option<WireFault> {
     }
 }
 
+/// The fault that a reader answers, if it does.
+fn fault_of(reader: &mut RequestReader) -> Option<WireFault> {
+    match reader.next() {
+        Ok(_) => None,
+        Err(fault) => Some(fault),
+    }
+}
+
+/// This byte after these is this fault, unless it can come next.
+fn check_byte(rt: &impl Abort, reader: &mut RequestReader, place: &Place, byte: u8) {
+    let (before, next, other) = *place;
+    reader.push(before);
+    let is_open = fault_of(reader).is_none();
+    reader.push(&[byte]);
+    let is_well = is_open && fault_of(reader) == fault_unless(next, byte, other);
+    expect_of(rt, is_well, "a last byte", &[byte]);
+}
+
 /// Each byte at such a place.
-fn check_bytes(rt: &impl Abort, alloc: Global, place: Place) -> Result<(), Fail> {
-    let (before, next, other) = place;
+fn check_bytes(rt: &impl Abort, alloc: Global, place: &Place) -> Result<(), Fail> {
     for byte in 0..=255u8 {
-        let fault = fault_unless(next, byte, other);
-        check_last_byte(rt, alloc, before, byte, fault)?;
+        check_byte(rt, &mut RequestReader::new(alloc)?, place, byte);
     }
     Ok(())
 }
@@ -49,7 +65,7 @@ fn check_bytes(rt: &impl Abort, alloc: Global, place: Place) -> Result<(), Fail>
 /// Each byte at each of these places.
 fn check_places(rt: &impl Abort, alloc: Global, places: &[Place]) -> Result<(), Fail> {
     for place in places {
-        check_bytes(rt, alloc, *place)?;
+        check_bytes(rt, alloc, place)?;
     }
     Ok(())
 }

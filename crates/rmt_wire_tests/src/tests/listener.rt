@@ -1,7 +1,9 @@
 //! A reader of replies that knows whether one is waited for.
 
-use super::slow::reply::{Wanted, is_same};
-use rmt_wire::{Reply, ReplyReader, WireFault};
+ghost use Rattle.rmt_wire.specs.Lent.{plain_wanted};
+ghost use Rattle.rmt_wire.specs.ReplyReader.{IsWithin};
+
+use rmt_wire::{Reply, ReplyReader, Wanted, WireFault};
 use std::alloc::{AllocError, Global};
 use std::marker::Model;
 
@@ -13,10 +15,29 @@ pub(crate) enum Next {
     None(Option<WireFault>),
 }
 
+/// A reply as its letter (small where there are data), its number and its bytes.
+fn parts<'a>(reply: &Reply<'a>) -> (u8, u32, &'a [u8]) {
+    match *reply {
+        Reply::Done { number } => (b'A', number, b""),
+        Reply::Data { bytes } => (b'a', 0, bytes),
+        Reply::Error { number, text } => (b'E', number, text),
+    }
+}
+
+/// The same kind, of no more data than a reader waits for.
+fn within(wanted: Wanted) -> Wanted
+    ensures { IsWithin (plain_wanted result) }
+{
+    match wanted {
+        Wanted::Number => Wanted::Number,
+        Wanted::Data(most) => Wanted::Data(most.min(65536)),
+    }
+}
+
 /// What this reply is, where that one is wanted.
 fn compared(wanted: Option<Reply<'_>>, reply: &Reply<'_>) -> Next {
     match wanted {
-        Some(wanted) if is_same(&wanted, reply) => Next::Wanted,
+        Some(wanted) if parts(&wanted) == parts(reply) => Next::Wanted,
         _ => Next::Other,
     }
 }
@@ -48,12 +69,9 @@ impl Listener {
         })
     }
 
-    pub(crate) fn room(&self) -> usize {
-        self.reader.room()
-    }
-
-    pub(crate) fn is_empty(&self) -> bool {
-        self.reader.is_empty()
+    /// Whether it has so many bytes unread.
+    pub(crate) fn holds(&self, count: usize) -> bool {
+        self.reader.room().saturating_add(count) == 65548 && self.reader.is_empty() == (count == 0)
     }
 
     /// Waits for a reply, where none is waited for. It tells whether none was.
@@ -61,7 +79,7 @@ impl Listener {
         if self.is_waiting {
             return false;
         }
-        self.reader.expect(wanted.kind());
+        self.reader.expect(within(wanted));
         self.is_waiting = true;
         true
     }

@@ -1,12 +1,13 @@
-//! Requests and replies as they are appended, by hand, and requests as they are read back.
+//! Requests and replies as they are appended, by hand.
+ghost use Rattle.std.specs.Prelude.{◌≤◌, length};
 ghost use Rattle.rmt_wire.specs.Lent.{plain_reply, plain_request};
 ghost use Rattle.rmt_wire.specs.Reply.{ReplyHasSpelling};
 ghost use Rattle.rmt_wire.specs.Request.{HasSpelling};
 
-use super::checked::same;
-use super::fed::check_by_hand;
+use super::checked::same_text;
+use super::joined::joined;
 use rmt_wire::{Reply, Request, push_reply, push_request};
-use std::alloc::AllocError;
+use std::alloc::{AllocError, Global};
 use std::process::Abort;
 use std::test::Fail;
 
@@ -48,40 +49,41 @@ fn each_kind_of_request(rt: HostRuntime) -> Result<(), Fail> {
     ask_first(&mut out)?;
     ask_then(&mut out)?;
     let text = b"O/dev/st0\n2\nI5\n1\nW5\nhelloW0\nR65536\nI0\n2147483647\nC\nW65537\n".as_slice();
-    assert!(rt; out.as_slice() == text);
+    same_text(&rt, &out, text);
     Ok(())
 }
 
-/// Appends an open and a write, which take so many bytes.
-fn ask_both(
-    rt: &impl Abort,
-    out: &mut Vec<u8>,
-    opening: Request<'_>,
-    write: Request<'_>,
-) -> Result<(), AllocError>
-    requires opening { HasSpelling (plain_request opening) }
-    requires write { HasSpelling (plain_request write) }
+/// Appends an open of the longest device, and a write of these data.
+fn ask_both(out: &mut Vec<u8>, data: &[u8]) -> Result<(), AllocError>
+    requires { length data.now ≤ 65536 }
 {
-    ask(out, opening)?;
-    same(rt, out.len(), 268);
-    ask(out, write)?;
-    same(rt, out.len(), 268 + 65543);
+    let device = &[b'd'; 255];
+    let mode = 2147483647;
+    ask(out, Request::Open { device, mode })?;
+    ask(out, Request::Write { bytes: data })
+}
+
+/// What both are to be.
+fn text_of_both(alloc: Global, data: &[u8]) -> Result<Vec<u8>, AllocError> {
+    let device = &[b'd'; 255];
+    joined(alloc, &[b"O", device, b"\n2147483647\nW65536\n", data])
+}
+
+/// Both are appended as in this text.
+fn check_both(rt: &impl Abort, out: &mut Vec<u8>, data: &[u8], text: &[u8]) -> Result<(), Fail>
+    requires { length data.now ≤ 65536 }
+{
+    ask_both(out, data)?;
+    same_text(rt, out, text);
     Ok(())
 }
 
 #[test]
 fn the_longest_device_and_the_largest_write(rt: HostRuntime) -> Result<(), Fail> {
     let alloc = rt.alloc();
-    let device = [b'd'; 255];
     let data = vec![in alloc; b'\n'; 65536]?;
-    let open = Request::Open {
-        device: &device,
-        mode: 2147483647,
-    };
-    let write = Request::Write { bytes: &data };
-    let mut out = Vec::new(alloc);
-    ask_both(&rt, &mut out, open, write)?;
-    check_by_hand(&rt, alloc, &out, &[open, write], b"", None)
+    let text = text_of_both(alloc, &data)?;
+    check_both(&rt, &mut Vec::new(alloc), &data, &text)
 }
 
 /// Appends each kind, and the greatest number.
@@ -99,6 +101,6 @@ fn each_kind_of_reply(rt: HostRuntime) -> Result<(), Fail> {
     let mut out = Vec::new(rt.alloc());
     say_each(&mut out)?;
     let text = b"A0\nA3\nab\nA0\nA2147483647\nE16\nDevice busy\n".as_slice();
-    assert!(rt; out.as_slice() == text);
+    same_text(&rt, &out, text);
     Ok(())
 }

@@ -1,29 +1,22 @@
-//! Replies whose texts are written by hand: those of whole conversations, and single ones at their limits.
+//! Replies whose texts are written by hand: those of whole conversations, and single ones.
 
-use super::checked::same;
-use super::reply_fed::{Row, check_begun, check_replies, check_rows, check_whole};
-use super::slow::reply::Wanted;
-use super::slow::{self, joined};
-use rmt_wire::{Reply, Request};
-use std::alloc::{AllocError, Global};
+use super::listener::Listener;
+use super::reply_fed::{ALL, Exchange, check_exchange};
+use rmt_wire::{Reply, Wanted};
 use std::process::Abort;
 use std::test::Fail;
 
 const NONE: Reply = Reply::Data { bytes: b"" };
 
+const ABCD: Reply = Reply::Data { bytes: b"abcd" };
+
 const ZERO: Reply = Reply::Done { number: 0 };
 
 const ONE: Reply = Reply::Done { number: 1 };
 
-const CLOSED: Reply = Reply::Error {
-    number: 9,
-    text: b"Bad file descriptor",
-};
+const TWO: Reply = Reply::Done { number: 2 };
 
-const MISSING: Reply = Reply::Error {
-    number: 2,
-    text: b"No such file or directory",
-};
+const GREATEST: Reply = Reply::Done { number: 2147483647 };
 
 const FAILED: Reply = Reply::Error {
     number: 5,
@@ -33,6 +26,11 @@ const FAILED: Reply = Reply::Error {
 const OFFLINE: Reply = Reply::Error {
     number: 6,
     text: b"Device not configured",
+};
+
+const CLOSED: Reply = Reply::Error {
+    number: 9,
+    text: b"Bad file descriptor",
 };
 
 const DENIED: Reply = Reply::Error {
@@ -45,412 +43,196 @@ const REFUSED: Reply = Reply::Error {
     text: b"Invalid argument",
 };
 
-/// What a client waits for after a request.
-fn wanted_by(request: &Request<'_>) -> Wanted {
-    match *request {
-        Request::Read { count } => Wanted::DataUpTo(count.min(65536)),
-        _ => Wanted::Number,
+/// Replies, one after the other: those of conversations, numbers, and data.
+static REPLIES: [Exchange; 64] = [
+    // a record is written and read back
+    (Wanted::Number, b"A0\n", ZERO),
+    (Wanted::Number, b"A5\n", Reply::Done { number: 5 }),
+    (Wanted::Number, b"A1\n", ONE),
+    (Wanted::Number, b"A1\n", ONE),
+    (
+        Wanted::Data(10),
+        b"A5\nhello",
+        Reply::Data { bytes: b"hello" },
+    ),
+    (Wanted::Data(10), b"A0\n", NONE),
+    (Wanted::Number, b"A0\n", ZERO),
+    // a drive of one access
+    (Wanted::Number, b"A0\n", ZERO),
+    (Wanted::Number, b"E9\nBad file descriptor\n", CLOSED),
+    (Wanted::Number, b"E13\nPermission denied\n", DENIED),
+    (Wanted::Number, b"A0\n", ZERO),
+    (Wanted::Data(1), b"E9\nBad file descriptor\n", CLOSED),
+    // spacing over marks
+    (Wanted::Number, b"A0\n", ZERO),
+    (Wanted::Number, b"E5\nInput/output error\n", FAILED),
+    (Wanted::Number, b"E22\nInvalid argument\n", REFUSED),
+    (Wanted::Number, b"A0\n", ZERO),
+    (Wanted::Number, b"A1\n", ONE),
+    (Wanted::Number, b"A1\n", ONE),
+    (Wanted::Number, b"A1\n", ONE),
+    (Wanted::Number, b"A1\n", ONE),
+    (Wanted::Number, b"A2\n", TWO),
+    (Wanted::Data(9), b"A0\n", NONE),
+    (Wanted::Number, b"E5\nInput/output error\n", FAILED),
+    (Wanted::Number, b"A1\n", ONE),
+    (Wanted::Data(1), b"A1\nb", Reply::Data { bytes: b"b" }),
+    (Wanted::Number, b"A0\n", ZERO),
+    // a reel written anew, and one taken off
+    (Wanted::Number, b"A0\n", ZERO),
+    (Wanted::Number, b"A3\n", Reply::Done { number: 3 }),
+    (Wanted::Number, b"A2\n", TWO),
+    (Wanted::Number, b"A1\n", ONE),
+    (Wanted::Number, b"A1\n", ONE),
+    (Wanted::Data(5), b"A0\n", NONE),
+    (Wanted::Number, b"A0\n", ZERO),
+    (Wanted::Number, b"A0\n", ZERO),
+    (Wanted::Number, b"A1\n", ONE),
+    (Wanted::Number, b"E6\nDevice not configured\n", OFFLINE),
+    (Wanted::Number, b"E6\nDevice not configured\n", OFFLINE),
+    (Wanted::Number, b"A0\n", ZERO),
+    (Wanted::Number, b"E6\nDevice not configured\n", OFFLINE),
+    // the largest write, one byte more, none, and an operation
+    (Wanted::Number, b"A0\n", ZERO),
+    (Wanted::Number, b"A65536\n", Reply::Done { number: 65536 }),
+    (Wanted::Number, b"E22\nInvalid argument\n", REFUSED),
+    (Wanted::Number, b"E22\nInvalid argument\n", REFUSED),
+    (Wanted::Number, b"A9\n", Reply::Done { number: 9 }),
+    // a number, and data of fewer bytes than were wanted
+    (Wanted::Number, b"A1\n", ONE),
+    (Wanted::Data(9), b"A2\nab", Reply::Data { bytes: b"ab" }),
+    (Wanted::Number, b"A0000000001\n", ONE),
+    (Wanted::Data(3), b"A03\nabc", Reply::Data { bytes: b"abc" }),
+    // numbers
+    (Wanted::Number, b"A00\n", ZERO),
+    (Wanted::Number, b"A0000000000\n", ZERO),
+    (Wanted::Number, b"A1025\n", Reply::Done { number: 1025 }),
+    (Wanted::Number, b"A01025\n", Reply::Done { number: 1025 }),
+    (Wanted::Number, b"A0000000005\n", Reply::Done { number: 5 }),
+    (Wanted::Number, b"A2147483647\n", GREATEST),
+    // data of reads
+    (Wanted::Data(0), b"A0\n", NONE),
+    (Wanted::Data(65536), b"A0\n", NONE),
+    (Wanted::Data(1), b"A0000000000\n", NONE),
+    (Wanted::Data(4), b"A4\nabcd", ABCD),
+    (Wanted::Data(65536), b"A4\nabcd", ABCD),
+    (Wanted::Data(5), b"A0000000004\nabcd", ABCD),
+    (Wanted::Data(1), b"A1\n\n", Reply::Data { bytes: b"\n" }),
+    (Wanted::Data(3), b"A3\nA0\n", Reply::Data { bytes: b"A0\n" }),
+    (
+        Wanted::Data(10),
+        b"A6\nE5\nx\n\0",
+        Reply::Data {
+            bytes: b"E5\nx\n\0",
+        },
+    ),
+    (
+        Wanted::Data(4),
+        b"A04\n\n\n\n\n",
+        Reply::Data { bytes: b"\n\n\n\n" },
+    ),
+];
+
+/// A reader gives each reply, after what is waited for.
+fn check_each(rt: &impl Abort, reader: &mut Listener, exchanges: &[Exchange<'_>]) {
+    for exchange in exchanges {
+        check_exchange(rt, reader, exchange, ALL);
     }
 }
 
-/// Requests, the text that answers them, and the replies that this is.
-type Conversation = (&'static [u8], &'static [u8], &'static [Reply<'static>]);
-
-/// What a client waits for that asks for these.
-fn all_wanted(alloc: Global, requests: &[u8]) -> Result<Vec<Wanted>, AllocError> {
-    let asked = slow::split(alloc, requests)?;
-    wanted_by_each(alloc, &asked.requests)
-}
-
-fn wanted_by_each(alloc: Global, requests: &[Request<'_>]) -> Result<Vec<Wanted>, AllocError> {
-    let mut wanted = Vec::new(alloc);
-    for request in requests {
-        wanted.push(wanted_by(request))?;
-    }
-    Ok(wanted)
-}
-
-/// The texts are the replies to the requests, which are as by hand.
-fn check_all(rt: &impl Abort, alloc: Global, conversations: &[Conversation]) -> Result<(), Fail> {
-    for (requests, text, replies) in conversations {
-        let wanted = all_wanted(alloc, requests)?;
-        check_replies(rt, alloc, text, &wanted, replies, b"", None)?;
-    }
+#[test]
+fn replies_in_a_row(rt: HostRuntime) -> Result<(), Fail> {
+    check_each(&rt, &mut Listener::new(rt.alloc())?, &REPLIES);
     Ok(())
 }
 
-static CONVERSATIONS: [Conversation; 16] = [
-    // a record is written and read back
+/// A text and the error that it is.
+type Refusal = (&'static [u8], Reply<'static>);
+
+static ERRORS: [Refusal; 14] = [
+    (b"E5\nInput/output error\n", FAILED),
+    (b"E6\nDevice not configured\n", OFFLINE),
+    (b"E0000000006\nDevice not configured\n", OFFLINE),
+    (b"E9\nBad file descriptor\n", CLOSED),
+    (b"E13\nPermission denied\n", DENIED),
+    (b"E22\nInvalid argument\n", REFUSED),
     (
-        b"O/dev/st0\n2\nW5\nhelloI0\n1\nI5\n1\nR10\nR10\nC\n",
-        b"A0\nA5\nA1\nA1\nA5\nhelloA0\nA0\n",
-        &[
-            ZERO,
-            Reply::Done { number: 5 },
-            ONE,
-            ONE,
-            Reply::Data { bytes: b"hello" },
-            NONE,
-            ZERO,
-        ],
-    ),
-    // nothing at all
-    (b"", b"", &[]),
-    (b"W99999999999\n", b"", &[]),
-    (b"W3x", b"", &[]),
-    // one reply alone
-    (b"W3\nabc", b"E9\nBad file descriptor\n", &[CLOSED]),
-    (b"O/dev/st0\n2\nW5\nhel", b"A0\n", &[ZERO]),
-    (b"O/dev/st0\n2\nS\n", b"A0\n", &[ZERO]),
-    (b"O/dev/st0\n2 O_RDWR\n", b"A0\n", &[ZERO]),
-    (b"O/dev/st0\n3\n", b"E22\nInvalid argument\n", &[REFUSED]),
-    (
-        b"O/dev/st9\n2\n",
         b"E2\nNo such file or directory\n",
-        &[MISSING],
-    ),
-    // a drive of one access
-    (
-        b"O/dev/st0\n0\nW1\nxI0\n1\n",
-        b"A0\nE9\nBad file descriptor\nE13\nPermission denied\n",
-        &[ZERO, CLOSED, DENIED],
+        Reply::Error {
+            number: 2,
+            text: b"No such file or directory",
+        },
     ),
     (
-        b"O/dev/st0\n513\nR1\n",
-        b"A0\nE9\nBad file descriptor\n",
-        &[ZERO, CLOSED],
-    ),
-    // spacing over marks
-    (
-        b"O/dev/st0\n2\nI3\n1\nI8\n1\n",
-        b"A0\nE5\nInput/output error\nE22\nInvalid argument\n",
-        &[ZERO, FAILED, REFUSED],
+        b"E12\nCannot allocate memory\n",
+        Reply::Error {
+            number: 12,
+            text: b"Cannot allocate memory",
+        },
     ),
     (
-        b"O/dev/st0\n2\nW1\naI0\n1\nW1\nbI0\n1\nI2\n2\nR9\nI4\n1\nI1\n1\nR1\nC\n",
-        b"A0\nA1\nA1\nA1\nA1\nA2\nA0\nE5\nInput/output error\nA1\nA1\nbA0\n",
-        &[
-            ZERO,
-            ONE,
-            ONE,
-            ONE,
-            ONE,
-            Reply::Done { number: 2 },
-            NONE,
-            FAILED,
-            ONE,
-            Reply::Data { bytes: b"b" },
-            ZERO,
-        ],
-    ),
-    // a reel written anew, and one taken off
-    (
-        b"O/dev/st0\n2\nW3\nabcW2\ndeI5\n1\nW1\nxR5\nC\n",
-        b"A0\nA3\nA2\nA1\nA1\nA0\nA0\n",
-        &[
-            ZERO,
-            Reply::Done { number: 3 },
-            Reply::Done { number: 2 },
-            ONE,
-            ONE,
-            NONE,
-            ZERO,
-        ],
+        b"E16\nDevice busy\n",
+        Reply::Error {
+            number: 16,
+            text: b"Device busy",
+        },
     ),
     (
-        b"O/dev/st0\n2\nI6\n1\nW1\nxI7\n1\nC\nO/dev/st0\n2\n",
-        b"A0\nA1\nE6\nDevice not configured\nE6\nDevice not configured\nA0\nE6\nDevice not configured\n",
-        &[ZERO, ONE, OFFLINE, OFFLINE, ZERO, OFFLINE],
-    ),
-];
-
-#[test]
-fn conversations(rt: HostRuntime) -> Result<(), Fail> {
-    check_all(&rt, rt.alloc(), &CONVERSATIONS)
-}
-
-/// Numbers and data, and beginnings of them.
-static ROWS: [Row; 27] = [
-    // numbers
-    (
-        b"A0\n",
-        &[Wanted::Number],
-        &[Reply::Done { number: 0 }],
-        b"",
-        None,
+        b"E28\nNo space left on device\n",
+        Reply::Error {
+            number: 28,
+            text: b"No space left on device",
+        },
     ),
     (
-        b"A00\n",
-        &[Wanted::Number],
-        &[Reply::Done { number: 0 }],
-        b"",
-        None,
+        b"E5\nBusy\n",
+        Reply::Error {
+            number: 5,
+            text: b"Busy",
+        },
     ),
-    (
-        b"A0000000000\n",
-        &[Wanted::Number],
-        &[Reply::Done { number: 0 }],
-        b"",
-        None,
-    ),
-    (
-        b"A1025\n",
-        &[Wanted::Number],
-        &[Reply::Done { number: 1025 }],
-        b"",
-        None,
-    ),
-    (
-        b"A01025\n",
-        &[Wanted::Number],
-        &[Reply::Done { number: 1025 }],
-        b"",
-        None,
-    ),
-    (
-        b"A0000000005\n",
-        &[Wanted::Number],
-        &[Reply::Done { number: 5 }],
-        b"",
-        None,
-    ),
-    (
-        b"A2147483647\n",
-        &[Wanted::Number],
-        &[Reply::Done { number: 2147483647 }],
-        b"",
-        None,
-    ),
-    // beginnings of them
-    (b"", &[Wanted::Number], &[], b"", None),
-    (b"A", &[Wanted::Number], &[], b"A", None),
-    (b"A0", &[Wanted::Number], &[], b"A0", None),
-    (b"A0000000000", &[Wanted::Number], &[], b"A0000000000", None),
-    (b"A2147483647", &[Wanted::Number], &[], b"A2147483647", None),
-    // data of reads
-    (
-        b"A0\n",
-        &[Wanted::DataUpTo(0)],
-        &[Reply::Data { bytes: b"" }],
-        b"",
-        None,
-    ),
-    (
-        b"A0\n",
-        &[Wanted::DataUpTo(65536)],
-        &[Reply::Data { bytes: b"" }],
-        b"",
-        None,
-    ),
-    (
-        b"A0000000000\n",
-        &[Wanted::DataUpTo(1)],
-        &[Reply::Data { bytes: b"" }],
-        b"",
-        None,
-    ),
-    (
-        b"A4\nabcd",
-        &[Wanted::DataUpTo(4)],
-        &[Reply::Data { bytes: b"abcd" }],
-        b"",
-        None,
-    ),
-    (
-        b"A4\nabcd",
-        &[Wanted::DataUpTo(65536)],
-        &[Reply::Data { bytes: b"abcd" }],
-        b"",
-        None,
-    ),
-    (
-        b"A0000000004\nabcd",
-        &[Wanted::DataUpTo(5)],
-        &[Reply::Data { bytes: b"abcd" }],
-        b"",
-        None,
-    ),
-    (
-        b"A1\n\n",
-        &[Wanted::DataUpTo(1)],
-        &[Reply::Data { bytes: b"\n" }],
-        b"",
-        None,
-    ),
-    (
-        b"A3\nA0\n",
-        &[Wanted::DataUpTo(3)],
-        &[Reply::Data { bytes: b"A0\n" }],
-        b"",
-        None,
-    ),
-    (
-        b"A6\nE5\nx\n\0",
-        &[Wanted::DataUpTo(10)],
-        &[Reply::Data {
-            bytes: b"E5\nx\n\0",
-        }],
-        b"",
-        None,
-    ),
-    // beginnings of them
-    (b"A", &[Wanted::DataUpTo(4)], &[], b"A", None),
-    (b"A4", &[Wanted::DataUpTo(4)], &[], b"A4", None),
-    (b"A4\n", &[Wanted::DataUpTo(4)], &[], b"A4\n", None),
-    (b"A4\nabc", &[Wanted::DataUpTo(4)], &[], b"A4\nabc", None),
-    (
-        b"A04\n\n\n\n",
-        &[Wanted::DataUpTo(4)],
-        &[],
-        b"A04\n\n\n\n",
-        None,
-    ),
-    // the largest write, one byte more, none, and an operation
-    (
-        b"A0\nA65536\nE22\nInvalid argument\nE22\nInvalid argument\nA9\n",
-        &[Wanted::Number; 5],
-        &[
-            ZERO,
-            Reply::Done { number: 65536 },
-            REFUSED,
-            REFUSED,
-            Reply::Done { number: 9 },
-        ],
-        b"",
-        None,
-    ),
-];
-
-#[test]
-fn numbers_and_data(rt: HostRuntime) -> Result<(), Fail> {
-    check_rows(&rt, rt.alloc(), &ROWS)
-}
-
-/// The largest reply, which has these data.
-fn check_largest(rt: &impl Abort, alloc: Global, given: &[u8]) -> Result<(), Fail> {
-    let text = joined(alloc, &[b"A0000065536\n", given])?;
-    same(rt, text.len(), 65548);
-    let reply = Reply::Data { bytes: given };
-    check_whole(rt, alloc, &text, Wanted::DataUpTo(65536), reply)
-}
-
-#[test]
-fn the_largest_reply(rt: HostRuntime) -> Result<(), Fail> {
-    let given = vec![in rt.alloc(); b'A'; 65536]?;
-    check_largest(&rt, rt.alloc(), &given)
-}
-
-/// A text, the error that it is, if it is one, and the rest.
-type Begun = (&'static [u8], &'static [Reply<'static>], &'static [u8]);
-
-static ERRORS: [Begun; 10] = [
-    (b"E6\nDevice not configured\n", &[OFFLINE], b""),
-    (b"E0000000006\nDevice not configured\n", &[OFFLINE], b""),
     (
         b"E0\n\n",
-        &[Reply::Error {
+        Reply::Error {
             number: 0,
             text: b"",
-        }],
-        b"",
+        },
     ),
     (
         b"E2147483647\nA0\n",
-        &[Reply::Error {
+        Reply::Error {
             number: 2147483647,
             text: b"A0",
-        }],
-        b"",
+        },
     ),
     (
         b"E5\n\0\r\xff \n",
-        &[Reply::Error {
+        Reply::Error {
             number: 5,
             text: b"\0\r\xff ",
-        }],
-        b"",
-    ),
-    (b"E", &[], b"E"),
-    (b"E6", &[], b"E6"),
-    (b"E2147483647", &[], b"E2147483647"),
-    (b"E6\n", &[], b"E6\n"),
-    (
-        b"E6\nDevice not configured",
-        &[],
-        b"E6\nDevice not configured",
+        },
     ),
 ];
 
 /// What is waited for where an error comes.
-static WAITS: [Wanted; 3] = [Wanted::Number, Wanted::DataUpTo(0), Wanted::DataUpTo(65536)];
+static WAITS: [Wanted; 3] = [Wanted::Number, Wanted::Data(0), Wanted::Data(65536)];
 
-/// The text is so much of an error, whatever is waited for.
-fn check_error(
-    rt: &impl Abort,
-    alloc: Global,
-    text: &[u8],
-    replies: &[Reply<'_>],
-    rest: &[u8],
-) -> Result<(), Fail> {
+/// A reader gives the error, whatever is waited for.
+fn check_error(rt: &impl Abort, reader: &mut Listener, refusal: &Refusal) {
     for wanted in &WAITS {
-        check_replies(rt, alloc, text, &[*wanted], replies, rest, None)?;
+        check_exchange(rt, reader, &(*wanted, refusal.0, refusal.1), ALL);
     }
-    Ok(())
 }
 
-/// Each text is so much of an error.
-fn check_errors(rt: &impl Abort, alloc: Global, rows: &[Begun]) -> Result<(), Fail> {
-    for (text, replies, rest) in rows {
-        check_error(rt, alloc, text, replies, rest)?;
+/// The same of each of them.
+fn check_errors(rt: &impl Abort, reader: &mut Listener, refusals: &[Refusal]) {
+    for refusal in refusals {
+        check_error(rt, reader, refusal);
     }
-    Ok(())
 }
 
 #[test]
-fn errors(rt: HostRuntime) -> Result<(), Fail> {
-    check_errors(&rt, rt.alloc(), &ERRORS)
-}
-
-/// Errors with lines of 255 bytes and more, of which 255 are kept, and that have only begun without their ends.
-static LONG: [(&[&[u8]], &[Reply]); 6] = [
-    (&[b"E5\n", &[b'z'; 255]], &[]),
-    (&[b"E5\n", &[b'z'; 255], b"\n"], &[KEPT]),
-    (&[b"E5\n", &[b'z'; 256]], &[]),
-    (&[b"E5\n", &[b'z'; 256], b"\n"], &[KEPT]),
-    (&[b"E5\n", &[b'z'; 2000]], &[]),
-    (&[b"E5\n", &[b'z'; 2000], b"\n"], &[KEPT]),
-];
-
-const KEPT: Reply = Reply::Error {
-    number: 5,
-    text: &[b'z'; 255],
-};
-
-/// The parts joined are these replies, or a reply that has only begun.
-fn check_parts(
-    rt: &impl Abort,
-    alloc: Global,
-    parts: &[&[u8]],
-    replies: &[Reply<'_>],
-) -> Result<(), Fail> {
-    let text = joined(alloc, parts)?;
-    let rest = if replies.is_empty() { &text[..] } else { b"" };
-    check_replies(rt, alloc, &text, &[Wanted::Number], replies, rest, None)
-}
-
-/// Each of these is so.
-fn check_long(
-    rt: &impl Abort,
-    alloc: Global,
-    rows: &[(&[&[u8]], &[Reply<'_>])],
-) -> Result<(), Fail> {
-    for (parts, replies) in rows {
-        check_parts(rt, alloc, parts, replies)?;
-    }
+fn errors_whatever_is_waited_for(rt: HostRuntime) -> Result<(), Fail> {
+    check_errors(&rt, &mut Listener::new(rt.alloc())?, &ERRORS);
     Ok(())
-}
-
-#[test]
-fn of_a_long_text_the_beginning_counts(rt: HostRuntime) -> Result<(), Fail> {
-    check_long(&rt, rt.alloc(), &LONG)
 }

@@ -1,7 +1,6 @@
-//! Whole conversations, whose requests are written by hand.
+//! Whole conversations, requests that have only begun, and streams with a fault, by hand.
 
-use super::fed::{check_by_hand, check_split};
-use super::limits::check_line;
+use super::fed::{Row, check_row};
 use rmt_wire::{Request, WireFault};
 use std::alloc::Global;
 use std::process::Abort;
@@ -14,20 +13,10 @@ const OPEN: Request = Request::Open {
     mode: 2,
 };
 
-/// A record is written and read back.
-const ROUND: &[u8] = b"O/dev/st0\n2\nW5\nhelloI0\n1\nI5\n1\nR10\nR10\nC\n";
-
-/// A stream, its requests, the rest, and the fault of that.
-type Row = (
-    &'static [u8],
-    &'static [Request<'static>],
-    &'static [u8],
-    Option<WireFault>,
-);
-
-static ROWS: [Row; 30] = [
+static ROWS: [Row; 31] = [
+    // a record is written and read back
     (
-        ROUND,
+        b"O/dev/st0\n2\nW5\nhelloI0\n1\nI5\n1\nR10\nR10\nC\n",
         &[
             OPEN,
             Request::Write { bytes: b"hello" },
@@ -45,6 +34,16 @@ static ROWS: [Row; 30] = [
     // a write alone, and one that lacks data
     (b"W3\nabc", &[Request::Write { bytes: b"abc" }], b"", None),
     (b"O/dev/st0\n2\nW5\nhel", &[OPEN], b"W5\nhel", None),
+    // one of no data, and an operation
+    (
+        b"W0\nI7\n9\n",
+        &[
+            Request::Write { bytes: b"" },
+            Request::Op { op: 7, count: 9 },
+        ],
+        b"",
+        None,
+    ),
     // a drive that is only read
     (
         b"O/dev/st0\n0\nW1\nxI0\n1\n",
@@ -93,16 +92,16 @@ static ROWS: [Row; 30] = [
         b"O/dev/st0\n2\nS\n",
         &[OPEN],
         b"S\n",
-        Some(WireFault::UnknownCommand),
+        Some((WireFault::UnknownCommand, 13)),
     ),
     // bad counts
     (
         b"W99999999999\n",
         &[],
         b"W99999999999\n",
-        Some(WireFault::BadNumber),
+        Some((WireFault::BadNumber, 11)),
     ),
-    (b"W3x", &[], b"W3x", Some(WireFault::BadNumber)),
+    (b"W3x", &[], b"W3x", Some((WireFault::BadNumber, 3))),
     // the least and the greatest count, and one with all its digits
     (b"R0\n", &[Request::Read { count: 0 }], b"", None),
     (b"R0000000007\n", &[Request::Read { count: 7 }], b"", None),
@@ -113,52 +112,52 @@ static ROWS: [Row; 30] = [
         None,
     ),
     // bad numbers
-    (b"R\n", &[], b"R\n", Some(WireFault::BadNumber)),
+    (b"R\n", &[], b"R\n", Some((WireFault::BadNumber, 2))),
     (
         b"R2147483648\n",
         &[],
         b"R2147483648\n",
-        Some(WireFault::BadNumber),
+        Some((WireFault::BadNumber, 11)),
     ),
     (
         b"R4294967297\n",
         &[],
         b"R4294967297\n",
-        Some(WireFault::BadNumber),
+        Some((WireFault::BadNumber, 11)),
     ),
     (
         b"R00000000007\n",
         &[],
         b"R00000000007\n",
-        Some(WireFault::BadNumber),
+        Some((WireFault::BadNumber, 12)),
     ),
-    (b"R-1\n", &[], b"R-1\n", Some(WireFault::BadNumber)),
-    (b"R7 \n", &[], b"R7 \n", Some(WireFault::BadNumber)),
+    (b"R-1\n", &[], b"R-1\n", Some((WireFault::BadNumber, 2))),
+    (b"R7 \n", &[], b"R7 \n", Some((WireFault::BadNumber, 3))),
     (
         b"O/dev/st0\n\n",
         &[],
         b"O/dev/st0\n\n",
-        Some(WireFault::BadNumber),
+        Some((WireFault::BadNumber, 11)),
     ),
     (
         b"O/dev/st0\n 2\n",
         &[],
         b"O/dev/st0\n 2\n",
-        Some(WireFault::BadNumber),
+        Some((WireFault::BadNumber, 11)),
     ),
     (
         b"O/dev/st0\n00000000002\n",
         &[],
         b"O/dev/st0\n00000000002\n",
-        Some(WireFault::BadNumber),
+        Some((WireFault::BadNumber, 21)),
     ),
     (
         b"O/dev/st0\n2x\n",
         &[],
         b"O/dev/st0\n2x\n",
-        Some(WireFault::BadNumber),
+        Some((WireFault::BadNumber, 12)),
     ),
-    (b"I7\n\n", &[], b"I7\n\n", Some(WireFault::BadNumber)),
+    (b"I7\n\n", &[], b"I7\n\n", Some((WireFault::BadNumber, 4))),
     // spacing over marks
     (
         b"O/dev/st0\n2\nI3\n1\nI8\n1\n",
@@ -219,10 +218,26 @@ static ROWS: [Row; 30] = [
     ),
 ];
 
+/// Requests that have only begun.
+static BEGUN: [&[u8]; 12] = [
+    b"O",
+    b"O/dev/st0",
+    b"O/dev/st0\n",
+    b"O/dev/st0\n2",
+    b"O/dev/st0\n2 O_RDWR",
+    b"C",
+    b"W65536",
+    b"W5\n",
+    b"W5\nhell",
+    b"R10",
+    b"I5\n",
+    b"I5\n1",
+];
+
 /// The streams are as in the rows.
-fn check_rows(rt: &impl Abort, alloc: Global, rows: &[Row]) -> Result<(), Fail> {
-    for (stream, requests, rest, fault) in rows {
-        check_by_hand(rt, alloc, stream, requests, rest, *fault)?;
+fn check_rows(rt: &impl Abort, alloc: Global, rows: &[Row<'_>]) -> Result<(), Fail> {
+    for row in rows {
+        check_row(rt, alloc, row)?;
     }
     Ok(())
 }
@@ -232,32 +247,15 @@ fn streams_are_split_as_by_hand(rt: HostRuntime) -> Result<(), Fail> {
     check_rows(&rt, rt.alloc(), &ROWS)
 }
 
-#[test]
-fn every_beginning_of_a_conversation(rt: HostRuntime) -> Result<(), Fail> {
-    for len in 0..=ROUND.len() {
-        let (stream, _) = ROUND.split_at(len);
-        check_split(&rt, rt.alloc(), stream)?;
+/// The streams are requests that have only begun.
+fn check_begun(rt: &impl Abort, alloc: Global, streams: &[&[u8]]) -> Result<(), Fail> {
+    for stream in streams {
+        check_row(rt, alloc, &(*stream, &[], *stream, None))?;
     }
     Ok(())
 }
 
-/// The largest write, one of these data, which are a byte more, one of no data, and an operation.
-fn check_large(rt: &impl Abort, alloc: Global, data: &[u8]) -> Result<(), Fail> {
-    let largest = data.get(1..).unwrap_or(&[]);
-    let requests = [
-        OPEN,
-        Request::Write { bytes: largest },
-        Request::WriteDropped { count: 65537 },
-        Request::Write { bytes: b"" },
-        Request::Op { op: 7, count: 9 },
-    ];
-    let open = b"O/dev/st0\n2\nW65536\n".as_slice();
-    let parts = [open, largest, b"W65537\n", data, b"W0\nI7\n9\n"];
-    check_line(rt, alloc, &parts, &requests)
-}
-
 #[test]
-fn the_largest_write_and_one_more(rt: HostRuntime) -> Result<(), Fail> {
-    let data = vec![in rt.alloc(); b'W'; 65537]?;
-    check_large(&rt, rt.alloc(), &data)
+fn requests_that_have_begun(rt: HostRuntime) -> Result<(), Fail> {
+    check_begun(&rt, rt.alloc(), &BEGUN)
 }
