@@ -1,4 +1,4 @@
-//! Texts, lists and dates that were worked out by hand, and a slow program of the file to compare with.
+//! Texts, lists and dates that were worked out by hand, each byte at each place of a line, and each day of the calendar.
 
 mod calls;
 mod days;
@@ -6,4 +6,3 @@ mod lines;
 mod lists;
 mod memory;
 mod rows;
-mod slow;

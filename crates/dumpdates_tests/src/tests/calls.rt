@@ -1,22 +1,24 @@
 //! Calls that tests share, each with a plain answer.
 
-use super::slow::SlowEntry;
-use dumpdates::{Dates, Entry};
+use dumpdates::{Dates, DatesFault, Entry};
 use std::alloc::Global;
 use std::process::Abort;
+
+/// An entry: its name, its level and its date.
+pub(crate) type Row = (&'static str, u8, u64);
 
 /// It is so, or the test ends with this.
 pub(crate) fn expect(rt: &impl Abort, is_so: bool, what: &str) {
     assert!(rt; is_so, "{what}");
 }
 
-/// The same at one of some places, dates or years.
+/// The same at one of some bytes, rows, dates or years.
 pub(crate) fn expect_at(rt: &impl Abort, is_so: bool, at: u64) {
     assert!(rt; is_so, "at {at}");
 }
 
 /// Enters a dump into a list. Whether that is an entry, and was done.
-pub(crate) fn enter(dates: &mut Dates, name: &str, level: u8, date: u64) -> bool {
+pub(crate) fn enter(dates: &mut Dates, (name, level, date): Row) -> bool {
     match Entry::new(name, level, date) {
         Some(entry) => dates.enter(entry).is_ok(),
         None => false,
@@ -24,14 +26,32 @@ pub(crate) fn enter(dates: &mut Dates, name: &str, level: u8, date: u64) -> bool
 }
 
 /// The list of these entries, each entered in turn.
-pub(crate) fn dates_of(alloc: Global, entries: &[SlowEntry]) -> Option<Dates> {
+pub(crate) fn dates_of(alloc: Global, entries: &[Row]) -> Option<Dates> {
     let mut dates = Dates::new(alloc);
     for entry in entries {
-        if !enter(&mut dates, &entry.name, entry.level, entry.date) {
+        if !enter(&mut dates, *entry) {
             return None;
         }
     }
     Some(dates)
+}
+
+/// Whether there is an entry, and it has these fields.
+pub(crate) fn is_entry(entry: Option<Entry<'_>>, fields: Row) -> bool {
+    match entry {
+        Some(entry) => (entry.name, entry.level, entry.date) == fields,
+        None => false,
+    }
+}
+
+/// Whether a list has just these entries, in this order.
+pub(crate) fn holds(dates: &Dates, entries: &[Row]) -> bool {
+    for (at, entry) in entries.iter().enumerate() {
+        if !is_entry(dates.get(at), *entry) {
+            return false;
+        }
+    }
+    dates.len() == entries.len() && dates.get(entries.len()).is_none()
 }
 
 /// Whether a list is written as this text.
@@ -48,4 +68,9 @@ pub(crate) fn is_read_as(alloc: Global, bytes: &[u8], wanted: &[u8]) -> bool {
         Ok(dates) => has_text(&dates, wanted),
         Err(_) => false,
     }
+}
+
+/// Whether the bytes are read with this fault.
+pub(crate) fn has_fault(alloc: Global, bytes: &[u8], fault: DatesFault) -> bool {
+    Dates::read(alloc, bytes).err() == Some(fault)
 }

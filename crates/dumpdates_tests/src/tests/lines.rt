@@ -1,95 +1,118 @@
-//! Lines with a byte too many, one too few or another one, compared with the slow program; and a long file.
+//! Each byte at each place of a line; lines of other shapes, and with dates that are none; long names and a long file.
 
-ghost use Rattle.std.specs.Prelude.{◌<◌, length};
+ghost use Rattle.std.specs.Prelude.{◌<◌};
 
-use super::calls::{expect, expect_at, has_text, is_read_as};
-use super::slow::{read, text_read};
+use super::calls::{expect, expect_at, has_fault, is_read_as};
 use dumpdates::{Dates, DatesFault};
 use std::alloc::{AllocError, Global};
 use std::process::Abort;
-use std::test::Fail;
 
-const LINE: &[u8] = b"\t/a 3 Sun Feb 29 12:34:56 2000 ";
+static LINE: [u8; 30] = *b"/a 3 Sun Feb 29 12:34:56 2000 ";
 
-/// Whether the bytes are read as the slow program reads them.
-fn agree(alloc: Global, bytes: &[u8]) -> bool {
-    match Dates::read(alloc, bytes) {
-        Ok(dates) => is_slow_list(alloc, &dates, bytes),
-        Err(fault) => read(alloc, bytes).err() == Some(fault),
+/// The bytes at a place of the line that leave it an entry, and those that leave it a date that is none. With any other
+/// it is a bad line.
+type Place = (&'static [u8], &'static [u8]);
+
+/// The places of the line, each word with the byte after it.
+static PLACES: [Place; 30] = [
+    // the name
+    (
+        b"\t\n !\"#$%&'()*+,-./0123456789:;<=>?@ABCDEFGHIJKLMNOPQRSTUVWXYZ[\\]^_`abcdefghijklmnopqrstuvwxyz{|}~",
+        b"",
+    ),
+    (
+        b"\t !\"#$%&'()*+,-./0123456789:;<=>?@ABCDEFGHIJKLMNOPQRSTUVWXYZ[\\]^_`abcdefghijklmnopqrstuvwxyz{|}~",
+        b"",
+    ),
+    (b"\t ", b""),
+    // the level
+    (b"0123456789", b""),
+    (b"\t ", b""),
+    // the weekday
+    (b"S", b""),
+    (b"u", b""),
+    (b"n", b""),
+    (b"\t ", b""),
+    // the month
+    (b"F", b""),
+    (b"e", b""),
+    (b"b", b""),
+    (b"\t ", b""),
+    // the day
+    (b"\t 012", b"3456789"),
+    (b"\t 0123456789", b""),
+    (b"\t ", b""),
+    // the hour
+    (b"012", b"3456789"),
+    (b"0123456789", b""),
+    (b":", b""),
+    // the minute
+    (b"012345", b"6789"),
+    (b"0123456789", b""),
+    (b":", b""),
+    // the second
+    (b"012345", b"6789"),
+    (b"0123456789", b""),
+    (b"\t ", b""),
+    // the year, a leap year
+    (b"2468", b"013579"),
+    (b"048", b"1235679"),
+    (b"02468", b"13579"),
+    (b"048", b"1235679"),
+    (b"\t\n ", b""),
+];
+
+/// What the line's fault is with this byte at a place.
+fn fault_of((entry, no_date): Place, byte: u8) -> Option<DatesFault> {
+    if entry.contains(&byte) {
+        None
+    } else if no_date.contains(&byte) {
+        Some(DatesFault::BadDate(1))
+    } else {
+        Some(DatesFault::BadLine(1))
     }
 }
 
-/// Whether the slow program reads the bytes as this list.
-fn is_slow_list(alloc: Global, dates: &Dates, bytes: &[u8]) -> bool {
-    match text_read(alloc, bytes) {
-        Ok(text) => has_text(dates, text.as_bytes()),
-        Err(_) => false,
-    }
-}
-
-fn joined(alloc: Global, parts: &[&[u8]]) -> Result<Vec<u8>, AllocError> {
-    let mut text = Vec::new(alloc);
-    for part in parts {
-        text.extend_from_slice(part)?;
-    }
-    Ok(text)
-}
-
-/// The same of these parts, one behind the other.
-fn agree_joined(
-    alloc: Global,
-    before: &[u8],
-    middle: &[u8],
-    after: &[u8],
-) -> Result<bool, AllocError> {
-    let bytes = joined(alloc, &[before, middle, after])?;
-    Ok(agree(alloc, &bytes))
-}
-
-/// The same of the line with this byte in place of the one at that place, and in front of it.
-fn agree_with(alloc: Global, at: usize, byte: u8) -> Result<bool, AllocError>
-    requires { at < length LINE.now }
+/// The line with this byte at that place.
+fn line_with(at: usize, byte: u8) -> [u8; 30]
+    requires { at < 30 }
 {
-    let (before, rest) = LINE.split_at(at);
-    let (_, after) = rest.split_at(1);
-    Ok(agree_joined(alloc, before, &[byte], after)? && agree_joined(alloc, before, &[byte], rest)?)
+    let mut line = LINE;
+    line[at] = byte;
+    line
 }
 
-/// The same of the line without the byte at that place.
-fn agree_without(alloc: Global, at: usize) -> Result<bool, AllocError>
-    requires { at < length LINE.now }
-{
-    let (before, rest) = LINE.split_at(at);
-    let (_, after) = rest.split_at(1);
-    agree_joined(alloc, before, b"", after)
+/// Whether a text is one entry, or has this fault.
+fn is_told(alloc: Global, text: &[u8], fault: Option<DatesFault>) -> bool {
+    match Dates::read(alloc, text) {
+        Ok(dates) => fault.is_none() && dates.len() == 1,
+        Err(told) => fault == Some(told),
+    }
 }
 
 /// The line with each byte at that place.
-fn check_each_byte(rt: &impl Abort, alloc: Global, at: usize) -> Result<(), AllocError>
-    requires { at < length LINE.now }
+fn check_each_byte(rt: &impl Abort, alloc: Global, at: usize)
+    requires { at < 30 }
 {
     for byte in 0..=255u8 {
-        expect_at(rt, agree_with(alloc, at, byte)?, u64::from(byte));
+        let fault = fault_of(PLACES[at], byte);
+        expect_at(
+            rt,
+            is_told(alloc, &line_with(at, byte), fault),
+            u64::from(byte),
+        );
     }
-    Ok(())
 }
 
 #[test]
-fn any_byte_in_any_place(rt: HostRuntime) -> Result<(), Fail> {
-    for at in 0..LINE.len() {
-        expect_at(&rt, agree_without(rt.alloc(), at)?, at as u64);
-        check_each_byte(&rt, rt.alloc(), at)?;
+fn any_byte_in_any_place(rt: HostRuntime) {
+    for at in 0..30usize {
+        check_each_byte(&rt, rt.alloc(), at);
     }
-    Ok(())
-}
-
-/// Whether a text of one line has this fault, and the slow program says the same.
-fn is_refused(alloc: Global, line: &[u8], fault: DatesFault) -> bool {
-    Dates::read(alloc, line).err() == Some(fault) && agree(alloc, line)
 }
 
 /// Lines of other words than an entry has.
-static OTHER_SHAPES: [&str; 24] = [
+static OTHER_SHAPES: [&str; 47] = [
     "a",
     "a 0",
     "a 0 Thu Jan 1 00:00:00",
@@ -114,6 +137,29 @@ static OTHER_SHAPES: [&str; 24] = [
     "a 0 Thu Jan 1 00:00:00 1970\r",
     "a\u{e9} 0 Thu Jan 1 00:00:00 1970",
     "a\u{7f} 0 Thu Jan 1 00:00:00 1970",
+    "a0 Thu Jan 1 00:00:00 1970",
+    "a 0Thu Jan 1 00:00:00 1970",
+    "a 0 ThuJan 1 00:00:00 1970",
+    "a 0 Thu Jan1 00:00:00 1970",
+    "a 0 Thu Jan 100:00:00 1970",
+    "a 0 Thu Jan 1 00:00:001970",
+    " 0 Thu Jan 1 00:00:00 1970",
+    "a Thu Jan 1 00:00:00 1970",
+    "a 0 Jan 1 00:00:00 1970",
+    "a 0 Thu 1 00:00:00 1970",
+    "a 0 Thu Jan 00:00:00 1970",
+    "a 0 Thu Jan 1 1970",
+    "a 0 Th Jan 1 00:00:00 1970",
+    "a 0 Thu Ja 1 00:00:00 1970",
+    "a 0 Thu Jan 1 00:0:00 1970",
+    "a 0 Thu Jan 1 00:00:0 1970",
+    "a b 0 Thu Jan 1 00:00:00 1970",
+    "a 0 Thu January 1 00:00:00 1970",
+    "a 0 Thu Jan 1 1 00:00:00 1970",
+    "a 0 Thu Jan 1 000:00:00 1970",
+    "a 0 Thu Jan 1 00::00:00 1970",
+    "a 0 Thu Jan 1 00:00:000 1970",
+    "a 0 Thu Jan 1 00:00:00 19 70",
 ];
 
 /// Lines with a date that is none.
@@ -133,7 +179,7 @@ static NO_DATES: [&str; 10] = [
 /// Texts of one line with this fault.
 fn check_refused(rt: &impl Abort, alloc: Global, lines: &[&str], fault: DatesFault) {
     for line in lines {
-        expect(rt, is_refused(alloc, line.as_bytes(), fault), line);
+        expect(rt, has_fault(alloc, line.as_bytes(), fault), line);
     }
 }
 
@@ -143,64 +189,45 @@ fn other_shapes_and_no_dates(rt: HostRuntime) {
     check_refused(&rt, rt.alloc(), &NO_DATES, DatesFault::BadDate(1));
 }
 
-/// A line with a name of so many bytes.
-fn line_named(alloc: Global, bytes: usize) -> Result<Vec<u8>, AllocError> {
-    let mut line = Vec::new(alloc);
-    line.resize(bytes, b'n')?;
-    line.extend_from_slice(b" 0 Thu Jan  1 00:00:00 1970\n")?;
-    Ok(line)
-}
+/// Bytes that stand in a text so many times, and the bytes after them.
+type Long = (&'static [u8], usize, &'static [u8]);
 
-/// Whether the line of this number is the first bad one.
-fn is_bad(alloc: Global, bytes: &[u8], number: usize) -> bool {
-    Dates::read(alloc, bytes).err() == Some(DatesFault::BadLine(number))
-}
-
-/// Whether a line with a name of so many bytes is read, and written as it was.
-fn is_kept(alloc: Global, bytes: usize) -> Result<bool, AllocError> {
-    let line = line_named(alloc, bytes)?;
-    Ok(is_read_as(alloc, &line, &line))
-}
-
-/// Whether a line with a name of so many bytes is a bad one.
-fn is_too_long(alloc: Global, bytes: usize) -> Result<bool, AllocError> {
-    let line = line_named(alloc, bytes)?;
-    Ok(is_bad(alloc, &line, 1))
-}
-
-#[test]
-fn names_up_to_255_bytes(rt: HostRuntime) -> Result<(), Fail> {
-    assert!(rt; is_kept(rt.alloc(), 255)?);
-    assert!(rt; is_too_long(rt.alloc(), 256)?);
-    Ok(())
-}
-
-/// The text of so many entries.
-fn long_text(alloc: Global, entries: u64) -> Result<Vec<u8>, AllocError> {
-    let mut text = Vec::new(alloc);
-    for number in 0..entries {
-        push_numbered(alloc, &mut text, number)?;
-    }
+fn long_text(alloc: Global, (part, times, end): Long) -> Result<Vec<u8>, AllocError> {
+    let mut text = part.repeat(alloc, times)?;
+    text.extend_from_slice(end)?;
     Ok(text)
 }
 
-/// Adds the line of the entry of a number, which has a name of 19 bytes.
-fn push_numbered(alloc: Global, text: &mut Vec<u8>, number: u64) -> Result<(), AllocError> {
-    let name = format!(in alloc; "/file/system/{number:06}")?;
-    text.extend_from_slice(name.as_bytes())?;
-    text.extend_from_slice(b"              1 Tue Feb 29 00:00:00 2000\n")
+/// Whether such a text is written as it was read.
+fn is_kept(alloc: Global, long: Long) -> bool {
+    match long_text(alloc, long) {
+        Ok(text) => is_read_as(alloc, &text, &text),
+        Err(_) => false,
+    }
 }
 
-/// A text of 100,000 lines, and one with a bad line behind them.
-fn check_long(rt: &impl Abort, alloc: Global, text: &mut Vec<u8>) -> Result<(), AllocError> {
-    assert!(rt; is_read_as(alloc, text, text));
-    text.extend_from_slice(b"x")?;
-    assert!(rt; is_bad(alloc, text, 100_001));
-    Ok(())
+/// Whether the line of this number is the first bad one of such a text.
+fn is_bad(alloc: Global, long: Long, number: usize) -> bool {
+    match long_text(alloc, long) {
+        Ok(text) => has_fault(alloc, &text, DatesFault::BadLine(number)),
+        Err(_) => false,
+    }
 }
+
+/// What stands after a name in its line.
+const AFTER_NAME: &[u8] = b" 0 Thu Jan  1 00:00:00 1970\n";
 
 #[test]
-fn a_long_file(rt: HostRuntime) -> Result<(), Fail> {
-    let mut text = long_text(rt.alloc(), 100_000)?;
-    Ok(check_long(&rt, rt.alloc(), &mut text)?)
+fn names_up_to_255_bytes(rt: HostRuntime) {
+    assert!(rt; is_kept(rt.alloc(), (b"n", 255, AFTER_NAME)));
+    assert!(rt; is_bad(rt.alloc(), (b"n", 256, AFTER_NAME), 1));
+}
+
+/// The line of an entry.
+const ENTRY: &[u8] = b"/usr                             1 Tue Feb 29 00:00:00 2000\n";
+
+#[test]
+fn a_long_file(rt: HostRuntime) {
+    assert!(rt; is_kept(rt.alloc(), (ENTRY, 100_000, b"")));
+    assert!(rt; is_bad(rt.alloc(), (ENTRY, 100_000, b"x"), 100_001));
 }

@@ -1,105 +1,186 @@
-//! Entries entered into each short list, doubles too, and the base dates of it, compared with the slow program.
+//! Base dates of lists, and what lists hold once an entry is entered.
 
-ghost use Rattle.std.specs.Prelude.{◌<◌};
-
-use super::calls::{enter, expect_at, has_text};
-use super::slow::{SlowEntry, base, entered, slow_entry, text};
-use dumpdates::{Dates, DatesFault};
-use std::alloc::{AllocError, Global};
+use super::calls::{Row, dates_of, enter, expect, expect_at, has_text, holds};
+use dumpdates::{Dates, LAST_SECOND};
+use std::alloc::Global;
 use std::process::Abort;
-use std::test::Fail;
 
-/// The entry of a number: two names, two levels, two dates.
-fn entry_numbered(alloc: Global, number: usize) -> Result<SlowEntry, AllocError> {
-    let name = if number % 2 == 0 { "/a" } else { "/b" };
-    let level = if number / 2 % 2 == 0 { 1 } else { 2 };
-    let date = if number / 4 % 2 == 0 { 500 } else { 86_400 };
-    slow_entry(alloc, name, level, date)
-}
+/// One name at two levels.
+const TWO_LEVELS: &str = "/usr 0 Tue Feb 29 00:00:00 2000\n/usr 1 Wed Mar  1 00:00:00 2000\n";
 
-/// Whether the base dates of a name are as the slow program says, at each level.
-fn has_bases(dates: &Dates, list: &[SlowEntry], name: &str) -> bool {
-    for level in 0..4u8 {
-        if dates.base(name, level) != base(list, name, level) {
-            return false;
-        }
+/// The same with the later date at the lower level, and the levels the other way round.
+const LATER_BELOW: &str = "/usr 1 Tue Feb 29 00:00:00 2000\n/usr 0 Wed Mar  1 00:00:00 2000\n";
+
+/// One name and level twice.
+const TWICE: &str = "/usr 0 Thu Jan  1 00:01:40 1970\n/usr 0 Thu Jan  1 00:00:50 1970\n";
+
+/// The latest date.
+const LATEST: &str = "/usr 0 Fri Dec 31 23:59:59 9999\n";
+
+/// A file, a name and a level, and their base date.
+type Base = (&'static str, &'static str, u8, u64);
+
+static BASES: [Base; 13] = [
+    (TWO_LEVELS, "/usr", 2, 951868800),
+    (TWO_LEVELS, "/usr", 1, 951782400),
+    (TWO_LEVELS, "/usr", 0, 0),
+    (TWO_LEVELS, "/usr", 9, 951868800),
+    (TWO_LEVELS, "/home", 9, 0),
+    (TWO_LEVELS, "/us", 9, 0),
+    (TWO_LEVELS, "/usr/", 9, 0),
+    (LATER_BELOW, "/usr", 2, 951868800),
+    (LATER_BELOW, "/usr", 1, 951868800),
+    (LATER_BELOW, "/usr", 0, 0),
+    (TWICE, "/usr", 1, 100),
+    (LATEST, "/usr", 1, LAST_SECOND),
+    ("", "/usr", 9, 0),
+];
+
+/// Whether a dump of that name and level is based on this date, after a file.
+fn has_base(alloc: Global, (file, name, level, base): Base) -> bool {
+    match Dates::read(alloc, file.as_bytes()) {
+        Ok(dates) => dates.base(name, level) == base,
+        Err(_) => false,
     }
-    true
 }
 
-/// Whether the base dates of each name are so.
-fn has_all_bases(dates: &Dates, list: &[SlowEntry]) -> bool {
-    has_bases(dates, list, "/a") && has_bases(dates, list, "/b") && has_bases(dates, list, "/c")
-}
-
-/// The text of the list with the entry in it.
-fn text_entered(
-    alloc: Global,
-    list: &[SlowEntry],
-    entry: &SlowEntry,
-) -> Result<String, AllocError> {
-    let list = entered(alloc, list, entry)?;
-    text(alloc, &list)
-}
-
-/// The dates of a list, read from its text.
-fn dates_read(alloc: Global, list: &[SlowEntry]) -> Result<Dates, DatesFault> {
-    let text = text(alloc, list)?;
-    Dates::read(alloc, text.as_bytes())
-}
-
-/// Whether a list with the entry in it is as the slow program says.
-fn is_entered(
-    alloc: Global,
-    dates: &mut Dates,
-    list: &[SlowEntry],
-    entry: &SlowEntry,
-) -> Result<bool, AllocError> {
-    let wanted = text_entered(alloc, list, entry)?;
-    Ok(enter(dates, &entry.name, entry.level, entry.date) && has_text(dates, wanted.as_bytes()))
-}
-
-/// Whether a list's base dates are so, and what it is with the entry in it.
-fn agree(alloc: Global, list: &[SlowEntry], entry: &SlowEntry) -> Result<bool, DatesFault> {
-    let mut dates = dates_read(alloc, list)?;
-    Ok(has_all_bases(&dates, list) && is_entered(alloc, &mut dates, list, entry)?)
-}
-
-/// The same of a list and the entry of a number.
-fn agree_numbered(alloc: Global, list: &[SlowEntry], number: usize) -> Result<bool, DatesFault> {
-    let entry = entry_numbered(alloc, number)?;
-    agree(alloc, list, &entry)
-}
-
-/// The list of so many entries that a number tells, in base 8.
-fn list_numbered(alloc: Global, len: usize, number: usize) -> Result<Vec<SlowEntry>, AllocError> {
-    let mut list = Vec::new(alloc);
-    let mut left = number;
-    for _ in 0..len {
-        list.push(entry_numbered(alloc, left)?)?;
-        left /= 8;
+fn check_bases(rt: &impl Abort, alloc: Global, rows: &[Base]) {
+    for (at, row) in rows.iter().enumerate() {
+        expect_at(rt, has_base(alloc, *row), at as u64);
     }
-    Ok(list)
-}
-
-/// Three entries into the list of that length and number.
-fn check_list(rt: &impl Abort, alloc: Global, len: usize, number: usize) -> Result<(), DatesFault>
-    requires { number < 512 }
-{
-    let list = list_numbered(alloc, len, number)?;
-    let is_well = agree_numbered(alloc, &list, number)?
-        && agree_numbered(alloc, &list, number / 8)?
-        && agree_numbered(alloc, &list, number / 64 + number)?;
-    expect_at(rt, is_well, number as u64);
-    Ok(())
 }
 
 #[test]
-fn each_entry_into_each_short_list(rt: HostRuntime) -> Result<(), Fail> {
-    for len in 0..4usize {
-        for number in 0..512usize {
-            check_list(&rt, rt.alloc(), len, number)?;
-        }
+fn bases(rt: HostRuntime) {
+    check_bases(&rt, rt.alloc(), &BASES);
+}
+
+/// Two names and two levels, each once.
+const SINGLES: &str = "/a 1 Thu Jan  1 00:00:10 1970\n\
+/a 2 Thu Jan  1 00:00:20 1970\n\
+/b 1 Thu Jan  1 00:00:30 1970\n";
+
+/// Two names and two levels, one of them three times.
+const DOUBLES: &str = "/a 1 Thu Jan  1 00:00:10 1970\n\
+/b 1 Thu Jan  1 00:00:20 1970\n\
+/a 1 Thu Jan  1 00:00:30 1970\n\
+/a 2 Thu Jan  1 00:00:40 1970\n\
+/a 1 Thu Jan  1 00:00:50 1970\n";
+
+/// A file, an entry, and what the file's list holds once it is entered.
+type Entering = (&'static str, Row, &'static [Row]);
+
+static ENTERED: [Entering; 10] = [
+    // another name or another level, at the end
+    ("", ("/a", 1, 99), &[("/a", 1, 99)]),
+    (
+        SINGLES,
+        ("/c", 1, 99),
+        &[("/a", 1, 10), ("/a", 2, 20), ("/b", 1, 30), ("/c", 1, 99)],
+    ),
+    (
+        SINGLES,
+        ("/a/", 1, 99),
+        &[("/a", 1, 10), ("/a", 2, 20), ("/b", 1, 30), ("/a/", 1, 99)],
+    ),
+    (
+        SINGLES,
+        ("/b", 2, 99),
+        &[("/a", 1, 10), ("/a", 2, 20), ("/b", 1, 30), ("/b", 2, 99)],
+    ),
+    // in the place of an earlier one
+    (
+        SINGLES,
+        ("/a", 2, 99),
+        &[("/a", 1, 10), ("/a", 2, 99), ("/b", 1, 30)],
+    ),
+    // an earlier date
+    (
+        SINGLES,
+        ("/a", 2, 0),
+        &[("/a", 1, 10), ("/a", 2, 0), ("/b", 1, 30)],
+    ),
+    // doubles go, and stay where another name or level is entered
+    (TWICE, ("/usr", 0, 70), &[("/usr", 0, 70)]),
+    (
+        DOUBLES,
+        ("/a", 1, 99),
+        &[("/a", 1, 99), ("/b", 1, 20), ("/a", 2, 40)],
+    ),
+    (
+        DOUBLES,
+        ("/b", 1, 99),
+        &[
+            ("/a", 1, 10),
+            ("/b", 1, 99),
+            ("/a", 1, 30),
+            ("/a", 2, 40),
+            ("/a", 1, 50),
+        ],
+    ),
+    (
+        DOUBLES,
+        ("/b", 2, 99),
+        &[
+            ("/a", 1, 10),
+            ("/b", 1, 20),
+            ("/a", 1, 30),
+            ("/a", 2, 40),
+            ("/a", 1, 50),
+            ("/b", 2, 99),
+        ],
+    ),
+];
+
+/// Whether a list holds these once the entry is entered.
+fn comes_to(dates: &mut Dates, entry: Row, wanted: &[Row]) -> bool {
+    enter(dates, entry) && holds(dates, wanted)
+}
+
+/// Whether a file's list comes to these entries, and to the same ones at a second time.
+fn is_entered(alloc: Global, (file, entry, wanted): Entering) -> bool {
+    match Dates::read(alloc, file.as_bytes()) {
+        Ok(mut dates) => comes_to(&mut dates, entry, wanted) && comes_to(&mut dates, entry, wanted),
+        Err(_) => false,
     }
-    Ok(())
+}
+
+fn check_entered(rt: &impl Abort, alloc: Global, rows: &[Entering]) {
+    for (at, row) in rows.iter().enumerate() {
+        expect_at(rt, is_entered(alloc, *row), at as u64);
+    }
+}
+
+#[test]
+fn entries_are_entered(rt: HostRuntime) {
+    check_entered(&rt, rt.alloc(), &ENTERED);
+}
+
+/// Three entries, and their text when the second one was entered anew.
+static PLACES: [Row; 3] = [
+    ("/usr", 0, 951782400),
+    ("/usr", 1, 951782400),
+    ("/home", 0, 0),
+];
+
+const KEPT_PLACES: &[u8] = b"/usr                             0 Tue Feb 29 00:00:00 2000\n\
+/usr                             1 Wed Mar  1 00:00:00 2000\n\
+/home                            0 Thu Jan  1 00:00:00 1970\n";
+
+/// Whether it has that text once the entry is entered.
+fn is_kept(dates: &mut Dates) -> bool {
+    enter(dates, ("/usr", 1, 951868800)) && has_text(dates, KEPT_PLACES)
+}
+
+/// Whether the three entries keep their places, at a second time too.
+fn keeps_places(alloc: Global) -> bool {
+    match dates_of(alloc, &PLACES) {
+        Some(mut dates) => is_kept(&mut dates) && is_kept(&mut dates),
+        None => false,
+    }
+}
+
+#[test]
+fn entering_keeps_places(rt: HostRuntime) {
+    expect(&rt, keeps_places(rt.alloc()), "three entries");
 }

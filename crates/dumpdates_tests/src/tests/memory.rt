@@ -1,10 +1,16 @@
-//! Memory that is had, and memory that is refused. The second test passes whichever allocation is refused.
+//! Memory that is had, and memory that is refused. The last test passes whichever allocation is refused.
 
-use super::calls::{enter, has_text};
+use super::calls::{Row, enter, expect, has_fault, has_text, holds, is_read_as};
 use dumpdates::{Dates, DatesFault, Entry};
 use std::alloc::{AllocError, Global};
-use std::process::Abort;
 use std::test::Fail;
+
+/// Three entries, and their text.
+static ENTRIES: [Row; 3] = [
+    ("/usr", 0, 951782400),
+    ("/usr", 1, 951782400),
+    ("/home", 0, 0),
+];
 
 const TEXT: &[u8] = b"/usr                             0 Tue Feb 29 00:00:00 2000\n\
 /usr                             1 Tue Feb 29 00:00:00 2000\n\
@@ -12,7 +18,7 @@ const TEXT: &[u8] = b"/usr                             0 Tue Feb 29 00:00:00 200
 
 /// Whether a list is written, and takes a new entry.
 fn is_ample(dates: &mut Dates) -> bool {
-    has_text(dates, TEXT) && enter(dates, "/var", 1, 5) && dates.base("/var", 2) == 5
+    has_text(dates, TEXT) && enter(dates, ("/var", 1, 5)) && dates.base("/var", 2) == 5
 }
 
 #[test]
@@ -28,64 +34,55 @@ fn refused_growths_are_want_of_memory(rt: HostRuntime) {
     assert!(rt; DatesFault::from(AllocError) == DatesFault::OutOfMemory);
 }
 
-/// Whether an answer is one, or memory was refused and nothing else.
-fn had<T: Drop>(rt: &impl Abort, answer: Result<T, DatesFault>) -> Option<T> {
-    match answer {
-        Ok(value) => Some(value),
-        Err(fault) => {
-            assert!(rt; fault == DatesFault::OutOfMemory);
-            None
-        }
+/// Whether texts without an entry, and a list without one, take no memory.
+fn takes_none(alloc: Global) -> bool {
+    has_fault(alloc, b"x\n", DatesFault::BadLine(1)) && is_read_as(alloc, b" \n", b"")
+}
+
+/// Whether the text is written, or memory is refused and nothing else.
+fn is_written_or_refused(dates: &Dates) -> bool {
+    match dates.text() {
+        Ok(text) => text.as_slice() == TEXT,
+        Err(fault) => fault == DatesFault::OutOfMemory,
     }
 }
 
-/// A list changed, where memory is had, and unchanged else.
-fn changes_or_not(rt: &impl Abort, dates: &mut Dates, entry: Entry<'_>) {
-    assert!(rt; dates.base("/var", 9) == 0);
-    let entered = had(rt, dates.enter(entry)).is_some();
-    let wanted = if entered { entry.date } else { 0 };
-    assert!(rt; dates.base("/var", 9) == wanted && dates.base("/usr", 1) == 951782400);
-}
-
-/// An entry in the place of one of its name and level, which takes no memory.
-fn changes(rt: &impl Abort, dates: &mut Dates, entry: Entry<'_>) {
-    assert!(rt; dates.enter(entry).is_ok() && dates.base("/usr", 2) == 951782400);
-}
-
-/// The text, written where memory is had.
-fn written_or_not(rt: &impl Abort, dates: &Dates) {
-    if let Some(text) = had(rt, dates.text()) {
-        assert!(rt; text.as_slice() == TEXT);
+/// Whether an entry of `/var` is taken, or memory is refused and nothing else, and the list is as it was then.
+fn is_entered_or_refused(dates: &mut Dates, entry: Entry<'_>) -> bool {
+    match dates.enter(entry) {
+        Ok(()) => dates.len() == 4 && dates.base("/var", 9) == entry.date,
+        Err(fault) => fault == DatesFault::OutOfMemory && holds(dates, &ENTRIES),
     }
 }
 
-/// Texts without an entry, and a list without one, which take no memory.
-fn nothing_is_read(rt: &impl Abort, alloc: Global) {
-    let fault = Dates::read(alloc, b"x\n").err();
-    assert!(rt; fault == Some(DatesFault::BadLine(1)));
-    assert!(rt; had(rt, Dates::read(alloc, b" \n")).is_some());
-    assert!(rt; Dates::new(alloc).text().is_ok());
-}
-
-/// A list that is written and changed.
-fn written_and_changed(rt: &impl Abort, dates: &mut Dates) {
-    written_or_not(rt, dates);
-    if let Some(entry) = Entry::new("/var", 1, 5) {
-        changes_or_not(rt, dates, entry);
-    }
-    if let Some(entry) = Entry::new("/usr", 1, 7) {
-        changes(rt, dates, entry);
+/// Whether a list is changed by a new entry, or unchanged.
+fn is_changed_or_not(dates: &mut Dates) -> bool {
+    match Entry::new("/var", 1, 5) {
+        Some(entry) => is_entered_or_refused(dates, entry),
+        None => false,
     }
 }
 
-fn read_or_not(rt: &impl Abort, alloc: Global) {
-    nothing_is_read(rt, alloc);
-    if let Some(mut dates) = had(rt, Dates::read(alloc, TEXT)) {
-        written_and_changed(rt, &mut dates);
+/// Whether an entry stands in the place of one of its name and level, which takes no memory.
+fn is_replaced(dates: &mut Dates) -> bool {
+    enter(dates, ("/usr", 1, 7)) && dates.base("/usr", 2) == 951782400
+}
+
+/// Whether a list is written and changed, or memory is refused and nothing else.
+fn is_sound(dates: &mut Dates) -> bool {
+    is_written_or_refused(dates) && is_changed_or_not(dates) && is_replaced(dates)
+}
+
+/// Whether the text is read as such a list, or memory is refused and nothing else.
+fn is_read_or_refused(alloc: Global) -> bool {
+    match Dates::read(alloc, TEXT) {
+        Ok(mut dates) => is_sound(&mut dates),
+        Err(fault) => fault == DatesFault::OutOfMemory,
     }
 }
 
 #[test]
 fn memory_refused_or_had(rt: HostRuntime) {
-    read_or_not(&rt, rt.alloc());
+    expect(&rt, takes_none(rt.alloc()), "no entries");
+    expect(&rt, is_read_or_refused(rt.alloc()), "three entries");
 }

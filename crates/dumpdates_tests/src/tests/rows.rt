@@ -1,54 +1,16 @@
 //! Texts, entries and dates that were worked out by hand.
 
-use super::calls::{dates_of, enter, expect, expect_at, has_text, is_read_as};
-use super::slow::{read, slow_list, text, text_read};
+use super::calls::{Row, dates_of, expect, expect_at, has_fault, has_text, holds, is_entry};
 use dumpdates::{
     Dates, DatesFault, Entry, LAST_SECOND, is_name, one_entry, one_reading, written_and_read,
 };
-use std::alloc::{AllocError, Global};
+use std::alloc::Global;
 use std::process::Abort;
-use std::test::Fail;
 
-/// An entry: its name, its level and its date.
-type Row = (&'static str, u8, u64);
+/// Entries, and their text.
+type Written = (&'static [Row], &'static str);
 
-/// The dates of a list.
-fn list_of(alloc: Global, entries: &[Row]) -> Option<Dates> {
-    let list = slow_list(alloc, entries).ok()?;
-    dates_of(alloc, &list)
-}
-
-/// Whether a list is written as this text.
-fn is_written(alloc: Global, entries: &[Row], wanted: &[u8]) -> bool {
-    match list_of(alloc, entries) {
-        Some(dates) => has_text(&dates, wanted),
-        None => false,
-    }
-}
-
-/// Whether the slow program reads the bytes as a list with this text.
-fn is_read_slowly(alloc: Global, bytes: &[u8], wanted: &[u8]) -> bool {
-    match text_read(alloc, bytes) {
-        Ok(text) => text.as_bytes() == wanted,
-        Err(_) => false,
-    }
-}
-
-/// Whether a text spells just these entries, and they are read, here and by the slow program.
-fn spells(alloc: Global, bytes: &[u8], entries: &[Row]) -> Result<bool, AllocError> {
-    let list = slow_list(alloc, entries)?;
-    let text = text(alloc, &list)?;
-    let wanted = text.as_bytes();
-    Ok(is_read_as(alloc, bytes, wanted) && is_read_slowly(alloc, bytes, wanted))
-}
-
-/// Whether a text has this fault, here and by the slow program.
-fn has_fault(alloc: Global, bytes: &[u8], fault: DatesFault) -> bool {
-    Dates::read(alloc, bytes).err() == Some(fault) && read(alloc, bytes).err() == Some(fault)
-}
-
-/// Lists, and the text of each.
-static WRITTEN: [(&[Row], &str); 5] = [
+static WRITTEN: [Written; 5] = [
     (
         &[("/usr", 0, 951782400)],
         "/usr                             0 Tue Feb 29 00:00:00 2000\n",
@@ -70,9 +32,17 @@ a                                3 Tue Feb 29 12:34:56 2000\n\
     (&[], ""),
 ];
 
-fn check_written(rt: &impl Abort, alloc: Global, rows: &[(&[Row], &str)]) {
-    for (entries, wanted) in rows {
-        expect(rt, is_written(alloc, entries, wanted.as_bytes()), wanted);
+/// Whether a list of the entries is written as the text.
+fn is_written(alloc: Global, (entries, text): Written) -> bool {
+    match dates_of(alloc, entries) {
+        Some(dates) => has_text(&dates, text.as_bytes()),
+        None => false,
+    }
+}
+
+fn check_written(rt: &impl Abort, alloc: Global, rows: &[Written]) {
+    for row in rows {
+        expect(rt, is_written(alloc, *row), row.1);
     }
 }
 
@@ -81,8 +51,10 @@ fn entries_are_written(rt: HostRuntime) {
     check_written(&rt, rt.alloc(), &WRITTEN);
 }
 
-/// Texts, and the entries that each spells.
-static SPELLED: [(&str, &[Row]); 10] = [
+/// A text, and the entries that it spells.
+type Spelled = (&'static str, &'static [Row]);
+
+static SPELLED: [Spelled; 13] = [
     ("a 0 Mon Jan 1 00:00:00 1970", &[("a", 0, 0)]),
     ("a 0 Thu Jan  1 00:00:00 1970\n", &[("a", 0, 0)]),
     ("a 0 Thu Jan 01 00:00:00 1970\n", &[("a", 0, 0)]),
@@ -95,27 +67,38 @@ static SPELLED: [(&str, &[Row]); 10] = [
     ("\n", &[]),
     ("\t \n\n  ", &[]),
     ("a 3 Sun Feb 29 12:34:56 2000", &[("a", 3, 951827696)]),
+    ("a 3 Sun Feb 9 12:34:56 2000", &[("a", 3, 950099696)]),
+    ("/ 3 Sun Feb 09 12:34:56 2000", &[("/", 3, 950099696)]),
+    (
+        "/usr 0 Thu Jan 1 00:01:40 1970\n/usr 0 Thu Jan 1 00:00:50 1970\n",
+        &[("/usr", 0, 100), ("/usr", 0, 50)],
+    ),
     ("~!x 9 Fri Dec 31 23:59:59 9999", &[("~!x", 9, LAST_SECOND)]),
 ];
 
-fn check_spelled(
-    rt: &impl Abort,
-    alloc: Global,
-    rows: &[(&str, &[Row])],
-) -> Result<(), AllocError> {
-    for (bytes, entries) in rows {
-        expect(rt, spells(alloc, bytes.as_bytes(), entries)?, bytes);
+/// Whether the text is read as just these entries.
+fn is_spelled(alloc: Global, (text, entries): Spelled) -> bool {
+    match Dates::read(alloc, text.as_bytes()) {
+        Ok(dates) => holds(&dates, entries),
+        Err(_) => false,
     }
-    Ok(())
+}
+
+fn check_spelled(rt: &impl Abort, alloc: Global, rows: &[Spelled]) {
+    for row in rows {
+        expect(rt, is_spelled(alloc, *row), row.0);
+    }
 }
 
 #[test]
-fn texts_are_read(rt: HostRuntime) -> Result<(), Fail> {
-    Ok(check_spelled(&rt, rt.alloc(), &SPELLED)?)
+fn texts_are_read(rt: HostRuntime) {
+    check_spelled(&rt, rt.alloc(), &SPELLED);
 }
 
-/// Texts, and the fault of each.
-static BAD: [(&str, DatesFault); 10] = [
+/// A text, and its fault.
+type Bad = (&'static str, DatesFault);
+
+static BAD: [Bad; 10] = [
     ("a 10 Thu Jan 1 00:00:00 1970", DatesFault::BadLine(1)),
     ("a 0 Thu Jan 1 00:00:00 1970 +0000", DatesFault::BadLine(1)),
     (
@@ -134,9 +117,9 @@ static BAD: [(&str, DatesFault); 10] = [
     ),
 ];
 
-fn check_bad(rt: &impl Abort, alloc: Global, rows: &[(&str, DatesFault)]) {
-    for (bytes, fault) in rows {
-        expect(rt, has_fault(alloc, bytes.as_bytes(), *fault), bytes);
+fn check_bad(rt: &impl Abort, alloc: Global, rows: &[Bad]) {
+    for row in rows {
+        expect(rt, has_fault(alloc, row.0.as_bytes(), row.1), row.0);
     }
 }
 
@@ -146,101 +129,34 @@ fn what_is_bad_is_told_by_its_line(rt: HostRuntime) {
     check_bad(&rt, rt.alloc(), &BAD);
 }
 
-/// One name at two levels.
-static TWO_LEVELS: [Row; 2] = [("/usr", 0, 951782400), ("/usr", 1, 951868800)];
+/// A name, a level and a date, and whether they are an entry.
+type Limit = (&'static str, u8, u64, bool);
 
-/// Names and levels, and the base date of each.
-static BASES: [Row; 4] = [
-    ("/usr", 2, 951868800),
-    ("/usr", 1, 951782400),
-    ("/usr", 0, 0),
-    ("/home", 9, 0),
-];
-
-fn check_bases(rt: &impl Abort, dates: &Dates) {
-    for (name, level, wanted) in &BASES {
-        expect(rt, dates.base(name, *level) == *wanted, name);
-    }
-}
-
-#[test]
-fn bases(rt: HostRuntime) -> Result<(), Fail> {
-    let dates = list_of(rt.alloc(), &TWO_LEVELS).ok_or("a list")?;
-    check_bases(&rt, &dates);
-    Ok(())
-}
-
-/// One name and level twice, and the same with an entry of these entered.
-const DOUBLES: &[u8] = b"/usr                             0 Thu Jan  1 00:01:40 1970\n\
-/usr                             0 Thu Jan  1 00:00:50 1970\n";
-
-const NO_DOUBLES: &[u8] = b"/usr                             0 Thu Jan  1 00:01:10 1970\n";
-
-/// Whether a list has that base date, and this text.
-fn is_at(dates: &Dates, base: u64, text: &[u8]) -> bool {
-    dates.base("/usr", 1) == base && has_text(dates, text)
-}
-
-/// Whether the doubles are there, and an entry takes them out.
-fn loses_doubles(dates: &mut Dates) -> bool {
-    is_at(dates, 100, DOUBLES) && enter(dates, "/usr", 0, 70) && is_at(dates, 70, NO_DOUBLES)
-}
-
-#[test]
-fn doubles_are_read_and_taken_out(rt: HostRuntime) -> Result<(), Fail> {
-    let bytes = b"/usr 0 Thu Jan 1 00:01:40 1970\n/usr 0 Thu Jan 1 00:00:50 1970\n";
-    let mut dates = Dates::read(rt.alloc(), bytes)?;
-    assert!(rt; loses_doubles(&mut dates));
-    Ok(())
-}
-
-/// Three entries, and their text when the second one was entered anew.
-static PLACES: [Row; 3] = [
-    ("/usr", 0, 951782400),
-    ("/usr", 1, 951782400),
-    ("/home", 0, 0),
-];
-
-const KEPT_PLACES: &[u8] = b"/usr                             0 Tue Feb 29 00:00:00 2000\n\
-/usr                             1 Wed Mar  1 00:00:00 2000\n\
-/home                            0 Thu Jan  1 00:00:00 1970\n";
-
-/// Whether it has that text once the entry is entered.
-fn is_kept(dates: &mut Dates) -> bool {
-    enter(dates, "/usr", 1, 951868800) && has_text(dates, KEPT_PLACES)
-}
-
-#[test]
-fn entering_keeps_places(rt: HostRuntime) -> Result<(), Fail> {
-    let mut dates = list_of(rt.alloc(), &PLACES).ok_or("a list")?;
-    assert!(rt; is_kept(&mut dates) && is_kept(&mut dates));
-    Ok(())
-}
-
-/// Names, levels and dates, and whether they are an entry.
-static LIMITS: [(&str, u8, u64, bool); 4] = [
+static LIMITS: [Limit; 4] = [
     ("!~", 0, 0, true),
     ("a", 9, LAST_SECOND, true),
     ("a", 10, 0, false),
     ("a", 0, LAST_SECOND + 1, false),
 ];
 
-fn check_limits(rt: &impl Abort) {
-    for (name, level, date, good) in &LIMITS {
-        let made = Entry::new(name, *level, *date).is_some();
-        expect_at(rt, made == *good, *date);
+/// Whether they are an entry or none, as it should be.
+fn is_limit((name, level, date, good): Limit) -> bool {
+    Entry::new(name, level, date).is_some() == good
+}
+
+fn check_limits(rt: &impl Abort, rows: &[Limit]) {
+    for row in rows {
+        expect_at(rt, is_limit(*row), row.2);
     }
 }
 
 #[test]
-fn entries_within_their_limits(rt: HostRuntime) -> Result<(), Fail> {
-    let entry = Entry::new("/usr", 3, 951827696).ok_or("an entry")?;
-    assert!(rt; entry.name == "/usr" && entry.level == 3 && entry.date == 951827696);
-    check_limits(&rt);
-    Ok(())
+fn entries_within_their_limits(rt: HostRuntime) {
+    assert!(rt; is_entry(Entry::new("/usr", 3, 951827696), ("/usr", 3, 951827696)));
+    check_limits(&rt, &LIMITS);
 }
 
-/// Whether a name is one, here and in an entry.
+/// Names, and whether each is one.
 static NAMES: [(&str, bool); 12] = [
     ("/usr", true),
     ("!", true),
@@ -256,26 +172,16 @@ static NAMES: [(&str, bool); 12] = [
     ("\u{e9}", false),
 ];
 
-/// Whether a name is one, here and in an entry.
-fn is_taken(name: &str) -> bool {
-    is_name(name.as_bytes())
-        && Entry::new(name, 0, 0).is_some()
-        && Entry::new(name, 9, LAST_SECOND).is_some()
-}
-
-/// Whether a name is none, here and in an entry.
-fn is_refused(name: &str) -> bool {
-    !is_name(name.as_bytes()) && Entry::new(name, 0, 0).is_none()
+/// Whether a name is taken or refused so, here and in an entry.
+fn is_judged(name: &str, good: bool) -> bool {
+    is_name(name.as_bytes()) == good
+        && Entry::new(name, 0, 0).is_some() == good
+        && Entry::new(name, 9, LAST_SECOND).is_some() == good
 }
 
 fn check_names(rt: &impl Abort, rows: &[(&str, bool)]) {
-    for (name, good) in rows {
-        let is_well = if *good {
-            is_taken(name)
-        } else {
-            is_refused(name)
-        };
-        expect(rt, is_well, name);
+    for row in rows {
+        expect(rt, is_judged(row.0, row.1), row.0);
     }
 }
 
@@ -285,22 +191,20 @@ fn names_that_are_some_and_none(rt: HostRuntime) {
     assert!(rt; !is_name(&[255]) && !is_name(&[b'a', 0]));
 }
 
-/// A name of so many bytes.
-fn name_of(alloc: Global, bytes: usize) -> Result<String, AllocError> {
-    let mut name = String::new(alloc);
-    for _ in 0..bytes {
-        name.push('n')?;
+/// A name with one byte too many.
+static LONGER: [u8; 256] = [b'n'; 256];
+
+/// Whether bytes are text that is taken or refused so.
+fn are_judged(bytes: &[u8], good: bool) -> bool {
+    match std::str::from_utf8(bytes) {
+        Ok(name) => is_judged(name, good),
+        Err(_) => false,
     }
-    Ok(name)
 }
 
 #[test]
-fn names_of_255_and_256_bytes(rt: HostRuntime) -> Result<(), Fail> {
-    let name = name_of(rt.alloc(), 255)?;
-    assert!(rt; is_taken(&name));
-    let name = name_of(rt.alloc(), 256)?;
-    assert!(rt; is_refused(&name));
-    Ok(())
+fn names_of_255_and_256_bytes(rt: HostRuntime) {
+    assert!(rt; are_judged(&LONGER[..255], true) && are_judged(&LONGER, false));
 }
 
 /// The fields of three entries, by their places.
@@ -310,31 +214,23 @@ static FIELDS: [Row; 3] = [
     ("/usr", 0, LAST_SECOND),
 ];
 
-fn check_places(rt: &impl Abort, dates: &Dates) {
-    for (at, fields) in FIELDS.iter().enumerate() {
-        expect_at(rt, is_entry(dates, at, *fields), at as u64);
-    }
-    let has_no_more = dates.get(3).is_none() && dates.get(usize::MAX).is_none();
-    expect(rt, dates.len() == 3 && has_no_more, "three entries");
-}
+const THREE: &str = "/usr 0 Tue Feb 29 00:00:00 2000\n\n\
+a 9 Thu Jan 1 00:00:00 1970\n\
+/usr 0 Fri Dec 31 23:59:59 9999";
 
-/// Whether a list has this entry at that place.
-fn is_entry(dates: &Dates, at: usize, fields: Row) -> bool {
-    match dates.get(at) {
-        Some(entry) => (entry.name, entry.level, entry.date) == fields,
-        None => false,
+/// Whether a text's list has the three by their places, and none after the last.
+fn has_fields(alloc: Global, text: &[u8]) -> bool {
+    match Dates::read(alloc, text) {
+        Ok(dates) => holds(&dates, &FIELDS) && dates.get(usize::MAX).is_none(),
+        Err(_) => false,
     }
 }
 
-/// Each entry by its place, and none behind the last.
+/// Each entry by its place, and none after the last.
 #[test]
-fn entries_by_their_places(rt: HostRuntime) -> Result<(), Fail> {
-    let text =
-        b"/usr 0 Tue Feb 29 00:00:00 2000\n\na 9 Thu Jan 1 00:00:00 1970\n/usr 0 Fri Dec 31 23:59:59 9999";
-    let dates = Dates::read(rt.alloc(), text)?;
-    check_places(&rt, &dates);
+fn entries_by_their_places(rt: HostRuntime) {
+    assert!(rt; has_fields(rt.alloc(), THREE.as_bytes()));
     assert!(rt; Dates::new(rt.alloc()).len() == 0);
-    Ok(())
 }
 
 #[test]
@@ -344,23 +240,30 @@ fn laws_do_nothing() {
     written_and_read();
 }
 
-/// Faults, and the name of each.
-static FAULTS: [(DatesFault, &str); 3] = [
+/// A fault, and its name.
+type Named = (DatesFault, &'static str);
+
+static FAULTS: [Named; 3] = [
     (DatesFault::BadLine(3), "line 3: bad line"),
     (DatesFault::BadDate(12), "line 12: bad date"),
     (DatesFault::OutOfMemory, "out of memory"),
 ];
 
-/// Whether the fault prints this name.
-fn is_named(alloc: Global, fault: DatesFault, name: &str) -> Result<bool, AllocError> {
-    let printed = fault.to_string(alloc)?;
-    Ok(printed.as_str() == name)
+/// Whether the fault prints its name.
+fn is_named(alloc: Global, (fault, name): Named) -> bool {
+    match fault.to_string(alloc) {
+        Ok(printed) => printed.as_str() == name,
+        Err(_) => false,
+    }
+}
+
+fn check_named(rt: &impl Abort, alloc: Global, rows: &[Named]) {
+    for row in rows {
+        expect(rt, is_named(alloc, *row), row.1);
+    }
 }
 
 #[test]
-fn names_of_faults(rt: HostRuntime) -> Result<(), Fail> {
-    for (fault, name) in &FAULTS {
-        expect(&rt, is_named(rt.alloc(), *fault, name)?, name);
-    }
-    Ok(())
+fn names_of_faults(rt: HostRuntime) {
+    check_named(&rt, rt.alloc(), &FAULTS);
 }
