@@ -1,14 +1,11 @@
 //! Dumps, volumes that are read back, operations and dumpdates files, against what was written by hand.
 
-mod attempts;
 mod dates;
-mod dump_update;
 mod entering;
 mod failing;
 mod fake;
 mod fixture;
 mod lines;
-mod link;
 mod memory_peer;
 mod operations;
 mod payload;

@@ -3,7 +3,7 @@
 use std::io::{self, ErrorKind, Write};
 
 /// Each write fails.
-#[derive(Clone, Copy)]
+#[derive(Drop)]
 pub(super) struct Failing;
 
 impl Write for Failing {

@@ -1,10 +1,9 @@
-//! A peer that gives what it was told to, and a writer with little room.
+//! A peer that gives what it was told to.
 
 use rmt_peer::Peer;
 use std::alloc::Global;
-use std::io::{self, Write};
 
-/// The replies that a connection gives, one at a time. Behind the last it ends.
+/// The replies that a connection gives, one at a time. After the last it ends.
 pub(super) type Replies<'a> = &'a [&'a [u8]];
 
 /// It makes as many connections as it has replies for. It keeps what it is sent.
@@ -69,28 +68,5 @@ impl<'a> Peer for FakePeer<'a> {
 
     fn hang_up(&mut self) {
         self.current = None;
-    }
-}
-
-/// It takes so many bytes, and then fails.
-#[derive(Drop)]
-pub(super) struct Short {
-    pub(super) taken: Vec<u8>,
-    pub(super) room: usize,
-}
-
-impl Write for Short {
-    fn write(&mut self, buf: &[u8]) -> io::Result<usize> {
-        let count = buf.len().min(self.room);
-        if count == 0 && !buf.is_empty() {
-            return Err(io::ErrorKind::BrokenPipe.into());
-        }
-        self.taken.extend_from_slice(&buf[..count])?;
-        self.room -= count;
-        Ok(count)
-    }
-
-    fn flush(&mut self) -> io::Result<()> {
-        Ok(())
     }
 }

@@ -1,121 +1,23 @@
-//! Dumps, volumes that are read back, and operations, over drives in memory.
+//! A peer in memory: requests in pieces, the ends of connections, and a volume that is written and read back.
 
 ghost use Rattle.std.specs.Prelude.{◌≡◌, ◌≤◌, IfOk, length};
 
-use super::fixture::{
-    DEVICE, FIRST_LABEL, THREE_RECORDS, blocks_dumper, dump_prints, is_filled, peer, peer_with,
-};
+use super::fixture::{DEVICE, PayloadDumper, TWO_BYTES, is_read, payload_dumper};
 use drives::{DriveTable, ListStacks, LocalHolds, Stacks};
-use rmt_peer::Peer;
-use rmt_programs::{MemoryPeer, mt, read_volume};
+use rmt_peer::{Peer, dump};
+use rmt_programs::MemoryPeer;
 use rmt_wire::Counted;
 use std::alloc::Global;
 use std::test::Fail;
 
-/// What two reels take of a dump of three blocks.
-const DUMPED: &[u8] =
-    b"volume 1: 2 blocks from 0\nvolume 2: 1 blocks from 2\ndump complete: 2 volumes, 3 blocks\n";
+/// A label, three blocks of two bytes and the mark fill a reel of this capacity exactly.
+const THREE_BLOCKS: u64 = 1066;
 
-/// What one reel takes of it.
-const ABANDONED: &[u8] =
-    b"volume 1: 2 blocks from 0\nvolume 2 failed: Refused 6\nretry?\ndump abandoned\n";
+/// What is printed of a dump to that reel.
+const DUMPED: &[u8] = b"volume 1: 3 blocks from 0\ndump complete: 1 volumes, 3 blocks\n";
 
-/// Whether a dump of three blocks to the reels of a peer prints that, and has this status.
-fn is_dumped(
-    alloc: Global,
-    peer: &mut MemoryPeer,
-    wanted: &[u8],
-    status: u8,
-) -> Result<bool, Fail> {
-    let mut client = blocks_dumper(alloc, 3)?;
-    Ok(dump_prints(alloc, &mut client, peer, b"", wanted, status))
-}
-
-/// Writes a volume to the one reel of a peer, which is in the bin then.
-fn write_a_volume(alloc: Global, peer: &mut MemoryPeer) -> Result<(), Fail> {
-    if is_dumped(alloc, peer, ABANDONED, 3)? && peer.stacks().bin().len() == 1 {
-        return Ok(());
-    }
-    Err(Fail::new("not as dumped"))
-}
-
-/// Drives in memory.
-type Drives = DriveTable<LocalHolds, ListStacks>;
-
-/// The drives of a peer after a volume was written to its one reel.
-fn drives_with_a_volume(alloc: Global) -> Result<Drives, Fail>
-    ensures { IfOk result (λ drives. length drives.stacks.shop.racks ≤ length drives.holds.numbers) }
-{
-    let mut peer = peer(alloc, THREE_RECORDS, &[b"r1"])?;
-    write_a_volume(alloc, &mut peer)?;
-    Ok(peer.into_drives())
-}
-
-/// Arranges these reels on the drive.
-fn lay_back(stacks: &mut ListStacks, names: &[&[u8]]) -> Result<(), Fail>
-    ensures { length stacks.new.shop.racks ≡ length stacks.old.shop.racks }
-{
-    let Some(drive) = stacks.drive(DEVICE) else {
-        return Err(Fail::new("no drive"));
-    };
-    if !stacks.can_arrange(drive, names) {
-        return Err(Fail::new("not to be arranged"));
-    }
-    stacks.arrange(drive, names)?;
-    Ok(())
-}
-
-/// A peer whose one reel has a volume, and is laid back.
-fn peer_with_a_volume(alloc: Global) -> Result<MemoryPeer, Fail> {
-    let mut drives = drives_with_a_volume(alloc)?;
-    lay_back(&mut drives.stacks, &[b"r1"])?;
-    peer_with(alloc, drives)
-}
-
-/// The bytes are those of the first two blocks.
-fn is_two_blocks(bytes: &[u8]) -> bool {
-    match (bytes.get(..1024), bytes.get(1024..)) {
-        (Some(first), Some(rest)) => rest.len() == 1024
-            && is_filled(first, 0)
-            && is_filled(rest, 1),
-        _ => false,
-    }
-}
-
-/// Whether the volume of the peer's reel is read back: its label, and its two blocks.
-fn is_read_back(alloc: Global, peer: &mut MemoryPeer) -> bool {
-    let mut file = Vec::new(alloc);
-    let mut label = Vec::new(alloc);
-    let status = read_volume(
-        alloc,
-        peer,
-        DEVICE,
-        &mut Counted::new(&mut file),
-        &mut Counted::new(&mut label),
-    );
-    status == 0 && label.as_slice() == FIRST_LABEL && is_two_blocks(file.as_slice())
-}
-
-/// An operation of count 1 prints that, and has this status.
-fn is_answered(alloc: Global, peer: &mut MemoryPeer, op: u8, printed: &[u8], status: u8) -> bool {
-    let mut text = Vec::new(alloc);
-    let mut out = Counted::new(&mut text);
-    let told = mt(alloc, peer, DEVICE, u32::from(op), 1, &mut out);
-    told == status && text.as_slice() == printed
-}
-
-/// Operations, each with what it prints and its status.
-type Operations = &'static [(u8, &'static [u8], u8)];
-
-/// These operations are answered so, one after the other.
-fn are_answered(alloc: Global, peer: &mut MemoryPeer, rows: Operations) -> bool {
-    for (op, printed, status) in rows {
-        if !is_answered(alloc, peer, *op, printed, *status) {
-            return false;
-        }
-    }
-    true
-}
+/// The text of the label on it.
+const LABEL: &[u8] = b"name /usr\nlevel 1\ndate 951868800\nsince 951782400\nvolume 1\nfirst 0\n";
 
 /// The next bytes, up to four, are these.
 fn gives(peer: &mut MemoryPeer, wanted: &[u8]) -> bool {
@@ -152,97 +54,79 @@ fn frees_the_drive(peer: &mut MemoryPeer) -> bool {
     ended && peer.stacks().reel(b"r1").is_some()
 }
 
-/// What passes with a peer.
-#[derive(Clone, Copy)]
-enum Talk {
-    /// A dump of three blocks.
-    Dump,
-    /// The volume of its reel is read back.
-    Reading,
-    /// Operations, one after the other.
-    Operations(Operations),
-    /// Requests that come in pieces.
-    Pieces,
-    /// The ends of two connections.
-    Ends,
+/// This client writes its one volume to the reel, which is in the bin then.
+fn is_dumped(alloc: Global, client: &mut PayloadDumper, peer: &mut MemoryPeer) -> bool {
+    let mut operator: &[u8] = b"";
+    let mut printed = Vec::new(alloc);
+    let mut out = Counted::new(&mut printed);
+    let status = dump(alloc, client, peer, &mut operator, &mut out);
+    status == 0 && printed.as_slice() == DUMPED && peer.stacks().bin().len() == 1
 }
 
-/// What is talked of with a peer that has these reels, which are empty. Where there are none it has one with a volume.
-struct Case {
-    name: &'static str,
-    reels: &'static [&'static [u8]],
-    talk: Talk,
-}
-
-static CASES: [Case; 7] = [
-    Case {
-        name: "two volumes",
-        reels: &[b"r1", b"r2"],
-        talk: Talk::Dump,
-    },
-    Case {
-        name: "a volume is read back",
-        reels: &[],
-        talk: Talk::Reading,
-    },
-    Case {
-        name: "an operation",
-        reels: &[b"r1"],
-        talk: Talk::Operations(&[(0, b"A1\n", 0)]),
-    },
-    Case {
-        name: "one that fails",
-        reels: &[b"r1"],
-        talk: Talk::Operations(&[(3, b"E5 Input/output error\n", 3)]),
-    },
-    Case {
-        name: "one after the reel is gone",
-        reels: &[b"r1"],
-        talk: Talk::Operations(&[(6, b"A1\n", 0), (7, b"E6 Device not configured\n", 3)]),
-    },
-    Case {
-        name: "pieces",
-        reels: &[b"r1"],
-        talk: Talk::Pieces,
-    },
-    Case {
-        name: "an end",
-        reels: &[b"r1"],
-        talk: Talk::Ends,
-    },
-];
-
-/// Whether the talk with this peer goes as it should.
-fn goes(alloc: Global, peer: &mut MemoryPeer, talk: Talk) -> Result<bool, Fail> {
-    match talk {
-        Talk::Dump => is_dumped(alloc, peer, DUMPED, 0),
-        Talk::Reading => Ok(is_read_back(alloc, peer)),
-        Talk::Operations(rows) => Ok(are_answered(alloc, peer, rows)),
-        Talk::Pieces => Ok(talks_in_pieces(peer)),
-        Talk::Ends => Ok(frees_the_drive(peer)),
+/// So does a client of three blocks.
+fn takes_a_dump(alloc: Global, peer: &mut MemoryPeer) -> bool {
+    match payload_dumper(alloc, TWO_BYTES) {
+        Ok(mut client) => is_dumped(alloc, &mut client, peer),
+        Err(_) => false,
     }
 }
 
-/// The peer of a case.
-fn peer_of(alloc: Global, reels: &[&[u8]]) -> Result<MemoryPeer, Fail> {
-    if reels.is_empty() {
-        peer_with_a_volume(alloc)
-    } else {
-        peer(alloc, THREE_RECORDS, reels)
+/// Lays these reels on the drive.
+fn lay_back(stacks: &mut ListStacks, names: &[&[u8]]) -> bool
+    ensures { length stacks.new.shop.racks ≡ length stacks.old.shop.racks }
+{
+    match stacks.drive(DEVICE) {
+        Some(drive) => { stacks.can_arrange(drive, names) && stacks.arrange(drive, names).is_ok() }
+        None => false,
     }
 }
 
-/// Whether the case goes as it should, with a peer of its own.
-fn goes_anew(alloc: Global, case: &Case) -> Result<bool, Fail> {
-    let mut peer = peer_of(alloc, case.reels)?;
-    goes(alloc, &mut peer, case.talk)
+/// Drives in memory.
+type Drives = DriveTable<LocalHolds, ListStacks>;
+
+/// The volume on the reel is read back, by another peer of these drives.
+fn gives_the_volume(alloc: Global, mut drives: Drives) -> bool
+    requires { length drives.stacks.shop.racks ≤ length drives.holds.numbers }
+{
+    let laid = lay_back(&mut drives.stacks, &[b"r1"]);
+    match MemoryPeer::new(alloc, drives) {
+        Some(mut peer) => laid && is_read(alloc, &mut peer, LABEL, b"abcdef"),
+        None => false,
+    }
+}
+
+/// All this goes so with a peer whose reel is empty.
+fn goes_on(alloc: Global, mut peer: MemoryPeer) -> bool {
+    let good = talks_in_pieces(&mut peer)
+        && frees_the_drive(&mut peer)
+        && takes_a_dump(alloc, &mut peer);
+    gives_the_volume(alloc, peer.into_drives()) && good
+}
+
+/// The drive `/dev/st0` with one reel, which is empty.
+fn stacks(alloc: Global) -> Result<ListStacks, Fail>
+    ensures { IfOk result (λ stacks. length stacks.shop.racks ≡ 1) }
+{
+    let mut stacks = ListStacks::new(alloc);
+    let drive = stacks.add_drive(DEVICE)?;
+    stacks.add_reel(drive, b"r1", THREE_BLOCKS)?;
+    Ok(stacks)
+}
+
+/// It goes so with a peer of that drive.
+fn goes(alloc: Global, holds: LocalHolds) -> Result<bool, Fail>
+    requires { length holds.numbers ≡ 1 }
+{
+    let stacks = stacks(alloc)?;
+    match MemoryPeer::new(alloc, DriveTable { holds, stacks }) {
+        Some(peer) => Ok(goes_on(alloc, peer)),
+        None => Ok(false),
+    }
 }
 
 #[test]
-fn talks(rt: HostRuntime) -> Result<(), Fail> {
-    for case in &CASES {
-        let name = case.name;
-        assert!(rt; goes_anew(rt.alloc(), case)?, "{name}");
-    }
+fn a_peer_and_another_of_its_drives(rt: HostRuntime) -> Result<(), Fail> {
+    let holds = LocalHolds::new(rt.alloc(), 1)?;
+    assert!(rt; goes(rt.alloc(), holds)?);
     Ok(())
 }

@@ -1,6 +1,7 @@
 //! Operations of mtio over a peer that is told what to reply.
 
-use super::fake::{FakePeer, Replies, Short};
+use super::fake::{FakePeer, Replies};
+use super::fixture::DEVICE;
 use rmt_peer::mt;
 use rmt_wire::Counted;
 use std::alloc::Global;
@@ -67,14 +68,19 @@ static ROWS: [Row; 9] = [
     (7, &[], b"", b"", 3),
 ];
 
-/// Whether an operation over a peer that replies so goes as the row says.
-fn goes(alloc: Global, row: &Row) -> bool {
-    let (op, connections, sent, wanted, status) = *row;
-    let mut peer = FakePeer::new(alloc, connections);
+/// Whether an operation over this peer prints what the row says, with its status.
+fn prints(alloc: Global, peer: &mut FakePeer<'_>, row: &Row) -> bool {
+    let (op, _, _, wanted, status) = *row;
     let mut printed = Vec::new(alloc);
     let mut out = Counted::new(&mut printed);
-    let told = mt(alloc, &mut peer, b"/dev/st0", u32::from(op), 1, &mut out);
-    told == status && printed.as_slice() == wanted && peer.sent.as_slice() == sent
+    let told = mt(alloc, peer, DEVICE, u32::from(op), 1, &mut out);
+    told == status && printed.as_slice() == wanted
+}
+
+/// Whether an operation over a peer that replies so goes as the row says.
+fn goes(alloc: Global, row: &Row) -> bool {
+    let mut peer = FakePeer::new(alloc, row.1);
+    prints(alloc, &mut peer, row) && peer.sent.as_slice() == row.2
 }
 
 #[test]
@@ -87,12 +93,10 @@ fn operations(rt: HostRuntime) {
 /// Whether an operation, of which two bytes can be printed, prints these alone, and fails.
 fn fails_in_printing(alloc: Global) -> bool {
     let mut peer = FakePeer::new(alloc, &[&[b"A0\n", b"A1\n", b"A0\n"]]);
-    let mut out = Counted::new(Short {
-        taken: Vec::new(alloc),
-        room: 2,
-    });
-    let told = mt(alloc, &mut peer, b"/dev/st0", 7, 1, &mut out);
-    told == 3 && out.into_inner().taken.as_slice() == b"A1".as_slice()
+    let mut room = [0; 2];
+    let mut out = Counted::new(room.as_mut_slice());
+    let told = mt(alloc, &mut peer, DEVICE, 7, 1, &mut out);
+    told == 3 && room == *b"A1"
 }
 
 #[test]

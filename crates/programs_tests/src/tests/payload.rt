@@ -1,6 +1,6 @@
 //! Payloads on a medium in memory, block by block, and the clients that dump them.
 
-use super::fixture::{PayloadDumper, payload, payload_dumper};
+use super::fixture::{Payload, PayloadDumper, client, payload, payload_dumper};
 use dump_client::{Blocks, RunFault};
 use dump_files::DumperFault;
 use std::alloc::Global;
@@ -9,54 +9,48 @@ use std::test::Fail;
 /// The replies to an open, a rewind, a label and the first block of 4 bytes.
 static REPLIES: [&[u8]; 4] = [b"A0\n", b"A1\n", b"A1024\n", b"A4\n"];
 
-/// What a client sends from its first block on.
-fn send(client: &mut PayloadDumper, out: &mut Vec<u8>) -> Result<(), Fail> {
-    client.start()?;
+/// What a client that has started sends from its first block on. False where it sends nothing more.
+fn send(client: &mut PayloadDumper, out: &mut Vec<u8>) -> bool {
     for reply in REPLIES {
         out.clear();
-        client.next_request(out)?;
+        if client.next_request(out).is_err() {
+            return false;
+        }
         client.feed(reply);
     }
-    client.next_request(out)?;
-    Ok(())
+    client.next_request(out).is_ok()
 }
 
 /// Whether this client sends a block of 4 bytes, and one of 2 that is padded.
-fn sends_blocks(alloc: Global, client: &mut PayloadDumper) -> Result<bool, Fail> {
+fn sends_blocks(alloc: Global, mut client: PayloadDumper) -> bool {
     let mut sent = Vec::new(alloc);
-    send(client, &mut sent)?;
-    Ok(sent.as_slice() == b"W4\nabcdW4\nef\0\0".as_slice())
-}
-
-/// The client of a dump of six bytes in blocks of so many.
-fn six_bytes(alloc: Global, block_bytes: u64) -> Result<PayloadDumper, DumperFault> {
-    match Vec::from_slice(alloc, b"abcdef") {
-        Ok(bytes) => payload_dumper(alloc, bytes, block_bytes),
-        Err(_) => Err(DumperFault::OutOfMemory),
-    }
+    let good = client.start().is_ok() && send(&mut client, &mut sent);
+    good && sent.as_slice() == b"W4\nabcdW4\nef\0\0".as_slice()
 }
 
 #[test]
 fn a_block_and_a_padded_one(rt: HostRuntime) -> Result<(), Fail> {
-    let Ok(mut client) = six_bytes(rt.alloc(), 4) else {
-        return Err(Fail::new("no client"));
-    };
-    assert!(rt; sends_blocks(rt.alloc(), &mut client)?);
+    let client = client(rt.alloc(), 4)?;
+    assert!(rt; sends_blocks(rt.alloc(), client));
     Ok(())
 }
 
+/// Whether a payload has six bytes, and no read of it has failed.
+fn is_six_bytes(payload: &Option<Payload>) -> bool {
+    match payload {
+        Some(payload) => (payload.len(), payload.failures()) == (6, 0),
+        None => false,
+    }
+}
+
 #[test]
-fn a_length_and_no_failures(rt: HostRuntime) -> Result<(), Fail> {
-    let Some(payload) = payload(Vec::from_slice(rt.alloc(), b"abcdef")?, 4) else {
-        return Err(Fail::new("no payload"));
-    };
-    assert!(rt; (payload.len(), payload.failures()) == (6, 0));
-    Ok(())
+fn a_length_and_no_failures(rt: HostRuntime) {
+    assert!(rt; is_six_bytes(&payload(rt.alloc(), 4)));
 }
 
 /// Whether a dump in blocks of so many bytes is refused.
 fn is_refused(alloc: Global, block_bytes: u64) -> bool {
-    match six_bytes(alloc, block_bytes) {
+    match payload_dumper(alloc, block_bytes) {
         Ok(_) => false,
         Err(fault) => fault == DumperFault::Run(RunFault::BadBlockSize),
     }

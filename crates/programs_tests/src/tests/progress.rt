@@ -1,5 +1,7 @@
 //! What is shown of a dump.
 
+ghost use Rattle.std.specs.Prelude.{◌≡◌, length};
+
 use dump_client::{Blocks, ListBlocks};
 use dump_files::{Clearing, Gauge, ProgressLine, Shown};
 use std::alloc::Global;
@@ -73,9 +75,10 @@ fn is_shown(gauge: &Option<Seen>) -> bool {
     }
 }
 
-#[test]
-fn a_block_is_shown_and_read(rt: HostRuntime) -> Result<(), Fail> {
-    let payload = Vec::from_slice(rt.alloc(), b"abcdef")?;
+/// Whether the second of three blocks is shown and read.
+fn is_shown_and_read(payload: Vec<u8>) -> bool
+    requires { length payload.items ≡ 6 }
+{
     let mut gauge = Some(Seen::new());
     gauge.begin(3);
     let mut source = Shown {
@@ -84,7 +87,13 @@ fn a_block_is_shown_and_read(rt: HostRuntime) -> Result<(), Fail> {
     };
     let mut block = [0; 2];
     let read = source.read(1, &mut block) == Ok(()) && block == *b"cd" && source.failures() == 0;
-    assert!(rt; read && is_shown(&source.gauge));
+    read && is_shown(&source.gauge)
+}
+
+#[test]
+fn a_block_is_shown_and_read(rt: HostRuntime) -> Result<(), Fail> {
+    let payload = Vec::from_slice(rt.alloc(), b"abcdef")?;
+    assert!(rt; is_shown_and_read(payload));
     Ok(())
 }
 
@@ -149,14 +158,17 @@ fn is_cleared(terminal: &Option<Vec<u8>>) -> bool {
     }
 }
 
-#[test]
-fn a_line_below_progress(rt: HostRuntime) {
+/// Whether a line is written after the terminal is cleared.
+fn is_written_below(alloc: Global) -> bool {
     let mut out = Clearing {
-        lines: Vec::new(rt.alloc()),
-        terminal: Some(Vec::new(rt.alloc())),
+        lines: Vec::new(alloc),
+        terminal: Some(Vec::new(alloc)),
     };
     let written = out.write_all(b"retry?\n").is_ok();
-    assert!(rt;
-        written && out.lines.as_slice() == b"retry?\n".as_slice() && is_cleared(&out.terminal)
-    );
+    written && out.lines.as_slice() == b"retry?\n".as_slice() && is_cleared(&out.terminal)
+}
+
+#[test]
+fn a_line_below_progress(rt: HostRuntime) {
+    assert!(rt; is_written_below(rt.alloc()));
 }

@@ -51,11 +51,16 @@ fn address_of(alloc: Global, listener: &TcpListener) -> Result<String, Fail> {
     Ok(format!(in alloc; "{address}")?)
 }
 
+/// Whether a peer at the address of this listener carries a request to it.
+fn reaches(rt: &HostRuntime, listener: &TcpListener) -> Result<bool, Fail> {
+    let address = address_of(rt.alloc(), listener)?;
+    let mut peer = SocketPeer::new(rt, address.as_str());
+    Ok(carries_once(&mut peer, listener)?)
+}
+
 #[test]
 fn one_connection(rt: HostRuntime) -> Result<(), Fail> {
     let listener = TcpListener::bind(&rt, "127.0.0.1:0")?;
-    let address = address_of(rt.alloc(), &listener)?;
-    let mut peer = SocketPeer::new(&rt, address.as_str());
-    assert!(rt; carries_once(&mut peer, &listener)?);
+    assert!(rt; reaches(&rt, &listener)?);
     Ok(())
 }

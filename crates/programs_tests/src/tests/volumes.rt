@@ -1,7 +1,8 @@
 //! Volumes that are read over a peer that is told what to reply.
 
-use super::fake::{FakePeer, Replies, Short};
-use rmt_peer::{Asked, ReadFault, copy_volume, read_volume};
+use super::fake::{FakePeer, Replies};
+use super::fixture::{DEVICE, is_read};
+use rmt_peer::{Asked, ReadFault, copy_volume};
 use rmt_wire::Counted;
 use std::alloc::Global;
 use std::test::Fail;
@@ -20,22 +21,15 @@ const REPLIES: Replies<'static> = &[
     b"A0\n",
 ];
 
-/// Whether a volume is read over a peer, with its label and its records.
-fn is_read(alloc: Global) -> bool {
+/// Whether a volume is read over a peer, with its label and its records, and so much is sent.
+fn is_read_whole(alloc: Global) -> bool {
     let mut peer = FakePeer::new(alloc, &[REPLIES]);
-    let mut file = Vec::new(alloc);
-    let mut label = Vec::new(alloc);
-    let (mut out, mut printed) = (Counted::new(&mut file), Counted::new(&mut label));
-    let status = read_volume(alloc, &mut peer, b"/dev/st0", &mut out, &mut printed);
-    status == 0
-        && peer.sent.as_slice() == ALL_SENT
-        && label.as_slice() == b"one".as_slice()
-        && file.as_slice() == b"abcde".as_slice()
+    is_read(alloc, &mut peer, b"one", b"abcde") && peer.sent.as_slice() == ALL_SENT
 }
 
 #[test]
 fn a_volume(rt: HostRuntime) {
-    assert!(rt; is_read(rt.alloc()));
+    assert!(rt; is_read_whole(rt.alloc()));
 }
 
 /// What a peer replies on its one connection, and the fault that a copy of a volume finds then, where two bytes can be printed.
@@ -73,11 +67,9 @@ static FAULTS: [(&[Replies<'static>], ReadFault); 6] = [
 fn finds(alloc: Global, connections: &[Replies<'_>], fault: ReadFault) -> bool {
     let mut peer = FakePeer::new(alloc, connections);
     let mut file = Counted::new(Vec::new(alloc));
-    let mut out = Counted::new(Short {
-        taken: Vec::new(alloc),
-        room: 2,
-    });
-    copy_volume(alloc, &mut peer, b"/dev/st0", &mut file, &mut out) == Err(fault)
+    let mut room = [0; 2];
+    let mut out = Counted::new(room.as_mut_slice());
+    copy_volume(alloc, &mut peer, DEVICE, &mut file, &mut out) == Err(fault)
 }
 
 #[test]
