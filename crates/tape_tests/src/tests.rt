@@ -1,6 +1,5 @@
-//! Reels and media by tables of calls, and beside a reel that is computed plainly.
+//! Reels and media, by tables of calls that were written by hand.
 
-mod compared;
 mod entries;
 mod faults;
 mod file_medium;
@@ -9,5 +8,6 @@ mod list_reel;
 mod medium_calls;
 mod memory_medium;
 mod records;
-mod slow;
+mod reel_calls;
+mod runs;
 mod troubled_reel;

@@ -43,7 +43,7 @@ fn has_no_entry(alloc: Global, file: &[u8]) -> Result<bool, AllocError> {
 #[test]
 fn a_tail_is_no_entry(rt: HostRuntime) -> Result<(), Fail> {
     for file in &TAILS {
-        assert!(&rt; has_no_entry(rt.alloc(), file)?, "{file:?}");
+        assert!(&rt; has_no_entry(rt.alloc(), file)?);
     }
     Ok(())
 }

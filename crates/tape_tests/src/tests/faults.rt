@@ -1,8 +1,8 @@
-//! What faults print.
+//! What faults print, and which fault a failure below a reel is.
 
 use std::alloc::{AllocError, Global};
 use std::test::Fail;
-use tape::TapeFault;
+use tape::{MediumFailed, TapeFault};
 
 /// Each fault, and the name that it prints.
 static NAMES: [(TapeFault, &str); 5] = [
@@ -21,7 +21,13 @@ fn prints(alloc: Global, fault: TapeFault, name: &str) -> Result<bool, AllocErro
 #[test]
 fn faults_print_their_names(rt: HostRuntime) -> Result<(), Fail> {
     for (fault, name) in &NAMES {
-        assert!(&rt; prints(rt.alloc(), *fault, name)?, "{name}");
+        assert!(&rt; prints(rt.alloc(), *fault, name)?);
     }
     Ok(())
+}
+
+#[test]
+fn failures_below_a_reel_have_their_faults(rt: HostRuntime) {
+    assert!(rt; TapeFault::from(AllocError) == TapeFault::OutOfMemory);
+    assert!(rt; TapeFault::from(MediumFailed) == TapeFault::Device);
 }

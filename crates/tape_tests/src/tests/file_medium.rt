@@ -131,9 +131,14 @@ fn stands_on_a_file(rt: HostRuntime) -> Result<(), Fail> {
     Ok(())
 }
 
+/// Whether a medium that has no bytes frames what is added.
+fn frames(medium: &mut FileMedium) -> bool {
+    medium_answers(medium, FRAMED)
+}
+
 /// Whether a medium gives what it has read, also after another handle wrote there, until it is changed itself.
 fn keeps_what_it_read(medium: &mut FileMedium, other: &File) -> io::Result<bool> {
-    let framed = medium_answers(medium, FRAMED);
+    let framed = frames(medium);
     other.write_all_at(b"xyz", 6)?;
     let kept = medium_answers(medium, AFTER_A_WRITE);
     other.write_all_at(b"v", 7)?;

@@ -1,8 +1,9 @@
 //! Reels on bytes that were written by hand.
 
 use super::entries::TAILS;
-use super::slow::{Call, Wanted, answers};
+use super::reel_calls::{Call, Wanted, answers};
 use std::alloc::{AllocError, Global};
+use std::process::Abort;
 use std::test::Fail;
 use tape::{FileReel, MTBSF, MTBSR, MTFSF, MTFSR, MTNOP, MTWEOF, MemoryMedium, Reel, TapeFault};
 
@@ -10,7 +11,9 @@ use tape::{FileReel, MTBSF, MTBSR, MTFSF, MTFSR, MTNOP, MTWEOF, MemoryMedium, Re
 const TWO: &[u8] = b"\x03\0\0\0abc\x03\0\0\0\x02\0\0\0de\x02\0\0\0";
 
 /// What a medium has, the calls of a reel of 100 bytes on it, and what the medium has after the last.
-static RUNS: [(&[u8], &[Wanted], &[u8]); 8] = [
+type Run = (&'static [u8], &'static [Wanted], &'static [u8]);
+
+static RUNS: [Run; 8] = [
     (
         b"",
         SPELLS_A_RECORD_AND_A_MARK,
@@ -85,19 +88,28 @@ fn reel_on(alloc: Global, bytes: &[u8]) -> Result<FileReel<MemoryMedium>, AllocE
     Ok(FileReel::open(medium, 100))
 }
 
+/// Whether the reel answers each of the calls as is wanted, and the medium has these bytes afterwards.
+fn leaves(reel: &mut FileReel<MemoryMedium>, calls: &[Wanted], after: &[u8]) -> bool {
+    answers(reel, calls) && reel.medium().bytes() == after
+}
+
 /// Whether a reel on these bytes answers each of the calls as is wanted, and the medium has those afterwards.
 fn goes(alloc: Global, bytes: &[u8], calls: &[Wanted], after: &[u8]) -> Result<bool, AllocError> {
     let mut reel = reel_on(alloc, bytes)?;
-    let answered = answers(&mut reel, calls);
-    Ok(answered && reel.medium().bytes() == after)
+    Ok(leaves(&mut reel, calls, after))
+}
+
+/// Checks each of the runs.
+fn check_runs(rt: &impl Abort, alloc: Global, runs: &[Run]) -> Result<(), AllocError> {
+    for (at, (bytes, calls, after)) in runs.iter().enumerate() {
+        assert!(rt; goes(alloc, bytes, calls, after)?, "run {at}");
+    }
+    Ok(())
 }
 
 #[test]
 fn its_entries_are_what_the_medium_spells(rt: HostRuntime) -> Result<(), Fail> {
-    for (at, (bytes, calls, after)) in RUNS.iter().enumerate() {
-        assert!(&rt; goes(rt.alloc(), bytes, calls, after)?, "run {at}");
-    }
-    Ok(())
+    Ok(check_runs(&rt, rt.alloc(), &RUNS)?)
 }
 
 /// Whether a reel on these bytes has no entry, and the medium has the record `x` once that is written.
@@ -108,7 +120,7 @@ fn has_no_entry(alloc: Global, bytes: &[u8]) -> Result<bool, AllocError> {
 #[test]
 fn a_tail_has_no_entry_and_is_cut_off(rt: HostRuntime) -> Result<(), Fail> {
     for bytes in &TAILS {
-        assert!(&rt; has_no_entry(rt.alloc(), bytes)?, "{bytes:?}");
+        assert!(&rt; has_no_entry(rt.alloc(), bytes)?);
     }
     Ok(())
 }
@@ -125,9 +137,12 @@ fn is_at_fault(reel: &mut FileReel<MemoryMedium>) -> bool {
     answers(reel, WITHOUT_ROOM) && reel.medium().bytes().is_empty() && reel.failures() == 2
 }
 
+/// The same of a new reel of 100 bytes.
+fn new_reel_is_at_fault(alloc: Global) -> bool {
+    is_at_fault(&mut FileReel::open(MemoryMedium::new(alloc), 100))
+}
+
 #[test]
-fn a_medium_with_no_room_is_at_fault(rt: HostRuntime) -> Result<(), Fail> {
-    let mut reel = FileReel::open(MemoryMedium::new(rt.alloc()), 100);
-    assert!(&rt; is_at_fault(&mut reel));
-    Ok(())
+fn a_medium_with_no_room_is_at_fault(rt: HostRuntime) {
+    assert!(rt; new_reel_is_at_fault(rt.alloc()));
 }

@@ -1,11 +1,12 @@
 //! A medium in memory, by tables of calls.
 
 use super::medium_calls::{DONE, MediumCall, WantedOfMedium, medium_answers};
+use std::alloc::{AllocError, Global};
 use std::test::Fail;
 use tape::{Medium, MediumFailed, MemoryMedium};
 
 /// More bytes than any medium here has room for.
-const MANY: &[u8] = &[0; 1000];
+const MANY: &[u8] = &[0; 100];
 
 /// A medium with no room.
 static WITHOUT_ROOM: &[WantedOfMedium] = &[
@@ -52,40 +53,50 @@ fn leaves(medium: MemoryMedium, bytes: &[u8]) -> bool {
 }
 
 /// Whether a new medium fails with no room, and takes five bytes where there is room for them.
-fn takes_five(medium: &mut MemoryMedium) -> Result<bool, Fail> {
-    let none = medium_answers(medium, WITHOUT_ROOM);
-    medium.reserve(5)?;
-    Ok(none && medium_answers(medium, WITH_ROOM_FOR_FIVE) && medium.bytes() == b"axyzw".as_slice())
+fn takes_five(medium: &mut MemoryMedium) -> bool {
+    medium_answers(medium, WITHOUT_ROOM)
+        && medium.reserve(5).is_ok()
+        && medium_answers(medium, WITH_ROOM_FOR_FIVE)
+        && medium.bytes() == b"axyzw".as_slice()
+}
+
+/// The same of a new medium, which gives its last bytes back.
+fn new_medium_takes_five(alloc: Global) -> bool {
+    let mut medium = MemoryMedium::new(alloc);
+    takes_five(&mut medium) && leaves(medium, b"axyzw")
 }
 
 #[test]
-fn fails_with_no_room(rt: HostRuntime) -> Result<(), Fail> {
-    let mut medium = MemoryMedium::new(rt.alloc());
-    let taken = takes_five(&mut medium)?;
-    let left = leaves(medium, b"axyzw");
-    assert!(&rt; taken && left);
-    Ok(())
+fn fails_with_no_room(rt: HostRuntime) {
+    assert!(rt; new_medium_takes_five(rt.alloc()));
 }
 
 /// Whether a new medium frames nothing with no room, and bytes where there is room for them.
-fn frames_three(medium: &mut MemoryMedium) -> Result<bool, Fail> {
-    let refused = medium.append_framed(b"()", b"") == Err(MediumFailed);
-    medium.reserve(7)?;
-    Ok(refused && medium_answers(medium, WITH_ROOM_FOR_SEVEN))
+fn frames_three(medium: &mut MemoryMedium) -> bool {
+    medium.append_framed(b"()", b"") == Err(MediumFailed)
+        && medium.reserve(7).is_ok()
+        && medium_answers(medium, WITH_ROOM_FOR_SEVEN)
+}
+
+/// The same of a new medium, which gives its last bytes back.
+fn new_medium_frames_three(alloc: Global) -> bool {
+    let mut medium = MemoryMedium::new(alloc);
+    frames_three(&mut medium) && leaves(medium, b"()abc()")
 }
 
 #[test]
-fn frames_what_has_its_room(rt: HostRuntime) -> Result<(), Fail> {
-    let mut medium = MemoryMedium::new(rt.alloc());
-    let framed = frames_three(&mut medium)?;
-    let left = leaves(medium, b"()abc()");
-    assert!(&rt; framed && left);
-    Ok(())
+fn frames_what_has_its_room(rt: HostRuntime) {
+    assert!(rt; new_medium_frames_three(rt.alloc()));
+}
+
+/// Whether a medium on the given bytes answers as is wanted.
+fn answers_on_given_bytes(alloc: Global) -> Result<bool, AllocError> {
+    let bytes = b"hello".to_vec(alloc)?;
+    Ok(medium_answers(&mut MemoryMedium::from_bytes(bytes), ON_GIVEN_BYTES))
 }
 
 #[test]
 fn stands_on_given_bytes(rt: HostRuntime) -> Result<(), Fail> {
-    let mut medium = MemoryMedium::from_bytes(b"hello".to_vec(rt.alloc())?);
-    assert!(&rt; medium_answers(&mut medium, ON_GIVEN_BYTES));
+    assert!(&rt; answers_on_given_bytes(rt.alloc())?);
     Ok(())
 }

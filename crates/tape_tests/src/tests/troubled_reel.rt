@@ -1,48 +1,17 @@
-//! Reels whose next device call fails: tables of calls, and every call with every trouble on every short list of entries,
-//! beside the slow reel.
+//! Reels whose next device call fails, by tables of calls.
 
 ghost use Rattle.std.specs.Prelude.{◌≡◌, ◌≢◌};
 ghost use Rattle.tape.specs.Tape.{IsRecord, WriteStep, done_answer};
 ghost use Rattle.tape.specs.declared.fault.TapeFault.TheVariants.{Device};
 ghost use Rattle.tape.specs.declared.trouble.Trouble.TheVariants.{None};
 
-use super::compared::{self, Compared, compare_places, count_entries, make_both, write_both};
-use super::slow::{Call, SlowReel, Wanted, answers};
+use super::reel_calls::{Call, Wanted, answers};
 use std::alloc::Global;
 use std::process::Abort;
-use std::test::Fail;
 use tape::{
     ListReel, MTBSF, MTBSR, MTFSF, MTFSR, MTNOP, MTREW, MTWEOF, Reel, TapeFault, Trouble,
     TroubledReel, device_steps,
 };
-
-/// The capacities that troubles are compared at: all fits, and what follows the first entries does not.
-static CAPACITIES: [u64; 2] = [1000, 26];
-
-/// Each kind of trouble.
-static TROUBLES: [Trouble; 7] = [
-    Trouble::None,
-    Trouble::Kept,
-    Trouble::Lost,
-    Trouble::Written(0),
-    Trouble::Written(1),
-    Trouble::Written(2),
-    Trouble::Written(9),
-];
-
-impl Compared for TroubledReel {
-    fn told(&self, i: usize, into: &mut [u8; 8]) -> Option<usize> {
-        self.entry(i, into)
-    }
-
-    fn set_next(&mut self, trouble: Trouble) {
-        self.set(trouble);
-    }
-
-    fn troubles(&self) -> (Trouble, u64) {
-        (self.next_trouble(), self.failures())
-    }
-}
 
 /// What a caller learns of a write where it has set no trouble.
 fn write_untroubled(reel: &mut TroubledReel, bytes: &[u8]) -> Result<(), TapeFault>
@@ -66,22 +35,34 @@ const WRITE: Call = Call::Write(b"x");
 
 const MARKS: Call = Call::Op(MTWEOF, 3);
 
-static FAILURES: [Failure; 17] = [
+static FAILURES: [Failure; 24] = [
     // A failed write leaves what its trouble says.
     (1, WRITE, Trouble::Kept, ALL),
     (1, WRITE, Trouble::Lost, &[b"abc"]),
     (1, WRITE, Trouble::Written(0), &[b"abc"]),
     (1, WRITE, Trouble::Written(1), &[b"abc", b"x"]),
     (1, WRITE, Trouble::Written(7), &[b"abc", b"x"]),
+    (0, WRITE, Trouble::Lost, &[]),
+    (2, WRITE, Trouble::Kept, ALL),
+    (2, WRITE, Trouble::Lost, ALL),
+    (2, WRITE, Trouble::Written(u32::MAX), &[b"abc", b"de", b"x"]),
     // So do failed marks.
     (0, MARKS, Trouble::Written(2), &[b"", b""]),
     (0, MARKS, Trouble::Written(9), &[b"", b"", b""]),
     (0, MARKS, Trouble::Written(0), &[]),
     (0, MARKS, Trouble::Lost, &[]),
     (1, MARKS, Trouble::Kept, ALL),
+    (1, MARKS, Trouble::Lost, &[b"abc"]),
     (1, MARKS, Trouble::Written(1), &[b"abc", b""]),
+    (
+        2,
+        MARKS,
+        Trouble::Written(3),
+        &[b"abc", b"de", b"", b"", b""],
+    ),
     // Other failed calls leave all.
     (0, Call::Read(8), Trouble::Lost, ALL),
+    (1, Call::Read(0), Trouble::Written(9), ALL),
     (2, Call::Read(8), Trouble::Kept, ALL),
     (0, Call::Op(MTFSF, 1), Trouble::Lost, ALL),
     (1, Call::Op(MTBSF, 2), Trouble::Written(1), ALL),
@@ -101,30 +82,54 @@ fn answers_one(reel: &mut TroubledReel, call: Wanted) -> bool {
     answers(reel, &[call])
 }
 
+/// Whether this trouble is set, and so many device calls have failed.
+fn is_in(reel: &TroubledReel, trouble: Trouble, failures: u64) -> bool {
+    reel.next_trouble() == trouble && reel.failures() == failures
+}
+
+/// The first of the bytes, with dots behind them.
+fn front_of(bytes: &[u8]) -> [u8; 4] {
+    let mut front = *b"....";
+    let count = bytes.len().min(4);
+    front[..count].copy_from_slice(&bytes[..count]);
+    front
+}
+
+/// Whether this is told of the entry of that number, and a buffer of four dots begins with these bytes then.
+fn tells(reel: &TroubledReel, i: usize, wanted: Option<usize>, bytes: &[u8]) -> bool {
+    let mut into = *b"....";
+    reel.entry(i, &mut into) == wanted && into == front_of(bytes)
+}
+
 /// Whether these are the entries of the reel; one of no bytes is a mark.
 fn has(reel: &TroubledReel, wanted: &[&[u8]]) -> bool {
     for (at, bytes) in wanted.iter().enumerate() {
-        if !compared::tells(reel, at, bytes) {
+        if !tells(reel, at, Some(bytes.len()), bytes) {
             return false;
         }
     }
-    count_entries(reel) == wanted.len()
+    tells(reel, wanted.len(), None, b"")
 }
 
-/// Whether the reel stands there: behind a mark that is written there stands nothing.
-fn stands_at(reel: &mut TroubledReel, place: u32) -> bool {
+/// Whether the reel stands there: a mark that is written there is the last entry.
+fn stands_at(reel: &mut TroubledReel, place: usize) -> bool {
     let marked = answers_one(reel, (Call::Op(MTWEOF, 1), Ok(b"")));
-    let last = place as usize;
-    marked && compared::tells(reel, last, b"") && count_entries(reel) == last.saturating_add(1)
+    marked && tells(reel, place, Some(0), b"") && tells(reel, place.saturating_add(1), None, b"")
+}
+
+/// Whether the device is at fault in the call at the place, with the trouble.
+fn fails(reel: &mut TroubledReel, place: u32, request: Call, trouble: Trouble) -> bool {
+    let there = answers(reel, ABC_AND_DE) && answers_one(reel, (Call::Op(MTFSR, place), Ok(b"")));
+    reel.set(trouble);
+    there && answers_one(reel, (request, Err(TapeFault::Device)))
 }
 
 /// Whether the device is at fault in the call, the place is the same, and the entries are as is wanted.
 fn leaves(reel: &mut TroubledReel, (place, request, trouble, wanted): Failure) -> bool {
-    let written = answers(reel, ABC_AND_DE) && answers_one(reel, (Call::Op(MTFSR, place), Ok(b"")));
-    reel.set(trouble);
-    let failed = answers_one(reel, (request, Err(TapeFault::Device)));
-    let left = reel.troubles() == (Trouble::None, 1) && has(reel, wanted);
-    written && failed && left && stands_at(reel, place)
+    fails(reel, place, request, trouble)
+        && is_in(reel, Trouble::None, 1)
+        && has(reel, wanted)
+        && stands_at(reel, place as usize)
 }
 
 /// The same of a new reel.
@@ -132,12 +137,16 @@ fn new_reel_leaves(alloc: Global, failure: Failure) -> bool {
     leaves(&mut TroubledReel::new(ListReel::new(alloc, 1000)), failure)
 }
 
-#[test]
-fn a_failed_call_leaves_what_its_trouble_says(rt: HostRuntime) -> Result<(), Fail> {
-    for (at, failure) in FAILURES.iter().enumerate() {
-        assert!(&rt; new_reel_leaves(rt.alloc(), *failure), "failure {at}");
+/// Checks each of the failures.
+fn check_failures(rt: &impl Abort, alloc: Global, failures: &[Failure]) {
+    for (at, failure) in failures.iter().enumerate() {
+        assert!(rt; new_reel_leaves(alloc, *failure), "failure {at}");
     }
-    Ok(())
+}
+
+#[test]
+fn a_failed_call_leaves_what_its_trouble_says(rt: HostRuntime) {
+    check_failures(&rt, rt.alloc(), &FAILURES);
 }
 
 /// Calls of a full reel that come to no device, whatever its trouble.
@@ -160,36 +169,26 @@ static WAITING: &[Wanted] = &[
 fn waits(reel: &mut TroubledReel) -> bool {
     let written = answers_one(reel, (Call::Write(b"a"), Ok(b"")));
     reel.set(Trouble::Lost);
-    written && answers(reel, WAITING) && reel.troubles() == (Trouble::Lost, 0)
+    written && answers(reel, WAITING) && is_in(reel, Trouble::Lost, 0)
 }
 
 /// Whether a trouble fails the next device call of the reel, and no other.
 fn fails_once(reel: &mut TroubledReel) -> bool {
     reel.set(Trouble::Kept);
     let failed = answers_one(reel, (Call::Read(8), Err(TapeFault::Device)));
-    let told = reel.troubles() == (Trouble::None, 1);
+    let told = is_in(reel, Trouble::None, 1);
     failed && told && answers_one(reel, (Call::Read(8), Ok(b"a"))) && reel.failures() == 1
 }
 
+/// Whether a trouble of a new reel waits, and the next one fails once.
+fn new_reel_waits(alloc: Global) -> bool {
+    let mut reel = TroubledReel::new(ListReel::new(alloc, 13));
+    waits(&mut reel) && fails_once(&mut reel)
+}
+
 #[test]
-fn a_trouble_waits_for_a_device_call(rt: HostRuntime) -> Result<(), Fail> {
-    let mut reel = TroubledReel::new(ListReel::new(rt.alloc(), 13));
-    assert!(&rt; waits(&mut reel));
-    assert!(&rt; fails_once(&mut reel));
-    Ok(())
-}
-
-/// Whether this is told of the entry of that number, and a buffer of four dots is this one then.
-fn tells(reel: &TroubledReel, i: usize, wanted: Option<usize>, after: &[u8; 4]) -> bool {
-    let mut into = *b"....";
-    reel.entry(i, &mut into) == wanted && into == *after
-}
-
-/// Whether a mark and the record `ab` are told of a reel.
-fn tells_both(reel: &TroubledReel) -> bool {
-    tells(reel, 0, Some(0), b"....")
-        && tells(reel, 2, None, b"....")
-        && tells(reel, 1, Some(2), b"ab..")
+fn a_trouble_waits_for_a_device_call(rt: HostRuntime) {
+    assert!(rt; new_reel_waits(rt.alloc()));
 }
 
 /// A mark and the record `ab`.
@@ -202,14 +201,17 @@ static A_MARK_AND_AB: &[Wanted] = &[
 fn tells_in_trouble(reel: &mut TroubledReel) -> bool {
     let written = answers(reel, A_MARK_AND_AB);
     reel.set(Trouble::Lost);
-    written && tells_both(reel) && reel.troubles() == (Trouble::Lost, 0)
+    written && has(reel, &[b"", b"ab"]) && is_in(reel, Trouble::Lost, 0)
+}
+
+/// The same of a new reel of 100 bytes.
+fn new_reel_tells(alloc: Global) -> bool {
+    tells_in_trouble(&mut TroubledReel::new(ListReel::new(alloc, 100)))
 }
 
 #[test]
-fn tells_entries_while_a_trouble_is_set(rt: HostRuntime) -> Result<(), Fail> {
-    let mut reel = TroubledReel::new(ListReel::new(rt.alloc(), 100));
-    assert!(&rt; tells_in_trouble(&mut reel));
-    Ok(())
+fn tells_entries_while_a_trouble_is_set(rt: HostRuntime) {
+    assert!(rt; new_reel_tells(rt.alloc()));
 }
 
 /// The calls of a reel with the record `abc`, behind that.
@@ -219,74 +221,21 @@ static BEHIND_ABC: &[Wanted] = &[
     (Call::Read(2), Ok(b"ab")),
 ];
 
-#[test]
-fn a_reel_with_no_trouble_is_one_in_memory(rt: HostRuntime) -> Result<(), Fail> {
-    let mut reel = TroubledReel::new(ListReel::new(rt.alloc(), 100));
-    device_steps();
+/// Whether a new reel with no trouble writes `abc`, and answers as is wanted behind that.
+fn new_reel_writes(alloc: Global) -> bool {
+    let mut reel = TroubledReel::new(ListReel::new(alloc, 100));
     let written = write_untroubled(&mut reel, b"abc").is_ok();
-    let answered = answers(&mut reel, BEHIND_ABC);
-    assert!(&rt; written && answered && reel.failures() == 0);
-    Ok(())
-}
-
-/// Makes the call so many times at the place of a list of so many entries, of which those that are 1 in `shape` are
-/// marks, with the trouble set.
-fn compare_after(
-    rt: &impl Abort,
-    alloc: Global,
-    (capacity, length, shape): (u64, usize, u32),
-    place: usize,
-    (call, trouble): (Call, Trouble),
-    times: u32,
-) {
-    let mut reel = TroubledReel::new(ListReel::new(alloc, capacity));
-    let mut slow = SlowReel::new(alloc, capacity);
-    write_both(rt, &mut reel, &mut slow, (length, shape), place);
-    reel.set(trouble);
-    slow.set(trouble);
-    for _ in 0..times {
-        make_both(rt, &mut reel, &mut slow, call);
-    }
-    compare_places(rt, &mut reel, &mut slow);
-}
-
-/// Compares what the call leaves at the place of the list, and what it does once more.
-fn compare_from(
-    rt: &impl Abort,
-    alloc: Global,
-    list: (u64, usize, u32),
-    place: usize,
-    made: (Call, Trouble),
-) {
-    compare_after(rt, alloc, list, place, made, 1);
-    compare_after(rt, alloc, list, place, made, 2);
-}
-
-/// Compares every call at the place of the list, with each trouble.
-fn compare_calls(rt: &impl Abort, alloc: Global, list: (u64, usize, u32), place: usize) {
-    for trouble in &TROUBLES {
-        compare_after(rt, alloc, list, place, (Call::Rewind, *trouble), 0);
-        for call in [Call::Write(b"x"), Call::Read(2), Call::Rewind] {
-            compare_from(rt, alloc, list, place, (call, *trouble));
-        }
-        for op in 0..=8 {
-            for count in 0..=3 {
-                compare_from(rt, alloc, list, place, (Call::Op(op, count), *trouble));
-            }
-        }
-    }
+    written && answers(&mut reel, BEHIND_ABC) && reel.failures() == 0
 }
 
 #[test]
-fn fails_as_the_slow_reel_does(rt: HostRuntime) -> Result<(), Fail> {
-    for capacity in &CAPACITIES {
-        for (length, shapes) in [1, 2, 4, 8].iter().enumerate() {
-            for shape in 0..*shapes {
-                for place in 0..=length.saturating_add(1) {
-                    compare_calls(&rt, rt.alloc(), (*capacity, length, shape), place);
-                }
-            }
-        }
-    }
-    Ok(())
+fn a_reel_with_no_trouble_is_one_in_memory(rt: HostRuntime) {
+    device_steps();
+    assert!(rt; new_reel_writes(rt.alloc()));
+}
+
+/// Whether a new reel of this capacity, with no trouble, answers the calls as is wanted and has none afterwards.
+pub(crate) fn goes(alloc: Global, capacity: u64, calls: &[Wanted]) -> bool {
+    let mut reel = TroubledReel::new(ListReel::new(alloc, capacity));
+    answers(&mut reel, calls) && is_in(&reel, Trouble::None, 0)
 }
