@@ -1,4 +1,4 @@
-use Rattle.std.proofs.Common.{◌≡◌, ◌+◌, ◌-◌, ◌++◌, length, take, drop, sym, subst, arith, length-drop}
+use Rattle.std.proofs.Common.{rules, ◌≡◌, ◌+◌, ◌-◌, ◌++◌, length, take, drop, sym, subst, arith, length-drop}
 use Rattle.std.proofs.Math.Seq.{take-add}
 use Rattle.std.proofs.lemmas.List.{take_all}
 use Rattle.std.proofs.KnownBytes.{Appends-trans}
@@ -15,3 +15,6 @@ loop-at-preserved g c = record {
       (Appends-trans _ _ _ (take c.loop-at.at c.args.text.now) (take c.in-Ok.n (drop c.loop-at.at c.args.text.now)) c.loop-at.invariant.written (rw rest at c.in-Ok.ensures.bytes));
   failures = let f = c.in-Ok.ensures.took_some (omega arith) in cc;
 }
+
+pub returns-in-Err : goal.returns-in-Err
+returns-in-Err g c = search rules

@@ -15,3 +15,6 @@ loop-all-preserved g c =
       subst (All (λ s. length s.rows ≡ length c.args.words.now)) (sym c.in_ok-push.ensures.items) counted,
       subst (All (λ s. s ≡ stacks_of c.args.words.now c.args.bin.now c.args.capacity)) (sym c.in_ok-push.ensures.items) named,
     )
+
+pub returns-clause-count : goal.returns-clause-count
+returns-clause-count g c = search rules

@@ -16,3 +16,6 @@ returns-in-Ok-clause-same_blocks g c = same_blocks (returns-in-Ok-clause-read g 
 
 pub returns-in-Ok-clause-given : goal.returns-in-Ok-clause-given
 returns-in-Ok-clause-given g c blocks held = gives_block (Ok tt) (returns-in-Ok-clause-read g c) blocks held (c.requires blocks held)
+
+pub returns-in_default-clause-counted : goal.returns-in_default-clause-counted
+returns-in_default-clause-counted g c = search rules
