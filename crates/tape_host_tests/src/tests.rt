@@ -74,7 +74,7 @@ fn ended_sides_take_nothing(rt: HostRuntime) -> Result<(), Fail> {
 /// Bytes that are pushed, how the device call of the request fails, whether its reply is lost, and what was asked and answered.
 type Row<'a> = (&'a [u8], Trouble, bool, Asked, Answered);
 
-/// A record is written, a second one meets a device failure, and the reply to marks behind the first is lost. Then the record is
+/// A record is written, a second one meets a device failure, and the reply to marks after the first is lost. Then the record is
 /// read back.
 static ROWS: [Row<'_>; 6] = [
     (
@@ -137,7 +137,7 @@ fn rows_are_met(host: &mut Host, back: &mut Vec<u8>) -> bool {
     met && back.as_slice() == REPLIES
 }
 
-/// The beginning of a read, a byte in it that is no digit, and a request behind it.
+/// The beginning of a read, a byte in it that is no digit, and a request after it.
 static ENDING: [(&[u8], Turn); 3] = [
     (b"R9", Turn::Nothing),
     (b"x", Turn::Broken(WireFault::BadNumber)),

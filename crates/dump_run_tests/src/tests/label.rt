@@ -3,7 +3,7 @@
 use dump_run::{Run, label};
 use std::process::Abort;
 
-/// These are the lines of the label, and all behind them are zero bytes.
+/// These are the lines of the label, and all after them are zero bytes.
 fn check_lines(rt: &impl Abort, label: &[u8], lines: &[&[u8]]) {
     let mut rest = label;
     for line in lines {

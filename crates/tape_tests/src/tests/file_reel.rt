@@ -53,7 +53,7 @@ const HAS_NO_ENTRY: &[Wanted] = &[
     (Call::Write(b"x"), Ok(b"")),
 ];
 
-/// A torn record behind a mark is ignored.
+/// A torn record after a mark is ignored.
 const HAS_A_MARK: &[Wanted] = &[
     (Call::Op(MTFSF, 1), Ok(b"")),
     (Call::Op(MTFSR, 1), Err(TapeFault::EndOrMark)),

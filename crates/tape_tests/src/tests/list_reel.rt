@@ -26,7 +26,7 @@ pub(crate) fn goes(alloc: Global, capacity: u64, calls: &[Wanted]) -> bool {
 /// The number of an entry, what is told of it, and what a buffer of so many dots has then.
 type Told = (usize, Option<usize>, &'static [u8]);
 
-/// The last record behind a record `abc` and a mark, and what is told of the three.
+/// The last record after a record `abc` and a mark, and what is told of the three.
 type Entries = (&'static [u8], &'static [Told]);
 
 static TOLD: [Entries; 2] = [

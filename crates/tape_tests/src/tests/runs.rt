@@ -162,7 +162,7 @@ const SPACES_OVER_RECORDS_FROM_EACH_PLACE: &[Wanted] = &[
     (Call::Op(MTFSR, 2), Ok(b"")),
     (Call::Op(MTFSR, 1), Err(TapeFault::EndOrMark)),
     (Call::Read(8), Ok(b"d")),
-    // The beginning, and the mark behind `a`.
+    // The beginning, and the mark after `a`.
     (Call::Rewind, Ok(b"")),
     (Call::Op(MTBSR, 1), Err(TapeFault::EndOrMark)),
     (Call::Op(MTFSR, 1), Ok(b"")),

@@ -87,7 +87,7 @@ fn is_in(reel: &TroubledReel, trouble: Trouble, failures: u64) -> bool {
     reel.next_trouble() == trouble && reel.failures() == failures
 }
 
-/// The first of the bytes, with dots behind them.
+/// The first of the bytes, with dots after them.
 fn front_of(bytes: &[u8]) -> [u8; 4] {
     let mut front = *b"....";
     let count = bytes.len().min(4);
@@ -214,14 +214,14 @@ fn tells_entries_while_a_trouble_is_set(rt: HostRuntime) {
     assert!(rt; new_reel_tells(rt.alloc()));
 }
 
-/// The calls of a reel with the record `abc`, behind that.
+/// The calls of a reel with the record `abc`, after that.
 static BEHIND_ABC: &[Wanted] = &[
     (Call::Op(MTWEOF, 1), Ok(b"")),
     (Call::Op(MTBSF, 2), Err(TapeFault::EndOrMark)),
     (Call::Read(2), Ok(b"ab")),
 ];
 
-/// Whether a new reel with no trouble writes `abc`, and answers as is wanted behind that.
+/// Whether a new reel with no trouble writes `abc`, and answers as is wanted after that.
 fn new_reel_writes(alloc: Global) -> bool {
     let mut reel = TroubledReel::new(ListReel::new(alloc, 100));
     let written = write_untroubled(&mut reel, b"abc").is_ok();
