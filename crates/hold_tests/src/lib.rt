@@ -1,4 +1,4 @@
-//! Tests of `hold_table`, by its public calls and below sessions. They stand here so that `hold_table` is proved once.
+//! Tests of `hold_table`, by its public calls. They stand here so that `hold_table` is proved once.
 #![tactic(auto)]
 
 #[cfg(test)]

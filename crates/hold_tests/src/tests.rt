@@ -4,5 +4,3 @@ mod law;
 mod pair;
 mod race;
 mod rows;
-mod seats;
-mod sessions;

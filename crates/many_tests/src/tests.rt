@@ -2,8 +2,6 @@
 
 mod at;
 mod at_once;
-mod broken;
 mod crowd;
-mod folders;
 mod streams;
 mod table;

@@ -1,59 +1,10 @@
 //! More pairs than seats.
 
-use super::streams::{Counts, Gated, TURNS, Told, reaches};
+use super::streams::{Counts, Gated, Told, reaches};
 use super::table::serve_pairs;
 use rmt_many::Incoming;
 use std::sync::atomic::{AtomicU64, Ordering};
 use std::test::Fail;
-
-/// So many pairs, of one request each. Each comes when 16 of those before have not ended at most, so that a seat is free.
-#[derive(Drop)]
-struct OneByOne<'a> {
-    left: u64,
-    given: u64,
-    counts: &'a Counts,
-    sign: &'a AtomicU64,
-}
-
-impl<'a> Incoming for OneByOne<'a> {
-    type In = Gated<'a>;
-
-    type Out = Told<'a>;
-
-    ghost is_over = { λ _. Unit {0} };
-
-    fn next(&mut self) -> Option<(Gated<'a>, Told<'a>)> {
-        self.left = self.left.checked_sub(1)?;
-        reaches(&self.counts.ended, self.given.saturating_sub(16), TURNS);
-        self.given = self.given.saturating_add(1);
-        let input = Gated {
-            early: b"C\n",
-            late: b"",
-            sign: self.sign,
-            wanted: 0,
-            turns: TURNS,
-        };
-        let output = Told {
-            counts: self.counts,
-        };
-        Some((input, output))
-    }
-}
-
-/// Far more pairs than seats, of which each comes when a seat is free: each is answered.
-#[test]
-fn seats_serve_again(rt: HostRuntime) -> Result<(), Fail> {
-    let (counts, sign) = (Counts::new(), AtomicU64::new(0));
-    let pairs = OneByOne {
-        left: 200,
-        given: 0,
-        counts: &counts,
-        sign: &sign,
-    };
-    serve_pairs(&rt, rt.alloc(), pairs)?;
-    assert!(rt; counts.all() == (0, 200, 200));
-    Ok(())
-}
 
 /// 32 pairs of two requests, the second after a sign; one when each of them has answered its first; and, after the sign, one
 /// when all of them have ended.
@@ -72,12 +23,12 @@ impl<'a> Full<'a> {
         match self.given {
             0..=31 => Some(self.seated),
             32 => {
-                reaches(&self.seated.errors, 32, TURNS);
+                reaches(&self.seated.errors, 32);
                 Some(self.past)
             }
             33 => {
                 self.sign.store(1, Ordering::SeqCst);
-                reaches(&self.seated.ended, 32, TURNS);
+                reaches(&self.seated.ended, 32);
                 Some(self.last)
             }
             _ => None,
@@ -100,7 +51,6 @@ impl<'a> Incoming for Full<'a> {
             late: b"C\n",
             sign: self.sign,
             wanted: 1,
-            turns: TURNS,
         };
         Some((input, Told { counts }))
     }

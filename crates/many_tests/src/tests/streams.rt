@@ -5,11 +5,11 @@ use std::sync::atomic::{AtomicU64, Ordering};
 use std::thread;
 
 /// How often a stream lets others run before it gives up.
-pub(crate) const TURNS: u32 = 1_000_000;
+const TURNS: u32 = 1_000_000;
 
-/// Whether the count comes to so many, while others are let run so often.
-pub(crate) fn reaches(count: &AtomicU64, wanted: u64, turns: u32) -> bool {
-    for _ in 0..turns {
+/// Whether the count comes to so many, while others are let run.
+pub(crate) fn reaches(count: &AtomicU64, wanted: u64) -> bool {
+    for _ in 0..TURNS {
         if count.load(Ordering::SeqCst) >= wanted {
             return true;
         }
@@ -25,7 +25,6 @@ pub(crate) struct Gated<'a> {
     pub(crate) late: &'static [u8],
     pub(crate) sign: &'a AtomicU64,
     pub(crate) wanted: u64,
-    pub(crate) turns: u32,
 }
 
 impl Read for Gated<'_> {
@@ -33,7 +32,7 @@ impl Read for Gated<'_> {
         if !self.early.is_empty() {
             return self.early.read(buf);
         }
-        if self.late.is_empty() || reaches(self.sign, self.wanted, self.turns) {
+        if self.late.is_empty() || reaches(self.sign, self.wanted) {
             return self.late.read(buf);
         }
         Err(ErrorKind::TimedOut.into())

@@ -4,18 +4,16 @@ ghost use Rattle.std.specs.Prelude.{◌≡◌, ◌+◌, IfOk, None, OnOk, All, l
 ghost use Rattle.drives.specs.Holding.{HoldsJust};
 ghost use Rattle.hold_table.specs.Seats.{IsSeatAt};
 
-use drives::{DriveTable, ListStacks};
-use hold_table::{HoldSeat, HoldTable, TableHand};
-use rmt_many::{Incoming, serve_at, serve_many};
-use rmt_wire::Counted;
+use drives::ListStacks;
+use hold_table::{HoldSeat, HoldTable};
+use rmt_many::{Incoming, serve_many};
 use std::alloc::Global;
-use std::io::{Read, Write};
 use std::sync::Wait;
 use std::test::Fail;
 use std::thread::Threads;
 
 /// A table of the drives `/dev/st0` and `/dev/st1`.
-fn two_words(alloc: Global) -> Result<(HoldTable, Vec<HoldSeat>), Fail>
+pub(crate) fn two_words(alloc: Global) -> Result<(HoldTable, Vec<HoldSeat>), Fail>
     ensures drives { IfOk result (λ made. made.0.words ≡ 2) }
     ensures count { IfOk result (λ made. length made.1.items ≡ 32) }
     ensures idle { IfOk result (λ made. All (λ s. IsSeatAt made.0 s × HoldsJust s.view None) made.1.items) }
@@ -33,7 +31,7 @@ fn add(stacks: &mut ListStacks, device: &[u8], reel: &[u8]) -> Result<(), Fail>
 }
 
 /// The drives `/dev/st0` and `/dev/st1`, with one empty reel each.
-fn two_drives(alloc: Global) -> Result<ListStacks, Fail>
+pub(crate) fn two_drives(alloc: Global) -> Result<ListStacks, Fail>
     ensures { IfOk result (λ stacks. length stacks.shop.racks ≡ 2) }
 {
     let mut stacks = ListStacks::new(alloc);
@@ -52,40 +50,6 @@ fn all_stacks(alloc: Global) -> Result<Vec<ListStacks>, Fail>
         all.push(two_drives(alloc)?)?;
     }
     Ok(all)
-}
-
-/// The table of the drives `/dev/st0` and `/dev/st1`, and the seats 1 and 2.
-pub(crate) fn two_seats(alloc: Global) -> Result<(HoldTable, HoldSeat, HoldSeat), Fail>
-    ensures drives { IfOk result (λ made. made.0.words ≡ 2) }
-    ensures first { IfOk result (λ made. IsSeatAt made.0 made.1 × HoldsJust made.1.view None) }
-    ensures second { IfOk result (λ made. IsSeatAt made.0 made.2 × HoldsJust made.2.view None) }
-{
-    let (table, seats) = HoldTable::new(alloc, 2)?;
-    let mut seats = seats.into_iter();
-    let (Some(first), Some(second)) = (seats.next(), seats.next()) else {
-        return Err(Fail::new("no seat"));
-    };
-    Ok((table, first, second))
-}
-
-/// Serves a pair at this seat, and at two drives of its own.
-pub(crate) fn serve_pair<I: Read + Drop, O: Write + Drop>(
-    alloc: Global,
-    table: &HoldTable,
-    seat: HoldSeat,
-    input: I,
-    output: O,
-) -> Result<(), Fail>
-    requires words { table.now.words ≡ 2 }
-    requires own { IsSeatAt table.now seat }
-    requires idle { HoldsJust seat.view None }
-{
-    let stacks = two_drives(alloc)?;
-    let holds = TableHand { table };
-    let drives = DriveTable { holds, stacks };
-    let (mut input, mut output) = (Counted::new(input), Counted::new(output));
-    serve_at(alloc, drives, seat, &mut input, &mut output);
-    Ok(())
 }
 
 /// Serves pairs at two drives, each pair in a thread of its own.
