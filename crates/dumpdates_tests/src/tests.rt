@@ -1,8 +1,7 @@
-//! Texts, lists and dates that were worked out by hand, each byte at each place of a line, and each day of the calendar.
+//! Texts, lists and dates that were worked out by hand.
 
 mod calls;
 mod days;
-mod lines;
 mod lists;
 mod memory;
 mod rows;

@@ -12,11 +12,6 @@ pub(crate) fn expect(rt: &impl Abort, is_so: bool, what: &str) {
     assert!(rt; is_so, "{what}");
 }
 
-/// The same at one of some bytes, rows, dates or years.
-pub(crate) fn expect_at(rt: &impl Abort, is_so: bool, at: u64) {
-    assert!(rt; is_so, "at {at}");
-}
-
 /// Enters a dump into a list. Whether that is an entry, and was done.
 pub(crate) fn enter(dates: &mut Dates, (name, level, date): Row) -> bool {
     match Entry::new(name, level, date) {
@@ -58,14 +53,6 @@ pub(crate) fn holds(dates: &Dates, entries: &[Row]) -> bool {
 pub(crate) fn has_text(dates: &Dates, wanted: &[u8]) -> bool {
     match dates.text() {
         Ok(text) => text.as_slice() == wanted,
-        Err(_) => false,
-    }
-}
-
-/// Whether the bytes are read as a list that is written as this text.
-pub(crate) fn is_read_as(alloc: Global, bytes: &[u8], wanted: &[u8]) -> bool {
-    match Dates::read(alloc, bytes) {
-        Ok(dates) => has_text(&dates, wanted),
         Err(_) => false,
     }
 }

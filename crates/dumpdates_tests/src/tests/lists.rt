@@ -1,6 +1,6 @@
 //! Base dates of lists, and what lists hold once an entry is entered.
 
-use super::calls::{Row, dates_of, enter, expect, expect_at, has_text, holds};
+use super::calls::{Row, enter, expect, holds};
 use dumpdates::{Dates, LAST_SECOND};
 use std::alloc::Global;
 use std::process::Abort;
@@ -45,8 +45,8 @@ fn has_base(alloc: Global, (file, name, level, base): Base) -> bool {
 }
 
 fn check_bases(rt: &impl Abort, alloc: Global, rows: &[Base]) {
-    for (at, row) in rows.iter().enumerate() {
-        expect_at(rt, has_base(alloc, *row), at as u64);
+    for row in rows {
+        expect(rt, has_base(alloc, *row), row.1);
     }
 }
 
@@ -70,7 +70,7 @@ const DOUBLES: &str = "/a 1 Thu Jan  1 00:00:10 1970\n\
 /// A file, an entry, and what the file's list holds once it is entered.
 type Entering = (&'static str, Row, &'static [Row]);
 
-static ENTERED: [Entering; 10] = [
+static ENTERED: [Entering; 11] = [
     // another name or another level, at the end
     ("", ("/a", 1, 99), &[("/a", 1, 99)]),
     (
@@ -93,6 +93,11 @@ static ENTERED: [Entering; 10] = [
         SINGLES,
         ("/a", 2, 99),
         &[("/a", 1, 10), ("/a", 2, 99), ("/b", 1, 30)],
+    ),
+    (
+        TWO_LEVELS,
+        ("/usr", 0, 951868800),
+        &[("/usr", 0, 951868800), ("/usr", 1, 951868800)],
     ),
     // an earlier date
     (
@@ -146,41 +151,12 @@ fn is_entered(alloc: Global, (file, entry, wanted): Entering) -> bool {
 }
 
 fn check_entered(rt: &impl Abort, alloc: Global, rows: &[Entering]) {
-    for (at, row) in rows.iter().enumerate() {
-        expect_at(rt, is_entered(alloc, *row), at as u64);
+    for row in rows {
+        expect(rt, is_entered(alloc, *row), row.1.0);
     }
 }
 
 #[test]
 fn entries_are_entered(rt: HostRuntime) {
     check_entered(&rt, rt.alloc(), &ENTERED);
-}
-
-/// Three entries, and their text when the second one was entered anew.
-static PLACES: [Row; 3] = [
-    ("/usr", 0, 951782400),
-    ("/usr", 1, 951782400),
-    ("/home", 0, 0),
-];
-
-const KEPT_PLACES: &[u8] = b"/usr                             0 Tue Feb 29 00:00:00 2000\n\
-/usr                             1 Wed Mar  1 00:00:00 2000\n\
-/home                            0 Thu Jan  1 00:00:00 1970\n";
-
-/// Whether it has that text once the entry is entered.
-fn is_kept(dates: &mut Dates) -> bool {
-    enter(dates, ("/usr", 1, 951868800)) && has_text(dates, KEPT_PLACES)
-}
-
-/// Whether the three entries keep their places, at a second time too.
-fn keeps_places(alloc: Global) -> bool {
-    match dates_of(alloc, &PLACES) {
-        Some(mut dates) => is_kept(&mut dates) && is_kept(&mut dates),
-        None => false,
-    }
-}
-
-#[test]
-fn entering_keeps_places(rt: HostRuntime) {
-    expect(&rt, keeps_places(rt.alloc()), "three entries");
 }

@@ -1,6 +1,6 @@
 //! Texts, entries and dates that were worked out by hand.
 
-use super::calls::{Row, dates_of, expect, expect_at, has_fault, has_text, holds, is_entry};
+use super::calls::{Row, dates_of, expect, has_fault, has_text, holds};
 use dumpdates::{
     Dates, DatesFault, Entry, LAST_SECOND, is_name, one_entry, one_reading, written_and_read,
 };
@@ -32,15 +32,15 @@ a                                3 Tue Feb 29 12:34:56 2000\n\
     (&[], ""),
 ];
 
-/// Whether a list of the entries is written as the text.
+/// Whether a list of the entries is written as the text, and the text is read as them.
 fn is_written(alloc: Global, (entries, text): Written) -> bool {
     match dates_of(alloc, entries) {
-        Some(dates) => has_text(&dates, text.as_bytes()),
+        Some(dates) => has_text(&dates, text.as_bytes()) && is_spelled(alloc, (text, entries)),
         None => false,
     }
 }
 
-fn check_written(rt: &impl Abort, alloc: Global, rows: &[Written]) {
+pub(super) fn check_written(rt: &impl Abort, alloc: Global, rows: &[Written]) {
     for row in rows {
         expect(rt, is_written(alloc, *row), row.1);
     }
@@ -54,7 +54,7 @@ fn entries_are_written(rt: HostRuntime) {
 /// A text, and the entries that it spells.
 type Spelled = (&'static str, &'static [Row]);
 
-static SPELLED: [Spelled; 13] = [
+static SPELLED: [Spelled; 14] = [
     ("a 0 Mon Jan 1 00:00:00 1970", &[("a", 0, 0)]),
     ("a 0 Thu Jan  1 00:00:00 1970\n", &[("a", 0, 0)]),
     ("a 0 Thu Jan 01 00:00:00 1970\n", &[("a", 0, 0)]),
@@ -74,6 +74,16 @@ static SPELLED: [Spelled; 13] = [
         &[("/usr", 0, 100), ("/usr", 0, 50)],
     ),
     ("~!x 9 Fri Dec 31 23:59:59 9999", &[("~!x", 9, LAST_SECOND)]),
+    (
+        "/usr 0 Tue Feb 29 00:00:00 2000\n\n\
+a 9 Thu Jan 1 00:00:00 1970\n\
+/usr 0 Fri Dec 31 23:59:59 9999",
+        &[
+            ("/usr", 0, 951782400),
+            ("a", 9, 0),
+            ("/usr", 0, LAST_SECOND),
+        ],
+    ),
 ];
 
 /// Whether the text is read as just these entries.
@@ -98,7 +108,7 @@ fn texts_are_read(rt: HostRuntime) {
 /// A text, and its fault.
 type Bad = (&'static str, DatesFault);
 
-static BAD: [Bad; 10] = [
+static BAD: [Bad; 67] = [
     ("a 10 Thu Jan 1 00:00:00 1970", DatesFault::BadLine(1)),
     ("a 0 Thu Jan 1 00:00:00 1970 +0000", DatesFault::BadLine(1)),
     (
@@ -115,6 +125,65 @@ static BAD: [Bad; 10] = [
         "a 0 Thu Jan 1 00:00:00 1970\n\na 0 Thu Jan 0 00:00:00 1970\nx\n",
         DatesFault::BadDate(3),
     ),
+    // other words than an entry has
+    ("a", DatesFault::BadLine(1)),
+    ("a 0", DatesFault::BadLine(1)),
+    ("a 0 Thu Jan 1 00:00:00", DatesFault::BadLine(1)),
+    ("a 0 Thu Jan 1 00:00:00 1970 x", DatesFault::BadLine(1)),
+    ("a 00 Thu Jan 1 00:00:00 1970", DatesFault::BadLine(1)),
+    ("a -1 Thu Jan 1 00:00:00 1970", DatesFault::BadLine(1)),
+    ("a x Thu Jan 1 00:00:00 1970", DatesFault::BadLine(1)),
+    ("a 0 thu Jan 1 00:00:00 1970", DatesFault::BadLine(1)),
+    ("a 0 Thursday Jan 1 00:00:00 1970", DatesFault::BadLine(1)),
+    ("a 0 Thu jan 1 00:00:00 1970", DatesFault::BadLine(1)),
+    ("a 0 Thu 01 1 00:00:00 1970", DatesFault::BadLine(1)),
+    ("a 0 Thu Jan 001 00:00:00 1970", DatesFault::BadLine(1)),
+    ("a 0 Thu Jan x 00:00:00 1970", DatesFault::BadLine(1)),
+    ("a 0 Thu Jan 1 0:00:00 1970", DatesFault::BadLine(1)),
+    ("a 0 Thu Jan 1 00:00 1970", DatesFault::BadLine(1)),
+    ("a 0 Thu Jan 1 00.00.00 1970", DatesFault::BadLine(1)),
+    ("a 0 Thu Jan 1 000000 1970", DatesFault::BadLine(1)),
+    ("a 0 Thu Jan 1 00:00:00: 1970", DatesFault::BadLine(1)),
+    ("a 0 Thu Jan 1 00:00:00 970", DatesFault::BadLine(1)),
+    ("a 0 Thu Jan 1 00:00:00 01970", DatesFault::BadLine(1)),
+    ("a 0 Thu Jan 1 00:00:00 +970", DatesFault::BadLine(1)),
+    ("a 0 Thu Jan 1 00:00:00 1970\r", DatesFault::BadLine(1)),
+    ("a\u{e9} 0 Thu Jan 1 00:00:00 1970", DatesFault::BadLine(1)),
+    ("a\u{7f} 0 Thu Jan 1 00:00:00 1970", DatesFault::BadLine(1)),
+    ("a0 Thu Jan 1 00:00:00 1970", DatesFault::BadLine(1)),
+    ("a 0Thu Jan 1 00:00:00 1970", DatesFault::BadLine(1)),
+    ("a 0 ThuJan 1 00:00:00 1970", DatesFault::BadLine(1)),
+    ("a 0 Thu Jan1 00:00:00 1970", DatesFault::BadLine(1)),
+    ("a 0 Thu Jan 100:00:00 1970", DatesFault::BadLine(1)),
+    ("a 0 Thu Jan 1 00:00:001970", DatesFault::BadLine(1)),
+    (" 0 Thu Jan 1 00:00:00 1970", DatesFault::BadLine(1)),
+    ("a Thu Jan 1 00:00:00 1970", DatesFault::BadLine(1)),
+    ("a 0 Jan 1 00:00:00 1970", DatesFault::BadLine(1)),
+    ("a 0 Thu 1 00:00:00 1970", DatesFault::BadLine(1)),
+    ("a 0 Thu Jan 00:00:00 1970", DatesFault::BadLine(1)),
+    ("a 0 Thu Jan 1 1970", DatesFault::BadLine(1)),
+    ("a 0 Th Jan 1 00:00:00 1970", DatesFault::BadLine(1)),
+    ("a 0 Thu Ja 1 00:00:00 1970", DatesFault::BadLine(1)),
+    ("a 0 Thu Jan 1 00:0:00 1970", DatesFault::BadLine(1)),
+    ("a 0 Thu Jan 1 00:00:0 1970", DatesFault::BadLine(1)),
+    ("a b 0 Thu Jan 1 00:00:00 1970", DatesFault::BadLine(1)),
+    ("a 0 Thu January 1 00:00:00 1970", DatesFault::BadLine(1)),
+    ("a 0 Thu Jan 1 1 00:00:00 1970", DatesFault::BadLine(1)),
+    ("a 0 Thu Jan 1 000:00:00 1970", DatesFault::BadLine(1)),
+    ("a 0 Thu Jan 1 00::00:00 1970", DatesFault::BadLine(1)),
+    ("a 0 Thu Jan 1 00:00:000 1970", DatesFault::BadLine(1)),
+    ("a 0 Thu Jan 1 00:00:00 19 70", DatesFault::BadLine(1)),
+    // dates that are none
+    ("a 0 Thu Jan 0 00:00:00 1970", DatesFault::BadDate(1)),
+    ("a 0 Thu Jan 32 00:00:00 1970", DatesFault::BadDate(1)),
+    ("a 0 Thu Apr 31 00:00:00 1970", DatesFault::BadDate(1)),
+    ("a 0 Thu Jan 1 24:00:00 1970", DatesFault::BadDate(1)),
+    ("a 0 Thu Jan 1 00:60:00 1970", DatesFault::BadDate(1)),
+    ("a 0 Thu Jan 1 00:00:60 1970", DatesFault::BadDate(1)),
+    ("a 0 Thu Jan 1 00:00:00 1969", DatesFault::BadDate(1)),
+    ("a 0 Thu Jan 1 00:00:00 0000", DatesFault::BadDate(1)),
+    ("a 0 Thu Feb 29 00:00:00 1900", DatesFault::BadDate(1)),
+    ("a 0 Thu Feb 29 00:00:00 2001", DatesFault::BadDate(1)),
 ];
 
 fn check_bad(rt: &impl Abort, alloc: Global, rows: &[Bad]) {
@@ -129,108 +198,55 @@ fn what_is_bad_is_told_by_its_line(rt: HostRuntime) {
     check_bad(&rt, rt.alloc(), &BAD);
 }
 
-/// A name, a level and a date, and whether they are an entry.
-type Limit = (&'static str, u8, u64, bool);
+/// A name of as many bytes as one can have, and one with a byte too many.
+const LONGEST: &str = "nnnnnnnnnnnnnnnnnnnnnnnnnnnnnnnnnnnnnnnnnnnnnnnnnnnnnnnnnnnnnnnn\
+nnnnnnnnnnnnnnnnnnnnnnnnnnnnnnnnnnnnnnnnnnnnnnnnnnnnnnnnnnnnnnnn\
+nnnnnnnnnnnnnnnnnnnnnnnnnnnnnnnnnnnnnnnnnnnnnnnnnnnnnnnnnnnnnnnn\
+nnnnnnnnnnnnnnnnnnnnnnnnnnnnnnnnnnnnnnnnnnnnnnnnnnnnnnnnnnnnnnn";
 
-static LIMITS: [Limit; 4] = [
-    ("!~", 0, 0, true),
-    ("a", 9, LAST_SECOND, true),
-    ("a", 10, 0, false),
-    ("a", 0, LAST_SECOND + 1, false),
+const LONGER: &str = "nnnnnnnnnnnnnnnnnnnnnnnnnnnnnnnnnnnnnnnnnnnnnnnnnnnnnnnnnnnnnnnn\
+nnnnnnnnnnnnnnnnnnnnnnnnnnnnnnnnnnnnnnnnnnnnnnnnnnnnnnnnnnnnnnnn\
+nnnnnnnnnnnnnnnnnnnnnnnnnnnnnnnnnnnnnnnnnnnnnnnnnnnnnnnnnnnnnnnn\
+nnnnnnnnnnnnnnnnnnnnnnnnnnnnnnnnnnnnnnnnnnnnnnnnnnnnnnnnnnnnnnnn";
+
+/// A name, a level and a date, whether the first is a name, and whether they are an entry.
+type Judged = (&'static str, u8, u64, bool, bool);
+
+static JUDGED: [Judged; 18] = [
+    ("/usr", 3, 951827696, true, true),
+    ("!", 0, 0, true, true),
+    ("~", 0, 0, true, true),
+    ("!~", 0, 0, true, true),
+    ("a", 9, LAST_SECOND, true, true),
+    ("a", 10, 0, true, false),
+    ("a", 0, LAST_SECOND + 1, true, false),
+    ("", 0, 0, false, false),
+    (" ", 0, 0, false, false),
+    ("a b", 0, 0, false, false),
+    ("a\t", 0, 0, false, false),
+    ("a\n", 0, 0, false, false),
+    ("a\0", 0, 0, false, false),
+    ("\u{7f}", 0, 0, false, false),
+    ("\u{e9}", 0, 0, false, false),
+    ("\u{e9}", 9, LAST_SECOND, false, false),
+    (LONGEST, 9, LAST_SECOND, true, true),
+    (LONGER, 0, 0, false, false),
 ];
 
-/// Whether they are an entry or none, as it should be.
-fn is_limit((name, level, date, good): Limit) -> bool {
-    Entry::new(name, level, date).is_some() == good
+/// Whether they are judged so.
+fn is_judged((name, level, date, a_name, an_entry): Judged) -> bool {
+    is_name(name.as_bytes()) == a_name && Entry::new(name, level, date).is_some() == an_entry
 }
 
-fn check_limits(rt: &impl Abort, rows: &[Limit]) {
+fn check_judged(rt: &impl Abort, rows: &[Judged]) {
     for row in rows {
-        expect_at(rt, is_limit(*row), row.2);
+        expect(rt, is_judged(*row), row.0);
     }
 }
 
 #[test]
-fn entries_within_their_limits(rt: HostRuntime) {
-    assert!(rt; is_entry(Entry::new("/usr", 3, 951827696), ("/usr", 3, 951827696)));
-    check_limits(&rt, &LIMITS);
-}
-
-/// Names, and whether each is one.
-static NAMES: [(&str, bool); 12] = [
-    ("/usr", true),
-    ("!", true),
-    ("~", true),
-    ("!~", true),
-    ("a", true),
-    ("", false),
-    (" ", false),
-    ("a b", false),
-    ("a\t", false),
-    ("a\n", false),
-    ("\u{7f}", false),
-    ("\u{e9}", false),
-];
-
-/// Whether a name is taken or refused so, here and in an entry.
-fn is_judged(name: &str, good: bool) -> bool {
-    is_name(name.as_bytes()) == good
-        && Entry::new(name, 0, 0).is_some() == good
-        && Entry::new(name, 9, LAST_SECOND).is_some() == good
-}
-
-fn check_names(rt: &impl Abort, rows: &[(&str, bool)]) {
-    for row in rows {
-        expect(rt, is_judged(row.0, row.1), row.0);
-    }
-}
-
-#[test]
-fn names_that_are_some_and_none(rt: HostRuntime) {
-    check_names(&rt, &NAMES);
-    assert!(rt; !is_name(&[255]) && !is_name(&[b'a', 0]));
-}
-
-/// A name with one byte too many.
-static LONGER: [u8; 256] = [b'n'; 256];
-
-/// Whether bytes are text that is taken or refused so.
-fn are_judged(bytes: &[u8], good: bool) -> bool {
-    match std::str::from_utf8(bytes) {
-        Ok(name) => is_judged(name, good),
-        Err(_) => false,
-    }
-}
-
-#[test]
-fn names_of_255_and_256_bytes(rt: HostRuntime) {
-    assert!(rt; are_judged(&LONGER[..255], true) && are_judged(&LONGER, false));
-}
-
-/// The fields of three entries, by their places.
-static FIELDS: [Row; 3] = [
-    ("/usr", 0, 951782400),
-    ("a", 9, 0),
-    ("/usr", 0, LAST_SECOND),
-];
-
-const THREE: &str = "/usr 0 Tue Feb 29 00:00:00 2000\n\n\
-a 9 Thu Jan 1 00:00:00 1970\n\
-/usr 0 Fri Dec 31 23:59:59 9999";
-
-/// Whether a text's list has the three by their places, and none after the last.
-fn has_fields(alloc: Global, text: &[u8]) -> bool {
-    match Dates::read(alloc, text) {
-        Ok(dates) => holds(&dates, &FIELDS) && dates.get(usize::MAX).is_none(),
-        Err(_) => false,
-    }
-}
-
-/// Each entry by its place, and none after the last.
-#[test]
-fn entries_by_their_places(rt: HostRuntime) {
-    assert!(rt; has_fields(rt.alloc(), THREE.as_bytes()));
-    assert!(rt; Dates::new(rt.alloc()).len() == 0);
+fn names_and_entries_within_their_limits(rt: HostRuntime) {
+    check_judged(&rt, &JUDGED);
 }
 
 #[test]

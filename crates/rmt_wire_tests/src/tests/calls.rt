@@ -7,11 +7,11 @@ use super::checked::{same, same_text};
 use super::fake::{Fake, Trouble};
 use rmt_wire::{Counted, Reply, write_reply};
 use std::alloc::Global;
-use std::io::{ErrorKind, Write};
+use std::io::ErrorKind;
 use std::process::Abort;
 
 /// It took these bytes in so many calls.
-fn check_taken(rt: &impl Abort, fake: &Fake, want: &[u8], calls: usize) {
+pub(super) fn check_taken(rt: &impl Abort, fake: &Fake, want: &[u8], calls: usize) {
     same_text(rt, &fake.taken, want);
     same(rt, fake.calls, calls);
 }
@@ -46,50 +46,34 @@ pub(super) fn check_text(
     check_calls(rt, alloc, 1, reply, want, want.len());
 }
 
-/// Writing the reply is an output fault, and one failure is counted.
-pub(super) fn check_failed<W: Write>(rt: &impl Abort, out: &mut Counted<W>) {
-    let is_failed = write_reply(out, &Reply::Data { bytes: b"abc" }).is_err();
-    assert!(rt; is_failed && out.failures() == 1);
-}
+/// How many bytes a stream takes a call, how many calls come before the one that fails so, and what was taken then.
+type Failure = (usize, usize, Trouble, &'static [u8]);
 
-/// How many bytes a stream takes a call, how many calls come before the one that fails, and what was taken then.
-type Failure = (usize, usize, &'static [u8]);
-
-static FAILURES: [Failure; 8] = [
-    (1, 0, b""),
-    (1, 1, b"A"),
-    (1, 2, b"A3"),
-    (1, 3, b"A3\n"),
-    (1, 4, b"A3\na"),
-    (1, 5, b"A3\nab"),
-    (1000, 0, b""),
-    (1000, 1, b"A3\n"),
+static FAILURES: [Failure; 10] = [
+    (1, 0, Trouble::TakesNone, b""),
+    (1, 1, Trouble::Failure(ErrorKind::BrokenPipe), b"A"),
+    (1, 2, Trouble::Failure(ErrorKind::Interrupted), b"A3"),
+    (1, 3, Trouble::TakesNone, b"A3\n"),
+    (1, 4, Trouble::Failure(ErrorKind::BrokenPipe), b"A3\na"),
+    (1, 5, Trouble::Failure(ErrorKind::Interrupted), b"A3\nab"),
+    (1000, 0, Trouble::Failure(ErrorKind::Interrupted), b""),
+    (1000, 0, Trouble::TakesNone, b""),
+    (1000, 1, Trouble::Failure(ErrorKind::BrokenPipe), b"A3\n"),
+    (1000, 1, Trouble::TakesNone, b"A3\n"),
 ];
 
-static TROUBLES: [Trouble; 3] = [
-    Trouble::Failure(ErrorKind::Interrupted),
-    Trouble::Failure(ErrorKind::BrokenPipe),
-    Trouble::TakesNone,
-];
-
-/// Where one call fails so it is the last.
-fn check_failure(rt: &impl Abort, alloc: Global, failure: &Failure, trouble: Trouble) {
-    let (piece, before, taken) = *failure;
+/// Where one call fails so it is the last, and the one failure that is counted.
+fn check_failure(rt: &impl Abort, alloc: Global, failure: &Failure) {
+    let (piece, before, trouble, taken) = *failure;
     let mut out = Counted::new(Fake::new(alloc, piece, before, 1, trouble));
-    check_failed(rt, &mut out);
+    let is_failed = write_reply(&mut out, &Reply::Data { bytes: b"abc" }).is_err();
+    assert!(rt; is_failed && out.failures() == 1);
     check_taken(rt, &out.into_inner(), taken, before.saturating_add(1));
-}
-
-/// The same of each trouble.
-fn check_troubles(rt: &impl Abort, alloc: Global, failure: &Failure) {
-    for trouble in &TROUBLES {
-        check_failure(rt, alloc, failure, *trouble);
-    }
 }
 
 #[test]
 fn nothing_is_written_after_a_failed_write(rt: HostRuntime) {
     for failure in &FAILURES {
-        check_troubles(&rt, rt.alloc(), failure);
+        check_failure(&rt, rt.alloc(), failure);
     }
 }

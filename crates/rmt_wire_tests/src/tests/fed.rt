@@ -1,4 +1,4 @@
-//! A reader of requests, fed a stream in one piece and byte by byte.
+//! A reader of requests, fed a stream in two pieces.
 
 use super::checked::expect_of;
 use super::listener::Next;
@@ -36,7 +36,7 @@ fn compared(wanted: Option<&Request<'_>>, request: &Request<'_>) -> Next {
 }
 
 /// What a reader gives next, where this is wanted.
-pub(super) fn next_of(reader: &mut RequestReader, wanted: Option<&Request<'_>>) -> Next {
+fn next_of(reader: &mut RequestReader, wanted: Option<&Request<'_>>) -> Next {
     match reader.next() {
         Ok(Some(request)) => compared(wanted, &request),
         Ok(None) => Next::None(None),
@@ -45,7 +45,7 @@ pub(super) fn next_of(reader: &mut RequestReader, wanted: Option<&Request<'_>>) 
 }
 
 /// Whether a reader has so many bytes unread.
-pub(super) fn holds(reader: &RequestReader, count: usize) -> bool {
+fn holds(reader: &RequestReader, count: usize) -> bool {
     reader.room().saturating_add(count) == 65548 && reader.is_empty() == (count == 0)
 }
 
@@ -87,16 +87,6 @@ impl Fed {
         count == piece.len() && self.next(requests) == Next::None(shown(fault, self.pushed))
     }
 
-    /// The same of each byte of the stream.
-    fn takes_each(&mut self, row: &Row<'_>) -> bool {
-        for byte in row.0 {
-            if !self.takes(&[*byte], row) {
-                return false;
-            }
-        }
-        true
-    }
-
     /// Whether all was given then, the rest is unread, and a fault stays, whatever is pushed.
     fn ends(&mut self, row: &Row<'_>) -> bool {
         let (_, requests, rest, fault) = *row;
@@ -114,36 +104,11 @@ fn shown(fault: Option<(WireFault, usize)>, len: usize) -> Option<WireFault> {
     }
 }
 
-/// It gives what is in the row where the stream comes in one piece.
-fn check_whole(rt: &impl Abort, fed: &mut Fed, row: &Row<'_>) {
-    let is_well = fed.takes(row.0, row) && fed.ends(row);
-    expect_of(rt, is_well, "in one piece", row.0);
-}
-
-/// The same where it comes byte by byte.
-fn check_each(rt: &impl Abort, fed: &mut Fed, row: &Row<'_>) {
-    let is_well = fed.takes_each(row) && fed.ends(row);
-    expect_of(rt, is_well, "byte by byte", row.0);
-}
-
-/// A reader gives what is in the row.
+/// A reader gives what is in the row, where the stream comes in two pieces.
 pub(super) fn check_row(rt: &impl Abort, alloc: Global, row: &Row<'_>) -> Result<(), Fail> {
-    check_whole(rt, &mut Fed::new(alloc)?, row);
-    check_each(rt, &mut Fed::new(alloc)?, row);
+    let mut fed = Fed::new(alloc)?;
+    let (first, second) = row.0.split_at(row.0.len() / 2);
+    let is_well = fed.takes(first, row) && fed.takes(second, row) && fed.ends(row);
+    expect_of(rt, is_well, "a stream", row.0);
     Ok(())
-}
-
-/// A reader takes a piece whole, and gives this request then, or none.
-pub(super) fn check_piece(
-    rt: &impl Abort,
-    reader: &mut RequestReader,
-    piece: &[u8],
-    wanted: Option<Request<'_>>,
-) {
-    let next = match wanted {
-        Some(_) => Next::Wanted,
-        None => Next::None(None),
-    };
-    let is_well = reader.push(piece) == piece.len() && next_of(reader, wanted.as_ref()) == next;
-    expect_of(rt, is_well, "a piece", piece);
 }

@@ -1,14 +1,11 @@
 //! Requests and replies as they are appended, by hand.
-ghost use Rattle.std.specs.Prelude.{◌≤◌, length};
 ghost use Rattle.rmt_wire.specs.Lent.{plain_reply, plain_request};
 ghost use Rattle.rmt_wire.specs.Reply.{ReplyHasSpelling};
 ghost use Rattle.rmt_wire.specs.Request.{HasSpelling};
 
 use super::checked::same_text;
-use super::joined::joined;
 use rmt_wire::{Reply, Request, push_reply, push_request};
-use std::alloc::{AllocError, Global};
-use std::process::Abort;
+use std::alloc::AllocError;
 use std::test::Fail;
 
 /// Appends a request, of which no more is to be known.
@@ -53,45 +50,10 @@ fn each_kind_of_request(rt: HostRuntime) -> Result<(), Fail> {
     Ok(())
 }
 
-/// Appends an open of the longest device, and a write of these data.
-fn ask_both(out: &mut Vec<u8>, data: &[u8]) -> Result<(), AllocError>
-    requires { length data.now ≤ 65536 }
-{
-    let device = &[b'd'; 255];
-    let mode = 2147483647;
-    ask(out, Request::Open { device, mode })?;
-    ask(out, Request::Write { bytes: data })
-}
-
-/// What both are to be.
-fn text_of_both(alloc: Global, data: &[u8]) -> Result<Vec<u8>, AllocError> {
-    let device = &[b'd'; 255];
-    joined(alloc, &[b"O", device, b"\n2147483647\nW65536\n", data])
-}
-
-/// Both are appended as in this text.
-fn check_both(rt: &impl Abort, out: &mut Vec<u8>, data: &[u8], text: &[u8]) -> Result<(), Fail>
-    requires { length data.now ≤ 65536 }
-{
-    ask_both(out, data)?;
-    same_text(rt, out, text);
-    Ok(())
-}
-
-#[test]
-fn the_longest_device_and_the_largest_write(rt: HostRuntime) -> Result<(), Fail> {
-    let alloc = rt.alloc();
-    let data = vec![in alloc; b'\n'; 65536]?;
-    let text = text_of_both(alloc, &data)?;
-    check_both(&rt, &mut Vec::new(alloc), &data, &text)
-}
-
-/// Appends each kind, and the greatest number.
+/// Appends each kind.
 fn say_each(out: &mut Vec<u8>) -> Result<(), AllocError> {
     say(out, Reply::Done { number: 0 })?;
     say(out, Reply::Data { bytes: b"ab\n" })?;
-    say(out, Reply::Data { bytes: b"" })?;
-    say(out, Reply::Done { number: 2147483647 })?;
     let text = b"Device busy";
     say(out, Reply::Error { number: 16, text })
 }
@@ -100,7 +62,7 @@ fn say_each(out: &mut Vec<u8>) -> Result<(), AllocError> {
 fn each_kind_of_reply(rt: HostRuntime) -> Result<(), Fail> {
     let mut out = Vec::new(rt.alloc());
     say_each(&mut out)?;
-    let text = b"A0\nA3\nab\nA0\nA2147483647\nE16\nDevice busy\n".as_slice();
+    let text = b"A0\nA3\nab\nE16\nDevice busy\n".as_slice();
     same_text(&rt, &out, text);
     Ok(())
 }

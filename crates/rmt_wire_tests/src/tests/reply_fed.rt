@@ -8,9 +8,6 @@ use std::process::Abort;
 /// What is waited for, what comes then, and the reply that this is.
 pub(super) type Exchange<'a> = (Wanted, &'a [u8], Reply<'a>);
 
-/// How many bytes are held at most, where none is left out.
-pub(super) const ALL: usize = 65548;
-
 /// Whether it gives this reply, and then none, with nothing unread.
 fn gives(reader: &mut Listener, reply: Reply<'_>) -> bool {
     reader.next(Some(reply)) == Next::Wanted
@@ -29,10 +26,10 @@ fn takes(reader: &mut Listener, byte: u8, held: usize) -> bool {
     reader.push(&[byte]) == 1 && reader.next(None) == Next::None(None) && reader.holds(held)
 }
 
-/// Whether it takes each byte of a beginning, of which it holds so many at most.
-pub(super) fn begins(reader: &mut Listener, begun: &[u8], most: usize) -> bool {
+/// Whether it takes each byte of a beginning.
+fn begins(reader: &mut Listener, begun: &[u8]) -> bool {
     for (at, byte) in begun.iter().enumerate() {
-        if !takes(reader, *byte, at.saturating_add(1).min(most)) {
+        if !takes(reader, *byte, at.saturating_add(1)) {
             return false;
         }
     }
@@ -40,24 +37,19 @@ pub(super) fn begins(reader: &mut Listener, begun: &[u8], most: usize) -> bool {
 }
 
 /// Whether it waits for the reply and gives it, where that comes byte by byte.
-fn is_given_by_bytes(reader: &mut Listener, exchange: &Exchange<'_>, most: usize) -> bool {
+fn is_given_by_bytes(reader: &mut Listener, exchange: &Exchange<'_>) -> bool {
     let (wanted, bytes, reply) = *exchange;
     let Some((last, begun)) = bytes.split_last() else {
         return false;
     };
     reader.wait(wanted)
-        && begins(reader, begun, most)
+        && begins(reader, begun)
         && reader.push(&[*last]) == 1
         && gives(reader, reply)
 }
 
-/// A reader gives the reply, of which it holds so many bytes at most before it is whole.
-pub(super) fn check_exchange(
-    rt: &impl Abort,
-    reader: &mut Listener,
-    exchange: &Exchange<'_>,
-    most: usize,
-) {
-    let is_given = is_given_whole(reader, exchange) && is_given_by_bytes(reader, exchange, most);
+/// A reader gives the reply.
+pub(super) fn check_exchange(rt: &impl Abort, reader: &mut Listener, exchange: &Exchange<'_>) {
+    let is_given = is_given_whole(reader, exchange) && is_given_by_bytes(reader, exchange);
     expect_of(rt, is_given, "a reply", exchange.1);
 }

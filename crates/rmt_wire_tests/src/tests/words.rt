@@ -1,7 +1,10 @@
 //! The printed names of faults, and the laws of the grammar.
 
 use super::checked::expect;
-use rmt_wire::{OutputFault, WireFault, one_reading, short_replies};
+use rmt_wire::{
+    OutputFault, WireFault, dropped_writes, long_texts, one_reading, one_reply, one_reply_reading,
+    short_replies,
+};
 use std::alloc::Global;
 use std::fmt::Display;
 use std::process::Abort;
@@ -44,5 +47,9 @@ fn names_of_faults(rt: HostRuntime) -> Result<(), Fail> {
 #[test]
 fn laws_are_called() {
     one_reading();
+    dropped_writes();
+    one_reply();
+    one_reply_reading();
     short_replies();
+    long_texts();
 }
