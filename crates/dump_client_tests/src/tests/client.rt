@@ -1,165 +1,153 @@
 //! Whole attempts and runs of a client, with what it tells at each moment.
 
-use super::play::Move::{
-    Asks, AsksStep, CannotStart, CannotTake, Fails, Goes, Hears, HearsIt, Stands, Starts, Takes,
-    Tells, Writes,
-};
-use super::play::{Case, Move, ONCE, check_case, check_cases};
+use super::play::Move::{Asks, AsksNot, Goes, Hears, Stands, Starts, Takes, Tells, Writes};
+use super::play::{Case, Dumped, Move, USR, check_cases};
 use super::script::Volume::{
-    AllThree, FirstBlock, FirstTwo, GreatestBlocks, LastBlock, NoBlocks, SmallBlocks,
+    FirstBlock, FirstTwo, GreatestBlocks, LastBlock, NoBlocks, SmallBlocks,
 };
-use super::talk::Dumped;
-use dump_client::Progress::{Ended, Send};
-use dump_client::{Answer, AttemptFault, State};
+use super::script::{EMPTY, TWO, TWO_AND_ONE};
+use dump_client::Progress::{Ended, Failed, Send};
+use dump_client::{Answer, AttemptFault, StartFault, State};
 use std::test::Fail;
+
+/// The client is in another state.
+const WRONG: Result<(), StartFault> = Err(StartFault::WrongState);
 
 const WITHOUT_BLOCKS: &[Move] = &[
     Writes(NoBlocks),
     Stands(State::Ready, &[], (1, 0)),
-    Starts,
+    Starts(Ok(())),
     Stands(State::ToSend, &[], (1, 0)),
-    Asks(b"O/dev/st0\n2\n"),
+    Asks(0),
     Stands(State::Waiting, &[], (1, 0)),
     Hears(b"A0\n", Send),
     Stands(State::ToSend, &[], (1, 0)),
-    Asks(b"I5\n1\n"),
+    Asks(1),
     Stands(State::Waiting, &[], (1, 0)),
     Hears(b"A1\n", Send),
     Stands(State::ToSend, &[], (1, 0)),
-    AsksStep(2),
+    Asks(2),
     Stands(State::Waiting, &[], (1, 0)),
     Hears(b"A1024\n", Send),
     Stands(State::ToSend, &[], (1, 0)),
-    Asks(b"I0\n1\n"),
+    Asks(3),
     Stands(State::Waiting, &[], (1, 0)),
     Hears(b"A1\n", Send),
-    Asks(b"I6\n1\n"),
+    Asks(4),
     Stands(State::Waiting, &[], (1, 0)),
     Hears(b"A1\n", Send),
-    Stands(State::ToSend, &[(1, 0, 0)], (2, 0)),
-    Asks(b"C\n"),
-    Stands(State::Waiting, &[(1, 0, 0)], (2, 0)),
+    Stands(State::ToSend, &[EMPTY], (2, 0)),
+    Asks(5),
+    Stands(State::Waiting, &[EMPTY], (2, 0)),
     Hears(b"A0\n", Ended),
-    Stands(State::Finished, &[(1, 0, 0)], (2, 0)),
+    Stands(State::Finished, &[EMPTY], (2, 0)),
     Tells("/usr", 0, 951782400),
 ];
 
 /// The reel has room for the label alone.
 const TOO_SMALL: &[Move] = &[
     Writes(FirstBlock),
-    Starts,
+    Starts(Ok(())),
     Goes(0, 3),
-    AsksStep(3),
-    Fails(b"A0\n", AttemptFault::ReelTooSmall),
+    Asks(3),
+    Hears(b"A0\n", Failed(AttemptFault::ReelTooSmall)),
+    AsksNot(Ok(false)),
     Stands(State::Asking, &[], (1, 0)),
-    CannotStart,
+    Starts(WRONG),
     Stands(State::Asking, &[], (1, 0)),
-    Takes(Answer::Retry),
+    Takes(Answer::Retry, Ok(())),
     Stands(State::Ready, &[], (1, 0)),
-    Starts,
-    Asks(b"O/dev/st0\n2\n"),
+    Starts(Ok(())),
+    Asks(0),
 ];
 
 const ABANDONED: &[Move] = &[
     Writes(FirstBlock),
-    Starts,
+    Starts(Ok(())),
     Goes(0, 3),
-    AsksStep(3),
-    Fails(b"A0\n", AttemptFault::ReelTooSmall),
-    Takes(Answer::Abandon),
+    Asks(3),
+    Hears(b"A0\n", Failed(AttemptFault::ReelTooSmall)),
+    AsksNot(Ok(false)),
+    Takes(Answer::Abandon, Ok(())),
     Stands(State::Abandoned, &[], (1, 0)),
-    CannotStart,
-    CannotTake,
+    Starts(WRONG),
+    Takes(Answer::Retry, WRONG),
+    Takes(Answer::Abandon, WRONG),
 ];
 
 /// An attempt starts only where none is under way, and is answered for only where it failed.
 const IN_A_WRONG_STATE: &[Move] = &[
-    CannotTake,
-    Starts,
-    CannotStart,
-    CannotTake,
+    Takes(Answer::Retry, WRONG),
+    Takes(Answer::Abandon, WRONG),
+    Starts(Ok(())),
+    Starts(WRONG),
+    Takes(Answer::Retry, WRONG),
+    Takes(Answer::Abandon, WRONG),
     Writes(NoBlocks),
-    AsksStep(0),
-    CannotStart,
-    CannotTake,
+    Asks(0),
+    Starts(WRONG),
+    Takes(Answer::Retry, WRONG),
+    Takes(Answer::Abandon, WRONG),
     Hears(b"A0\n", Send),
-    CannotStart,
-    CannotTake,
-    AsksStep(1),
-    CannotStart,
-    CannotTake,
-    Hears(b"A1\n", Send),
-    CannotStart,
-    CannotTake,
-    AsksStep(2),
-    CannotStart,
-    CannotTake,
-    Hears(b"A1024\n", Send),
-    CannotStart,
-    CannotTake,
-    AsksStep(3),
-    CannotStart,
-    CannotTake,
-    Hears(b"A1\n", Send),
-    CannotStart,
-    CannotTake,
-    AsksStep(4),
-    CannotStart,
-    CannotTake,
-    Hears(b"A1\n", Send),
-    CannotStart,
-    CannotTake,
-    AsksStep(5),
-    CannotStart,
-    CannotTake,
-    Hears(b"A0\n", Ended),
-    CannotStart,
-    CannotTake,
-    Stands(State::Finished, &[(1, 0, 0)], (2, 0)),
+    Goes(1, 6),
+    Starts(WRONG),
+    Takes(Answer::Retry, WRONG),
+    Takes(Answer::Abandon, WRONG),
+    Stands(State::Finished, &[EMPTY], (2, 0)),
 ];
 
 /// Three blocks on two reels, of which the first refuses the third block.
 const TWO_VOLUMES: &[Move] = &[
     Writes(FirstTwo),
-    Starts,
+    Starts(Ok(())),
     Goes(0, 5),
-    AsksStep(5),
-    HearsIt(Send),
+    Asks(5),
+    Hears(b"E28\nany text\n", Send),
     Goes(6, 7),
     Stands(State::ToSend, &[], (1, 0)),
     Goes(7, 8),
-    Stands(State::ToSend, &[(1, 0, 2)], (2, 2)),
-    Asks(b"C\n"),
+    Stands(State::ToSend, &[TWO], (2, 2)),
+    Asks(8),
     Hears(b"A0\n", Ended),
-    Stands(State::Ready, &[(1, 0, 2)], (2, 2)),
+    Stands(State::Ready, &[TWO], (2, 2)),
     Writes(LastBlock),
-    Starts,
+    Starts(Ok(())),
     Goes(0, 7),
-    Stands(State::Finished, &[(1, 0, 2), (2, 2, 1)], (3, 3)),
+    Stands(State::Finished, TWO_AND_ONE, (3, 3)),
     Tells("/usr", 0, 951782400),
 ];
 
-/// The reel has no room for the label.
-const LABEL_REFUSED: &[Move] = &[
-    Writes(AllThree),
-    Starts,
+/// Blocks that are not of the label's size: each write is answered with the bytes that it has.
+const SMALL: &[Move] = &[
+    Writes(SmallBlocks),
+    Starts(Ok(())),
     Goes(0, 2),
-    AsksStep(2),
-    Fails(b"A0\n", AttemptFault::ReelTooSmall),
-    Stands(State::Asking, &[], (1, 0)),
-    Takes(Answer::Retry),
-    Starts,
-    Goes(0, 2),
-    AsksStep(2),
-    Fails(b"E28\nany text\n", AttemptFault::ReelTooSmall),
-    Stands(State::Asking, &[], (1, 0)),
-    Takes(Answer::Retry),
-    Starts,
+    Asks(2),
+    Hears(b"A3\n", Failed(AttemptFault::ShortWrite)),
+    AsksNot(Ok(false)),
+    Takes(Answer::Retry, Ok(())),
+    Starts(Ok(())),
+    Goes(0, 3),
+    Asks(3),
+    Hears(b"A1024\n", Failed(AttemptFault::ShortWrite)),
+    AsksNot(Ok(false)),
+    Takes(Answer::Retry, Ok(())),
+    Starts(Ok(())),
+    Goes(0, 8),
+    Stands(State::Finished, &[TWO], (2, 2)),
+    Tells("/home", 9, 253402300799),
+];
+
+const LARGE: &[Move] = &[
+    Writes(GreatestBlocks),
+    Starts(Ok(())),
+    Goes(0, 8),
+    Stands(State::Finished, &[TWO], (2, 2)),
 ];
 
 /// A run of which nothing is as in the others.
-const OTHER: Dumped = Dumped {
-    device: "/dev/nst1",
+const SMALL_RUN: &Dumped = &Dumped {
+    device: b"/dev/nst1",
     name: "/home",
     level: 9,
     date: 253402300799,
@@ -167,28 +155,9 @@ const OTHER: Dumped = Dumped {
     block_bytes: 3,
 };
 
-/// Blocks that are not of the label's size: each write is answered with the bytes that it has.
-const SMALL: &[Move] = &[
-    Writes(SmallBlocks),
-    Starts,
-    Goes(0, 2),
-    AsksStep(2),
-    Fails(b"A3\n", AttemptFault::ShortWrite),
-    Takes(Answer::Retry),
-    Starts,
-    Goes(0, 3),
-    AsksStep(3),
-    Fails(b"A1024\n", AttemptFault::ShortWrite),
-    Takes(Answer::Retry),
-    Starts,
-    Goes(0, 8),
-    Stands(State::Finished, &[(1, 0, 2)], (2, 2)),
-    Tells("/home", 9, 253402300799),
-];
-
 /// The same with the greatest size.
-const GREATEST: Dumped = Dumped {
-    device: "/dev/nst1",
+const GREATEST_RUN: &Dumped = &Dumped {
+    device: b"/dev/nst1",
     name: "/home",
     level: 9,
     date: 253402300799,
@@ -196,73 +165,52 @@ const GREATEST: Dumped = Dumped {
     block_bytes: 65536,
 };
 
-const LARGE: &[Move] = &[
-    Writes(GreatestBlocks),
-    Starts,
-    Goes(0, 8),
-    Stands(State::Finished, &[(1, 0, 2)], (2, 2)),
-];
-
-static CASES: [Case; 6] = [
+static CASES: [Case; 7] = [
     Case {
         name: "a run without blocks",
+        dumped: USR,
         blocks: 0,
-        pieces: ONCE,
         moves: WITHOUT_BLOCKS,
     },
     Case {
         name: "a reel too small",
+        dumped: USR,
         blocks: 1,
-        pieces: ONCE,
         moves: TOO_SMALL,
     },
     Case {
         name: "a run that is abandoned",
+        dumped: USR,
         blocks: 1,
-        pieces: ONCE,
         moves: ABANDONED,
     },
     Case {
         name: "calls in a wrong state",
+        dumped: USR,
         blocks: 0,
-        pieces: ONCE,
         moves: IN_A_WRONG_STATE,
     },
     Case {
         name: "two volumes",
+        dumped: USR,
         blocks: 3,
-        pieces: &[b"A0\n", b"E28\nany text\n", b"E28\n\n"],
         moves: TWO_VOLUMES,
     },
     Case {
-        name: "a label that is refused",
-        blocks: 3,
-        pieces: ONCE,
-        moves: LABEL_REFUSED,
+        name: "small blocks",
+        dumped: SMALL_RUN,
+        blocks: 2,
+        moves: SMALL,
+    },
+    Case {
+        name: "the greatest blocks",
+        dumped: GREATEST_RUN,
+        blocks: 2,
+        moves: LARGE,
     },
 ];
 
 #[test]
 fn whole_attempts(rt: HostRuntime) -> Result<(), Fail> {
     check_cases(&rt, rt.alloc(), &CASES)
-}
-
-static SMALL_CASE: Case = Case {
-    name: "small blocks",
-    blocks: 2,
-    pieces: ONCE,
-    moves: SMALL,
-};
-
-static GREATEST_CASE: Case = Case {
-    name: "the greatest blocks",
-    blocks: 2,
-    pieces: ONCE,
-    moves: LARGE,
-};
-
-#[test]
-fn blocks_of_other_sizes(rt: HostRuntime) -> Result<(), Fail> {
-    check_case(&rt, rt.alloc(), OTHER, &SMALL_CASE)?;
-    check_case(&rt, rt.alloc(), GREATEST, &GREATEST_CASE)
 }

@@ -1,75 +1,75 @@
 //! Attempts whose replies come in pieces, and ones that are cut off in the midst of a reply.
 
-use super::play::Move::{CutAt, Goes, GoesBy, Stands, Starts, Writes};
-use super::play::{Case, Move, ONCE, check_cases};
+use super::play::Move::{Asks, At, Goes, Hears, Stands, Starts, Writes};
+use super::play::{Case, Move, USR, check_cases};
 use super::script::Volume::{FirstTwo, LastBlock, OtherReplies};
+use super::script::{TWO, TWO_AND_ONE};
+use dump_client::Progress::{Send, Waiting};
 use dump_client::State;
 use std::test::Fail;
 
-/// Replies byte by byte, and then of two bytes at a time.
-const IN_SHORT_PIECES: &[Move] = &[
+/// Replies in short and in long pieces, and then whole.
+const IN_PIECES: &[Move] = &[
     Writes(OtherReplies),
-    Starts,
-    GoesBy(1),
-    Stands(State::Ready, &[(1, 0, 2)], (2, 2)),
+    Starts(Ok(())),
+    Asks(0),
+    Hears(b"", Waiting),
+    Hears(b"A", Waiting),
+    Hears(b"7", Waiting),
+    Hears(b"\n", Send),
+    Goes(1, 3),
+    Asks(3),
+    Hears(b"A0", Waiting),
+    Hears(b"102", Waiting),
+    Hears(b"4\n", Send),
+    Goes(4, 5),
+    Asks(5),
+    Hears(b"E28", Waiting),
+    Hears(b"\nNo space left", Waiting),
+    Hears(b" on device", Waiting),
+    Hears(b"\n", Send),
+    Goes(6, 9),
+    Stands(State::Ready, &[TWO], (2, 2)),
     Writes(LastBlock),
-    Starts,
-    GoesBy(2),
-    Stands(State::Finished, &[(1, 0, 2), (2, 2, 1)], (3, 3)),
-];
-
-/// Replies in longer pieces, and then whole.
-const IN_LONG_PIECES: &[Move] = &[
-    Writes(OtherReplies),
-    Starts,
-    GoesBy(3),
-    Stands(State::Ready, &[(1, 0, 2)], (2, 2)),
-    Writes(LastBlock),
-    Starts,
+    Starts(Ok(())),
     Goes(0, 7),
-    Stands(State::Finished, &[(1, 0, 2), (2, 2, 1)], (3, 3)),
+    Stands(State::Finished, TWO_AND_ONE, (3, 3)),
 ];
 
 /// A reply of which all has come but its end is none. The dump then goes on to its end.
 const CUT_OFF: &[Move] = &[
     Writes(FirstTwo),
-    CutAt(0, b""),
-    CutAt(0, b"A0"),
-    CutAt(1, b"A1"),
-    CutAt(2, b"A1024"),
-    CutAt(3, b"A1024"),
-    CutAt(4, b"A10"),
-    CutAt(5, b"E28\nNo space left on device"),
-    CutAt(6, b"A"),
-    CutAt(7, b""),
-    CutAt(7, b"A1"),
-    Starts,
+    At(0, b"", Waiting),
+    At(0, b"A0", Waiting),
+    At(1, b"A1", Waiting),
+    At(2, b"A1024", Waiting),
+    At(3, b"A1024", Waiting),
+    At(4, b"A10", Waiting),
+    At(5, b"E28\nNo space left on device", Waiting),
+    At(6, b"A", Waiting),
+    At(7, b"", Waiting),
+    At(7, b"A1", Waiting),
+    Starts(Ok(())),
     Goes(0, 9),
-    Stands(State::Ready, &[(1, 0, 2)], (2, 2)),
+    Stands(State::Ready, &[TWO], (2, 2)),
     Writes(LastBlock),
-    CutAt(5, b"A1"),
-    Starts,
+    At(5, b"A1", Waiting),
+    Starts(Ok(())),
     Goes(0, 7),
-    Stands(State::Finished, &[(1, 0, 2), (2, 2, 1)], (3, 3)),
+    Stands(State::Finished, TWO_AND_ONE, (3, 3)),
 ];
 
-static CASES: [Case; 3] = [
+static CASES: [Case; 2] = [
     Case {
-        name: "replies in short pieces",
+        name: "replies in pieces",
+        dumped: USR,
         blocks: 3,
-        pieces: ONCE,
-        moves: IN_SHORT_PIECES,
-    },
-    Case {
-        name: "replies in long pieces",
-        blocks: 3,
-        pieces: ONCE,
-        moves: IN_LONG_PIECES,
+        moves: IN_PIECES,
     },
     Case {
         name: "replies that are cut off",
+        dumped: USR,
         blocks: 3,
-        pieces: ONCE,
         moves: CUT_OFF,
     },
 ];

@@ -1,18 +1,15 @@
-//! What a client makes of replies that are not wanted, of bytes that are none, and of the end of the connection, in its
-//! second volume. Of three blocks, the first is counted, and the others are to be written.
+//! What replies lead to, wanted or not, at each step of a first volume that has two of three blocks, and the end of the
+//! connection in a second volume.
 
-use super::play::Move::{
-    AsksStep, Ends, Fails, FailsAt, Goes, Hears, HearsIt, HearsLong, IsIdle, LeadsTo, Stands,
-    Starts, Takes, Writes,
-};
-use super::play::{Case, Move, ONCE, check_cases};
-use super::script::Volume::{FirstBlock, LastTwo};
-use super::talk::Counted;
-use dump_client::Progress::{Failed, Send, Waiting};
+use super::play::Move::{Asks, AsksNot, At, Ends, Goes, Hears, Stands, Starts, Takes, Writes};
+use super::play::{Case, Move, USR, check_cases};
+use super::script::Volume::{FirstBlock, FirstTwo, LastTwo};
+use super::script::{ONE, TWO};
+use dump_client::Progress::{Failed, Idle, Send, Waiting};
 use dump_client::{Answer, AttemptFault, State};
 use std::test::Fail;
 
-/// The steps of the second volume's script.
+/// The steps of the volume's script.
 const OPEN: usize = 0;
 
 const REWIND: usize = 1;
@@ -21,184 +18,247 @@ const LABEL: usize = 2;
 
 const FIRST: usize = 3;
 
-const LAST: usize = 4;
+const SECOND: usize = 4;
 
-const MARK: usize = 5;
+const THIRD: usize = 5;
 
-const UNLOAD: usize = 6;
+const MARK: usize = 6;
 
-/// The first volume has the first block of the run.
-const ONE_COUNTED: &[Counted] = &[(1, 0, 1)];
+const UNLOAD: usize = 7;
 
-/// Replies to the write of a block.
-const TO_A_BLOCK: &[Move] = &[
-    Writes(FirstBlock),
-    Starts,
-    Goes(0, 8),
-    Writes(LastTwo),
-    FailsAt(FIRST, b"A0\n", AttemptFault::ReelTooSmall),
-    FailsAt(FIRST, b"E28\n\n", AttemptFault::ReelTooSmall),
-    FailsAt(FIRST, b"A1025\n", AttemptFault::ShortWrite),
-    FailsAt(FIRST, b"A1023\n", AttemptFault::ShortWrite),
-    FailsAt(FIRST, b"A1\nA1024\n", AttemptFault::ShortWrite),
-    FailsAt(FIRST, b"X\n", AttemptFault::Botched),
-    FailsAt(FIRST, b"A99999999999\n", AttemptFault::Botched),
-    FailsAt(FIRST, b"A2147483648", AttemptFault::Botched),
-    FailsAt(FIRST, b"A1024\nA", AttemptFault::Botched),
-    FailsAt(FIRST, b"E16\nDevice busy\n", AttemptFault::Refused(16)),
-    FailsAt(FIRST, b"E0\n\n", AttemptFault::Refused(0)),
-    FailsAt(LAST, b"A1025\n", AttemptFault::ShortWrite),
-    FailsAt(LAST, b"A1023\n", AttemptFault::ShortWrite),
-    FailsAt(LAST, b"A1\nA1024\n", AttemptFault::ShortWrite),
-    FailsAt(LAST, b"X\n", AttemptFault::Botched),
-    FailsAt(LAST, b"A99999999999\n", AttemptFault::Botched),
-    FailsAt(LAST, b"A2147483648", AttemptFault::Botched),
-    FailsAt(LAST, b"A1024\nA", AttemptFault::Botched),
-    FailsAt(LAST, b"E16\nDevice busy\n", AttemptFault::Refused(16)),
-    FailsAt(LAST, b"E0\n\n", AttemptFault::Refused(0)),
-    LeadsTo(FIRST, b"A1024\n", LAST),
-    LeadsTo(LAST, b"A0\n", MARK),
-    LeadsTo(LAST, b"E28\n\n", MARK),
-    LeadsTo(LAST, b"A1024\n", MARK),
-    Starts,
-    Goes(0, 8),
-    Stands(State::Finished, &[(1, 0, 1), (2, 1, 2)], (3, 3)),
+const CLOSE: usize = 8;
+
+/// Any number opens the device.
+const TO_THE_OPEN: &[Move] = &[
+    Writes(FirstTwo),
+    At(OPEN, b"A0\n", Send),
+    At(OPEN, b"A1025\n", Send),
+    At(
+        OPEN,
+        b"E28\nNo space left on device\n",
+        Failed(AttemptFault::Refused(28)),
+    ),
+    At(
+        OPEN,
+        b"E16\nDevice busy\n",
+        Failed(AttemptFault::Refused(16)),
+    ),
 ];
 
-/// Replies where an operation was asked for, and where a device was to be opened.
-const TO_OTHERS: &[Move] = &[
-    Writes(FirstBlock),
-    Starts,
-    Goes(0, 8),
-    Writes(LastTwo),
-    FailsAt(OPEN, b"A0\nA1\n", AttemptFault::Botched),
-    FailsAt(OPEN, b"E28\n\n", AttemptFault::Refused(28)),
-    FailsAt(OPEN, b"E2\n\n", AttemptFault::Refused(2)),
-    FailsAt(REWIND, b"A0\n", AttemptFault::Botched),
-    FailsAt(REWIND, b"A2\n", AttemptFault::Botched),
-    FailsAt(REWIND, b"A\n", AttemptFault::Botched),
-    FailsAt(REWIND, b"B1\n", AttemptFault::Botched),
-    FailsAt(REWIND, b"A00000000001\n", AttemptFault::Botched),
-    FailsAt(REWIND, b"E28\n\n", AttemptFault::Refused(28)),
-    FailsAt(REWIND, b"E5\nzz\n", AttemptFault::Refused(5)),
-    FailsAt(LABEL, b"A0\n", AttemptFault::ReelTooSmall),
-    FailsAt(LABEL, b"E28\n\n", AttemptFault::ReelTooSmall),
-    FailsAt(LABEL, b"A1023\n", AttemptFault::ShortWrite),
-    FailsAt(LABEL, b"E5\nzz\n", AttemptFault::Refused(5)),
-    FailsAt(MARK, b"A0\n", AttemptFault::Botched),
-    FailsAt(MARK, b"A2\n", AttemptFault::Botched),
-    FailsAt(MARK, b"A\n", AttemptFault::Botched),
-    FailsAt(MARK, b"B1\n", AttemptFault::Botched),
-    FailsAt(MARK, b"A00000000001\n", AttemptFault::Botched),
-    FailsAt(MARK, b"E28\n\n", AttemptFault::Refused(28)),
-    FailsAt(MARK, b"E5\nzz\n", AttemptFault::Refused(5)),
-    FailsAt(UNLOAD, b"A0\n", AttemptFault::Botched),
-    FailsAt(UNLOAD, b"A2\n", AttemptFault::Botched),
-    FailsAt(UNLOAD, b"A\n", AttemptFault::Botched),
-    FailsAt(UNLOAD, b"B1\n", AttemptFault::Botched),
-    FailsAt(UNLOAD, b"A00000000001\n", AttemptFault::Botched),
-    FailsAt(UNLOAD, b"E28\n\n", AttemptFault::Refused(28)),
-    FailsAt(UNLOAD, b"E5\nzz\n", AttemptFault::Refused(5)),
-    FailsAt(REWIND, b"A1\nA", AttemptFault::Botched),
-    Starts,
-    Goes(0, REWIND),
-    AsksStep(REWIND),
-    Hears(b"A0000000001\n", Send),
+/// An operation was done where its count is answered, which is 1.
+const TO_OPERATIONS: &[Move] = &[
+    Writes(FirstTwo),
+    At(REWIND, b"A1\n", Send),
+    At(REWIND, b"A0\n", Failed(AttemptFault::Botched)),
+    At(
+        REWIND,
+        b"E28\nNo space left on device\n",
+        Failed(AttemptFault::Refused(28)),
+    ),
+    At(MARK, b"A1\n", Send),
+    At(MARK, b"A0\n", Failed(AttemptFault::Botched)),
+    At(
+        MARK,
+        b"E5\nInput/output error\n",
+        Failed(AttemptFault::Refused(5)),
+    ),
+    At(UNLOAD, b"A0\n", Failed(AttemptFault::Botched)),
+    At(
+        UNLOAD,
+        b"E5\nInput/output error\n",
+        Failed(AttemptFault::Refused(5)),
+    ),
+];
+
+/// A reel that has no room for the label or for the volume's first block is too small.
+const TO_FIRST_WRITES: &[Move] = &[
+    Writes(FirstTwo),
+    At(LABEL, b"A1024\n", Send),
+    At(LABEL, b"A0\n", Failed(AttemptFault::ReelTooSmall)),
+    At(LABEL, b"A1\n", Failed(AttemptFault::ShortWrite)),
+    At(
+        LABEL,
+        b"E28\nNo space left on device\n",
+        Failed(AttemptFault::ReelTooSmall),
+    ),
+    At(
+        LABEL,
+        b"E16\nDevice busy\n",
+        Failed(AttemptFault::Refused(16)),
+    ),
+    At(FIRST, b"A1024\n", Send),
+    At(FIRST, b"A0\n", Failed(AttemptFault::ReelTooSmall)),
+    At(FIRST, b"A1025\n", Failed(AttemptFault::ShortWrite)),
+    At(
+        FIRST,
+        b"E5\nInput/output error\n",
+        Failed(AttemptFault::Refused(5)),
+    ),
+    At(
+        FIRST,
+        b"E28\nNo space left on device\n",
+        Failed(AttemptFault::ReelTooSmall),
+    ),
+];
+
+/// One that has no room for a later block is at its end.
+const TO_LATER_WRITES: &[Move] = &[
+    Writes(FirstTwo),
+    At(SECOND, b"A1024\n", Send),
+    At(SECOND, b"A0\n", Send),
+    At(SECOND, b"E28\nNo space left on device\n", Send),
+    At(SECOND, b"A1\n", Failed(AttemptFault::ShortWrite)),
+    At(
+        SECOND,
+        b"E16\nDevice busy\n",
+        Failed(AttemptFault::Refused(16)),
+    ),
+    At(THIRD, b"A1024\n", Send),
+    At(THIRD, b"A0\n", Send),
+    At(THIRD, b"E28\nNo space left on device\n", Send),
+    At(THIRD, b"A1025\n", Failed(AttemptFault::ShortWrite)),
+    At(
+        THIRD,
+        b"E5\nInput/output error\n",
+        Failed(AttemptFault::Refused(5)),
+    ),
+];
+
+/// The reply to the move to the bin counts the volume, with the blocks that were written.
+const COUNTS_TWO: &[Move] = &[
+    Writes(FirstTwo),
+    Starts(Ok(())),
+    Goes(OPEN, UNLOAD),
+    Asks(UNLOAD),
+    Stands(State::Waiting, &[], (1, 0)),
+    Hears(b"A1\n", Send),
+    Stands(State::ToSend, &[TWO], (2, 2)),
+    Asks(CLOSE),
 ];
 
 /// The end of the connection, while a reply is waited for and while a request is to be sent.
 const CUT: &[Move] = &[
     Writes(FirstBlock),
-    Starts,
+    Starts(Ok(())),
     Goes(0, 8),
     Writes(LastTwo),
-    Starts,
+    Starts(Ok(())),
     Goes(0, REWIND),
-    AsksStep(REWIND),
-    HearsIt(Waiting),
+    Asks(REWIND),
+    Hears(b"E5\nzz", Waiting),
     Ends(Failed(AttemptFault::ConnectionEnded)),
-    Stands(State::Asking, ONE_COUNTED, (2, 1)),
-    IsIdle,
-    Stands(State::Asking, ONE_COUNTED, (2, 1)),
-    Takes(Answer::Retry),
-    Starts,
+    Stands(State::Asking, &[ONE], (2, 1)),
+    Hears(b"A0\n", Idle),
+    Hears(b"zz", Idle),
+    Ends(Idle),
+    AsksNot(Ok(false)),
+    Stands(State::Asking, &[ONE], (2, 1)),
+    Takes(Answer::Retry, Ok(())),
+    Starts(Ok(())),
     Goes(0, OPEN),
-    AsksStep(OPEN),
+    Asks(OPEN),
     Hears(b"A0\n", Send),
     Ends(Failed(AttemptFault::ConnectionEnded)),
-    Stands(State::Asking, ONE_COUNTED, (2, 1)),
-    IsIdle,
-    Stands(State::Asking, ONE_COUNTED, (2, 1)),
+    Stands(State::Asking, &[ONE], (2, 1)),
+    Hears(b"A0\n", Idle),
+    Hears(b"zz", Idle),
+    Ends(Idle),
+    AsksNot(Ok(false)),
+    Stands(State::Asking, &[ONE], (2, 1)),
 ];
 
 /// An empty piece changes nothing, and one byte in place of a request fails the attempt.
 const BEFORE_A_REQUEST: &[Move] = &[
     Writes(FirstBlock),
-    Starts,
+    Starts(Ok(())),
     Goes(0, 8),
     Writes(LastTwo),
-    Starts,
+    Starts(Ok(())),
     Goes(0, REWIND),
-    AsksStep(REWIND),
+    Asks(REWIND),
     Hears(b"", Waiting),
     Hears(b"A1\n", Send),
     Hears(b"", Send),
-    Stands(State::ToSend, ONE_COUNTED, (2, 1)),
-    Fails(b"A", AttemptFault::Botched),
-    Stands(State::Asking, ONE_COUNTED, (2, 1)),
-    IsIdle,
-    Stands(State::Asking, ONE_COUNTED, (2, 1)),
+    Stands(State::ToSend, &[ONE], (2, 1)),
+    Hears(b"A", Failed(AttemptFault::Botched)),
+    AsksNot(Ok(false)),
+    Stands(State::Asking, &[ONE], (2, 1)),
+    Hears(b"A0\n", Idle),
+    Hears(b"zz", Idle),
+    Ends(Idle),
+    AsksNot(Ok(false)),
+    Stands(State::Asking, &[ONE], (2, 1)),
 ];
 
-/// The text of an error can be longer than all else that is kept of a reply. The dump then goes on to its end.
-const LONG_TEXTS: &[Move] = &[
-    Writes(FirstBlock),
-    Starts,
-    Goes(0, 8),
-    Writes(LastTwo),
-    HearsLong(LAST, 10000),
-    HearsLong(LAST, 65548),
-    HearsLong(LAST, 200000),
-    Stands(State::Ready, ONE_COUNTED, (2, 1)),
-    Starts,
-    Goes(0, 8),
-    Stands(State::Finished, &[(1, 0, 1), (2, 1, 2)], (3, 3)),
+/// What is no reply, or another one than is wanted. A later block for which there is no room leads to the mark.
+const NOISE: &[Move] = &[
+    Writes(FirstTwo),
+    At(FIRST, b"X\n", Failed(AttemptFault::Botched)),
+    At(FIRST, b"A2147483648", Failed(AttemptFault::Botched)),
+    At(FIRST, b"A1024\nA", Failed(AttemptFault::Botched)),
+    At(FIRST, b"A1\nA1024\n", Failed(AttemptFault::ShortWrite)),
+    At(FIRST, b"E0\n\n", Failed(AttemptFault::Refused(0))),
+    At(MARK, b"A\n", Failed(AttemptFault::Botched)),
+    At(MARK, b"A00000000001\n", Failed(AttemptFault::Botched)),
+    Starts(Ok(())),
+    Goes(OPEN, SECOND),
+    Asks(SECOND),
+    Hears(b"E28\n\n", Send),
+    Asks(MARK),
 ];
 
-static CASES: [Case; 5] = [
+static CASES: [Case; 8] = [
     Case {
-        name: "replies to the write of a block",
+        name: "replies to the open",
+        dumped: USR,
         blocks: 3,
-        pieces: ONCE,
-        moves: TO_A_BLOCK,
+        moves: TO_THE_OPEN,
     },
     Case {
-        name: "replies to other requests",
+        name: "replies to operations",
+        dumped: USR,
         blocks: 3,
-        pieces: ONCE,
-        moves: TO_OTHERS,
+        moves: TO_OPERATIONS,
+    },
+    Case {
+        name: "replies to the label and the first block",
+        dumped: USR,
+        blocks: 3,
+        moves: TO_FIRST_WRITES,
+    },
+    Case {
+        name: "replies to later blocks",
+        dumped: USR,
+        blocks: 3,
+        moves: TO_LATER_WRITES,
+    },
+    Case {
+        name: "a count of two blocks",
+        dumped: USR,
+        blocks: 3,
+        moves: COUNTS_TWO,
     },
     Case {
         name: "the connection ends before the count",
+        dumped: USR,
         blocks: 3,
-        pieces: &[b"", b"E5\n", b"E5\nzz", b"A1"],
         moves: CUT,
     },
     Case {
         name: "pieces while a request is to be sent",
+        dumped: USR,
         blocks: 3,
-        pieces: ONCE,
         moves: BEFORE_A_REQUEST,
     },
     Case {
-        name: "long texts of errors",
+        name: "what is no reply",
+        dumped: USR,
         blocks: 3,
-        pieces: ONCE,
-        moves: LONG_TEXTS,
+        moves: NOISE,
     },
 ];
 
 #[test]
-fn unwanted_replies(rt: HostRuntime) -> Result<(), Fail> {
+fn replies_at_each_step(rt: HostRuntime) -> Result<(), Fail> {
     check_cases(&rt, rt.alloc(), &CASES)
 }

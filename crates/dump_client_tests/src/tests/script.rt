@@ -1,19 +1,19 @@
 //! The requests of attempts, written by hand, and replies to them that are wanted.
 
-use super::talk::Counted;
+use dump_client::Progress::{self, Ended, Send};
+use dump_client::VolumeCount;
 
-/// A request, as its text and the byte that follows it so many times, and a reply that is wanted.
-pub(crate) type Step = (&'static [u8], (u8, usize), &'static [u8]);
+/// A request, as its text and the byte that follows it so many times, a reply that is wanted, and what comes of it.
+pub(crate) type Step = (&'static [u8], (u8, usize), &'static [u8], Progress);
 
 /// An attempt at a volume: what is counted before it, its number and first block, and its steps.
 pub(crate) struct Script {
-    pub(crate) counted: &'static [Counted],
+    pub(crate) counted: &'static [VolumeCount],
     pub(crate) next: (u32, u32),
     pub(crate) steps: &'static [Step],
 }
 
 /// A volume that is written in these tests.
-#[derive(Clone, Copy)]
 pub(crate) enum Volume {
     /// The volume of a run of no blocks.
     NoBlocks,
@@ -35,24 +35,71 @@ pub(crate) enum Volume {
     GreatestBlocks,
 }
 
+/// The volume of a run of no blocks.
+pub(crate) const EMPTY: VolumeCount = VolumeCount {
+    volume: 1,
+    first: 0,
+    count: 0,
+};
+
+/// A first volume of one block, and a second one of the two after it.
+pub(crate) const ONE: VolumeCount = VolumeCount {
+    volume: 1,
+    first: 0,
+    count: 1,
+};
+
+pub(crate) const ONE_AND_TWO: &[VolumeCount] = &[
+    ONE,
+    VolumeCount {
+        volume: 2,
+        first: 1,
+        count: 2,
+    },
+];
+
+/// A first volume of two blocks, and a second one of the last.
+pub(crate) const TWO: VolumeCount = VolumeCount {
+    volume: 1,
+    first: 0,
+    count: 2,
+};
+
+pub(crate) const TWO_AND_ONE: &[VolumeCount] = &[
+    TWO,
+    VolumeCount {
+        volume: 2,
+        first: 2,
+        count: 1,
+    },
+];
+
+/// All three blocks of a run.
+pub(crate) const THREE: VolumeCount = VolumeCount {
+    volume: 1,
+    first: 0,
+    count: 3,
+};
+
 /// No byte follows the text of a request.
 const NONE: (u8, usize) = (0, 0);
 
-const OPEN: Step = (b"O/dev/st0\n2\n", NONE, b"A0\n");
+const OPEN: Step = (b"O/dev/st0\n2\n", NONE, b"A0\n", Send);
 
-const REWIND: Step = (b"I5\n1\n", NONE, b"A1\n");
+const REWIND: Step = (b"I5\n1\n", NONE, b"A1\n", Send);
 
-const MARK: Step = (b"I0\n1\n", NONE, b"A1\n");
+const MARK: Step = (b"I0\n1\n", NONE, b"A1\n", Send);
 
-const UNLOAD: Step = (b"I6\n1\n", NONE, b"A1\n");
+const UNLOAD: Step = (b"I6\n1\n", NONE, b"A1\n", Send);
 
-const CLOSE: Step = (b"C\n", NONE, b"A0\n");
+const CLOSE: Step = (b"C\n", NONE, b"A0\n", Ended);
 
 /// The write of the first label: 58 bytes of text, and 966 zero bytes.
 const LABEL: Step = (
     b"W1024\nname /usr\nlevel 0\ndate 951782400\nsince 0\nvolume 1\nfirst 0\n",
     (0, 966),
     b"A1024\n",
+    Send,
 );
 
 /// The label of a second volume from the block 1 on.
@@ -60,6 +107,7 @@ const LABEL_FROM_1: Step = (
     b"W1024\nname /usr\nlevel 0\ndate 951782400\nsince 0\nvolume 2\nfirst 1\n",
     (0, 966),
     b"A1024\n",
+    Send,
 );
 
 /// The label of a second volume from the block 2 on.
@@ -67,18 +115,19 @@ const LABEL_FROM_2: Step = (
     b"W1024\nname /usr\nlevel 0\ndate 951782400\nsince 0\nvolume 2\nfirst 2\n",
     (0, 966),
     b"A1024\n",
+    Send,
 );
 
-const BLOCK_0: Step = (b"W1024\n", (0, 1024), b"A1024\n");
+const BLOCK_0: Step = (b"W1024\n", (0, 1024), b"A1024\n", Send);
 
-const BLOCK_1: Step = (b"W1024\n", (1, 1024), b"A1024\n");
+const BLOCK_1: Step = (b"W1024\n", (1, 1024), b"A1024\n", Send);
 
-const BLOCK_2: Step = (b"W1024\n", (2, 1024), b"A1024\n");
+const BLOCK_2: Step = (b"W1024\n", (2, 1024), b"A1024\n", Send);
 
 /// Blocks for which there is no room.
-const BLOCK_1_REFUSED: Step = (b"W1024\n", (1, 1024), b"A0\n");
+const BLOCK_1_REFUSED: Step = (b"W1024\n", (1, 1024), b"A0\n", Send);
 
-const BLOCK_2_REFUSED: Step = (b"W1024\n", (2, 1024), b"A0\n");
+const BLOCK_2_REFUSED: Step = (b"W1024\n", (2, 1024), b"A0\n", Send);
 
 static NO_BLOCKS: Script = Script {
     counted: &[],
@@ -126,7 +175,7 @@ static ALL_THREE: Script = Script {
 };
 
 static LAST_TWO: Script = Script {
-    counted: &[(1, 0, 1)],
+    counted: &[ONE],
     next: (2, 1),
     steps: &[
         OPEN,
@@ -141,7 +190,7 @@ static LAST_TWO: Script = Script {
 };
 
 static LAST_BLOCK: Script = Script {
-    counted: &[(1, 0, 2)],
+    counted: &[TWO],
     next: (2, 2),
     steps: &[OPEN, REWIND, LABEL_FROM_2, BLOCK_2, MARK, UNLOAD, CLOSE],
 };
@@ -150,25 +199,31 @@ static OTHER_REPLIES: Script = Script {
     counted: &[],
     next: (1, 0),
     steps: &[
-        (b"O/dev/st0\n2\n", NONE, b"A7\n"),
-        (b"I5\n1\n", NONE, b"A0000000001\n"),
+        (b"O/dev/st0\n2\n", NONE, b"A7\n", Send),
+        (b"I5\n1\n", NONE, b"A0000000001\n", Send),
         LABEL,
-        (b"W1024\n", (0, 1024), b"A01024\n"),
+        (b"W1024\n", (0, 1024), b"A01024\n", Send),
         BLOCK_1,
-        (b"W1024\n", (2, 1024), b"E28\nNo space left on device\n"),
+        (
+            b"W1024\n",
+            (2, 1024),
+            b"E28\nNo space left on device\n",
+            Send,
+        ),
         MARK,
         UNLOAD,
-        (b"C\n", NONE, b"E5\nInput/output error\n"),
+        (b"C\n", NONE, b"E5\nInput/output error\n", Ended),
     ],
 };
 
 /// The open of another run's device, and the write of its label: 70 bytes of text, and 954 zero bytes.
-const OTHER_OPEN: Step = (b"O/dev/nst1\n2\n", NONE, b"A0\n");
+const OTHER_OPEN: Step = (b"O/dev/nst1\n2\n", NONE, b"A0\n", Send);
 
 const OTHER_LABEL: Step = (
     b"W1024\nname /home\nlevel 9\ndate 253402300799\nsince 951782400\nvolume 1\nfirst 0\n",
     (0, 954),
     b"A1024\n",
+    Send,
 );
 
 static SMALL_BLOCKS: Script = Script {
@@ -178,8 +233,8 @@ static SMALL_BLOCKS: Script = Script {
         OTHER_OPEN,
         REWIND,
         OTHER_LABEL,
-        (b"W3\n", (0, 3), b"A3\n"),
-        (b"W3\n", (1, 3), b"A3\n"),
+        (b"W3\n", (0, 3), b"A3\n", Send),
+        (b"W3\n", (1, 3), b"A3\n", Send),
         MARK,
         UNLOAD,
         CLOSE,
@@ -193,8 +248,8 @@ static GREATEST_BLOCKS: Script = Script {
         OTHER_OPEN,
         REWIND,
         OTHER_LABEL,
-        (b"W65536\n", (0, 65536), b"A65536\n"),
-        (b"W65536\n", (1, 65536), b"A65536\n"),
+        (b"W65536\n", (0, 65536), b"A65536\n", Send),
+        (b"W65536\n", (1, 65536), b"A65536\n", Send),
         MARK,
         UNLOAD,
         CLOSE,
@@ -202,7 +257,7 @@ static GREATEST_BLOCKS: Script = Script {
 };
 
 /// How the volume is written.
-pub(crate) fn script_of(volume: Volume) -> &'static Script {
+pub(crate) fn script_of(volume: &Volume) -> &'static Script {
     match volume {
         Volume::NoBlocks => &NO_BLOCKS,
         Volume::FirstBlock => &FIRST_BLOCK,

@@ -1,7 +1,6 @@
 //! Schedules with a line at fault.
 
-use super::fixture::{Case, check};
-use std::alloc::Global;
+use super::fixture::{Case, check, check_cases};
 use std::test::Fail;
 
 /// Of a bad line, a line that is not possible, and none.
@@ -70,14 +69,11 @@ static WHOLE: [Case; 12] = [
 
 #[test]
 fn the_first_line_at_fault_decides(rt: HostRuntime) -> Result<(), Fail> {
-    for case in &WHOLE {
-        case.check(rt.alloc())?;
-    }
-    Ok(())
+    check_cases(rt.alloc(), &WHOLE)
 }
 
 /// Lines that are none, with a drive before them.
-static BAD: [&str; 56] = [
+const BAD: &[&str] = &[
     " connect",
     "connect ",
     "connect 1",
@@ -136,18 +132,8 @@ static BAD: [&str; 56] = [
     "run /dev/st0 /usr 0 0 0 1024",
 ];
 
-#[test]
-fn lines_that_are_none(rt: HostRuntime) -> Result<(), Fail> {
-    let alloc = rt.alloc();
-    for line in BAD {
-        let text = format!(in alloc; "drive /dev/st0 3100 r1\n{line}\nretry\n")?;
-        check(alloc, text.as_bytes(), b"line 2: bad line\n", 1)?;
-    }
-    Ok(())
-}
-
 /// Lines that are some, and not possible with a drive alone before them.
-static IMPOSSIBLE: [&str; 22] = [
+const IMPOSSIBLE: &[&str] = &[
     "connect",
     "send",
     "send fault",
@@ -172,18 +158,8 @@ static IMPOSSIBLE: [&str; 22] = [
     "says 1 4f",
 ];
 
-#[test]
-fn lines_that_are_not_possible(rt: HostRuntime) -> Result<(), Fail> {
-    let alloc = rt.alloc();
-    for line in IMPOSSIBLE {
-        let text = format!(in alloc; "drive /dev/st0 3100 r1\n{line}\nfrob")?;
-        check(alloc, text.as_bytes(), b"line 2: not possible\n", 1)?;
-    }
-    Ok(())
-}
-
 /// Lines that do something, or nothing, with a drive alone before them.
-static POSSIBLE: [&str; 8] = [
+const POSSIBLE: &[&str] = &[
     "restart-server",
     "stranger",
     "pump 1 1",
@@ -194,42 +170,21 @@ static POSSIBLE: [&str; 8] = [
     "run d /usr 0000000000000000000000009 253402300799 0 65536 0",
 ];
 
+/// Lines after a line of a drive, what they print, and the status.
+static LINES: [(&[&str], &[u8], u8); 3] = [
+    (BAD, b"line 2: bad line\n", 1),
+    (IMPOSSIBLE, b"line 2: not possible\n", 1),
+    (POSSIBLE, b"reel r1\nstack /dev/st0 r1\nbin\ndumpdates\n", 0),
+];
+
 #[test]
-fn lines_that_are_possible(rt: HostRuntime) -> Result<(), Fail> {
+fn lines_of_each_kind(rt: HostRuntime) -> Result<(), Fail> {
     let alloc = rt.alloc();
-    for line in POSSIBLE {
-        let text = format!(in alloc; "drive /dev/st0 3100 r1\n{line}")?;
-        check(
-            alloc,
-            text.as_bytes(),
-            b"reel r1\nstack /dev/st0 r1\nbin\ndumpdates\n",
-            0,
-        )?;
+    for (lines, printed, status) in &LINES {
+        for line in *lines {
+            let text = format!(in alloc; "drive /dev/st0 3100 r1\n{line}\n")?;
+            check(alloc, text.as_bytes(), printed, *status)?;
+        }
     }
     Ok(())
-}
-
-/// So many drives, each without a reel.
-fn drive_lines(alloc: Global, count: usize) -> Result<String, Fail> {
-    let mut text = String::new(alloc);
-    for number in 0..count {
-        let line = format!(in alloc; "drive d{number} 0\n")?;
-        text.push_str(line.as_str())?;
-    }
-    Ok(text)
-}
-
-#[test]
-fn a_world_has_64_drives(rt: HostRuntime) -> Result<(), Fail> {
-    let alloc = rt.alloc();
-    let mut printed = String::new(alloc);
-    for number in 0..64usize {
-        let line = format!(in alloc; "stack d{number}\n")?;
-        printed.push_str(line.as_str())?;
-    }
-    printed.push_str("bin\ndumpdates\n")?;
-    let text = drive_lines(alloc, 64)?;
-    check(alloc, text.as_bytes(), printed.as_bytes(), 0)?;
-    let text = drive_lines(alloc, 65)?;
-    check(alloc, text.as_bytes(), b"line 65: bad line\n", 1)
 }

@@ -3,7 +3,6 @@
 use rmt_wire::Counted;
 use schedules::schedule;
 use std::io::{self, ErrorKind, Write};
-use std::test::Fail;
 
 /// A stream that takes so many writes, and then fails.
 #[derive(Drop)]
@@ -38,37 +37,37 @@ connect\n\
 pump 2 9\n\
 connect\n";
 
-/// What that prints, in three writes.
-static PRINTED: [&[u8]; 4] = [
-    b"",
-    b"volume 1 failed: ReelTooSmall\n",
-    b"volume 1 failed: ReelTooSmall\nvolume 1 failed: ReelTooSmall\n",
-    b"volume 1 failed: ReelTooSmall\nvolume 1 failed: ReelTooSmall\nline 9: not possible\n",
+/// A schedule, how many writes are taken, what was printed then, and the status with the number of failures. The first
+/// schedule prints in three writes.
+static CASES: [(&[u8], u32, &[u8], (u8, u64)); 5] = [
+    (TEXT, 0, b"", (3, 1)),
+    (TEXT, 1, b"volume 1 failed: ReelTooSmall\n", (3, 1)),
+    (
+        TEXT,
+        2,
+        b"volume 1 failed: ReelTooSmall\nvolume 1 failed: ReelTooSmall\n",
+        (3, 1),
+    ),
+    (
+        TEXT,
+        3,
+        b"volume 1 failed: ReelTooSmall\nvolume 1 failed: ReelTooSmall\nline 9: not possible\n",
+        (1, 0),
+    ),
+    (b"drive d 0", 0, b"", (3, 1)),
 ];
 
 #[test]
-fn nothing_follows_a_failed_write(rt: HostRuntime) -> Result<(), Fail> {
-    for (left, printed) in (0..).zip(PRINTED) {
+fn nothing_follows_a_failed_write(rt: HostRuntime) {
+    for (text, left, printed, ended) in &CASES {
         let mut taken = Vec::new(rt.alloc());
         let mut out = Counted::new(Failing {
             taken: &mut taken,
-            left,
+            left: *left,
         });
-        let status = schedule(rt.alloc(), TEXT, &mut out);
-        let failures = out.failures();
-        assert_eq!(rt; (status, failures), if left < 3 { (3, 1) } else { (1, 0) });
+        let status = schedule(rt.alloc(), text, &mut out);
+        assert!(rt; (status, out.failures()) == *ended);
         drop(out);
-        assert_eq!(rt; taken.as_slice(), printed);
+        assert_eq!(rt; taken.as_slice(), *printed);
     }
-    Ok(())
-}
-
-#[test]
-fn a_report_that_is_not_taken(rt: HostRuntime) {
-    let mut taken = Vec::new(rt.alloc());
-    let mut out = Counted::new(Failing {
-        taken: &mut taken,
-        left: 0,
-    });
-    assert_eq!(rt; schedule(rt.alloc(), b"drive d 0", &mut out), 3);
 }

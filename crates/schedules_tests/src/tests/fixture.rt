@@ -12,13 +12,6 @@ pub(crate) struct Case {
     pub(crate) status: u8,
 }
 
-impl Case {
-    /// Runs the schedule. It fails where the schedule prints something else, or has another status.
-    pub(crate) fn check(&self, alloc: Global) -> Result<(), Fail> {
-        check(alloc, self.text, self.printed, self.status)
-    }
-}
-
 /// Runs the schedule. It fails where the schedule prints something else, or has another status.
 pub(crate) fn check(alloc: Global, text: &[u8], wanted: &[u8], status: u8) -> Result<(), Fail> {
     let mut printed = Vec::new(alloc);
@@ -30,4 +23,12 @@ pub(crate) fn check(alloc: Global, text: &[u8], wanted: &[u8], status: u8) -> Re
     let text = str::from_utf8(text).unwrap_or("");
     let printed = str::from_utf8(printed.as_slice()).unwrap_or("");
     Err(Fail::new(format_args!("{told}: {printed} of {text}")))
+}
+
+/// Runs each of these schedules.
+pub(crate) fn check_cases(alloc: Global, cases: &[Case]) -> Result<(), Fail> {
+    for case in cases {
+        check(alloc, case.text, case.printed, case.status)?;
+    }
+    Ok(())
 }

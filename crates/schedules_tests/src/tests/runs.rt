@@ -1,11 +1,10 @@
 //! Whole schedules, with a failure each of their own.
 
-use super::fixture::Case;
+use super::fixture::{Case, check_cases};
 use std::test::Fail;
 
-/// The answer to MTOFFL is lost: the first reel has a whole volume and is not counted.
-#[test]
-fn an_unload_without_an_answer(rt: HostRuntime) -> Result<(), Fail> {
+static RUNS: [Case; 8] = [
+    // The answer to MTOFFL is lost: the first reel has a whole volume and is not counted.
     Case {
         text: b"drive /dev/st0 3100 r1 r2 r3\n\
     run /dev/st0 /usr 0 951782400 0 1024 3\n\
@@ -34,13 +33,8 @@ fn an_unload_without_an_answer(rt: HostRuntime) -> Result<(), Fail> {
     dumpdates\n\
     /usr                             0 Tue Feb 29 00:00:00 2000\n",
         status: 0,
-    }
-    .check(rt.alloc())
-}
-
-/// The session of a connection that was cut still holds the drive.
-#[test]
-fn a_stale_session(rt: HostRuntime) -> Result<(), Fail> {
+    },
+    // The session of a connection that was cut still holds the drive.
     Case {
         text: b"drive /dev/st0 3100 r1 r2\n\
     run /dev/st0 /usr 0 951782400 0 1024 3\n\
@@ -64,13 +58,8 @@ fn a_stale_session(rt: HostRuntime) -> Result<(), Fail> {
     counted 1 1 0 2 r1\n\
     dumpdates\n",
         status: 0,
-    }
-    .check(rt.alloc())
-}
-
-/// A reel has room for the label alone.
-#[test]
-fn a_reel_too_small(rt: HostRuntime) -> Result<(), Fail> {
+    },
+    // A reel has room for the label alone.
     Case {
         text: b"drive /dev/st0 1040 r1\n\
     run /dev/st0 /usr 0 951782400 0 1024 1\n\
@@ -82,13 +71,8 @@ fn a_reel_too_small(rt: HostRuntime) -> Result<(), Fail> {
     bin\n\
     dumpdates\n",
         status: 0,
-    }
-    .check(rt.alloc())
-}
-
-/// A run without blocks is one volume of a label and a mark.
-#[test]
-fn no_blocks(rt: HostRuntime) -> Result<(), Fail> {
+    },
+    // A run without blocks is one volume of a label and a mark.
     Case {
         text: b"drive /dev/st0 1040 r1\n\
     run /dev/st0 /usr 0 951782400 0 1024 0\n\
@@ -100,13 +84,8 @@ fn no_blocks(rt: HostRuntime) -> Result<(), Fail> {
     counted 1 1 0 0 r1\n\
     dumpdates\n",
         status: 0,
-    }
-    .check(rt.alloc())
-}
-
-/// A write fails after the record was written.
-#[test]
-fn a_fault_in_a_write(rt: HostRuntime) -> Result<(), Fail> {
+    },
+    // A write fails after the record was written.
     Case {
         text: b"drive /dev/st0 3100 r1\n\
     run /dev/st0 /usr 0 951782400 0 1024 1\n\
@@ -122,13 +101,8 @@ fn a_fault_in_a_write(rt: HostRuntime) -> Result<(), Fail> {
     bin\n\
     dumpdates\n",
         status: 0,
-    }
-    .check(rt.alloc())
-}
-
-/// A stranger opens the drive, and sends a part of a write.
-#[test]
-fn bytes_of_a_stranger(rt: HostRuntime) -> Result<(), Fail> {
+    },
+    // A stranger opens the drive, and sends a part of a write.
     Case {
         text: b"drive /dev/st0 3100 r1\n\
     stranger\n\
@@ -141,13 +115,8 @@ fn bytes_of_a_stranger(rt: HostRuntime) -> Result<(), Fail> {
     bin\n\
     dumpdates\n",
         status: 0,
-    }
-    .check(rt.alloc())
-}
-
-/// A reel that was counted is laid on the stack again, and a stranger writes on it.
-#[test]
-fn a_counted_reel_written_again(rt: HostRuntime) -> Result<(), Fail> {
+    },
+    // A reel that was counted is laid on the stack again, and a stranger writes on it.
     Case {
         text: b"drive /dev/st0 3100 r1\n\
     run /dev/st0 /usr 0 951782400 0 1024 1\n\
@@ -165,13 +134,8 @@ fn a_counted_reel_written_again(rt: HostRuntime) -> Result<(), Fail> {
     counted 1 1 0 1 r1\n\
     dumpdates\n",
         status: 0,
-    }
-    .check(rt.alloc())
-}
-
-/// The server restarts in mid volume.
-#[test]
-fn a_server_restart(rt: HostRuntime) -> Result<(), Fail> {
+    },
+    // The server restarts in mid volume.
     Case {
         text: b"drive /dev/st0 3100 r1 r2\n\
     run /dev/st0 /usr 0 951782400 0 1024 3\n\
@@ -193,6 +157,10 @@ fn a_server_restart(rt: HostRuntime) -> Result<(), Fail> {
     counted 1 2 2 1 r2\n\
     dumpdates\n",
         status: 0,
-    }
-    .check(rt.alloc())
+    },
+];
+
+#[test]
+fn whole_schedules(rt: HostRuntime) -> Result<(), Fail> {
+    check_cases(rt.alloc(), &RUNS)
 }

@@ -1,10 +1,9 @@
-//! A run and its payload, and the events that lines are with them.
+//! A run and its payload.
 
-use super::line::Line;
 use dump_client::Run;
 use std::alloc::{AllocError, Global};
 use std::test::Fail;
-use tape_world::{Event, World};
+use tape_world::Event;
 
 /// A run and its payload.
 #[derive(Drop)]
@@ -35,39 +34,11 @@ impl Dump {
         Ok(())
     }
 
-    /// The event that the line is in that world.
-    pub(crate) fn event<'a>(&'a self, line: Line, world: &World) -> Event<'a> {
-        match line {
-            Line::Start => Event::StartRun {
-                run: &self.run,
-                payload: self.payload.as_slice(),
-            },
-            Line::Connect => Event::Connect,
-            Line::Send(fails) => Event::Send { fails },
-            Line::ToServer(connection) => Event::ToServer {
-                connection,
-                count: world.on_way(connection).unwrap_or((0, 0)).0,
-            },
-            Line::BytesToServer(connection, count) => Event::ToServer { connection, count },
-            Line::Serve(connection, trouble) => Event::Serve {
-                connection,
-                trouble,
-            },
-            Line::ToClient(connection) => Event::ToClient {
-                connection,
-                count: world.on_way(connection).unwrap_or((0, 0)).1,
-            },
-            Line::BytesToClient(connection, count) => Event::ToClient { connection, count },
-            Line::Cut(connection) => Event::Cut { connection },
-            Line::EndAtServer(connection) => Event::EndAtServer { connection },
-            Line::EndAtClient(connection) => Event::EndAtClient { connection },
-            Line::ServerRestart => Event::ServerRestart,
-            Line::ClientRestart => Event::ClientRestart,
-            Line::Respond(answer) => Event::Respond { answer },
-            Line::Arrange(drive, reels) => Event::Arrange { drive, reels },
-            Line::Stranger => Event::Stranger,
-            Line::Says(connection, bytes) => Event::Says { connection, bytes },
-            Line::Enter => Event::Enter,
+    /// The run is begun.
+    pub(crate) fn start(&self) -> Event<'_> {
+        Event::StartRun {
+            run: &self.run,
+            payload: self.payload.as_slice(),
         }
     }
 }

@@ -1,6 +1,11 @@
-//! The laws of the world as plain data, each called once.
+//! The laws of the world as plain data, each called once, and what a world tells of itself.
 
+ghost use Rattle.tape_events.specs.Kept.{IsKept};
+
+use super::world::new_world;
+use std::test::Fail;
 use tape_events::{kept, one_request, one_run, smooth};
+use tape_world::{DriveSpec, World};
 
 #[test]
 fn each_law_is_called(_rt: HostRuntime) {
@@ -8,4 +13,23 @@ fn each_law_is_called(_rt: HostRuntime) {
     one_request();
     one_run();
     smooth();
+}
+
+/// What is kept holds of the world that is asked.
+fn ask(world: &World)
+    ensures { IsKept world.now }
+{
+    world.kept();
+}
+
+#[test]
+fn a_world_tells_what_is_kept(rt: HostRuntime) -> Result<(), Fail> {
+    let drives = [DriveSpec {
+        name: b"/dev/st0",
+        capacity: 3100,
+        reels: &[b"r1"],
+    }];
+    let world = new_world(rt.alloc(), &drives)?;
+    ask(world.as_ref());
+    Ok(())
 }

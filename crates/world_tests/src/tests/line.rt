@@ -2,24 +2,15 @@
 
 use dump_client::Answer;
 use tape::Trouble;
+use tape_world::{Event, World, run};
 
-/// What is to happen. A connection is told by its number.
-#[derive(Clone, Copy)]
+/// An event that has no run. A connection is told by its number, and bytes by how many they are.
 pub(crate) enum Line {
-    /// The run of a dump is begun.
-    Start,
     Connect,
-    /// Whether a read of the payload fails.
-    Send(bool),
-    /// As many bytes as are on the way and as there is room for.
-    ToServer(usize),
-    /// So many bytes.
-    BytesToServer(usize, usize),
-    Serve(usize, Trouble),
-    /// As many bytes as are on the way.
-    ToClient(usize),
-    /// So many bytes.
-    BytesToClient(usize, usize),
+    Send,
+    ToServer(usize, usize),
+    Serve(usize),
+    ToClient(usize, usize),
     Cut(usize),
     EndAtServer(usize),
     EndAtClient(usize),
@@ -33,10 +24,36 @@ pub(crate) enum Line {
     Enter,
 }
 
-/// Lines, and then so many rounds on that connection.
-#[derive(Clone, Copy)]
-pub(crate) struct Part {
-    pub(crate) lines: &'static [Line],
-    pub(crate) connection: usize,
-    pub(crate) rounds: usize,
+/// The event that the line is.
+fn event(line: &Line) -> Event<'static> {
+    match *line {
+        Line::Connect => Event::Connect,
+        Line::Send => Event::Send { fails: false },
+        Line::ToServer(connection, count) => Event::ToServer { connection, count },
+        Line::Serve(connection) => Event::Serve {
+            connection,
+            trouble: Trouble::None,
+        },
+        Line::ToClient(connection, count) => Event::ToClient { connection, count },
+        Line::Cut(connection) => Event::Cut { connection },
+        Line::EndAtServer(connection) => Event::EndAtServer { connection },
+        Line::EndAtClient(connection) => Event::EndAtClient { connection },
+        Line::ServerRestart => Event::ServerRestart,
+        Line::ClientRestart => Event::ClientRestart,
+        Line::Respond(answer) => Event::Respond { answer },
+        Line::Arrange(drive, reels) => Event::Arrange { drive, reels },
+        Line::Stranger => Event::Stranger,
+        Line::Says(connection, bytes) => Event::Says { connection, bytes },
+        Line::Enter => Event::Enter,
+    }
+}
+
+/// Makes the lines one after the other, up to the first that is not made. It tells the place of that.
+pub(crate) fn stop_of(world: &mut World, lines: &[Line]) -> Option<usize> {
+    for (place, line) in lines.iter().enumerate() {
+        if run(world, &[event(line)]) != Ok(()) {
+            return Some(place);
+        }
+    }
+    None
 }

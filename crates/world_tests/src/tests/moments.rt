@@ -1,19 +1,23 @@
 //! What a world tells on the way through a run, moment by moment.
 
 use super::dump::Dump;
-use super::line::{Line, Part};
-use super::place::check_place;
-use super::scene::Scene;
-use dump_client::{Answer, AttemptFault, Client, ListBlocks, State, VolumeCount};
-use std::process::Abort;
+use super::line::{Line, stop_of};
+use super::place::expect_none;
+use super::reels::is_at_end;
+use super::world::new_world;
+use dump_client::{Answer, AttemptFault, State, VolumeCount};
 use std::test::Fail;
 use tape::Trouble;
-use tape_world::{DriveSpec, World};
+use tape_world::{DriveSpec, Event, World, run};
 
-/// What happens, and what the world tells then of its client and of the connection of that part.
-#[derive(Clone, Copy)]
+/// What happens, and what the world tells then of its client and of a connection.
 struct Moment {
-    part: Part,
+    /// Whether the run of the dump is begun first.
+    starts: bool,
+    lines: &'static [Line],
+    connection: usize,
+    /// The client's requests then, on that connection, each with its reply: how many bytes they have.
+    rounds: &'static [(usize, usize)],
     /// The connection of the client's attempt.
     own: Option<usize>,
     /// How many of the bytes on the way can reach the server, and how many the other side.
@@ -44,14 +48,30 @@ const TWO: VolumeCount = VolumeCount {
     count: 1,
 };
 
-static MOMENTS: [Moment; 22] = [
+const OPEN: (usize, usize) = (12, 3);
+
+const REWIND: (usize, usize) = (5, 3);
+
+const LABEL: (usize, usize) = (1030, 6);
+
+const BLOCK: (usize, usize) = (1030, 6);
+
+/// A block for which there is no room.
+const REFUSED: (usize, usize) = (1030, 3);
+
+const MARK: (usize, usize) = (5, 3);
+
+const UNLOAD: (usize, usize) = (5, 3);
+
+const CLOSE: (usize, usize) = (2, 3);
+
+static MOMENTS: [Moment; 23] = [
     // Nothing has happened.
     Moment {
-        part: Part {
-            lines: &[],
-            connection: 1,
-            rounds: 0,
-        },
+        starts: false,
+        lines: &[],
+        connection: 1,
+        rounds: &[],
         own: None,
         way: None,
         online: None,
@@ -60,11 +80,10 @@ static MOMENTS: [Moment; 22] = [
     },
     // A run is begun.
     Moment {
-        part: Part {
-            lines: &[Line::Start],
-            connection: 1,
-            rounds: 0,
-        },
+        starts: true,
+        lines: &[],
+        connection: 1,
+        rounds: &[],
         own: None,
         way: None,
         online: None,
@@ -73,11 +92,10 @@ static MOMENTS: [Moment; 22] = [
     },
     // An attempt starts.
     Moment {
-        part: Part {
-            lines: &[Line::Connect],
-            connection: 1,
-            rounds: 0,
-        },
+        starts: false,
+        lines: &[Line::Connect],
+        connection: 1,
+        rounds: &[],
         own: Some(1),
         way: Some((0, 0)),
         online: Some(None),
@@ -86,11 +104,10 @@ static MOMENTS: [Moment; 22] = [
     },
     // The open of the drive is on the way.
     Moment {
-        part: Part {
-            lines: &[Line::Send(false)],
-            connection: 1,
-            rounds: 0,
-        },
+        starts: false,
+        lines: &[Line::Send],
+        connection: 1,
+        rounds: &[],
         own: Some(1),
         way: Some((12, 0)),
         online: Some(None),
@@ -99,11 +116,10 @@ static MOMENTS: [Moment; 22] = [
     },
     // A part of it is at the server.
     Moment {
-        part: Part {
-            lines: &[Line::BytesToServer(1, 5)],
-            connection: 1,
-            rounds: 0,
-        },
+        starts: false,
+        lines: &[Line::ToServer(1, 5)],
+        connection: 1,
+        rounds: &[],
         own: Some(1),
         way: Some((7, 0)),
         online: Some(None),
@@ -112,11 +128,10 @@ static MOMENTS: [Moment; 22] = [
     },
     // It is carried out, and its reply is on the way.
     Moment {
-        part: Part {
-            lines: &[Line::ToServer(1), Line::Serve(1, Trouble::None)],
-            connection: 1,
-            rounds: 0,
-        },
+        starts: false,
+        lines: &[Line::ToServer(1, 7), Line::Serve(1)],
+        connection: 1,
+        rounds: &[],
         own: Some(1),
         way: Some((0, 3)),
         online: Some(Some(0)),
@@ -125,11 +140,10 @@ static MOMENTS: [Moment; 22] = [
     },
     // A part of the reply is heard.
     Moment {
-        part: Part {
-            lines: &[Line::BytesToClient(1, 2)],
-            connection: 1,
-            rounds: 0,
-        },
+        starts: false,
+        lines: &[Line::ToClient(1, 2)],
+        connection: 1,
+        rounds: &[],
         own: Some(1),
         way: Some((0, 1)),
         online: Some(Some(0)),
@@ -138,11 +152,10 @@ static MOMENTS: [Moment; 22] = [
     },
     // All of it is.
     Moment {
-        part: Part {
-            lines: &[Line::ToClient(1)],
-            connection: 1,
-            rounds: 0,
-        },
+        starts: false,
+        lines: &[Line::ToClient(1, 1)],
+        connection: 1,
+        rounds: &[],
         own: Some(1),
         way: Some((0, 0)),
         online: Some(Some(0)),
@@ -151,11 +164,10 @@ static MOMENTS: [Moment; 22] = [
     },
     // The tape is rewound, a label and two blocks are written, the third has no room, and there is a mark.
     Moment {
-        part: Part {
-            lines: &[],
-            connection: 1,
-            rounds: 6,
-        },
+        starts: false,
+        lines: &[],
+        connection: 1,
+        rounds: &[REWIND, LABEL, BLOCK, BLOCK, REFUSED, MARK],
         own: Some(1),
         way: Some((0, 0)),
         online: Some(Some(0)),
@@ -164,15 +176,10 @@ static MOMENTS: [Moment; 22] = [
     },
     // The reel is moved off, which the client does not know yet.
     Moment {
-        part: Part {
-            lines: &[
-                Line::Send(false),
-                Line::ToServer(1),
-                Line::Serve(1, Trouble::None),
-            ],
-            connection: 1,
-            rounds: 0,
-        },
+        starts: false,
+        lines: &[Line::Send, Line::ToServer(1, 5), Line::Serve(1)],
+        connection: 1,
+        rounds: &[],
         own: Some(1),
         way: Some((0, 3)),
         online: Some(None),
@@ -181,11 +188,10 @@ static MOMENTS: [Moment; 22] = [
     },
     // The volume is counted.
     Moment {
-        part: Part {
-            lines: &[Line::ToClient(1)],
-            connection: 1,
-            rounds: 0,
-        },
+        starts: false,
+        lines: &[Line::ToClient(1, 3)],
+        connection: 1,
+        rounds: &[],
         own: Some(1),
         way: Some((0, 0)),
         online: Some(None),
@@ -194,11 +200,10 @@ static MOMENTS: [Moment; 22] = [
     },
     // The attempt is over. The session of its connection is not.
     Moment {
-        part: Part {
-            lines: &[],
-            connection: 1,
-            rounds: 1,
-        },
+        starts: false,
+        lines: &[],
+        connection: 1,
+        rounds: &[CLOSE],
         own: None,
         way: Some((0, 0)),
         online: Some(None),
@@ -207,11 +212,10 @@ static MOMENTS: [Moment; 22] = [
     },
     // Now it is.
     Moment {
-        part: Part {
-            lines: &[Line::EndAtServer(1)],
-            connection: 1,
-            rounds: 0,
-        },
+        starts: false,
+        lines: &[Line::EndAtServer(1)],
+        connection: 1,
+        rounds: &[],
         own: None,
         way: Some((0, 0)),
         online: None,
@@ -220,11 +224,10 @@ static MOMENTS: [Moment; 22] = [
     },
     // The second volume is written up to its mark.
     Moment {
-        part: Part {
-            lines: &[Line::Connect],
-            connection: 2,
-            rounds: 5,
-        },
+        starts: false,
+        lines: &[Line::Connect],
+        connection: 2,
+        rounds: &[OPEN, REWIND, LABEL, BLOCK, MARK],
         own: Some(2),
         way: Some((0, 0)),
         online: Some(Some(0)),
@@ -233,11 +236,10 @@ static MOMENTS: [Moment; 22] = [
     },
     // The run is finished.
     Moment {
-        part: Part {
-            lines: &[],
-            connection: 2,
-            rounds: 2,
-        },
+        starts: false,
+        lines: &[],
+        connection: 2,
+        rounds: &[UNLOAD, CLOSE],
         own: None,
         way: Some((0, 0)),
         online: Some(None),
@@ -246,11 +248,10 @@ static MOMENTS: [Moment; 22] = [
     },
     // It is entered.
     Moment {
-        part: Part {
-            lines: &[Line::Enter],
-            connection: 2,
-            rounds: 0,
-        },
+        starts: false,
+        lines: &[Line::Enter],
+        connection: 2,
+        rounds: &[],
         own: None,
         way: Some((0, 0)),
         online: Some(None),
@@ -259,17 +260,15 @@ static MOMENTS: [Moment; 22] = [
     },
     // Another run is begun, and its connection ends while its first request is on the way.
     Moment {
-        part: Part {
-            lines: &[
-                Line::Start,
-                Line::Connect,
-                Line::Send(false),
-                Line::Cut(3),
-                Line::EndAtClient(3),
-            ],
-            connection: 3,
-            rounds: 0,
-        },
+        starts: true,
+        lines: &[
+            Line::Connect,
+            Line::Send,
+            Line::Cut(3),
+            Line::EndAtClient(3),
+        ],
+        connection: 3,
+        rounds: &[],
         own: None,
         way: Some((12, 0)),
         online: Some(None),
@@ -278,11 +277,10 @@ static MOMENTS: [Moment; 22] = [
     },
     // That run is given up. The request arrives.
     Moment {
-        part: Part {
-            lines: &[Line::Respond(Answer::Abandon), Line::ToServer(3)],
-            connection: 3,
-            rounds: 0,
-        },
+        starts: false,
+        lines: &[Line::Respond(Answer::Abandon), Line::ToServer(3, 12)],
+        connection: 3,
+        rounds: &[],
         own: None,
         way: Some((0, 0)),
         online: Some(None),
@@ -291,11 +289,10 @@ static MOMENTS: [Moment; 22] = [
     },
     // It is carried out, and its reply is lost.
     Moment {
-        part: Part {
-            lines: &[Line::Serve(3, Trouble::None)],
-            connection: 3,
-            rounds: 0,
-        },
+        starts: false,
+        lines: &[Line::Serve(3)],
+        connection: 3,
+        rounds: &[],
         own: None,
         way: Some((0, 0)),
         online: Some(Some(0)),
@@ -304,11 +301,10 @@ static MOMENTS: [Moment; 22] = [
     },
     // A run is begun and forgotten. The session stays.
     Moment {
-        part: Part {
-            lines: &[Line::Start, Line::ClientRestart],
-            connection: 3,
-            rounds: 0,
-        },
+        starts: true,
+        lines: &[Line::ClientRestart],
+        connection: 3,
+        rounds: &[],
         own: None,
         way: Some((0, 0)),
         online: Some(Some(0)),
@@ -317,16 +313,15 @@ static MOMENTS: [Moment; 22] = [
     },
     // What a stranger says is no request.
     Moment {
-        part: Part {
-            lines: &[
-                Line::Stranger,
-                Line::Says(4, b"S\n"),
-                Line::ToServer(4),
-                Line::Serve(4, Trouble::None),
-            ],
-            connection: 4,
-            rounds: 0,
-        },
+        starts: false,
+        lines: &[
+            Line::Stranger,
+            Line::Says(4, b"S\n"),
+            Line::ToServer(4, 2),
+            Line::Serve(4),
+        ],
+        connection: 4,
+        rounds: &[],
         own: None,
         way: Some((0, 0)),
         online: None,
@@ -335,11 +330,22 @@ static MOMENTS: [Moment; 22] = [
     },
     // The server restarts, and what another stranger said is lost.
     Moment {
-        part: Part {
-            lines: &[Line::Stranger, Line::Says(5, b"C\n"), Line::ServerRestart],
-            connection: 5,
-            rounds: 0,
-        },
+        starts: false,
+        lines: &[Line::Stranger, Line::Says(5, b"C\n"), Line::ServerRestart],
+        connection: 5,
+        rounds: &[],
+        own: None,
+        way: Some((0, 0)),
+        online: None,
+        client: None,
+        failure: None,
+    },
+    // The operator lays the first reel back, after the third.
+    Moment {
+        starts: false,
+        lines: &[Line::Arrange(b"/dev/st0", &[b"r3", b"r1"])],
+        connection: 5,
+        rounds: &[],
         own: None,
         way: Some((0, 0)),
         online: None,
@@ -347,6 +353,39 @@ static MOMENTS: [Moment; 22] = [
         failure: None,
     },
 ];
+
+/// Makes each of these requests, and brings it and its reply over. Whether that is possible.
+fn makes_rounds(world: &mut World, connection: usize, rounds: &[(usize, usize)]) -> bool {
+    for (request, reply) in rounds {
+        let round = [
+            Event::Send { fails: false },
+            Event::ToServer {
+                connection,
+                count: *request,
+            },
+            Event::Serve {
+                connection,
+                trouble: Trouble::None,
+            },
+            Event::ToClient {
+                connection,
+                count: *reply,
+            },
+        ];
+        if run(world, &round) != Ok(()) {
+            return false;
+        }
+    }
+    true
+}
+
+/// Makes what happens. Whether that is possible.
+fn makes(world: &mut World, dump: &Dump, moment: &Moment) -> bool {
+    let can_start = !moment.starts || run(world, &[dump.start()]) == Ok(());
+    can_start
+        && stop_of(world, moment.lines).is_none()
+        && makes_rounds(world, moment.connection, moment.rounds)
+}
 
 /// The drive whose reel the session of this connection has online, where the server's side is live.
 fn online(world: &World, connection: usize) -> Option<Option<usize>> {
@@ -356,35 +395,12 @@ fn online(world: &World, connection: usize) -> Option<Option<usize>> {
     }
 }
 
-/// The client tells the entry of its run exactly when it is finished.
-fn tells_entry(client: &Client<ListBlocks>) -> bool {
-    match client.finished() {
-        Some(entry) => {
-            client.state() == State::Finished
-                && entry.name == "/usr"
-                && entry.level == 0
-                && entry.date == 951782400
-        }
-        None => client.state() != State::Finished,
-    }
-}
-
-/// The client stands so.
-fn stands(
-    client: &Client<ListBlocks>,
-    state: State,
-    next: (u32, u32),
-    counted: &[VolumeCount],
-) -> bool {
-    client.state() == state
-        && client.checkpoint() == next
-        && client.counted() == counted
-        && tells_entry(client)
-}
-
+/// The client is as is wanted, or there is none.
 fn has_client(world: &World, wanted: Option<(State, (u32, u32), &[VolumeCount])>) -> bool {
     match (world.client(), wanted) {
-        (Some(client), Some((state, next, counted))) => stands(client, state, next, counted),
+        (Some(client), Some((state, next, counted))) => {
+            client.state() == state && client.checkpoint() == next && client.counted() == counted
+        }
         (None, None) => true,
         _ => false,
     }
@@ -392,7 +408,7 @@ fn has_client(world: &World, wanted: Option<(State, (u32, u32), &[VolumeCount])>
 
 /// The world tells what it has to.
 fn is_met(world: &World, moment: &Moment) -> bool {
-    let connection = moment.part.connection;
+    let connection = moment.connection;
     world.own() == moment.own
         && world.on_way(connection) == moment.way
         && online(world, connection) == moment.online
@@ -400,23 +416,21 @@ fn is_met(world: &World, moment: &Moment) -> bool {
         && world.failure() == moment.failure
 }
 
-/// Follows the moments one after the other.
-fn check_moments(
-    rt: &impl Abort,
-    scene: &mut Scene,
-    dump: &Dump,
-    moments: &[Moment],
-) -> Result<(), Fail> {
-    for (at, moment) in moments.iter().enumerate() {
-        scene.follow_part(dump, &moment.part)?;
-        check_place(rt, at, is_met(scene.world(), moment));
+/// Makes the moments one after the other. It tells the first that is not as is wanted.
+fn wrong_moment(world: &mut World, dump: &Dump) -> Option<usize> {
+    for (at, moment) in MOMENTS.iter().enumerate() {
+        if !makes(world, dump, moment) || !is_met(world, moment) {
+            return Some(at);
+        }
     }
-    Ok(())
+    None
 }
 
 #[test]
 fn a_world_tells_each_moment(rt: HostRuntime) -> Result<(), Fail> {
     let dump = Dump::new(rt.alloc(), 3)?;
-    let mut scene = Scene::new(rt.alloc(), &DRIVES)?;
-    check_moments(&rt, scene.as_mut(), &dump, &MOMENTS)
+    let mut world = new_world(rt.alloc(), &DRIVES)?;
+    expect_none(&rt, wrong_moment(world.as_mut(), &dump));
+    assert!(rt; is_at_end(world.as_ref())?);
+    Ok(())
 }

@@ -1,8 +1,8 @@
-//! The places of rows in their tables.
+//! Rows of tables.
 
 use std::process::Abort;
 
-/// The row at this place of its table is met.
-pub(crate) fn check_place(rt: &impl Abort, place: usize, is_met: bool) {
-    assert!(rt; is_met, "row {place}");
+/// No row is wrong.
+pub(crate) fn expect_none(rt: &impl Abort, wrong: Option<usize>) {
+    assert!(rt; wrong.is_none(), "row {wrong:?}");
 }

@@ -1,10 +1,92 @@
-//! What a world tells of its reels.
+//! What a world tells after two volumes: the entries of reels, where the reels lie, counts and dumpdates.
 
 use drives::ListedReel;
-use tape_world::World;
+use std::test::Fail;
+use tape_world::{CountTold, World};
+
+/// The text of the first label.
+const FIRST: &[u8] = b"name /usr\nlevel 0\ndate 951782400\nsince 0\nvolume 1\nfirst 0\n\0";
+
+/// The text of the second.
+const SECOND: &[u8] = b"name /usr\nlevel 0\ndate 951782400\nsince 0\nvolume 2\nfirst 2\n\0";
+
+/// No byte of an entry.
+const NONE: &[u8] = b"....";
+
+/// A reel, a place on it, what is told of the entry there, and how the array begins then in which its bytes are wanted: the
+/// length of a record, 0 for a mark, and nothing past the last or of no reel.
+static ENTRIES: [(&[u8], usize, Option<usize>, &[u8]); 11] = [
+    (b"r1", 0, Some(1024), FIRST),
+    (b"r1", 1, Some(1024), &[0, 0, 0, 0]),
+    (b"r1", 2, Some(1024), &[1, 1, 1, 1]),
+    (b"r1", 3, Some(0), NONE),
+    (b"r1", 4, None, NONE),
+    (b"r2", 0, Some(1024), SECOND),
+    (b"r2", 1, Some(1024), &[2, 2, 2, 2]),
+    (b"r2", 2, Some(0), NONE),
+    (b"r2", 3, None, NONE),
+    (b"r3", 0, None, NONE),
+    (b"none", 0, None, NONE),
+];
+
+/// The volumes that were counted.
+static COUNTS: [CountTold<'static>; 2] = [
+    CountTold {
+        run: 1,
+        volume: 1,
+        first: 0,
+        count: 2,
+        reel: b"r1",
+        connection: 1,
+    },
+    CountTold {
+        run: 1,
+        volume: 2,
+        first: 2,
+        count: 1,
+        reel: b"r2",
+        connection: 2,
+    },
+];
+
+const DATES: &[u8] = b"/usr                             0 Tue Feb 29 00:00:00 2000\n";
+
+/// The entry is told so, with an array that begins so then. What is after a record in a larger array stays.
+fn has_entry(
+    world: &World,
+    reel: &[u8],
+    place: usize,
+    wanted: Option<usize>,
+    front: &[u8],
+) -> bool {
+    let mut bytes = [b'.'; 1026];
+    let told = world.entry(reel, place, &mut bytes);
+    told == wanted && bytes.starts_with(front) && bytes.ends_with(b"..")
+}
+
+/// All entries are told so.
+fn has_entries(world: &World) -> bool {
+    for (reel, place, wanted, front) in &ENTRIES {
+        if !has_entry(world, reel, *place, *wanted, front) {
+            return false;
+        }
+    }
+    true
+}
+
+/// These counts are told, and no others.
+fn has_counts(world: &World) -> bool {
+    let counts = world.counts();
+    for (place, count) in COUNTS.iter().enumerate() {
+        if counts.get(place) != Some(*count) {
+            return false;
+        }
+    }
+    counts.len() == 2 && !counts.is_empty()
+}
 
 /// These reels have these names.
-pub(crate) fn have_names(reels: &[ListedReel], names: &[&[u8]]) -> bool {
+fn have_names(reels: &[ListedReel], names: &[&[u8]]) -> bool {
     for (place, name) in names.iter().enumerate() {
         match reels.get(place) {
             Some(reel) if reel.name() == *name => {}
@@ -15,7 +97,7 @@ pub(crate) fn have_names(reels: &[ListedReel], names: &[&[u8]]) -> bool {
 }
 
 /// The drive has these reels on its stack, or there is no such drive.
-pub(crate) fn has_stack(world: &World, drive: &[u8], names: Option<&[&[u8]]>) -> bool {
+fn has_stack(world: &World, drive: &[u8], names: Option<&[&[u8]]>) -> bool {
     match (world.stack(drive), names) {
         (Some(reels), Some(names)) => have_names(reels, names),
         (None, None) => true,
@@ -23,12 +105,16 @@ pub(crate) fn has_stack(world: &World, drive: &[u8], names: Option<&[&[u8]]>) ->
     }
 }
 
-/// The reel has entries of these lengths, 0 for a mark, and none past the last.
-pub(crate) fn has_lengths(world: &World, reel: &[u8], lengths: &[usize]) -> bool {
-    for (place, length) in lengths.iter().enumerate() {
-        if world.entry(reel, place, &mut []) != Some(*length) {
-            return false;
-        }
-    }
-    world.entry(reel, lengths.len(), &mut []).is_none()
+/// Two reels are on the stack, and the second one is in the bin.
+fn has_reels(world: &World) -> bool {
+    has_stack(world, b"/dev/st0", Some(&[b"r3", b"r1"]))
+        && has_stack(world, b"/dev/st1", None)
+        && have_names(world.bin(), &[b"r2"])
+}
+
+/// All stands as after two volumes.
+pub(crate) fn is_at_end(world: &World) -> Result<bool, Fail> {
+    let dates = world.dates().text()?;
+    let is_entered = dates.as_slice() == DATES;
+    Ok(is_entered && has_entries(world) && has_counts(world) && has_reels(world))
 }
