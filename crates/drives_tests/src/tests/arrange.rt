@@ -1,4 +1,4 @@
-//! An operator's order of a stack, and reels by their names.
+//! An operator's order of a stack, and a reel by its name.
 
 ghost use Rattle.std.specs.Prelude.{◌≡◌, IfOk, length};
 
@@ -32,40 +32,18 @@ fn add_five_reels(stacks: &mut ListStacks) -> Result<(), Fail>
     Ok(add_three_reels(stacks)?)
 }
 
-/// Whether the reel begins with that record of one byte, or has none where there is none in it.
-fn begins_with(reel: &TroubledReel, record: &[u8]) -> bool {
+/// Whether the letter d is written on the reel.
+fn has_letter(reel: &TroubledReel) -> bool {
     let mut into = [0];
-    let count = reel.entry(0, &mut into).unwrap_or(0);
-    into.get(..count) == Some(record)
+    reel.entry(0, &mut into) == Some(1) && into == *b"d"
 }
 
-/// Whether a reel of that name is found that begins with the record, or none where that is none.
-fn is_found(stacks: &ListStacks, name: &[u8], record: Option<&[u8]>) -> bool {
-    match (stacks.reel(name), record) {
-        (Some(reel), Some(record)) => begins_with(reel, record),
-        (None, None) => true,
-        _ => false,
+/// Whether the reel d is found as it was written.
+fn is_found(stacks: &ListStacks) -> bool {
+    match stacks.reel(b"d") {
+        Some(reel) => has_letter(reel),
+        None => false,
     }
-}
-
-/// Names, and what is written on the reels that are found by them.
-static FOUND: [(&[u8], Option<&[u8]>); 6] = [
-    (b"a", Some(b"")),
-    (b"b", Some(b"")),
-    (b"c", Some(b"")),
-    (b"d", Some(b"d")),
-    (b"e", Some(b"e")),
-    (b"f", None),
-];
-
-/// Whether reels are found wherever they lie, as they were written.
-fn are_found(stacks: &ListStacks) -> bool {
-    for (name, record) in &FOUND {
-        if !is_found(stacks, name, *record) {
-            return false;
-        }
-    }
-    true
 }
 
 /// Names for the first drive's stack, and which reels lie where then. None where it cannot be arranged so.
@@ -87,7 +65,7 @@ static ORDERS: [Row; 11] = [
     (&[b"f"], None),
 ];
 
-/// Whether the first drive's stack becomes the reels of these names, and all are kept.
+/// Whether the first drive's stack becomes the reels of these names, and the reel d is found wherever it lies.
 fn becomes(stacks: &mut ListStacks, names: &[&[u8]], letters: &Letters) -> Result<bool, DriveFault>
     requires { length stacks.old.shop.racks ≡ 2 }
 {
@@ -95,7 +73,7 @@ fn becomes(stacks: &mut ListStacks, names: &[&[u8]], letters: &Letters) -> Resul
         return Ok(false);
     }
     stacks.arrange(0, names)?;
-    Ok(lie(stacks, letters) && are_found(stacks))
+    Ok(lie(stacks, letters) && is_found(stacks))
 }
 
 /// Whether the stack of new drives is arranged as the row says, or cannot be.
@@ -121,41 +99,7 @@ fn goes_anew(alloc: Global, row: &Row) -> Result<bool, Fail> {
 fn a_stack_becomes_the_reels_that_are_named(rt: HostRuntime) -> Result<(), Fail> {
     for row in &ORDERS {
         let right = goes_anew(rt.alloc(), row)?;
-        assert!(rt; right, "{:?}", row.1);
+        assert!(rt; right);
     }
-    Ok(())
-}
-
-/// Whether the first reel of the first drive is not found, nor the drive's stack arranged, as while it is latched.
-fn is_hidden(stacks: &ListStacks) -> bool
-    requires { length stacks.now.shop.racks ≡ 2 }
-{
-    stacks.reel(b"a").is_none() && !stacks.can_arrange(0, &[]) && stacks.can_arrange(1, &[])
-}
-
-/// Whether a reel is hidden while it is latched, and found again afterwards.
-fn hides_while_latched(stacks: &mut ListStacks) -> Result<bool, DriveFault>
-    requires { length stacks.old.shop.racks ≡ 2 }
-{
-    let reel = stacks.latch(0)?;
-    let hidden = is_hidden(stacks);
-    stacks.unlatch(0, reel);
-    Ok(hidden && are_found(stacks))
-}
-
-/// The same, once the drives and the reels are added.
-fn hides_from_none(stacks: &mut ListStacks) -> Result<bool, Fail>
-    requires { length stacks.old.shop.racks ≡ 0 }
-{
-    add_five_reels(stacks)?;
-    Ok(hides_while_latched(stacks)?)
-}
-
-#[test]
-fn a_reel_is_not_found_while_it_is_latched_nor_its_stack_arranged(
-    rt: HostRuntime,
-) -> Result<(), Fail> {
-    let right = hides_from_none(&mut ListStacks::new(rt.alloc()))?;
-    assert!(rt; right);
     Ok(())
 }

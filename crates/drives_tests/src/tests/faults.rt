@@ -22,7 +22,7 @@ fn prints(alloc: Global, fault: &DriveFault, name: &str) -> Result<bool, AllocEr
 #[test]
 fn faults_print_their_names(rt: HostRuntime) -> Result<(), Fail> {
     for (fault, name) in &NAMES {
-        assert!(rt; prints(rt.alloc(), fault, name)?, "{name}");
+        assert!(rt; prints(rt.alloc(), fault, name)?);
     }
     Ok(())
 }

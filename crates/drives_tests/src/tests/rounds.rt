@@ -4,12 +4,11 @@ ghost use Rattle.std.specs.Prelude.{◌≡◌, ◌<◌, length};
 
 use super::reels::{Letters, add_drives, add_three_reels, lie, move_reel};
 use drives::DriveFault::{self, Device, NameTaken, NoReel};
-use drives::{ListStacks, Stacks};
+use drives::{ListStacks, Stacks, lying_troubles};
 use std::alloc::Global;
 use std::test::Fail;
 
 /// What is done at a drive.
-#[derive(Clone, Copy)]
 enum Round {
     /// Its first reel is latched and laid back.
     LaidBack,
@@ -54,7 +53,7 @@ fn latch(stacks: &mut ListStacks, drive: usize) -> Result<(), DriveFault>
 }
 
 /// Makes the round at the drive.
-fn go(stacks: &mut ListStacks, drive: usize, round: Round) -> Result<(), DriveFault>
+fn go(stacks: &mut ListStacks, drive: usize, round: &Round) -> Result<(), DriveFault>
     requires { drive < length stacks.old.shop.racks }
     ensures { length stacks.new.shop.racks ≡ length stacks.old.shop.racks }
 {
@@ -64,7 +63,7 @@ fn go(stacks: &mut ListStacks, drive: usize, round: Round) -> Result<(), DriveFa
         Round::Latched => latch(stacks, drive),
         Round::Added(name) => stacks.add_reel(drive, name.as_bytes(), 5),
         Round::Trouble(on) => {
-            stacks.trouble(on);
+            stacks.trouble(*on);
             Ok(())
         }
     }
@@ -132,15 +131,15 @@ const WAITS: &[Row] = &[
     (0, Round::Latched, Err(Device), ["ab", "C", ""], 1),
 ];
 
-/// Rounds that begin with the reels a and b at the first drive, and c at the second, and what they show.
-static ALL: [(&[Row], &str); 7] = [
-    (LATCHES, "one reel of a drive is latched and stays first"),
-    (MOVES, "reels are moved to the end of the bin"),
-    (ELSEWHERE, "a reel stays latched beside another drive"),
-    (TAKEN_ON_STACKS, "a name is taken on each stack"),
-    (TAKEN_IN_BIN, "a name is taken in the bin"),
-    (ONE_LATCH, "a trouble meets one latch"),
-    (WAITS, "a trouble waits for a reel"),
+/// Rounds that begin with the reels a and b at the first drive, and c at the second.
+static ALL: [&[Row]; 7] = [
+    LATCHES,
+    MOVES,
+    ELSEWHERE,
+    TAKEN_ON_STACKS,
+    TAKEN_IN_BIN,
+    ONE_LATCH,
+    WAITS,
 ];
 
 /// Whether the round goes as it has to.
@@ -150,7 +149,7 @@ fn goes(stacks: &mut ListStacks, row: &Row) -> bool
 {
     let (drive, round, answer, letters, failures) = row;
     *drive < 2
-        && go(stacks, *drive, *round) == *answer
+        && go(stacks, *drive, round) == *answer
         && lie(stacks, letters)
         && stacks.failures() == *failures
 }
@@ -171,6 +170,7 @@ fn all_go(stacks: &mut ListStacks, rows: &[Row]) -> bool
 fn all_go_from_none(stacks: &mut ListStacks, rows: &[Row]) -> Result<bool, DriveFault>
     requires { length stacks.old.shop.racks ≡ 0 }
 {
+    lying_troubles();
     add_drives(stacks)?;
     add_three_reels(stacks)?;
     Ok(all_go(stacks, rows))
@@ -184,9 +184,9 @@ fn all_go_anew(alloc: Global, rows: &[Row]) -> Result<bool, DriveFault> {
 
 #[test]
 fn rounds_leave_the_reels_as_they_have_to(rt: HostRuntime) -> Result<(), Fail> {
-    for (rows, name) in &ALL {
+    for rows in &ALL {
         let right = all_go_anew(rt.alloc(), rows)?;
-        assert!(rt; right, "{name}");
+        assert!(rt; right);
     }
     Ok(())
 }

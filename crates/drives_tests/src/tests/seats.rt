@@ -1,6 +1,6 @@
 //! Steps of two seats, and who holds which drive after each.
 
-ghost use Rattle.std.specs.Prelude.{◌≡◌, ◌≢◌, ◌<◌, ◌≤◌, IfOk, length};
+ghost use Rattle.std.specs.Prelude.{◌≡◌, ◌≢◌, ◌<◌, IfOk, length};
 ghost use Rattle.drives.specs.declared.view.View.{View};
 ghost use Rattle.drives.specs.Local.{IsSeatOf};
 
@@ -9,7 +9,6 @@ use std::alloc::Global;
 use std::test::Fail;
 
 /// What a seat does at a drive, and what that has to come to.
-#[derive(Clone, Copy)]
 enum Step {
     /// It takes the drive, which is answered so.
     Take(Taken),
@@ -20,7 +19,13 @@ enum Step {
 }
 
 /// Has the seat of that number do a step at the drive. Answers whether it comes to what it has to.
-fn goes(holds: &mut LocalHolds, seat: &mut LocalSeat, number: u64, drive: usize, step: Step) -> bool
+fn goes(
+    holds: &mut LocalHolds,
+    seat: &mut LocalSeat,
+    number: u64,
+    drive: usize,
+    step: &Step,
+) -> bool
     requires own { IsSeatOf holds.old seat.old }
     requires number { seat.old.number ≡ number }
     requires drive { drive < length holds.old.numbers }
@@ -30,14 +35,14 @@ fn goes(holds: &mut LocalHolds, seat: &mut LocalSeat, number: u64, drive: usize,
     ensures drives { length holds.new.numbers ≡ length holds.old.numbers }
 {
     match step {
-        Step::Take(wanted) => holds.take(seat, drive) == wanted,
-        Step::Look(wanted) => holds.holder(seat, drive) == wanted,
+        Step::Take(wanted) => holds.take(seat, drive) == *wanted,
+        Step::Look(wanted) => holds.holder(seat, drive) == *wanted,
         Step::Give(wanted) => {
             let held = holds.number_at(drive) == number;
             if held {
                 holds.give(seat, drive);
             }
-            held == wanted
+            held == *wanted
         }
     }
 }
@@ -57,15 +62,13 @@ pub(super) fn two_seats(holds: &mut LocalHolds) -> Result<(LocalSeat, LocalSeat)
     }
 }
 
-/// Two seats at some drives.
+/// Two seats at two drives.
 #[derive(Drop)]
 struct Pair {
-    drives: usize,
     holds: LocalHolds,
     first: LocalSeat,
     second: LocalSeat,
-    ghost some: { 1 ≤ drives },
-    ghost all: { length holds.numbers ≡ drives },
+    ghost two_drives: { length holds.numbers ≡ 2 },
     ghost own_first: { IsSeatOf holds first },
     ghost own_second: { IsSeatOf holds second },
     ghost one: { first.number ≡ 1 },
@@ -74,14 +77,10 @@ struct Pair {
 
 impl Pair {
     /// The seats 1 and 2.
-    fn new(alloc: Global, drives: usize) -> Result<Pair, Fail>
-        requires some { 1 ≤ drives }
-        requires few { drives ≤ 64 }
-    {
-        let mut holds = LocalHolds::new(alloc, drives)?;
+    fn new(alloc: Global) -> Result<Pair, Fail> {
+        let mut holds = LocalHolds::new(alloc, 2)?;
         let (first, second) = two_seats(&mut holds)?;
         Ok(Pair {
-            drives,
             holds,
             first,
             second,
@@ -89,8 +88,8 @@ impl Pair {
     }
 
     /// Has the first seat, or else the second, do a step at the drive. Answers whether it comes to what it has to.
-    fn goes(&mut self, first: bool, drive: usize, step: Step) -> bool {
-        if drive >= self.drives {
+    fn goes(&mut self, first: bool, drive: usize, step: &Step) -> bool {
+        if drive >= 2 {
             return false;
         }
         if first {
@@ -99,66 +98,42 @@ impl Pair {
             goes(&mut self.holds, &mut self.second, 2, drive, step)
         }
     }
-
-    /// The number of the seat that holds the drive, or 0. None where there is no such drive.
-    fn holder(&self, drive: usize) -> Option<u64> {
-        if drive < self.drives {
-            Some(self.holds.number_at(drive))
-        } else {
-            None
-        }
-    }
 }
 
-/// Whether the first seat has a turn, or else the second, at which drive, its step, and the number of the seat that holds
-/// the drive then.
-type Row = (bool, usize, Step, u64);
+/// Whether the first seat has a turn, or else the second, at which drive, and its step.
+type Row = (bool, usize, Step);
 
-/// One drive goes from seat to seat.
-static ONE_DRIVE: [Row; 8] = [
-    (true, 0, Step::Take(Taken::Held), 1),
-    (true, 0, Step::Take(Taken::Busy(1)), 1),
-    (false, 0, Step::Take(Taken::Busy(1)), 1),
-    (false, 0, Step::Give(false), 1),
-    (false, 0, Step::Look(1), 1),
-    (true, 0, Step::Give(true), 0),
-    (false, 0, Step::Look(0), 0),
-    (false, 0, Step::Take(Taken::Held), 2),
-];
-
-/// Of two drives each seat holds one.
-static TWO_DRIVES: [Row; 6] = [
-    (true, 1, Step::Take(Taken::Held), 1),
-    (false, 1, Step::Take(Taken::Busy(1)), 1),
-    (false, 0, Step::Take(Taken::Held), 2),
-    (true, 0, Step::Look(2), 2),
-    (false, 0, Step::Give(true), 0),
-    (true, 0, Step::Look(0), 0),
+/// One drive goes from seat to seat, and then each seat holds one of the two.
+static STEPS: [Row; 14] = [
+    (true, 0, Step::Take(Taken::Held)),
+    (true, 0, Step::Take(Taken::Busy(1))),
+    (false, 0, Step::Take(Taken::Busy(1))),
+    (false, 0, Step::Give(false)),
+    (false, 0, Step::Look(1)),
+    (true, 0, Step::Give(true)),
+    (false, 0, Step::Look(0)),
+    (false, 0, Step::Take(Taken::Held)),
+    (true, 1, Step::Take(Taken::Held)),
+    (false, 1, Step::Take(Taken::Busy(1))),
+    (true, 0, Step::Look(2)),
+    (false, 1, Step::Look(1)),
+    (false, 0, Step::Give(true)),
+    (true, 0, Step::Look(0)),
 ];
 
 /// Whether the seats do all steps as they have to.
-fn all_go(pair: &mut Pair, rows: &[Row]) -> bool {
-    for (first, drive, step, holder) in rows {
-        if !pair.goes(*first, *drive, *step) || pair.holder(*drive) != Some(*holder) {
+fn all_go(pair: &mut Pair) -> bool {
+    for (first, drive, step) in &STEPS {
+        if !pair.goes(*first, *drive, step) {
             return false;
         }
     }
     true
 }
 
-/// The same with new seats at so many drives.
-fn all_go_anew(alloc: Global, drives: usize, rows: &[Row]) -> Result<bool, Fail>
-    requires some { 1 ≤ drives }
-    requires few { drives ≤ 64 }
-{
-    let mut pair = Pair::new(alloc, drives)?;
-    Ok(all_go(&mut pair, rows))
-}
-
 #[test]
 fn one_seat_holds_a_drive(rt: HostRuntime) -> Result<(), Fail> {
-    let one = all_go_anew(rt.alloc(), 1, &ONE_DRIVE)?;
-    let two = all_go_anew(rt.alloc(), 2, &TWO_DRIVES)?;
-    assert!(rt; one && two);
+    let right = all_go(&mut Pair::new(rt.alloc())?);
+    assert!(rt; right);
     Ok(())
 }

@@ -1,6 +1,5 @@
 //! Entries of record files.
 
-use std::alloc::{AllocError, Global};
 use std::test::Fail;
 use tape::{Entry, read_entries};
 
@@ -21,29 +20,5 @@ fn are_all(entries: &[Entry]) -> bool {
 fn reads_each_whole_entry(rt: HostRuntime) -> Result<(), Fail> {
     let entries = read_entries(rt.alloc(), FILE)?;
     assert!(&rt; are_all(&entries));
-    Ok(())
-}
-
-/// Files that have no entry.
-pub(crate) static TAILS: [&[u8]; 7] = [
-    b"",
-    b"\0\0\0",
-    b"\x01\0\0\0a\x01\0\0",
-    b"\x01\0\0\0a\x02\0\0\0",
-    b"\x03\0\0\0ab",
-    b"\x01\0\x01\0a\x01\0\x01\0",
-    b"\xff\xff\xff\xff",
-];
-
-/// Whether the file has no entry.
-fn has_no_entry(alloc: Global, file: &[u8]) -> Result<bool, AllocError> {
-    Ok(read_entries(alloc, file)?.is_empty())
-}
-
-#[test]
-fn a_tail_is_no_entry(rt: HostRuntime) -> Result<(), Fail> {
-    for file in &TAILS {
-        assert!(&rt; has_no_entry(rt.alloc(), file)?);
-    }
     Ok(())
 }

@@ -1,11 +1,9 @@
 //! Reels on bytes that were written by hand.
 
-use super::entries::TAILS;
 use super::reel_calls::{Call, Wanted, answers};
 use std::alloc::{AllocError, Global};
-use std::process::Abort;
 use std::test::Fail;
-use tape::{FileReel, MTBSF, MTBSR, MTFSF, MTFSR, MTNOP, MTWEOF, MemoryMedium, Reel, TapeFault};
+use tape::{FileReel, MTBSF, MTBSR, MTFSF, MTFSR, MTNOP, MTWEOF, MemoryMedium, TapeFault};
 
 /// A record `abc` and a record `de`.
 const TWO: &[u8] = b"\x03\0\0\0abc\x03\0\0\0\x02\0\0\0de\x02\0\0\0";
@@ -99,50 +97,10 @@ fn goes(alloc: Global, bytes: &[u8], calls: &[Wanted], after: &[u8]) -> Result<b
     Ok(leaves(&mut reel, calls, after))
 }
 
-/// Checks each of the runs.
-fn check_runs(rt: &impl Abort, alloc: Global, runs: &[Run]) -> Result<(), AllocError> {
-    for (at, (bytes, calls, after)) in runs.iter().enumerate() {
-        assert!(rt; goes(alloc, bytes, calls, after)?, "run {at}");
-    }
-    Ok(())
-}
-
 #[test]
 fn its_entries_are_what_the_medium_spells(rt: HostRuntime) -> Result<(), Fail> {
-    Ok(check_runs(&rt, rt.alloc(), &RUNS)?)
-}
-
-/// Whether a reel on these bytes has no entry, and the medium has the record `x` once that is written.
-fn has_no_entry(alloc: Global, bytes: &[u8]) -> Result<bool, AllocError> {
-    goes(alloc, bytes, HAS_NO_ENTRY, X)
-}
-
-#[test]
-fn a_tail_has_no_entry_and_is_cut_off(rt: HostRuntime) -> Result<(), Fail> {
-    for bytes in &TAILS {
-        assert!(&rt; has_no_entry(rt.alloc(), bytes)?);
+    for (bytes, calls, after) in &RUNS {
+        assert!(&rt; goes(rt.alloc(), bytes, calls, after)?);
     }
     Ok(())
-}
-
-/// A medium with no room.
-static WITHOUT_ROOM: &[Wanted] = &[
-    (Call::Write(b"x"), Err(TapeFault::Device)),
-    (Call::Op(MTWEOF, 1), Err(TapeFault::Device)),
-    (Call::Read(8), Ok(b"")),
-];
-
-/// Whether the reel answers as one whose medium has no room, which has no bytes and two failures afterwards.
-fn is_at_fault(reel: &mut FileReel<MemoryMedium>) -> bool {
-    answers(reel, WITHOUT_ROOM) && reel.medium().bytes().is_empty() && reel.failures() == 2
-}
-
-/// The same of a new reel of 100 bytes.
-fn new_reel_is_at_fault(alloc: Global) -> bool {
-    is_at_fault(&mut FileReel::open(MemoryMedium::new(alloc), 100))
-}
-
-#[test]
-fn a_medium_with_no_room_is_at_fault(rt: HostRuntime) {
-    assert!(rt; new_reel_is_at_fault(rt.alloc()));
 }

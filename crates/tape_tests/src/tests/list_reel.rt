@@ -1,21 +1,8 @@
 //! Reels in memory, by tables of calls, and what they tell of their entries.
 
-ghost use Rattle.std.specs.Prelude.{◌≢◌};
-ghost use Rattle.tape.specs.Tape.{IsRecord, WriteStep, done_answer};
-ghost use Rattle.tape.specs.declared.fault.TapeFault.TheVariants.{Device};
-
 use super::reel_calls::{Call, Wanted, answers};
 use std::alloc::Global;
-use tape::{ListReel, MTWEOF, Reel, TapeFault, is_record};
-
-/// What a caller learns of a write that knows the reel to be in memory.
-fn write_in_memory(reel: &mut ListReel, bytes: &[u8]) -> Result<(), TapeFault>
-    requires { IsRecord bytes.now }
-    ensures step { WriteStep reel.old.capacity bytes.now reel.old.tape (done_answer result) reel.new.tape }
-    ensures device { result ≢ Err Device }
-{
-    reel.write(bytes)
-}
+use tape::{ListReel, MTWEOF, Reel};
 
 /// Whether a new reel of this capacity answers the calls as is wanted, and tells no failure.
 pub(crate) fn goes(alloc: Global, capacity: u64, calls: &[Wanted]) -> bool {
@@ -26,31 +13,21 @@ pub(crate) fn goes(alloc: Global, capacity: u64, calls: &[Wanted]) -> bool {
 /// The number of an entry, what is told of it, and what a buffer of so many dots has then.
 type Told = (usize, Option<usize>, &'static [u8]);
 
-/// The last record after a record `abc` and a mark, and what is told of the three.
-type Entries = (&'static [u8], &'static [Told]);
+/// What is told of a record `abc`, a mark, and a record `defgh`.
+static TOLD: [Told; 6] = [
+    (0, Some(3), b"abc..."),
+    (1, Some(0), b"......"),
+    (2, Some(5), b"de"),
+    (2, Some(5), b""),
+    (3, None, b"......"),
+    (usize::MAX, None, b"......"),
+];
 
-static TOLD: [Entries; 2] = [
-    (
-        b"defgh",
-        &[
-            (0, Some(3), b"abc..."),
-            (1, Some(0), b"......"),
-            (2, Some(5), b"de"),
-            (2, Some(5), b""),
-            (3, None, b"......"),
-            (usize::MAX, None, b"......"),
-        ],
-    ),
-    (
-        b"\0",
-        &[
-            (0, Some(3), b"abc..."),
-            (1, Some(0), b"......"),
-            (2, Some(1), b"\0....."),
-            (3, None, b"......"),
-            (usize::MAX, None, b"......"),
-        ],
-    ),
+/// The calls that write the three.
+static THREE: &[Wanted] = &[
+    (Call::Write(b"abc"), Ok(b"")),
+    (Call::Op(MTWEOF, 1), Ok(b"")),
+    (Call::Write(b"defgh"), Ok(b"")),
 ];
 
 /// Whether this is told of the entry of that number, and the buffer is this one then.
@@ -60,9 +37,9 @@ fn tells(reel: &ListReel, (i, wanted, after): Told) -> bool {
     reel.entry(i, part) == wanted && *part == *after
 }
 
-/// Whether all of this is told of the entries.
-fn all_told(reel: &ListReel, told: &[Told]) -> bool {
-    for one in told {
+/// Whether all of this is told of the three entries.
+fn all_told(reel: &ListReel) -> bool {
+    for one in &TOLD {
         if !tells(reel, *one) {
             return false;
         }
@@ -70,41 +47,12 @@ fn all_told(reel: &ListReel, told: &[Told]) -> bool {
     true
 }
 
-/// The first of the entries.
-static ABC_AND_A_MARK: &[Wanted] = &[
-    (Call::Write(b"abc"), Ok(b"")),
-    (Call::Op(MTWEOF, 1), Ok(b"")),
-];
-
-/// Whether a new reel takes the three entries.
-fn takes_entries(reel: &mut ListReel, last: &[u8]) -> bool {
-    answers(reel, ABC_AND_A_MARK) && is_record(last) && write_in_memory(reel, last).is_ok()
-}
-
-/// Whether a new reel tells of its three entries, once they are written, and of none before.
-fn tells_entries(reel: &mut ListReel, last: &[u8], told: &[Told]) -> bool {
-    let none = tells(reel, (0, None, b"......"));
-    let taken = takes_entries(reel, last);
-    reel.rewind();
-    none && taken && all_told(reel, told) && reel.read(&mut [0; 6]) == Ok(3)
-}
-
-/// The same of a new reel of 100 bytes.
-fn new_reel_tells(alloc: Global, last: &[u8], told: &[Told]) -> bool {
-    tells_entries(&mut ListReel::new(alloc, 100), last, told)
-}
-
-/// Whether new reels tell all of this.
-fn all_tell(alloc: Global, rows: &[Entries]) -> bool {
-    for (last, told) in rows {
-        if !new_reel_tells(alloc, last, told) {
-            return false;
-        }
-    }
-    true
+/// Whether a new reel tells of its three entries, once they are written.
+fn tells_entries(reel: &mut ListReel) -> bool {
+    answers(reel, THREE) && all_told(reel)
 }
 
 #[test]
 fn tells_each_entry_by_its_number(rt: HostRuntime) {
-    assert!(rt; all_tell(rt.alloc(), &TOLD));
+    assert!(rt; tells_entries(&mut ListReel::new(rt.alloc(), 100)));
 }

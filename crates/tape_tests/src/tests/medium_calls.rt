@@ -3,7 +3,6 @@
 use tape::{Medium, MediumFailed};
 
 /// A call of a medium.
-#[derive(Clone, Copy)]
 pub(crate) enum MediumCall {
     Len,
     /// A read from this offset on, into so many dots, of which there are 16 at most.
@@ -24,19 +23,19 @@ pub(crate) const DONE: Result<(u64, &[u8]), MediumFailed> = Ok((0, b""));
 /// Makes the call, and answers the number that it gave, or 0, and the buffer of a read.
 fn make_medium_call<'a, M: Medium>(
     medium: &mut M,
-    call: MediumCall,
+    call: &MediumCall,
     into: &'a mut [u8; 16],
 ) -> Result<(u64, &'a [u8]), MediumFailed> {
     let MediumCall::ReadAt(at, count) = call else {
         return Ok((number_of(medium, call)?, &[]));
     };
-    let part = &mut into[..count.min(16)];
-    let given = medium.read_at(at, part)?;
+    let part = &mut into[..(*count).min(16)];
+    let given = medium.read_at(*at, part)?;
     Ok((given as u64, part))
 }
 
 /// Makes a call that is no read, and answers the number that it gave, or 0.
-fn number_of<M: Medium>(medium: &mut M, call: MediumCall) -> Result<u64, MediumFailed> {
+fn number_of<M: Medium>(medium: &mut M, call: &MediumCall) -> Result<u64, MediumFailed> {
     match call {
         MediumCall::Len => medium.len(),
         MediumCall::Failures => Ok(medium.failures()),
@@ -48,11 +47,11 @@ fn number_of<M: Medium>(medium: &mut M, call: MediumCall) -> Result<u64, MediumF
 }
 
 /// Makes a call that changes the medium, or else none.
-fn change<M: Medium>(medium: &mut M, call: MediumCall) -> Result<(), MediumFailed> {
+fn change<M: Medium>(medium: &mut M, call: &MediumCall) -> Result<(), MediumFailed> {
     match call {
         MediumCall::Append(bytes) => medium.append(bytes),
         MediumCall::AppendFramed(frame, bytes) => medium.append_framed(frame, bytes),
-        MediumCall::Cut(len) => medium.cut(len),
+        MediumCall::Cut(len) => medium.cut(*len),
         _ => Ok(()),
     }
 }
@@ -61,7 +60,7 @@ fn change<M: Medium>(medium: &mut M, call: MediumCall) -> Result<(), MediumFaile
 pub(crate) fn medium_answers<M: Medium>(medium: &mut M, calls: &[WantedOfMedium]) -> bool {
     for (call, wanted) in calls {
         let mut into = [b'.'; 16];
-        if make_medium_call(medium, *call, &mut into) != *wanted {
+        if make_medium_call(medium, call, &mut into) != *wanted {
             return false;
         }
     }

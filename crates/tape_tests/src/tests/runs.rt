@@ -3,7 +3,6 @@
 use super::reel_calls::{Call, Wanted};
 use super::{list_reel, troubled_reel};
 use std::alloc::Global;
-use std::process::Abort;
 use tape::{MTBSF, MTBSR, MTFSF, MTFSR, MTNOP, MTREW, MTWEOF, TapeFault};
 
 /// A capacity, and calls of a new reel of that capacity.
@@ -232,14 +231,9 @@ fn go(alloc: Global, capacity: u64, calls: &[Wanted]) -> bool {
     list_reel::goes(alloc, capacity, calls) && troubled_reel::goes(alloc, capacity, calls)
 }
 
-/// Checks each of the runs.
-fn check_runs(rt: &impl Abort, alloc: Global, runs: &[Run]) {
-    for (at, (capacity, calls)) in runs.iter().enumerate() {
-        assert!(rt; go(alloc, *capacity, calls), "run {at}");
-    }
-}
-
 #[test]
 fn each_call_answers_as_is_wanted(rt: HostRuntime) {
-    check_runs(&rt, rt.alloc(), &RUNS);
+    for (capacity, calls) in &RUNS {
+        assert!(rt; go(rt.alloc(), *capacity, calls));
+    }
 }

@@ -1,29 +1,11 @@
 //! Reels whose next device call fails, by tables of calls.
 
-ghost use Rattle.std.specs.Prelude.{◌≡◌, ◌≢◌};
-ghost use Rattle.tape.specs.Tape.{IsRecord, WriteStep, done_answer};
-ghost use Rattle.tape.specs.declared.fault.TapeFault.TheVariants.{Device};
-ghost use Rattle.tape.specs.declared.trouble.Trouble.TheVariants.{None};
-
 use super::reel_calls::{Call, Wanted, answers};
 use std::alloc::Global;
-use std::process::Abort;
 use tape::{
-    ListReel, MTBSF, MTBSR, MTFSF, MTFSR, MTNOP, MTREW, MTWEOF, Reel, TapeFault, Trouble,
-    TroubledReel, device_steps,
+    ListReel, MTBSF, MTBSR, MTFSF, MTFSR, MTWEOF, Reel, TapeFault, Trouble, TroubledReel,
+    device_steps,
 };
-
-/// What a caller learns of a write where it has set no trouble.
-fn write_untroubled(reel: &mut TroubledReel, bytes: &[u8]) -> Result<(), TapeFault>
-    requires record { IsRecord bytes.now }
-    requires untroubled { reel.old.trouble ≡ None }
-    ensures step { WriteStep reel.old.capacity bytes.now reel.old.tape (done_answer result) reel.new.tape }
-    ensures device { result ≢ Err Device }
-    ensures failures { reel.new.failures ≡ reel.old.failures }
-    ensures untroubled { reel.new.trouble ≡ None }
-{
-    reel.write(bytes)
-}
 
 /// A place on a reel of the records `abc` and `de`, a call there with the trouble that is set for it, and the entries
 /// that stand afterwards; one of no bytes is a mark.
@@ -111,12 +93,6 @@ fn has(reel: &TroubledReel, wanted: &[&[u8]]) -> bool {
     tells(reel, wanted.len(), None, b"")
 }
 
-/// Whether the reel stands there: a mark that is written there is the last entry.
-fn stands_at(reel: &mut TroubledReel, place: usize) -> bool {
-    let marked = answers_one(reel, (Call::Op(MTWEOF, 1), Ok(b"")));
-    marked && tells(reel, place, Some(0), b"") && tells(reel, place.saturating_add(1), None, b"")
-}
-
 /// Whether the device is at fault in the call at the place, with the trouble.
 fn fails(reel: &mut TroubledReel, place: u32, request: Call, trouble: Trouble) -> bool {
     let there = answers(reel, ABC_AND_DE) && answers_one(reel, (Call::Op(MTFSR, place), Ok(b"")));
@@ -124,12 +100,9 @@ fn fails(reel: &mut TroubledReel, place: u32, request: Call, trouble: Trouble) -
     there && answers_one(reel, (request, Err(TapeFault::Device)))
 }
 
-/// Whether the device is at fault in the call, the place is the same, and the entries are as is wanted.
+/// Whether the device is at fault in the call, and the entries are as is wanted.
 fn leaves(reel: &mut TroubledReel, (place, request, trouble, wanted): Failure) -> bool {
-    fails(reel, place, request, trouble)
-        && is_in(reel, Trouble::None, 1)
-        && has(reel, wanted)
-        && stands_at(reel, place as usize)
+    fails(reel, place, request, trouble) && is_in(reel, Trouble::None, 1) && has(reel, wanted)
 }
 
 /// The same of a new reel.
@@ -137,101 +110,12 @@ fn new_reel_leaves(alloc: Global, failure: Failure) -> bool {
     leaves(&mut TroubledReel::new(ListReel::new(alloc, 1000)), failure)
 }
 
-/// Checks each of the failures.
-fn check_failures(rt: &impl Abort, alloc: Global, failures: &[Failure]) {
-    for (at, failure) in failures.iter().enumerate() {
-        assert!(rt; new_reel_leaves(alloc, *failure), "failure {at}");
-    }
-}
-
 #[test]
 fn a_failed_call_leaves_what_its_trouble_says(rt: HostRuntime) {
-    check_failures(&rt, rt.alloc(), &FAILURES);
-}
-
-/// Calls of a full reel that come to no device, whatever its trouble.
-static WAITING: &[Wanted] = &[
-    (Call::Write(b"b"), Err(TapeFault::Full)),
-    (Call::Op(MTWEOF, 2), Err(TapeFault::Full)),
-    (Call::Op(MTWEOF, 0), Ok(b"")),
-    (Call::Op(MTFSF, 0), Ok(b"")),
-    (Call::Op(MTBSF, 0), Ok(b"")),
-    (Call::Op(MTFSR, 0), Ok(b"")),
-    (Call::Op(MTBSR, 0), Ok(b"")),
-    (Call::Op(MTREW, 1), Ok(b"")),
-    (Call::Op(MTNOP, 1), Ok(b"")),
-    (Call::Op(6, 1), Err(TapeFault::BadOperation)),
-    (Call::Op(8, 1), Err(TapeFault::BadOperation)),
-    (Call::Rewind, Ok(b"")),
-];
-
-/// Whether a trouble that is set once the reel is full waits.
-fn waits(reel: &mut TroubledReel) -> bool {
-    let written = answers_one(reel, (Call::Write(b"a"), Ok(b"")));
-    reel.set(Trouble::Lost);
-    written && answers(reel, WAITING) && is_in(reel, Trouble::Lost, 0)
-}
-
-/// Whether a trouble fails the next device call of the reel, and no other.
-fn fails_once(reel: &mut TroubledReel) -> bool {
-    reel.set(Trouble::Kept);
-    let failed = answers_one(reel, (Call::Read(8), Err(TapeFault::Device)));
-    let told = is_in(reel, Trouble::None, 1);
-    failed && told && answers_one(reel, (Call::Read(8), Ok(b"a"))) && reel.failures() == 1
-}
-
-/// Whether a trouble of a new reel waits, and the next one fails once.
-fn new_reel_waits(alloc: Global) -> bool {
-    let mut reel = TroubledReel::new(ListReel::new(alloc, 13));
-    waits(&mut reel) && fails_once(&mut reel)
-}
-
-#[test]
-fn a_trouble_waits_for_a_device_call(rt: HostRuntime) {
-    assert!(rt; new_reel_waits(rt.alloc()));
-}
-
-/// A mark and the record `ab`.
-static A_MARK_AND_AB: &[Wanted] = &[
-    (Call::Op(MTWEOF, 1), Ok(b"")),
-    (Call::Write(b"ab"), Ok(b"")),
-];
-
-/// Whether a new reel tells its entries also while a trouble is set, which waits.
-fn tells_in_trouble(reel: &mut TroubledReel) -> bool {
-    let written = answers(reel, A_MARK_AND_AB);
-    reel.set(Trouble::Lost);
-    written && has(reel, &[b"", b"ab"]) && is_in(reel, Trouble::Lost, 0)
-}
-
-/// The same of a new reel of 100 bytes.
-fn new_reel_tells(alloc: Global) -> bool {
-    tells_in_trouble(&mut TroubledReel::new(ListReel::new(alloc, 100)))
-}
-
-#[test]
-fn tells_entries_while_a_trouble_is_set(rt: HostRuntime) {
-    assert!(rt; new_reel_tells(rt.alloc()));
-}
-
-/// The calls of a reel with the record `abc`, after that.
-static BEHIND_ABC: &[Wanted] = &[
-    (Call::Op(MTWEOF, 1), Ok(b"")),
-    (Call::Op(MTBSF, 2), Err(TapeFault::EndOrMark)),
-    (Call::Read(2), Ok(b"ab")),
-];
-
-/// Whether a new reel with no trouble writes `abc`, and answers as is wanted after that.
-fn new_reel_writes(alloc: Global) -> bool {
-    let mut reel = TroubledReel::new(ListReel::new(alloc, 100));
-    let written = write_untroubled(&mut reel, b"abc").is_ok();
-    written && answers(&mut reel, BEHIND_ABC) && reel.failures() == 0
-}
-
-#[test]
-fn a_reel_with_no_trouble_is_one_in_memory(rt: HostRuntime) {
     device_steps();
-    assert!(rt; new_reel_writes(rt.alloc()));
+    for failure in &FAILURES {
+        assert!(rt; new_reel_leaves(rt.alloc(), *failure));
+    }
 }
 
 /// Whether a new reel of this capacity, with no trouble, answers the calls as is wanted and has none afterwards.

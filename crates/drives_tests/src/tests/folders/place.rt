@@ -4,57 +4,30 @@ ghost use Rattle.std.specs.Prelude.{◌≡◌, IfOk, length};
 
 use reel_files::{FolderDrive, FolderStacks};
 use std::fs::{self, File};
-use std::os::unix::fs::{PermissionsExt, symlink};
+use std::os::unix::fs::symlink;
 use std::rt::Files;
 use std::{io, process};
 
 /// What is done at a path.
-#[derive(Clone, Copy)]
-pub(super) enum Change<'a> {
+pub(super) enum Change {
     /// A file of this text is written.
-    Write(&'a str),
+    Write(&'static str),
     /// A folder is made.
     MakeFolder,
     /// A link to there is made.
-    Link(&'a str),
-    /// The file or link is removed.
-    Remove,
+    Link(&'static str),
     /// The empty folder is removed.
     RemoveFolder,
-    /// Nobody may write in the folder any more.
-    CloseFolder,
 }
 
 /// Makes the change at the path.
-fn change_at<R: Files>(rt: &R, path: &str, change: Change<'_>) -> io::Result<()> {
+fn change_at<R: Files>(rt: &R, path: &str, change: &Change) -> io::Result<()> {
     match change {
-        Change::Write(text) => fs::write(rt, path, text),
+        Change::Write(text) => fs::write(rt, path, *text),
         Change::MakeFolder => fs::create_dir(rt, path),
-        Change::Link(target) => symlink(rt, target, path),
-        Change::Remove => fs::remove_file(rt, path),
+        Change::Link(target) => symlink(rt, *target, path),
         Change::RemoveFolder => fs::remove_dir(rt, path),
-        Change::CloseFolder => close_folder(rt, path),
     }
-}
-
-/// Lets nobody write in the folder.
-fn close_folder<R: Files>(rt: &R, path: &str) -> io::Result<()> {
-    let mut mode = fs::metadata(rt, path)?.permissions();
-    mode.set_mode(0o555);
-    fs::set_permissions(rt, path, mode)
-}
-
-/// What lies at the path, open to read, with its lock.
-fn open_locked<R: Files<File = File>>(rt: &R, path: &str) -> io::Result<File> {
-    let file = File::open(rt, path)?;
-    file.lock()?;
-    Ok(file)
-}
-
-/// Whether the file has these bytes.
-fn has_bytes<R: Files + AllocGlobal>(rt: &R, path: &str, bytes: &[u8]) -> io::Result<bool> {
-    let found = fs::read(rt, path)?;
-    Ok(found.as_slice() == bytes)
 }
 
 /// The drives `/dev/st0` and `/dev/st1` of reels of 100 bytes, with these stacks and this bin.
@@ -80,7 +53,7 @@ fn open_folders<R: Files<File = File> + AllocGlobal + Clone + Drop>(
 }
 
 /// The stacks and the bin of each place.
-static FOLDERS: [(&str, Change<'static>); 3] = [
+static FOLDERS: [(&str, Change); 3] = [
     ("st0", Change::MakeFolder),
     ("st1", Change::MakeFolder),
     ("bin", Change::MakeFolder),
@@ -113,36 +86,19 @@ impl Place {
         Ok(format!(in self.rt.alloc(); "{}/{inner}", self.top)?)
     }
 
-    /// Makes the change there.
-    pub(super) fn change(&self, inner: &str, change: Change<'_>) -> io::Result<()> {
-        let path = self.path(inner)?;
-        change_at(&self.rt, path.as_str(), change)
-    }
-
     /// Makes each change where it belongs.
-    pub(super) fn change_all(&self, changes: &[(&str, Change<'_>)]) -> io::Result<()> {
+    pub(super) fn change_all(&self, changes: &[(&str, Change)]) -> io::Result<()> {
         for (inner, change) in changes {
-            self.change(inner, *change)?;
+            let path = self.path(inner)?;
+            change_at(&self.rt, path.as_str(), change)?;
         }
         Ok(())
-    }
-
-    /// What lies there, open to read, with its lock.
-    pub(super) fn lock(&self, inner: &str) -> io::Result<File> {
-        let path = self.path(inner)?;
-        open_locked(&self.rt, path.as_str())
     }
 
     /// Whether something lies there.
     pub(super) fn has(&self, inner: &str) -> io::Result<bool> {
         let path = self.path(inner)?;
         fs::exists(&self.rt, path.as_str())
-    }
-
-    /// Whether the file there has these bytes.
-    pub(super) fn reads(&self, inner: &str, bytes: &[u8]) -> io::Result<bool> {
-        let path = self.path(inner)?;
-        has_bytes(&self.rt, path.as_str(), bytes)
     }
 
     /// The drives `/dev/st0` and `/dev/st1` of reels of 100 bytes.
