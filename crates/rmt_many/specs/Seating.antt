@@ -26,8 +26,8 @@ pub record KeepsSeats {H S Seat R : Type 0} (k : Kinds H Seat S R) (old new : St
   pub same_stacks : k.stacks.drives new.drives.stacks ≡ k.stacks.drives old.drives.stacks
 
 -- The seat and the stacks come back from a session that has nothing open, so the seat holds no drive.
-pub record ComesBack {H S Seat R In Out : Type 0} (k : Kinds H Seat S R) (remaining : In → Option (List ℕ)) (contents : Out → Option (List ℕ))
-    (start : State H S Seat R) (input input' : Counting In) (output output' : Counting Out) (seat : Seat) (stacks : S) : Type 0 where
+pub record ComesBack {H S Seat R In Out : Type 0} (k : Kinds H Seat S R) (remaining : In → Option (List ℕ))
+    (contents : Out → Option (List ℕ)) (start : State H S Seat R) (input input' : Counting In) (output output' : Counting Out) (seat : Seat) (stacks : S) : Type 0 where
   pub finish : State H S Seat R
   pub serves : Serves k remaining contents start input input' output output' finish
   pub seat_back : seat ≡ finish.seat

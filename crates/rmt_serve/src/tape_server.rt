@@ -54,7 +54,8 @@ impl<S: Stacks + Drop> TapeServer<S> {
         input: &mut Counted<R>,
         output: &mut Counted<W>,
     ) -> Option<Served>
-        ensures { IsServedAt (kinds of_holds S.Stacks S.Reel.Reel) R.remaining W.contents self.old self.new input.old input.new output.old output.new result }
+        ensures { IsServedAt (kinds of_holds S.Stacks S.Reel.Reel) R.remaining W.contents self.old self.new
+            input.old input.new output.old output.new result }
     {
         let mut wire = RequestReader::new(self.alloc).ok()?;
         let seat = self.drives.holds.seat()?;
