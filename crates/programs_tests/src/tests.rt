@@ -2,7 +2,6 @@
 
 mod dates;
 mod entering;
-mod failing;
 mod fake;
 mod fixture;
 mod lines;
@@ -13,3 +12,10 @@ mod progress;
 mod socket;
 mod store;
 mod volumes;
+
+use std::process::Abort;
+
+/// What the row of that number says has to be so.
+pub(crate) fn check_row(rt: &impl Abort, at: usize, right: bool) {
+    assert!(rt; right, "row {at}");
+}

@@ -1,23 +1,20 @@
 //! Sessions and whole streams against answers that were written by hand.
 //!
-//! Where the capacity of the reel does not matter it is a mebibyte.
+//! Where the capacity of the reels does not matter it is a mebibyte.
 
 mod ample;
-mod beginnings;
-mod failures;
 mod fixture;
 mod full_bin;
 mod laws;
 mod pieces;
 mod refused_move;
 mod rows;
-mod script;
 mod served;
 mod session;
-mod talk;
-mod three;
+mod shared;
 mod troubled;
 mod turns;
+mod two;
 
 use std::process::Abort;
 

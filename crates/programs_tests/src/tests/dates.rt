@@ -1,16 +1,12 @@
 //! A dumpdates file that is asked: what is printed, and the status.
 
-use super::failing::Failing;
+use super::check_row;
 use dump_files::dates;
 use rmt_wire::Counted;
 use std::alloc::Global;
 
 /// Two dumps of one file system.
 const TWO: &[u8] = b"/usr 0 Tue Feb 29 00:00:00 2000\n/usr 1 Wed Mar  1 00:00:00 2000\n";
-
-/// What is written of them.
-const TWO_ANEW: &[u8] =
-    b"/usr                             0 Tue Feb 29 00:00:00 2000\n/usr                             1 Wed Mar  1 00:00:00 2000\n";
 
 /// A file of a bad line.
 const BAD_LINE: &[u8] = b"a 0 Mon Jan 1 00:00:00 1970\n\nb 10 Thu Jan 1 00:00:00 1970\n";
@@ -85,31 +81,6 @@ fn prints(alloc: Global, row: &Row) -> bool {
 #[test]
 fn what_is_printed(rt: HostRuntime) {
     for (at, row) in ROWS.iter().enumerate() {
-        assert!(rt; prints(rt.alloc(), row), "row {at}");
+        check_row(&rt, at, prints(rt.alloc(), row));
     }
-}
-
-#[test]
-fn a_failed_write_gives_the_status_of_a_failure(rt: HostRuntime) {
-    let mut out = Counted::new(Failing);
-    let first = dates(rt.alloc(), TWO, None, &mut out) == 1 && out.failures() == 1;
-    let base = dates(rt.alloc(), TWO, Some(("/usr", 1)), &mut out);
-    let bad = dates(rt.alloc(), b"x", None, &mut out);
-    assert!(rt; first && (base, bad, out.failures()) == (1, 1, 3));
-}
-
-/// Passes whichever allocation is refused: the answer is printed, or what is wrong, into a room that takes no memory.
-#[test]
-fn refused_memory_is_told(rt: HostRuntime) {
-    let mut room = [0; 256];
-    let mut out = Counted::new(room.as_mut_slice());
-    let status = dates(rt.alloc(), TWO, None, &mut out);
-    let left = out.into_inner().len();
-    let printed = &room[..room.len().saturating_sub(left)];
-    let wanted: &[u8] = if status == 0 {
-        TWO_ANEW
-    } else {
-        b"out of memory\n"
-    };
-    assert!(rt; printed == wanted);
 }

@@ -1,16 +1,16 @@
 //! What is entered in dumpdates, and a base date.
 
+use super::check_row;
 use super::store::{ENTERED, Kept, OLD};
 use dump_files::{UpdateFault, base_date, update};
 use dumpdates::{DatesFault, Entry};
 use rmt_wire::Counted;
 use std::alloc::Global;
-use std::test::Fail;
 
-/// A file and whether it can be read and replaced, what comes of a dump that is entered, and the file then.
+/// A file, which cannot be read where there is none, and whether it can be replaced; what comes of a dump that is entered, and
+/// what is put in place of the file.
 type Row = (
-    &'static [u8],
-    bool,
+    Option<&'static [u8]>,
     bool,
     Result<(), UpdateFault>,
     &'static [u8],
@@ -18,48 +18,43 @@ type Row = (
 
 /// A dump that is entered, and so once more; a file that cannot be read, one that cannot be replaced, and a bad one.
 static ROWS: [Row; 5] = [
-    (OLD, true, true, Ok(()), ENTERED),
-    (ENTERED, true, true, Ok(()), ENTERED),
-    (OLD, false, true, Err(UpdateFault::Unread), OLD),
-    (OLD, true, false, Err(UpdateFault::Unwritten), b""),
+    (Some(OLD), true, Ok(()), ENTERED),
+    (Some(ENTERED), true, Ok(()), ENTERED),
+    (None, true, Err(UpdateFault::Unread), b""),
+    (Some(OLD), false, Err(UpdateFault::Unwritten), b""),
     (
-        b"\n/usr",
-        true,
+        Some(b"\n/usr"),
         true,
         Err(UpdateFault::Dates(DatesFault::BadLine(2))),
-        b"\n/usr",
+        b"",
     ),
 ];
 
-/// Whether that comes of a dump of `/usr` which is entered in such a file.
-fn goes(alloc: Global, row: &Row) -> Result<bool, Fail> {
-    let (text, reads, takes, wanted, after) = *row;
-    let Some(entry) = Entry::new("/usr", 1, 951868800) else {
-        return Err(Fail::new("no entry"));
-    };
-    let mut store = Kept::new(alloc, text, reads, takes)?;
-    let found = update(alloc, &mut store, entry);
-    Ok(found == wanted && store.text.as_slice() == after)
+/// Whether that comes of a dump which is entered in such a file.
+fn goes(alloc: Global, entry: Entry<'_>, row: &Row) -> bool {
+    let (text, takes, wanted, put) = *row;
+    let mut store = Kept::new(alloc, text, takes);
+    update(alloc, &mut store, entry) == wanted && store.put.as_slice() == put
 }
 
-#[test]
-fn dumps_that_are_entered_or_not(rt: HostRuntime) -> Result<(), Fail> {
-    for (at, row) in ROWS.iter().enumerate() {
-        assert!(rt; goes(rt.alloc(), row)?, "row {at}");
+/// The same of a dump of `/usr`.
+fn enters(alloc: Global, row: &Row) -> bool {
+    match Entry::new("/usr", 1, 951868800) {
+        Some(entry) => goes(alloc, entry, row),
+        None => false,
     }
-    Ok(())
-}
-
-/// Whether a base date is answered, and a bad file is told of.
-fn is_told(alloc: Global) -> bool {
-    let mut printed = Vec::new(alloc);
-    let mut out = Counted::new(&mut printed);
-    let good = base_date(alloc, OLD, "/usr", 2, &mut out) == Some(951782400)
-        && base_date(alloc, b"\n/usr", "/usr", 2, &mut out).is_none();
-    good && printed.as_slice() == b"line 2: bad line\n".as_slice()
 }
 
 #[test]
-fn a_base_date_and_a_bad_file(rt: HostRuntime) {
-    assert!(rt; is_told(rt.alloc()));
+fn dumps_that_are_entered_or_not(rt: HostRuntime) {
+    for (at, row) in ROWS.iter().enumerate() {
+        check_row(&rt, at, enters(rt.alloc(), row));
+    }
+}
+
+#[test]
+fn a_base_date(rt: HostRuntime) {
+    let mut room = [0; 1];
+    let mut out = Counted::new(room.as_mut_slice());
+    assert!(rt; base_date(rt.alloc(), OLD, "/usr", 2, &mut out) == Some(951782400));
 }

@@ -4,59 +4,47 @@ use rmt_peer::Peer;
 use std::alloc::Global;
 
 /// The replies that a connection gives, one at a time. After the last it ends.
-pub(super) type Replies<'a> = &'a [&'a [u8]];
+pub(super) type Replies = &'static [&'static [u8]];
 
 /// It makes as many connections as it has replies for. It keeps what it is sent.
 #[derive(Drop)]
-pub(super) struct FakePeer<'a> {
+pub(super) struct FakePeer {
     pub(super) sent: Vec<u8>,
-    connections: &'a [Replies<'a>],
+    connections: &'static [Replies],
     made: usize,
-    current: Option<usize>,
+    replies: Replies,
     given: usize,
 }
 
-impl<'a> FakePeer<'a> {
-    pub(super) fn new(alloc: Global, connections: &'a [Replies<'a>]) -> Self {
+impl FakePeer {
+    pub(super) fn new(alloc: Global, connections: &'static [Replies]) -> Self {
         FakePeer {
             sent: Vec::new(alloc),
             connections,
             made: 0,
-            current: None,
+            replies: &[],
             given: 0,
         }
     }
 }
 
-impl<'a> Peer for FakePeer<'a> {
+impl Peer for FakePeer {
     ghost tells = { λ _ _. ⊥ };
 
     fn connect(&mut self) -> bool {
-        if self.made >= self.connections.len() {
-            self.current = None;
-            return false;
-        }
-        self.current = Some(self.made);
+        let next = self.connections.get(self.made);
+        self.made = self.made.saturating_add(1);
         self.given = 0;
-        self.made += 1;
-        true
+        self.replies = next.copied().unwrap_or(&[]);
+        next.is_some()
     }
 
     fn send(&mut self, bytes: &[u8]) -> bool {
-        match self.current {
-            Some(_) => self.sent.extend_from_slice(bytes).is_ok(),
-            None => false,
-        }
+        self.sent.extend_from_slice(bytes).is_ok()
     }
 
     fn receive(&mut self, into: &mut [u8]) -> usize {
-        let Some(current) = self.current else {
-            return 0;
-        };
-        let Some(replies) = self.connections.get(current) else {
-            return 0;
-        };
-        match replies.get(self.given) {
+        match self.replies.get(self.given) {
             Some(reply) if reply.len() <= into.len() => {
                 into[..reply.len()].copy_from_slice(reply);
                 self.given = self.given.saturating_add(1);
@@ -67,6 +55,6 @@ impl<'a> Peer for FakePeer<'a> {
     }
 
     fn hang_up(&mut self) {
-        self.current = None;
+        self.replies = &[];
     }
 }

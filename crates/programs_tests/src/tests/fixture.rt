@@ -1,15 +1,12 @@
-//! What is dumped: a payload, and the clients of its dumps; and a volume that is read back.
+//! What is dumped: a payload, and the clients of its dumps.
 
 ghost use Rattle.std.specs.Prelude.{◌≡◌, IfSome};
 
 use super::progress::Seen;
 use dump_client::Client;
-use dump_files::{DumperFault, PayloadFile, Shown, dumper};
-use rmt_peer::{Peer, read_volume};
+use dump_files::{PayloadFile, Shown, dumper};
 use rmt_programs::DumpLine;
-use rmt_wire::Counted;
 use std::alloc::Global;
-use std::test::Fail;
 use tape::MemoryMedium;
 
 /// The bytes of a block, where three of them are dumped.
@@ -49,30 +46,8 @@ pub(super) fn payload(alloc: Global, block_bytes: u64) -> Option<Payload>
 }
 
 /// The client of a dump of these bytes in blocks of so many.
-pub(super) fn payload_dumper(
-    alloc: Global,
-    block_bytes: u64,
-) -> Result<PayloadDumper, DumperFault> {
-    let Some(payload) = payload(alloc, block_bytes) else {
-        return Err(DumperFault::OutOfMemory);
-    };
+pub(super) fn client(alloc: Global, block_bytes: u64) -> Option<PayloadDumper> {
+    let payload = payload(alloc, block_bytes)?;
     let line = line(block_bytes);
-    dumper(alloc, &line, 951868800, 951782400, payload, Seen::new())
-}
-
-/// The same, where blocks of so many bytes are known to be good.
-pub(super) fn client(alloc: Global, block_bytes: u64) -> Result<PayloadDumper, Fail> {
-    match payload_dumper(alloc, block_bytes) {
-        Ok(client) => Ok(client),
-        Err(_) => Err(Fail::new("no client")),
-    }
-}
-
-/// Reads a volume over a peer. Whether that goes well, with this label, and records of these bytes.
-pub(super) fn is_read<P: Peer>(alloc: Global, peer: &mut P, label: &[u8], records: &[u8]) -> bool {
-    let mut file = Vec::new(alloc);
-    let mut text = Vec::new(alloc);
-    let (mut out, mut printed) = (Counted::new(&mut file), Counted::new(&mut text));
-    let status = read_volume(alloc, peer, DEVICE, &mut out, &mut printed);
-    status == 0 && text.as_slice() == label && file.as_slice() == records
+    dumper(alloc, &line, 951868800, 951782400, payload, Seen::new()).ok()
 }

@@ -1,5 +1,6 @@
 //! Operations of mtio over a peer that is told what to reply.
 
+use super::check_row;
 use super::fake::{FakePeer, Replies};
 use super::fixture::DEVICE;
 use rmt_peer::mt;
@@ -7,13 +8,7 @@ use rmt_wire::Counted;
 use std::alloc::Global;
 
 /// One operation of count 1: its number, what the peer replies on each connection, what it is sent, what is printed, and the status.
-type Row = (
-    u8,
-    &'static [Replies<'static>],
-    &'static [u8],
-    &'static [u8],
-    u8,
-);
+type Row = (u8, &'static [Replies], &'static [u8], &'static [u8], u8);
 
 /// The last is without a connection.
 static ROWS: [Row; 9] = [
@@ -69,7 +64,7 @@ static ROWS: [Row; 9] = [
 ];
 
 /// Whether an operation over this peer prints what the row says, with its status.
-fn prints(alloc: Global, peer: &mut FakePeer<'_>, row: &Row) -> bool {
+fn prints(alloc: Global, peer: &mut FakePeer, row: &Row) -> bool {
     let (op, _, _, wanted, status) = *row;
     let mut printed = Vec::new(alloc);
     let mut out = Counted::new(&mut printed);
@@ -86,20 +81,6 @@ fn goes(alloc: Global, row: &Row) -> bool {
 #[test]
 fn operations(rt: HostRuntime) {
     for (at, row) in ROWS.iter().enumerate() {
-        assert!(rt; goes(rt.alloc(), row), "row {at}");
+        check_row(&rt, at, goes(rt.alloc(), row));
     }
-}
-
-/// Whether an operation, of which two bytes can be printed, prints these alone, and fails.
-fn fails_in_printing(alloc: Global) -> bool {
-    let mut peer = FakePeer::new(alloc, &[&[b"A0\n", b"A1\n", b"A0\n"]]);
-    let mut room = [0; 2];
-    let mut out = Counted::new(room.as_mut_slice());
-    let told = mt(alloc, &mut peer, DEVICE, 7, 1, &mut out);
-    told == 3 && room == *b"A1"
-}
-
-#[test]
-fn without_room_to_print(rt: HostRuntime) {
-    assert!(rt; fails_in_printing(rt.alloc()));
 }

@@ -2,6 +2,7 @@
 
 ghost use Rattle.std.specs.Prelude.{◌≡◌, length};
 
+use super::check_row;
 use dump_client::{Blocks, ListBlocks};
 use dump_files::{Clearing, Gauge, ProgressLine, Shown};
 use std::alloc::Global;
@@ -9,8 +10,6 @@ use std::cell::Cell;
 use std::io::{self, Write};
 use std::test::Fail;
 use std::time::{Clock, Duration};
-
-const CLEARED: &[u8] = b"\r\x1b[K";
 
 /// Counts what is shown.
 #[derive(Drop)]
@@ -126,49 +125,36 @@ static ROWS: [Row; 4] = [
 ];
 
 /// Shows such reads.
-fn show(text: &mut Vec<u8>, bytes: usize, reads: &[u32]) {
-    let clock = Ticking::new();
-    let mut line = ProgressLine::new(&clock, text);
-    line.begin(3);
+fn show(gauge: &mut impl Gauge, bytes: usize, reads: &[u32]) {
+    gauge.begin(3);
     for block in reads {
-        line.show(*block, bytes);
+        gauge.show(*block, bytes);
     }
 }
 
 /// Whether that is shown of such reads.
 fn goes(alloc: Global, row: &Row) -> bool {
     let (bytes, reads, wanted) = *row;
+    let clock = Ticking::new();
     let mut text = Vec::new(alloc);
-    show(&mut text, bytes, reads);
+    show(&mut ProgressLine::new(&clock, &mut text), bytes, reads);
     text.as_slice() == wanted
 }
 
 #[test]
 fn lines_of_progress(rt: HostRuntime) {
     for (at, row) in ROWS.iter().enumerate() {
-        assert!(rt; goes(rt.alloc(), row), "row {at}");
+        check_row(&rt, at, goes(rt.alloc(), row));
     }
-}
-
-/// Whether the terminal is cleared.
-fn is_cleared(terminal: &Option<Vec<u8>>) -> bool {
-    match terminal {
-        Some(shown) => shown.as_slice() == CLEARED,
-        None => false,
-    }
-}
-
-/// Whether a line is written after the terminal is cleared.
-fn is_written_below(alloc: Global) -> bool {
-    let mut out = Clearing {
-        lines: Vec::new(alloc),
-        terminal: Some(Vec::new(alloc)),
-    };
-    let written = out.write_all(b"retry?\n").is_ok();
-    written && out.lines.as_slice() == b"retry?\n".as_slice() && is_cleared(&out.terminal)
 }
 
 #[test]
 fn a_line_below_progress(rt: HostRuntime) {
-    assert!(rt; is_written_below(rt.alloc()));
+    let (mut lines, mut shown) = ([0; 7], [0; 4]);
+    let mut out = Clearing {
+        lines: lines.as_mut_slice(),
+        terminal: Some(shown.as_mut_slice()),
+    };
+    let written = out.write_all(b"retry?\n").is_ok();
+    assert!(rt; written && lines == *b"retry?\n" && shown == *b"\r\x1b[K");
 }

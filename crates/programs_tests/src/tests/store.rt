@@ -2,7 +2,6 @@
 
 use dump_files::DatesStore;
 use std::alloc::Global;
-use std::test::Fail;
 
 pub(super) const OLD: &[u8] = b"/usr                             0 Tue Feb 29 00:00:00 2000
 /usr                             1 Tue Feb 29 00:00:00 2000
@@ -15,22 +14,22 @@ pub(super) const ENTERED: &[u8] = b"/usr                             0 Tue Feb 2
 /home                            0 Thu Jan  1 00:00:00 1970
 ";
 
-/// A file in memory, which can be told not to be read or not to be replaced.
+/// A file in memory, which can be told not to be replaced. It keeps what is put in place of it.
 #[derive(Drop)]
 pub(super) struct Kept {
-    pub(super) text: Vec<u8>,
-    reads: bool,
+    pub(super) put: Vec<u8>,
+    text: Option<&'static [u8]>,
     takes: bool,
 }
 
 impl Kept {
-    /// The file has this text.
-    pub(super) fn new(alloc: Global, text: &[u8], reads: bool, takes: bool) -> Result<Kept, Fail> {
-        Ok(Kept {
-            text: Vec::from_slice(alloc, text)?,
-            reads,
+    /// The file has this text. Without one it cannot be read.
+    pub(super) fn new(alloc: Global, text: Option<&'static [u8]>, takes: bool) -> Kept {
+        Kept {
+            put: Vec::new(alloc),
+            text,
             takes,
-        })
+        }
     }
 }
 
@@ -40,14 +39,10 @@ impl DatesStore for Kept {
     ghost takes = { λ _ _ _ _. Unit {0} };
 
     fn read(&mut self, alloc: Global) -> Option<Vec<u8>> {
-        if !self.reads {
-            return None;
-        }
-        Vec::from_slice(alloc, self.text.as_slice()).ok()
+        Vec::from_slice(alloc, self.text?).ok()
     }
 
     fn replace(&mut self, text: &[u8]) -> bool {
-        self.text.clear();
-        self.takes && self.text.extend_from_slice(text).is_ok()
+        self.takes && self.put.extend_from_slice(text).is_ok()
     }
 }

@@ -1,16 +1,17 @@
 //! Volumes that are read over a peer that is told what to reply.
 
+use super::check_row;
 use super::fake::{FakePeer, Replies};
-use super::fixture::{DEVICE, is_read};
-use rmt_peer::{Asked, ReadFault, copy_volume};
+use super::fixture::DEVICE;
+use rmt_peer::{Asked, ReadFault, copy_volume, read_volume};
 use rmt_wire::Counted;
 use std::alloc::Global;
-use std::test::Fail;
+use std::io::Write;
 
 const ALL_SENT: &[u8] = b"O/dev/st0\n0\nI5\n1\nR65536\nR65536\nR65536\nR65536\nC\n";
 
 /// A label of three bytes, and two records.
-const REPLIES: Replies<'static> = &[
+const REPLIES: &[Replies] = &[&[
     b"A0\n",
     b"A1\n",
     b"A5\none\0\0",
@@ -19,73 +20,85 @@ const REPLIES: Replies<'static> = &[
     b"e",
     b"A0\n",
     b"A0\n",
-];
+]];
 
-/// Whether a volume is read over a peer, with its label and its records, and so much is sent.
+/// Whether a volume is read over a peer, with its label and its records.
+fn is_read(alloc: Global, peer: &mut FakePeer) -> bool {
+    let (mut file, mut text) = ([0; 5], [0; 3]);
+    let mut out = Counted::new(file.as_mut_slice());
+    let mut printed = Counted::new(text.as_mut_slice());
+    let status = read_volume(alloc, peer, DEVICE, &mut out, &mut printed);
+    status == 0 && text == *b"one" && file == *b"abcde"
+}
+
+/// Whether a volume is, and so much is sent.
 fn is_read_whole(alloc: Global) -> bool {
-    let mut peer = FakePeer::new(alloc, &[REPLIES]);
-    is_read(alloc, &mut peer, b"one", b"abcde") && peer.sent.as_slice() == ALL_SENT
+    let mut peer = FakePeer::new(alloc, REPLIES);
+    is_read(alloc, &mut peer) && peer.sent.as_slice() == ALL_SENT
 }
 
-#[test]
-fn a_volume(rt: HostRuntime) {
-    assert!(rt; is_read_whole(rt.alloc()));
-}
+/// What a peer replies on its one connection, and what comes of a copy of a volume then, where two bytes can be printed.
+type Row = (&'static [Replies], Result<(), ReadFault>);
 
-/// What a peer replies on its one connection, and the fault that a copy of a volume finds then, where two bytes can be printed.
-static FAULTS: [(&[Replies<'static>], ReadFault); 6] = [
+/// A label alone, and faults.
+static COPIES: [Row; 7] = [
+    (&[&[b"A0\n", b"A1\n", b"A2\nab", b"A0\n", b"A0\n"]], Ok(())),
     (
         &[&[b"E6\nDevice not configured\n"]],
-        ReadFault::Refused {
+        Err(ReadFault::Refused {
             asked: Asked::Open,
             number: 6,
-        },
+        }),
     ),
     (
         &[&[b"A0\n", b"A1\n", b"A1\na", b"E5\nInput/output error\n"]],
-        ReadFault::Refused {
+        Err(ReadFault::Refused {
             asked: Asked::Read,
             number: 5,
-        },
+        }),
     ),
     (
         &[&[b"A0\n", b"A1\n", b"A0\n", b"E9\nBad file descriptor\n"]],
-        ReadFault::Refused {
+        Err(ReadFault::Refused {
             asked: Asked::Close,
             number: 9,
-        },
+        }),
     ),
     (
         &[&[b"A0\n", b"A1\n", b"A5\nab"]],
-        ReadFault::ConnectionEnded,
+        Err(ReadFault::ConnectionEnded),
     ),
-    (&[&[b"A0\n", b"A1\n", b"A65537\n"]], ReadFault::Botched),
-    (&[&[b"A0\n", b"A1\n", b"A3\nabc"]], ReadFault::OutputFailed),
+    (&[&[b"A0\n", b"A1\n", b"A65537\n"]], Err(ReadFault::Botched)),
+    (
+        &[&[b"A0\n", b"A1\n", b"A3\nabc"]],
+        Err(ReadFault::OutputFailed),
+    ),
 ];
 
-/// Whether a copy of a volume over a peer that replies so finds this fault, where two bytes can be printed.
-fn finds(alloc: Global, connections: &[Replies<'_>], fault: ReadFault) -> bool {
-    let mut peer = FakePeer::new(alloc, connections);
+/// Whether that comes of a copy of a volume.
+fn goes(alloc: Global, row: &Row) -> bool {
+    let mut peer = FakePeer::new(alloc, row.0);
     let mut file = Counted::new(Vec::new(alloc));
     let mut room = [0; 2];
     let mut out = Counted::new(room.as_mut_slice());
-    copy_volume(alloc, &mut peer, DEVICE, &mut file, &mut out) == Err(fault)
+    copy_volume(alloc, &mut peer, DEVICE, &mut file, &mut out) == row.1
 }
 
 #[test]
-fn faults(rt: HostRuntime) {
-    for (at, (connections, fault)) in FAULTS.iter().enumerate() {
-        assert!(rt; finds(rt.alloc(), connections, *fault), "row {at}");
+fn volumes(rt: HostRuntime) {
+    assert!(rt; is_read_whole(rt.alloc()));
+    for (at, row) in COPIES.iter().enumerate() {
+        check_row(&rt, at, goes(rt.alloc(), row));
     }
 }
 
 #[test]
-fn faults_are_told(rt: HostRuntime) -> Result<(), Fail> {
+fn a_fault_is_told(rt: HostRuntime) {
     let refused = ReadFault::Refused {
         asked: Asked::Rewind,
         number: 5,
     };
-    let text = format!(in rt.alloc(); "{refused}")?;
-    assert!(rt; text.as_str() == "rewind refused with E5");
-    Ok(())
+    let mut room = [0; 22];
+    let told = write!(room.as_mut_slice(), "{refused}").is_ok();
+    assert!(rt; told && room == *b"rewind refused with E5");
 }

@@ -1,13 +1,17 @@
 //! With memory enough nothing is refused for want of it.
 
-use super::CAPACITY;
-use super::pieces::{Pieces, is_served};
-use super::script::{READ_BACK_ANSWERS, READ_BACK_BYTES};
-use std::test::Fail;
+use super::fixture::END;
+use super::served::{Row, is_answered};
+
+/// A record is read back.
+static READ_BACK: Row<'static> = (
+    b"O/dev/st0\n2\nW5\nhelloI0\n1\nI5\n1\nR10\nR10\nC\n",
+    b"A0\nA5\nA1\nA1\nA5\nhelloA0\nA0\n",
+    END,
+    b"A0\nA5\nhello",
+);
 
 #[test]
-fn ample_memory(rt: HostRuntime) -> Result<(), Fail> {
-    let input = Pieces::whole(READ_BACK_BYTES);
-    assert!(rt; is_served(rt.alloc(), CAPACITY, input, READ_BACK_ANSWERS, 0)?);
-    Ok(())
+fn ample_memory(rt: HostRuntime) {
+    assert!(rt; is_answered(rt.alloc(), &READ_BACK));
 }

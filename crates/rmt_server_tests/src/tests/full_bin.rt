@@ -4,25 +4,20 @@ use drives::{DriveFault, Stacks};
 use std::alloc::Global;
 use tape::ListReel;
 
-/// Why the bin takes no reel.
-#[derive(Clone, Copy, Drop)]
-pub(crate) enum Why {
-    NoMemory,
-    NameTaken,
-}
-
 /// The drive `/dev/st0` with the reel on its stack, unless that is latched.
 #[derive(Drop)]
 pub(crate) struct FullBin {
     reel: Option<ListReel>,
-    why: Why,
+    has_refused: bool,
 }
 
 impl FullBin {
     /// The reel is empty, of 100 bytes.
-    pub(crate) fn new(alloc: Global, why: Why) -> FullBin {
-        let reel = Some(ListReel::new(alloc, 100));
-        FullBin { reel, why }
+    pub(crate) fn new(alloc: Global) -> FullBin {
+        FullBin {
+            reel: Some(ListReel::new(alloc, 100)),
+            has_refused: false,
+        }
     }
 }
 
@@ -55,11 +50,14 @@ impl Stacks for FullBin {
         self.reel = Some(reel);
     }
 
+    // First memory is refused, then the name of the reel.
     fn offline(&mut self, drive: usize, reel: ListReel) -> Result<(), (ListReel, DriveFault)> {
-        let fault = match self.why {
-            Why::NoMemory => DriveFault::OutOfMemory,
-            Why::NameTaken => DriveFault::NameTaken,
+        let fault = if self.has_refused {
+            DriveFault::NameTaken
+        } else {
+            DriveFault::OutOfMemory
         };
+        self.has_refused = true;
         Err((reel, fault))
     }
 

@@ -1,87 +1,63 @@
-//! How serving ends, and what is left on the drive.
+//! What a whole stream is answered with, how serving it ends, and what is left on the drive.
+
+ghost use Rattle.std.specs.Prelude.{◌≤◌, length};
 
 use super::CAPACITY;
-use super::fixture::serve_once;
-use super::pieces::{Pieces, Wanted, is_served};
-use super::script::{READ_BACK_ANSWERS, READ_BACK_BYTES};
-use rmt_server::{ServeFault, Served};
-use rmt_wire::WireFault;
-use std::alloc::{AllocError, Global};
-use std::test::Fail;
+use super::fixture::{Drives, END, NO_INPUT, NO_OUTPUT, serve_once, two_drives};
+use super::pieces::{Pieces, Wanted};
+use rmt_server::ServeFault;
+use std::alloc::Global;
+use std::io::Write;
 
-/// Bytes, their answers, how they end, and the first record of the reel then. The drive has to be free.
-type Ending = (&'static [u8], &'static [u8], Served, &'static [u8]);
+/// A stream, what it is answered, how serving it ends, and what another session is answered then that opens the first
+/// drive and reads 8 bytes. An input that fails does so after the stream, and an output that fails after those answers.
+pub(crate) type Row<'a> = (&'a [u8], &'a [u8], u8, &'a [u8]);
 
-static ENDINGS: [Ending; 6] = [
-    (b"", b"", Served::End, b""),
-    (READ_BACK_BYTES, READ_BACK_ANSWERS, Served::End, b"hello"),
-    (
-        b"O/dev/st0\n2\nW5\nhello",
-        b"A0\nA5\n",
-        Served::End,
-        b"hello",
-    ),
-    (b"O/dev/st0\n2\nW5\nhel", b"A0\n", Served::Truncated, b""),
-    (
-        b"O/dev/st0\n2\nS\n",
-        b"A0\n",
-        Served::Broken(WireFault::UnknownCommand),
-        b"",
-    ),
-    (
-        b"O/dev/st0\n2\nW2\nabW99999999999\nW1\nc",
-        b"A0\nA2\n",
-        Served::Broken(WireFault::BadNumber),
-        b"ab",
-    ),
-];
+/// Whether a stream is answered so, where the input gives and the output takes at most `most` bytes a call.
+fn is_served(alloc: Global, drives: &mut Drives, row: &Row<'_>, most: usize) -> bool
+    requires { length drives.old.stacks.shop.racks ≤ length drives.old.holds.numbers }
+    ensures { length drives.new.stacks.shop.racks ≤ length drives.new.holds.numbers }
+{
+    let input = Pieces {
+        bytes: row.0,
+        most,
+        fails: row.2 == NO_INPUT,
+    };
+    let mut output = if row.2 == NO_OUTPUT {
+        Wanted::narrow(row.1, row.1.len(), most)
+    } else {
+        Wanted::narrow(row.1, usize::MAX, most)
+    };
+    let status = serve_once(alloc, drives, input, &mut output);
+    status == row.2 && output.is_met()
+}
 
-/// Whether the bytes are answered and end so.
-fn ends(alloc: Global, (bytes, answers, ending, record): Ending) -> Result<bool, Fail> {
-    let mut output = Wanted::all(answers);
-    let ended = serve_once(alloc, bytes, &mut output, CAPACITY)?;
-    Ok(ended.is(Ok(ending), 0, 0) && output.is_met() && ended.has_record(record))
+/// Whether both sessions are answered so.
+fn are_served(alloc: Global, drives: &mut Drives, row: &Row<'_>, most: usize) -> bool
+    requires { length drives.old.stacks.shop.racks ≤ length drives.old.holds.numbers }
+{
+    let served = is_served(alloc, drives, row, most);
+    let reads: Row<'_> = (b"O/dev/st0\n0\nR8\n", row.3, END, b"");
+    is_served(alloc, drives, &reads, most) && served
+}
+
+/// The same with new drives.
+fn are_served_anew(alloc: Global, row: &Row<'_>, most: usize) -> bool {
+    match two_drives(alloc, CAPACITY) {
+        Some(mut drives) => are_served(alloc, &mut drives, row, most),
+        None => false,
+    }
+}
+
+/// The same in one piece, and a byte a piece.
+pub(crate) fn is_answered(alloc: Global, row: &Row<'_>) -> bool {
+    are_served_anew(alloc, row, usize::MAX) && are_served_anew(alloc, row, 1)
 }
 
 #[test]
-fn each_ending_closes_what_is_open(rt: HostRuntime) -> Result<(), Fail> {
-    for row in &ENDINGS {
-        assert!(rt; ends(rt.alloc(), *row)?);
-    }
-    Ok(())
-}
-
-/// A capacity, and what is answered then to a record of 4 bytes and a mark.
-static CAPACITIES: [(u64, &[u8]); 3] = [
-    (16, b"A0\nA4\nA1\n"),
-    (15, b"A0\nA0\nA1\n"),
-    (3, b"A0\nA0\nE28\nNo space left on device\n"),
-];
-
-#[test]
-fn the_capacity_is_that_of_the_reel(rt: HostRuntime) -> Result<(), Fail> {
-    let input = Pieces::whole(b"O/dev/st0\n2\nW4\nfourI0\n1\n");
-    for (capacity, want) in &CAPACITIES {
-        assert!(rt; is_served(rt.alloc(), *capacity, input, want, 0)?);
-    }
-    Ok(())
-}
-
-/// Each fault, and the name that it prints.
-static NAMES: [(ServeFault, &str); 2] = [
-    (ServeFault::Input, "Input"),
-    (ServeFault::Output, "Output"),
-];
-
-/// Whether the fault prints that name.
-fn prints(alloc: Global, fault: ServeFault, name: &str) -> Result<bool, AllocError> {
-    Ok(format!(in alloc; "{fault}")?.as_str() == name)
-}
-
-#[test]
-fn faults_print_their_names(rt: HostRuntime) -> Result<(), Fail> {
-    for (fault, name) in &NAMES {
-        assert!(rt; prints(rt.alloc(), *fault, name)?);
-    }
-    Ok(())
+fn faults_print_their_names(rt: HostRuntime) {
+    let mut room = [0; 12];
+    let (input, output) = (ServeFault::Input, ServeFault::Output);
+    let printed = write!(room.as_mut_slice(), "{input} {output}").is_ok();
+    assert!(rt; printed && room == *b"Input Output");
 }

@@ -1,127 +1,331 @@
 //! What a session answers while the device of its reel fails.
 
-use super::session::{Step, check_sessions};
-use std::test::Fail;
+use super::check_row;
+use super::two::{DONE, Event, INVALID, IO, ONE, OPEN, Row, Table, is_met};
+use rmt_wire::{Reply, Request};
 use tape::Trouble;
 
+const NO_SPACE: Reply<'static> = Reply::Error {
+    number: 28,
+    text: b"No space left on device",
+};
+
+/// The record `abc` is written.
+const WRITE_ABC: Event = Event::Ask(Request::Write { bytes: b"abc" }, Reply::Done { number: 3 });
+
+/// The record `de` is.
+const WRITE_DE: Event = Event::Ask(Request::Write { bytes: b"de" }, Reply::Done { number: 2 });
+
+/// The reel is rewound.
+const REWIND: Event = Event::Ask(Request::Op { op: 5, count: 1 }, ONE);
+
+const READ: Request<'static> = Request::Read { count: 9 };
+
+const WRITE_X: Request<'static> = Request::Write { bytes: b"x" };
+
+/// A read gives the record `abc`, or nothing.
+const READ_ABC: Event = Event::Ask(READ, Reply::Data { bytes: b"abc" });
+
+const READ_NONE: Event = Event::Ask(READ, Reply::Data { bytes: b"" });
+
 /// The records `abc` and `de`, and the place between them.
-const BETWEEN: Step = (
-    None,
-    b"O/dev/st0\n2\nW3\nabcW2\ndeI4\n1\n",
-    b"A0\nA3\nA2\nA1\n",
-    0,
-);
+const BETWEEN: &[Row] = &[
+    (1, Event::Ask(OPEN, DONE), [1, 0], Some((0, 0))),
+    (1, WRITE_ABC, [1, 0], Some((0, 0))),
+    (1, WRITE_DE, [1, 0], Some((0, 0))),
+    (
+        1,
+        Event::Ask(Request::Op { op: 4, count: 1 }, ONE),
+        [1, 0],
+        Some((0, 0)),
+    ),
+];
 
 /// The same records, and the place before both.
-const BEFORE: Step = (
-    None,
-    b"O/dev/st0\n2\nW3\nabcW2\ndeI5\n1\n",
-    b"A0\nA3\nA2\nA1\n",
-    0,
-);
+const BEFORE: &[Row] = &[
+    (1, Event::Ask(OPEN, DONE), [1, 0], Some((0, 0))),
+    (1, WRITE_ABC, [1, 0], Some((0, 0))),
+    (1, WRITE_DE, [1, 0], Some((0, 0))),
+    (1, REWIND, [1, 0], Some((0, 0))),
+];
 
-static SESSIONS: [[Step; 2]; 10] = [
+static TROUBLED: [Table; 10] = [
     // A write of `x` after `abc` fails, and leaves what its trouble says: the place is read, then the records from the
     // beginning, and `x` is written after `abc`.
-    [
-        BETWEEN,
-        (
-            Some(Trouble::Kept),
-            b"W1\nxR9\nI5\n1\nR9\nW1\nx",
-            b"E5\nInput/output error\nA2\ndeA1\nA3\nabcA1\n",
-            1,
-        ),
-    ],
-    [
-        BETWEEN,
-        (
-            Some(Trouble::Lost),
-            b"W1\nxR9\nI5\n1\nR9\nW1\nx",
-            b"E5\nInput/output error\nA0\nA1\nA3\nabcA1\n",
-            1,
-        ),
-    ],
-    [
-        BETWEEN,
-        (
-            Some(Trouble::Written(1)),
-            b"W1\nxR9\nI5\n1\nR9\nW1\nx",
-            b"E5\nInput/output error\nA1\nxA1\nA3\nabcA1\n",
-            1,
-        ),
-    ],
-    [
-        BETWEEN,
-        (
-            Some(Trouble::Written(0)),
-            b"W1\nxR9\nI5\n1\nR9\nW1\nx",
-            b"E5\nInput/output error\nA0\nA1\nA3\nabcA1\n",
-            1,
-        ),
-    ],
+    Table {
+        before: BETWEEN,
+        rows: &[
+            (1, Event::Device(Trouble::Kept), [1, 0], Some((0, 0))),
+            (1, Event::Ask(WRITE_X, IO), [1, 0], Some((0, 1))),
+            (
+                1,
+                Event::Ask(READ, Reply::Data { bytes: b"de" }),
+                [1, 0],
+                Some((0, 1)),
+            ),
+            (1, REWIND, [1, 0], Some((0, 1))),
+            (1, READ_ABC, [1, 0], Some((0, 1))),
+            (1, Event::Ask(WRITE_X, ONE), [1, 0], Some((0, 1))),
+            (1, Event::End, [0, 0], None),
+        ],
+        names: [b"ab", b"c", b""],
+        failures: 0,
+    },
+    Table {
+        before: BETWEEN,
+        rows: &[
+            (1, Event::Device(Trouble::Lost), [1, 0], Some((0, 0))),
+            (1, Event::Ask(WRITE_X, IO), [1, 0], Some((0, 1))),
+            (1, READ_NONE, [1, 0], Some((0, 1))),
+            (1, REWIND, [1, 0], Some((0, 1))),
+            (1, READ_ABC, [1, 0], Some((0, 1))),
+            (1, Event::Ask(WRITE_X, ONE), [1, 0], Some((0, 1))),
+            (1, Event::End, [0, 0], None),
+        ],
+        names: [b"ab", b"c", b""],
+        failures: 0,
+    },
+    Table {
+        before: BETWEEN,
+        rows: &[
+            (1, Event::Device(Trouble::Written(1)), [1, 0], Some((0, 0))),
+            (1, Event::Ask(WRITE_X, IO), [1, 0], Some((0, 1))),
+            (
+                1,
+                Event::Ask(READ, Reply::Data { bytes: b"x" }),
+                [1, 0],
+                Some((0, 1)),
+            ),
+            (1, REWIND, [1, 0], Some((0, 1))),
+            (1, READ_ABC, [1, 0], Some((0, 1))),
+            (1, Event::Ask(WRITE_X, ONE), [1, 0], Some((0, 1))),
+            (1, Event::End, [0, 0], None),
+        ],
+        names: [b"ab", b"c", b""],
+        failures: 0,
+    },
+    Table {
+        before: BETWEEN,
+        rows: &[
+            (1, Event::Device(Trouble::Written(0)), [1, 0], Some((0, 0))),
+            (1, Event::Ask(WRITE_X, IO), [1, 0], Some((0, 1))),
+            (1, READ_NONE, [1, 0], Some((0, 1))),
+            (1, REWIND, [1, 0], Some((0, 1))),
+            (1, READ_ABC, [1, 0], Some((0, 1))),
+            (1, Event::Ask(WRITE_X, ONE), [1, 0], Some((0, 1))),
+            (1, Event::End, [0, 0], None),
+        ],
+        names: [b"ab", b"c", b""],
+        failures: 0,
+    },
     // Of three failed marks over the records as many stand as the trouble says, and nothing after them.
-    [
-        BEFORE,
-        (
-            Some(Trouble::Written(2)),
-            b"I0\n3\nI1\n2\nI3\n1\nI2\n2\nI4\n1\n",
-            b"E5\nInput/output error\nA2\nE5\nInput/output error\nA2\nE5\nInput/output error\n",
-            1,
-        ),
-    ],
-    [
-        BEFORE,
-        (
-            Some(Trouble::Written(9)),
-            b"I0\n3\nI1\n3\nI3\n1\nI2\n3\nI4\n1\n",
-            b"E5\nInput/output error\nA3\nE5\nInput/output error\nA3\nE5\nInput/output error\n",
-            1,
-        ),
-    ],
+    Table {
+        before: BEFORE,
+        rows: &[
+            (1, Event::Device(Trouble::Written(2)), [1, 0], Some((0, 0))),
+            (
+                1,
+                Event::Ask(Request::Op { op: 0, count: 3 }, IO),
+                [1, 0],
+                Some((0, 1)),
+            ),
+            (
+                1,
+                Event::Ask(Request::Op { op: 1, count: 2 }, Reply::Done { number: 2 }),
+                [1, 0],
+                Some((0, 1)),
+            ),
+            (
+                1,
+                Event::Ask(Request::Op { op: 3, count: 1 }, IO),
+                [1, 0],
+                Some((0, 1)),
+            ),
+            (
+                1,
+                Event::Ask(Request::Op { op: 2, count: 2 }, Reply::Done { number: 2 }),
+                [1, 0],
+                Some((0, 1)),
+            ),
+            (
+                1,
+                Event::Ask(Request::Op { op: 4, count: 1 }, IO),
+                [1, 0],
+                Some((0, 1)),
+            ),
+            (1, Event::End, [0, 0], None),
+        ],
+        names: [b"ab", b"c", b""],
+        failures: 0,
+    },
+    Table {
+        before: BEFORE,
+        rows: &[
+            (1, Event::Device(Trouble::Written(9)), [1, 0], Some((0, 0))),
+            (
+                1,
+                Event::Ask(Request::Op { op: 0, count: 3 }, IO),
+                [1, 0],
+                Some((0, 1)),
+            ),
+            (
+                1,
+                Event::Ask(Request::Op { op: 1, count: 3 }, Reply::Done { number: 3 }),
+                [1, 0],
+                Some((0, 1)),
+            ),
+            (
+                1,
+                Event::Ask(Request::Op { op: 3, count: 1 }, IO),
+                [1, 0],
+                Some((0, 1)),
+            ),
+            (
+                1,
+                Event::Ask(Request::Op { op: 2, count: 3 }, Reply::Done { number: 3 }),
+                [1, 0],
+                Some((0, 1)),
+            ),
+            (
+                1,
+                Event::Ask(Request::Op { op: 4, count: 1 }, IO),
+                [1, 0],
+                Some((0, 1)),
+            ),
+            (1, Event::End, [0, 0], None),
+        ],
+        names: [b"ab", b"c", b""],
+        failures: 0,
+    },
     // A failed read moves nothing.
-    [
-        BEFORE,
-        (
-            Some(Trouble::Lost),
-            b"R9\nR9\nR9\n",
-            b"E5\nInput/output error\nA3\nabcA2\nde",
-            1,
-        ),
-    ],
+    Table {
+        before: BEFORE,
+        rows: &[
+            (1, Event::Device(Trouble::Lost), [1, 0], Some((0, 0))),
+            (1, Event::Ask(READ, IO), [1, 0], Some((0, 1))),
+            (1, READ_ABC, [1, 0], Some((0, 1))),
+            (
+                1,
+                Event::Ask(READ, Reply::Data { bytes: b"de" }),
+                [1, 0],
+                Some((0, 1)),
+            ),
+            (1, Event::End, [0, 0], None),
+        ],
+        names: [b"ab", b"c", b""],
+        failures: 0,
+    },
     // Trouble waits over operations with a count of 0.
-    [
-        BETWEEN,
-        (
-            Some(Trouble::Kept),
-            b"I0\n0\nI1\n0\nI2\n0\nI3\n0\nI4\n0\nI4\n1\nI4\n1\n",
-            b"A0\nA0\nA0\nA0\nA0\nE5\nInput/output error\nA1\n",
-            1,
-        ),
-    ],
-    // It waits over what does not come to the device: nothing, an operation that there is not, marks without room, and
-    // a rewind.
-    [
-        BETWEEN,
-        (
-            Some(Trouble::Kept),
-            b"I7\n0\nI8\n0\nI0\n99\nI5\n1\nI3\n1\nR9\n",
-            b"A0\nE22\nInvalid argument\nE28\nNo space left on device\nA1\nE5\nInput/output error\nA3\nabc",
-            1,
-        ),
-    ],
+    Table {
+        before: BETWEEN,
+        rows: &[
+            (1, Event::Device(Trouble::Kept), [1, 0], Some((0, 0))),
+            (
+                1,
+                Event::Ask(Request::Op { op: 0, count: 0 }, DONE),
+                [1, 0],
+                Some((0, 0)),
+            ),
+            (
+                1,
+                Event::Ask(Request::Op { op: 1, count: 0 }, DONE),
+                [1, 0],
+                Some((0, 0)),
+            ),
+            (
+                1,
+                Event::Ask(Request::Op { op: 2, count: 0 }, DONE),
+                [1, 0],
+                Some((0, 0)),
+            ),
+            (
+                1,
+                Event::Ask(Request::Op { op: 3, count: 0 }, DONE),
+                [1, 0],
+                Some((0, 0)),
+            ),
+            (
+                1,
+                Event::Ask(Request::Op { op: 4, count: 0 }, DONE),
+                [1, 0],
+                Some((0, 0)),
+            ),
+            (
+                1,
+                Event::Ask(Request::Op { op: 4, count: 1 }, IO),
+                [1, 0],
+                Some((0, 1)),
+            ),
+            (
+                1,
+                Event::Ask(Request::Op { op: 4, count: 1 }, ONE),
+                [1, 0],
+                Some((0, 1)),
+            ),
+            (1, Event::End, [0, 0], None),
+        ],
+        names: [b"ab", b"c", b""],
+        failures: 0,
+    },
+    // It waits over what does not come to the device: nothing, an operation that there is not, marks without room, and a rewind.
+    Table {
+        before: BETWEEN,
+        rows: &[
+            (1, Event::Device(Trouble::Kept), [1, 0], Some((0, 0))),
+            (
+                1,
+                Event::Ask(Request::Op { op: 7, count: 0 }, DONE),
+                [1, 0],
+                Some((0, 0)),
+            ),
+            (
+                1,
+                Event::Ask(Request::Op { op: 8, count: 0 }, INVALID),
+                [1, 0],
+                Some((0, 0)),
+            ),
+            (
+                1,
+                Event::Ask(Request::Op { op: 0, count: 99 }, NO_SPACE),
+                [1, 0],
+                Some((0, 0)),
+            ),
+            (1, REWIND, [1, 0], Some((0, 0))),
+            (
+                1,
+                Event::Ask(Request::Op { op: 3, count: 1 }, IO),
+                [1, 0],
+                Some((0, 1)),
+            ),
+            (1, READ_ABC, [1, 0], Some((0, 1))),
+            (1, Event::End, [0, 0], None),
+        ],
+        names: [b"ab", b"c", b""],
+        failures: 0,
+    },
     // Without a reel no trouble is set.
-    [
-        (
-            Some(Trouble::Lost),
-            b"O/dev/st0\n2\nW3\nabc",
-            b"A0\nA3\n",
-            0,
-        ),
-        (None, b"W1\nx", b"A1\n", 0),
-    ],
+    Table {
+        before: &[(1, Event::Device(Trouble::Lost), [0, 0], None)],
+        rows: &[
+            (1, Event::Ask(OPEN, DONE), [1, 0], Some((0, 0))),
+            (1, WRITE_ABC, [1, 0], Some((0, 0))),
+            (1, REWIND, [1, 0], Some((0, 0))),
+            (
+                1,
+                Event::Ask(Request::Read { count: 2 }, Reply::Data { bytes: b"ab" }),
+                [1, 0],
+                Some((0, 0)),
+            ),
+            (1, Event::End, [0, 0], None),
+        ],
+        names: [b"ab", b"c", b""],
+        failures: 0,
+    },
 ];
 
 #[test]
-fn trouble_is_met_by_a_device_call_and_leaves_what_it_says(rt: HostRuntime) -> Result<(), Fail> {
-    check_sessions(&rt, rt.alloc(), &SESSIONS)
+fn trouble_is_met_by_a_device_call_and_leaves_what_it_says(rt: HostRuntime) {
+    for (at, table) in TROUBLED.iter().enumerate() {
+        check_row(&rt, at, is_met(rt.alloc(), table));
+    }
 }

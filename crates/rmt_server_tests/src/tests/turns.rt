@@ -1,50 +1,45 @@
 //! A client that sends its next request only once the one before is answered.
 
+ghost use Rattle.std.specs.Prelude.{◌≤◌, length};
+
 use super::CAPACITY;
-use super::fixture::serve_once;
-use super::pieces::Wanted;
-use super::script::{READ_BACK, READ_BACK_ANSWERS, answered_of};
+use super::fixture::{Drives, END, serve_once, two_drives};
 use std::alloc::Global;
 use std::cell::Cell;
 use std::io::{self, ErrorKind, Read, Write};
-use std::test::Fail;
 
-/// It gives `READ_BACK`, at most `most` bytes a call and never bytes of two requests. It fails where the answers to
-/// the whole requests given so far, and no others, were not written yet, and from then on.
+/// A record is written and read back: each request, and how many bytes are answered up to it.
+static READ_BACK: [(&[u8], usize); 7] = [
+    (b"O/dev/st0\n2\n", 3),
+    (b"W5\nhello", 6),
+    (b"I0\n1\n", 9),
+    (b"I5\n1\n", 12),
+    (b"R10\n", 20),
+    (b"R10\n", 23),
+    (b"C\n", 26),
+];
+
+/// It gives a request of `READ_BACK` a call. It fails where the requests given so far, and no others, were not answered
+/// yet.
 #[derive(Drop)]
 struct Asking<'a> {
     answered: &'a Cell<usize>,
-    given: usize,
+    wanted: usize,
     next: usize,
-    rest: &'static [u8],
-    most: usize,
-    is_early: bool,
-}
-
-/// The request of that number, or nothing after the last.
-fn request_at(number: usize) -> &'static [u8] {
-    match READ_BACK.get(number) {
-        Some((request, _)) => request,
-        None => &[],
-    }
 }
 
 impl Read for Asking<'_> {
     fn read(&mut self, buf: &mut [u8]) -> io::Result<usize> {
-        let (wanted, _) = answered_of(self.given);
-        self.is_early |= self.answered.get() != wanted;
-        if self.is_early {
+        if self.answered.get() != self.wanted {
             return Err(ErrorKind::Other.into());
         }
-        if self.rest.is_empty() {
-            self.rest = request_at(self.next);
-            self.next = self.next.saturating_add(1);
-        }
-        let count = buf.len().min(self.rest.len()).min(self.most);
-        buf[..count].copy_from_slice(&self.rest[..count]);
-        self.rest = &self.rest[count..];
-        self.given = self.given.saturating_add(count);
-        Ok(count)
+        let Some((request, wanted)) = READ_BACK.get(self.next) else {
+            return Ok(0);
+        };
+        self.wanted = *wanted;
+        self.next = self.next.saturating_add(1);
+        let mut request = *request;
+        request.read(buf)
     }
 }
 
@@ -52,15 +47,13 @@ impl Read for Asking<'_> {
 #[derive(Drop)]
 struct Answers<'a> {
     answered: &'a Cell<usize>,
-    taken: &'a mut Wanted<'static>,
 }
 
 impl Write for Answers<'_> {
     fn write(&mut self, buf: &[u8]) -> io::Result<usize> {
-        let count = self.taken.write(buf)?;
         let before = self.answered.get();
-        self.answered.set(before.saturating_add(count));
-        Ok(count)
+        self.answered.set(before.saturating_add(buf.len()));
+        Ok(buf.len())
     }
 
     fn flush(&mut self) -> io::Result<()> {
@@ -68,29 +61,31 @@ impl Write for Answers<'_> {
     }
 }
 
-/// Whether all is answered where the client gives at most `most` bytes a call.
-fn takes_turns(alloc: Global, most: usize) -> Result<bool, Fail> {
+/// Whether all is answered.
+fn takes_turns(alloc: Global, drives: &mut Drives) -> bool
+    requires { length drives.old.stacks.shop.racks ≤ length drives.old.holds.numbers }
+{
     let answered = Cell::new(0usize);
-    let mut taken = Wanted::all(READ_BACK_ANSWERS);
     let input = Asking {
         answered: &answered,
-        given: 0,
+        wanted: 0,
         next: 0,
-        rest: &[],
-        most,
-        is_early: false,
     };
     let output = Answers {
         answered: &answered,
-        taken: &mut taken,
     };
-    let ended = serve_once(alloc, input, output, CAPACITY)?;
-    Ok(ended.status() == 0 && taken.is_met())
+    serve_once(alloc, drives, input, output) == END && answered.get() == 26
+}
+
+/// The same with new drives.
+fn takes_turns_anew(alloc: Global) -> bool {
+    match two_drives(alloc, CAPACITY) {
+        Some(mut drives) => takes_turns(alloc, &mut drives),
+        None => false,
+    }
 }
 
 #[test]
-fn each_request_is_answered_before_the_next_is_read(rt: HostRuntime) -> Result<(), Fail> {
-    assert!(rt; takes_turns(rt.alloc(), usize::MAX)?);
-    assert!(rt; takes_turns(rt.alloc(), 1)?);
-    Ok(())
+fn each_request_is_answered_before_the_next_is_read(rt: HostRuntime) {
+    assert!(rt; takes_turns_anew(rt.alloc()));
 }

@@ -1,13 +1,7 @@
-use Rattle.std.proofs.Common.{false}
 use Rattle.rmt_peer.proofs.Talking.{some_sent}
 use Rattle.programs_tests.proofs.tests.fake.FakePeerPeer.send.Goals as goal
 
-pub returns-in-Some : goal.returns-in-Some
-returns-in-Some c =
+pub returns : goal.returns
+returns c =
     let sent = some_sent c.args.bytes.now c.is_ok.result in
-    (sent.0, sent.1, λ log h. h)
-
-pub returns-in-None : goal.returns-in-None
-returns-in-None c =
-    let sent = some_sent c.args.bytes.now false in
     (sent.0, sent.1, λ log h. h)

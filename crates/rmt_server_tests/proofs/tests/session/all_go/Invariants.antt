@@ -1,9 +1,0 @@
-use Rattle.tape.specs.contracts.troubled.TroubledReelReel.TheImpl.{ghosts as of_reel}
-use Rattle.drives.specs.contracts.local.LocalHoldsHolds.TheImpl.{ghosts as of_holds}
-use Rattle.drives.specs.contracts.list.ListStacksStacks.TheImpl.{ghosts as of_stacks}
-use Rattle.drives.specs.Opening.{kinds}
-use Rattle.rmt_server.specs.State.{state, IsAt}
-use Rattle.rmt_server_tests.proofs.tests.session.all_go.Given as goal
-
-abbrev pub invariant-loop-step : goal.invariant-loop-step
-invariant-loop-step l = IsAt (kinds of_holds of_stacks of_reel) (state l.drives l.session)
