@@ -1,8 +1,6 @@
 //! Words of both programs, and streams served with drives in memory.
 
-mod failing;
 mod folders;
 mod listening;
-mod rows;
-mod server_words;
+mod streams;
 mod words;

@@ -1,100 +1,29 @@
-//! The words of `rdump`.
+//! The words of both programs.
 
-use clap::error::ErrorKind;
-use rmt_words::{DumpLine, RdumpLine, rdump_words};
+use rmt_words::rdump_words;
+use rmtd_words::{is_device, number_of, server_line, server_words};
 use std::alloc::Global;
+use std::fmt::Debug;
 
-/// What words ask for, or how they are refused. The address is `h:1`, the device `d` and the file `f`.
-enum Wanted {
-    /// The file is asked for this name and level, or for all.
-    Dates(Option<(&'static str, u8)>),
-    /// A dump with this date, which is entered or not.
-    Dump(Option<u64>, bool),
-    /// A volume is read into `o`.
-    Read,
-    /// An operation and its count.
-    Operation(u32, u32),
-    /// They are refused with an error of this kind.
-    Error(ErrorKind),
-    /// They are refused.
-    Refused,
+/// Whether that is a value as text.
+fn is_shown<T: Debug>(alloc: Global, value: &T, wanted: &str) -> bool {
+    match format!(in alloc; "{value:?}") {
+        Ok(text) => text.as_str() == wanted,
+        Err(_) => false,
+    }
 }
 
-/// Words, and what is wanted of them.
-type Row = (&'static [&'static str], Wanted);
+/// Words of `rdump`, and what is read of them, as text.
+type Row = (&'static [&'static str], &'static str);
 
-static ROWS: [Row; 26] = [
-    (&["rdump", "dates", "--file", "f"], Wanted::Dates(None)),
+static ROWS: [Row; 5] = [
+    (
+        &["rdump", "dates", "--file", "f"],
+        "Ok(Dates { file: \"f\", asked: None })",
+    ),
     (
         &["rdump", "dates", "--level=9", "--name", "/usr", "--file=f"],
-        Wanted::Dates(Some(("/usr", 9))),
-    ),
-    (
-        &["rdump", "dates", "--file", "f", "--name=--", "--level", "0"],
-        Wanted::Dates(Some(("--", 0))),
-    ),
-    (
-        &["rdump"],
-        Wanted::Error(ErrorKind::DisplayHelpOnMissingArgumentOrSubcommand),
-    ),
-    (&["rdump", "--help"], Wanted::Error(ErrorKind::DisplayHelp)),
-    (
-        &["rdump", "dates", "--help"],
-        Wanted::Error(ErrorKind::DisplayHelp),
-    ),
-    (
-        &["rdump", "date"],
-        Wanted::Error(ErrorKind::InvalidSubcommand),
-    ),
-    (
-        &["rdump", "dates"],
-        Wanted::Error(ErrorKind::MissingRequiredArgument),
-    ),
-    (
-        &["rdump", "dates", "--file", "f", "--name", "n"],
-        Wanted::Error(ErrorKind::MissingRequiredArgument),
-    ),
-    (
-        &["rdump", "dates", "--file", "f", "--level", "1"],
-        Wanted::Error(ErrorKind::MissingRequiredArgument),
-    ),
-    (
-        &[
-            "rdump", "dates", "--file", "f", "--name", "n", "--level", "10",
-        ],
-        Wanted::Error(ErrorKind::ValueValidation),
-    ),
-    (
-        &[
-            "rdump", "dates", "--file", "f", "--name", "n", "--level", "+5",
-        ],
-        Wanted::Error(ErrorKind::ValueValidation),
-    ),
-    (
-        &[
-            "rdump", "dates", "--file", "f", "--name", "n", "--level", "05",
-        ],
-        Wanted::Error(ErrorKind::ValueValidation),
-    ),
-    (
-        &[
-            "rdump", "dates", "--file", "f", "--name", "n", "--level", "",
-        ],
-        Wanted::Error(ErrorKind::ValueValidation),
-    ),
-    (
-        &["rdump", "dates", "--file", "f", "--name=", "--level", "1"],
-        Wanted::Error(ErrorKind::ValueValidation),
-    ),
-    (
-        &[
-            "rdump", "dates", "--file", "f", "--name", "a b", "--level", "1",
-        ],
-        Wanted::Error(ErrorKind::ValueValidation),
-    ),
-    (
-        &["rdump", "dates", "--file", "f", "g"],
-        Wanted::Error(ErrorKind::UnknownArgument),
+        "Ok(Dates { file: \"f\", asked: Some((\"/usr\", 9)) })",
     ),
     (
         &[
@@ -116,52 +45,13 @@ static ROWS: [Row; 26] = [
             "--date=9223372036854775807",
             "--update",
         ],
-        Wanted::Dump(Some(9223372036854775807), true),
-    ),
-    (
-        &[
-            "rdump",
-            "dump",
-            "--to",
-            "h:1",
-            "--device",
-            "d",
-            "--fs",
-            "/usr",
-            "--level",
-            "1",
-            "--payload",
-            "p",
-            "--block",
-            "1024",
-            "--dumpdates=f",
-        ],
-        Wanted::Dump(None, false),
-    ),
-    (
-        &[
-            "rdump",
-            "dump",
-            "--to",
-            "h:1",
-            "--device",
-            "d",
-            "--fs",
-            "/usr",
-            "--level",
-            "1",
-            "--payload",
-            "p",
-            "--block",
-            "1024",
-        ],
-        Wanted::Refused,
+        "Ok(Dump(DumpLine { to: \"h:1\", device: \"d\", fs: \"/usr\", level: 1, payload: \"p\", block: 1024, dumpdates: \"f\", date: Some(9223372036854775807), update: true }))",
     ),
     (
         &[
             "rdump", "read", "--to", "h:1", "--device", "d", "--out", "o",
         ],
-        Wanted::Read,
+        "Ok(Read(ReadLine { to: \"h:1\", device: \"d\", out: \"o\" }))",
     ),
     (
         &[
@@ -172,83 +62,46 @@ static ROWS: [Row; 26] = [
             "offline",
             "2147483647",
         ],
-        Wanted::Operation(6, 2147483647),
-    ),
-    (
-        &[
-            "rdump",
-            "mt",
-            "--to=h:1",
-            "--device=d",
-            "rewind",
-            "2147483648",
-        ],
-        Wanted::Refused,
-    ),
-    (
-        &["rdump", "mt", "--to=h:1", "--device=d", "eject", "1"],
-        Wanted::Refused,
-    ),
-    (
-        &["rdump", "mt", "--to=h:1", "--device=d", "nop", "+1"],
-        Wanted::Refused,
-    ),
-    (
-        &["rdump", "mt", "--to=h:1", "--device=d", "nop", ""],
-        Wanted::Refused,
+        "Ok(Mt(MtLine { to: \"h:1\", device: \"d\", op: 6, count: 2147483647 }))",
     ),
 ];
 
-/// Whether the line asks a dumpdates file so.
-fn is_dates(line: RdumpLine<'_>, wanted: Option<(&str, u8)>) -> bool {
-    match line {
-        RdumpLine::Dates { file, asked } => file == "f" && asked == wanted,
-        _ => false,
+#[test]
+fn words_of_the_client(rt: HostRuntime) {
+    for (words, wanted) in &ROWS {
+        let read = rdump_words(rt.alloc(), words);
+        assert!(rt; is_shown(rt.alloc(), &read, wanted));
     }
 }
 
-/// Whether the line is that of a dump of `/usr` with this date.
-fn is_dump(line: &DumpLine<'_>, date: Option<u64>, update: bool) -> bool {
-    (line.to, line.device, line.fs, line.level) == ("h:1", "d", "/usr", 1)
-        && (line.payload, line.block, line.dumpdates) == ("p", 1024, "f")
-        && (line.date, line.update) == (date, update)
-}
-
-/// Whether the line asks for what is wanted.
-fn is_line(line: RdumpLine<'_>, wanted: &Wanted) -> bool {
-    match (line, wanted) {
-        (_, Wanted::Dates(asked)) => is_dates(line, *asked),
-        (RdumpLine::Dump(dump), Wanted::Dump(date, update)) => is_dump(&dump, *date, *update),
-        (RdumpLine::Read(read), Wanted::Read) => {
-            (read.to, read.device, read.out) == ("h:1", "d", "o")
-        }
-        (RdumpLine::Mt(mt), Wanted::Operation(op, count)) => {
-            (mt.to, mt.device) == ("h:1", "d") && (mt.op, mt.count) == (*op, *count)
-        }
-        _ => false,
-    }
-}
-
-/// Whether an error of this kind is wanted.
-fn is_error(kind: ErrorKind, wanted: &Wanted) -> bool {
-    match wanted {
-        Wanted::Error(one) => kind == *one,
-        Wanted::Refused => true,
-        _ => false,
-    }
-}
-
-/// Whether that comes of the words.
-fn goes(alloc: Global, words: &[&str], wanted: &Wanted) -> bool {
-    match rdump_words(alloc, words) {
-        Ok(line) => is_line(line, wanted),
-        Err(error) => is_error(error.kind(), wanted),
-    }
-}
+/// Words of `rmtd` with a drive.
+static DRIVE: [&str; 7] = [
+    "rmtd",
+    "/dev/st0=/srv/a=b",
+    "--connections",
+    "007",
+    "--listen=127.0.0.1:0",
+    "--capacity=9223372036854775807",
+    "--bin=/bin",
+];
 
 #[test]
-fn words(rt: HostRuntime) {
-    for (at, (words, wanted)) in ROWS.iter().enumerate() {
-        assert!(rt; goes(rt.alloc(), words, wanted), "row {at}");
-    }
+fn words_of_the_server(rt: HostRuntime) {
+    let read = server_line(rt.alloc(), &DRIVE);
+    let wanted =
+        "Ok(ServerLine { stdio: false, listen: Some(\"127.0.0.1:0\"), capacity: 9223372036854775807, connections: Some(7), bin: Some(\"/bin\"), drives: [DriveWord { device: \"/dev/st0\", folder: \"/srv/a=b\" }] })";
+    assert!(rt; is_shown(rt.alloc(), &read, wanted));
+}
+
+/// Words of `rmtd` without a drive.
+static STDIO: [&str; 2] = ["rmtd", "--stdio"];
+
+#[test]
+fn words_and_what_they_say(rt: HostRuntime) {
+    let read = server_words(rt.alloc(), &STDIO);
+    let wanted =
+        "Ok(ServerLine { stdio: true, listen: None, capacity: 1048576, connections: None, bin: None, drives: [] })";
+    assert!(rt;
+        is_shown(rt.alloc(), &read, wanted) && is_device(b"/dev/st0") && number_of("007") == Some(7)
+    );
 }
