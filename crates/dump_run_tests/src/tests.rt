@@ -1,6 +1,4 @@
 //! Runs, labels and blocks that were worked out by hand, and the names of faults.
 
 mod blocks;
-mod faults;
-mod label;
 mod run;

@@ -3,48 +3,40 @@
 use example_server::{Stop, serve};
 use rmt_wire::{Counted, RequestReader, WireFault};
 use std::alloc::Global;
-use std::process::Abort;
-use std::test::Fail;
 
-/// What is served of these bytes, and what is written.
-fn served(alloc: Global, bytes: &[u8]) -> Result<(Result<(), Stop>, Vec<u8>), Fail> {
-    let mut requests = RequestReader::new(alloc)?;
+/// What is served, how the server ends at it, and what it writes.
+type Row = (&'static [u8], Result<(), Stop>, &'static [u8]);
+
+/// One of each request, a stream that ends inside a request, and one with bytes that are no request.
+static ROWS: [Row; 3] = [
+    (
+        b"O/dev/st0\n2\nW5\nhelloR5\nI5\n1\nC\n",
+        Ok(()),
+        b"A0\nA5\nA0\nA0\nA0\n",
+    ),
+    (b"C\nW5\nhel", Err(Stop::Truncated), b"A0\n"),
+    (
+        b"C\nX",
+        Err(Stop::Broken(WireFault::UnknownCommand)),
+        b"A0\n",
+    ),
+];
+
+/// Whether the server ends at the bytes of a row as it says, and writes that.
+fn row_is_met(alloc: Global, row: &Row) -> bool {
+    let (bytes, wanted, replies) = *row;
+    let Ok(mut requests) = RequestReader::new(alloc) else {
+        return false;
+    };
     let mut input = Counted::new(bytes);
     let mut output = Counted::new(Vec::new(alloc));
     let ended = serve(&mut requests, &mut input, &mut output);
-    Ok((ended, output.into_inner()))
-}
-
-/// How the server ends at these bytes, and what it writes.
-fn check_served(
-    rt: &impl Abort,
-    alloc: Global,
-    bytes: &[u8],
-    wanted: Result<(), Stop>,
-    replies: &[u8],
-) -> Result<(), Fail> {
-    let (ended, written) = served(alloc, bytes)?;
-    assert!(rt;
-        ended == wanted && written.as_slice() == replies,
-        "{bytes:?}"
-    );
-    Ok(())
+    ended == wanted && output.into_inner().as_slice() == replies
 }
 
 #[test]
-fn each_request_has_one_reply(rt: HostRuntime) -> Result<(), Fail> {
-    let bytes = b"O/dev/st0\n2\nW5\nhelloR5\nI5\n1\nC\n";
-    check_served(&rt, rt.alloc(), bytes, Ok(()), b"A0\nA5\nA0\nA0\nA0\n")
-}
-
-#[test]
-fn it_stops_inside_a_request(rt: HostRuntime) -> Result<(), Fail> {
-    let stop = Stop::Truncated;
-    check_served(&rt, rt.alloc(), b"C\nW5\nhel", Err(stop), b"A0\n")
-}
-
-#[test]
-fn it_stops_at_what_is_no_request(rt: HostRuntime) -> Result<(), Fail> {
-    let stop = Stop::Broken(WireFault::UnknownCommand);
-    check_served(&rt, rt.alloc(), b"C\nX", Err(stop), b"A0\n")
+fn each_request_has_one_reply(rt: HostRuntime) {
+    for row in &ROWS {
+        assert!(rt; row_is_met(rt.alloc(), row));
+    }
 }
