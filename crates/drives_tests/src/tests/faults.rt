@@ -1,7 +1,6 @@
 //! What faults print.
 
 use drives::DriveFault;
-use std::alloc::{AllocError, Global};
 use std::test::Fail;
 
 /// Each fault, and the name that it prints.
@@ -14,15 +13,11 @@ static NAMES: [(DriveFault, &str); 6] = [
     (DriveFault::NameTaken, "NameTaken"),
 ];
 
-/// Whether the fault prints that name.
-fn prints(alloc: Global, fault: &DriveFault, name: &str) -> Result<bool, AllocError> {
-    Ok(format!(in alloc; "{fault}")?.as_str() == name)
-}
-
 #[test]
 fn faults_print_their_names(rt: HostRuntime) -> Result<(), Fail> {
     for (fault, name) in &NAMES {
-        assert!(rt; prints(rt.alloc(), fault, name)?);
+        let printed = format!(in rt.alloc(); "{fault}")?;
+        assert!(rt; printed.as_str() == *name);
     }
     Ok(())
 }

@@ -1,20 +1,17 @@
 //! Two drives with reels of one letter, and what lies where.
 
-ghost use Rattle.std.specs.Prelude.{◌≡◌, ◌<◌, IfOk, length};
-ghost use Rattle.drives.specs.ListShop.{IsShop};
-ghost use Rattle.drives.specs.Stacking.{HasLatched};
+ghost use Rattle.std.specs.Prelude.{◌≡◌, IfOk, length};
 
-use drives::{DriveFault, ListStacks, ListedReel, Stacks};
-use tape::TroubledReel;
+use drives::{DriveFault, ListStacks, ListedReel};
 
-/// Adds two drives without reels.
-pub(super) fn add_drives(stacks: &mut ListStacks) -> Result<(), DriveFault>
+/// Adds two drives without reels. Answers whether they are numbered in order.
+pub(super) fn add_drives(stacks: &mut ListStacks) -> Result<bool, DriveFault>
     requires { length stacks.old.shop.racks ≡ 0 }
     ensures { IfOk result (λ _. length stacks.new.shop.racks ≡ 2) }
 {
-    stacks.add_drive(b"/dev/st0")?;
-    stacks.add_drive(b"/dev/st1")?;
-    Ok(())
+    let first = stacks.add_drive(b"/dev/st0")?;
+    let second = stacks.add_drive(b"/dev/st1")?;
+    Ok(first == 0 && second == 1)
 }
 
 /// Adds the reels a and b at the first drive, and c at the second.
@@ -54,20 +51,4 @@ pub(super) fn lie(stacks: &ListStacks, letters: &Letters) -> bool
     are(stacks.stack(0), letters[0])
         && are(stacks.stack(1), letters[1])
         && are(stacks.bin(), letters[2])
-}
-
-/// Moves the latched reel of the drive to the bin.
-pub(super) fn move_reel(
-    stacks: &mut ListStacks,
-    drive: usize,
-    reel: TroubledReel,
-) -> Result<(), DriveFault>
-    requires drive { drive < length stacks.old.shop.racks }
-    requires latched { HasLatched IsShop stacks.old drive }
-    ensures { length stacks.new.shop.racks ≡ length stacks.old.shop.racks }
-{
-    match stacks.offline(drive, reel) {
-        Ok(()) => Ok(()),
-        Err((_, fault)) => Err(fault),
-    }
 }

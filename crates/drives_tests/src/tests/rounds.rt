@@ -2,9 +2,9 @@
 
 ghost use Rattle.std.specs.Prelude.{◌≡◌, ◌<◌, length};
 
-use super::reels::{Letters, add_drives, add_three_reels, lie, move_reel};
-use drives::DriveFault::{self, Device, NameTaken, NoReel};
-use drives::{ListStacks, Stacks, lying_troubles};
+use super::reels::{Letters, add_drives, add_three_reels, lie};
+use drives::DriveFault::{self, Device, NameTaken, NoReel, NoSuchDrive};
+use drives::{ListStacks, Stacks, lying_troubles, told_orders};
 use std::alloc::Global;
 use std::test::Fail;
 
@@ -16,10 +16,16 @@ enum Round {
     Moved,
     /// Its first reel is latched and stays so.
     Latched,
+    /// It is looked for by this name, which is answered by `NoSuchDrive` where it does not have it.
+    Named(&'static str),
     /// A reel of this name is added.
     Added(&'static str),
-    /// The next call of the device is to fail, or no longer.
-    Trouble(bool),
+    /// Its stack becomes the reels of these names where it can be arranged so.
+    Arranged(&'static [&'static [u8]]),
+    /// The reel of this name is looked for anywhere, which is answered by `NoReel` where it is not found.
+    Looked(&'static str),
+    /// The next call of the device is to fail.
+    Troubled,
 }
 
 /// Latches the first reel of the drive and lays it back.
@@ -38,7 +44,10 @@ fn move_first(stacks: &mut ListStacks, drive: usize) -> Result<(), DriveFault>
     ensures { length stacks.new.shop.racks ≡ length stacks.old.shop.racks }
 {
     let reel = stacks.latch(drive)?;
-    move_reel(stacks, drive, reel)
+    match stacks.offline(drive, reel) {
+        Ok(()) => Ok(()),
+        Err((_, fault)) => Err(fault),
+    }
 }
 
 /// Latches the first reel of the drive.
@@ -52,6 +61,36 @@ fn latch(stacks: &mut ListStacks, drive: usize) -> Result<(), DriveFault>
     }
 }
 
+/// Has the drive's stack become the reels of these names, where it can be arranged so.
+fn arrange(stacks: &mut ListStacks, drive: usize, names: &[&[u8]]) -> Result<(), DriveFault>
+    requires { drive < length stacks.old.shop.racks }
+    ensures { length stacks.new.shop.racks ≡ length stacks.old.shop.racks }
+{
+    if stacks.can_arrange(drive, names) {
+        stacks.arrange(drive, names)
+    } else {
+        Ok(())
+    }
+}
+
+/// `NoReel` where no reel of that name is found.
+fn find_reel(stacks: &ListStacks, name: &[u8]) -> Result<(), DriveFault> {
+    if stacks.reel(name).is_some() {
+        Ok(())
+    } else {
+        Err(NoReel)
+    }
+}
+
+/// `NoSuchDrive` where the drive does not have that name.
+fn find_drive(stacks: &ListStacks, drive: usize, name: &[u8]) -> Result<(), DriveFault> {
+    if stacks.drive(name) == Some(drive) {
+        Ok(())
+    } else {
+        Err(NoSuchDrive)
+    }
+}
+
 /// Makes the round at the drive.
 fn go(stacks: &mut ListStacks, drive: usize, round: &Round) -> Result<(), DriveFault>
     requires { drive < length stacks.old.shop.racks }
@@ -62,8 +101,11 @@ fn go(stacks: &mut ListStacks, drive: usize, round: &Round) -> Result<(), DriveF
         Round::Moved => move_first(stacks, drive),
         Round::Latched => latch(stacks, drive),
         Round::Added(name) => stacks.add_reel(drive, name.as_bytes(), 5),
-        Round::Trouble(on) => {
-            stacks.trouble(*on);
+        Round::Arranged(names) => arrange(stacks, drive, names),
+        Round::Looked(name) => find_reel(stacks, name.as_bytes()),
+        Round::Named(name) => find_drive(stacks, drive, name.as_bytes()),
+        Round::Troubled => {
+            stacks.trouble(true);
             Ok(())
         }
     }
@@ -72,75 +114,83 @@ fn go(stacks: &mut ListStacks, drive: usize, round: &Round) -> Result<(), DriveF
 /// At which drive, the round, what it answers, the reels afterwards, and how often the device has failed then.
 type Row = (usize, Round, Result<(), DriveFault>, Letters, u64);
 
-/// A reel that is laid back stays first. One reel of each drive is latched, and no other while it is.
+/// A drive is found by its name. A reel that is laid back stays first. One reel of each drive is latched, and no other while
+/// it is.
 const LATCHES: &[Row] = &[
+    (1, Round::Named("/dev/st1"), Ok(()), ["ab", "c", ""], 0),
+    (
+        1,
+        Round::Named("/dev/st"),
+        Err(NoSuchDrive),
+        ["ab", "c", ""],
+        0,
+    ),
     (0, Round::LaidBack, Ok(()), ["ab", "c", ""], 0),
     (0, Round::Latched, Ok(()), ["Ab", "c", ""], 0),
     (0, Round::Latched, Err(NoReel), ["Ab", "c", ""], 0),
-    (1, Round::LaidBack, Ok(()), ["Ab", "c", ""], 0),
     (1, Round::Latched, Ok(()), ["Ab", "C", ""], 0),
 ];
 
-/// Reels are moved to the end of the bin.
+/// Reels are moved to the end of the bin, also while a reel is latched in the other drive.
 const MOVES: &[Row] = &[
     (0, Round::Moved, Ok(()), ["b", "c", "a"], 0),
-    (1, Round::Moved, Ok(()), ["b", "", "ac"], 0),
-    (0, Round::Moved, Ok(()), ["", "", "acb"], 0),
-    (0, Round::Moved, Err(NoReel), ["", "", "acb"], 0),
+    (1, Round::Latched, Ok(()), ["b", "C", "a"], 0),
+    (0, Round::Moved, Ok(()), ["", "C", "ab"], 0),
+    (0, Round::Moved, Err(NoReel), ["", "C", "ab"], 0),
 ];
 
-/// What is done at one drive leaves the reel that is latched in the other.
-const ELSEWHERE: &[Row] = &[
-    (1, Round::Latched, Ok(()), ["ab", "C", ""], 0),
-    (0, Round::Moved, Ok(()), ["b", "C", "a"], 0),
-    (0, Round::LaidBack, Ok(()), ["b", "C", "a"], 0),
-    (1, Round::Moved, Err(NoReel), ["b", "C", "a"], 0),
-    (0, Round::Latched, Ok(()), ["B", "C", "a"], 0),
-];
-
-/// A name is taken on each stack, also while its reel is latched.
-const TAKEN_ON_STACKS: &[Row] = &[
-    (0, Round::Added("a"), Err(NameTaken), ["ab", "c", ""], 0),
+/// A name is taken on each stack, in the bin, and while its reel is latched. Another is not.
+const TAKEN: &[Row] = &[
     (1, Round::Added("b"), Err(NameTaken), ["ab", "c", ""], 0),
-    (0, Round::Latched, Ok(()), ["Ab", "c", ""], 0),
-    (1, Round::Added("a"), Err(NameTaken), ["Ab", "c", ""], 0),
-];
-
-/// A name is taken in the bin, and another is not.
-const TAKEN_IN_BIN: &[Row] = &[
     (0, Round::Moved, Ok(()), ["b", "c", "a"], 0),
     (1, Round::Added("a"), Err(NameTaken), ["b", "c", "a"], 0),
-    (1, Round::Added("d"), Ok(()), ["b", "cd", "a"], 0),
+    (0, Round::Latched, Ok(()), ["B", "c", "a"], 0),
+    (1, Round::Added("b"), Err(NameTaken), ["B", "c", "a"], 0),
+    (1, Round::Added("d"), Ok(()), ["B", "cd", "a"], 0),
 ];
 
-/// A trouble meets one latch.
-const ONE_LATCH: &[Row] = &[
-    (0, Round::Trouble(true), Ok(()), ["ab", "c", ""], 0),
-    (0, Round::Latched, Err(Device), ["ab", "c", ""], 1),
-    (0, Round::Latched, Ok(()), ["Ab", "c", ""], 1),
-    (0, Round::Trouble(true), Ok(()), ["Ab", "c", ""], 1),
-    (0, Round::Trouble(false), Ok(()), ["Ab", "c", ""], 1),
-    (1, Round::Latched, Ok(()), ["Ab", "C", ""], 1),
-];
-
-/// A trouble waits past a stack that gives no reel.
-const WAITS: &[Row] = &[
+/// A trouble waits past a stack that gives no reel, and meets one latch.
+const TROUBLED: &[Row] = &[
     (1, Round::Latched, Ok(()), ["ab", "C", ""], 0),
-    (1, Round::Trouble(true), Ok(()), ["ab", "C", ""], 0),
+    (1, Round::Troubled, Ok(()), ["ab", "C", ""], 0),
     (1, Round::Latched, Err(NoReel), ["ab", "C", ""], 0),
     (0, Round::Latched, Err(Device), ["ab", "C", ""], 1),
+    (0, Round::Latched, Ok(()), ["Ab", "C", ""], 1),
+];
+
+/// A stack becomes the reels that are named, of its own and of the bin. No name stands twice, nor that of a reel of another
+/// drive.
+const ARRANGED: &[Row] = &[
+    (0, Round::Arranged(&[b"b"]), Ok(()), ["b", "c", "a"], 0),
+    (0, Round::Added("d"), Ok(()), ["bd", "c", "a"], 0),
+    (
+        0,
+        Round::Arranged(&[b"a", b"b"]),
+        Ok(()),
+        ["ab", "c", "d"],
+        0,
+    ),
+    (
+        0,
+        Round::Arranged(&[b"d", b"d"]),
+        Ok(()),
+        ["ab", "c", "d"],
+        0,
+    ),
+    (0, Round::Arranged(&[b"c"]), Ok(()), ["ab", "c", "d"], 0),
+];
+
+/// A reel is found in the bin, but neither it nor its stack's order can be had while it is latched.
+const LATCHED: &[Row] = &[
+    (0, Round::Moved, Ok(()), ["b", "c", "a"], 0),
+    (1, Round::Looked("a"), Ok(()), ["b", "c", "a"], 0),
+    (0, Round::Latched, Ok(()), ["B", "c", "a"], 0),
+    (0, Round::Looked("b"), Err(NoReel), ["B", "c", "a"], 0),
+    (0, Round::Arranged(&[b"a"]), Ok(()), ["B", "c", "a"], 0),
 ];
 
 /// Rounds that begin with the reels a and b at the first drive, and c at the second.
-static ALL: [&[Row]; 7] = [
-    LATCHES,
-    MOVES,
-    ELSEWHERE,
-    TAKEN_ON_STACKS,
-    TAKEN_IN_BIN,
-    ONE_LATCH,
-    WAITS,
-];
+static ALL: [&[Row]; 6] = [LATCHES, MOVES, TAKEN, TROUBLED, ARRANGED, LATCHED];
 
 /// Whether the round goes as it has to.
 fn goes(stacks: &mut ListStacks, row: &Row) -> bool
@@ -171,9 +221,10 @@ fn all_go_from_none(stacks: &mut ListStacks, rows: &[Row]) -> Result<bool, Drive
     requires { length stacks.old.shop.racks ≡ 0 }
 {
     lying_troubles();
-    add_drives(stacks)?;
+    told_orders();
+    let numbered = add_drives(stacks)?;
     add_three_reels(stacks)?;
-    Ok(all_go(stacks, rows))
+    Ok(numbered && all_go(stacks, rows))
 }
 
 /// The same at new drives.

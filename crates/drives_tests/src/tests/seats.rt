@@ -48,7 +48,7 @@ fn goes(
 }
 
 /// The first two seats.
-pub(super) fn two_seats(holds: &mut LocalHolds) -> Result<(LocalSeat, LocalSeat), Fail>
+fn two_seats(holds: &mut LocalHolds) -> Result<(LocalSeat, LocalSeat), Fail>
     requires new { holds.old.last ≡ 0 }
     ensures first { IfOk result (λ seats. IsSeatOf holds.new seats.0) }
     ensures second { IfOk result (λ seats. IsSeatOf holds.new seats.1) }

@@ -4,13 +4,6 @@ ghost use Rattle.std.specs.Prelude.{◌≡◌, IfOk};
 use std::alloc::Global;
 use std::io::{self, ErrorKind, Read, Write};
 
-/// What a call answers that does not work.
-#[derive(Clone, Copy)]
-pub(crate) enum Trouble {
-    Failure(ErrorKind),
-    TakesNone,
-}
-
 /// It takes or gives at most `piece` bytes a call. After `before` calls come `failing` ones that do not work; all others do.
 #[derive(Drop)]
 pub(crate) struct Fake {
@@ -18,7 +11,8 @@ pub(crate) struct Fake {
     piece: usize,
     before: usize,
     failing: usize,
-    trouble: Trouble,
+    /// How a call fails that does not work. None where it takes or gives none.
+    trouble: Option<ErrorKind>,
     /// How often it was called.
     pub(crate) calls: usize,
 }
@@ -29,7 +23,7 @@ impl Fake {
         piece: usize,
         before: usize,
         failing: usize,
-        trouble: Trouble,
+        trouble: Option<ErrorKind>,
     ) -> Self {
         Fake {
             taken: Vec::new(alloc),
@@ -52,8 +46,8 @@ impl Fake {
         ensures { IfOk result (λ n. n ≡ 0) }
     {
         match self.trouble {
-            Trouble::Failure(kind) => Err(kind.into()),
-            Trouble::TakesNone => Ok(0),
+            Some(kind) => Err(kind.into()),
+            None => Ok(0),
         }
     }
 }

@@ -1,11 +1,8 @@
 //! A reader of requests, fed a stream in two pieces.
 
-use super::checked::expect_of;
 use super::listener::Next;
 use rmt_wire::{Request, RequestReader, WireFault};
 use std::alloc::{AllocError, Global};
-use std::process::Abort;
-use std::test::Fail;
 
 /// A stream, its requests, the rest, and the fault of that, with how many bytes of the stream show it.
 pub(super) type Row<'a> = (
@@ -104,11 +101,9 @@ fn shown(fault: Option<(WireFault, usize)>, len: usize) -> Option<WireFault> {
     }
 }
 
-/// A reader gives what is in the row, where the stream comes in two pieces.
-pub(super) fn check_row(rt: &impl Abort, alloc: Global, row: &Row<'_>) -> Result<(), Fail> {
+/// Whether a reader gives what is in the row, where the stream comes in two pieces.
+pub(super) fn is_split(alloc: Global, row: &Row<'_>) -> Result<bool, AllocError> {
     let mut fed = Fed::new(alloc)?;
     let (first, second) = row.0.split_at(row.0.len() / 2);
-    let is_well = fed.takes(first, row) && fed.takes(second, row) && fed.ends(row);
-    expect_of(rt, is_well, "a stream", row.0);
-    Ok(())
+    Ok(fed.takes(first, row) && fed.takes(second, row) && fed.ends(row))
 }

@@ -3,7 +3,6 @@ ghost use Rattle.rmt_wire.specs.Lent.{plain_reply, plain_request};
 ghost use Rattle.rmt_wire.specs.Reply.{ReplyHasSpelling};
 ghost use Rattle.rmt_wire.specs.Request.{HasSpelling};
 
-use super::checked::same_text;
 use rmt_wire::{Reply, Request, push_reply, push_request};
 use std::alloc::AllocError;
 use std::test::Fail;
@@ -46,7 +45,7 @@ fn each_kind_of_request(rt: HostRuntime) -> Result<(), Fail> {
     ask_first(&mut out)?;
     ask_then(&mut out)?;
     let text = b"O/dev/st0\n2\nI5\n1\nW5\nhelloW0\nR65536\nI0\n2147483647\nC\nW65537\n".as_slice();
-    same_text(&rt, &out, text);
+    assert!(rt; *out == *text);
     Ok(())
 }
 
@@ -63,6 +62,6 @@ fn each_kind_of_reply(rt: HostRuntime) -> Result<(), Fail> {
     let mut out = Vec::new(rt.alloc());
     say_each(&mut out)?;
     let text = b"A0\nA3\nab\nE16\nDevice busy\n".as_slice();
-    same_text(&rt, &out, text);
+    assert!(rt; *out == *text);
     Ok(())
 }

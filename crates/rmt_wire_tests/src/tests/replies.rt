@@ -1,10 +1,11 @@
-//! Replies whose texts are written by hand: those of whole conversations, and single ones.
+//! Replies whose texts are written by hand: those of a conversation, and single ones.
 
-use super::listener::Listener;
-use super::reply_fed::{Exchange, check_exchange};
+use super::listener::{Listener, Next};
 use rmt_wire::{Reply, Wanted};
-use std::process::Abort;
 use std::test::Fail;
+
+/// What is waited for, what comes then, and the reply that this is.
+type Exchange = (Wanted, &'static [u8], Reply<'static>);
 
 const NONE: Reply = Reply::Data { bytes: b"" };
 
@@ -14,53 +15,22 @@ const ZERO: Reply = Reply::Done { number: 0 };
 
 const ONE: Reply = Reply::Done { number: 1 };
 
-const TWO: Reply = Reply::Done { number: 2 };
-
 const GREATEST: Reply = Reply::Done { number: 2147483647 };
-
-const FAILED: Reply = Reply::Error {
-    number: 5,
-    text: b"Input/output error",
-};
 
 const OFFLINE: Reply = Reply::Error {
     number: 6,
     text: b"Device not configured",
 };
 
-const CLOSED: Reply = Reply::Error {
-    number: 9,
-    text: b"Bad file descriptor",
-};
-
-const DENIED: Reply = Reply::Error {
-    number: 13,
-    text: b"Permission denied",
-};
-
-const REFUSED: Reply = Reply::Error {
-    number: 22,
-    text: b"Invalid argument",
-};
-
-/// Replies, one after the other: those of conversations, numbers, and data.
-static REPLIES: [Exchange; 36] = [
+/// Replies, one after the other: those of a conversation, numbers, data, and errors.
+static REPLIES: [Exchange; 24] = [
     // a record is written and read back
-    (Wanted::Number, b"A0\n", ZERO),
     (Wanted::Number, b"A5\n", Reply::Done { number: 5 }),
-    (Wanted::Number, b"A1\n", ONE),
     (
         Wanted::Data(10),
         b"A5\nhello",
         Reply::Data { bytes: b"hello" },
     ),
-    (Wanted::Data(10), b"A0\n", NONE),
-    // a drive of one access
-    (Wanted::Number, b"E9\nBad file descriptor\n", CLOSED),
-    // spacing over marks
-    (Wanted::Number, b"E5\nInput/output error\n", FAILED),
-    (Wanted::Number, b"A2\n", TWO),
-    (Wanted::Data(1), b"A1\nb", Reply::Data { bytes: b"b" }),
     // the largest write
     (Wanted::Number, b"A65536\n", Reply::Done { number: 65536 }),
     // a number, and data of fewer bytes than were wanted
@@ -91,14 +61,11 @@ static REPLIES: [Exchange; 36] = [
         Reply::Data { bytes: b"\n\n\n\n" },
     ),
     // errors, whatever is waited for
-    (Wanted::Data(0), b"E6\nDevice not configured\n", OFFLINE),
     (
         Wanted::Data(65536),
         b"E0000000006\nDevice not configured\n",
         OFFLINE,
     ),
-    (Wanted::Data(0), b"E13\nPermission denied\n", DENIED),
-    (Wanted::Data(65536), b"E22\nInvalid argument\n", REFUSED),
     (
         Wanted::Number,
         b"E2\nNo such file or directory\n",
@@ -108,27 +75,11 @@ static REPLIES: [Exchange; 36] = [
         },
     ),
     (
-        Wanted::Data(0),
-        b"E12\nCannot allocate memory\n",
-        Reply::Error {
-            number: 12,
-            text: b"Cannot allocate memory",
-        },
-    ),
-    (
         Wanted::Data(65536),
         b"E16\nDevice busy\n",
         Reply::Error {
             number: 16,
             text: b"Device busy",
-        },
-    ),
-    (
-        Wanted::Number,
-        b"E28\nNo space left on device\n",
-        Reply::Error {
-            number: 28,
-            text: b"No space left on device",
         },
     ),
     (
@@ -165,15 +116,33 @@ static REPLIES: [Exchange; 36] = [
     ),
 ];
 
-/// A reader gives each reply, after what is waited for.
-fn check_each(rt: &impl Abort, reader: &mut Listener, exchanges: &[Exchange<'_>]) {
-    for exchange in exchanges {
-        check_exchange(rt, reader, exchange);
-    }
+/// Whether it takes the piece, and gives none then.
+fn takes(reader: &mut Listener, piece: &[u8]) -> bool {
+    reader.push(piece) == piece.len() && reader.next(None) == Next::None(None)
+}
+
+/// Whether it gives this reply, and then none, with nothing unread.
+fn gives(reader: &mut Listener, reply: Reply<'_>) -> bool {
+    reader.next(Some(reply)) == Next::Wanted
+        && reader.next(None) == Next::None(None)
+        && reader.holds(0)
+}
+
+/// Whether it waits for the reply and gives it, where that comes in two pieces.
+fn is_given(reader: &mut Listener, exchange: &Exchange) -> bool {
+    let (wanted, bytes, reply) = *exchange;
+    let (first, second) = bytes.split_at(bytes.len() / 2);
+    reader.wait(wanted)
+        && takes(reader, first)
+        && reader.push(second) == second.len()
+        && gives(reader, reply)
 }
 
 #[test]
 fn replies_in_a_row(rt: HostRuntime) -> Result<(), Fail> {
-    check_each(&rt, &mut Listener::new(rt.alloc())?, &REPLIES);
+    let mut reader = Listener::new(rt.alloc())?;
+    for exchange in &REPLIES {
+        assert!(rt; is_given(&mut reader, exchange));
+    }
     Ok(())
 }

@@ -1,9 +1,7 @@
-//! Whole conversations, requests that have only begun, and streams with a fault, by hand.
+//! A whole conversation, requests that have only begun, and streams with a fault, by hand.
 
-use super::fed::{Row, check_row};
+use super::fed::{Row, is_split};
 use rmt_wire::{Request, WireFault};
-use std::alloc::Global;
-use std::process::Abort;
 use std::test::Fail;
 
 const DEVICE: &[u8] = b"/dev/st0";
@@ -19,7 +17,7 @@ const LONG_CLOSE: &[u8] = b"C000000000000000000000000000000000000000000000000000
 0000000000000000000000000000000000000000000000000000000000000000\
 0000000000000000000000000000000000000000000000000000000000000000";
 
-static ROWS: [Row; 23] = [
+static ROWS: [Row; 15] = [
     // a record is written and read back
     (
         b"O/dev/st0\n2\nW5\nhelloI0\n1\nI5\n1\nR10\nR10\nC\n",
@@ -35,22 +33,8 @@ static ROWS: [Row; 23] = [
         b"",
         None,
     ),
-    // nothing at all
-    (b"", &[], b"", None),
     // a write that lacks data
     (b"O/dev/st0\n2\nW5\nhel", &[OPEN], b"W5\nhel", None),
-    // one of no data, and an operation
-    (
-        b"W0\nI7\n9\n",
-        &[
-            Request::Write { bytes: b"" },
-            Request::Op { op: 7, count: 9 },
-        ],
-        b"",
-        None,
-    ),
-    // a mode of words
-    (b"O/dev/st0\n2 O_RDWR\n", &[OPEN], b"", None),
     // a letter that is left out
     (
         b"O/dev/st0\n2\nS\n",
@@ -58,14 +42,6 @@ static ROWS: [Row; 23] = [
         b"S\n",
         Some((WireFault::UnknownCommand, 13)),
     ),
-    // bad counts
-    (
-        b"W99999999999\n",
-        &[],
-        b"W99999999999\n",
-        Some((WireFault::BadNumber, 11)),
-    ),
-    (b"W3x", &[], b"W3x", Some((WireFault::BadNumber, 3))),
     // a count with all its digits, and the greatest
     (b"R0000000007\n", &[Request::Read { count: 7 }], b"", None),
     (
@@ -90,54 +66,6 @@ static ROWS: [Row; 23] = [
         Some((WireFault::BadNumber, 11)),
     ),
     (b"I7\n\n", &[], b"I7\n\n", Some((WireFault::BadNumber, 4))),
-    // spacing over marks
-    (
-        b"O/dev/st0\n2\nW1\naI0\n1\nW1\nbI0\n1\nI2\n2\nR9\nI4\n1\nI1\n1\nR1\nC\n",
-        &[
-            OPEN,
-            Request::Write { bytes: b"a" },
-            Request::Op { op: 0, count: 1 },
-            Request::Write { bytes: b"b" },
-            Request::Op { op: 0, count: 1 },
-            Request::Op { op: 2, count: 2 },
-            Request::Read { count: 9 },
-            Request::Op { op: 4, count: 1 },
-            Request::Op { op: 1, count: 1 },
-            Request::Read { count: 1 },
-            Request::Close,
-        ],
-        b"",
-        None,
-    ),
-    // a reel written anew
-    (
-        b"O/dev/st0\n2\nW3\nabcW2\ndeI5\n1\nW1\nxR5\nC\n",
-        &[
-            OPEN,
-            Request::Write { bytes: b"abc" },
-            Request::Write { bytes: b"de" },
-            Request::Op { op: 5, count: 1 },
-            Request::Write { bytes: b"x" },
-            Request::Read { count: 5 },
-            Request::Close,
-        ],
-        b"",
-        None,
-    ),
-    // a reel taken off
-    (
-        b"O/dev/st0\n2\nI6\n1\nW1\nxI7\n1\nC\nO/dev/st0\n2\n",
-        &[
-            OPEN,
-            Request::Op { op: 6, count: 1 },
-            Request::Write { bytes: b"x" },
-            Request::Op { op: 7, count: 1 },
-            Request::Close,
-            OPEN,
-        ],
-        b"",
-        None,
-    ),
     // requests that have only begun
     (b"O/dev/st0\n2", &[], b"O/dev/st0\n2", None),
     (b"W65536", &[], b"W65536", None),
@@ -152,15 +80,10 @@ static ROWS: [Row; 23] = [
     ),
 ];
 
-/// The streams are as in the rows.
-fn check_rows(rt: &impl Abort, alloc: Global, rows: &[Row<'_>]) -> Result<(), Fail> {
-    for row in rows {
-        check_row(rt, alloc, row)?;
-    }
-    Ok(())
-}
-
 #[test]
 fn streams_are_split_as_by_hand(rt: HostRuntime) -> Result<(), Fail> {
-    check_rows(&rt, rt.alloc(), &ROWS)
+    for row in &ROWS {
+        assert!(rt; is_split(rt.alloc(), row)?);
+    }
+    Ok(())
 }

@@ -1,11 +1,6 @@
-//! What is written of replies: numbers, data, and errors of a server.
-ghost use Rattle.rmt_wire.specs.Reply.{ReplyHasSpelling};
-ghost use Rattle.rmt_wire.specs.Reply.PlainReply.{Error};
-
-use super::calls::check_text;
+//! What is written of replies: numbers, data, and an error of a server.
+use super::calls::is_written;
 use rmt_wire::{NUMBER_LIMIT, Reply};
-use std::alloc::Global;
-use std::process::Abort;
 
 /// Numbers, and what is written of them.
 static NUMBERS: [(u32, &[u8]); 8] = [
@@ -19,16 +14,12 @@ static NUMBERS: [(u32, &[u8]); 8] = [
     (2147483647, b"A2147483647\n"),
 ];
 
-/// The number is written so.
-fn check_number(rt: &impl Abort, alloc: Global, number: u32, text: &[u8]) {
-    assert!(rt; number <= NUMBER_LIMIT);
-    check_text(rt, alloc, &Reply::Done { number }, text, 1);
-}
-
 #[test]
 fn numbers(rt: HostRuntime) {
     for (number, text) in &NUMBERS {
-        check_number(&rt, rt.alloc(), *number, text);
+        let number = *number;
+        assert!(rt; number <= NUMBER_LIMIT);
+        assert!(rt; is_written(rt.alloc(), &Reply::Done { number }, text, 1));
     }
 }
 
@@ -45,30 +36,17 @@ static FEW_BYTES: [(&[u8], &[u8], usize); 9] = [
     (b"\0\xff\r AE", b"A6\n\0\xff\r AE", 2),
 ];
 
-/// The data are written so.
-fn check_data(rt: &impl Abort, alloc: Global, bytes: &[u8], text: &[u8], calls: usize) {
-    assert!(rt; bytes.len() <= 6);
-    check_text(rt, alloc, &Reply::Data { bytes }, text, calls);
-}
-
 #[test]
 fn data_of_few_bytes(rt: HostRuntime) {
     for (bytes, text, calls) in &FEW_BYTES {
-        check_data(&rt, rt.alloc(), bytes, text, *calls);
+        assert!(rt; bytes.len() <= 6);
+        assert!(rt; is_written(rt.alloc(), &Reply::Data { bytes }, text, *calls));
     }
 }
 
-/// The error is written so.
-fn check_error(rt: &impl Abort, alloc: Global, number: u32, text: &[u8], want: &[u8])
-    requires { ReplyHasSpelling (Error number text.now) }
-{
-    check_text(rt, alloc, &Reply::Error { number, text }, want, 1);
-}
-
 #[test]
-fn errors_of_a_server(rt: HostRuntime) {
-    let alloc = rt.alloc();
-    check_error(&rt, alloc, 16, b"Device busy", b"E16\nDevice busy\n");
-    check_error(&rt, alloc, 0, b"", b"E0\n\n");
-    check_error(&rt, alloc, 2147483647, b"A0", b"E2147483647\nA0\n");
+fn an_error_of_a_server(rt: HostRuntime) {
+    let text = b"Device busy";
+    let reply = Reply::Error { number: 16, text };
+    assert!(rt; is_written(rt.alloc(), &reply, b"E16\nDevice busy\n", 1));
 }
