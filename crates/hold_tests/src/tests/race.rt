@@ -50,12 +50,12 @@ fn alone_in_threads<R: Threads + Sync>(
     Ok(alone)
 }
 
-/// All seats take one drive and give it back, over and over, each seat in a thread of its own: no two have it at once.
+/// All 32 seats take one drive and give it back, over and over, each seat in a thread of its own: no two have it at once.
 #[test]
 fn no_two_have_a_drive_at_once(rt: HostRuntime) -> Result<(), Fail> {
     let (table, seats) = HoldTable::new(rt.alloc(), 1)?;
     let inside = AtomicU64::new(0);
     let alone = alone_in_threads(&rt, &table, seats, &inside)?;
-    assert!(rt; alone.iter().all(|was| *was));
+    assert!(rt; alone.len() == 32 && alone.iter().all(|was| *was));
     Ok(())
 }
