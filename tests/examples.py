@@ -20,7 +20,7 @@ TOP = Path(__file__).resolve().parent.parent
 PROTOCOL = TOP / "docs/PROTOCOL.md"
 STORED = TOP / "crates/rmtd"
 # The crates of tests that repeat conversations: the bytes that are sent, and behind them those that are answered.
-REPEATING = ("rmt_server_tests", "edge_tests")
+REPEATING = ("server_tests", "programs_tests")
 CODE = re.compile(r"`([^`]*)`")
 # A comment, a character, or a string of Rust, of which byte strings have a group.
 TOKEN = re.compile(r"""//[^\n]*|b?'(?:[^'\\]|\\.)'|b"((?:[^"\\]|\\.)*)"|"(?:[^"\\]|\\.)*\"""", re.DOTALL)

@@ -1,17 +1,21 @@
-//! Dumps, volumes that are read back, operations and dumpdates files, against what was written by hand.
+//! Words, streams served, dumps, volumes that are read back, operations and dumpdates files, against what was written by hand.
 
 mod dates;
 mod entering;
 mod fake;
 mod fixture;
+mod folders;
 mod lines;
+mod listening;
 mod memory_peer;
 mod operations;
 mod payload;
 mod progress;
 mod socket;
 mod store;
+mod streams;
 mod volumes;
+mod words;
 
 use std::process::Abort;
 

@@ -1,6 +1,5 @@
-//! Tests of `tape_world` over what it gives to others, and of the laws of `tape_events`: lists of events, with what they come to.
-//!
-//! They stand in a crate of their own, so that the crate of the world is not proved a second time for them.
+//! Tests of `tape_world` over what it gives to others, of the laws of `tape_events`, and of `schedules`: lists of events, with what they
+//! come to, and schedules, with what they print. They stand here so that each of these crates is proved once.
 #![tactic(auto)]
 
 #[cfg(test)]

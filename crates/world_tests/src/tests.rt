@@ -1,10 +1,4 @@
-//! What a world has to do, by hand.
+//! What each crate has to do, by hand.
 
-mod dump;
-mod laws;
-mod line;
-mod moments;
-mod place;
-mod reels;
-mod rows;
-mod world;
+mod of_schedules;
+mod of_tape_world;

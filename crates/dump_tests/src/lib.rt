@@ -1,0 +1,6 @@
+//! Tests of `dumpdates`, `dump_run`, `dump_client` and the examples, by their public calls alone. They stand here so that each of these crates
+//! is proved once.
+#![tactic(auto)]
+
+#[cfg(test)]
+mod tests;

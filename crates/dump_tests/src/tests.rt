@@ -1,0 +1,6 @@
+//! What each crate has to do, by hand.
+
+mod of_dump_client;
+mod of_dump_run;
+mod of_dumpdates;
+mod of_examples;

@@ -1,6 +1,0 @@
-use Rattle.std.proofs.Common.{◌<◌}
-use Rattle.hold_table.specs.Seats.{IsSeatAt}
-use Rattle.hold_tests.proofs.tests.race.is_alone.Given as goal
-
-abbrev pub invariant-loop : goal.invariant-loop
-invariant-loop l = IsSeatAt l.table l.seat × (0 < l.table.words)

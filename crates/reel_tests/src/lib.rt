@@ -1,0 +1,5 @@
+//! Tests of `tape`, `drives` and `reel_files`, by their public calls alone. They stand here so that each of these crates is proved once.
+#![tactic(auto)]
+
+#[cfg(test)]
+mod tests;

@@ -1,0 +1,5 @@
+//! Tests with threads, of `hold_table` and `rmt_many`, by their public calls alone. They stand here so that both are proved once.
+#![tactic(auto)]
+
+#[cfg(test)]
+mod tests;

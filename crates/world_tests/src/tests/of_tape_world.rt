@@ -1,0 +1,10 @@
+//! What a world has to do, by hand.
+
+mod dump;
+mod laws;
+mod line;
+mod moments;
+mod place;
+mod reels;
+mod rows;
+mod world;
