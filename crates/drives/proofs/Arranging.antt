@@ -1,5 +1,5 @@
 -- What an operator's order of a stack leaves.
-use Rattle.std.proofs.Common.{◌≡◌, ◌≢◌, ℕ, ◌+◌, ◌-◌, ◌<◌, ◌≤◌, Bool, true, false, not, ◌&&◌, ◌||◌, IsTrue, List, [], ◌∷◌, ◌++◌, length, take, drop, map, set, is_some, Option, Some, None, Result, Ok, Err, IfOk, IsSome, refl, sym, ap, ◌∙◌, subst, inl, inr, arith, get_or-set_other, one-add, get_or, cond, append_assoc, drop-cons, suc}
+use Rattle.std.proofs.Common.{◌≡◌, ◌≢◌, ℕ, ◌+◌, ◌-◌, ◌<◌, ◌≤◌, Bool, true, false, not, ◌&&◌, ◌||◌, IsTrue, List, [], ◌∷◌, ◌++◌, length, take, drop, map, flat_map, set, is_some, Option, Some, None, Result, Ok, Err, IfOk, IsSome, refl, sym, ap, ◌∙◌, subst, inl, inr, arith, get_or-set_other, one-add, get_or, cond, append_assoc, drop-cons, suc}
 use Rattle.std.proofs.Math.Numerals.{suc-eq-add-one}
 use Rattle.std.proofs.lemmas.List.{get_or-set_same, drop-map, drop-drop, take_all, length-drop}
 use Rattle.std.proofs.lemmas.List.Folds.{list_any-append}
@@ -337,3 +337,21 @@ found_or name above below (Some x) e h = sym (find-append (λ x. bytes_eq name x
 
 pub found_below : {X : Type 0} (name : List ℕ) (above below : List (Slot X)) (o : Option (Slot X)) → None ≡ slot_named name above → o ≡ slot_named name below → o ≡ slot_named name (above ++ below)
 found_below name above below o e h = h ∙ sym (find-append (λ x. bytes_eq name x.name) above below ∙ ap (λ a. option_or a (slot_named name below)) (sym e))
+
+-- the first stack from drive i on has the reel of that name
+stacks_from : {X : Type 0} (name : List ℕ) (racks : List (Rack X)) (i : ℕ) (r : Rack X) → i < length racks → r ≡ get_or racks i r
+    → slot_named name (flat_map (λ x. x.stack) (drop i racks)) ≡ slot_named name (r.stack ++ flat_map (λ x. x.stack) (drop (i + 1) racks))
+stacks_from {X = X} name racks i r l is =
+    let S : List (Rack X) → List (Slot X) = λ rs. flat_map (λ x. x.stack) rs in
+    ap (λ rs. slot_named name (S rs)) (drop-cons racks i r l ∙ ap (λ x. x ∷ drop (suc i) racks) (sym is)) ∙ ap (λ m. slot_named name (r.stack ++ S (drop m racks))) (suc-eq-add-one i)
+
+pub stacked_here : {X : Type 0} (name : List ℕ) (racks : List (Rack X)) (i : ℕ) (r : Rack X) (o : Option (Slot X)) → i < length racks → r ≡ get_or racks i r → o ≡ slot_named name r.stack → IsSome o
+    → slot_named name (flat_map (λ x. x.stack) (drop i racks)) ≡ slot_named name (flat_map (λ x. x.stack) racks) → o ≡ slot_named name (flat_map (λ x. x.stack) racks)
+stacked_here name racks i r o l is found some same =
+    found_or name r.stack (flat_map (λ x. x.stack) (drop (i + 1) racks)) o found some ∙ sym (stacks_from name racks i r l is) ∙ same
+
+pub stacked_on : {X : Type 0} (name : List ℕ) (racks : List (Rack X)) (i : ℕ) (r : Rack X) → i < length racks → r ≡ get_or racks i r → None ≡ slot_named name r.stack
+    → slot_named name (flat_map (λ x. x.stack) (drop i racks)) ≡ slot_named name (flat_map (λ x. x.stack) racks)
+    → slot_named name (flat_map (λ x. x.stack) (drop (i + 1) racks)) ≡ slot_named name (flat_map (λ x. x.stack) racks)
+stacked_on name racks i r l is none same =
+    found_below name r.stack (flat_map (λ x. x.stack) (drop (i + 1) racks)) (slot_named name (flat_map (λ x. x.stack) (drop (i + 1) racks))) none refl ∙ sym (stacks_from name racks i r l is) ∙ same

@@ -113,8 +113,10 @@ impl ListStacks {
         ensures found { option_copied result ≡ reel_named name.now (slots_in self.now.shop) }
         ensures told { option_map at_rest (option_copied result) ≡ reel_named name.now (slots_in (shop_of self.now)) }
     {
-        let listed = self.listed(name)?;
-        listed.reel()
+        match self.listed(name) {
+            Some(listed) => listed.reel(),
+            None => None,
+        }
     }
 
     /// Whether `arrange` can be asked for these names: no reel of the drive is latched, no name stands twice, and each

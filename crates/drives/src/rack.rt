@@ -8,7 +8,7 @@ ghost use Rattle.drives.specs.Arranging.{slot_named};
 ghost use Rattle.drives.specs.Shop.{rack, first_reel, with_first, latched_on};
 
 use crate::ListedReel;
-use crate::pick::any_named;
+use crate::pick::{any_named, find_named};
 use std::alloc::{AllocError, Global};
 use std::marker::Model;
 use tape::TroubledReel;
@@ -86,8 +86,10 @@ impl ListRack {
         ensures taken { result ≡ first_reel self.old.stack }
         ensures away { self.new ≡ rack self.old.name (with_first None self.old.stack) }
     {
-        let first = self.stack.first_mut()?;
-        first.take()
+        match self.stack.first_mut() {
+            Some(first) => first.take(),
+            None => None,
+        }
     }
 
     /// Lays the first reel down again.
@@ -144,8 +146,10 @@ pub(crate) fn any_stacked(racks: &[ListRack], name: &[u8]) -> bool
 pub(crate) fn find_stacked<'a>(racks: &'a [ListRack], name: &[u8]) -> Option<&'a ListedReel>
     ensures { option_copied result ≡ slot_named name.now (flat_map (λ r. r.stack) racks.now) }
 {
-    racks
-        .iter()
-        .flat_map(|rack| rack.stack())
-        .find(|reel| reel.is_named(name))
+    for rack in racks {
+        if let Some(reel) = find_named(rack.stack(), name) {
+            return Some(reel);
+        }
+    }
+    None
 }

@@ -16,7 +16,7 @@ use drives::{DriveFault, Stacks};
 use look::look_at;
 use moving::Moved;
 use rack::FolderRack;
-use std::alloc::AllocError;
+use std::alloc::{AllocError, Global};
 use std::fs::File;
 use std::io::{self, ErrorKind};
 use std::marker::Model;
@@ -79,10 +79,7 @@ impl<R: Files<File = File> + AllocGlobal + Clone + Drop> FolderStacks<R> {
             ≡ folder_shop (map (λ d. folder_row d.name.now d.folder.now false) drives.now) bin.now capacity 0) }
         ensures count { IfOk result (λ opened. length opened.rows ≡ length drives.now) }
     {
-        let mut racks = Vec::new(rt.alloc());
-        for drive in drives {
-            racks.push(FolderRack::new(rt.alloc(), drive)?)?;
-        }
+        let racks = racks_of(rt.alloc(), drives)?;
         let bin = String::from_str(rt.alloc(), bin)?;
         Ok(FolderStacks {
             rt,
@@ -227,4 +224,15 @@ impl<R: Files<File = File> + AllocGlobal + Clone + Drop> Stacks for FolderStacks
     ghost once = { λ _ _ told. absurd told };
 
     ghost sized = { λ _ _ told. absurd told };
+}
+
+/// The drives with no reel latched.
+fn racks_of(alloc: Global, drives: &[FolderDrive<'_>]) -> Result<Vec<FolderRack>, AllocError>
+    ensures { IfOk result (λ racks. racks.items ≡ map (λ d. folder_row d.name.now d.folder.now false) drives.now) }
+{
+    let mut racks = Vec::new(alloc);
+    for drive in drives {
+        racks.push(FolderRack::new(alloc, drive)?)?;
+    }
+    Ok(racks)
 }

@@ -76,13 +76,6 @@ file_none bytes at t f is_tail =
     let p = parted bytes at t f in
     none_of (drop at bytes) p.tail t.after (back_is bytes at t.before t.after p) is_tail (others_of t.after p.after_is)
 
--- a place is within the bytes
-pub place_within : (bytes : List ℕ) (at : ℕ) (t : Tape) → IsFile bytes at t → at ≤ length bytes
-place_within bytes at t f =
-    let p = parted bytes at t f in
-    let o = p.offset_is in
-    omega (arith, ap length p.whole, length-append (images_of t.before) (images_of t.after ++ p.tail))
-
 pub mark_there : (bytes : List ℕ) (at : ℕ) (t : Tape) (n : ℕ) → IsFile bytes at t → n ≡ 0 → BeginsWith (drop at bytes) (Some n) → Some 0 ≡ first_length t.after
 mark_there bytes at t n f zero_is begins =
     file_first bytes at t Mark begins.1.0 f tt (begins.1.1 ∙ ap (λ k. length_bytes k ++ begins.1.0) zero_is)

@@ -1,5 +1,5 @@
 -- Calls of a medium in a row.
-use Rattle.std.proofs.Common.{◌≡◌, ◌⊎◌, false, true, ℕ, ◌+◌, ◌<◌, ◌≤◌, List, length, Result, Ok, Err, inl, inr, refl, ◌∙◌, arith}
+use Rattle.std.proofs.Common.{◌≡◌, ◌≢◌, ◌⊎◌, false, true, ℕ, ◌+◌, ◌<◌, ◌≤◌, List, length, Result, Ok, Err, inl, inr, refl, ◌∙◌, arith}
 use Rattle.tape.specs.Failures.{HasRisen, Steps}
 use Rattle.tape.specs.Medium.{MediumCall, MediumStep, HasFailed, bytes_added, MediumKind, IsMediumCall}
 use Rattle.tape.specs.FileSteps.{IsRun}
@@ -11,6 +11,22 @@ run_call c = record { step = c.step; failed = c.failed; same = c.same; counted =
 -- an answer that is no error is none
 pub no_error : false ≡ true → ⊥
 no_error f = cc
+
+-- nothing is added
+pub no_bytes : 0 ≤ 0
+no_bytes = omega arith
+
+pub no_bytes_twice : 0 + 0 ≤ 0
+no_bytes_twice = omega arith
+
+pub more_bytes : (n : ℕ) → 0 ≤ n
+more_bytes n = omega arith
+
+pub next_bytes : (n : ℕ) → 0 + n ≤ n
+next_bytes n = omega arith
+
+pub some_bytes : {n : ℕ} → n ≢ 0 → 0 < n
+some_bytes {n} some = omega arith
 
 -- what a run does, said otherwise
 pub run_as : {S : Type 0} {m : MediumKind S} {old new : S} {first does : List ℕ → List ℕ → Type 0} {less added : ℕ} {fails F : Type 0}

@@ -19,6 +19,10 @@ use Rattle.tape.proofs.MediumRuns.{no_error, run_as, run_call, run_then}
 use Rattle.tape.proofs.ReelCalls.{FileCall, file_call}
 use Rattle.tape.proofs.Passing.{next_passed}
 
+-- nothing is given
+pub none_given : (n : ℕ) → 0 ≤ n
+none_given n = omega arith
+
 pub gave_call : {M : Type 0} {m : MediumKind M} {does : List ℕ → List ℕ → Type 0} {F : Type 0} (old new : FileTape M) (count : ℕ) (bytes : List ℕ)
     → IsRun m does 0 F old.medium new.medium → (F → ⊥) → length bytes ≤ count → new.capacity ≡ old.capacity
     → ((x y : List ℕ) (t : Tape) → IsFile x old.offset t → does x y → (u : Tape) × IsFile y new.offset u × Passes count t.after t bytes u)

@@ -225,3 +225,19 @@ goes_stop {way = way} {left = left} {passed = passed} met far r q to from is cou
           let k = counts w.to g.0 g.2 in
           walks_end {met_on = λ _. 0} {passed_on = λ _. 0} (walks_on w g.0 (same_file (sym f.0) g.1) g.2 k.passed k.left_is) refl (omega arith),
     ))
+
+-- how many of the count are left
+pub all_left : (n : ℕ) → n ≤ n
+all_left n = omega arith
+
+pub some_left : {left count : ℕ} → 0 < left → left ≤ count → 0 < count
+some_left {left} {count} some within = omega arith
+
+pub fewer_left : {left count : ℕ} → left ≤ count → left - 1 ≤ count
+fewer_left {left} {count} within = omega arith
+
+pub none_left : {left : ℕ} → left ≤ 0 → left ≡ 0
+none_left {left} none = omega arith
+
+pub none_met : {left : ℕ} (met : ℕ) → left ≤ 0 → left - met ≡ left
+none_met {left} met none = omega arith

@@ -1,6 +1,6 @@
 //! The entries that the bytes of a record file spell.
 
-ghost use Rattle.std.specs.Prelude.{◌≡◌, ◌++◌, ◌<◌, ◌^◌, IfOk, MatchOption, length};
+ghost use Rattle.std.specs.Prelude.{◌≡◌, ◌++◌, ◌<◌, ◌^◌, List, ℕ, IfOk, MatchOption, length};
 ghost use Rattle.std.specs.List.{slice_get};
 ghost use Rattle.tape.specs.Tape.{PlainEntry, IsTapeEntry};
 ghost use Rattle.tape.specs.List.{plain_of, plain_entries, bytes_of};
@@ -61,6 +61,17 @@ fn first_entry(bytes: &[u8]) -> Option<(&[u8], &[u8])>
     if length == 0 {
         return Some((&[], rest));
     }
+    split_record(length, rest)
+}
+
+/// The bytes of a record of this length, of whose image these stand behind the first length, and what stands behind the image.
+/// None where it is not whole.
+fn split_record(length: usize, rest: &[u8]) -> Option<(&[u8], &[u8])>
+    requires some { 0 < length }
+    requires small { length < 2 ^ 32 }
+    ensures { (bytes : List ℕ) → bytes ≡ length_bytes length ++ rest.now →
+        MatchOption result (IsTail bytes) (λ p. IsFirst bytes p.0.now p.1.now) }
+{
     if length > RECORD_LIMIT {
         return None;
     }

@@ -1,5 +1,6 @@
+use Rattle.std.proofs.lemmas.Grind.{common_steps}
 use Rattle.drives.specs.Shop.{EachReelOnce}
-use Rattle.std.proofs.Common.{◌<◌, length, None, sym, subst}
+use Rattle.std.proofs.Common.{arith, ◌<◌, length, None, sym, subst}
 use Rattle.drives.specs.ListShop.{ListShop}
 use Rattle.drives.specs.Shop.{shop}
 use Rattle.drives.proofs.ListShop.{stocked_first}
@@ -23,3 +24,12 @@ returns-in_default-clause-once c = subst (λ (s : ListShop). EachReelOnce s.shop
 
 pub returns-clause-once : goal.returns-clause-once
 returns-clause-once c = subst (λ (s : ListShop). EachReelOnce s.shop) c.self.view_is c.self.invariant.once
+
+pub returns-then-is_ready-clause-latched : goal.returns-then-is_ready-clause-latched
+returns-then-is_ready-clause-latched c = grind (arith, common_steps)
+
+pub returns-in_default-clause-latched : goal.returns-in_default-clause-latched
+returns-in_default-clause-latched c = grind (arith, common_steps)
+
+pub returns-clause-latched : goal.returns-clause-latched
+returns-clause-latched c = grind (arith, common_steps)

@@ -1,4 +1,4 @@
-use Rattle.std.proofs.Common.{rules, refl, ℕ, ◌<◌, sym, subst, ◌∙◌, ap, ◌≡◌, Some, arith}
+use Rattle.std.proofs.Common.{rules, refl, ℕ, ◌<◌, ◌≤◌, sym, subst, ◌∙◌, ap, ◌≡◌, Some, arith}
 use Rattle.drives.proofs.Held.{given_back}
 use Rattle.drives.proofs.Refused.{latch_refused, word_given_back}
 use Rattle.drives.specs.Holding.{given, last_drive}
@@ -7,6 +7,9 @@ use Rattle.drives.proofs.table.DriveTable.open.Goals as goal
 
 some_same : {a b : ℕ} → Some a ≡ Some b → a ≡ b
 some_same e = cc
+
+below_all : {a b c : ℕ} → a < b → b ≤ c → a < c
+below_all {a} {b} {c} below within = omega arith
 
 pub returns-in-Err-clause-held : goal.returns-in-Err-clause-held
 returns-in-Err-clause-held g c = given_back (g.H.Holds.shows c.args.seat.now) (g.H.Holds.shows c.take.new.seat) _ _ c.give.ensures.step c.in_default-take.ensures.step c.in_default-take.ensures.answer.1
@@ -20,7 +23,7 @@ returns-in-Err-clause-opens g c =
     record {
       view = refused.seat;
       own = c.give.ensures.own;
-      asked = λ e is. subst (λ n. n < g.H.Holds.drives c.args.self.now.holds) (some_same (sym refused.asked ∙ is)) (omega (arith, c.in-Some.ensures.below, c.requires.drives));
+      asked = λ e is. subst (λ n. n < g.H.Holds.drives c.args.self.now.holds) (some_same (sym refused.asked ∙ is)) (below_all c.in-Some.ensures.below c.requires.drives);
       found = λ e n is tells. refused.found ∙ c.in_default-take.ensures.found n (subst (λ m. g.H.Holds.tells c.args.self.now.holds m n) (sym (some_same (sym refused.asked ∙ is))) tells);
       told = λ e n tells. subst (λ m. g.H.Holds.tells c.give.new.self e m)
           (word_given_back old.number d e n (λ same. c.in_default-take.ensures.found n (subst (λ m. g.H.Holds.tells c.args.self.now.holds m n) same tells)))
@@ -50,7 +53,7 @@ pub returns-in-Busy-clause-opens : goal.returns-in-Busy-clause-opens
 returns-in-Busy-clause-opens g c =
     let d = c.in-Some.drive in
     let asked : last_drive (g.H.Holds.shows c.take.new.seat) ≡ Some d = ap last_drive c.in-Busy.ensures.step in
-    let below : d < g.H.Holds.drives c.args.self.now.holds = omega (arith, c.in-Some.ensures.below, c.requires.drives) in
+    let below : d < g.H.Holds.drives c.args.self.now.holds = below_all c.in-Some.ensures.below c.requires.drives in
     record {
       view = (c.in-Busy.ensures.answer, (d, c.in-Busy.ensures.step));
       own = c.in-Busy.ensures.own;
@@ -69,7 +72,7 @@ returns-in-Ok-clause-opens g c =
     let d = c.in-Some.drive in
     let take = c.in_default-take.ensures in
     let asked : last_drive (g.H.Holds.shows c.take.new.seat) ≡ Some d = ap last_drive take.step in
-    let below : d < g.H.Holds.drives c.args.self.now.holds = omega (arith, c.in-Some.ensures.below, c.requires.drives) in
+    let below : d < g.H.Holds.drives c.args.self.now.holds = below_all c.in-Some.ensures.below c.requires.drives in
     record {
       view = (take.answer.0, take.answer.1, take.answer.2, take.step);
       own = take.own;

@@ -3,7 +3,7 @@ use Rattle.std.proofs.lemmas.Result.{err_from_is_err_and}
 use Rattle.tape.specs.RecordFile.{IsFile}
 use Rattle.tape.proofs.MediumRuns.{no_error}
 use Rattle.tape.proofs.Before.{nothing_ahead}
-use Rattle.tape.proofs.Taking.{gave_call, failed_read, failed_behind, read_run, cut_short, given_whole, end_passes, mark_passes}
+use Rattle.tape.proofs.Taking.{none_given, gave_call, failed_read, failed_behind, read_run, cut_short, given_whole, end_passes, mark_passes}
 use Rattle.tape.proofs.file_reel.FileReelReel.read.Goals as goal
 
 pub returns-in_err-length-clause-call : goal.returns-in_err-length-clause-call
@@ -13,14 +13,14 @@ returns-in_err-length-clause-call g c =
 
 pub returns-in_default-clause-call : goal.returns-in_default-clause-call
 returns-in_default-clause-call g c =
-    rw (← c.self.view_is) (gave_call _ _ (length c.args.into.now) [] c.in_ok-length.ensures.run no_error (omega arith) refl
+    rw (← c.self.view_is) (gave_call _ _ (length c.args.into.now) [] c.in_ok-length.ensures.run no_error (none_given (length c.args.into.now)) refl
     (λ x y t f s.
     let P : List ℕ → Type 0 = λ l. IsFile l c.self.inside.offset t in
     (t, subst P (sym s.0) f, end_passes t.after (length c.args.into.now) t (nothing_ahead t.after (sym c.in_default.is ∙ s.1 t f)))))
 
 pub returns-then-length-eq0-clause-call : goal.returns-then-length-eq0-clause-call
 returns-then-length-eq0-clause-call g c =
-    rw (← c.self.view_is) (gave_call _ _ (length c.args.into.now) [] c.in_ok-length.ensures.run no_error (omega arith) refl
+    rw (← c.self.view_is) (gave_call _ _ (length c.args.into.now) [] c.in_ok-length.ensures.run no_error (none_given (length c.args.into.now)) refl
     (λ x y t f s.
     let m = mark_passes x c.self.inside.offset c.in-Some.length (length c.args.into.now) t f (sym c.in-Some.is ∙ s.1 t f) c.if-length-eq0.true in
     let P : List ℕ → Type 0 = λ l. IsFile l (c.self.inside.offset + 4) m.0 in
@@ -37,7 +37,7 @@ returns-then-copied-count-clause-call g c =
     let given = c.read_at.new.into in
     let run = read_run c.self.inside.offset n c.in_ok-copied.copied _ given c.in_ok-length.ensures.run c.in_ok-copied.ensures.call c.in-Some.is in
     rw (← c.self.view_is) (cut_short _ _ n c.in_ok-copied.copied c.min-count.result (length c.args.into.now) given run refl c.min-count.ensures
-    (omega (arith, c.read_at.auto.into, length-take c.min-count.result c.args.into.now)) (omega arith))
+    (omega (arith, c.read_at.auto.into, length-take c.min-count.result c.args.into.now)) c.if-copied-count.true)
 
 pub returns-clause-call : goal.returns-clause-call
 returns-clause-call g c =
@@ -47,4 +47,4 @@ returns-clause-call g c =
     let run = read_run at n c.in_ok-copied.copied _ given c.in_ok-length.ensures.run c.in_ok-copied.ensures.call c.in-Some.is in
     rw (← c.self.view_is) (given_whole _ _ n c.in_ok-copied.copied c.min-count.result (length c.args.into.now) given (drop c.min-count.result c.args.into.now) run refl
     (ap (λ k. at + k) c.size_of.ensures) c.min-count.ensures
-    (omega (arith, c.read_at.auto.into, length-take c.min-count.result c.args.into.now)) (omega arith))
+    (omega (arith, c.read_at.auto.into, length-take c.min-count.result c.args.into.now)) c.if-copied-count.false)

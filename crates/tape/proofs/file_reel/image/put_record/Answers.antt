@@ -1,18 +1,18 @@
-use Rattle.std.proofs.Common.{◌≡◌, ◌+◌, refl, arith, Ok, Err}
+use Rattle.std.proofs.Common.{refl}
 use Rattle.std.proofs.lemmas.Result.{err_from_is_err_and}
 use Rattle.tape.specs.Tape.PlainEntry.{Record}
 use Rattle.tape.specs.RecordFile.{image_of}
-use Rattle.tape.proofs.MediumRuns.{run_call, run_as, run_then}
+use Rattle.tape.proofs.MediumRuns.{run_call, run_as, run_then, more_bytes, no_error, next_bytes}
 use Rattle.tape.proofs.Writing.{cut_append, cut_failed}
 use Rattle.tape.proofs.file_reel.image.put_record.Goals as goal
 
 pub returns-in_err-cut : goal.returns-in_err-cut
 returns-in_err-cut g c =
     let p = err_from_is_err_and c.from_residual.result c.from_residual.ensures.1 in
-    rw (p.1) (run_as (run_call c.in_err-cut.ensures) (λ f. refl) (λ f. refl) (omega arith)
+    rw (p.1) (run_as (run_call c.in_err-cut.ensures) (λ f. refl) (λ f. refl) (more_bytes _)
     (λ x y held step. cut_failed c.args.at (image_of (Record c.args.bytes.now)) _ _ x y step))
 
 pub returns : goal.returns
 returns g c =
-    run_then (run_call c.in_ok-cut.ensures) c.append_record.ensures (λ f. cc) (λ f. f) (λ f. f) (omega arith)
+    run_then (run_call c.in_ok-cut.ensures) c.append_record.ensures no_error (λ f. f) (λ f. f) (next_bytes _)
     (λ x y z held first next. cut_append c.args.at (image_of (Record c.args.bytes.now)) c.append_record.result tt x y z first next)
