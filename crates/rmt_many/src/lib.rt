@@ -4,6 +4,7 @@
 mod at;
 mod bench;
 mod connections;
+mod fresh;
 mod incoming;
 mod many;
 mod pool;

@@ -4,7 +4,7 @@ ghost use Rattle.std.specs.Thread.{IsSync, IsSend};
 ghost use Rattle.drives.specs.Holding.{HoldsJust};
 ghost use Rattle.hold_table.specs.Seats.{IsSeatAt};
 
-use crate::bench::Bench;
+use crate::fresh::Fresh;
 use crate::incoming::Incoming;
 use crate::pool::Pool;
 use drives::Stacks;
@@ -65,21 +65,12 @@ where
     )
 }
 
-/// The seats with their stacks. None where memory is refused.
-fn benches<'t, S: Stacks + Drop>(
-    alloc: Global,
-    table: &'t HoldTable,
-    seats: Vec<HoldSeat>,
-    stacks: Vec<S>,
-) -> Option<Vec<Bench<'t, S>>>
-    requires seats { All (λ s. IsSeatAt table.now s × HoldsJust s.view None) seats.items }
-    requires stacks { All (λ s. S.drives s ≤ table.now.words) stacks.items }
-{
-    let mut benches = Vec::with_capacity(alloc, seats.len()).ok()?;
-    for (seat, stacks) in seats.into_iter().zip(stacks) {
-        benches.push(Bench::new(table, seat, stacks)).ok()?;
+/// A pool of these, all of them free. None is free where memory is refused.
+fn pool<S: Stacks + Drop>(alloc: Global, fresh: Fresh<'_, S>) -> Pool<'_, S> {
+    match Vec::with_capacity(alloc, 32) {
+        Ok(benches) => Pool::new(fresh, benches, 32),
+        Err(_) => Pool::new(fresh, Vec::new(alloc), 0),
     }
-    Some(benches)
 }
 
 /// Serves each pair of streams by a session in a thread of its own, at most 32 at once. It returns once the last pair was given
@@ -105,7 +96,6 @@ where
     requires stacks { (length stacks.items ≡ 32) × All (λ s. S.drives s ≤ table.now.words) stacks.items }
     ensures { I.is_over result }
 {
-    let benches = benches(alloc, table, seats, stacks).unwrap_or(Vec::new(alloc));
-    let pool = Mutex::new(Pool::new(benches));
+    let pool = Mutex::new(pool(alloc, Fresh::new(table, seats, stacks)));
     serve_all(rt, alloc, incoming, &pool)
 }

@@ -1,20 +1,25 @@
 //! The benches that no thread has.
 
 use crate::bench::Bench;
+use crate::fresh::Fresh;
 use drives::Stacks;
 
 /// The benches that no thread has, and how many of them are promised to none.
 #[derive(Drop)]
 pub(crate) struct Pool<'t, S: Stacks + Drop> {
+    fresh: Fresh<'t, S>,
     benches: Vec<Bench<'t, S>>,
     free: usize,
 }
 
 impl<'t, S: Stacks + Drop> Pool<'t, S> {
-    /// All of these are free.
-    pub(crate) fn new(benches: Vec<Bench<'t, S>>) -> Self {
-        let free = benches.len();
-        Pool { benches, free }
+    /// So many of these are free, and there is room for as many that come back.
+    pub(crate) fn new(fresh: Fresh<'t, S>, benches: Vec<Bench<'t, S>>, free: usize) -> Self {
+        Pool {
+            fresh,
+            benches,
+            free,
+        }
     }
 
     /// Promises a bench to a thread that is to be started. It answers false where none is free.
@@ -35,13 +40,15 @@ impl<'t, S: Stacks + Drop> Pool<'t, S> {
 
     /// Gives a bench that was promised.
     pub(crate) fn take(&mut self) -> Option<Bench<'t, S>> {
-        self.benches.pop()
+        match self.benches.pop() {
+            Some(bench) => Some(bench),
+            None => self.fresh.take(),
+        }
     }
 
     /// Takes a bench back. It takes no memory: there was room for all.
     pub(crate) fn put(&mut self, bench: Bench<'t, S>) {
-        if self.benches.push(bench).is_ok() {
-            self.free = self.free.saturating_add(1);
-        }
+        let is_back = self.benches.push(bench).is_ok();
+        self.free = self.free.saturating_add(is_back as usize);
     }
 }

@@ -1,10 +1,12 @@
 //! Drives whose reels are files in folders, as the words of `rmtd` name them.
-ghost use Rattle.std.specs.Prelude.{◌≡◌, ◌≤◌, All, IfOk, length};
+ghost use Rattle.std.specs.Prelude.{◌≡◌, ◌≤◌, false, All, IfOk, length, map};
+ghost use Rattle.reel_files.specs.Folders.{folder_row};
+ghost use Rattle.rmtd_words.specs.Drive.{plain_drive};
 ghost use Rattle.rmt_serve.specs.Folders.{stacks_of};
 
 use reel_files::{FolderDrive, FolderStacks};
 use rmtd_words::DriveWord;
-use std::alloc::AllocError;
+use std::alloc::{AllocError, Global};
 use std::fs::File;
 use std::rt::Files;
 
@@ -26,14 +28,27 @@ pub fn folder_stacks<R: Files<File = File> + AllocGlobal + Clone + Drop>(
     ensures named { IfOk result (λ s. s ≡ stacks_of words.now bin.now capacity) }
     ensures count { IfOk result (λ s. length s.rows ≡ length words.now) }
 {
-    let mut drives = Vec::new(rt.alloc());
+    let drives = folder_drives(rt.alloc(), words)?;
+    FolderStacks::open(rt, &drives, bin, capacity)
+}
+
+/// The drives of these words, by name and folder.
+fn folder_drives<'a>(
+    alloc: Global,
+    words: &[DriveWord<'a>],
+) -> Result<Vec<FolderDrive<'a>>, AllocError>
+    ensures named { IfOk result (λ drives. map (λ d. folder_row d.name.now d.folder.now false) drives.items
+        ≡ map (λ d. folder_row d.device d.folder false) (map plain_drive words.now)) }
+    ensures count { IfOk result (λ drives. length drives.items ≡ length words.now) }
+{
+    let mut drives = Vec::new(alloc);
     for word in words {
         drives.push(FolderDrive {
             name: word.device,
             folder: word.folder,
         })?;
     }
-    FolderStacks::open(rt, &drives, bin, capacity)
+    Ok(drives)
 }
 
 /// Stacks of these drives for each of the 32 seats of a table: each looks at the same folders, by itself. It reads no folder,
@@ -54,7 +69,22 @@ pub fn seat_stacks<R: Files<File = File> + AllocGlobal + Clone + Drop>(
 {
     let mut all = Vec::with_capacity(rt.alloc(), SEATS)?;
     while all.len() < SEATS {
-        all.push(folder_stacks(rt.clone()?, words, bin, capacity)?)?;
+        all.push(stacks_at(&rt, words, bin, capacity)?)?;
     }
     Ok(all)
+}
+
+/// The stacks of one seat.
+fn stacks_at<R: Files<File = File> + AllocGlobal + Clone + Drop>(
+    rt: &R,
+    words: &[DriveWord<'_>],
+    bin: &str,
+    capacity: u64,
+) -> Result<FolderStacks<R>, AllocError>
+    requires some { 1 ≤ length words.now }
+    requires few { length words.now ≤ 64 }
+    ensures named { IfOk result (λ s. s ≡ stacks_of words.now bin.now capacity) }
+    ensures count { IfOk result (λ s. length s.rows ≡ length words.now) }
+{
+    folder_stacks(rt.clone()?, words, bin, capacity)
 }

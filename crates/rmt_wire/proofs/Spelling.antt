@@ -90,15 +90,11 @@ short_answer (Data bytes) Number answers within = absurd answers
 short_answer (Data bytes) (DataUpTo most) answers within = omega arith
 short_answer (Error n text) wanted answers within = omega arith
 
--- the texts of an open, of an operation and of a write, as a writer puts them together
+-- the texts of an open and of a write, as a writer puts them together
 pub open_text : (device : List ℕ) (mode : ℕ)
     → ((([] ++ 79 ∷ []) ++ device) ++ line_feed ∷ []) ++ (decimal mode ++ line_feed ∷ []) ≡ request_text (Open device mode)
 open_text device mode =
     append_assoc (79 ∷ device) (line_feed ∷ []) (decimal mode ++ line_feed ∷ [])
-
-pub op_text : (op count : ℕ)
-    → (73 ∷ (decimal op ++ line_feed ∷ [])) ++ (decimal count ++ line_feed ∷ []) ≡ request_text (Op op count)
-op_text op count = ap (λ l. 73 ∷ l) (append_assoc (decimal op) (line_feed ∷ []) (decimal count ++ line_feed ∷ []))
 
 pub write_text : (bytes : List ℕ) → (87 ∷ (decimal (length bytes) ++ line_feed ∷ [])) ++ bytes ≡ request_text (Write bytes)
 write_text bytes = ap (λ l. 87 ∷ l) (append_assoc (decimal (length bytes)) (line_feed ∷ []) bytes)

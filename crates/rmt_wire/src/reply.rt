@@ -2,6 +2,7 @@
 
 mod append;
 mod front;
+mod parts;
 mod reader;
 mod wanted;
 mod writer;

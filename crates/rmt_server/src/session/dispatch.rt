@@ -1,11 +1,11 @@
 //! What each request does, over the parts of a session.
-ghost use Rattle.std.specs.Prelude.{◌≡◌, length, IfOk};
+ghost use Rattle.std.specs.Prelude.{◌≡◌, ◌≤◌, ℕ, List, length, IfOk};
 ghost use Rattle.rmt_wire.specs.Limits.{data_limit};
 ghost use Rattle.rmt_wire.specs.Lent.{plain_request};
 ghost use Rattle.drives.specs.Opening.{kinds};
 ghost use Rattle.rmt_server.specs.Session.{is_offline};
 ghost use Rattle.rmt_server.specs.State.{state, IsAt};
-ghost use Rattle.rmt_server.specs.Replies.{number_reply, outcome_reply, IsWithinBuffer, IsSayable, IsOutcomeSayable};
+ghost use Rattle.rmt_server.specs.Replies.{number_reply, data_reply, outcome_reply, IsWithinBuffer, IsSayable, IsOutcomeSayable};
 ghost use Rattle.rmt_server.specs.Carrying.{Operates, CarriesOut};
 
 use crate::refusal::Refusal;
@@ -56,15 +56,36 @@ pub(crate) fn dispatch<H: Holds, S: Stacks>(
     ensures small { IsSayable (plain_request request.entry) → IsOutcomeSayable result }
     ensures within { IsWithinBuffer result buffer.new }
 {
-    let number = match request {
-        Request::Open { device, mode } => opening::open(drives, desk, device, mode)?,
-        Request::Close => opening::close_opened(drives, desk)?,
-        Request::Write { bytes } => serving::write(&mut desk.opened, bytes)?,
-        Request::WriteDropped { .. } => return Err(serving::refuse_dropped(&desk.opened)),
-        Request::Read { count } => {
-            return Ok(Given::Bytes(serving::read(&mut desk.opened, buffer, count)?));
-        }
-        Request::Op { op, count } => operate(drives, desk, op, count)?,
-    };
-    Ok(Given::Number(number))
+    match request {
+        Request::Open { device, mode } => numbered(opening::open(drives, desk, device, mode)),
+        Request::Close => numbered(opening::close_opened(drives, desk)),
+        Request::Write { bytes } => numbered(serving::write(&mut desk.opened, bytes)),
+        Request::WriteDropped { .. } => Err(serving::refuse_dropped(&desk.opened)),
+        Request::Read { count } => filled(serving::read(&mut desk.opened, buffer, count)),
+        Request::Op { op, count } => numbered(operate(drives, desk, op, count)),
+    }
+}
+
+/// What a request gave that is answered with a number.
+fn numbered(given: Result<u32, Refusal>) -> Result<Given, Refusal>
+    ensures reply { (buffer : List ℕ) → outcome_reply result buffer ≡ number_reply given }
+    ensures small { IfOk given (λ n. n ≤ 2147483647) → IsOutcomeSayable result }
+    ensures within { (buffer : List ℕ) → IsWithinBuffer result buffer }
+{
+    match given {
+        Ok(number) => Ok(Given::Number(number)),
+        Err(refusal) => Err(refusal),
+    }
+}
+
+/// What a read gave, whose bytes lie in the buffer.
+fn filled(read: Result<usize, Refusal>) -> Result<Given, Refusal>
+    ensures reply { (buffer : List ℕ) → outcome_reply result buffer ≡ data_reply read buffer }
+    ensures small { IsOutcomeSayable result }
+    ensures within { (buffer : List ℕ) → IfOk read (λ n. n ≤ length buffer) → IsWithinBuffer result buffer }
+{
+    match read {
+        Ok(count) => Ok(Given::Bytes(count)),
+        Err(refusal) => Err(refusal),
+    }
 }

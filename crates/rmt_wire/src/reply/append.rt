@@ -7,7 +7,7 @@ ghost use Rattle.rmt_wire.specs.Reply.{AnswersTo, ReplyHasSpelling, SpellsReply,
 
 use crate::append::push_text;
 use crate::reply::Reply;
-use crate::short_text::numbered;
+use crate::reply::parts::parts;
 use std::alloc::AllocError;
 
 /// Appends a reply as it is sent, with no leading zeros in its numbers.
@@ -25,14 +25,6 @@ pub fn push_reply(out: &mut Vec<u8>, reply: &Reply<'_>) -> Result<(), AllocError
     ensures spelled { (wanted : Wanted) → AnswersTo (plain_reply reply.now) wanted
         → SpellsReply (reply_text (plain_reply reply.now)) (plain_reply reply.now) wanted }
 {
-    match *reply {
-        Reply::Done { number } => push_text(out, numbered(b'A', number as usize).as_slice(), b""),
-        Reply::Data { bytes } => push_text(out, numbered(b'A', bytes.len()).as_slice(), bytes),
-        Reply::Error { number, text } => {
-            let mut line = numbered(b'E', number as usize);
-            line.push_slice(text);
-            line.push_byte(b'\n');
-            push_text(out, line.as_slice(), b"")
-        }
-    }
+    let (head, data) = parts(reply);
+    push_text(out, head.as_slice(), data)
 }

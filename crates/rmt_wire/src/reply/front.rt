@@ -4,6 +4,7 @@ ghost use Rattle.std.specs.Prelude.{◌≡◌, ◌+◌, ◌<◌, ◌≤◌, ◌^
 ghost use Rattle.rmt_wire.specs.Lent.{plain_wanted, lent_reply};
 ghost use Rattle.rmt_wire.specs.Seen.{number_front};
 ghost use Rattle.rmt_wire.specs.declared.number.Place.TheVariants as places;
+ghost use Rattle.rmt_wire.specs.Reply as kinds;
 ghost use Rattle.rmt_wire.specs.ReplyFront as spec;
 
 use crate::fault::WireFault;
@@ -53,25 +54,38 @@ fn data_at(count: u32, len: usize, bytes: &[u8]) -> Option<(Reply<'_>, usize)>
     Some((Reply::Data { bytes }, len + size))
 }
 
-/// The reply that these bytes begin behind its `A`, and how long it is.
+/// The number that these bytes begin behind their `A`, and how long that reply is.
 #[tactic(auto, unfolding(crate::specs::ReplyFront::done_front))]
+fn number_done(bytes: &[u8]) -> Result<Option<(Reply<'_>, usize)>, WireFault>
+    ensures value { lent_reply result ≡ spec.done_front kinds.Wanted.Number bytes.now }
+    ensures within { IfOk result (λ o. IfSome o (λ r. r.1 ≤ length bytes.now + 1)) }
+{
+    let Some((number, digits)) = number_front(bytes, Place::Line)? else {
+        return Ok(None);
+    };
+    Ok(Some((Reply::Done { number }, digits + 2)))
+}
+
+/// The data, at most so many, that these bytes begin behind their `A`, and how long that reply is.
+#[tactic(auto, unfolding(crate::specs::ReplyFront::done_front))]
+fn data_done(bytes: &[u8], most: u32) -> Result<Option<(Reply<'_>, usize)>, WireFault>
+    ensures value { lent_reply result ≡ spec.done_front (kinds.Wanted.DataUpTo most) bytes.now }
+    ensures within { IfOk result (λ o. IfSome o (λ r. r.1 ≤ length bytes.now + 1)) }
+{
+    let Some((count, digits)) = number_front(bytes, Place::Data(most))? else {
+        return Ok(None);
+    };
+    Ok(data_at(count, digits + 2, &bytes[digits + 1..]))
+}
+
+/// The reply that these bytes begin behind its `A`, and how long it is.
 fn done_front(bytes: &[u8], wanted: Wanted) -> Result<Option<(Reply<'_>, usize)>, WireFault>
     ensures value { lent_reply result ≡ spec.done_front (plain_wanted wanted) bytes.now }
     ensures within { IfOk result (λ o. IfSome o (λ r. r.1 ≤ length bytes.now + 1)) }
 {
     match wanted {
-        Wanted::Number => {
-            let Some((number, digits)) = number_front(bytes, Place::Line)? else {
-                return Ok(None);
-            };
-            Ok(Some((Reply::Done { number }, digits + 2)))
-        }
-        Wanted::Data(most) => {
-            let Some((count, digits)) = number_front(bytes, Place::Data(most))? else {
-                return Ok(None);
-            };
-            Ok(data_at(count, digits + 2, &bytes[digits + 1..]))
-        }
+        Wanted::Number => number_done(bytes),
+        Wanted::Data(most) => data_done(bytes, most),
     }
 }
 

@@ -9,7 +9,7 @@ ghost use Rattle.rmt_wire.specs.ReplyWriter.{AppendsBeginning};
 
 use crate::counted::Counted;
 use crate::reply::Reply;
-use crate::short_text::numbered;
+use crate::reply::parts::parts;
 use std::io::Write;
 use thiserror::Error;
 
@@ -36,19 +36,9 @@ pub fn write_reply<W: Write>(out: &mut Counted<W>, reply: &Reply<'_>) -> Result<
     ensures spelled { (wanted : Wanted) → AnswersTo (plain_reply reply.now) wanted
         → SpellsReply (reply_text (plain_reply reply.now)) (plain_reply reply.now) wanted }
 {
-    match reply {
-        Reply::Done { number } => output(out, numbered(b'A', *number as usize).as_slice()),
-        Reply::Data { bytes } => {
-            output(out, numbered(b'A', bytes.len()).as_slice())?;
-            output(out, bytes)
-        }
-        Reply::Error { number, text } => {
-            let mut line = numbered(b'E', *number as usize);
-            line.push_slice(text);
-            line.push_byte(b'\n');
-            output(out, line.as_slice())
-        }
-    }
+    let (head, data) = parts(reply);
+    output(out, head.as_slice())?;
+    output(out, data)
 }
 
 // Writes all of a text.

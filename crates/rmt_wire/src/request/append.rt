@@ -1,11 +1,12 @@
 //! A request at the end of a vector, as it is sent.
 
-ghost use Rattle.std.specs.Prelude.{◌≡◌, ◌+◌, ◌<◌, ◌++◌, length, OnOk, OnErr};
+ghost use Rattle.std.specs.Prelude.{◌≡◌, ◌+◌, ◌<◌, ◌≤◌, ◌++◌, length, OnOk, OnErr};
 ghost use Rattle.std.specs.Vec.{vec_capacity, vec_len};
 ghost use Rattle.rmt_wire.specs.Lent.{plain_request};
-ghost use Rattle.rmt_wire.specs.Request.{HasSpelling, IsTextOf, request_text};
+ghost use Rattle.rmt_wire.specs.Request.{PlainRequest, HasSpelling, IsTextOf, request_text};
 
 use crate::append::push_text;
+use crate::limits::{LINE_LIMIT, NUMBER_LIMIT};
 use crate::request::Request;
 use crate::short_text::{ShortText, numbered, push_number};
 use std::alloc::AllocError;
@@ -25,25 +26,49 @@ pub fn push_request(out: &mut Vec<u8>, request: &Request<'_>) -> Result<(), Allo
     ensures full { OnErr result (vec_capacity out.old < vec_len out.old + length (request_text (plain_request request.now))) }
     ensures spelled { IsTextOf (request_text (plain_request request.now)) (plain_request request.now) }
 {
+    let (lines, data) = parts(request);
+    push_text(out, lines.as_slice(), data)
+}
+
+/// The lines of a request, and the data behind them.
+fn parts<'a>(request: &Request<'a>) -> (ShortText, &'a [u8])
+    requires { HasSpelling (plain_request request.now) }
+    ensures text { result.0 ++ result.1.now ≡ request_text (plain_request request.now) }
+    ensures short { length result.0 + length result.1.now ≤ 2147483659 }
+{
     match *request {
-        Request::Open { device, mode } => {
-            let mut head = ShortText::new();
-            head.push_byte(b'O');
-            head.push_slice(device);
-            head.push_byte(b'\n');
-            push_number(&mut head, mode);
-            push_text(out, head.as_slice(), b"")
-        }
-        Request::Close => push_text(out, b"C\n", b""),
-        Request::Write { bytes } => push_text(out, numbered(b'W', bytes.len()).as_slice(), bytes),
-        Request::WriteDropped { count } => {
-            push_text(out, numbered(b'W', count as usize).as_slice(), b"")
-        }
-        Request::Read { count } => push_text(out, numbered(b'R', count as usize).as_slice(), b""),
-        Request::Op { op, count } => {
-            let mut head = numbered(b'I', op as usize);
-            push_number(&mut head, count);
-            push_text(out, head.as_slice(), b"")
-        }
+        Request::Open { device, mode } => (open_lines(device, mode), b""),
+        Request::Close => (ShortText::new(), b"C\n"),
+        Request::Write { bytes } => (numbered(b'W', bytes.len()), bytes),
+        Request::WriteDropped { count } => (numbered(b'W', count as usize), b""),
+        Request::Read { count } => (numbered(b'R', count as usize), b""),
+        Request::Op { op, count } => (op_lines(op, count), b""),
     }
+}
+
+/// The lines of an open.
+fn open_lines(device: &[u8], mode: u32) -> ShortText
+    requires device { length device.now ≤ LINE_LIMIT }
+    requires mode { mode ≤ NUMBER_LIMIT }
+    ensures text { result ≡ request_text (PlainRequest.Open device.now mode) }
+    ensures short { length result ≤ LINE_LIMIT + 13 }
+{
+    let mut lines = ShortText::new();
+    lines.push_byte(b'O');
+    lines.push_slice(device);
+    lines.push_byte(b'\n');
+    push_number(&mut lines, mode);
+    lines
+}
+
+/// The lines of an operation.
+fn op_lines(op: u32, count: u32) -> ShortText
+    requires op { op ≤ NUMBER_LIMIT }
+    requires count { count ≤ NUMBER_LIMIT }
+    ensures text { result ≡ request_text (PlainRequest.Op op count) }
+    ensures short { length result ≤ 23 }
+{
+    let mut lines = numbered(b'I', op as usize);
+    push_number(&mut lines, count);
+    lines
 }

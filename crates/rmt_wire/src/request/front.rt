@@ -27,6 +27,24 @@ fn write_at(bytes: &[u8], count: u32, len: usize) -> Option<(Request<'_>, usize)
     Some((Request::Write { bytes }, len + size))
 }
 
+/// The request that these lines begin, and how long it is, once all of its bytes are there.
+fn request_at(bytes: &[u8], head: Head) -> Option<(Request<'_>, usize)>
+    requires { spec.LiesIn (length bytes.now) head }
+    ensures value { lent_front (Ok result) ≡ spec.request_at bytes.now head }
+    ensures within { IfSome result (λ r. r.1 ≤ length bytes.now) }
+{
+    match head {
+        Head::Open { device, mode, len } => {
+            let device = &bytes[1..device + 1];
+            Some((Request::Open { device, mode }, len))
+        }
+        Head::Close { len } => Some((Request::Close, len)),
+        Head::Write { count, len } => write_at(bytes, count, len),
+        Head::Read { count, len } => Some((Request::Read { count }, len)),
+        Head::Op { op, count, len } => Some((Request::Op { op, count }, len)),
+    }
+}
+
 /// The request that the bytes begin with, and how long it is. None where the bytes are a beginning of one.
 #[tactic(auto, unfolding(crate::specs::RequestFront::front_of))]
 pub fn request_front(bytes: &[u8]) -> Result<Option<(Request<'_>, usize)>, WireFault>
@@ -36,14 +54,5 @@ pub fn request_front(bytes: &[u8]) -> Result<Option<(Request<'_>, usize)>, WireF
     let Some(head) = head_of(bytes)? else {
         return Ok(None);
     };
-    match head {
-        Head::Open { device, mode, len } => {
-            let device = &bytes[1..device + 1];
-            Ok(Some((Request::Open { device, mode }, len)))
-        }
-        Head::Close { len } => Ok(Some((Request::Close, len))),
-        Head::Write { count, len } => Ok(write_at(bytes, count, len)),
-        Head::Read { count, len } => Ok(Some((Request::Read { count }, len))),
-        Head::Op { op, count, len } => Ok(Some((Request::Op { op, count }, len))),
-    }
+    Ok(request_at(bytes, head))
 }

@@ -1,6 +1,6 @@
 //! The lines that a request begins with.
 
-ghost use Rattle.std.specs.Prelude.{◌≡◌, ◌+◌, ◌≤◌, length, IfOk, IfSome};
+ghost use Rattle.std.specs.Prelude.{◌≡◌, ◌+◌, ◌^◌, ◌<◌, ◌≤◌, length, IfOk, IfSome};
 ghost use Rattle.rmt_wire.specs.RequestFront as spec;
 
 use crate::fault::WireFault;
@@ -33,7 +33,7 @@ pub enum Head {
     },
 }
 
-#[tactic(auto, unfolding(crate::specs::RequestFront::open_head, crate::specs::RequestFront::mode_head))]
+#[tactic(auto, unfolding(crate::specs::RequestFront::open_head))]
 fn open_head(bytes: &[u8]) -> Result<Option<Head>, WireFault>
     ensures value { result ≡ spec.open_head bytes.now }
     ensures within { IfOk result (λ o. IfSome o (spec.LiesIn (length bytes.now + 1))) }
@@ -41,7 +41,16 @@ fn open_head(bytes: &[u8]) -> Result<Option<Head>, WireFault>
     let Some(device) = line_front(bytes)? else {
         return Ok(None);
     };
-    let line = &bytes[device + 1..];
+    mode_head(device, &bytes[device + 1..])
+}
+
+/// The lines of an open whose device has so many bytes, and whose mode line begins these bytes.
+#[tactic(auto, unfolding(crate::specs::RequestFront::mode_head))]
+fn mode_head(device: usize, line: &[u8]) -> Result<Option<Head>, WireFault>
+    requires { device + length line.now + 2 < 2 ^ 64 }
+    ensures value { result ≡ spec.mode_head device line.now }
+    ensures within { IfOk result (λ o. IfSome o (spec.LiesIn (device + length line.now + 2))) }
+{
     let Some((mode, _)) = number_front(line, Place::Mode)? else {
         return Ok(None);
     };
@@ -87,7 +96,7 @@ fn read_head(bytes: &[u8]) -> Result<Option<Head>, WireFault>
     Ok(Some(Head::Read { count, len }))
 }
 
-#[tactic(auto, unfolding(crate::specs::RequestFront::op_head, crate::specs::RequestFront::count_head))]
+#[tactic(auto, unfolding(crate::specs::RequestFront::op_head))]
 fn op_head(bytes: &[u8]) -> Result<Option<Head>, WireFault>
     ensures value { result ≡ spec.op_head bytes.now }
     ensures within { IfOk result (λ o. IfSome o (spec.LiesIn (length bytes.now + 1))) }
@@ -95,7 +104,17 @@ fn op_head(bytes: &[u8]) -> Result<Option<Head>, WireFault>
     let Some((op, first)) = number_front(bytes, Place::Line)? else {
         return Ok(None);
     };
-    let Some((count, second)) = number_front(&bytes[first + 1..], Place::Line)? else {
+    count_head(op, first, &bytes[first + 1..])
+}
+
+/// The lines of an operation whose number has so many digits, and whose count begins these bytes.
+#[tactic(auto, unfolding(crate::specs::RequestFront::count_head))]
+fn count_head(op: u32, first: usize, line: &[u8]) -> Result<Option<Head>, WireFault>
+    requires { first + length line.now + 2 < 2 ^ 64 }
+    ensures value { result ≡ spec.count_head (op, first) line.now }
+    ensures within { IfOk result (λ o. IfSome o (spec.LiesIn (first + length line.now + 2))) }
+{
+    let Some((count, second)) = number_front(line, Place::Line)? else {
         return Ok(None);
     };
     let len = first + second + 3;

@@ -5,11 +5,11 @@ use Rattle.rmt_serve.proofs.folders.seat_stacks.Goals as goal
 
 pub loop-all-preserved : goal.loop-all-preserved
 loop-all-preserved g c =
-    let made = c.in_ok-folder_stacks.field-0 in
+    let made = c.in_ok-stacks_at.field-0 in
     let before = c.loop-all.all.items in
-    let counted = All-push (λ s. length s.rows ≡ length c.args.words.now) before made c.loop-all.invariant.1 c.in_ok-folder_stacks.ensures.count in
+    let counted = All-push (λ s. length s.rows ≡ length c.args.words.now) before made c.loop-all.invariant.1 c.in_ok-stacks_at.ensures.count in
     let named = All-push (λ s. s ≡ stacks_of c.args.words.now c.args.bin.now c.args.capacity) before made c.loop-all.invariant.2
-    c.in_ok-folder_stacks.ensures.named in
+    c.in_ok-stacks_at.ensures.named in
     let few : length c.push.new.self.items ≤ 32 = search rules in (
       few,
       subst (All (λ s. length s.rows ≡ length c.args.words.now)) (sym c.in_ok-push.ensures.items) counted,

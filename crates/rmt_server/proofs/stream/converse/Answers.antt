@@ -1,5 +1,6 @@
 use Rattle.std.proofs.Common.{rules, ◌++◌, [], take, refl, arith, ◌∙◌}
 use Rattle.std.proofs.KnownBytes.{Consumes-nil, Consumes-trans}
+use Rattle.std.proofs.lemmas.Grind.{common_steps}
 use Rattle.rmt_server.proofs.Answering.{advances_none, answered_none, settled_empty, read_cut, read_faulty, read_answered}
 use Rattle.rmt_server.proofs.stream.converse.Goals as goal
 
@@ -57,3 +58,15 @@ returns-in-Err-clause-converses g c = search rules
 
 pub returns-in-Err-clause-steady : goal.returns-in-Err-clause-steady
 returns-in-Err-clause-steady g c = search rules
+
+pub returns-in-Ok-eq0-clause-converses : goal.returns-in-Ok-eq0-clause-converses
+returns-in-Ok-eq0-clause-converses g c = grind (arith, common_steps)
+
+pub returns-in-Ok-eq0-2-clause-converses : goal.returns-in-Ok-eq0-2-clause-converses
+returns-in-Ok-eq0-2-clause-converses g c = grind (arith, common_steps)
+
+pub slice_bounds-take_in-end : goal.slice_bounds-take_in-end
+slice_bounds-take_in-end g c = grind (arith, common_steps)
+
+pub loop-wire-smaller : goal.loop-wire-smaller
+loop-wire-smaller g c = grind (arith, common_steps)

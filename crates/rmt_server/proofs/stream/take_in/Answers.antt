@@ -1,4 +1,5 @@
 use Rattle.std.proofs.Common.{◌-◌, [], refl, ◌∙◌, arith, sym, subst, append-nil, drop, take, length}
+use Rattle.std.proofs.lemmas.Grind.{common_steps}
 use Rattle.std.proofs.lemmas.List.{take_rest, take_all, length-drop, length-take}
 use Rattle.rmt_server.specs.Stream.{IsAnswered}
 use Rattle.rmt_server.proofs.Answering.{advances_none, answered_none, piece_cut, piece_faulty, piece_answered}
@@ -53,3 +54,9 @@ returns-clause-answers g c = λ bytes u.
     let past = c.loop-at-test.false in
     let all = take_all c.loop-at.at c.args.piece.now past in
     rw all at (c.loop-at.invariant.4 bytes u)
+
+pub answer_all-requires-clause-held : goal.answer_all-requires-clause-held
+answer_all-requires-clause-held g c = let now = c.loop-at.invariant.3 in (_, c.push-at.ensures.unread now.0 now.1.unread)
+
+pub loop-at-smaller : goal.loop-at-smaller
+loop-at-smaller g c = grind (arith, common_steps)

@@ -19,7 +19,7 @@ returns-in-Ok-Bytes g c =
     let new = state c.dispatch-outcome.new.drives c.dispatch-outcome.new.desk in
     let same : c.as_slice.result.now ≡ c.dispatch-outcome.new.buffer = grind (arith, common_steps) in
     let effect : CarriesOut k old (plain_request c.args.request) (Data (take c.in-Ok-Bytes.count c.dispatch-outcome.new.buffer)) new = search rules in
-    let full : length c.dispatch-outcome.new.buffer ≡ data_limit = omega (arith, c.dispatch-outcome.auto.buffer, c.as_mut_slice.ensures.value, c.as_mut_slice.ensures.len, c.self.invariant) in
+    let full : length c.dispatch-outcome.new.buffer ≡ data_limit = omega (arith, c.dispatch-outcome.auto.buffer, c.as_mut_slice.ensures.len, c.self.invariant) in
     rw same (
       (refl, λ x. tt, carried k old (plain_request c.args.request) _ new c.requires effect),
       record {
@@ -51,8 +51,17 @@ returns-in-Err g c =
     let new = state c.dispatch-outcome.new.drives c.dispatch-outcome.new.desk in
     let buffer = c.dispatch-outcome.new.buffer in
     let effect : CarriesOut k old (plain_request c.args.request) (refused c.in-Err.refusal) new = search rules in
-    let full : length buffer ≡ data_limit = omega (arith, c.dispatch-outcome.auto.buffer, c.as_mut_slice.ensures.value, c.as_mut_slice.ensures.len, c.self.invariant) in
+    let full : length buffer ≡ data_limit = omega (arith, c.dispatch-outcome.auto.buffer, c.as_mut_slice.ensures.len, c.self.invariant) in
     rw c.reply.ensures (
       (refl, λ x. tt, carried k old (plain_request c.args.request) _ new c.requires effect),
       record { rests = tt; spelling = λ s. outcome_spelled (Err c.in-Err.refusal) buffer full tt; short = λ s. outcome_short (Err c.in-Err.refusal) buffer full tt },
     )
+
+pub dispatch-outcome-requires-clause-at : goal.dispatch-outcome-requires-clause-at
+dispatch-outcome-requires-clause-at g c = rw c.self.view_is c.requires
+
+pub dispatch-outcome-requires-clause-room : goal.dispatch-outcome-requires-clause-room
+dispatch-outcome-requires-clause-room g c = omega (arith, c.self.invariant)
+
+pub slice_bounds-self-end : goal.slice_bounds-self-end
+slice_bounds-self-end g c = grind (arith, common_steps)

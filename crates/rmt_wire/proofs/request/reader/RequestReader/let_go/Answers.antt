@@ -1,3 +1,4 @@
+use Rattle.std.proofs.lemmas.Grind.{common_steps}
 use Rattle.std.proofs.Common.{sym, ◌∙◌, subst, arith}
 use Rattle.rmt_wire.specs.RequestReader.{Unread}
 use Rattle.rmt_wire.proofs.Nexts.{has_let_go}
@@ -30,3 +31,6 @@ returns-clause-kept c = λ bytes u.
     has_let_go inside.buffer.items c.remove.new.buffer.items inside.start inside.dropped c.gone-gone.result (c.in-Some.len, c.in-Some.field-0-1) c.as_slice.result.now c.as_slice.ensures
     c.self.invariant.0 (sym c.dropped_line.ensures.value ∙ c.in-Some.is) c.self.invariant.3 c.gone-gone.ensures.value c.remove.ensures.items in
     gone.taken bytes (subst (λ h. Unread h bytes) (sym c.self.view_is) u)
+
+pub returns-in_default-clause-kept : goal.returns-in_default-clause-kept
+returns-in_default-clause-kept c = grind (arith, common_steps)

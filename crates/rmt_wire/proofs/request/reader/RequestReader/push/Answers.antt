@@ -1,3 +1,5 @@
+use Rattle.std.proofs.Common.{arith}
+use Rattle.std.proofs.lemmas.Grind.{common_steps}
 use Rattle.std.proofs.Common.{sym, subst, drop, take, ◌++◌}
 use Rattle.rmt_wire.specs.RequestReader.{IsDropped, dropped_line, held, Unread}
 use Rattle.rmt_wire.proofs.Dropped.{push_dropped, push_unread}
@@ -21,3 +23,6 @@ returns-clause-unread c = λ bytes u.
     let moved = subst (λ h. Unread h bytes) (sym c.self.view_is) (c.let_go.ensures.unread bytes u) in
     subst (λ l. Unread (held l inside.dropped) (bytes ++ take c.min-count.result c.args.piece.now)) (sym done.kept)
     (push_unread (drop inside.start inside.buffer.items) (take c.min-count.result c.args.piece.now) inside.dropped bytes moved)
+
+pub returns-clause-count : goal.returns-clause-count
+returns-clause-count c = grind (arith, common_steps)
