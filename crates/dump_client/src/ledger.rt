@@ -89,9 +89,9 @@ impl Ledger {
         ensures room { OnOk result (0 < self.new.room) }
         ensures same_room { OnErr result (self.new.room ≡ self.old.room) }
     {
-        if self.stage != Stage::Ready {
+        let Stage::Ready = self.stage else {
             return Err(StartFault::WrongState);
-        }
+        };
         if self.counted.reserve(1).is_err() {
             return Err(StartFault::OutOfMemory);
         }
@@ -104,9 +104,9 @@ impl Ledger {
         ensures answered { AnsweredAt self.old.at.stage self.old.at answer result self.new.at }
         ensures slots { self.new.room + length self.new.at.counts ≡ self.old.room + length self.old.at.counts }
     {
-        if self.stage != Stage::Asking {
+        let Stage::Asking = self.stage else {
             return Err(StartFault::WrongState);
-        }
+        };
         self.stage = match answer {
             Answer::Retry => Stage::Ready,
             Answer::Abandon => Stage::Abandoned,

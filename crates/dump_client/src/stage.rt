@@ -6,7 +6,7 @@ use crate::AttemptFault;
 use crate::step::Step;
 
 /// Where a client stands: between attempts, or in one, with a request that is to be sent or was sent.
-#[derive(Clone, Copy, PartialEq, Eq)]
+#[derive(Clone, Copy)]
 pub(crate) enum Stage {
     Ready,
     ToSend(Step),

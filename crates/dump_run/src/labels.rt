@@ -53,7 +53,6 @@ impl Lines {
     }
 
     // Adds the line of a word and a text.
-    #[tactic(auto, using(crate::proofs::LabelText::length_line))]
     fn push_line(&mut self, word: &str, text: &[u8])
         requires { length self.old + length word.now + length text.now + 2 ≤ label_bytes }
         ensures line { self.new ≡ self.old ++ line_of word.now text.now }

@@ -1,6 +1,6 @@
 //! A run: what is dumped, to which drive, and in how many blocks.
 
-ghost use Rattle.std.specs.Prelude.{◌≡◌, ◌≤◌, ◌↔◌, IsTrue, IfOk, MatchResult, Ok};
+ghost use Rattle.std.specs.Prelude.{◌≡◌, ℕ, ◌≤◌, ◌↔◌, List, IsTrue, IfOk, MatchResult, Ok};
 ghost use Rattle.dumpdates.specs.Entry.{IsName, last_second};
 ghost use Rattle.dump_run.specs.Run.{IsDevice, IsBlockSize, IsRun, IsFirstBroken, plain_run};
 
@@ -66,6 +66,33 @@ fn is_device(device: &[u8]) -> bool
     !device.is_empty() && device.len() <= LINE_LIMIT && device.iter().all(|b| *b != b'\n')
 }
 
+/// The fault of the first limit of a run's numbers that is broken.
+fn check_numbers(
+    level: u64,
+    date: u64,
+    since: u64,
+    block_bytes: u64,
+    blocks: u64,
+) -> Result<(), RunFault>
+    ensures { (device name : List ℕ) → IsDevice device → IsName name →
+        MatchResult result (λ done. IsRun (plain_run device name level date since block_bytes blocks))
+        (λ fault. IsFirstBroken fault (plain_run device name level date since block_bytes blocks)) }
+{
+    if level > LAST_LEVEL {
+        return Err(RunFault::BadLevel);
+    }
+    if date > LAST_SECOND || since > LAST_SECOND {
+        return Err(RunFault::BadDate);
+    }
+    if block_bytes == 0 || block_bytes > DATA_LIMIT as u64 {
+        return Err(RunFault::BadBlockSize);
+    }
+    if blocks > u64::from(BLOCKS_LIMIT) {
+        return Err(RunFault::TooManyBlocks);
+    }
+    Ok(())
+}
+
 impl Run {
     /// The run of this file system to this device.
     ///
@@ -94,18 +121,7 @@ impl Run {
         if !is_name(fs.as_bytes()) {
             return Err(RunFault::BadName);
         }
-        if level > LAST_LEVEL {
-            return Err(RunFault::BadLevel);
-        }
-        if date > LAST_SECOND || since > LAST_SECOND {
-            return Err(RunFault::BadDate);
-        }
-        if block_bytes == 0 || block_bytes > DATA_LIMIT as u64 {
-            return Err(RunFault::BadBlockSize);
-        }
-        if blocks > u64::from(BLOCKS_LIMIT) {
-            return Err(RunFault::TooManyBlocks);
-        }
+        check_numbers(level, date, since, block_bytes, blocks)?;
         Ok(Run {
             device: Row::new(device),
             name: Row::new(fs.as_bytes()),

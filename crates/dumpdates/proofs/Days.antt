@@ -1,5 +1,5 @@
 -- Day numbers, and the days that come one after another from 1 January 1970 on.
-use Rattle.std.proofs.Common.{◌≡◌, ℕ, zero, suc, ◌+◌, ◌/◌, ◌%◌, ◌<◌, ◌≤◌, ltb, refl, sym, ◌∙◌, arith, ℤ, pos, ◌+ℤ◌, ◌≤ℤ◌, unsigned_abs}
+use Rattle.std.proofs.Common.{◌≡◌, ℕ, zero, suc, ◌+◌, ◌/◌, ◌%◌, ◌<◌, ◌≤◌, ltb, refl, sym, subst, ◌∙◌, arith, ℤ, pos, ◌+ℤ◌, ◌≤ℤ◌, unsigned_abs}
 use Rattle.std.proofs.lemmas.Bool.{ltb-true, ltb-false, cond_both}
 use Rattle.std.proofs.lemmas.Int.{by_lt_z}
 use Rattle.jiff_core.specs.declared.civil.date.Date.{Date}
@@ -165,3 +165,10 @@ moment_bound m i =
     let minute = i.minute in
     let second = i.second in
     omega arith
+
+-- a date of `jiff` of this year, month and day
+pub civil_of : (date : Date) (y m d : ℕ) → (date.year ≡ pos y) × (pos date.month ≡ pos m) × (pos date.day ≡ pos d) → IsCivilDate (pos y) m d
+civil_of date y m d h =
+    let month : date.month ≡ m = cc in
+    let day : date.day ≡ d = cc in
+    subst (λ z. IsCivilDate z m d) h.0 (subst (λ k. IsCivilDate date.year k d) month (subst (λ k. IsCivilDate date.year date.month k) day (civil date)))

@@ -21,3 +21,16 @@ joined_is_time hours minutes seconds h m s x y z = let a = x.count in let b = y.
 pub spelled_is_time : (word : List ℕ) (h m s : ℕ) → SpellsTime word h m s → IsTime word h m s
 spelled_is_time word h m s t =
     subst (λ w. IsTime w h m s) (sym t.joined) (joined_is_time t.hours t.minutes t.seconds h m s t.hour t.minute t.second)
+
+pub time_spelled : (word : List ℕ) (h m s : ℕ) → IsTime word h m s → SpellsTime word h m s
+time_spelled (a ∷ b ∷ x ∷ c ∷ d ∷ y ∷ e ∷ f ∷ []) h m s t =
+    record {
+      hours = a ∷ b ∷ [];
+      minutes = c ∷ d ∷ [];
+      seconds = e ∷ f ∷ [];
+      hour = t.hour;
+      minute = t.minute;
+      second = t.seconds;
+      joined = rw (t.first, t.second) refl;
+    }
+time_spelled word h m s t = let long = t.long in absurd (omega arith)

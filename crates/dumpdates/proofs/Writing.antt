@@ -28,9 +28,13 @@ pub padding : (n : ℕ) → take (32 - min n 32) (drop (min n 32) (replicate 32 
 padding n = spaces_left n 32
 
 -- the parts of a date are the date
-pub ctime_parts : (date : ℕ) (m : PlainMoment) (weekday month day time year : List ℕ) → m ≡ moment_of date
-    → weekday ≡ weekday_name (date / 86400) → month ≡ month_name m.month → day ≡ day_text m.day → time ≡ time_text m → year ≡ decimal m.year
-    → (((((((weekday ++ space ∷ []) ++ month) ++ space ∷ []) ++ day) ++ space ∷ []) ++ time) ++ space ∷ []) ++ year ≡ ctime_text date
+pub ctime_parts : (date : ℕ) (m : PlainMoment) (time year : List ℕ) → m ≡ moment_of date → time ≡ time_text m → year ≡ decimal m.year
+    → ((((weekday_name (date / 86400) ++ space ∷ []) ++ (month_name m.month ++ space ∷ [])) ++ (day_text m.day ++ space ∷ [])) ++ (time ++ space ∷ [])) ++ year ≡ ctime_text date
 unfolding ctime_text
-ctime_parts date m weekday month day time year e a b c d f =
-    rw (a, b, c, d, f, e) (simp append_assoc)
+ctime_parts date m time year e a b =
+    rw (a, b, e) (simp append_assoc)
+
+-- a part that may be refused, behind what is there
+pub last_part : {E : Type 0} (r : Result Unit E) (new mid old text part : List ℕ) → OnOk r (new ≡ mid ++ part) → mid ≡ old ++ text → OnOk r (new ≡ old ++ (text ++ part))
+last_part (Ok x) new mid old text part e f = onto old mid new text part f e
+last_part (Err x) new mid old text part e f = tt

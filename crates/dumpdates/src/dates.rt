@@ -11,7 +11,7 @@ ghost use Rattle.dumpdates.specs.declared.fault.DatesFault.TheVariants.{OutOfMem
 use crate::file::{line_len, read_line};
 use crate::list::{append, position_of, replace};
 use crate::stored::Stored;
-use crate::writer::push_line;
+use crate::writer::push_lines;
 use crate::{DatesFault, Entry};
 use std::alloc::Global;
 use std::marker::Model;
@@ -86,9 +86,7 @@ impl Dates {
         ensures empty { self.now ≡ [] → IsOk result }
     {
         let mut out = Vec::new(self.alloc);
-        for entry in &self.entries {
-            push_line(&mut out, entry)?;
-        }
+        push_lines(&mut out, &self.entries)?;
         Ok(out)
     }
 

@@ -2,7 +2,7 @@
 
 ghost use Rattle.std.specs.Prelude.{◌≡◌, ℕ, ◌^◌, ◌<◌, ◌≤◌, MatchOption, IfSome};
 ghost use Rattle.dumpdates.specs.Found.{plain_words, plain_fields};
-ghost use Rattle.dumpdates.specs.Line.{PlainFields, SpellsDigits, SpellsTime, SpellsWords};
+ghost use Rattle.dumpdates.specs.Line.{PlainFields, SpellsDigits, SpellsMonth, SpellsTime, SpellsWords};
 
 use crate::entry::is_name;
 use crate::moment::Moment;
@@ -26,21 +26,31 @@ pub(crate) fn fields_of(words: Words<'_>) -> Option<Fields<'_>>
         return None;
     }
     let level = number(words.level, 1, 1)?;
-    let month = month_named(words.month)?;
-    let day = number(words.day, 1, 2)?;
-    let time = time_of(words.time)?;
-    let year = number(words.year, 4, 4)?;
+    let moment = moment_in(words)?;
     Some(Fields {
         name: words.name,
         level: level as u8,
-        moment: Moment {
-            year,
-            month,
-            day: day as u8,
-            hour: time.hour,
-            minute: time.minute,
-            second: time.second,
-        },
+        moment,
+    })
+}
+
+/// The moment that the words say, whether it is one or not.
+fn moment_in(words: Words<'_>) -> Option<Moment>
+    ensures { MatchOption result ((f : PlainFields) → ¬ SpellsWords (plain_words words.entry) f)
+        (λ m. SpellsMonth words.entry.month.now m.month × SpellsDigits 1 2 words.entry.day.now m.day
+        × SpellsTime words.entry.time.now m.hour m.minute m.second × SpellsDigits 4 4 words.entry.year.now m.year) }
+{
+    let month = month_named(words.month)?;
+    let day = number(words.day, 1, 2)?;
+    let year = number(words.year, 4, 4)?;
+    let time = time_of(words.time)?;
+    Some(Moment {
+        year,
+        month,
+        day: day as u8,
+        hour: time.hour,
+        minute: time.minute,
+        second: time.second,
     })
 }
 

@@ -8,6 +8,7 @@ ghost use Rattle.dumpdates.specs.Text.{line_feed};
 
 use crate::DatesFault;
 use crate::line::{LineFault, line_of};
+use crate::list::push;
 use crate::stored::Stored;
 use std::alloc::Global;
 
@@ -34,14 +35,10 @@ pub(crate) fn read_line(
     ensures added { OnOk result (IsAdded line.now (plain_all entries.old.items) (plain_all entries.new.items)) }
     ensures refused { IfErr result (IsRefused line.now number) }
 {
-    let found = match line_of(line) {
-        Ok(None) => return Ok(()),
-        Ok(Some(found)) => found,
-        Err(LineFault::BadShape) => return Err(DatesFault::BadLine(number)),
-        Err(LineFault::NoDate) => return Err(DatesFault::BadDate(number)),
-    };
-    entries.reserve(1)?;
-    let last = Stored::new(alloc, found.name, found.level, found.date)?;
-    entries.push_reserved(last);
-    Ok(())
+    match line_of(line) {
+        Ok(None) => Ok(()),
+        Ok(Some(found)) => Ok(push(alloc, entries, found)?),
+        Err(LineFault::BadShape) => Err(DatesFault::BadLine(number)),
+        Err(LineFault::NoDate) => Err(DatesFault::BadDate(number)),
+    }
 }

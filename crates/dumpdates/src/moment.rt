@@ -72,7 +72,9 @@ pub(crate) fn seconds_of(moment: Moment) -> Option<u64>
     if hour > 23 || minute > 59 || second > 59 {
         return None;
     }
-    let date = Date::new(year as i16, month as i8, day as i8).ok()?;
+    let Ok(date) = Date::new(year as i16, month as i8, day as i8) else {
+        return None;
+    };
     let days = date.to_plain().to_unix_epoch_day() as u64;
     Some(DAY * days + 3600 * u64::from(hour) + 60 * u64::from(minute) + u64::from(second))
 }

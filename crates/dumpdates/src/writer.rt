@@ -1,9 +1,10 @@
 //! The line of an entry, as it is written.
 
-ghost use Rattle.std.specs.Prelude.{◌≡◌, ◌-◌, ◌<◌, ◌≤◌, ◌++◌, replicate, OnOk};
+ghost use Rattle.std.specs.Prelude.{◌≡◌, ◌-◌, ◌/◌, ◌<◌, ◌≤◌, [], ◌∷◌, ◌++◌, replicate, IsOk, OnOk};
 ghost use Rattle.dumpdates.specs.Clock.{plain_moment};
 ghost use Rattle.dumpdates.specs.Moment.{IsMoment};
-ghost use Rattle.dumpdates.specs.Stored.{plain_stored};
+ghost use Rattle.dumpdates.specs.Names.{weekday_name, month_name};
+ghost use Rattle.dumpdates.specs.Stored.{plain_stored, plain_all};
 ghost use Rattle.dumpdates.specs.Text as spec;
 
 use crate::LAST_SECOND;
@@ -18,8 +19,19 @@ const NAME_PLACES: usize = 32;
 
 const SPACES: [u8; NAME_PLACES] = [b' '; NAME_PLACES];
 
+/// Appends the lines of entries.
+pub(crate) fn push_lines(out: &mut Vec<u8>, entries: &[Stored]) -> Result<(), AllocError>
+    ensures written { OnOk result (out.new.items ≡ out.old.items ++ spec.written (plain_all entries.now)) }
+    ensures empty { entries.now ≡ [] → IsOk result }
+{
+    for entry in entries {
+        push_line(out, entry)?;
+    }
+    Ok(())
+}
+
 /// Appends the line of an entry.
-pub(crate) fn push_line(out: &mut Vec<u8>, entry: &Stored) -> Result<(), AllocError>
+fn push_line(out: &mut Vec<u8>, entry: &Stored) -> Result<(), AllocError>
     ensures { OnOk result (out.new.items ≡ out.old.items ++ spec.line_text (plain_stored entry.now)) }
 {
     push_padded(out, &entry.name)?;
@@ -42,16 +54,29 @@ fn push_ctime(out: &mut Vec<u8>, date: u64) -> Result<(), AllocError>
     ensures { OnOk result (out.new.items ≡ out.old.items ++ spec.ctime_text date) }
 {
     let moment = moment_of(date);
-    out.extend_from_slice(&weekday_name(date / DAY))?;
-    out.extend_from_slice(b" ")?;
-    out.extend_from_slice(&month_name(moment.month))?;
-    out.extend_from_slice(b" ")?;
-    out.extend_from_slice(&day_text(moment.day))?;
-    out.extend_from_slice(b" ")?;
-    out.extend_from_slice(&time_text(moment))?;
-    out.extend_from_slice(b" ")?;
+    push_day(out, date, moment)?;
+    push_word(out, &time_text(moment))?;
     let mut year = Buffer::new();
     out.extend_from_slice(year.format(moment.year).as_bytes())
+}
+
+/// Appends the weekday of a date, the month and the day.
+fn push_day(out: &mut Vec<u8>, date: u64, moment: Moment) -> Result<(), AllocError>
+    requires { IsMoment (plain_moment moment) }
+    ensures { OnOk result (out.new.items ≡ out.old.items ++ (((weekday_name (date / DAY) ++ spec.space ∷ [])
+        ++ (month_name moment.month ++ spec.space ∷ [])) ++ (spec.day_text moment.day ++ spec.space ∷ []))) }
+{
+    push_word(out, &weekday_name(date / DAY))?;
+    push_word(out, &month_name(moment.month))?;
+    push_word(out, &day_text(moment.day))
+}
+
+/// Appends a word and a space.
+fn push_word(out: &mut Vec<u8>, word: &[u8]) -> Result<(), AllocError>
+    ensures { OnOk result (out.new.items ≡ out.old.items ++ (word.now ++ spec.space ∷ [])) }
+{
+    out.extend_from_slice(word)?;
+    out.extend_from_slice(b" ")
 }
 
 /// A number as two digits.

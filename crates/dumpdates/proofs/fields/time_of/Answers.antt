@@ -1,5 +1,5 @@
 use Rattle.std.proofs.lemmas.List.{take_rest}
-use Rattle.dumpdates.proofs.Timing.{spelled_is_time}
+use Rattle.dumpdates.proofs.Timing.{spelled_is_time, time_spelled}
 use Rattle.dumpdates.proofs.fields.time_of.Goals as goal
 
 pub returns-in_err-hour : goal.returns-in_err-hour
@@ -13,3 +13,15 @@ returns-in_err-minute c =
 pub returns-in_err-second : goal.returns-in_err-second
 returns-in_err-second c =
     rw c.from_residual-in_err-second.ensures (λ h m s t. c.in_err-second.ensures.value s (rw (take_rest c.args.word.now 6) (spelled_is_time c.args.word.now h m s t).seconds))
+
+pub returns : goal.returns
+returns c =
+    let word = c.args.word.now in
+    time_spelled word _ _ _ (record {
+      long = c.if-word-ne8.false;
+      first = c.if-word-ne58.false;
+      second = c.if-word-ne58-2.false;
+      hour = c.in_ok-hour.ensures.value;
+      minute = c.in_ok-minute.ensures.value;
+      seconds = rw (take_rest word 6) at c.in_ok-second.ensures.value;
+    })

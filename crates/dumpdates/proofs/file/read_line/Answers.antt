@@ -4,17 +4,12 @@ use Rattle.dumpdates.specs.Found.{plain_found}
 use Rattle.dumpdates.proofs.Shapes.{spelled_is_entry}
 use Rattle.dumpdates.proofs.file.read_line.Goals as goal
 
-pub new-requires : goal.new-requires
-new-requires c = spelled_is_entry c.args.line.now (plain_found c.in-Ok-Some.found) (rw c.in-Ok-Some.field-0-is at c.in-Ok-Some.ensures)
+pub push-requires : goal.push-requires
+push-requires c = spelled_is_entry c.args.line.now (plain_found c.in-Ok-Some.found) (rw c.in-Ok-Some.field-0-is at c.in-Ok-Some.ensures)
 
-pub returns-in_err-reserve-clause-refused : goal.returns-in_err-reserve-clause-refused
-returns-in_err-reserve-clause-refused c =
+pub returns-in_err-push-in-Ok-Some-clause-refused : goal.returns-in_err-push-in-Ok-Some-clause-refused
+returns-in_err-push-in-Ok-Some-clause-refused c =
     let p = err_from_is_err_and c.from_residual.result c.from_residual.ensures.1 in
-    rw (p.1, p.2) (plain_found c.in-Ok-Some.found, rw c.in-Ok-Some.field-0-is at c.in-Ok-Some.ensures)
-
-pub returns-in_err-last-clause-refused : goal.returns-in_err-last-clause-refused
-returns-in_err-last-clause-refused c =
-    let p = err_from_is_err_and c.from_residual-in_err-last.result c.from_residual-in_err-last.ensures.1 in
     rw (p.1, p.2) (plain_found c.in-Ok-Some.found, rw c.in-Ok-Some.field-0-is at c.in-Ok-Some.ensures)
 
 pub returns-in-Err-BadShape-clause-added : goal.returns-in-Err-BadShape-clause-added

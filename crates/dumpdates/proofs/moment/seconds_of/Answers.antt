@@ -1,18 +1,50 @@
-use Rattle.std.proofs.Common.{arith, rules, pos, ◌≤ℤ◌}
-use Rattle.std.proofs.lemmas.Grind.{common_steps}
+use Rattle.std.proofs.Common.{arith, rules, pos, ◌≤ℤ◌, refl, ◌∙◌, w8, w16}
+use mir.Facts.{to_z_pos}
+use Rattle.jiff_core.proofs.CalendarLemmas.{days_in_month_bounds}
 use Rattle.jiff_core.proofs.SignedLemmas.{signed_casts}
 use Rattle.jiff_core.specs.Date.{epoch_day}
-use Rattle.dumpdates.proofs.Days.{epoch_day_from_1970}
+use Rattle.dumpdates.proofs.Days.{civil_of, epoch_day_from_1970}
 use Rattle.dumpdates.proofs.moment.seconds_of.Goals as goal
 
 pub overflow_cast-days : goal.overflow_cast-days
 overflow_cast-days c =
-    let later : pos 1970 ≤ℤ c.in_ok-date.date.year = search rules in
-    let from : pos 0 ≤ℤ epoch_day c.in_ok-date.date = epoch_day_from_1970 c.in_ok-date.date later in
+    let later : pos 1970 ≤ℤ c.in-Ok.date.year = search rules in
+    let from : pos 0 ≤ℤ epoch_day c.in-Ok.date = epoch_day_from_1970 c.in-Ok.date later in
     search (rules, signed_casts)
 
 pub returns-clause-given : goal.returns-clause-given
-returns-clause-given c = grind (arith, common_steps)
+returns-clause-given c = (
+  λ some. record {
+    year = (c.if-year-lt1970.false, c.if-year-gt9999.false);
+    day = (let e = c.in-Ok.ensures.value in
+        civil_of c.in-Ok.date _ _ _ (e.0 ∙ to_z_pos w16 (omega arith), e.1 ∙ to_z_pos w8 (omega arith), e.2 ∙ to_z_pos w8 (omega arith)));
+    hour = c.if-hour-gt23.false;
+    minute = c.if-minute-gt59.false;
+    second = c.if-second-gt59.false;
+  },
+  λ m. refl,
+)
 
 pub returns-clause-value : goal.returns-clause-value
 returns-clause-value c = search rules
+
+pub returns-then-year-lt1970-clause-given : goal.returns-then-year-lt1970-clause-given
+returns-then-year-lt1970-clause-given c = (
+  λ some. absurd cc,
+  λ m.
+      let at = c.args.moment in
+      let long = days_in_month_bounds (pos at.year) at.month in
+      let year = m.year in
+      let day = m.day in
+      absurd (omega arith),
+)
+
+pub returns-then-hour-gt23-clause-given : goal.returns-then-hour-gt23-clause-given
+returns-then-hour-gt23-clause-given c = (
+  λ some. absurd cc,
+  λ m.
+      let hour = m.hour in
+      let minute = m.minute in
+      let second = m.second in
+      absurd (omega arith),
+)

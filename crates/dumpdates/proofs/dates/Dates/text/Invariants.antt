@@ -1,8 +1,0 @@
-use Rattle.std.proofs.Common.{◌≡◌, take}
-use Rattle.dumpdates.specs.Stored.{plain_all}
-use Rattle.dumpdates.specs.Text.{written}
-use Rattle.dumpdates.proofs.dates.Dates.text.Given as goal
-
--- the lines of the entries so far
-abbrev pub invariant-loop-entry : goal.invariant-loop-entry
-invariant-loop-entry l = l.out.items ≡ written (plain_all (take l.entry-index l.entry-items))
