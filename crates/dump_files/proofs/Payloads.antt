@@ -115,6 +115,22 @@ read_whole {m = m} {medium} {after} {len} {size} {failures} {block} {count} {at}
       same = (refl, refl);
     }
 
+-- a read for which it had less, or that failed
+pub read_short : {M : Type 0} {m : MediumKind M} {medium after : M} {len size failures more block count at : ℕ} {part into given : List ℕ}
+    {found : Result ℕ MediumFailed} {old : FiledPayload M} {failed : SourceFailed} → record { medium = medium; len = len; size = size; failures = failures } ≡ old
+    → IsMediumCall m medium (ReadAt at part found) after → at ≡ min (block * size) len → count ≡ min (len - at) (length into) → length part ≡ count
+    → (found ≡ Ok count → ⊥)
+    → IsPayloadRead m old block into (Err failed) (record { medium = after; len = len; size = size; failures = more }) given
+read_short {m = m} {medium} {after} {len} {size} {failures} {more} {block} {count} {at} {part} {into} {given} {found} {failed = failed} view call begins asked all other =
+    subst (λ old. IsPayloadRead m old block into (Err failed) (record { medium = after; len = len; size = size; failures = more }) given) view record {
+      part = part;
+      found = found;
+      call = subst (λ n. IsMediumCall m medium (ReadAt n part found) after) begins call;
+      asked = all ∙ asked ∙ ap (λ n. min (len - n) (length into)) begins;
+      gives = (λ e. other (e ∙ ap Ok all));
+      same = (refl, refl);
+    }
+
 -- a read leaves the blocks
 pub same_blocks : {M : Type 0} {m : MediumKind M} {old new : FiledPayload M} {block : ℕ} {into given : List ℕ} {result : Result Unit SourceFailed}
     → IsPayloadRead m old block into result new given → (blocks : List (List ℕ)) → HasBlocks m.holds old blocks ↔ HasBlocks m.holds new blocks

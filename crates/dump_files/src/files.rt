@@ -11,13 +11,18 @@ use std::time::{Clock, SystemTime, UNIX_EPOCH};
 /// reading began.
 pub fn read_steady(alloc: Global, mut file: File) -> io::Result<Option<Vec<u8>>> {
     let before = file.metadata()?;
+    let bytes = read_rest(alloc, &mut file)?;
+    let len = bytes.len() as u64;
+    let after = file.metadata()?;
+    let steady = !before.is_file() || (before.len() == after.len() && before.len() == len);
+    Ok(steady.then_some(bytes))
+}
+
+/// The bytes of a file from where it stands.
+fn read_rest(alloc: Global, file: &mut File) -> io::Result<Vec<u8>> {
     let mut bytes = Vec::new(alloc);
     file.read_to_end(&mut bytes)?;
-    let after = file.metadata()?;
-    if before.is_file() && (before.len() != after.len() || before.len() != bytes.len() as u64) {
-        return Ok(None);
-    }
-    Ok(Some(bytes))
+    Ok(bytes)
 }
 
 /// Reads a file whole. A file that is missing is empty.
@@ -26,13 +31,18 @@ pub fn read_or_empty<R: Files<File = File>>(
     alloc: Global,
     path: &str,
 ) -> io::Result<Vec<u8>> {
-    let mut bytes = Vec::new(alloc);
     match File::open(rt, path) {
-        Ok(mut file) => file.read_to_end(&mut bytes)?,
-        Err(error) if error.kind() == ErrorKind::NotFound => 0,
-        Err(error) => return Err(error),
-    };
-    Ok(bytes)
+        Ok(mut file) => read_rest(alloc, &mut file),
+        Err(error) if error.kind() == ErrorKind::NotFound => Ok(Vec::new(alloc)),
+        Err(error) => Err(error),
+    }
+}
+
+/// Writes a text to a new file, and syncs it.
+fn write_synced<R: Files<File = File>>(rt: &R, path: &str, text: &[u8]) -> io::Result<()> {
+    let mut file = File::create(rt, path)?;
+    file.write_all(text)?;
+    file.sync_all()
 }
 
 /// The clock's seconds since 1970 began, UTC. None where it stands before that, or can't be read.
@@ -72,9 +82,7 @@ impl<'a, R: Files<File = File>> DatesFile<'a, R> {
     fn put(&self, text: &[u8]) -> io::Result<()> {
         let path = self.path;
         let beside = format!(in self.alloc; "{path}.new")?;
-        let mut file = File::create(self.rt, beside.as_str())?;
-        file.write_all(text)?;
-        file.sync_all()?;
+        write_synced(self.rt, beside.as_str(), text)?;
         fs::rename(self.rt, beside.as_str(), path)
     }
 

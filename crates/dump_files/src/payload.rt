@@ -1,8 +1,10 @@
 //! The client that dumps a payload.
-ghost use Rattle.std.specs.Prelude.{◌≡◌, [], IfErr, IfOk};
+ghost use Rattle.std.specs.Prelude.{◌≡◌, ℕ, List, [], IfErr, IfOk, MatchResult};
+ghost use Rattle.dump_client.specs.Client.{IsPayload};
 ghost use Rattle.dump_client.specs.Standing.{standing};
 ghost use Rattle.dump_client.specs.declared.stage.Stage.TheVariants as stages;
-ghost use Rattle.dump_files.specs.Payload.{blocks_for, line_run, IsRefusedRun};
+ghost use Rattle.dump_files.specs.Payload.{blocks_for, line_run, HasBlocks, IsRefusedRun};
+ghost use Rattle.dump_run.specs.Run.{plain_run, IsFirstBroken};
 
 use crate::{Gauge, PayloadFile, Shown};
 use dump_client::{Client, Run, RunFault};
@@ -52,7 +54,7 @@ pub fn dumper<M: Medium + Drop, G: Gauge + Drop>(
     date: u64,
     since: u64,
     payload: PayloadFile<M>,
-    mut gauge: G,
+    gauge: G,
 ) -> Result<Client<Shown<PayloadFile<M>, G>>, DumperFault>
     requires { payload.size ≡ line.now.block }
     ensures at { IfOk result (λ c. c.at ≡ standing (line_run line.now date since payload.len) [] stages.Ready) }
@@ -60,14 +62,39 @@ pub fn dumper<M: Medium + Drop, G: Gauge + Drop>(
     ensures refused { IfErr result (IsRefusedRun (line_run line.now date since payload.len)) }
 {
     let blocks = block_count(payload.len(), line.block);
+    match run_of(line, date, since, blocks) {
+        Ok(run) => Ok(client_of(alloc, run, payload, gauge)?),
+        Err(fault) => Err(DumperFault::Run(fault)),
+    }
+}
+
+/// The run that the words say, in so many blocks.
+fn run_of(line: &DumpLine<'_>, date: u64, since: u64, blocks: u64) -> Result<Run, RunFault>
+    ensures { MatchResult result
+        (λ run. run ≡ plain_run line.now.device.now line.now.fs.now line.now.level date since line.now.block blocks)
+        (λ fault. IsFirstBroken fault (plain_run line.now.device.now line.now.fs.now line.now.level date since line.now.block blocks)) }
+{
     let device = line.device.as_bytes();
-    let run = Run::new(device, line.fs, line.level, date, since, line.block, blocks)?;
+    Run::new(device, line.fs, line.level, date, since, line.block, blocks)
+}
+
+/// The client of a run, whose gauge is told how many blocks there are.
+fn client_of<M: Medium + Drop, G: Gauge + Drop>(
+    alloc: Global,
+    run: Run,
+    payload: PayloadFile<M>,
+    mut gauge: G,
+) -> Result<Client<Shown<PayloadFile<M>, G>>, AllocError>
+    requires { (blocks : List (List ℕ)) → HasBlocks M.holds payload blocks → IsPayload run blocks }
+    ensures at { IfOk result (λ c. c.at ≡ standing run [] stages.Ready) }
+    ensures source { IfOk result (λ c. c.source.source ≡ payload) }
+{
     gauge.begin(run.blocks());
     let source = Shown {
         source: payload,
         gauge,
     };
-    Ok(Client::new(alloc, run, source)?)
+    Client::new(alloc, run, source)
 }
 
 /// How many blocks of this size a payload of so many bytes has; none of no size.

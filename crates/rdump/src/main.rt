@@ -113,16 +113,35 @@ fn run_dump<M: Medium + Drop>(
 ) -> io::Result<u8>
     requires { payload.size ≡ line.now.block }
 {
-    let Some(date) = line.date.or(seconds_now(rt)) else {
-        return say(rt, "the clock", "it tells no date");
-    };
+    match line.date.or(seconds_now(rt)) {
+        Some(date) => dump_at(rt, line, payload, since, date),
+        None => say(rt, "the clock", "it tells no date"),
+    }
+}
+
+/// Dumps a payload at this date, and answers the status.
+fn dump_at<M: Medium + Drop>(
+    rt: &HostRuntime,
+    line: &DumpLine<'_>,
+    payload: PayloadFile<M>,
+    since: u64,
+    date: u64,
+) -> io::Result<u8>
+    requires { payload.size ≡ line.now.block }
+{
     let gauge = terminal(rt).map(|it| ProgressLine::new(rt, it));
-    let mut client = match dumper(rt.alloc(), line, date, since, payload, gauge) {
-        Ok(client) => client,
-        Err(DumperFault::Run(fault)) => return refuse_run(rt, fault),
-        Err(DumperFault::OutOfMemory) => return tell(rt, "", io::ErrorKind::OutOfMemory.into()),
-    };
-    dump_by(rt, line, &mut client)
+    match dumper(rt.alloc(), line, date, since, payload, gauge) {
+        Ok(mut client) => dump_by(rt, line, &mut client),
+        Err(fault) => refuse_dumper(rt, fault),
+    }
+}
+
+/// Tells why there is no client for a dump, and answers the status.
+fn refuse_dumper(rt: &HostRuntime, fault: DumperFault) -> io::Result<u8> {
+    match fault {
+        DumperFault::Run(fault) => refuse_run(rt, fault),
+        DumperFault::OutOfMemory => tell(rt, "", io::ErrorKind::OutOfMemory.into()),
+    }
 }
 
 /// Has a client dump to the server of the line, and answers the status.
@@ -131,18 +150,29 @@ fn dump_by<B: Blocks>(
     line: &DumpLine<'_>,
     client: &mut Client<B>,
 ) -> io::Result<u8> {
-    let mut peer = SocketPeer::new(rt, line.to);
     let mut out = Counted::new(Clearing {
         lines: rt.stdout(),
         terminal: terminal(rt),
     });
-    let status = if line.update {
-        dump_entered(rt, line.dumpdates, client, &mut peer, &mut out)?
+    match dump_over(rt, line, client, &mut out) {
+        Ok(status) => ended(rt, out.failures(), status),
+        Err(error) => Err(error),
+    }
+}
+
+/// Has a client dump to the server of the line, with its lines to `out`, and answers the status.
+fn dump_over<B: Blocks, W: Write>(
+    rt: &HostRuntime,
+    line: &DumpLine<'_>,
+    client: &mut Client<B>,
+    out: &mut Counted<W>,
+) -> io::Result<u8> {
+    let mut peer = SocketPeer::new(rt, line.to);
+    if line.update {
+        dump_entered(rt, line.dumpdates, client, &mut peer, out)
     } else {
-        dump(rt.alloc(), client, &mut peer, &mut rt.stdin(), &mut out)
-    };
-    tell_failed(rt, &out)?;
-    Ok(status)
+        Ok(dump(rt.alloc(), client, &mut peer, &mut rt.stdin(), out))
+    }
 }
 
 /// Has a client dump, enters the dump in a dumpdates file where it is complete, and answers the status.
@@ -156,9 +186,15 @@ fn dump_entered<B: Blocks, P: Peer, W: Write>(
     let mut store = DatesFile::new(rt, rt.alloc(), dumpdates);
     let mut operator = rt.stdin();
     let status = dump_and_update(rt.alloc(), client, peer, &mut operator, out, &mut store);
-    if let Some(error) = store.failure() {
-        eprintln!(rt; "rdump: {dumpdates}: {error}")?;
+    match store.failure() {
+        Some(error) => tell_unread(rt, dumpdates, error, status),
+        None => Ok(status),
     }
+}
+
+/// Tells why a file could not be read or written, and answers this status.
+fn tell_unread(rt: &HostRuntime, file: &str, error: &io::Error, status: u8) -> io::Result<u8> {
+    eprintln!(rt; "rdump: {file}: {error}")?;
     Ok(status)
 }
 
@@ -214,18 +250,27 @@ fn tell_read(rt: &HostRuntime, line: ReadLine<'_>, fault: ReadFault) -> io::Resu
 fn operate(rt: &HostRuntime, line: MtLine<'_>) -> io::Result<u8>
     requires { IsMtLine line }
 {
-    let mut peer = SocketPeer::new(rt, line.to);
     let mut answer = Vec::new(rt.alloc());
-    let mut out = Counted::new(&mut answer);
+    let status = answer_of(rt, line, &mut answer);
+    print_answer(rt, line.to, &answer, status)
+}
+
+/// Does one operation at a drive, appends the answer, and answers the status.
+fn answer_of(rt: &HostRuntime, line: MtLine<'_>, answer: &mut Vec<u8>) -> u8
+    requires { IsMtLine line }
+{
+    let mut peer = SocketPeer::new(rt, line.to);
+    let mut out = Counted::new(answer);
     let device = line.device.as_bytes();
-    let status = mt(rt.alloc(), &mut peer, device, line.op, line.count, &mut out);
+    mt(rt.alloc(), &mut peer, device, line.op, line.count, &mut out)
+}
+
+/// Prints the answer of the server at this address, or tells that none came, and answers this status.
+fn print_answer(rt: &HostRuntime, to: &str, answer: &[u8], status: u8) -> io::Result<u8> {
     if answer.is_empty() {
-        eprintln!(rt;
-            "rdump: {}: the connection ended before the answer",
-            line.to
-        )?;
+        eprintln!(rt; "rdump: {to}: the connection ended before the answer")?;
     }
-    if rt.stdout().write_all(&answer).is_err() {
+    if rt.stdout().write_all(answer).is_err() {
         return unwritten(rt, ABNORMAL);
     }
     Ok(status)
@@ -237,12 +282,12 @@ fn unwritten(rt: &HostRuntime, status: u8) -> io::Result<u8> {
     Ok(status)
 }
 
-/// Tells where standard output could not be written.
-fn tell_failed<W: io::Write>(rt: &HostRuntime, out: &Counted<W>) -> io::Result<()> {
-    if out.failures() > 0 {
-        unwritten(rt, ABNORMAL)?;
+/// Tells where standard output could not be written, and answers this status.
+fn ended(rt: &HostRuntime, failures: u64, status: u8) -> io::Result<u8> {
+    if failures > 0 {
+        return unwritten(rt, status);
     }
-    Ok(())
+    Ok(status)
 }
 
 /// Asks a dumpdates file, and answers the status. A file that can't be read and a failed write are told.
@@ -253,8 +298,7 @@ fn ask_dates(rt: &HostRuntime, file: &str, asked: Option<(&str, u8)>) -> io::Res
     };
     let mut out = Counted::new(rt.stdout());
     let status = dates(rt.alloc(), &bytes, asked, &mut out);
-    tell_failed(rt, &out)?;
-    Ok(status)
+    ended(rt, out.failures(), status)
 }
 
 /// Tells on standard error what is at fault and why, and answers the status.

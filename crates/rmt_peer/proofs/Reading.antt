@@ -1,7 +1,8 @@
 -- A volume that is read over a peer, put together.
-use Rattle.std.proofs.Common.{◌≡◌, ◌≢◌, inl, inr, ℕ, ◌+◌, ◌-◌, ◌^◌, ◌≤◌, ◌&&◌, List, [], ◌∷◌, ◌++◌, length, Bool, true, false, Option, Some, None, Result, Ok, Err, Vec, Global, refl, sym, ap, subst, ◌∙◌, if◌then◌else◌, append-nil, append_assoc, length-append, nat_eq, arith}
+use Rattle.std.proofs.Common.{◌≡◌, ◌≢◌, ◌⊎◌, inl, inr, ℕ, ◌+◌, ◌-◌, ◌^◌, ◌≤◌, ◌&&◌, List, [], ◌∷◌, ◌++◌, length, Bool, true, false, Option, Some, None, Result, Ok, Err, Vec, Global, refl, sym, ap, subst, ◌∙◌, if◌then◌else◌, append-nil, append_assoc, length-append, nat_eq, arith}
 use Rattle.std.proofs.lemmas.Bool.Decides.{nat_tests}
 use Rattle.std.specs.List.{concat}
+use Rattle.std.specs.Prelude.{MatchResult}
 use Rattle.std.proofs.lemmas.List.Folds.{concat-append}
 use Rattle.rmt_wire.specs.Counted.{Counting}
 use Rattle.rmt_wire.specs.Limits.{data_limit}
@@ -405,6 +406,13 @@ done_failed next tells p q replies result fault is h = subst (IsDone next tells 
 pub rewind_next : (device : List ℕ) (opened : PlainReply) → is_done opened ≡ true → next_of device (opened ∷ []) ≡ Some (Op 5 1)
 rewind_next device opened met = ap (λ b. if b then Some (Op 5 1) else None) met
 
+-- the device is open and rewound, or why it is not
+abbrev pub IsBegun : {P : Type 0} → (P → List Passed → Type 0) → List ℕ → P → P → Result Unit ReadFault → Type 0
+IsBegun tells device p q result =
+    MatchResult result
+    (λ _. (opened : PlainReply) × (rewound : PlainReply) × (is_done rewound ≡ true) × (records_of (opened ∷ rewound ∷ []) ≡ []) × Extends (next_of device) tells p q [] (opened ∷ rewound ∷ []))
+    (λ fault. Steps (next_of device) tells p q [] (Err fault))
+
 pub reading_begins : (opened rewound : PlainReply) → is_done rewound ≡ true → IsReading (opened ∷ rewound ∷ [])
 reading_begins opened rewound met = (opened, rewound, [], refl, met, tt)
 
@@ -423,3 +431,25 @@ some_there (b ∷ items) len test e h k = λ same. cc
 pub copied_as : {P F W : Type 0} (next : List PlainReply → Option PlainRequest) (tells : P → List Passed → Type 0) (filed : F → Option (List ℕ)) (contents : W → Option (List ℕ)) (replies : List PlainReply) (p q : P)
     (f f' : Counting F) (o o' : Counting W) (result is : Result Unit ReadFault) → result ≡ is → IsCopied next tells filed contents replies p q f f' o o' result → IsCopied next tells filed contents replies p q f f' o o' is
 copied_as next tells filed contents replies p q f f' o o' result is e h = subst (IsCopied next tells filed contents replies p q f f' o o') e h
+
+-- after the open the rewind, or why it was not done
+pub begun_both : {P : Type 0} (tells : P → List Passed → Type 0) (device : List ℕ) (p q r : P) (opened : PlainReply) (result : Result Unit ReadFault) → records_of (opened ∷ []) ≡ []
+    → Extends (next_of device) tells p q [] (opened ∷ []) → IsDone (next_of device) tells q r (opened ∷ []) result → IsBegun tells device p r result
+begun_both tells device p q r opened (Ok u) none x y =
+    (opened, y.0, y.1, no_records opened y.0 none y.2, extends_both (next_of device) tells p q r [] (opened ∷ []) (opened ∷ y.0 ∷ []) x y.3)
+begun_both tells device p q r opened (Err fault) none x y =
+    (y.0, breaks_after (next_of device) tells p q r [] (opened ∷ []) y.0 fault x y.1, y.2 ∙ none, y.3)
+
+-- what an answer to what was asked says
+abbrev pub IsDoneBy : Answer → Asked → Result Unit ReadFault → Type 0
+IsDoneBy answer named result =
+    MatchResult result (λ _. (number : ℕ) × (answer ≡ kept.Done number))
+    (λ fault. ((number : ℕ) × (text : Vec ℕ Global) × (answer ≡ kept.Error number text) × (fault ≡ Refused named number)) ⊎ ((bytes : Vec ℕ Global) × (answer ≡ kept.Data bytes)))
+
+pub step_answered : {P : Type 0} (next : List PlainReply → Option PlainRequest) (tells : P → List Passed → Type 0) (p q : P) (replies : List PlainReply) (request : PlainRequest) (called : Result Answer CallFault)
+    (answer : Answer) (named : Asked) (result : Result Unit ReadFault) → next replies ≡ Some request → called ≡ Ok answer → wanted_by request ≡ Number → IsNamed named request → IsCalled tells request (told_answer called) p q
+    → IsDoneBy answer named result → IsDone next tells p q replies result
+step_answered next tells p q replies request called answer named (Ok u) e is w n h d = step_done next tells p q replies request called d.0 e (is ∙ ap Ok d.1) h
+step_answered next tells p q replies request called answer named (Err fault) e is w n h (inl d) =
+    subst (λ f. Steps next tells p q replies (Err f)) (sym d.3) (step_refused next tells p q replies request called named d.0 d.1 e (is ∙ ap Ok d.2) n h)
+step_answered next tells p q replies request called answer named (Err fault) e is w n h (inr d) = absurd (no_data tells p q request called d.0 w (is ∙ ap Ok d.1) h)

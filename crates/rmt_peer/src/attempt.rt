@@ -8,7 +8,7 @@ use dump_client::{AttemptFault, Blocks, Client, Progress, StartFault, State};
 const PIECE: usize = 4096;
 
 /// What came of an attempt.
-#[derive(Clone, Copy, PartialEq, Eq)]
+#[derive(Clone, Copy)]
 pub(crate) enum Attempted {
     /// It did not fail. It is over, and its volume is counted; or its turns ran out, and it goes on.
     Over,

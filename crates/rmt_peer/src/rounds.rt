@@ -100,15 +100,40 @@ fn report<B: Blocks, R: Read, W: Write>(
 ) -> Option<u8>
     ensures { IsRound W.contents client.now.at.counts client.now.at out.old out.new result }
 {
-    let fault = match attempted {
-        Attempted::Over => return None,
-        Attempted::Failed(fault) => fault,
-        Attempted::NotStarted => AttemptFault::OutOfMemory,
-    };
-    if !print_failure(client, fault, out) {
+    match attempted {
+        Attempted::Over => None,
+        Attempted::Failed(fault) => tell(client, fault, out),
+        Attempted::NotStarted => ask_here(client, operator, out),
+    }
+}
+
+/// Prints that an attempt failed. Answers the status of the dump where printing failed.
+fn tell<B: Blocks, W: Write>(
+    client: &Client<B>,
+    fault: AttemptFault,
+    out: &mut Counted<W>,
+) -> Option<u8>
+    ensures { IsRound W.contents client.now.at.counts client.now.at out.old out.new result }
+{
+    if print_failure(client, fault, out) {
+        None
+    } else {
+        Some(ABNORMAL)
+    }
+}
+
+/// Prints that an attempt could not start, and asks the operator. Answers the status at the end of the dump.
+fn ask_here<B: Blocks, R: Read, W: Write>(
+    client: &Client<B>,
+    operator: &mut R,
+    out: &mut Counted<W>,
+) -> Option<u8>
+    ensures { IsRound W.contents client.now.at.counts client.now.at out.old out.new result }
+{
+    if !print_failure(client, AttemptFault::OutOfMemory, out) {
         return Some(ABNORMAL);
     }
-    if attempted != Attempted::NotStarted || says_yes(operator) {
+    if says_yes(operator) {
         return None;
     }
     Some(finish(client, out))

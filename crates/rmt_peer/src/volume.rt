@@ -1,13 +1,16 @@
 //! A volume that is read back over a peer.
-ghost use Rattle.std.specs.Prelude.{◌≡◌, ◌≤◌, ℕ, [], List, Option, Some, Result, IfSome, IfErr, length, nat_eq, position};
+ghost use Rattle.std.specs.Prelude.{◌≡◌, ◌≤◌, ◌⊎◌, ℕ, [], ◌∷◌, List, true, Option, Some, Result, Err, IfSome, IfErr, MatchResult, Vec, length, nat_eq, position};
+ghost use Rattle.std.specs.Global.{Global};
 ghost use Rattle.rmt_wire.specs.Lent.{plain_request};
 ghost use Rattle.rmt_wire.specs.Limits.{data_limit};
 ghost use Rattle.rmt_wire.specs.Number.{IsLine};
 ghost use Rattle.rmt_wire.specs.Reply as kinds;
 ghost use Rattle.rmt_wire.specs.Request as requests;
 ghost use Rattle.rmt_peer.specs.Call.{wanted_by};
+ghost use Rattle.rmt_peer.specs.Calls.{Extends, is_done};
 ghost use Rattle.rmt_peer.specs.Print.{IsPrinted};
 ghost use Rattle.rmt_peer.specs.Reading as spec;
+ghost use Rattle.rmt_peer.specs.declared.answer.Answer.TheVariants as kept;
 ghost use Rattle.rmt_peer.specs.declared.fault.ReadFault.{ReadFault};
 ghost use Rattle.rmt_peer.specs.declared.fault.ReadFault.TheVariants as faults;
 ghost use Rattle.rmt_peer.specs.Reading.{IsCopied, IsDone, IsNamed, IsRead, IsReading, IsRecord, IsThrough, IsWritten, Steps, is_whole, next_of, records_of};
@@ -89,6 +92,20 @@ fn go_through<P: Peer, F: Write, W: Write>(
     requires { IsLine device.now }
     ensures { IsThrough P.tells F.contents W.contents device.now peer.old peer.new file.old file.new out.old out.new result }
 {
+    begin(caller, peer, device)?;
+    copy_records(caller, peer, file, out)?;
+    ask(caller, peer, Asked::Close, &Request::Close)
+}
+
+/// Opens the device, and rewinds it.
+fn begin<P: Peer>(caller: &mut Caller, peer: &mut P, device: &[u8]) -> Result<(), ReadFault>
+    requires { IsLine device.now }
+    ensures { MatchResult result
+        (λ _. (opened : kinds.PlainReply) × (rewound : kinds.PlainReply) × (is_done rewound ≡ true)
+        × (records_of (opened ∷ rewound ∷ []) ≡ [])
+        × Extends (next_of device.now) P.tells peer.old peer.new [] (opened ∷ rewound ∷ []))
+        (λ fault. Steps (next_of device.now) P.tells peer.old peer.new [] (Err fault)) }
+{
     let open = Request::Open {
         device,
         mode: READ_ONLY,
@@ -98,9 +115,7 @@ fn go_through<P: Peer, F: Write, W: Write>(
         op: MTREW,
         count: 1,
     };
-    ask(caller, peer, Asked::Rewind, &rewind)?;
-    copy_records(caller, peer, file, out)?;
-    ask(caller, peer, Asked::Close, &Request::Close)
+    ask(caller, peer, Asked::Rewind, &rewind)
 }
 
 /// Has something done that is answered by a number.
@@ -117,10 +132,24 @@ fn ask<P: Peer>(
         next replies ≡ Some (plain_request request.now) → IsDone next P.tells peer.old peer.new replies result }
 {
     match caller.call(peer, request) {
-        Ok(Answer::Done { .. }) => Ok(()),
-        Ok(Answer::Error { number, .. }) => Err(ReadFault::Refused { asked, number }),
-        Ok(Answer::Data { .. }) => Err(ReadFault::Botched),
+        Ok(answer) => done(&answer, asked),
         Err(fault) => Err(read_fault(fault)),
+    }
+}
+
+/// Nothing where this is the answer to what was done, and else why it was not.
+fn done(answer: &Answer, asked: Asked) -> Result<(), ReadFault>
+    ensures { MatchResult result (λ _. (number : ℕ) × (answer.now ≡ kept.Done number))
+        (λ fault. ((number : ℕ) × (text : Vec ℕ Global) × (answer.now ≡ kept.Error number text) × (fault ≡ faults.Refused asked number))
+        ⊎ ((bytes : Vec ℕ Global) × (answer.now ≡ kept.Data bytes))) }
+{
+    match answer {
+        Answer::Done { .. } => Ok(()),
+        Answer::Error { number, .. } => Err(ReadFault::Refused {
+            asked,
+            number: *number,
+        }),
+        Answer::Data { .. } => Err(ReadFault::Botched),
     }
 }
 

@@ -5,10 +5,9 @@ ghost use Rattle.rmt_words.specs.Rdump.{IsAsked, IsRdumpLine};
 
 use crate::fault::WordFault;
 use crate::rdump_line::RdumpLine;
-use crate::word::{Form, Word, check_given, command_of, value_in};
-use clap::{ArgMatches, Command};
+use crate::word::{Form, Word, value_in};
+use clap::ArgMatches;
 use dumpdates::Entry;
-use std::alloc::{AllocError, Global};
 
 /// What is said of a name that no entry has.
 const BAD_NAME: &str =
@@ -24,12 +23,13 @@ const ONE_ALONE: &str = "--name and --level are given together or not at all";
 pub(crate) fn dates_in<'a>(matches: &ArgMatches<'a>) -> Result<RdumpLine<'a>, WordFault>
     ensures { IfOk result IsRdumpLine }
 {
-    check_given(matches, &REQUIRED)?;
-    let asked = asked(matches.get_str("name"), matches.get_str("level"))?;
-    Ok(RdumpLine::Dates {
-        file: value_in(matches, "file"),
-        asked,
-    })
+    match asked(matches.get_str("name"), matches.get_str("level")) {
+        Ok(asked) => Ok(RdumpLine::Dates {
+            file: value_in(matches, "file"),
+            asked,
+        }),
+        Err(fault) => Err(fault),
+    }
 }
 
 /// The name and the level that are asked for by these words, and what is wrong with them where no entry has such.
@@ -66,17 +66,15 @@ fn is_name(name: &str) -> bool
     Entry::new(name, 0, 0).is_some()
 }
 
-/// The word of `rdump dates` that is required.
-static REQUIRED: [Word; 1] = [Word {
-    name: "file",
-    value: "FILE",
-    help: "The dumpdates file",
-    form: Form::Required,
-    missing: "--file is required",
-}];
-
-/// Its other words.
-static OTHERS: [Word; 2] = [
+/// The words of `rdump dates`.
+pub(crate) static DATES_WORDS: [Word; 3] = [
+    Word {
+        name: "file",
+        value: "FILE",
+        help: "The dumpdates file",
+        form: Form::Required,
+        missing: "--file is required",
+    },
     Word {
         name: "name",
         value: "NAME",
@@ -92,9 +90,3 @@ static OTHERS: [Word; 2] = [
         missing: "",
     },
 ];
-
-/// The command `rdump dates`.
-pub(crate) fn dates_command<'a>(alloc: Global) -> Result<Command<'a>, AllocError> {
-    let about = "Print a dumpdates file anew, or the base date of a dump in seconds since 1970";
-    command_of(alloc, "dates", about, &REQUIRED, &OTHERS)
-}

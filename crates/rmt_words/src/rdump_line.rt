@@ -3,11 +3,11 @@
 ghost use Rattle.std.specs.Prelude.{IfOk};
 ghost use Rattle.rmt_words.specs.Rdump.{IsRdumpLine};
 
-use crate::dates_line::{dates_command, dates_in};
+use crate::dates_line::{DATES_WORDS, dates_in};
 use crate::fault::WordFault;
-use crate::run_line::{DumpLine, dump_command, dump_in};
-use crate::tape_line::{MtLine, ReadLine, mt_command, mt_in, read_command, read_in};
-use crate::word::push;
+use crate::run_line::{DUMP_WORDS, DumpLine, dump_in};
+use crate::tape_line::{MT_WORDS, MtLine, READ_WORDS, ReadLine, mt_in, read_in};
+use crate::word::{Word, check_given, push_command};
 use clap::{ArgMatches, Command, Error};
 use std::alloc::{AllocError, Global};
 use std::convert::AsStr;
@@ -43,16 +43,20 @@ pub enum RdumpLine<'a> {
 pub fn rdump_words<'a, S: AsStr>(alloc: Global, words: &'a [S]) -> Result<RdumpLine<'a>, Error>
     ensures { IfOk result IsRdumpLine }
 {
-    let mut rdump = rdump_command(alloc)?;
-    line_of(&mut rdump, words)
+    match rdump_command(alloc) {
+        Ok(mut rdump) => line_of(&mut rdump, words),
+        Err(refused) => Err(refused.into()),
+    }
 }
 
 /// The line that the words say to the command.
 fn line_of<'a, S: AsStr>(rdump: &mut Command<'a>, words: &'a [S]) -> Result<RdumpLine<'a>, Error>
     ensures { IfOk result IsRdumpLine }
 {
-    let matches = rdump.try_get_matches_from_mut(words)?;
-    matched(rdump, &matches)
+    match rdump.try_get_matches_from_mut(words) {
+        Ok(matches) => matched(rdump, &matches),
+        Err(error) => Err(error),
+    }
 }
 
 /// The line that clap's matches say to the command.
@@ -70,19 +74,22 @@ fn line_in<'a>(matches: &ArgMatches<'a>) -> Result<RdumpLine<'a>, WordFault>
     ensures { IfOk result IsRdumpLine }
 {
     match matches.subcommand() {
-        Some((name, given)) => named_in(name, given),
+        Some((name, given)) => match check_given(given, words_of(name)) {
+            Ok(()) => named_in(name, given),
+            Err(fault) => Err(fault),
+        },
         None => Err(WordFault::NoCommand),
     }
 }
 
-/// The line that clap's matches of the words of this command say.
+/// The line that clap's matches of the words of this command say, of which those that are required are given.
 fn named_in<'a>(name: &str, matches: &ArgMatches<'a>) -> Result<RdumpLine<'a>, WordFault>
     ensures { IfOk result IsRdumpLine }
 {
     match name {
-        "dump" => dump_in(matches),
-        "read" => read_in(matches),
-        "mt" => mt_in(matches),
+        "dump" => dump_in(matches).map(RdumpLine::Dump),
+        "read" => read_in(matches).map(RdumpLine::Read),
+        "mt" => mt_in(matches).map(RdumpLine::Mt),
         "dates" => dates_in(matches),
         _ => Err(WordFault::NoCommand),
     }
@@ -90,8 +97,10 @@ fn named_in<'a>(name: &str, matches: &ArgMatches<'a>) -> Result<RdumpLine<'a>, W
 
 /// The command `rdump` with all of its words.
 fn rdump_command<'a>(alloc: Global) -> Result<Command<'a>, AllocError> {
-    let commands = commands(alloc)?;
-    named(alloc).subcommands(commands)
+    match commands(alloc) {
+        Ok(commands) => named(alloc).subcommands(commands),
+        Err(refused) => Err(refused),
+    }
 }
 
 /// The command `rdump` without its words.
@@ -106,14 +115,39 @@ fn named<'a>(alloc: Global) -> Command<'a> {
 /// Its commands, in the order of the help.
 fn commands<'a>(alloc: Global) -> Result<Vec<Command<'a>>, AllocError> {
     let mut commands = Vec::new(alloc);
-    push_commands(alloc, &mut commands)?;
+    for said in &COMMANDS {
+        push_command(alloc, *said, words_of(said.0), &mut commands)?;
+    }
     Ok(commands)
 }
 
-/// Adds them.
-fn push_commands<'a>(alloc: Global, commands: &mut Vec<Command<'a>>) -> Result<(), AllocError> {
-    push(commands, dump_command(alloc))?;
-    push(commands, read_command(alloc))?;
-    push(commands, mt_command(alloc))?;
-    push(commands, dates_command(alloc))
+/// The names of its commands, with what the help says of each.
+static COMMANDS: [(&str, &str); 4] = [
+    (
+        "dump",
+        "Dump a payload to a remote tape, and ask after each failure whether to retry",
+    ),
+    (
+        "read",
+        "Read a volume of a remote tape: print its label, and write its blocks to a file",
+    ),
+    (
+        "mt",
+        "Do one operation of mt(1) at a remote tape, and print its answer",
+    ),
+    (
+        "dates",
+        "Print a dumpdates file anew, or the base date of a dump in seconds since 1970",
+    ),
+];
+
+/// The words of the command of this name.
+fn words_of(name: &str) -> &'static [Word] {
+    match name {
+        "dump" => &DUMP_WORDS,
+        "read" => &READ_WORDS,
+        "mt" => &MT_WORDS,
+        "dates" => &DATES_WORDS,
+        _ => &[],
+    }
 }

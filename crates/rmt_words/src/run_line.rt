@@ -1,14 +1,12 @@
 //! The words of `rdump dump`.
 ghost use Rattle.std.specs.Prelude.{◌≤◌, IfOk, IfSome};
-ghost use Rattle.rmt_words.specs.Rdump.{IsRdumpLine};
+ghost use Rattle.rmt_words.specs.Rdump.{IsDumpLine};
 ghost use Rattle.rmtd_words.specs.Rmtd.{number_limit};
 
 use crate::fault::WordFault;
-use crate::rdump_line::RdumpLine;
-use crate::word::{Form, Word, check_given, command_of, value_in};
-use clap::{ArgMatches, Command};
+use crate::word::{Form, Word, value_in};
+use clap::ArgMatches;
 use rmtd_words::number_of;
-use std::alloc::{AllocError, Global};
 
 /// What the words ask of `rdump dump`. The device, the name and the numbers may be none that a run can have: numbers are 0
 /// to 9223372036854775807.
@@ -46,57 +44,62 @@ const BAD_BLOCK: &str =
 const BAD_DATE: &str =
     "invalid value for '--date <SECONDS>': a number is 0 to 9223372036854775807 in digits";
 
-/// The line of `rdump dump` that clap's matches say.
-pub(crate) fn dump_in<'a>(matches: &ArgMatches<'a>) -> Result<RdumpLine<'a>, WordFault>
-    ensures { IfOk result IsRdumpLine }
+/// What clap's matches ask of `rdump dump`.
+pub(crate) fn dump_in<'a>(matches: &ArgMatches<'a>) -> Result<DumpLine<'a>, WordFault>
+    ensures { IfOk result IsDumpLine }
 {
-    check_given(matches, &REQUIRED)?;
-    let (level, block, date) = numbers_in(matches)?;
-    Ok(RdumpLine::Dump(DumpLine {
-        to: value_in(matches, "to"),
-        device: value_in(matches, "device"),
-        fs: value_in(matches, "fs"),
-        level,
-        payload: value_in(matches, "payload"),
-        block,
-        dumpdates: value_in(matches, "dumpdates"),
-        date,
-        update: matches.get_str("update") == Some("true"),
-    }))
+    match numbers_in(
+        value_in(matches, "level"),
+        value_in(matches, "block"),
+        matches.get_str("date"),
+    ) {
+        Ok((level, block, date)) => Ok(DumpLine {
+            to: value_in(matches, "to"),
+            device: value_in(matches, "device"),
+            fs: value_in(matches, "fs"),
+            level,
+            payload: value_in(matches, "payload"),
+            block,
+            dumpdates: value_in(matches, "dumpdates"),
+            date,
+            update: matches.get_str("update") == Some("true"),
+        }),
+        Err(fault) => Err(fault),
+    }
 }
 
-/// The level, the bytes of a block, and the date if one is given.
-fn numbers_in(matches: &ArgMatches<'_>) -> Result<(u64, u64, Option<u64>), WordFault>
+/// The numbers that these texts say: the level, the bytes of a block, and the date if one is given.
+fn numbers_in(
+    level: &str,
+    block: &str,
+    date: Option<&str>,
+) -> Result<(u64, u64, Option<u64>), WordFault>
     ensures { IfOk result (λ found. (found.0 ≤ number_limit) × (found.1 ≤ number_limit) × IfSome found.2 (λ n. n ≤ number_limit)) }
 {
-    let level = number_in(value_in(matches, "level"), BAD_LEVEL)?;
-    let block = number_in(value_in(matches, "block"), BAD_BLOCK)?;
-    let date = date_in(matches.get_str("date"))?;
-    Ok((level, block, date))
-}
-
-/// The number that a text says.
-fn number_in(text: &str, fault: &'static str) -> Result<u64, WordFault>
-    ensures { IfOk result (λ n. n ≤ number_limit) }
-{
-    match number_of(text) {
-        Some(number) => Ok(number),
-        None => Err(WordFault::Value(fault)),
+    let Some(level) = number_of(level) else {
+        return Err(WordFault::Value(BAD_LEVEL));
+    };
+    let Some(block) = number_of(block) else {
+        return Err(WordFault::Value(BAD_BLOCK));
+    };
+    match date_in(date) {
+        Some(date) => Ok((level, block, date)),
+        None => Err(WordFault::Value(BAD_DATE)),
     }
 }
 
-/// The date that a text says, if one is given.
-fn date_in(text: Option<&str>) -> Result<Option<u64>, WordFault>
-    ensures { IfOk result (λ date. IfSome date (λ n. n ≤ number_limit)) }
+/// The date that a text says, if one is given, and None where it says none.
+fn date_in(text: Option<&str>) -> Option<Option<u64>>
+    ensures { IfSome result (λ date. IfSome date (λ n. n ≤ number_limit)) }
 {
     match text {
-        Some(text) => Ok(Some(number_in(text, BAD_DATE)?)),
-        None => Ok(None),
+        Some(text) => Some(Some(number_of(text)?)),
+        None => Some(None),
     }
 }
 
-/// The words of `rdump dump` that are required.
-static REQUIRED: [Word; 7] = [
+/// The words of `rdump dump`.
+pub(crate) static DUMP_WORDS: [Word; 9] = [
     Word::TO,
     Word::DEVICE,
     Word {
@@ -134,10 +137,6 @@ static REQUIRED: [Word; 7] = [
         form: Form::Required,
         missing: "--dumpdates is required",
     },
-];
-
-/// Its other words.
-static OTHERS: [Word; 2] = [
     Word {
         name: "date",
         value: "SECONDS",
@@ -153,9 +152,3 @@ static OTHERS: [Word; 2] = [
         missing: "",
     },
 ];
-
-/// The command `rdump dump`.
-pub(crate) fn dump_command<'a>(alloc: Global) -> Result<Command<'a>, AllocError> {
-    let about = "Dump a payload to a remote tape, and ask after each failure whether to retry";
-    command_of(alloc, "dump", about, &REQUIRED, &OTHERS)
-}

@@ -1,14 +1,13 @@
 //! The words of `rdump read` and `rdump mt`.
 ghost use Rattle.std.specs.Prelude.{◌≤◌, IfOk, IfSome};
-ghost use Rattle.rmt_words.specs.Rdump.{IsRdumpLine, count_limit};
+ghost use Rattle.dump_run.specs.Run.{IsDevice};
+ghost use Rattle.rmt_words.specs.Rdump.{IsMtLine, IsReadLine, count_limit};
 
 use crate::fault::WordFault;
-use crate::rdump_line::RdumpLine;
-use crate::word::{Form, Word, check_given, command_of, value_in};
-use clap::{ArgMatches, Command};
+use crate::word::{Form, Word, value_in};
+use clap::ArgMatches;
 use rmt_wire::NUMBER_LIMIT;
 use rmtd_words::{is_device, number_of};
-use std::alloc::{AllocError, Global};
 
 /// What the words ask of `rdump read`.
 #[derive(Clone, Copy, Debug)]
@@ -45,38 +44,46 @@ const BAD_OP: &str =
 /// What is said of a count that is none.
 const BAD_COUNT: &str = "invalid value for '<COUNT>': a count is 0 to 2147483647 in digits";
 
-/// The line of `rdump read` that clap's matches say.
-pub(crate) fn read_in<'a>(matches: &ArgMatches<'a>) -> Result<RdumpLine<'a>, WordFault>
-    ensures { IfOk result IsRdumpLine }
+/// What clap's matches ask of `rdump read`.
+pub(crate) fn read_in<'a>(matches: &ArgMatches<'a>) -> Result<ReadLine<'a>, WordFault>
+    ensures { IfOk result IsReadLine }
 {
-    check_given(matches, &READ_WORDS)?;
-    let device = value_in(matches, "device");
-    if !is_device(device.as_bytes()) {
-        return Err(WordFault::Value(BAD_DEVICE));
+    match device_in(matches) {
+        Ok(device) => Ok(ReadLine {
+            to: value_in(matches, "to"),
+            device,
+            out: value_in(matches, "out"),
+        }),
+        Err(fault) => Err(fault),
     }
-    Ok(RdumpLine::Read(ReadLine {
-        to: value_in(matches, "to"),
-        device,
-        out: value_in(matches, "out"),
-    }))
 }
 
-/// The line of `rdump mt` that clap's matches say.
-pub(crate) fn mt_in<'a>(matches: &ArgMatches<'a>) -> Result<RdumpLine<'a>, WordFault>
-    ensures { IfOk result IsRdumpLine }
+/// What clap's matches ask of `rdump mt`.
+pub(crate) fn mt_in<'a>(matches: &ArgMatches<'a>) -> Result<MtLine<'a>, WordFault>
+    ensures { IfOk result IsMtLine }
 {
-    check_given(matches, &MT_WORDS)?;
-    let device = value_in(matches, "device");
-    if !is_device(device.as_bytes()) {
-        return Err(WordFault::Value(BAD_DEVICE));
+    let device = device_in(matches)?;
+    match operation_of(value_in(matches, "op"), value_in(matches, "count")) {
+        Ok((op, count)) => Ok(MtLine {
+            to: value_in(matches, "to"),
+            device,
+            op,
+            count,
+        }),
+        Err(fault) => Err(fault),
     }
-    let (op, count) = operation_of(value_in(matches, "op"), value_in(matches, "count"))?;
-    Ok(RdumpLine::Mt(MtLine {
-        to: value_in(matches, "to"),
-        device,
-        op,
-        count,
-    }))
+}
+
+/// The device, which a request can name.
+fn device_in<'a>(matches: &ArgMatches<'a>) -> Result<&'a str, WordFault>
+    ensures { IfOk result (λ device. IsDevice device.now) }
+{
+    let device = value_in(matches, "device");
+    if is_device(device.as_bytes()) {
+        Ok(device)
+    } else {
+        Err(WordFault::Value(BAD_DEVICE))
+    }
 }
 
 /// The operation that a word says, and the count that a text says.
@@ -121,7 +128,7 @@ fn count_of(text: &str) -> Option<u32>
 }
 
 /// The words of `rdump read`.
-static READ_WORDS: [Word; 3] = [
+pub(crate) static READ_WORDS: [Word; 3] = [
     Word::TO,
     Word::DEVICE,
     Word {
@@ -133,14 +140,8 @@ static READ_WORDS: [Word; 3] = [
     },
 ];
 
-/// The command `rdump read`.
-pub(crate) fn read_command<'a>(alloc: Global) -> Result<Command<'a>, AllocError> {
-    let about = "Read a volume of a remote tape: print its label, and write its blocks to a file";
-    command_of(alloc, "read", about, &READ_WORDS, &[])
-}
-
 /// The words of `rdump mt`.
-static MT_WORDS: [Word; 4] = [
+pub(crate) static MT_WORDS: [Word; 4] = [
     Word::TO,
     Word::DEVICE,
     Word {
@@ -158,9 +159,3 @@ static MT_WORDS: [Word; 4] = [
         missing: "<COUNT> is required",
     },
 ];
-
-/// The command `rdump mt`.
-pub(crate) fn mt_command<'a>(alloc: Global) -> Result<Command<'a>, AllocError> {
-    let about = "Do one operation of mt(1) at a remote tape, and print its answer";
-    command_of(alloc, "mt", about, &MT_WORDS, &[])
-}

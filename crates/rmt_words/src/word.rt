@@ -51,48 +51,52 @@ impl Word {
         form: Form::Required,
         missing: "--device is required",
     };
+
+    /// Whether it is required.
+    fn is_required(&self) -> bool {
+        match self.form {
+            Form::Required | Form::Place => true,
+            _ => false,
+        }
+    }
 }
 
-/// A command with these words, of which the first are required.
-pub(crate) fn command_of<'a>(
+/// Adds a command with these words.
+pub(crate) fn push_command<'a>(
     alloc: Global,
-    name: &'static str,
-    about: &'static str,
-    required: &[Word],
-    others: &[Word],
-) -> Result<Command<'a>, AllocError> {
-    let args = args_of(alloc, required, others)?;
-    Command::new(alloc, name).about(about).args(args)
+    (name, about): (&'static str, &'static str),
+    words: &[Word],
+    commands: &mut Vec<Command<'a>>,
+) -> Result<(), AllocError> {
+    match args_of(alloc, words) {
+        Ok(args) => push(commands, Command::new(alloc, name).about(about).args(args)),
+        Err(refused) => Err(refused),
+    }
 }
 
 /// What clap knows of these words, in order.
-fn args_of<'a>(
-    alloc: Global,
-    required: &[Word],
-    others: &[Word],
-) -> Result<Vec<Arg<'a>>, AllocError> {
+fn args_of<'a>(alloc: Global, words: &[Word]) -> Result<Vec<Arg<'a>>, AllocError> {
     let mut args = Vec::new(alloc);
-    push_args(alloc, required, &mut args)?;
-    push_args(alloc, others, &mut args)?;
+    for word in words {
+        push_arg(alloc, word, &mut args)?;
+    }
     Ok(args)
 }
 
-/// Adds what clap knows of these words.
-fn push_args<'a>(alloc: Global, words: &[Word], args: &mut Vec<Arg<'a>>) -> Result<(), AllocError> {
-    for word in words {
-        push(args, arg_of(alloc, word))?;
+/// Adds what clap knows of a word.
+fn push_arg<'a>(alloc: Global, word: &Word, args: &mut Vec<Arg<'a>>) -> Result<(), AllocError> {
+    match word.form {
+        Form::With(other) => push(args, option(alloc, word).requires_arg(other)),
+        _ => push(args, Ok(arg_of(alloc, word))),
     }
-    Ok(())
 }
 
-/// What clap knows of a word.
-fn arg_of<'a>(alloc: Global, word: &Word) -> Result<Arg<'a>, AllocError> {
+/// What clap knows of a word that needs no other.
+fn arg_of<'a>(alloc: Global, word: &Word) -> Arg<'a> {
     match word.form {
-        Form::Required => Ok(option(alloc, word).required(true)),
-        Form::Optional => Ok(option(alloc, word)),
-        Form::With(other) => option(alloc, word).requires_arg(other),
-        Form::Flag => Ok(flag(alloc, word)),
-        Form::Place => Ok(valued(alloc, word).required(true)),
+        Form::Flag => flag(alloc, word),
+        Form::Place => valued(alloc, word),
+        _ => option(alloc, word),
     }
 }
 
@@ -112,6 +116,7 @@ fn flag<'a>(alloc: Global, word: &Word) -> Arg<'a> {
 fn valued<'a>(alloc: Global, word: &Word) -> Arg<'a> {
     plain(alloc, word)
         .value_name(word.value)
+        .required(word.is_required())
         .action(ArgAction::Set)
 }
 
@@ -121,18 +126,17 @@ fn plain<'a>(alloc: Global, word: &Word) -> Arg<'a> {
 }
 
 /// Adds an item to a vector, where there is one.
-pub(crate) fn push<T: Drop>(
-    items: &mut Vec<T>,
-    item: Result<T, AllocError>,
-) -> Result<(), AllocError> {
-    items.push(item?)?;
-    Ok(())
+fn push<T: Drop>(items: &mut Vec<T>, item: Result<T, AllocError>) -> Result<(), AllocError> {
+    match item {
+        Ok(item) => Ok(items.push(item)?),
+        Err(refused) => Err(refused),
+    }
 }
 
-/// What is wrong where one of these words is not given, of which each is required.
+/// What is wrong where one of these words is required and not given.
 pub(crate) fn check_given(matches: &ArgMatches<'_>, words: &[Word]) -> Result<(), WordFault> {
     for word in words {
-        if matches.get_str(word.name).is_none() {
+        if word.is_required() && matches.get_str(word.name).is_none() {
             return Err(WordFault::Missing(word.missing));
         }
     }

@@ -230,33 +230,21 @@ fn connections_of(text: Option<&str>) -> Result<Option<u64>, Wrong<'static>>
 fn command<'a>(alloc: Global) -> Result<Command<'a>, AllocError>
     ensures { IfOk result (λ c. app_of c ≡ app) }
 {
-    let bin = valued(
-        alloc,
-        "bin",
-        "DIR",
-        "The folder of the reels that are taken away",
-    );
-    let drive = repeated(
-        alloc,
-        "drive",
-        "DEVICE=DIR",
-        "A drive and the folder of its reels [default: /dev/st0 in memory]",
-    );
-    with_word(with_word(with_limits(alloc), bin), drive)
+    let help = "The folder of the reels that are taken away";
+    match with_option(alloc, with_limits(alloc), "bin", "DIR", help) {
+        Ok(command) => command.arg(drives(alloc)),
+        Err(refused) => Err(refused),
+    }
 }
 
 /// The command `rmtd` with the words that say where it serves, and how much.
 fn with_limits<'a>(alloc: Global) -> Result<Command<'a>, AllocError>
     ensures { IfOk result (λ c. app_of c ≡ app_with_limits) }
 {
-    let capacity = valued(
-        alloc,
-        "capacity",
-        "BYTES",
-        "What a reel holds [default: 1048576]",
-    );
-    let connections = valued(alloc, "connections", "N", "End after so many connections");
-    with_word(with_word(with_ways(alloc), capacity), connections)
+    let capacity = "What a reel holds [default: 1048576]";
+    let connections = "End after so many connections";
+    let command = with_option(alloc, with_ways(alloc), "capacity", "BYTES", capacity);
+    with_option(alloc, command, "connections", "N", connections)
 }
 
 /// The command `rmtd` with the words that say where it serves.
@@ -264,19 +252,25 @@ fn with_ways<'a>(alloc: Global) -> Result<Command<'a>, AllocError>
     ensures { IfOk result (λ c. app_of c ≡ app_with_ways) }
 {
     let stdio = flag(alloc, "stdio", "Serve standard input and standard output");
-    let listen = valued(alloc, "listen", "ADDRESS", "Listen at this host and port");
-    with_word(named(alloc).arg(stdio), listen)
+    let help = "Listen at this host and port";
+    with_option(alloc, named(alloc).arg(stdio), "listen", "ADDRESS", help)
 }
 
-/// A command with one more word.
-fn with_word<'a>(
+/// A command with one more word that has a value.
+fn with_option<'a>(
+    alloc: Global,
     command: Result<Command<'a>, AllocError>,
-    word: Arg<'a>,
+    name: &'a str,
+    value: &'a str,
+    help: &'a str,
 ) -> Result<Command<'a>, AllocError>
-    ensures { word.entry.global ≡ false → (a : App) → IfOk command.entry (λ c. app_of c ≡ a)
-        → IfOk result (λ c. app_of c ≡ with_rule a (rule_of word.entry)) }
+    ensures { (a : App) → IfOk command.entry (λ c. app_of c ≡ a)
+        → IfOk result (λ c. app_of c ≡ with_rule a (option_rule name.entry.now)) }
 {
-    command?.arg(word)
+    match command {
+        Ok(command) => command.arg(valued(alloc, name, value, help)),
+        Err(refused) => Err(refused),
+    }
 }
 
 /// The command `rmtd` without its words.
@@ -311,13 +305,13 @@ fn valued<'a>(alloc: Global, name: &'a str, value: &'a str, help: &'a str) -> Ar
         .help(help)
 }
 
-/// A word that is no option, as often as it is given.
-fn repeated<'a>(alloc: Global, id: &'a str, value: &'a str, help: &'a str) -> Arg<'a>
-    ensures rule { rule_of result ≡ words_rule id.entry.now }
+/// The words that are no options, as often as one is given.
+fn drives<'a>(alloc: Global) -> Arg<'a>
+    ensures rule { rule_of result ≡ words_rule (codes "drive") }
     ensures local { result.global ≡ false }
 {
-    Arg::new(alloc, id)
-        .value_name(value)
+    Arg::new(alloc, "drive")
+        .value_name("DEVICE=DIR")
         .action(ArgAction::Append)
-        .help(help)
+        .help("A drive and the folder of its reels [default: /dev/st0 in memory]")
 }

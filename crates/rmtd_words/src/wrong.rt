@@ -32,27 +32,42 @@ impl Wrong<'_> {
             Wrong::TooMany(_) => ErrorKind::TooManyValues,
         }
     }
+
+    /// What is said before the word at fault, that word, and what is said after it.
+    fn parts(&self) -> (&str, &str, &str) {
+        match self {
+            Wrong::Ways => (
+                "one of --stdio and --listen <ADDRESS> is given, and not both",
+                "",
+                "",
+            ),
+            Wrong::Capacity => (
+                "invalid value for '--capacity <BYTES>': a number is 0 to 9223372036854775807 in digits",
+                "",
+                "",
+            ),
+            Wrong::Connections => (
+                "invalid value for '--connections <N>': a number is 0 to 9223372036854775807 in digits",
+                "",
+                "",
+            ),
+            Wrong::NoBin(word) => ("the drive '", word, "' is given, and --bin <DIR> is not"),
+            Wrong::TooMany(word) => ("unexpected drive '", word, "': there are at most 64"),
+            Wrong::Drive(word) => (
+                "invalid drive '",
+                word,
+                "': it is DEVICE=DIR, with a device of 1 to 255 bytes of one line, and a folder",
+            ),
+            Wrong::Again(word) => ("invalid drive '", word, "': its device is named before"),
+        }
+    }
 }
 
 impl fmt::Display for Wrong<'_> {
     fn fmt<W: fmt::Write>(&self, f: &mut fmt::Formatter<W>) -> fmt::Result {
-        match self {
-            Wrong::Ways => f.write_str(
-                "one of --stdio and --listen <ADDRESS> is given, and not both",
-            ),
-            Wrong::Capacity => f.write_str(
-                "invalid value for '--capacity <BYTES>': a number is 0 to 9223372036854775807 in digits",
-            ),
-            Wrong::Connections => f.write_str(
-                "invalid value for '--connections <N>': a number is 0 to 9223372036854775807 in digits",
-            ),
-            Wrong::NoBin(word) => write!(f, "the drive '{word}' is given, and --bin <DIR> is not"),
-            Wrong::TooMany(word) => write!(f, "unexpected drive '{word}': there are at most 64"),
-            Wrong::Drive(word) => write!(
-                f,
-                "invalid drive '{word}': it is DEVICE=DIR, with a device of 1 to 255 bytes of one line, and a folder"
-            ),
-            Wrong::Again(word) => write!(f, "invalid drive '{word}': its device is named before"),
-        }
+        let (before, word, after) = self.parts();
+        f.write_str(before)?;
+        f.write_str(word)?;
+        f.write_str(after)
     }
 }

@@ -32,11 +32,9 @@ impl FarEnd {
         requires { length drives.stacks.shop.racks ≤ length drives.holds.numbers }
         ensures { IfSome result (λ far. IsMadeWith drives far.drives far.session) }
     {
-        let wire = RequestReader::new(alloc).ok()?;
         let seat = drives.holds.seat()?;
-        let Ok(session) = Session::new(alloc, seat) else {
-            return None;
-        };
+        let session = Session::new(alloc, seat).ok()?;
+        let wire = RequestReader::new(alloc).ok()?;
         Some(FarEnd {
             alloc,
             drives,
@@ -49,13 +47,9 @@ impl FarEnd {
     pub(super) fn renew(&mut self) -> Option<()> {
         more_seats::<ListStacks>();
         self.end();
-        let wire = RequestReader::new(self.alloc).ok()?;
+        self.wire = RequestReader::new(self.alloc).ok()?;
         let seat = self.drives.holds.seat()?;
-        let Ok(session) = Session::new(self.alloc, seat) else {
-            return None;
-        };
-        self.wire = wire;
-        self.session = session;
+        self.session = Session::new(self.alloc, seat).ok()?;
         Some(())
     }
 

@@ -1,13 +1,15 @@
-use Rattle.std.proofs.Common.{ap, ap₂, ◌∙◌}
+use Rattle.std.proofs.Common.{◌≡◌, ap₂, codes, subst, IfOk, ◌∙◌}
 use Rattle.std.proofs.lemmas.Result.{IfOk-weaker}
-use Rattle.clap.specs.Words.{rule_of, with_rule}
-use Rattle.rmtd_words.specs.Rmtd.{app, app_with_limits}
+use Rattle.clap.specs.Words.{App, app_of, with_rule}
+use Rattle.rmtd_words.specs.Rmtd.{app, app_with_limits, option_rule}
 use Rattle.rmtd_words.proofs.rmtd_line.command.Goals as goal
 
-pub returns : goal.returns
+-- the command with all of its words that are options
+abbrev most : App
+most = with_rule app_with_limits (option_rule (codes "bin"))
+
+pub returns-in-Ok : goal.returns-in-Ok
 unfolding app
-returns c =
-    IfOk-weaker c.with_word-2.result _ _
-    (λ _ e. e ∙ ap₂ with_rule (ap (with_rule app_with_limits) c.valued-bin.ensures.rule) c.repeated-drive.ensures.rule)
-    (c.with_word-2.ensures c.repeated-drive.ensures.local (with_rule app_with_limits (rule_of c.valued-bin.result))
-    (c.with_word.ensures c.valued-bin.ensures.local app_with_limits c.with_limits.ensures))
+returns-in-Ok c =
+    let e : app_of c.in-Ok.command ≡ most = subst (λ r. IfOk r (λ x. app_of x ≡ most)) c.in-Ok.is (c.with_option.ensures app_with_limits c.with_limits.ensures) in
+    IfOk-weaker c.arg.result _ _ (λ _ added. added.shape c.drives.ensures.local ∙ ap₂ with_rule e c.drives.ensures.rule) c.arg.ensures
