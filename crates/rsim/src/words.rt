@@ -8,8 +8,7 @@ use std::alloc::{AllocError, Global};
 /// Else clap's text for the user: what is wrong with the words, or the help or the version where they ask for it. Where
 /// memory was refused its kind is `OutOfMemory`.
 pub(crate) fn file_in<'a>(alloc: Global, words: &'a [&'a str]) -> Result<&'a str, Error> {
-    let mut rsim = command(alloc)?;
-    let matches = rsim.try_get_matches_from_mut(words)?;
+    let matches = command(alloc)?.try_get_matches_from(words)?;
     Ok(matches.get_str("file").unwrap_or(""))
 }
 

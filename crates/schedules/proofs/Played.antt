@@ -32,7 +32,7 @@ not_made w u event i stopped =
     runs_none w u (take i (event ∷ [])) (ap (λ n. take n (event ∷ [])) first) stopped.made
 
 -- whether a write failed is told on
-halt_whole : (A B : Type 0) (halt : Halt) → is_whole {T = A} (Err halt) ≡ is_whole {T = B} (Err halt)
+pub halt_whole : (A B : Type 0) (halt : Halt) → is_whole {T = A} (Err halt) ≡ is_whole {T = B} (Err halt)
 halt_whole A B BadLine = refl
 halt_whole A B NotPossible = refl
 halt_whole A B OutOfMemory = refl

@@ -1,10 +1,10 @@
 -- What a world tells, as the lines of its report say it.
-use Rattle.std.proofs.Common.{◌≡◌, ◌≢◌, ◌+◌, ◌<◌, ℕ, zero, suc, List, [], ◌∷◌, ◌++◌, Bool, true, false, Option, Some, None, refl, sym, ap, ◌∙◌, length, map, take, get_or, arith, append_assoc, append-nil, if◌then◌else◌}
+use Rattle.std.proofs.Common.{◌≡◌, ◌≢◌, ◌+◌, ◌<◌, ℕ, zero, suc, List, [], ◌∷◌, ◌++◌, Bool, true, false, Option, Some, None, refl, sym, ap, inl, inr, ◌∙◌, length, map, take, get_or, arith, append_assoc, append-nil, if◌then◌else◌}
 use Rattle.std.specs.Prelude.{slice_index_or, slice_get, unwrap_or}
 use Rattle.std.specs.List.{flat_map}
 use Rattle.std.specs.Option.{option_and_then}
-use Rattle.std.proofs.lemmas.List.{take_more, flat_map_more}
-use Rattle.std.proofs.lemmas.Option.{slice_get_within, slice_get-get_or, get_or_from_slice_get, same_Some}
+use Rattle.std.proofs.lemmas.List.{take_more, take_all, flat_map_more, map-append}
+use Rattle.std.proofs.lemmas.Option.{slice_get_within, slice_get-get_or, slice_get_cases, get_or_from_slice_get, same_Some}
 use Rattle.std.specs.Str.{bytes_eq}
 use Rattle.std.proofs.lemmas.Slice.Eq.{bytes_eq-Decides}
 use Rattle.tape.specs.Tape.{PlainEntry}
@@ -85,6 +85,30 @@ pub entry_more : (w : World) (reel before now : List ℕ) (i n : ℕ) → Some n
     → now ≡ before ++ flat_map entry_text (take i (entries_of_reel w reel))
     → now ++ length_text n ≡ before ++ flat_map entry_text (take (i + 1) (entries_of_reel w reel))
 entry_more w reel before now i n told e = entry_in (entries_on w.hall reel) before now i n told e
+
+-- one line more, of what is shown of an element
+pub shown_more : {X Y : Type 0} (f : Y → List ℕ) (show : X → Y) (before now : List ℕ) (xs : List X) (i : ℕ) (x : X) → i < length xs → x ≡ get_or xs i x
+    → now ≡ before ++ flat_map f (map show (take i xs)) → now ++ f (show x) ≡ before ++ flat_map f (map show (take (i + 1) xs))
+shown_more f show before now xs i x within is e =
+    let more : take (i + 1) xs ≡ take i xs ++ x ∷ [] = take_more xs i x within ∙ ap (λ y. take i xs ++ y ∷ []) (sym is) in
+    let shown : map show (take (i + 1) xs) ≡ map show (take i xs) ++ show x ∷ [] = ap (λ l. map show l) more ∙ map-append show (take i xs) (x ∷ []) in
+    ap (λ t. t ++ f (show x)) e ∙ flat_map_more f before (map show (take i xs)) (show x) ∙ ap (λ l. before ++ flat_map f l) (sym shown)
+
+over_at : (entries : List PlainEntry) (i : ℕ) → None ≡ told_length (slice_get entries i) → take i entries ≡ entries
+over_at entries i told = elim (slice_get_cases entries i).1 [
+  | inl here ↦ absurd (let some : None ≡ told_length (Some here.0) = told ∙ ap (λ o. told_length o) here.2 in cc)
+  | inr past ↦ take_all i entries past.0
+]
+
+over_in : (o : Option (List PlainEntry)) (i : ℕ) → None ≡ told_length (option_and_then (λ entries. slice_get entries i) o)
+    → take i (unwrap_or o []) ≡ unwrap_or o []
+over_in None i told = take_all i [] (omega arith)
+over_in (Some entries) i told = over_at entries i told
+
+-- no entry is left of a reel
+pub entries_over : (w : World) (reel before now : List ℕ) (i : ℕ) → None ≡ told_length (entry_on w reel i)
+    → now ≡ before ++ flat_map entry_text (take i (entries_of_reel w reel)) → now ≡ before ++ flat_map entry_text (entries_of_reel w reel)
+entries_over w reel before now i told e = e ∙ ap (λ l. before ++ flat_map entry_text l) (over_in (entries_on w.hall reel) i told)
 
 -- there is a volume in each place
 pub count_there : (counts : List Count) (i : ℕ) → i < length counts → ¬ (None ≡ slice_get counts i)

@@ -31,6 +31,11 @@ impl<'a> Fields<'a> {
         Some(field)
     }
 
+    /// The next field, if it is text.
+    pub(crate) fn word(&mut self) -> Option<&'a str> {
+        str::from_utf8(self.field()?).ok()
+    }
+
     /// Whether the last field was read.
     pub(crate) fn is_over(&self) -> bool {
         self.rest.is_none()
@@ -38,7 +43,7 @@ impl<'a> Fields<'a> {
 
     /// The next field, if it is a number.
     pub(crate) fn number(&mut self) -> Option<u64> {
-        number_of(self.field()?)
+        number_of(self.word()?)
     }
 
     /// The next field, if it is the number of a connection.
@@ -54,8 +59,8 @@ impl<'a> Fields<'a> {
 
     /// The next field, if it is a number or `all`.
     pub(crate) fn count(&mut self) -> Option<Count> {
-        match self.field()? {
-            b"all" => Some(Count::All),
+        match self.word()? {
+            "all" => Some(Count::All),
             digits => Some(Count::Exactly(number_of(digits)? as usize)),
         }
     }

@@ -20,13 +20,15 @@ impl<'a> HexText<'a> {
 
     /// Its bytes.
     pub(crate) fn bytes(&self, alloc: Global) -> Result<Vec<u8>, AllocError> {
-        let mut bytes = Vec::with_capacity(alloc, self.digits.len() / 2)?;
-        let mut rest = self.digits;
-        while let [high, low, more @ ..] = rest {
-            bytes.push(digit_value(*high) * 16 + digit_value(*low))?;
-            rest = more;
-        }
-        Ok(bytes)
+        self.digits.chunks(2).map(byte_of).collect(alloc)
+    }
+}
+
+/// The byte of two digits.
+fn byte_of(digits: &[u8]) -> u8 {
+    match digits {
+        [high, low] => digit_value(*high) * 16 + digit_value(*low),
+        _ => 0,
     }
 }
 

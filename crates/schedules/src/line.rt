@@ -4,12 +4,12 @@ use crate::count::Count;
 use crate::fields::Fields;
 use crate::hex_text::HexText;
 use crate::names::Names;
-use dump_client::{Answer, Run};
+use dump_client::Answer;
 use tape::Trouble;
 use tape_world::Event;
 
 /// What a line that is a command says.
-#[derive(Drop)]
+#[derive(Clone, Copy)]
 pub(crate) enum Line<'a> {
     /// There is a drive with these reels, which are empty and take so many bytes each.
     Drive {
@@ -17,9 +17,12 @@ pub(crate) enum Line<'a> {
         capacity: u64,
         reels: Names<'a>,
     },
-    /// A run is begun.
+    /// A run is begun: its device, the name of the file system, level, date, base date, the bytes of a block, and the number of
+    /// blocks.
     Run {
-        run: Run,
+        device: &'a [u8],
+        name: &'a str,
+        numbers: [u64; 5],
     },
     /// The operator lays these reels on the stack of a drive.
     Arrange {
@@ -31,13 +34,18 @@ pub(crate) enum Line<'a> {
         connection: usize,
         text: HexText<'a>,
     },
-    /// Bytes on the way reach the server.
-    ToServer {
-        connection: usize,
-        count: Count,
+    /// Anything else.
+    Act {
+        act: Act,
     },
-    /// Bytes on the way reach the other side.
-    ToClient {
+}
+
+/// What a line says that names no device, and has no bytes.
+#[derive(Clone, Copy)]
+pub(crate) enum Act {
+    /// Bytes on the way reach an end.
+    Arrives {
+        end: End,
         connection: usize,
         count: Count,
     },
@@ -48,63 +56,61 @@ pub(crate) enum Line<'a> {
     },
     /// Any other event.
     Event {
-        event: Event<'a>,
+        event: Event<'static>,
     },
+}
+
+/// An end of a connection.
+#[derive(Clone, Copy)]
+pub(crate) enum End {
+    /// The server.
+    Server,
+    /// The other side.
+    Client,
 }
 
 /// What a command says, of a line that is no comment. None where it is none of a schedule.
 pub(crate) fn read_command(text: &[u8]) -> Option<Line<'_>> {
     let mut fields = Fields::new(Some(text));
-    let command = str::from_utf8(fields.field()?).ok()?;
-    let line = read_words(command, &mut fields)?;
-    if fields.is_over() { Some(line) } else { None }
+    let line = read_words(&mut fields);
+    if fields.is_over() { line } else { None }
 }
 
 /// What a command says with the fields that it takes.
-fn read_words<'a>(command: &str, fields: &mut Fields<'a>) -> Option<Line<'a>> {
-    match command {
+fn read_words<'a>(fields: &mut Fields<'a>) -> Option<Line<'a>> {
+    match fields.word()? {
         "drive" => read_drive(fields),
         "run" => read_run(fields),
         "arrange" => read_arrange(fields),
         "says" => read_says(fields),
-        "to-server" => read_to_server(fields),
-        "to-client" => read_to_client(fields),
-        "pump" => read_pump(fields),
-        _ => read_other(command, fields),
+        command => match read_act(command, fields) {
+            Some(act) => Some(Line::Act { act }),
+            None => None,
+        },
     }
-}
-
-/// Any other event.
-fn read_other<'a>(command: &str, fields: &mut Fields<'a>) -> Option<Line<'a>> {
-    let event = read_event(command, fields)?;
-    Some(Line::Event { event })
 }
 
 /// A drive: its device, the capacity of its reels, and their names.
 fn read_drive<'a>(fields: &mut Fields<'a>) -> Option<Line<'a>> {
-    let device = fields.device()?;
-    let capacity = fields.number()?;
-    let reels = fields.names()?;
-    Some(Line::Drive {
-        device,
-        capacity,
-        reels,
-    })
+    match (fields.device(), fields.number(), fields.names()) {
+        (Some(device), Some(capacity), Some(reels)) => Some(Line::Drive {
+            device,
+            capacity,
+            reels,
+        }),
+        _ => None,
+    }
 }
 
-/// A run: its device, the name of the file system, level, date, base date, the bytes of a block, and the number of blocks.
+/// A run: its device, the name of the file system, and its numbers.
 fn read_run<'a>(fields: &mut Fields<'a>) -> Option<Line<'a>> {
-    let device = fields.device()?;
-    let name = str::from_utf8(fields.field()?).ok()?;
-    run_of(device, name, read_numbers(fields)?)
-}
-
-/// The run of this device, name and numbers, if they are one's.
-fn run_of<'a>(device: &[u8], name: &str, numbers: [u64; 5]) -> Option<Line<'a>> {
-    let [level, date, since, block, blocks] = numbers;
-    match Run::new(device, name, level, date, since, block, blocks) {
-        Ok(run) => Some(Line::Run { run }),
-        Err(_) => None,
+    match (fields.device(), fields.word(), read_numbers(fields)) {
+        (Some(device), Some(name), Some(numbers)) => Some(Line::Run {
+            device,
+            name,
+            numbers,
+        }),
+        _ => None,
     }
 }
 
@@ -119,112 +125,122 @@ fn read_numbers(fields: &mut Fields<'_>) -> Option<[u64; 5]> {
 
 /// A device, and the names of reels.
 fn read_arrange<'a>(fields: &mut Fields<'a>) -> Option<Line<'a>> {
-    let device = fields.device()?;
-    let reels = fields.names()?;
-    Some(Line::Arrange { device, reels })
-}
-
-/// A connection, and bytes.
-fn read_says<'a>(fields: &mut Fields<'a>) -> Option<Line<'a>> {
-    let connection = fields.connection()?;
-    let text = fields.hex()?;
-    Some(Line::Says { connection, text })
-}
-
-/// A connection, and a count.
-fn read_to_server<'a>(fields: &mut Fields<'a>) -> Option<Line<'a>> {
-    let connection = fields.connection()?;
-    let count = fields.count()?;
-    Some(Line::ToServer { connection, count })
-}
-
-/// A connection, and a count.
-fn read_to_client<'a>(fields: &mut Fields<'a>) -> Option<Line<'a>> {
-    let connection = fields.connection()?;
-    let count = fields.count()?;
-    Some(Line::ToClient { connection, count })
-}
-
-/// A connection, and a number of rounds.
-fn read_pump<'a>(fields: &mut Fields<'a>) -> Option<Line<'a>> {
-    let connection = fields.connection()?;
-    let rounds = fields.number()?;
-    Some(Line::Pump { connection, rounds })
-}
-
-/// The event that a command is which takes a connection at most.
-fn read_event<'a>(command: &str, fields: &mut Fields<'a>) -> Option<Event<'a>> {
-    match command {
-        "serve" => read_serve(fields),
-        "send" => read_send(fields),
-        "cut" => read_cut(fields),
-        "end-server" => read_end_at_server(fields),
-        "end-client" => read_end_at_client(fields),
-        _ => read_word(command),
-    }
-}
-
-/// A connection.
-fn read_cut<'a>(fields: &mut Fields<'a>) -> Option<Event<'a>> {
-    let connection = fields.connection()?;
-    Some(Event::Cut { connection })
-}
-
-/// A connection.
-fn read_end_at_server<'a>(fields: &mut Fields<'a>) -> Option<Event<'a>> {
-    let connection = fields.connection()?;
-    Some(Event::EndAtServer { connection })
-}
-
-/// A connection.
-fn read_end_at_client<'a>(fields: &mut Fields<'a>) -> Option<Event<'a>> {
-    let connection = fields.connection()?;
-    Some(Event::EndAtClient { connection })
-}
-
-/// The event that a command is which takes nothing.
-fn read_word<'a>(command: &str) -> Option<Event<'a>> {
-    match command {
-        "connect" => Some(Event::Connect),
-        "restart-server" => Some(Event::ServerRestart),
-        "restart-client" => Some(Event::ClientRestart),
-        "retry" => Some(Event::Respond {
-            answer: Answer::Retry,
-        }),
-        "abandon" => Some(Event::Respond {
-            answer: Answer::Abandon,
-        }),
-        "stranger" => Some(Event::Stranger),
-        "enter" => Some(Event::Enter),
+    match (fields.device(), fields.names()) {
+        (Some(device), Some(reels)) => Some(Line::Arrange { device, reels }),
         _ => None,
     }
 }
 
-/// Nothing, or `fault`.
-fn read_send<'a>(fields: &mut Fields<'a>) -> Option<Event<'a>> {
-    match fields.field() {
-        None => Some(Event::Send { fails: false }),
-        Some(b"fault") => Some(Event::Send { fails: true }),
-        Some(_) => None,
+/// A connection, and bytes.
+fn read_says<'a>(fields: &mut Fields<'a>) -> Option<Line<'a>> {
+    match (fields.connection(), fields.hex()) {
+        (Some(connection), Some(text)) => Some(Line::Says { connection, text }),
+        _ => None,
     }
 }
 
-/// A connection, and the trouble of the device, if there is one.
-fn read_serve<'a>(fields: &mut Fields<'a>) -> Option<Event<'a>> {
+/// What a command says that names no device, and has no bytes.
+fn read_act(command: &str, fields: &mut Fields<'_>) -> Option<Act> {
+    match command {
+        "to-server" => read_arrival(End::Server, fields),
+        "to-client" => read_arrival(End::Client, fields),
+        "pump" => read_pump(fields),
+        "serve" => read_serve(fields),
+        _ => read_event(command, fields),
+    }
+}
+
+/// A connection, and a count.
+fn read_arrival(end: End, fields: &mut Fields<'_>) -> Option<Act> {
     let connection = fields.connection()?;
-    let trouble = match fields.field() {
-        None => Trouble::None,
-        Some(word) => read_trouble(word, fields)?,
-    };
-    Some(Event::Serve {
+    let count = fields.count()?;
+    Some(Act::Arrives {
+        end,
         connection,
-        trouble,
+        count,
     })
 }
 
-/// The trouble that a word names.
-fn read_trouble(word: &[u8], fields: &mut Fields<'_>) -> Option<Trouble> {
-    match str::from_utf8(word).ok()? {
+/// A connection, and a number of rounds.
+fn read_pump(fields: &mut Fields<'_>) -> Option<Act> {
+    let connection = fields.connection()?;
+    let rounds = fields.number()?;
+    Some(Act::Pump { connection, rounds })
+}
+
+/// A connection, and the trouble of the device, if there is one.
+fn read_serve(fields: &mut Fields<'_>) -> Option<Act> {
+    let connection = fields.connection()?;
+    let trouble = read_trouble(fields)?;
+    let event = Event::Serve {
+        connection,
+        trouble,
+    };
+    Some(Act::Event { event })
+}
+
+/// The event that a command is which takes a connection at most.
+fn read_event(command: &str, fields: &mut Fields<'_>) -> Option<Act> {
+    if fields.is_over() {
+        return event_of(command);
+    }
+    if command == "send" {
+        return read_send(fields);
+    }
+    event_at(command, fields.connection()?)
+}
+
+/// The event that a command is which takes nothing.
+fn event_of(command: &str) -> Option<Act> {
+    let event = match command {
+        "connect" => Event::Connect,
+        "send" => Event::Send { fails: false },
+        "restart-server" => Event::ServerRestart,
+        "restart-client" => Event::ClientRestart,
+        "stranger" => Event::Stranger,
+        "enter" => Event::Enter,
+        _ => return answer_of(command),
+    };
+    Some(Act::Event { event })
+}
+
+/// The answer that a command is.
+fn answer_of(command: &str) -> Option<Act> {
+    let answer = match command {
+        "retry" => Answer::Retry,
+        "abandon" => Answer::Abandon,
+        _ => return None,
+    };
+    let event = Event::Respond { answer };
+    Some(Act::Event { event })
+}
+
+/// A send whose read fails, as `fault` says.
+fn read_send(fields: &mut Fields<'_>) -> Option<Act> {
+    if fields.word()? != "fault" {
+        return None;
+    }
+    let event = Event::Send { fails: true };
+    Some(Act::Event { event })
+}
+
+/// The event that a command is on this connection.
+fn event_at(command: &str, connection: usize) -> Option<Act> {
+    let event = match command {
+        "cut" => Event::Cut { connection },
+        "end-server" => Event::EndAtServer { connection },
+        "end-client" => Event::EndAtClient { connection },
+        _ => return None,
+    };
+    Some(Act::Event { event })
+}
+
+/// The trouble that is named: none behind the last field.
+fn read_trouble(fields: &mut Fields<'_>) -> Option<Trouble> {
+    if fields.is_over() {
+        return Some(Trouble::None);
+    }
+    match fields.word()? {
         "kept" => Some(Trouble::Kept),
         "lost" => Some(Trouble::Lost),
         "written" => Some(Trouble::Written(written_of(fields.number()?))),

@@ -43,7 +43,7 @@ impl<'a> Lines<'a> {
         ensures { OnSome result (left_in self.new.rest < left_in self.old.rest) }
     {
         while let Some(line) = self.line() {
-            if !line.is_empty() && line.first() != Some(&b'#') {
+            if !matches!(line, [] | [b'#', ..]) {
                 self.number = self.passed;
                 return Some(line);
             }

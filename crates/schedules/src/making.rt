@@ -2,7 +2,9 @@
 ghost use Rattle.rmt_peer.specs.Print.{IsPrinted};
 ghost use Rattle.schedules.specs.Playing.{IsPlayed, failed_line, is_whole};
 
+use crate::count::Count;
 use crate::halt::Halt;
+use crate::line::End;
 use crate::printing::print_failure;
 use rmt_wire::Counted;
 use std::io::Write;
@@ -45,9 +47,7 @@ fn make_if_possible<W: Write>(
     match make(world, event, out) {
         Ok(()) => Ok(true),
         Err(Halt::NotPossible) => Ok(false),
-        Err(Halt::BadLine) => Err(Halt::BadLine),
-        Err(Halt::OutOfMemory) => Err(Halt::OutOfMemory),
-        Err(Halt::StreamFailed) => Err(Halt::StreamFailed),
+        Err(halt) => Err(halt),
     }
 }
 
@@ -78,18 +78,10 @@ fn make_round<W: Write>(
     ensures { IsPlayed W.contents world.old out.old (is_whole result) world.new out.new }
 {
     let sent = send_own(world, connection, out)?;
-    let arrived = arrive(world, connection, out)?;
-    let trouble = Trouble::None;
-    let served = make_if_possible(
-        world,
-        Event::Serve {
-            connection,
-            trouble,
-        },
-        out,
-    )?;
-    let heard = come_back(world, connection, out)?;
-    Ok(sent || arrived || served || heard)
+    let arrived = arrive(world, End::Server, connection, out)?;
+    let served = serve(world, connection, out)?;
+    let heard = arrive(world, End::Client, connection, out)?;
+    Ok(sent | arrived | served | heard)
 }
 
 /// The client sends its next request, where the connection is its own and that is possible. Answers whether it was.
@@ -106,32 +98,45 @@ fn send_own<W: Write>(
     make_if_possible(world, Event::Send { fails: false }, out)
 }
 
-/// All that is on the way to the server and has room there arrives, where that is possible. Answers whether it was.
+/// One turn of the server, where that is possible. Answers whether it was.
+fn serve<W: Write>(world: &mut World, connection: usize, out: &mut Counted<W>) -> Result<bool, Halt>
+    ensures { IsPlayed W.contents world.old out.old (is_whole result) world.new out.new }
+{
+    let trouble = Trouble::None;
+    make_if_possible(
+        world,
+        Event::Serve {
+            connection,
+            trouble,
+        },
+        out,
+    )
+}
+
+/// All that is on the way to that end and has room there arrives, where that is possible. Answers whether it was.
 fn arrive<W: Write>(
     world: &mut World,
+    end: End,
     connection: usize,
     out: &mut Counted<W>,
 ) -> Result<bool, Halt>
     ensures { IsPlayed W.contents world.old out.old (is_whole result) world.new out.new }
 {
-    let count = on_way(world, connection).0;
-    make_if_possible(world, Event::ToServer { connection, count }, out)
+    let event = arrival(world, end, connection, Count::All);
+    make_if_possible(world, event, out)
 }
 
-/// All that is on the way to the other side arrives, where that is possible. Answers whether it was.
-fn come_back<W: Write>(
-    world: &mut World,
-    connection: usize,
-    out: &mut Counted<W>,
-) -> Result<bool, Halt>
-    ensures { IsPlayed W.contents world.old out.old (is_whole result) world.new out.new }
-{
-    let count = on_way(world, connection).1;
-    make_if_possible(world, Event::ToClient { connection, count }, out)
-}
-
-/// How many of the bytes on the way can reach the server now, and how many the other side: none where there is no such
-/// connection.
-pub(crate) fn on_way(world: &World, connection: usize) -> (usize, usize) {
-    world.on_way(connection).unwrap_or((0, 0))
+/// So many of the bytes on the way that can reach that end now do: none where there is no such connection.
+pub(crate) fn arrival<'a>(world: &World, end: End, connection: usize, count: Count) -> Event<'a> {
+    let (to_server, to_client) = world.on_way(connection).unwrap_or((0, 0));
+    match end {
+        End::Server => Event::ToServer {
+            connection,
+            count: count.of(to_server),
+        },
+        End::Client => Event::ToClient {
+            connection,
+            count: count.of(to_client),
+        },
+    }
 }

@@ -40,10 +40,15 @@ impl<'a> Names<'a> {
     /// A list of them.
     pub(crate) fn list(&self, alloc: Global) -> Result<Vec<&'a [u8]>, AllocError> {
         let mut list = Vec::new(alloc);
-        let mut fields = Fields::new(self.text);
-        while let Some(field) = fields.field() {
-            list.push(field)?;
-        }
+        push_fields(&mut list, Fields::new(self.text))?;
         Ok(list)
     }
+}
+
+/// Appends all fields.
+fn push_fields<'a>(list: &mut Vec<&'a [u8]>, mut fields: Fields<'a>) -> Result<(), AllocError> {
+    while let Some(field) = fields.field() {
+        list.push(field)?;
+    }
+    Ok(())
 }

@@ -4,13 +4,9 @@
 const NUMBER_LIMIT: u64 = 9_223_372_036_854_775_807;
 
 /// The number that a field says, in digits alone.
-pub(crate) fn number_of(field: &[u8]) -> Option<u64> {
-    if field.first() == Some(&b'+') {
-        return None;
-    }
-    let text = str::from_utf8(field).ok()?;
+pub(crate) fn number_of(text: &str) -> Option<u64> {
     match text.parse::<u64>() {
-        Ok(n) if n <= NUMBER_LIMIT => Some(n),
+        Ok(n) if n <= NUMBER_LIMIT && !text.starts_with('+') => Some(n),
         _ => None,
     }
 }

@@ -4,9 +4,9 @@ ghost use Rattle.schedules.specs.Playing.{IsPlayed, is_whole};
 use crate::count::Count;
 use crate::halt::Halt;
 use crate::hex_text::HexText;
-use crate::line::{Line, read_command};
+use crate::line::{Act, End, Line, read_command};
 use crate::lines::Lines;
-use crate::making::{make, on_way, pump};
+use crate::making::{arrival, make, pump};
 use crate::names::Names;
 use dump_client::{Run, State};
 use rmt_wire::Counted;
@@ -24,13 +24,13 @@ pub(crate) fn play_all<W: Write>(
     ensures { IsPlayed W.contents world.old out.old (is_whole result) world.new out.new }
 {
     while let Some(text) = lines.command() {
-        play_text(alloc, world, text, out)?;
+        play(alloc, world, text, out)?;
     }
     Ok(())
 }
 
-/// Does what a command says.
-fn play_text<W: Write>(
+/// Does what a command says. A drive's has no place here.
+fn play<W: Write>(
     alloc: Global,
     world: &mut World,
     text: &[u8],
@@ -39,29 +39,51 @@ fn play_text<W: Write>(
     ensures { IsPlayed W.contents world.old out.old (is_whole result) world.new out.new }
 {
     match read_command(text) {
-        Some(line) => play(alloc, world, line, out),
         None => Err(Halt::BadLine),
+        Some(Line::Drive { .. }) => Err(Halt::BadLine),
+        Some(
+            Line::Run {
+                device,
+                name,
+                numbers,
+            },
+        ) => begin_run(alloc, world, device, name, numbers, out),
+        Some(Line::Arrange { device, reels }) => arrange(alloc, world, device, reels, out),
+        Some(Line::Says { connection, text }) => say(alloc, world, connection, text, out),
+        Some(Line::Act { act }) => play_act(world, act, out),
     }
 }
 
-/// Does what a line says. A drive's has no place here.
-fn play<W: Write>(
+/// Does what a line says that names no device, and has no bytes.
+fn play_act<W: Write>(world: &mut World, act: Act, out: &mut Counted<W>) -> Result<(), Halt>
+    ensures { IsPlayed W.contents world.old out.old (is_whole result) world.new out.new }
+{
+    match act {
+        Act::Arrives {
+            end,
+            connection,
+            count,
+        } => arrive(world, end, connection, count, out),
+        Act::Pump { connection, rounds } => pump(world, connection, rounds, out),
+        Act::Event { event } => make(world, event, out),
+    }
+}
+
+/// Begins the run of this device, name and numbers, if they are one's.
+fn begin_run<W: Write>(
     alloc: Global,
     world: &mut World,
-    line: Line<'_>,
+    device: &[u8],
+    name: &str,
+    numbers: [u64; 5],
     out: &mut Counted<W>,
 ) -> Result<(), Halt>
     ensures { IsPlayed W.contents world.old out.old (is_whole result) world.new out.new }
 {
-    match line {
-        Line::Drive { .. } => Err(Halt::BadLine),
-        Line::Run { run } => start_run(alloc, world, &run, out),
-        Line::Arrange { device, reels } => arrange(alloc, world, device, reels, out),
-        Line::Says { connection, text } => say(alloc, world, connection, text, out),
-        Line::ToServer { connection, count } => to_server(world, connection, count, out),
-        Line::ToClient { connection, count } => to_client(world, connection, count, out),
-        Line::Pump { connection, rounds } => pump(world, connection, rounds, out),
-        Line::Event { event } => make(world, event, out),
+    let [level, date, since, block, blocks] = numbers;
+    match Run::new(device, name, level, date, since, block, blocks) {
+        Ok(run) => start_run(alloc, world, &run, out),
+        Err(_) => Err(Halt::BadLine),
     }
 }
 
@@ -118,11 +140,17 @@ fn arrange<W: Write>(
 ) -> Result<(), Halt>
     ensures { IsPlayed W.contents world.old out.old (is_whole result) world.new out.new }
 {
-    let Ok(reels) = reels.list(alloc) else {
-        return Err(Halt::OutOfMemory);
-    };
-    let reels = reels.as_slice();
-    make(world, Event::Arrange { drive, reels }, out)
+    match reels.list(alloc) {
+        Ok(reels) => make(
+            world,
+            Event::Arrange {
+                drive,
+                reels: &reels,
+            },
+            out,
+        ),
+        Err(_) => Err(Halt::OutOfMemory),
+    }
 }
 
 /// A stranger sends bytes.
@@ -142,28 +170,16 @@ fn say<W: Write>(
     make(world, Event::Says { connection, bytes }, out)
 }
 
-/// Bytes on the way reach the server.
-fn to_server<W: Write>(
+/// Bytes on the way reach that end.
+fn arrive<W: Write>(
     world: &mut World,
+    end: End,
     connection: usize,
     count: Count,
     out: &mut Counted<W>,
 ) -> Result<(), Halt>
     ensures { IsPlayed W.contents world.old out.old (is_whole result) world.new out.new }
 {
-    let count = count.of(on_way(world, connection).0);
-    make(world, Event::ToServer { connection, count }, out)
-}
-
-/// Bytes on the way reach the other side.
-fn to_client<W: Write>(
-    world: &mut World,
-    connection: usize,
-    count: Count,
-    out: &mut Counted<W>,
-) -> Result<(), Halt>
-    ensures { IsPlayed W.contents world.old out.old (is_whole result) world.new out.new }
-{
-    let count = count.of(on_way(world, connection).1);
-    make(world, Event::ToClient { connection, count }, out)
+    let event = arrival(world, end, connection, count);
+    make(world, event, out)
 }

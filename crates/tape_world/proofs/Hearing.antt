@@ -1,10 +1,11 @@
 -- What the client hears, and what of a world that leaves.
-use Rattle.std.proofs.Common.{◌≡◌, ◌⊎◌, ◌==◌, nat_lt, Bool, true, false, List, [], ◌∷◌, ◌++◌, length, map, drop, cond, get_or, Option, Some, None, refl, sym, ap, subst, ◌∙◌, inl, inr, ℕ, arith}
+use Rattle.std.proofs.Common.{◌≡◌, ◌⊎◌, ◌==◌, ◌<◌, ◌≤◌, suc, nat_lt, drop-cons, Bool, true, false, List, [], ◌∷◌, ◌++◌, length, map, drop, cond, get_or, Option, Some, None, refl, sym, ap, subst, ◌∙◌, inl, inr, ℕ, arith}
 use Rattle.std.specs.Prelude.{IsTrue, slice_get, option_to_list, Result, Ok, Err}
 use Rattle.std.specs.List.{find}
 use Rattle.std.proofs.Math.Bool.{not}
 use Rattle.std.proofs.lemmas.Option.{same_Some}
-use Rattle.std.proofs.lemmas.List.{get_or_past}
+use Rattle.std.proofs.lemmas.List.{get_or_past, drop_all}
+use Rattle.std.proofs.lemmas.Bool.Decides.{nat_tests}
 use Rattle.rmt_wire.specs.Reply.{PlainReply}
 use Rattle.rmt_wire.specs.Reply.PlainReply.{Done, Data, Error}
 use Rattle.rmt_wire.specs.declared.fault.WireFault.{WireFault}
@@ -240,6 +241,24 @@ reel_none names n k opens o is none found = past names n is ∙ ap (reel_in name
 pub reel_some : (names : List (List ℕ)) (k : ℕ) (opens : List RealOpening) (o : Option RealOpening) (x : RealOpening) → o ≡ Some x
     → o ≡ find (λ o. o.connection == k) opens → name_at names x.reel ≡ reel_of k (map (seen_opening names) opens)
 reel_some names k opens o x some found = ap (reel_in names) (sym some ∙ found) ∙ reel_found names k opens
+
+same_number : (m k : ℕ) → m ≡ k → (m == k) ≡ true
+same_number m k is = grind (arith, nat_tests, is)
+
+-- the first opening of the connection is at this place
+opening_here : (k : ℕ) (opens rest : List RealOpening) (x : RealOpening) → (x.connection == k) ≡ true → opens ≡ x ∷ rest
+    → Some x ≡ find (λ o. o.connection == k) opens
+opening_here k opens rest x mine is = ap (λ b. cond b (Some x) (find (λ o. o.connection == k) rest)) (sym mine) ∙ ap (find (λ o. o.connection == k)) (sym is)
+
+pub opening_at : (k : ℕ) (opens : List RealOpening) (i : ℕ) (d : RealOpening) → i < length opens → (get_or opens i d).connection ≡ k
+    → find (λ o. o.connection == k) (drop i opens) ≡ find (λ o. o.connection == k) opens → Some (get_or opens i d) ≡ find (λ o. o.connection == k) opens
+opening_at k opens i d within mine same =
+    opening_here k (drop i opens) (drop (suc i) opens) (get_or opens i d) (same_number _ k mine) (drop-cons opens i d within) ∙ same
+
+-- no opening of the connection is left
+pub opening_past : (k : ℕ) (opens : List RealOpening) (i : ℕ) → length opens ≤ i
+    → find (λ o. o.connection == k) (drop i opens) ≡ find (λ o. o.connection == k) opens → None ≡ find (λ o. o.connection == k) opens
+opening_past k opens i past same = ap (find (λ o. o.connection == k)) (sym (drop_all i opens past)) ∙ same
 
 -- the client that is there is in an attempt
 pub inside : (o : Option RealCaller) (x : RealCaller) → o ≡ Some x → IsAttempting o → IsTrue (is_in_attempt x.client.at.stage)

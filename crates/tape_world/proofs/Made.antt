@@ -1,11 +1,12 @@
 -- How a new world's stacks are laid.
-use Rattle.std.proofs.Common.{◌≡◌, ℕ, zero, suc, ◌+◌, ◌<◌, ◌≤◌, List, [], ◌∷◌, ◌++◌, length, drop, map, get_or, slice_set, slice_index_or, replicate, false, Some, None, Result, Ok, Err, OnOk, refl, sym, ap, subst, ◌∙◌, append_assoc, arith}
-use Rattle.std.specs.Prelude.{is_err, Contains}
+use Rattle.std.proofs.Common.{◌≡◌, ℕ, zero, suc, ◌+◌, ◌<◌, ◌≤◌, List, [], ◌∷◌, ◌++◌, length, take, drop, map, get_or, slice_set, slice_index_or, replicate, false, Some, None, Result, Ok, Err, OnOk, refl, sym, ap, subst, ◌∙◌, append_assoc, arith}
+use Rattle.std.specs.Prelude.{is_err, Contains, Vec}
+use Rattle.std.specs.declared.alloc.Global.{Global}
 use Rattle.std.specs.List.{flat_map}
-use Rattle.std.proofs.lemmas.List.Concat.{flat_map-cons}
+use Rattle.std.proofs.lemmas.List.Concat.{flat_map-cons, flat_map-append}
 use Rattle.std.proofs.lemmas.List.Elements.{All-nil, All-cons, Contains-append_left, Contains-append_right}
 use Rattle.drives.specs.declared.fault.DriveFault.{DriveFault}
-use Rattle.std.proofs.lemmas.List.{length-set, get_or-set_same, set-set, set-get_or, append-nil, length-append, length-map, length-replicate, drop_all}
+use Rattle.std.proofs.lemmas.List.{length-set, get_or-set_same, set-set, set-get_or, append-nil, length-append, length-map, length-replicate, drop_all, map-append, map_more, take_more}
 use Rattle.std.proofs.lemmas.Result.{on_ok_weaker}
 use Rattle.tape.specs.Trouble.{TroubledTape}
 use Rattle.drives.specs.Shop.{KeptReel, kept_reel, Slot, slot, Rack, rack, ShopOf, Shop, shop, rack_at, with_rack}
@@ -131,7 +132,7 @@ kept_racks (d ∷ drives) =
     ap (λ slots. rack d.name.now slots ∷ map rest_rack (map laid_rack drives)) (kept_slots d.capacity (reels_of d))
     ∙ ap (λ racks. blank_rack (plain_drive d) ∷ racks) (kept_racks drives)
 
-pub first_shop : (s : ListShop) (drives : List DriveSpec) → s.shop ≡ laid_shop drives → shop_of s ≡ shop (map blank_rack (map plain_drive drives)) []
+first_shop : (s : ListShop) (drives : List DriveSpec) → s.shop ≡ laid_shop drives → shop_of s ≡ shop (map blank_rack (map plain_drive drives)) []
 first_shop s drives is =
     ap (λ (x : ShopOf TroubledTape). shop (map rest_rack x.racks) (map rest_slot x.bin)) is ∙ ap (λ racks. shop racks []) (kept_racks drives)
 
@@ -147,19 +148,39 @@ pub none_latched : (s : ListShop) (drives : List DriveSpec) → s.shop ≡ laid_
 none_latched s drives is = subst (λ (x : Shop). AllLie x) (sym (first_shop s drives is)) (racks_lie (map plain_drive drives), tt)
 
 -- where nothing has happened yet
-pub made_world : (host : Hosted) (s : ListShop) (drives : List DriveSpec) (n : ℕ) (links : List RealLink) (begun : List RealBegun) (books : Books) (dates : List DatesEntry)
-    → s.shop ≡ laid_shop drives → host ≡ hosted (hall (shop_of s) (replicate n 0) []) false → n ≡ length drives → links ≡ [] → begun ≡ []
+pub first_hall : (host : Hosted) (s : ListShop) (drives : List DriveSpec) (n : ℕ) → s.shop ≡ laid_shop drives
+    → host ≡ hosted (hall (shop_of s) (replicate n 0) []) false → n ≡ length drives → host.hall ≡ (first_world (map plain_drive drives)).hall
+first_hall host s drives n laid is count =
+    ap (λ (h : Hosted). h.hall) is ∙ ap (λ x. hall x (replicate n 0) []) (first_shop s drives laid)
+    ∙ ap (λ m. hall (shop (map blank_rack (map plain_drive drives)) []) (replicate m 0) []) (count ∙ sym (length-map drives plain_drive))
+
+pub made_world : (host : Hosted) (drives : List DriveSpec) (links : List RealLink) (begun : List RealBegun) (books : Books) (dates : List DatesEntry)
+    → host.hall ≡ hall (shop (map blank_rack (map plain_drive drives)) []) (replicate (length (map plain_drive drives)) 0) [] → links ≡ [] → begun ≡ []
     → books.counts.items ≡ [] → books.opens.items ≡ [] → books.entered.items ≡ [] → books.failure ≡ None → dates ≡ []
     → world_of host.hall links begun None None books dates ≡ first_world (map plain_drive drives)
-made_world host s drives n links begun books dates laid is count no_links no_runs no_counts no_opens no_entered no_failure no_dates =
-    let there : host.hall ≡ hall (shop (map blank_rack (map plain_drive drives)) []) (replicate (length (map plain_drive drives)) 0) []
-    = ap (λ (h : Hosted). h.hall) is ∙ ap (λ x. hall x (replicate n 0) []) (first_shop s drives laid)
-    ∙ ap (λ m. hall (shop (map blank_rack (map plain_drive drives)) []) (replicate m 0) []) (count ∙ sym (length-map drives plain_drive)) in
+made_world host drives links begun books dates there no_links no_runs no_counts no_opens no_entered no_failure no_dates =
     let links_none : map seen_link links ≡ [] = ap (map seen_link) no_links in
     let begun_none : map seen_begun begun ≡ [] = ap (map seen_begun) no_runs in
     let counts_none : map (seen_count (names_in books)) books.counts.items ≡ [] = ap (map (seen_count (names_in books))) no_counts in
     let opens_none : map (seen_opening (names_in books)) books.opens.items ≡ [] = ap (map (seen_opening (names_in books))) no_opens in
     let entered_none : map seen_entered books.entered.items ≡ [] = ap (map seen_entered) no_entered in cc
+
+-- copies of more names
+pub name_pushed : {A : Type 0} (f : A → List ℕ) (first : List (List ℕ)) (now new : List (Vec ℕ Global)) (x : Vec ℕ Global) (more : List A) (i : ℕ) (d : A) → i < length more
+    → new ≡ now ++ x ∷ [] → x.items ≡ f (get_or more i d) → map (λ n. n.items) now ≡ first ++ map f (take i more)
+    → map (λ n. n.items) new ≡ first ++ map f (take (i + 1) more)
+name_pushed f first now new x more i d l is copy same =
+    ap (map (λ (n : Vec ℕ Global). n.items)) is ∙ map-append (λ (n : Vec ℕ Global). n.items) now (x ∷ [])
+    ∙ ap (λ y. map (λ (n : Vec ℕ Global). n.items) now ++ y ∷ []) copy ∙ ap (λ ns. ns ++ f (get_or more i d) ∷ []) same
+    ∙ append_assoc first (map f (take i more)) (f (get_or more i d) ∷ []) ∙ ap (λ ns. first ++ ns) (sym (map_more f more i d l))
+
+pub names_more : (now new : List (List ℕ)) (drives : List DriveSpec) (i : ℕ) (d : DriveSpec) → i < length drives → new ≡ now ++ reels_of (get_or drives i d)
+    → now ≡ flat_map reels_of (take i drives) → new ≡ flat_map reels_of (take (i + 1) drives)
+names_more now new drives i d l added same =
+    let x = get_or drives i d in
+    added ∙ ap (λ ns. ns ++ reels_of x) same
+    ∙ sym (ap (flat_map reels_of) (take_more drives i d l) ∙ flat_map-append reels_of (take i drives) (x ∷ [])
+    ∙ ap (λ ns. flat_map reels_of (take i drives) ++ ns) (flat_map-cons reels_of x [] ∙ append-nil (reels_of x)))
 
 -- the name of each reel of a new world is among the names of all
 next_among : (x y : List ℕ) (xs : List (List ℕ)) → Contains xs y → Contains (x ∷ xs) y

@@ -1,15 +1,13 @@
 -- What a turn of the server's side makes of a connection.
 use Rattle.std.proofs.Common.{◌≡◌, ℕ, zero, suc, ◌-◌, ◌≤◌, Bool, true, false, not, List, [], ◌∷◌, ◌++◌, length, drop, map, Option, Some, None, refl, sym, ap, subst, ◌∙◌, inl, inr, arith, Vec, Global}
-use Rattle.std.specs.Prelude.{Result, Ok, Err, IfOk, slice_index_or, slice_set, option_map, cond, nat_lt, if◌then◌else◌, ◌==◌, ◌+◌}
-use Rattle.std.specs.List.{position, position_or_len}
+use Rattle.std.specs.Prelude.{Result, Ok, Err, IfOk, slice_index_or, slice_set, option_map, cond, if◌then◌else◌, ◌==◌, ◌+◌}
+use Rattle.std.specs.List.{position_or_len}
 use Rattle.std.specs.Option.{option_to_list}
 use Rattle.std.proofs.lemmas.List.{map-append}
 use Rattle.std.specs.Str.{bytes_eq}
 use Rattle.std.proofs.lemmas.Slice.Eq.{bytes_eq-Decides}
 use Rattle.std.proofs.lemmas.List.{drop-append-le}
 use Rattle.std.proofs.lemmas.Option.{same_Some}
-use Rattle.std.proofs.lemmas.Bool.Decides.{nat_tests}
-use Rattle.std.proofs.lemmas.List.Sums.{prefix_len-le-length}
 use Rattle.rmt_wire.specs.Counted.{raised}
 use Rattle.rmt_wire.specs.Request.{PlainRequest}
 use Rattle.rmt_wire.specs.Request.PlainRequest.{Open, Close, Write, WriteDropped, Read, Op}
@@ -160,26 +158,6 @@ place_found [] name (inl (k, within, at)) = absurd (omega (arith, within))
 place_found [] name (inr none) = sym none
 place_found (x ∷ xs) name known =
     place_step x.items name (map (λ n. n.items) xs) (position_or_len (λ n. bytes_eq name n.items) xs) (bytes_eq name x.items) refl (place_found xs name) known
-
-position_some : (b : Bool) (p place : ℕ) → Some place ≡ cond b (Some p) None → place ≡ p
-position_some true p place is = same_Some place p is
-position_some false p place is = absurd cc
-
-pub place_some : (test : Vec ℕ Global → Bool) (names : List (Vec ℕ Global)) (r : Option ℕ) (place : ℕ) → r ≡ position test names → r ≡ Some place
-    → place ≡ position_or_len test names
-place_some test names r place is some = position_some (nat_lt (position_or_len test names) (length names)) (position_or_len test names) place (sym some ∙ is)
-
-not_less : (p n : ℕ) → nat_lt p n ≡ false → n ≤ p
-not_less p n test = grind (arith, nat_tests, test)
-
-position_none : (b : Bool) (p n : ℕ) → nat_lt p n ≡ b → None ≡ cond b (Some p) None → p ≤ n → n ≡ p
-position_none true p n test is within = absurd cc
-position_none false p n test is within = omega (arith, not_less p n test, within)
-
-pub place_none : (test : Vec ℕ Global → Bool) (names : List (Vec ℕ Global)) (r : Option ℕ) → r ≡ position test names → r ≡ None
-    → length names ≡ position_or_len test names
-place_none test names r is none =
-    position_none (nat_lt (position_or_len test names) (length names)) (position_or_len test names) (length names) refl (sym none ∙ is) (prefix_len-le-length (λ x. not (test x)) names)
 
 -- one opening more
 pub opening_noted : (names : List (Vec ℕ Global)) (opens new : List RealOpening) (k place : ℕ) (name : List ℕ) (o : Option (List ℕ)) → o ≡ Some name

@@ -1,7 +1,7 @@
 //! The volumes that were counted, as they are told.
 ghost use Rattle.std.specs.Prelude.{◌≡◌, ◌↔◌, true, [], length, map, slice_get};
 ghost use Rattle.std.specs.Option.{option_map};
-ghost use Rattle.tape_world.specs.Seen.{name_at};
+ghost use Rattle.tape_world.specs.Seen.{name_at, seen_count};
 ghost use Rattle.tape_world.specs.Telling.{told_count};
 
 use crate::books::Count;
@@ -61,14 +61,21 @@ impl<'a> Counts<'a> {
         ensures { option_map told_count result ≡ slice_get self.now i }
     {
         let count = self.counts.get(i)?;
-        Some(CountTold {
-            run: count.run,
-            volume: count.volume,
-            first: count.first,
-            count: count.count,
-            reel: name_at(self.names, count.reel),
-            connection: count.connection,
-        })
+        Some(told(self.names, count))
+    }
+}
+
+/// This count, with the name of its reel.
+fn told<'a>(names: &'a [Vec<u8>], count: &Count) -> CountTold<'a>
+    ensures { told_count result ≡ seen_count (map (λ name. name.items) names.now) count.now }
+{
+    CountTold {
+        run: count.run,
+        volume: count.volume,
+        first: count.first,
+        count: count.count,
+        reel: name_at(names, count.reel),
+        connection: count.connection,
     }
 }
 

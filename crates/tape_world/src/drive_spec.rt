@@ -50,7 +50,12 @@ fn is_name_again(drives: &[DriveSpec<'_>]) -> bool
 fn any_named(drives: &[DriveSpec<'_>], name: &[u8]) -> bool
     ensures { result ≡ list_any (λ d. bytes_eq name.now d.name.now) drives.now }
 {
-    drives.iter().any(|drive| name == drive.name)
+    for drive in drives {
+        if name == drive.name {
+            return true;
+        }
+    }
+    false
 }
 
 /// Whether no two reels of all the drives have one name.
@@ -101,19 +106,34 @@ fn stands_again(names: &[&[u8]]) -> bool
 fn any_is(names: &[&[u8]], name: &[u8]) -> bool
     ensures { result ≡ list_any (λ n. bytes_eq name.now n.now) names.now }
 {
-    names.iter().any(|other| name == *other)
+    for other in names {
+        if name == *other {
+            return true;
+        }
+    }
+    false
 }
 
 /// Whether one of the names is that of a reel of these drives.
 fn any_shared(names: &[&[u8]], drives: &[DriveSpec<'_>]) -> bool
     ensures { result ≡ list_any (λ n. names_again drives.now n.now) names.now }
 {
-    names.iter().any(|name| any_has(drives, name))
+    for name in names {
+        if any_has(drives, name) {
+            return true;
+        }
+    }
+    false
 }
 
 /// Whether a reel of one of these drives has that name.
 fn any_has(drives: &[DriveSpec<'_>], name: &[u8]) -> bool
     ensures { result ≡ names_again drives.now name.now }
 {
-    drives.iter().any(|drive| any_is(drive.reels, name))
+    for drive in drives {
+        if any_is(drive.reels, name) {
+            return true;
+        }
+    }
+    false
 }

@@ -1,5 +1,5 @@
 //! What happens at the client's side.
-ghost use Rattle.std.specs.Prelude.{◌≡◌, ◌*◌, ◌↔◌, true, false, IfOk, [], length, map};
+ghost use Rattle.std.specs.Prelude.{◌≡◌, ◌*◌, ◌↔◌, ◌++◌, ◌∷◌, true, false, IfOk, OnOk, OnErr, [], length, map};
 ghost use Rattle.dump_run.specs.Blocks.{cut_blocks, listed};
 ghost use Rattle.dump_run.specs.Run.{IsRun};
 ghost use Rattle.dump_client.specs.Client.{IsPayload};
@@ -10,6 +10,7 @@ ghost use Rattle.tape_events.specs.Rows.{NoRun, StandsIn};
 ghost use Rattle.tape_world.specs.Holding.{IsEvent};
 ghost use Rattle.tape_world.specs.Calling.{Answers, SeesEnd, IsBegunWith, IsReady, Starts, IsPlaced, over_own};
 ghost use Rattle.tape_world.specs.Seen.{seen_link};
+ghost use Rattle.tape_world.specs.declared.caller.Begun.{Begun as RealBegun};
 
 use super::Ends;
 use crate::caller::{Begun, Caller};
@@ -40,6 +41,24 @@ fn begun_of(alloc: Global, run: &Run, payload: &[u8]) -> Result<Begun, AllocErro
     })
 }
 
+/// A run of this payload is begun, the last of these.
+///
+/// Fails where memory is refused. Nothing has changed then.
+fn add_begun(
+    alloc: Global,
+    begun: &mut Vec<Begun>,
+    run: &Run,
+    payload: &[u8],
+) -> Result<(), AllocError>
+    requires { length payload.now ≡ run.now.blocks * run.now.block_bytes }
+    ensures added { OnOk result ((b : RealBegun) × (begun.new.items ≡ begun.old.items ++ b ∷ []) × IsBegunWith run.now payload.now b) }
+    ensures refused { OnErr result (begun.new.items ≡ begun.old.items) }
+{
+    begun.reserve(1)?;
+    begun.push_reserved(begun_of(alloc, run, payload)?);
+    Ok(())
+}
+
 /// A client of the run, with its payload.
 fn client_of(alloc: Global, run: &Run, payload: &[u8]) -> Result<Client<ListBlocks>, AllocError>
     requires { length payload.now ≡ run.now.blocks * run.now.block_bytes }
@@ -52,6 +71,34 @@ fn client_of(alloc: Global, run: &Run, payload: &[u8]) -> Result<Client<ListBloc
     let state = client.state();
     prove!(matches!(state, State::Ready));
     Ok(client)
+}
+
+/// A run of this payload is begun, the last of these. Answers a client of it.
+///
+/// Fails where memory is refused. Nothing has changed then.
+fn begin(
+    alloc: Global,
+    begun: &mut Vec<Begun>,
+    run: &Run,
+    payload: &[u8],
+) -> Result<Client<ListBlocks>, AllocError>
+    requires { length payload.now ≡ run.now.blocks * run.now.block_bytes }
+    ensures made { IfOk result (λ c. c.at ≡ standing run.now [] Ready) }
+    ensures given { IfOk result (λ c. c.source ≡ listed (cut_blocks run.now.blocks run.now.block_bytes payload.now) false 0) }
+    ensures run { IfOk result (λ _. IsRun run.now) }
+    ensures added { OnOk result ((b : RealBegun) × (begun.new.items ≡ begun.old.items ++ b ∷ []) × IsBegunWith run.now payload.now b) }
+    ensures refused { OnErr result (begun.new.items ≡ begun.old.items) }
+{
+    let client = client_of(alloc, run, payload)?;
+    add_begun(alloc, begun, run, payload)?;
+    Ok(client)
+}
+
+/// The client is this one now, or there is none.
+fn change_caller(caller: &mut Option<Caller>, new: Option<Caller>)
+    ensures { caller.new ≡ new }
+{
+    *caller = new;
 }
 
 /// The client, which is ready, starts an attempt. Answers what that has come to.
@@ -132,14 +179,12 @@ impl Ends {
         if !self.has_no_run() || payload.len() != bytes {
             return Err(Stop::NotPossible);
         }
-        self.begun.reserve(1)?;
-        let begun = begun_of(self.alloc, run, payload)?;
-        let client = client_of(self.alloc, run, payload)?;
-        self.begun.push_reserved(begun);
-        self.caller = Some(Caller {
+        let client = begin(self.alloc, &mut self.begun, run, payload)?;
+        let caller = Caller {
             number: self.begun.len(),
             client,
-        });
+        };
+        change_caller(&mut self.caller, Some(caller));
         self.books.failure = None;
         Ok(())
     }
@@ -183,7 +228,7 @@ impl Ends {
         }
         end_own(&mut self.links, self.own);
         self.own = None;
-        self.caller = None;
+        change_caller(&mut self.caller, None);
         self.books.failure = None;
         Ok(())
     }

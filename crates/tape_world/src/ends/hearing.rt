@@ -1,7 +1,5 @@
 //! What the client hears of its server.
 ghost use Rattle.std.specs.Prelude.{◌≡◌, ◌==◌, ◌<◌, ◌≤◌, ◌++◌, length, map, option_to_list, slice_get};
-ghost use Rattle.std.specs.List.{find};
-ghost use Rattle.std.specs.Option.{option_copied};
 ghost use Rattle.std.specs.Vec.{vec_capacity, vec_len};
 ghost use Rattle.tape_events.specs.Changes.{changed, reel_of};
 ghost use Rattle.tape_events.specs.Events.PlainEvent.{ToClient};
@@ -79,24 +77,17 @@ fn hear(caller: &mut Option<Caller>, piece: &[u8]) -> Heard
     }
 }
 
-/// The first opening of the connection, if it made one.
-fn first_opening(opens: &[Opening], connection: usize) -> Option<&Opening>
-    ensures { option_copied result ≡ find (λ o. o.connection == connection) opens.now }
-{
-    opens
-        .iter()
-        .find(|opening| opening.connection == connection)
-}
-
 /// The place of the name of the reel that the connection opened first, or past all names where it opened none.
 fn reel_of(books: &Books, connection: usize) -> usize
     ensures { name_at (names_in books.now) result
         ≡ reel_of connection (map (seen_opening (names_in books.now)) books.now.opens.items) }
 {
-    let Some(opening) = first_opening(&books.opens, connection) else {
-        return books.names.len();
-    };
-    opening.reel
+    for opening in &books.opens {
+        if opening.connection == connection {
+            return opening.reel;
+        }
+    }
+    books.names.len()
 }
 
 /// The volume that was counted, if one was, is kept, with its connection and the place of its reel's name.

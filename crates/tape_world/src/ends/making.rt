@@ -86,8 +86,8 @@ fn push_names(alloc: Global, names: &mut Vec<Vec<u8>>, more: &[&[u8]]) -> Result
     ensures { OnOk result (map (λ n. n.items) names.new.items ≡ map (λ n. n.items) names.old.items ++ map (λ n. n.now) more.now) }
 {
     for name in more {
-        let copy = Vec::from_slice(alloc, name)?;
-        names.push(copy)?;
+        names.reserve(1)?;
+        names.push_reserved(Vec::from_slice(alloc, name)?);
     }
     Ok(())
 }
@@ -119,6 +119,14 @@ impl Ends {
     {
         let stacks = stacks_of(alloc, drives)?;
         let host = Host::new(alloc, drives.len(), stacks)?;
+        Ends::with_host(alloc, drives, host)
+    }
+
+    /// The same, over a host that stands.
+    fn with_host(alloc: Global, drives: &[DriveSpec<'_>], host: Host) -> Result<Ends, AllocError>
+        requires { host.hall ≡ (first_world (map plain_drive drives.now)).hall }
+        ensures { IfOk result (λ w. w ≡ first_world (map plain_drive drives.now)) }
+    {
         let books = books_of(alloc, drives)?;
         Ok(Ends {
             alloc,

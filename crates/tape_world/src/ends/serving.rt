@@ -1,6 +1,6 @@
 //! What the server does with what reached it.
 ghost use Rattle.std.specs.Prelude.{◌≡◌, ◌≤◌, ◌<◌, ◌++◌, List, ℕ, IfOk, OnErr, Some, length, map, option_map, vec_len, vec_capacity};
-ghost use Rattle.std.specs.List.{position, position_or_len};
+ghost use Rattle.std.specs.List.{position_or_len};
 ghost use Rattle.std.specs.Option.{option_copied, option_to_list};
 ghost use Rattle.std.specs.Str.{bytes_eq};
 ghost use Rattle.drives.specs.ListShop.{rest_slot};
@@ -90,21 +90,16 @@ fn name_opened(host: &Host, connection: usize, turn: Turn) -> Option<&[u8]>
     name_online(host, connection)
 }
 
-/// The first place of a name among these.
-fn find_name(names: &[Vec<u8>], name: &[u8]) -> Option<usize>
-    ensures { result ≡ position (λ n. bytes_eq name.now n.items) names.now }
-{
-    names.iter().position(|other| name == other.as_slice())
-}
-
 /// The first place of a name among these, or the place past the end.
 fn place_of(names: &[Vec<u8>], name: &[u8]) -> usize
     ensures { result ≡ position_or_len (λ n. bytes_eq name.now n.items) names.now }
 {
-    match find_name(names, name) {
-        Some(place) => place,
-        None => names.len(),
+    for (place, other) in names.iter().enumerate() {
+        if name == other.as_slice() {
+            return place;
+        }
     }
+    names.len()
 }
 
 /// Where a turn of a connection opened a reel for writing, that is listed by the place of the reel's name.

@@ -1,12 +1,12 @@
-use Rattle.std.proofs.Common.{rules, ◌≡◌, ◌+◌, refl, sym, ap, subst, ◌∙◌, Some, map, length, ◌++◌, ◌∷◌, [], arith, ◌*◌}
-use Rattle.std.proofs.lemmas.List.{map-append, length-map}
+use Rattle.std.proofs.Common.{rules, ◌≡◌, ◌+◌, refl, sym, ap, subst, ◌∙◌, Some, map, option_map, length, ◌++◌, ◌∷◌, [], arith, ◌*◌}
+use Rattle.std.proofs.lemmas.List.{map-append, length-append, length-map}
 use Rattle.tape_events.specs.World.{World}
 use Rattle.tape_events.specs.Changes.{calm}
 use Rattle.tape_events.specs.Rows.{NoRun}
 use Rattle.tape_events.specs.Steps.{begun, caller}
 use Rattle.dump_run.specs.Blocks.{cut_blocks}
 use Rattle.tape_world.specs.contracts.ends.Ends.{the_view}
-use Rattle.tape_world.specs.Seen.{seen_begun}
+use Rattle.tape_world.specs.Seen.{seen_begun, seen_caller}
 use Rattle.tape_world.specs.Holding.{is_in_attempt, IsSourced}
 use Rattle.tape_world.proofs.Starting.{begun_sound, begun_is, begun_sourced, plain_begun}
 use Rattle.tape_world.proofs.Refused.{sound_same}
@@ -18,25 +18,28 @@ use Rattle.tape_world.proofs.ends.Ends.start_run.Goals as goal
 
 pub invariant_of-self-2 : goal.invariant_of-self-2
 invariant_of-self-2 c =
-    let more = c.push_reserved.ensures.items ∙ ap (λ l. l ++ c.in_ok-begun.begun ∷ []) c.in_ok-reserve.ensures.items in
+    let b = c.in_ok-client.ensures.added.0 in
+    let more = c.in_ok-client.ensures.added.1 in
     let number : c.len.result ≡ length c.self.inside.begun.items + 1
-    = omega (arith, c.len.ensures, c.push_reserved.ensures.len, c.in_ok-reserve.ensures.len, c.self.inside.begun.ok.0) in
+    = omega (arith, c.len.ensures, c.begin.new.begun.ok.0, ap length more, length-append c.self.inside.begun.items (b ∷ [])) in
     let idle : NoRun (the_view c.self.inside) = subst NoRun (sym c.self.view_is) (c.has_no_run.ensures.0 (search rules)) in (
-      begun_sound (the_view c.self.inside) _ (caller c.len.result c.in_ok-client.client.at c.in_ok-client.client.reader) (seen_begun c.in_ok-begun.begun) idle refl refl refl
-          (ap (map seen_begun) more ∙ map-append seen_begun c.self.inside.begun.items (c.in_ok-begun.begun ∷ []))
-          refl (number ∙ ap (λ n. n + 1) (sym (length-map c.self.inside.begun.items seen_begun)))
-          (c.in_ok-begun.ensures.run ∙ ap (λ at. at.run) (sym c.in_ok-client.ensures.made))
+      begun_sound (the_view c.self.inside) _ (caller c.len.result c.in_ok-client.client.at c.in_ok-client.client.reader) (seen_begun b) idle refl refl refl
+          (ap (map seen_begun) more ∙ map-append seen_begun c.self.inside.begun.items (b ∷ []))
+          (ap (option_map seen_caller) c.change_caller.ensures) (number ∙ ap (λ n. n + 1) (sym (length-map c.self.inside.begun.items seen_begun)))
+          (c.in_ok-client.ensures.added.2.run ∙ ap (λ at. at.run) (sym c.in_ok-client.ensures.made))
           (ap (λ at. is_in_attempt at.stage) c.in_ok-client.ensures.made) c.self.invariant.0,
-      begun_sourced c.push_reserved.new.self.items c.self.inside.begun.items c.in_ok-begun.begun _ c.args.run.now c.args.payload.now more number c.in_ok-begun.ensures
-          c.in_ok-client.ensures.given,
+      subst (IsSourced c.begin.new.begun.items) (sym c.change_caller.ensures)
+          (begun_sourced c.begin.new.begun.items c.self.inside.begun.items b _ c.args.run.now c.args.payload.now more number c.in_ok-client.ensures.added.2
+          c.in_ok-client.ensures.given),
       c.self.invariant.2,
     )
 
 pub returns : goal.returns
 returns c =
-    let more = c.push_reserved.ensures.items ∙ ap (λ l. l ++ c.in_ok-begun.begun ∷ []) c.in_ok-reserve.ensures.items in
+    let b = c.in_ok-client.ensures.added.0 in
+    let more = c.in_ok-client.ensures.added.1 in
     let number : c.len.result ≡ length c.self.inside.begun.items + 1
-    = omega (arith, c.len.ensures, c.push_reserved.ensures.len, c.in_ok-reserve.ensures.len, c.self.inside.begun.ok.0) in
+    = omega (arith, c.len.ensures, c.begin.new.begun.ok.0, ap length more, length-append c.self.inside.begun.items (b ∷ [])) in
     let run = c.args.run.now in
     let blocks = cut_blocks run.blocks run.block_bytes c.args.payload.now in
     let reader = c.in_ok-client.client.reader in
@@ -45,9 +48,10 @@ returns c =
       (c.has_no_run.ensures.0 (search rules), c.in_ok-client.ensures.run, search rules),
       (
         reader,
-        ap (λ bs. record (calm (the_view c.self.inside)) { begun = map seen_begun bs; caller = Some x }) more
-            ∙ ap (λ bs. record (calm (the_view c.self.inside)) { begun = bs; caller = Some x }) (map-append seen_begun c.self.inside.begun.items (c.in_ok-begun.begun ∷ []))
-            ∙ ap (λ b. record (calm (the_view c.self.inside)) { begun = before ++ b ∷ []; caller = Some x }) (begun_is run c.args.payload.now c.in_ok-begun.begun c.in_ok-begun.ensures)
+        ap (λ o. record (calm (the_view c.self.inside)) { begun = map seen_begun c.begin.new.begun.items; caller = option_map seen_caller o }) c.change_caller.ensures
+            ∙ ap (λ bs. record (calm (the_view c.self.inside)) { begun = map seen_begun bs; caller = Some x }) more
+            ∙ ap (λ bs. record (calm (the_view c.self.inside)) { begun = bs; caller = Some x }) (map-append seen_begun c.self.inside.begun.items (b ∷ []))
+            ∙ ap (λ b. record (calm (the_view c.self.inside)) { begun = before ++ b ∷ []; caller = Some x }) (begun_is run c.args.payload.now b c.in_ok-client.ensures.added.2)
             ∙ ap (λ y. record (calm (the_view c.self.inside)) { begun = before ++ plain_begun run blocks ∷ []; caller = Some y })
             (ap (λ n. caller n c.in_ok-client.client.at reader) (number ∙ ap (λ n. n + 1) (sym (length-map c.self.inside.begun.items seen_begun)))
             ∙ ap (λ at. caller (length before + 1) at reader) c.in_ok-client.ensures.made)
@@ -57,39 +61,15 @@ returns c =
 
 pub invariant_of-self : goal.invariant_of-self
 invariant_of-self c = (
-  sound_same (the_view c.self.inside) _ (ap (λ items. record (the_view c.self.inside) { begun = map seen_begun items }) c.in_err-reserve.ensures.items) c.self.invariant.0,
-  subst (λ bs. IsSourced bs c.self.inside.caller) (sym c.in_err-reserve.ensures.items) c.self.invariant.1,
+  sound_same (the_view c.self.inside) _ (ap (λ items. record (the_view c.self.inside) { begun = map seen_begun items }) c.in_err-client.ensures.refused) c.self.invariant.0,
+  subst (λ bs. IsSourced bs c.self.inside.caller) (sym c.in_err-client.ensures.refused) c.self.invariant.1,
   c.self.invariant.2,
 )
-
-pub invariant_of-self-in_err-begun : goal.invariant_of-self-in_err-begun
-invariant_of-self-in_err-begun c = (
-  sound_same (the_view c.self.inside) _ (ap (λ items. record (the_view c.self.inside) { begun = map seen_begun items }) c.in_ok-reserve.ensures.items) c.self.invariant.0,
-  subst (λ bs. IsSourced bs c.self.inside.caller) (sym c.in_ok-reserve.ensures.items) c.self.invariant.1,
-  c.self.invariant.2,
-)
-
-pub invariant_of-self-in_err-client : goal.invariant_of-self-in_err-client
-invariant_of-self-in_err-client c = (
-  sound_same (the_view c.self.inside) _ (ap (λ items. record (the_view c.self.inside) { begun = map seen_begun items }) c.in_ok-reserve.ensures.items) c.self.invariant.0,
-  subst (λ bs. IsSourced bs c.self.inside.caller) (sym c.in_ok-reserve.ensures.items) c.self.invariant.1,
-  c.self.invariant.2,
-)
-
-pub returns-in_err-reserve : goal.returns-in_err-reserve
-returns-in_err-reserve c =
-    refused_event c.args.self.now _ (StartRun c.args.run.now c.args.payload.now) c.from_residual.result c.from_residual.ensures.1
-    (ap (λ items. record (the_view c.self.inside) { begun = map seen_begun items }) c.in_err-reserve.ensures.items ∙ c.self.view_is)
-
-pub returns-in_err-begun : goal.returns-in_err-begun
-returns-in_err-begun c =
-    refused_event c.args.self.now _ (StartRun c.args.run.now c.args.payload.now) c.from_residual-in_err-begun.result c.from_residual-in_err-begun.ensures.1
-    (ap (λ items. record (the_view c.self.inside) { begun = map seen_begun items }) c.in_ok-reserve.ensures.items ∙ c.self.view_is)
 
 pub returns-in_err-client : goal.returns-in_err-client
 returns-in_err-client c =
-    refused_event c.args.self.now _ (StartRun c.args.run.now c.args.payload.now) c.from_residual-in_err-client.result c.from_residual-in_err-client.ensures.1
-    (ap (λ items. record (the_view c.self.inside) { begun = map seen_begun items }) c.in_ok-reserve.ensures.items ∙ c.self.view_is)
+    refused_event c.args.self.now _ (StartRun c.args.run.now c.args.payload.now) c.from_residual.result c.from_residual.ensures.1
+    (ap (λ items. record (the_view c.self.inside) { begun = map seen_begun items }) c.in_err-client.ensures.refused ∙ c.self.view_is)
 
 pub returns-then-not-has_no_run : goal.returns-then-not-has_no_run
 returns-then-not-has_no_run c = (

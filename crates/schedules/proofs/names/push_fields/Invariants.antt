@@ -1,5 +1,5 @@
 use Rattle.schedules.specs.Cut.{left_in}
-use Rattle.schedules.proofs.names.Names.list.Given as goal
+use Rattle.schedules.proofs.names.push_fields.Given as goal
 
 abbrev pub decreases-loop-field : goal.decreases-loop-field
 decreases-loop-field l = left_in l.fields.rest

@@ -1,0 +1,8 @@
+use Rattle.std.proofs.Common.{◌≡◌, drop}
+use Rattle.std.specs.List.{list_any}
+use Rattle.std.specs.Str.{bytes_eq}
+use Rattle.tape_world.proofs.drive_spec.any_is.Given as goal
+
+-- no name before this one is it
+abbrev pub invariant-loop-other : goal.invariant-loop-other
+invariant-loop-other l = list_any (λ n. bytes_eq l.name n.now) (drop l.other-index l.names) ≡ list_any (λ n. bytes_eq l.name n.now) l.names

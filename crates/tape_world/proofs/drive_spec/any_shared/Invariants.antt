@@ -1,0 +1,8 @@
+use Rattle.std.proofs.Common.{◌≡◌, drop}
+use Rattle.std.specs.List.{list_any}
+use Rattle.tape_world.specs.Making.{names_again}
+use Rattle.tape_world.proofs.drive_spec.any_shared.Given as goal
+
+-- no name before this one is that of a reel
+abbrev pub invariant-loop-name : goal.invariant-loop-name
+invariant-loop-name l = list_any (λ n. names_again l.drives n.now) (drop l.name-index l.names) ≡ list_any (λ n. names_again l.drives n.now) l.names
