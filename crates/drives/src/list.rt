@@ -2,7 +2,6 @@
 
 ghost use Rattle.std.specs.Prelude.{◌≡◌, ◌≢◌, ℕ, ◌<◌, List, IfErr, IfOk, IfSome, IsTrue, None, MatchBool, MatchResult, map, length};
 ghost use Rattle.std.specs.Option.{option_copied, option_map};
-ghost use Rattle.tape.specs.Trouble.{IsTapeOf};
 ghost use Rattle.drives.specs.declared.fault.DriveFault.TheVariants.{Device};
 ghost use Rattle.drives.specs.ListShop.{IsShop, StacksCanFail, empty_shop, shop_of, at_rest, rest_slot, after_failure, IsDriveAdded, IsReelAdded, IsReelLatched, IsReelLaidBack, IsReelMoved, IsListStacksCall};
 ghost use Rattle.drives.specs.Shop.{Shop, IsDriveNamed, rack_at, slots_in, times, names_of, names_in, EachReelOnce};

@@ -1,8 +1,8 @@
 //! The drives of one thread, and its seats.
 
-ghost use Rattle.std.specs.Prelude.{◌≡◌, ◌≢◌, ◌<◌, ◌≤◌, ◌+◌, None, IfOk, IfSome, MatchOption, replicate, length};
+ghost use Rattle.std.specs.Prelude.{◌≡◌, ◌<◌, ◌≤◌, ◌+◌, None, IfOk, IfSome, replicate, length};
 ghost use Rattle.drives.specs.declared.view.View.{View};
-ghost use Rattle.drives.specs.Holding.{newcomer, moved, last_step, HoldsJust};
+ghost use Rattle.drives.specs.Holding.{moved, last_step, HoldsJust};
 ghost use Rattle.drives.specs.Local.{holders, IsSeated, IsSeatOf, IsHeldBy};
 
 use crate::{Holds, LastStep, StepKind, Taken, View};

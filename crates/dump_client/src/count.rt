@@ -3,7 +3,7 @@ ghost use Rattle.std.specs.Prelude.{◌≡◌, MatchBool};
 ghost use Rattle.dump_client.specs.Position.{Covers};
 ghost use Rattle.dump_client.specs.Standing.{checkpoint_of};
 ghost use Rattle.dump_client.specs.Lawful.{AreVolumes};
-ghost use Rattle.dump_run.specs.Run.{PlainRun, IsRun};
+ghost use Rattle.dump_run.specs.Run.{IsRun};
 
 use crate::Run;
 

@@ -1,5 +1,5 @@
 //! What comes to a client that waits for a reply.
-ghost use Rattle.std.specs.Prelude.{ℕ, ◌≡◌, List, ◌++◌, Some};
+ghost use Rattle.std.specs.Prelude.{ℕ, List, ◌++◌, Some};
 ghost use Rattle.rmt_wire.specs.Lent.{plain_reply};
 ghost use Rattle.rmt_wire.specs.Reply as kinds;
 ghost use Rattle.rmt_wire.specs.ReplyReader.{ReplyUnread};

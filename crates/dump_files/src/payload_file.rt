@@ -1,7 +1,6 @@
 //! A payload on a medium, which is read block by block.
 ghost use Rattle.std.specs.Prelude.{◌≡◌, ℕ, ◌-◌, ◌≤◌, ◌++◌, List, IfOk, length, take, replicate};
 ghost use Rattle.tape.specs.Medium.{medium_kind};
-ghost use Rattle.dump_run.specs.Blocks.{HasBlock};
 ghost use Rattle.dump_files.specs.Payload.{HasBlocks, IsOpened, IsPayloadRead, PayloadCanFail, payload_blocks};
 
 use dump_client::{Blocks, SourceFailed};

@@ -1,6 +1,6 @@
 //! What the words of a line say.
 
-ghost use Rattle.std.specs.Prelude.{◌≡◌, ℕ, ◌^◌, ◌<◌, ◌≤◌, MatchOption, IfSome};
+ghost use Rattle.std.specs.Prelude.{ℕ, ◌^◌, ◌<◌, ◌≤◌, MatchOption, IfSome};
 ghost use Rattle.dumpdates.specs.Found.{plain_words, plain_fields};
 ghost use Rattle.dumpdates.specs.Line.{PlainFields, SpellsDigits, SpellsMonth, SpellsTime, SpellsWords};
 

@@ -1,6 +1,5 @@
 //! A line of the file, as what it is.
 
-ghost use Rattle.std.specs.Prelude.{◌≡◌};
 ghost use Rattle.dumpdates.specs.Found.{IsFound};
 
 use crate::fields::fields_of;

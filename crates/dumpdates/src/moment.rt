@@ -1,7 +1,6 @@
 //! A moment: what a calendar and a clock of UTC show, and the seconds that it stands for.
 
-ghost use Rattle.std.specs.Prelude.{◌≡◌, ◌↔◌, ◌≤◌, ◌/◌, pos, IsSome, IfSome};
-ghost use Rattle.jiff_core.specs.Calendar.{weekday_number};
+ghost use Rattle.std.specs.Prelude.{◌≡◌, ◌↔◌, ◌≤◌, ◌/◌, IsSome, IfSome};
 ghost use Rattle.dumpdates.specs.Moment as spec;
 ghost use Rattle.dumpdates.specs.Moment.{IsMoment};
 ghost use Rattle.dumpdates.specs.Clock.{plain_moment};

@@ -1,6 +1,6 @@
 //! The line of an entry, as it is written.
 
-ghost use Rattle.std.specs.Prelude.{◌≡◌, ◌-◌, ◌/◌, ◌<◌, ◌≤◌, [], ◌∷◌, ◌++◌, replicate, IsOk, OnOk};
+ghost use Rattle.std.specs.Prelude.{◌≡◌, ◌-◌, ◌/◌, ◌<◌, ◌≤◌, [], ◌∷◌, ◌++◌, IsOk, OnOk};
 ghost use Rattle.dumpdates.specs.Clock.{plain_moment};
 ghost use Rattle.dumpdates.specs.Moment.{IsMoment};
 ghost use Rattle.dumpdates.specs.Names.{weekday_name, month_name};

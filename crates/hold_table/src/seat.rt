@@ -1,5 +1,5 @@
 //! A seat at the table.
-ghost use Rattle.std.specs.Prelude.{◌≡◌, ◌≤◌};
+ghost use Rattle.std.specs.Prelude.{◌≡◌};
 ghost use Rattle.hold_table.specs.Seats.{table_seat};
 
 use crate::rule::Seated;

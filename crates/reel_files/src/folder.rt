@@ -1,6 +1,6 @@
 //! Drives whose reels are files in folders.
 
-ghost use Rattle.std.specs.Prelude.{◌≡◌, ◌≢◌, ◌≤◌, ◌<◌, ◌↔◌, false, IfOk, IfSome, IsErr, IsErrAnd, None, map, length};
+ghost use Rattle.std.specs.Prelude.{◌≡◌, ◌≤◌, ◌<◌, ◌↔◌, false, IfOk, IfSome, IsErr, IsErrAnd, None, map, length};
 ghost use Rattle.std.specs.IoError.{error_kind, raw_os_error};
 ghost use Rattle.drives.specs.declared.fault.DriveFault.TheVariants.{Device, OutOfMemory};
 ghost use Rattle.drives.specs.Shop.{Shop, IsDriveNamed};

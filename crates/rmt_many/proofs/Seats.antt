@@ -1,5 +1,5 @@
 -- What a seat keeps while a session works at it, and how it comes back.
-use Rattle.std.proofs.Common.{◌≡◌, ◌≢◌, ℕ, ◌≤◌, List, Option, None, OnOk, Result, refl, sym, subst, ap, ◌∙◌}
+use Rattle.std.proofs.Common.{◌≡◌, ℕ, ◌≤◌, List, Option, None, OnOk, Result, refl, subst, ◌∙◌}
 use Rattle.rmt_wire.specs.Counted.{Counting}
 use Rattle.drives.specs.declared.table.DriveTable.{DriveTable}
 use Rattle.drives.specs.Holding.{HoldsJust}
@@ -10,7 +10,7 @@ use Rattle.rmt_server.specs.declared.stream.ServeFault.{ServeFault}
 use Rattle.rmt_server.specs.State.{State, state, seated_at, IsAt, KeepsDrives}
 use Rattle.rmt_server.specs.Stream.{Exchange, CarryRun, IsServedAs, NoneFailed}
 use Rattle.rmt_server.specs.Stream.CarryRun.{none, one_more}
-use Rattle.rmt_many.specs.Seating.{KeepsSeats, Serves, ComesBack}
+use Rattle.rmt_many.specs.Seating.{KeepsSeats, ComesBack}
 use Rattle.rmt_many.specs.Seating.Serves.{untouched, served}
 
 keeps_nothing : {H S Seat R : Type 0} (k : Kinds H Seat S R) (x : State H S Seat R) → KeepsSeats k x x

@@ -1,13 +1,13 @@
 -- Calls over a peer, put together.
-use Rattle.std.proofs.Common.{◌≡◌, ◌≢◌, inl, inr, map, ℕ, List, [], ◌∷◌, ◌++◌, length, take, Bool, true, false, Option, Some, None, Result, Ok, Err, ◌≤◌, ◌<◌, ◌+◌, ◌-◌, ◌^◌, refl, sym, ap, subst, ◌∙◌, append-nil, append_assoc}
+use Rattle.std.proofs.Common.{◌≡◌, inl, inr, map, ℕ, List, [], ◌∷◌, ◌++◌, Bool, true, false, Option, Some, None, Result, Ok, Err, ◌+◌, ◌-◌, refl, sym, ap, subst, ◌∙◌, append-nil, append_assoc}
 use Rattle.std.proofs.lemmas.List.{map-append}
 use Rattle.std.specs.Result.{IsErrAnd}
-use Rattle.rmt_wire.specs.Reply.{PlainReply, Wanted, SpellsReply}
-use Rattle.rmt_wire.specs.ReplyReader.{ReplyHeld, ReplyUnread}
+use Rattle.rmt_wire.specs.Reply.{PlainReply, Wanted}
+use Rattle.rmt_wire.specs.ReplyReader.{ReplyHeld}
 use Rattle.rmt_wire.specs.Request.{PlainRequest, request_text}
 use Rattle.rmt_peer.specs.Answer.{plain_answer, told_answer}
-use Rattle.rmt_peer.specs.Call.{wanted_by, IsNoReply, Brings, IsCall, IsCalled, IsHeard, IsWaiting, IsTaken}
-use Rattle.rmt_peer.specs.Calls.{Follows, NotBegun, Stops, Extends, Finishes}
+use Rattle.rmt_peer.specs.Call.{wanted_by, Brings, IsCalled, IsHeard, IsWaiting, IsTaken}
+use Rattle.rmt_peer.specs.Calls.{Follows, Stops, Extends, Finishes}
 use Rattle.rmt_peer.specs.Calls.Follows.{begins, one_more}
 use Rattle.rmt_peer.specs.Peer.{IsSent, Logs}
 use Rattle.rmt_peer.specs.declared.answer.Answer.{Answer}

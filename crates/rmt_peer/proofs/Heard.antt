@@ -1,5 +1,5 @@
 -- What comes to a caller that waits for a reply.
-use Rattle.std.proofs.Common.{◌≡◌, ◌≢◌, ◌⊎◌, inl, inr, ℕ, ◌+◌, ◌-◌, ◌<◌, ◌≤◌, ◌↔◌, Bool, true, false, min, List, [], ◌∷◌, ◌++◌, length, take, drop, Option, Some, None, Result, Ok, Err, refl, sym, ap, subst, ◌∙◌, arith, append_assoc, append-nil, length-append, rules}
+use Rattle.std.proofs.Common.{◌≡◌, ◌≢◌, inl, inr, ℕ, ◌+◌, ◌-◌, ◌<◌, ◌≤◌, min, List, [], ◌∷◌, ◌++◌, length, take, drop, Option, Some, None, Result, Ok, Err, refl, sym, ap, subst, ◌∙◌, arith, append_assoc, append-nil, length-append, rules}
 use Rattle.std.proofs.lemmas.List.{take-append-drop, length-drop, drop_all}
 use Rattle.std.proofs.Math.Seq.{take-add}
 use Rattle.rmt_wire.specs.Reply.{PlainReply, Wanted, SpellsReply}
@@ -10,7 +10,7 @@ use Rattle.rmt_wire.specs.Limits.{reader_limit}
 use Rattle.rmt_wire.specs.Number.{SpellsNumber}
 use Rattle.rmt_wire.specs.ReplyParts.{ReplyGives, ReplyHasNoSpelling}
 use Rattle.rmt_wire.specs.ReplyFront.{kept_of}
-use Rattle.rmt_wire.specs.ReplyReader.{ReplyHeld, ReplyUnread, reply_taken_of, reply_told, ReplyIsNext, ReplyStaysFaulty}
+use Rattle.rmt_wire.specs.ReplyReader.{ReplyHeld, ReplyUnread, reply_taken_of, reply_told, ReplyIsNext}
 use Rattle.rmt_wire.specs.declared.reply.Reply.{Reply}
 use Rattle.rmt_wire.specs.declared.fault.WireFault.{WireFault}
 use Rattle.rmt_peer.specs.Answer.{plain_answer}

@@ -1,12 +1,11 @@
 -- The replies of one operation of mtio.
-use Rattle.std.proofs.Common.{◌≡◌, inl, inr, ℕ, List, [], ◌∷◌, ◌++◌, Bool, true, false, Option, Some, None, Result, Ok, Err, refl, sym, ap, subst, ◌∙◌, if◌then◌else◌, nat_eq, ◌≤◌, arith}
-use Rattle.rmt_wire.specs.Reply.{PlainReply}
+use Rattle.std.proofs.Common.{◌≡◌, ℕ, List, [], ◌∷◌, ◌++◌, Bool, true, false, Option, Some, None, Result, Ok, Err, refl, sym, ap, subst, ◌∙◌, if◌then◌else◌, nat_eq, ◌≤◌, arith}
 use Rattle.rmt_wire.specs.Request.{PlainRequest}
 use Rattle.rmt_wire.specs.Request.PlainRequest.{Open, Close, Op}
 use Rattle.rmt_peer.specs.Answer.{plain_answer, told_answer}
 use Rattle.rmt_peer.specs.Call.{IsCalled}
-use Rattle.rmt_peer.specs.Calls.{is_done, Extends, Finishes}
-use Rattle.rmt_peer.specs.Operation.{next_of, told_of, told_line, status_after, mode_for, IsReply, IsOperated, IsTold}
+use Rattle.rmt_peer.specs.Calls.{is_done}
+use Rattle.rmt_peer.specs.Operation.{next_of, told_line, status_after, mode_for, IsReply, IsOperated, IsTold}
 use Rattle.rmt_peer.specs.Print.{IsPrinted}
 use Rattle.rmt_wire.specs.Counted.{Counting}
 use Rattle.rmt_peer.specs.declared.answer.Answer.{Answer}

@@ -1,22 +1,21 @@
 -- A volume that is read over a peer, put together.
-use Rattle.std.proofs.Common.{◌≡◌, ◌≢◌, ◌⊎◌, inl, inr, ℕ, ◌+◌, ◌-◌, ◌^◌, ◌≤◌, ◌&&◌, List, [], ◌∷◌, ◌++◌, length, Bool, true, false, Option, Some, None, Result, Ok, Err, Vec, Global, refl, sym, ap, subst, ◌∙◌, if◌then◌else◌, append-nil, append_assoc, length-append, nat_eq, arith}
+use Rattle.std.proofs.Common.{◌≡◌, ◌≢◌, ◌⊎◌, inl, inr, ℕ, ◌+◌, ◌-◌, ◌^◌, ◌≤◌, List, [], ◌∷◌, ◌++◌, length, Bool, true, false, Option, Some, None, Result, Ok, Err, Vec, Global, refl, sym, ap, subst, ◌∙◌, if◌then◌else◌, append-nil, append_assoc, length-append, nat_eq, arith}
 use Rattle.std.proofs.lemmas.Bool.Decides.{nat_tests}
 use Rattle.std.specs.List.{concat}
 use Rattle.std.specs.Prelude.{MatchResult}
 use Rattle.std.proofs.lemmas.List.Folds.{concat-append}
 use Rattle.rmt_wire.specs.Counted.{Counting}
 use Rattle.rmt_wire.specs.Limits.{data_limit}
-use Rattle.rmt_wire.specs.Reply.{PlainReply, Wanted}
+use Rattle.rmt_wire.specs.Reply.{PlainReply}
 use Rattle.rmt_wire.specs.Reply.PlainReply.{Done, Data, Error}
-use Rattle.rmt_wire.specs.Reply.Wanted.{Number, DataUpTo}
+use Rattle.rmt_wire.specs.Reply.Wanted.{Number}
 use Rattle.rmt_wire.specs.Request.{PlainRequest}
-use Rattle.rmt_wire.specs.Request.PlainRequest.{Open, Close, Read, Op}
-use Rattle.rmt_peer.specs.Answer.{plain_answer, told_answer}
+use Rattle.rmt_wire.specs.Request.PlainRequest.{Close, Read, Op}
+use Rattle.rmt_peer.specs.Answer.{told_answer}
 use Rattle.rmt_peer.specs.Call.{wanted_by, IsCall, IsCalled, Brings}
-use Rattle.rmt_peer.specs.Calls.{is_done, Follows, Stops, Extends, Finishes}
-use Rattle.rmt_peer.specs.Peer.{Logs}
+use Rattle.rmt_peer.specs.Calls.{is_done, Follows, Stops, Extends}
 use Rattle.rmt_peer.specs.Print.{IsPrinted}
-use Rattle.rmt_peer.specs.Reading.{next_of, next_read, records_of, text_of, label_text, file_bytes, IsNamed, Fails, Ends, is_whole, read_fault, AreRecords, IsReading, Breaks, Steps, IsDone, IsRecord, Reads, IsWritten, IsCopied, IsThrough}
+use Rattle.rmt_peer.specs.Reading.{next_of, next_read, records_of, text_of, label_text, file_bytes, IsNamed, Fails, is_whole, read_fault, AreRecords, IsReading, Breaks, Steps, IsDone, IsRecord, Reads, IsWritten, IsCopied, IsThrough}
 use Rattle.rmt_peer.specs.declared.answer.Answer.{Answer}
 use Rattle.rmt_peer.specs.declared.answer.Answer.TheVariants as kept
 use Rattle.rmt_peer.specs.declared.fault.Asked.{Asked}

@@ -1,5 +1,5 @@
 -- A reply that is kept, as the value that it is. Public contracts stand on it (through Operation).
-use Rattle.std.specs.Prelude.{ℕ, Option, Some, None, Result, Ok, Err}
+use Rattle.std.specs.Prelude.{Result, Ok, Err}
 use Rattle.rmt_wire.specs.Reply.{PlainReply}
 use Rattle.rmt_wire.specs.Reply.PlainReply.{Done, Data, Error}
 use Rattle.rmt_peer.specs.declared.answer.Answer.{Answer}

@@ -1,15 +1,13 @@
 -- One operation of mtio: its requests, what is printed, and the status. Public contracts cite it.
-use Rattle.std.specs.Prelude.{◌≡◌, ◌&&◌, ℕ, Bool, true, false, List, [], ◌∷◌, ◌++◌, length, codes, decimal, Option, Some, None, Result, Ok, Err, if◌then◌else◌, nat_eq}
+use Rattle.std.specs.Prelude.{◌≡◌, ◌&&◌, ℕ, Bool, List, [], ◌∷◌, ◌++◌, length, codes, decimal, Option, Some, None, Result, Ok, Err, if◌then◌else◌, nat_eq}
 use Rattle.rmt_wire.specs.Counted.{Counting}
 use Rattle.rmt_wire.specs.Reply.{PlainReply}
 use Rattle.rmt_wire.specs.Reply.PlainReply.{Done, Data, Error}
 use Rattle.rmt_wire.specs.Request.{PlainRequest}
 use Rattle.rmt_wire.specs.Request.PlainRequest.{Open, Close, Op}
-use Rattle.rmt_peer.specs.Answer.{plain_answer}
 use Rattle.rmt_peer.specs.Calls.{is_done, Stops, Extends, Finishes}
 use Rattle.rmt_peer.specs.Peer.{Logs}
 use Rattle.rmt_peer.specs.Print.{IsPrinted}
-use Rattle.rmt_peer.specs.declared.answer.Answer.{Answer}
 use Rattle.rmt_peer.specs.declared.fault.CallFault.{CallFault}
 use Rattle.rmt_peer.specs.declared.peer.Passed.{Passed}
 

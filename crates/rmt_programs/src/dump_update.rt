@@ -1,5 +1,4 @@
 //! A dump that is entered in a dumpdates file once it is complete.
-ghost use Rattle.std.specs.Prelude.{◌≡◌};
 ghost use Rattle.rmt_programs.specs.Updating.{IsEntered, IsTold};
 
 use dump_client::{Blocks, Client};

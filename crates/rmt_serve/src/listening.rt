@@ -1,5 +1,5 @@
 //! Serving the connections of a listener, one after the other, as `rmtd --listen` does at a drive in memory.
-ghost use Rattle.rmt_serve.specs.Serving.{ServedInTurn, IsServedNext};
+ghost use Rattle.rmt_serve.specs.Serving.{ServedInTurn};
 
 use crate::MemoryServer;
 use rmt_server::Served;

@@ -1,6 +1,6 @@
 //! The number that bytes begin with.
 
-ghost use Rattle.std.specs.Prelude.{◌≡◌, ◌<◌, ◌≤◌, length, IfOk, IfSome};
+ghost use Rattle.std.specs.Prelude.{◌≡◌, ◌<◌, length, IfOk, IfSome};
 ghost use Rattle.rmt_wire.specs.Seen as spec;
 
 use crate::fault::WireFault;

@@ -3,7 +3,7 @@
 ghost use Rattle.std.specs.Prelude.{◌≡◌, map, codes, false, [], IfOk, IfErr, IsErrOf, MatchOption, MatchResult, option_map};
 ghost use Rattle.clap.specs.Words.{App, app_of, first_of, found_of, kind_of, new_app, rows_of, rule_of, with_rule};
 ghost use Rattle.rmtd_words.specs.Drive.{plain_drive, split_of};
-ghost use Rattle.rmtd_words.specs.Rmtd.{app, app_with_limits, app_with_ways, words_in, words_rule, faults_in, flag_rule, has_stdio, matches_in, option_rule, with_version, IsLineIn, IsLineOf, IsRefused, KeepsRules, ReadsCapacity, ReadsConnections, SaysNumber, IsNumberIfGiven};
+ghost use Rattle.rmtd_words.specs.Rmtd.{app, app_with_limits, app_with_ways, words_in, words_rule, faults_in, flag_rule, has_stdio, matches_in, option_rule, with_version, IsLineIn, IsLineOf, IsRefused, KeepsRules, ReadsCapacity, ReadsConnections, IsNumberIfGiven};
 
 use crate::drive_word::{DriveWord, check_drives, drives_of};
 use crate::number::number_of;

@@ -5,7 +5,7 @@ ghost use Rattle.drives.specs.Shop.{names_of};
 ghost use Rattle.dumpdates.specs.Text.{written};
 ghost use Rattle.tape_world.specs.Telling.{told_count};
 ghost use Rattle.schedules.specs.Drives.{plain_line};
-ghost use Rattle.schedules.specs.Report.{report_text, reel_line, stack_line, bin_line, count_line, names_text, length_text, entry_text, entries_of_reel};
+ghost use Rattle.schedules.specs.Report.{report_text, reel_line, stack_line, count_line, names_text, length_text, entry_text, entries_of_reel};
 
 use crate::drive_line::DriveLine;
 use drives::ListedReel;

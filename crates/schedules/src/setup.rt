@@ -1,5 +1,5 @@
 //! The drives of a schedule.
-ghost use Rattle.std.specs.Prelude.{◌≡◌, ◌≢◌, ◌↔◌, ◌++◌, ◌∷◌, [], true, map, IfOk, MatchResult, OnOk};
+ghost use Rattle.std.specs.Prelude.{◌≡◌, ◌≢◌, ◌↔◌, [], true, map, IfOk, MatchResult};
 ghost use Rattle.tape_events.specs.First.{AreGoodDrives, first_world};
 ghost use Rattle.tape_world.specs.Making.{plain_drive};
 ghost use Rattle.schedules.specs.Drives.{plain_line};

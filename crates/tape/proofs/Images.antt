@@ -1,20 +1,17 @@
 -- Lengths and images in a file.
-use Rattle.std.proofs.Common.{◌≡◌, ◌≢◌, ◌⊎◌, ℕ, zero, suc, ◌+◌, ◌-◌, ◌<◌, ◌≤◌, ◌^◌, ◌==◌, if◌then◌else◌, Bool, List, [], ◌∷◌, ◌++◌, length, get_or, reverse, take, drop, Option, Some, None, Result, Ok, Err, inl, inr, refl, sym, ap, subst, ◌∙◌, append_assoc, append-nil, length-append, length-drop, length-take, take-append-drop, drop-drop, arith}
-use Rattle.std.proofs.lemmas.List.{take_at, drop_at, take_all, take_min, reverse-append, take-append-le}
-use Rattle.std.proofs.lemmas.Bool.Decides.{nat_tests}
+use Rattle.std.proofs.Common.{◌≡◌, ◌≢◌, ℕ, ◌+◌, ◌-◌, ◌<◌, ◌≤◌, ◌^◌, List, [], ◌∷◌, ◌++◌, length, take, drop, Option, Some, None, refl, sym, ap, subst, ◌∙◌, append_assoc, length-append, length-drop, length-take, take-append-drop, drop-drop, arith}
+use Rattle.std.proofs.lemmas.List.{take_at, drop_at, take_all}
 use Rattle.std.proofs.lemmas.List.Elements.{All-head}
 use Rattle.std.specs.List.{All}
-use Rattle.tape.proofs.Spelling.{tail_short}
-use Rattle.std.proofs.lemmas.Nat.{le_bytes_4}
 use Rattle.std.specs.Int.{w32, from_le_bytes}
-use Rattle.tape.specs.Tape.{PlainEntry, Tape, IsTapeEntry, IsRecord, tape}
+use Rattle.tape.specs.Tape.{PlainEntry, Tape, IsTapeEntry, IsRecord}
 use Rattle.tape.specs.Tape.PlainEntry.{Record, Mark}
 use Rattle.tape.specs.List.{bytes_of}
 use Rattle.tape.specs.Medium.{IsReadAt}
 use Rattle.tape.specs.RecordFile.{length_bytes, image_of, images_of, IsTail, IsFile, first_in}
-use Rattle.tape.specs.FileSteps.{BeginsWith, size_by_length, first_length}
-use Rattle.tape.proofs.Spelling.{length_length_bytes, from_length_bytes, length_of, length_bound, body_of, image_parts, image_size, first_image, first_none, first_some}
-use Rattle.tape.proofs.Places.{IsParted, parted, back_is}
+use Rattle.tape.specs.FileSteps.{BeginsWith, first_length}
+use Rattle.tape.proofs.Spelling.{length_length_bytes, from_length_bytes, length_of, length_bound, body_of, image_parts, first_image}
+use Rattle.tape.proofs.Places.{parted, back_is}
 
 -- ---- lengths
 

@@ -1,6 +1,5 @@
 -- Calls of a medium in a row.
-use Rattle.std.proofs.Common.{◌≡◌, ◌≢◌, ◌⊎◌, false, true, ℕ, ◌+◌, ◌<◌, ◌≤◌, List, length, Result, Ok, Err, inl, inr, refl, ◌∙◌, arith}
-use Rattle.tape.specs.Failures.{HasRisen, Steps}
+use Rattle.std.proofs.Common.{◌≡◌, ◌≢◌, false, true, ℕ, ◌+◌, ◌<◌, ◌≤◌, List, inl, inr, refl, ◌∙◌, arith}
 use Rattle.tape.specs.Medium.{MediumCall, MediumStep, HasFailed, bytes_added, MediumKind, IsMediumCall}
 use Rattle.tape.specs.FileSteps.{IsRun}
 

@@ -1,11 +1,10 @@
 -- From a run of a reel on a medium to a call of a reel.
-use Rattle.std.proofs.Common.{◌≡◌, ◌⊎◌, ◌↔◌, IsTrue, Bool, true, ℕ, ◌+◌, ◌*◌, ◌<◌, ◌≤◌, List, [], ◌∷◌, ◌++◌, length, take, replicate, min, false, Result, Ok, Err, IsErr, IfErr, inl, inr, refl, sym, ap, subst, ◌∙◌, arith}
-use Rattle.std.proofs.lemmas.List.{length-replicate, take-replicate, take_min, take_all}
+use Rattle.std.proofs.Common.{◌≡◌, ◌↔◌, IsTrue, Bool, true, ℕ, ◌+◌, ◌*◌, ◌<◌, ◌≤◌, List, [], ◌∷◌, length, replicate, min, false, Result, Ok, Err, IsErr, IfErr, inl, inr, refl, sym, ap, subst, ◌∙◌, arith}
 use Rattle.std.proofs.lemmas.Bool.{cases_lt}
 use Rattle.std.specs.Prelude.{◌-◌, MatchResult}
-use Rattle.tape.specs.Tape.{PlainEntry, Tape, TapeRequest, TapeAnswer, TapeStep, SpaceStep, stands_at, marks_met, records_met, passed_for_marks, passed_for_records, offset_of, tape, entries_of, done_answer}
+use Rattle.tape.specs.Tape.{Tape, TapeRequest, TapeAnswer, TapeStep, SpaceStep, stands_at, marks_met, records_met, passed_for_marks, passed_for_records, tape, entries_of, done_answer}
 use Rattle.tape.specs.Tape.PlainEntry.{Record, Mark}
-use Rattle.tape.specs.Tape.TapeRequest.{Write, WriteMarks, Read, ForwardFiles, BackFiles, ForwardRecords, BackRecords, Rewind, Nothing, Unknown}
+use Rattle.tape.specs.Tape.TapeRequest.{Write, WriteMarks, ForwardFiles, BackFiles, ForwardRecords, BackRecords, Rewind, Nothing, Unknown}
 use Rattle.tape.specs.Tape.TapeAnswer.{Done, Fault}
 use Rattle.tape.specs.Call.{IsCall, CanAnswer, CanSpace}
 use Rattle.tape.specs.Medium.{MediumKind}

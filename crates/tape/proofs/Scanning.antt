@@ -1,5 +1,5 @@
 -- The first entry of a record file's bytes, and the others.
-use Rattle.std.proofs.Common.{◌≡◌, ◌≢◌, ℕ, zero, suc, ◌+◌, ◌-◌, ◌<◌, ◌≤◌, ◌^◌, List, [], ◌∷◌, ◌++◌, length, take, drop, Option, Some, None, refl, sym, ap, subst, ◌∙◌, append_assoc, append-nil, length-append, get_or, length-take, arith}
+use Rattle.std.proofs.Common.{◌≡◌, ◌≢◌, ℕ, zero, suc, ◌+◌, ◌-◌, ◌<◌, ◌≤◌, ◌^◌, List, [], ◌∷◌, ◌++◌, length, take, drop, None, refl, sym, ap, subst, ◌∙◌, append_assoc, append-nil, length-append, get_or, length-take, arith}
 use Rattle.std.proofs.lemmas.List.{take_at, drop_at}
 use Rattle.std.proofs.lemmas.List.{map-append, take-append-drop}
 use Rattle.std.proofs.lemmas.Nat.{le_bytes_4}
@@ -12,7 +12,7 @@ use Rattle.tape.specs.RecordFile.{length_bytes, image_of, IsTail, SpellsReel, en
 use Rattle.tape.specs.Scan.{IsFirst, IsNth}
 use Rattle.tape.specs.declared.entry.Entry.{Entry}
 use Rattle.tape.specs.declared.entry.Entry.TheVariants as entry
-use Rattle.tape.proofs.Spelling.{image_size, spelling, length_length_bytes, from_length_bytes, length_of, length_bound, body_of, image_parts, tail_short, spells_in, found_in, tail_spells, more_spells}
+use Rattle.tape.proofs.Spelling.{image_size, spelling, length_length_bytes, from_length_bytes, length_of, length_bound, body_of, image_parts, spells_in, found_in, tail_spells, more_spells}
 
 -- two lengths that begin the same bytes are one
 pub same_length : (n m : ℕ) (xs ys : List ℕ) → n < 2 ^ 32 → m < 2 ^ 32 → length_bytes n ++ xs ≡ length_bytes m ++ ys → (n ≡ m) × (xs ≡ ys)

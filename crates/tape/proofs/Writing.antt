@@ -1,10 +1,9 @@
 -- Bytes that are added behind a place, and the entries that they are.
-use Rattle.std.proofs.Common.{◌≡◌, ◌≢◌, ◌⊎◌, ℕ, zero, suc, ◌+◌, ◌-◌, ◌*◌, ◌<◌, ◌≤◌, min, List, [], ◌∷◌, ◌++◌, length, take, drop, replicate, Option, Some, None, Result, Ok, Err, inl, inr, refl, sym, ap, subst, ◌∙◌, append_assoc, append-nil, length-append, length-take, take-append-drop, arith}
-use Rattle.std.proofs.lemmas.List.{take_at, drop_at, take_all, take_min, take-append-le, length-replicate, take-replicate, replicate-append-replicate, append_cancel_left}
-use Rattle.std.proofs.lemmas.List.Elements.{All-head, All-tail, All-nil, All-append, All-take}
+use Rattle.std.proofs.Common.{◌≡◌, ◌⊎◌, ℕ, zero, suc, ◌+◌, ◌-◌, ◌*◌, ◌<◌, ◌≤◌, min, List, [], ◌∷◌, ◌++◌, length, take, drop, replicate, Some, Result, Ok, Err, inl, inr, refl, sym, ap, subst, ◌∙◌, append_assoc, append-nil, length-append, length-take, take-append-drop, arith}
+use Rattle.std.proofs.lemmas.List.{take_min, take-append-le, length-replicate, take-replicate, replicate-append-replicate}
+use Rattle.std.proofs.lemmas.List.Elements.{All-head, All-tail, All-nil, All-append}
 use Rattle.std.proofs.lemmas.List.Sums.{sum_by-cons}
 use Rattle.std.proofs.lemmas.Grind.{flat_map-append}
-use Rattle.std.proofs.Math.Seq.{take-append_seam}
 use Rattle.std.proofs.lemmas.Bool.{cases_lt}
 use Rattle.std.specs.List.{All}
 use Rattle.tape.specs.Tape.{PlainEntry, Tape, IsTapeEntry, tape, size_of, offset_of}
@@ -12,11 +11,10 @@ use Rattle.tape.specs.Tape.PlainEntry.{Record, Mark}
 use Rattle.tape.specs.Medium.{MediumStep}
 use Rattle.tape.specs.Medium.MediumCall.{Append, Cut}
 use Rattle.tape.specs.RecordFile.{length_bytes, image_of, images_of, IsTail, SpellsReel, IsFile, first_in}
-use Rattle.tape.specs.FileSteps.{IsWritten, Puts}
+use Rattle.tape.specs.FileSteps.{IsWritten}
 use Rattle.tape.specs.declared.medium.MediumFailed.{MediumFailed}
-use Rattle.tape.specs.declared.fault.TapeFault.{TapeFault}
-use Rattle.tape.proofs.Spelling.{length_length_bytes, image_size, first_image, tail_spells, tail_short, more_spells}
-use Rattle.tape.proofs.Places.{IsParted, parted, joined, front_is}
+use Rattle.tape.proofs.Spelling.{length_length_bytes, first_image, tail_spells, tail_short, more_spells}
+use Rattle.tape.proofs.Places.{parted, joined, front_is}
 
 -- ---- bytes that were added
 

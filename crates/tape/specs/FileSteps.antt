@@ -1,7 +1,7 @@
 -- What the parts of a reel on a medium do: to the medium, and to the tape that its bytes spell. No public contract needs it.
-use Rattle.std.specs.Prelude.{◌≡◌, ◌⊎◌, ◌==◌, if◌then◌else◌, ℕ, ◌+◌, ◌-◌, ◌^◌, ◌<◌, ◌≤◌, Bool, List, [], ◌∷◌, ◌++◌, length, reverse, take, drop, Option, Some, None, Result, Ok, Err, MatchResult}
+use Rattle.std.specs.Prelude.{◌≡◌, ◌⊎◌, ◌==◌, if◌then◌else◌, ℕ, ◌+◌, ◌-◌, ◌^◌, ◌<◌, ◌≤◌, Bool, List, [], ◌∷◌, ◌++◌, length, reverse, take, Option, Some, None, Result, MatchResult}
 use Rattle.tape.specs.Failures.{HasRisen, Steps}
-use Rattle.tape.specs.Tape.{PlainEntry, Tape, TapeRequest, IsTapeEntry, entries_of, tape, stands_at, mark_count}
+use Rattle.tape.specs.Tape.{PlainEntry, Tape, TapeRequest, entries_of, tape, stands_at, mark_count}
 use Rattle.tape.specs.Tape.TapeRequest.{ForwardFiles, BackFiles, ForwardRecords, BackRecords}
 use Rattle.tape.specs.List.{bytes_of}
 use Rattle.tape.specs.Medium.{MediumKind}

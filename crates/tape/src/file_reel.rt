@@ -1,7 +1,7 @@
 //! A reel whose entries lie on a medium.
 
-ghost use Rattle.std.specs.Prelude.{◌≡◌, ◌+◌, ◌*◌, ◌^◌, ◌<◌, ◌≤◌, ◌↔◌, List, ℕ, IfOk, IfErr, IsErr, IsTrue, MatchResult, [], ◌∷◌, length, replicate, false};
-ghost use Rattle.tape.specs.Tape.{PlainEntry, IsRecord, tape, done_answer, given_answer, op_request};
+ghost use Rattle.std.specs.Prelude.{◌≡◌, ◌+◌, ◌*◌, ◌^◌, ◌<◌, ◌≤◌, ◌↔◌, List, ℕ, IfErr, IsErr, IsTrue, MatchResult, [], ◌∷◌, length, replicate, false};
+ghost use Rattle.tape.specs.Tape.{PlainEntry, IsRecord, tape, done_answer};
 ghost use Rattle.tape.specs.Tape.PlainEntry.{Record, Mark};
 ghost use Rattle.tape.specs.Tape.TapeRequest.{WriteMarks};
 ghost use Rattle.tape.specs.Call.{IsCall};

@@ -1,5 +1,5 @@
 //! One turn of a session: one request of what was pushed, under a trouble.
-ghost use Rattle.std.specs.Prelude.{◌≡◌, ℕ, ◌+◌, ◌≤◌, Bool, List, length, vec_len, vec_capacity, false};
+ghost use Rattle.std.specs.Prelude.{◌≡◌, ℕ, ◌+◌, ◌≤◌, List, length, vec_len, vec_capacity, false};
 ghost use Rattle.rmt_wire.specs.Lent.{plain_request, plain_reply};
 ghost use Rattle.rmt_wire.specs.Reply.{PlainReply, ReplyHasSpelling, reply_text};
 ghost use Rattle.rmt_wire.specs.RequestReader.{Unread};

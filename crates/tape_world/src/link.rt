@@ -2,7 +2,7 @@
 ghost use Rattle.std.specs.Prelude.{◌≡◌, ◌≤◌, length, map, slice_get, OnOk, OnErr};
 ghost use Rattle.std.specs.Option.{option_copied, option_map};
 ghost use Rattle.tape_events.specs.World.{numbered};
-ghost use Rattle.tape_events.specs.Changes.{changed, new_link, over_here, over_there, sent_on};
+ghost use Rattle.tape_events.specs.Changes.{changed, new_link, over_here, over_there};
 ghost use Rattle.tape_world.specs.Seen.{seen_link};
 ghost use Rattle.tape_events.specs.Steps.{sent_link};
 ghost use Rattle.tape_world.specs.Linking.{severed, said, arrived};

@@ -1,6 +1,6 @@
 //! The bytes on the way to one side of a connection.
 
-ghost use Rattle.std.specs.Prelude.{◌≡◌, ◌≤◌, ◌++◌, [], length, drop, OnErr, OnOk};
+ghost use Rattle.std.specs.Prelude.{◌≡◌, ◌≤◌, ◌++◌, [], length, drop, OnOk};
 ghost use Rattle.tape_host.specs.Turns.{ServesAt};
 
 use rmt_wire::READER_LIMIT;

@@ -1,7 +1,6 @@
 //! Events, one after the other.
 ghost use Rattle.std.specs.Prelude.{◌≡◌, OnOk, IfErr, map};
 ghost use Rattle.tape_events.specs.Steps.{Runs};
-ghost use Rattle.tape_world.specs.Holding.{IsEvent};
 ghost use Rattle.tape_world.specs.Running.{plain_event, place_of, fault_at, IsStopped, IsRefused, LeavesInOrder};
 
 use crate::event::Event;

@@ -1,5 +1,5 @@
 //! The server's side of a connection in memory.
-ghost use Rattle.std.specs.Prelude.{◌≡◌, ◌≤◌, IfSome, IsTrue, length};
+ghost use Rattle.std.specs.Prelude.{◌≤◌, IfSome, IsTrue, length};
 ghost use Rattle.rmt_wire.specs.Lent.{plain_request};
 ghost use Rattle.rmt_server.specs.Memory.{in_memory};
 ghost use Rattle.rmt_server.specs.Opening.{IsClosed};

@@ -2,7 +2,7 @@
 ghost use Rattle.std.specs.Prelude.{◌≡◌, ℕ, ◌<◌, ◌≤◌, ◌&&◌, Some, None, IfOk, length};
 ghost use Rattle.rmt_wire.specs.Limits.{data_limit};
 ghost use Rattle.rmt_wire.specs.Request.PlainRequest.{Write, WriteDropped, Read, Op};
-ghost use Rattle.rmt_server.specs.Session.{refusal, Ready, read_refusal, write_refusal, op_refusal};
+ghost use Rattle.rmt_server.specs.Session.{refusal, read_refusal, write_refusal, op_refusal};
 ghost use Rattle.rmt_server.specs.State.{status_at};
 ghost use Rattle.rmt_server.specs.Replies.{refusal_in, number_reply, data_reply};
 ghost use Rattle.rmt_server.specs.Serving.{ReelServes};

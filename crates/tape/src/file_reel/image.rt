@@ -1,8 +1,8 @@
 //! The image of an entry on a medium: how it is found there, and how it is put there.
 
-ghost use Rattle.std.specs.Prelude.{◌≡◌, ◌+◌, ◌*◌, ◌<◌, ◌≤◌, ◌^◌, IfOk, OnSome, IfSome, IsErr, length, drop, replicate, OnOk};
+ghost use Rattle.std.specs.Prelude.{◌≡◌, ◌+◌, ◌*◌, ◌<◌, ◌≤◌, ◌^◌, IfOk, IfSome, IsErr, length, drop, replicate};
 ghost use Rattle.tape.specs.Tape.{Tape, IsRecord};
-ghost use Rattle.tape.specs.Tape.PlainEntry.{Record, Mark};
+ghost use Rattle.tape.specs.Tape.PlainEntry.{Record};
 ghost use Rattle.tape.specs.Medium.{MediumStep, medium_kind};
 ghost use Rattle.tape.specs.Medium.MediumCall.{Append};
 ghost use Rattle.tape.specs.RecordFile.{IsFile, image_of, length_bytes};

@@ -1,6 +1,6 @@
 //! A walk along a reel, past marks or records.
 
-ghost use Rattle.std.specs.Prelude.{◌≡◌, ◌<◌, ◌≤◌, IfOk, IfSome, IfNone, IsErr, MatchOption, MatchResult, []};
+ghost use Rattle.std.specs.Prelude.{◌≡◌, ◌<◌, ◌≤◌, IfOk, IfSome, IsErr, MatchOption, MatchResult, []};
 ghost use Rattle.tape.specs.Tape.{Tape, marks_met, records_met, passed_for_marks, passed_for_records};
 ghost use Rattle.tape.specs.Medium.{medium_kind};
 ghost use Rattle.tape.specs.RecordFile.{IsFile};

@@ -1,11 +1,8 @@
 //! What a world tells.
-ghost use Rattle.std.specs.Prelude.{◌≡◌, ℕ, List, Option, Some, false, map, slice_get, IfSome};
+ghost use Rattle.std.specs.Prelude.{◌≡◌, Option, Some, map, IfSome};
 ghost use Rattle.std.specs.Option.{option_copied, option_map};
-ghost use Rattle.drives.specs.Shop.{IsDriveNamed, rack_at};
 ghost use Rattle.drives.specs.ListShop.{rest_slot};
-ghost use Rattle.dump_run.specs.Blocks.{listed};
 ghost use Rattle.rmt_server.specs.Memory.{session_seen};
-ghost use Rattle.tape_events.specs.World.{Caller, Begun, numbered};
 ghost use Rattle.tape_events.specs.Changes.{side_of};
 ghost use Rattle.tape_world.specs.Telling.{client_told, caller_told, TellsStack, TellsWay, TellsPayload};
 

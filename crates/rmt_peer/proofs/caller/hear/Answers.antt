@@ -1,4 +1,4 @@
-use Rattle.std.proofs.Common.{◌≤◌, ◌+◌, ◌++◌, ◌∷◌, [], inr, map, take, length, subst, ap, ◌∙◌, Ok, refl, arith, length-append, append-nil, sym}
+use Rattle.std.proofs.Common.{◌+◌, ◌++◌, ◌∷◌, [], inr, map, take, subst, ap, ◌∙◌, Ok, refl, arith, length-append}
 use Rattle.std.proofs.lemmas.List.{length-take}
 use Rattle.rmt_wire.specs.Lent.{plain_wanted}
 use Rattle.rmt_peer.specs.Peer.{Logs}

@@ -1,7 +1,7 @@
-use Rattle.std.proofs.Common.{◌≡◌, ◌≤◌, Ok, Err, ap, arith, true, false, if◌then◌else◌, nat_eq}
+use Rattle.std.proofs.Common.{ap, true, false}
 use Rattle.rmt_wire.specs.Request.PlainRequest.{Open}
 use Rattle.rmt_peer.specs.Answer.{told_answer}
-use Rattle.rmt_peer.specs.Operation.{IsReply, mode_for}
+use Rattle.rmt_peer.specs.Operation.{IsReply}
 use Rattle.rmt_peer.proofs.Calls.{err_from}
 use Rattle.rmt_peer.proofs.Operating.{mode_small, open_fails, open_refused, operation_asked}
 use Rattle.rmt_peer.proofs.operation.ask.Goals as goal

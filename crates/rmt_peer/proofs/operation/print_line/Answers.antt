@@ -1,4 +1,4 @@
-use Rattle.std.proofs.Common.{true, false, subst, sym, codes, ◌++◌, decimal, ◌∷◌, []}
+use Rattle.std.proofs.Common.{true, false, subst, sym, ◌++◌, ◌∷◌, []}
 use Rattle.rmt_peer.specs.Print.{IsPrinted}
 use Rattle.rmt_peer.proofs.Printed.{printed_both, printed_less}
 use Rattle.rmt_peer.proofs.operation.print_line.Goals as goal

@@ -1,4 +1,4 @@
-use Rattle.std.proofs.Common.{Some, [], ◌∷◌, ◌++◌, true, false, refl, inr, subst, append-nil}
+use Rattle.std.proofs.Common.{[], ◌∷◌, true, false, refl, inr, subst, append-nil}
 use Rattle.rmt_peer.specs.Calls.Follows.{begins}
 use Rattle.rmt_peer.specs.Peer.{Logs, connected}
 use Rattle.rmt_peer.specs.declared.peer.Passed.TheVariants.{Connected, Ended}

@@ -1,4 +1,4 @@
-use Rattle.std.proofs.Common.{◌≡◌, ◌≢◌, [], true, false, Ok, Err, ap, sym, subst, arith}
+use Rattle.std.proofs.Common.{◌≡◌, true, false, subst, arith}
 use Rattle.std.specs.Result.{IsErrAnd}
 use Rattle.std.specs.Vec.{vec_len}
 use Rattle.rmt_peer.specs.Reading.{IsWritten, next_of}

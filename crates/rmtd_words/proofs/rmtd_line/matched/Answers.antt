@@ -1,7 +1,7 @@
-use Rattle.std.proofs.Common.{ap, sym, map, List, ℕ, Bor, ◌≡◌, ◌∙◌}
+use Rattle.std.proofs.Common.{ap, map, List, ℕ, Bor, ◌∙◌}
 use Rattle.std.proofs.lemmas.Result.{IfOk-weaker}
-use Rattle.clap.specs.Words.{App, Text, FailsBy, fault_of, is_simple, is_simple_and_free, matches_of}
-use Rattle.rmtd_words.specs.Rmtd.{app, faults_in, matches_in}
+use Rattle.clap.specs.Words.{App, Text, fault_of, is_simple, is_simple_and_free, matches_of}
+use Rattle.rmtd_words.specs.Rmtd.{faults_in, matches_in}
 use Rattle.rmtd_words.proofs.App.{app_is_simple, app_is_simple_and_free, taken_where_ok, some_where_not_memory}
 use Rattle.rmtd_words.proofs.rmtd_line.matched.Goals as goal
 

@@ -1,8 +1,6 @@
-use Rattle.std.proofs.Common.{true, map, ap, subst, ◌∙◌}
-use Rattle.tape_events.specs.First.{first_world}
+use Rattle.std.proofs.Common.{true, map, subst, ◌∙◌}
 use Rattle.schedules.specs.Drives.{plain_line}
 use Rattle.schedules.specs.Playing.{IsPlayed}
-use Rattle.schedules.specs.Report.{report_text}
 use Rattle.schedules.proofs.Ended.{halted_play, reported}
 use Rattle.schedules.proofs.running.play_and_report.Goals as goal
 

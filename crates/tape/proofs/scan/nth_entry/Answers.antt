@@ -1,4 +1,4 @@
-use Rattle.std.proofs.Common.{◌≡◌, ◌≤◌, arith}
+use Rattle.std.proofs.Common.{arith}
 use Rattle.tape.proofs.Scanning.{nth_more, nth_none, nth_some}
 use Rattle.tape.proofs.scan.nth_entry.Goals as goal
 

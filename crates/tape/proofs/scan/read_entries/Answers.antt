@@ -1,4 +1,4 @@
-use Rattle.std.proofs.Common.{◌≡◌, ◌∙◌, ap, ◌++◌, sym}
+use Rattle.std.proofs.Common.{◌∙◌, ap, ◌++◌, sym}
 use Rattle.tape.specs.List.{plain_entries}
 use Rattle.tape.specs.RecordFile.{entries_in}
 use Rattle.tape.proofs.Scanning.{shorter, read_more, read_all}

@@ -1,4 +1,4 @@
-use Rattle.std.proofs.Common.{◌≤◌, length, arith, rules}
+use Rattle.std.proofs.Common.{◌≤◌, length, arith}
 use Rattle.tape.proofs.Scanning.{read_length}
 use Rattle.tape.proofs.scan.split_length.Goals as goal
 

@@ -1,6 +1,5 @@
-use Rattle.std.proofs.Common.{◌≡◌, ◌<◌, rules, ap, sym, ◌∙◌, subst, arith}
+use Rattle.std.proofs.Common.{◌<◌, rules, ap, sym, ◌∙◌, subst, arith}
 use Rattle.atomic_table.specs.Seated.{TableId}
-use Rattle.hold_table.specs.Seats.{dealt}
 use Rattle.hold_table.proofs.Keeps.{deals}
 use Rattle.hold_table.proofs.Dealt.{dealt_idle}
 use Rattle.hold_table.proofs.table.HoldTable.deal.Goals as goal

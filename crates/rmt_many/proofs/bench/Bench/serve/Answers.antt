@@ -1,5 +1,5 @@
-use Rattle.std.proofs.Common.{refl, sym, subst, ◌∙◌, arith}
-use Rattle.rmt_many.proofs.Hands.{same_table, seat_comes_back}
+use Rattle.std.proofs.Common.{arith}
+use Rattle.rmt_many.proofs.Hands.{seat_comes_back}
 use Rattle.rmt_many.proofs.bench.Bench.serve.Goals as goal
 
 pub invariant_of-result : goal.invariant_of-result

@@ -1,4 +1,3 @@
-use Rattle.std.proofs.Common.{ℕ}
 use Rattle.rmt_many.proofs.connections.ConnectionsIncoming.next.Given as goal
 
 abbrev pub decreases-loop-left : goal.decreases-loop-left

@@ -1,4 +1,4 @@
-use Rattle.std.proofs.Common.{◌≡◌, ◌+◌, ◌*◌, ◌≤◌, ◌<◌, ap, sym, ◌∙◌, arith}
+use Rattle.std.proofs.Common.{◌+◌, ◌*◌, arith}
 use Rattle.tape.specs.Medium.{medium_kind}
 use Rattle.tape.proofs.ReelCalls.{marks_call, full_marks, no_marks, no_room, the_room}
 use Rattle.tape.proofs.file_reel.FileReel.write_marks.Goals as goal

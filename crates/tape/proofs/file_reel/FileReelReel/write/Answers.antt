@@ -1,4 +1,4 @@
-use Rattle.std.proofs.Common.{◌≡◌, ◌+◌, ◌≤◌, length, arith}
+use Rattle.std.proofs.Common.{◌+◌, length}
 use Rattle.tape.specs.Medium.{medium_kind}
 use Rattle.tape.proofs.ReelCalls.{write_call, full_call, no_room, the_room}
 use Rattle.tape.proofs.file_reel.FileReelReel.write.Goals as goal

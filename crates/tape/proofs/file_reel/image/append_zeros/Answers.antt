@@ -1,4 +1,4 @@
-use Rattle.std.proofs.Common.{◌≡◌, ◌+◌, ◌≤◌, length, refl, length-take, arith}
+use Rattle.std.proofs.Common.{◌+◌, ◌≤◌, length, refl, length-take, arith}
 use Rattle.std.proofs.lemmas.Result.{err_from_is_err_and}
 use Rattle.tape.proofs.MediumRuns.{run_call, run_then}
 use Rattle.tape.proofs.Writing.{zeros_more, zeros_part}

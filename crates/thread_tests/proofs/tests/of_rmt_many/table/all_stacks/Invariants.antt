@@ -1,4 +1,4 @@
-use Rattle.std.proofs.Common.{◌≡◌, ℕ, ◌-◌, ◌≤◌, All, length}
+use Rattle.std.proofs.Common.{◌≡◌, ◌-◌, ◌≤◌, All, length}
 use Rattle.thread_tests.proofs.tests.of_rmt_many.table.all_stacks.Given as goal
 
 abbrev pub invariant-loop-alloc : goal.invariant-loop-alloc
