@@ -1,5 +1,5 @@
 # Builds, runs, tests and measures the tape server and the dump client. It needs the Rattle kit's `rt` in PATH, and
-# Python 3.
+# Python 3. `make` alone lists the words.
 
 PROGRAM := crates/rmtd/out/rmtd
 CLIENT := crates/rdump/out/rdump
@@ -11,8 +11,11 @@ RATIOS := out/bench.tsv
 PREFIX ?= /usr/local
 DESTDIR ?=
 
-.PHONY: build run test bench install clean help kit
+.PHONY: help build run test bench install clean kit
 .NOTPARALLEL:
+
+help: ## list these words
+	@sed -n 's/^\([a-z]*\):.*## /  make \1\t/p' $(MAKEFILE_LIST) | expand -t 16
 
 build: kit ## prove and build the three programs, crates side by side; it says first how long that is likely to take
 	@python3 tests/build.py rmtd rdump rsim
@@ -24,6 +27,7 @@ run: kit ## show a conversation with the server, turn by turn; where it is not b
 test: kit ## the gate: each proof from nothing, then the built programs from outside, to the byte; it ends with the minutes of each
 	rm -rf $(PROGRAM) $(CLIENT) $(SIMULATOR) out/build
 	python3 tests/promises.py
+	python3 tests/homes.py
 	python3 tests/examples.py
 	python3 tests/gate.py --minutes $(MINUTES)
 	test -x $(PROGRAM) -a -x $(CLIENT) -a -x $(SIMULATOR) || $(MAKE) build
@@ -48,12 +52,11 @@ install: build ## install the programs and their manual pages under PREFIX, belo
 	install $(SIMULATOR) $(DESTDIR)$(PREFIX)/bin
 	install -m 644 man/rmtd.8 man/rdump.8 $(DESTDIR)$(PREFIX)/share/man/man8
 	install -m 644 man/rsim.1 $(DESTDIR)$(PREFIX)/share/man/man1
+	@found=$$(command -v rdump); test "$${found:-$(PREFIX)/sbin/rdump}" = $(PREFIX)/sbin/rdump || \
+		echo "rdump: PATH finds $$found first, not $(PREFIX)/sbin/rdump: see README.md"
 
 clean: ## remove all that was built
 	rm -rf out crates/*/out
-
-help: ## list these words
-	@sed -n 's/^\([a-z]*\):.*## /  make \1\t/p' $(MAKEFILE_LIST) | expand -t 16
 
 kit:
 	@command -v rt > /dev/null || { echo "make: the Rattle kit's command rt is not in PATH" >&2; exit 1; }

@@ -23,6 +23,7 @@ from pathlib import Path
 from typing import Callable, Iterator
 
 from told import ratio, ratio_of_times
+from wire import CLOSE, GREATEST_RECORD, MARK, NO_OPERATION
 
 CRATES = Path(__file__).resolve().parent.parent / "crates"
 
@@ -30,9 +31,8 @@ ROUNDS = 5
 MIB = 1 << 20
 PAYLOAD = 256 * MIB
 ROOM = 320 * MIB
-BLOCKS = (65_536, 10_240)
+BLOCKS = (GREATEST_RECORD, 10_240)
 OPERATIONS = 20_000
-NO_OPERATION = b"I7\n1\n"
 DONE_ONE = b"A1\n"
 
 
@@ -104,7 +104,7 @@ def write_volume(address: str, path: Path, block: int) -> None:
             while asked > 64:
                 replies.readline()
                 asked -= 1
-        stream.sendall(b"I0\n1\nC\n")
+        stream.sendall(MARK + CLOSE)
         for _ in range(asked + 2):
             if not replies.readline().startswith(b"A"):
                 raise RuntimeError("the server refused a request")
@@ -140,7 +140,7 @@ def echo() -> str:
     def serve() -> None:
         stream, _ = listener.accept()
         stream.setsockopt(socket.IPPROTO_TCP, socket.TCP_NODELAY, 1)
-        while piece := stream.recv(65536):
+        while piece := stream.recv(GREATEST_RECORD):
             stream.sendall(piece)
 
     if os.fork() == 0:

@@ -15,6 +15,7 @@ from pathlib import Path
 
 from stdio import LINEAR, Words, least_times
 from told import ratio, seconds
+from wire import GREATEST_RECORD
 
 BUILT = Path(__file__).resolve().parent.parent / "crates/feed/out/feed"
 
@@ -45,7 +46,7 @@ def ratios(program: str, kind: str, title: str) -> str:
     none, once, twice, pairs, whole = least_times(fed, runs, REPEATS)
     single = once - none
     one_piece = MORE * single / (whole - none)
-    nanoseconds = single / (FEW * 65_536) * 1e9
+    nanoseconds = single / (FEW * GREATEST_RECORD) * 1e9
     ratio(f"fed {title} / half of them", (twice - none) / single, LINEAR, f"{seconds(twice - none)} / {seconds(single)}")
     ratio(f"fed {title} / in one piece", one_piece, None, f"{nanoseconds:.0f} ns a byte")
     return f"{title:<36}{(twice - none) / single:>16.2f}{single / (pairs - none):>20.2f}{one_piece:>16.0f}{nanoseconds:>12.0f}"

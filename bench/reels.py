@@ -27,20 +27,20 @@ from typing import Callable, Iterable, NamedTuple, Sequence
 
 from stdio import BUILT, LINEAR, SAME, Words, gnu_rmt, kilobytes, seconds_of, from_file
 from told import ratio, ratio_of_times, seconds
+from wire import GREATEST_RECORD, read, write
 
 FLOOR = Path(__file__).resolve().parent / "floor.c"
 
 ROUNDS = 5
 MIB = 1 << 20
-SIZES = (65_536, 10_240)
+SIZES = (GREATEST_RECORD, 10_240)
 # What is wanted at most, beside `cat`, of each of these sizes.
-WANTED = {65_536: 1.2, 10_240: 1.6}
+WANTED = {GREATEST_RECORD: 1.2, 10_240: 1.6}
 CAPACITY = 1 << 40
 
 RECORDS = 100_000
 RECORD = 100
 GREAT_RECORDS = 16_384
-GREAT_RECORD = 65_536
 # How often a long way is spaced, and how often one operation is done.
 LONG_WAYS = 10
 SHORT_WAYS = 50_000
@@ -237,10 +237,10 @@ def write_great(path: Path) -> None:
     """A reel of 1 GiB, with no bytes on the disk but those of the lengths."""
     with path.open("wb") as reel:
         for number in range(GREAT_RECORDS):
-            reel.seek(number * (GREAT_RECORD + 8))
-            reel.write(length(GREAT_RECORD))
-            reel.seek(GREAT_RECORD, os.SEEK_CUR)
-            reel.write(length(GREAT_RECORD))
+            reel.seek(number * (GREATEST_RECORD + 8))
+            reel.write(length(GREATEST_RECORD))
+            reel.seek(GREATEST_RECORD, os.SEEK_CUR)
+            reel.write(length(GREATEST_RECORD))
 
 
 def spacings(drive: Drive) -> bool:
@@ -283,7 +283,7 @@ def at_the_end(drive: Drive) -> bool:
         for place in (GREAT_RECORDS, 1):
             write_great(drive.reel)
             if cuts and place == 1:
-                os.truncate(drive.reel, GREAT_RECORD + 8)
+                os.truncate(drive.reel, GREATEST_RECORD + 8)
             there = operation(3, place)
             many = drive.stream("many", 2, [there, *requests * SHORT_WAYS])
             none = drive.stream("none", 2, [there, *([] if cuts else [operation(7, 0)])])
@@ -315,11 +315,11 @@ def memory(drive: Drive) -> None:
     there = b"A%d\n" % GREAT_RECORDS
     steps = (
         ("after the open", b"O/dev/st0\n2\n", 3),
-        ("after a read of 65,536 bytes", b"R65536\n", 7 + GREAT_RECORD),
+        ("after a read of 65,536 bytes", read(), 7 + GREATEST_RECORD),
         ("after spacing over 1 GiB", operation(5, 0) + operation(3, GREAT_RECORDS), 3 + len(there)),
         ("and back", operation(4, GREAT_RECORDS), len(there)),
-        ("after 1,000 reads of 65,536 bytes", b"R65536\n" * 1_000, 1_000 * (7 + GREAT_RECORD)),
-        ("after 1,000 writes of 65,536 bytes", (b"W65536\n" + bytes(GREAT_RECORD)) * 1_000, 7_000),
+        ("after 1,000 reads of 65,536 bytes", read() * 1_000, 1_000 * (7 + GREATEST_RECORD)),
+        ("after 1,000 writes of 65,536 bytes", write(bytes(GREATEST_RECORD)) * 1_000, 7_000),
         ("after 100,000 marks", operation(0, 100_000), 8),
         ("and back over them", operation(2, 100_000), 8),
     )
@@ -357,7 +357,7 @@ def calls(drive: Drive) -> None:
     mark, rewind = operation(0, 1), operation(5, 1)
     for title, ready, requests in (
         ("an append of 10,240 bytes", False, b"W10240\n" + bytes(10_240)),
-        ("an append of 65,536 bytes", False, b"W65536\n" + bytes(65_536)),
+        ("an append of 65,536 bytes", False, write(bytes(GREATEST_RECORD))),
         ("a mark", False, mark),
         ("10 marks", False, operation(0, 10)),
         ("a read of 100 bytes", True, b"R100\n"),

@@ -26,6 +26,7 @@ from pathlib import Path
 from typing import Callable, Iterator, NamedTuple, Sequence
 
 from told import ratio, ratio_of_times, seconds
+from wire import GREATEST_RECORD, MARK, NO_OPERATION, REWIND, write
 
 BUILT = Path(__file__).resolve().parent.parent / "crates/rmtd/out/rmtd"
 
@@ -42,16 +43,13 @@ SAME = 1.3
 DRIVE = b"/dev/st0"
 NULL_DEVICE = b"/dev/null"
 
-NO_OPERATION = b"I7\n1\n"
-REWIND = b"I5\n1\n"
-WRITE = b"W65536\n" + bytes(range(256)) * 256
-ANSWERS = {NO_OPERATION: b"A1\n", REWIND: b"A1\n", WRITE: b"A65536\n"}
+WRITE = write(bytes(range(256)) * (GREATEST_RECORD // 256))
+ANSWERS = {NO_OPERATION: b"A1\n", REWIND: b"A1\n", WRITE: b"A%d\n" % GREATEST_RECORD}
 
 # The reel in memory holds 1,048,576 bytes: 15 records of 65,536 bytes with their lengths, and not one more.
 RECORDS_A_REEL = 15
 
 RECORD = b"W1\nx"
-MARK = b"I0\n1\n"
 
 # How often a long way is spaced back and forward, and how often one entry is.
 LONG_WAYS = 500

@@ -28,6 +28,8 @@ from contextlib import contextmanager
 from pathlib import Path
 from typing import Callable, Iterator
 
+from wire import CLOSE, GREATEST_RECORD, MARK, NO_OPERATION, OFFLINE
+
 CRATES = Path(__file__).resolve().parent.parent / "crates"
 
 CLIENTS = 32
@@ -43,14 +45,12 @@ MORE_MEMORY = 2 << 20
 ROUNDS = 5
 MIB = 1 << 20
 TOTAL = 256 * MIB
-RECORD = 65_536
 AT_ONCE = (1, 2, 4, 8, 32)
 # What is wanted at most, beside `cat`, and at least, of requests beside as many connections as there are processors.
 WANTED_TIME = 1.3
 WANTED_REQUESTS = 0.9
 REQUEST_SECONDS = 1.0
 
-MARK, OFFLINE, CLOSE, NOTHING = b"I0\n1\n", b"I6\n1\n", b"C\n", b"I7\n1\n"
 DONE, DONE_ONE = b"A0\n", b"A1\n"
 
 
@@ -347,12 +347,12 @@ def rates(program: str) -> bool:
     with serving(program, max(AT_ONCE)) as server, tempfile.TemporaryDirectory() as folder:
         for count in AT_ONCE:
             source = Path(folder) / "source"
-            record = os.urandom(RECORD)
-            source.write_bytes(b"W%d\n%s" % (RECORD, record) * (TOTAL // RECORD // count))
+            record = os.urandom(GREATEST_RECORD)
+            source.write_bytes(b"W%d\n%s" % (GREATEST_RECORD, record) * (TOTAL // GREATEST_RECORD // count))
             times = [(by_server(server, count, source), by_cat(Path(folder), count, source)) for _ in range(ROUNDS)]
             ours, cats = (min(it) for it in zip(*times))
             reels = [it.joinpath("r1").stat().st_size for it in server.stacks[:count]]
-            good &= {*reels} == {(RECORD + 8) * (TOTAL // RECORD // count)} and ours <= WANTED_TIME * cats
+            good &= {*reels} == {(GREATEST_RECORD + 8) * (TOTAL // GREATEST_RECORD // count)} and ours <= WANTED_TIME * cats
             print(f"  {count:2} connections: {ours / cats:.2f}, {TOTAL / MIB / ours:.0f} MiB/s", flush=True)
     return good
 
@@ -363,12 +363,12 @@ def rates(program: str) -> bool:
 def count_requests(address: tuple[str, int], ready: int, go: int, out: int) -> None:
     """A process of its own asks in lock step for some time, once it is told to, and writes how often it was answered."""
     talk = Talk(address)
-    good = talk.ask(NOTHING) == b"E9\n"
+    good = talk.ask(NO_OPERATION) == b"E9\n"
     os.write(ready, b"r")
     os.read(go, 1)
     until, count = time.perf_counter() + REQUEST_SECONDS, 0
     while good and time.perf_counter() < until:
-        good = talk.ask(NOTHING) == b"E9\n"
+        good = talk.ask(NO_OPERATION) == b"E9\n"
         count += 1
     os.write(out, b"%d\n" % (count if good else 0))
     talk.end()

@@ -2,6 +2,7 @@
 use Rattle.std.proofs.Common.{◌≡◌, ℕ, ◌+◌, ◌≤◌, Bool, true, false, List, length, replicate, slice_index, slice_set, slice_index_or, ap, ◌∙◌, subst, arith, rules}
 use Rattle.std.proofs.lemmas.Grind.{common_steps}
 use Rattle.std.proofs.lemmas.List.{set-set, set-get_or, get_or-replicate}
+use Rattle.drives.specs.declared.holds.TheConstants.{DRIVE_LIMIT}
 use Rattle.drives.specs.declared.view.View.{View}
 use Rattle.drives.specs.Holding.{given, taken, has, newcomer}
 use Rattle.drives.specs.Local.{holders, AreHolders, IsSeatOf}
@@ -17,7 +18,7 @@ newcomer_is_seat numbers last h = record {
   made = omega arith;
   marks = search rules;
   agrees = λ d l.
-      let marks : slice_index_or (replicate 64 false) d false ≡ false = get_or-replicate 64 d false false (let few : length numbers ≤ 64 = h.1 in omega arith) in
+      let marks : slice_index_or (replicate DRIVE_LIMIT false) d false ≡ false = get_or-replicate DRIVE_LIMIT d false false (let few : length numbers ≤ DRIVE_LIMIT = h.1 in omega arith) in
       let below : slice_index numbers d ≤ last = h.2 d l in
       grind (arith, common_steps);
 }

@@ -1,6 +1,7 @@
 -- What a seat at the drives knows, and what each of its steps does. Public contracts cite it.
 use Rattle.std.specs.Prelude.{◌≡◌, ℕ, ◌<◌, ◌↔◌, Bool, IsTrue, true, false, cond, ◌==◌, List, replicate, slice_set, slice_index_or, Option, Some, None}
 use Rattle.tape.specs.Failures.{counted}
+use Rattle.drives.specs.declared.holds.TheConstants.{DRIVE_LIMIT}
 use Rattle.drives.specs.declared.view.StepKind.{StepKind}
 use Rattle.drives.specs.declared.view.StepKind.TheVariants.{Take, Give, Look}
 use Rattle.drives.specs.declared.view.LastStep.{LastStep}
@@ -21,7 +22,7 @@ last_step kind drive found = record { kind = kind; drive = drive; found = found 
 
 -- a seat that has made no step
 abbrev pub newcomer : ℕ → View
-newcomer number = record { number = number; held = replicate 64 false; steps = 0; last = None }
+newcomer number = record { number = number; held = replicate DRIVE_LIMIT false; steps = 0; last = None }
 
 -- one step more, after which these drives are held
 abbrev pub moved : View → List Bool → LastStep → View
@@ -45,9 +46,9 @@ found_by Held = 0
 found_by (Busy n) = n
 
 -- where the drive was free the seat, which did not hold it, holds it now; else another number than 0 was found
-abbrev pub Answers : Taken → View → View → ℕ → Type 0
-Answers Held old new d = (0 < old.number) × (has old d ≡ false) × (has new d ≡ true)
-Answers (Busy n) old new d = 0 < n
+abbrev pub TakeAnswers : Taken → View → View → ℕ → Type 0
+TakeAnswers Held old new d = (0 < old.number) × (has old d ≡ false) × (has new d ≡ true)
+TakeAnswers (Busy n) old new d = 0 < n
 
 -- who holds drive d after a take of `drive` by the seat `number`, where d was held by n
 abbrev pub word_after_take : ℕ → ℕ → ℕ → ℕ → ℕ

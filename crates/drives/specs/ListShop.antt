@@ -1,5 +1,5 @@
 -- Drives, stacks and bin in memory. Public contracts cite it.
-use Rattle.std.specs.Prelude.{◌≡◌, ◌⊎◌, ℕ, ◌<◌, ◌≤◌, Bool, true, false, cond, List, [], ◌∷◌, ◌++◌, length, map, Option, Some, None, Result, Ok, Err, IsSome}
+use Rattle.std.specs.Prelude.{◌≡◌, ◌⊎◌, ℕ, ◌+◌, ◌<◌, ◌≤◌, Bool, true, false, cond, List, [], ◌∷◌, ◌++◌, length, map, Option, Some, None, Result, Ok, Err, MatchResult, IsSome}
 use Rattle.std.specs.List.{count_by}
 use Rattle.std.specs.Option.{option_map}
 use Rattle.tape.specs.Failures.{raised}
@@ -8,8 +8,9 @@ use Rattle.tape.specs.Trouble.{TroubledTape}
 use Rattle.tape.specs.declared.trouble.Trouble.{Trouble}
 use Rattle.tape.specs.declared.trouble.Trouble.TheVariants.{None as NoTrouble}
 use Rattle.drives.specs.Shop.{KeptReel, kept_reel, Slot, slot, Rack, rack, ShopOf, Shop, shop, rack_at, with_rack, slots_in, names_in, times, EachReelOnce, IsDriveNamed, waiting_reel, at_first, to_bin}
-use Rattle.drives.specs.Calls.{StacksCall}
+use Rattle.drives.specs.Calls.{StacksCall, given_by}
 use Rattle.drives.specs.Calls.StacksCall.{Latch, LayBack, Move}
+use Rattle.drives.specs.Stacking.{HasLatched}
 use Rattle.drives.specs.declared.fault.DriveFault.{DriveFault}
 use Rattle.drives.specs.declared.fault.DriveFault.TheVariants.{NoReel, Device, OutOfMemory, NameTaken}
 
@@ -128,6 +129,22 @@ abbrev pub IsListStacksCall : ListShop → ListShop → StacksCall TroubledTape 
 IsListStacksCall old new (Latch d result) = IsReelLatched old d result new
 IsListStacksCall old new (LayBack d reel) = IsReelLaidBack old d reel new
 IsListStacksCall old new (Move d reel result) = IsReelMoved old d reel result new
+
+-- How many of the reels that lie there have a trouble set before a call and after it: a latch takes its reel away with
+-- its trouble, a laying back and a move bring that of the reel, and a call that was refused leaves all.
+abbrev pub TroublesMove : StacksCall TroubledTape → ShopOf TroubledTape → ShopOf TroubledTape → Type 0
+TroublesMove (Latch d result) s now = troubled_in now + troubles_of (given_by result) ≡ troubled_in s
+TroublesMove (LayBack d reel) s now = troubled_in now ≡ troubled_in s + troubles_of (Some reel)
+TroublesMove (Move d reel result) s now =
+    MatchResult result (λ _. troubled_in now ≡ troubled_in s + troubles_of (Some reel)) (λ _. troubled_in now ≡ troubled_in s)
+
+-- so they do in each such call of stacks in memory
+abbrev pub MovesTroubles : ListShop → StacksCall TroubledTape → ListShop → Type 0
+MovesTroubles old call new = IsListStacksCall old new call → TroublesMove call old.shop new.shop
+
+-- a reel is latched at drive d of stacks that tell a shop
+abbrev pub HasReelAt : ListShop → ℕ → Type 0
+HasReelAt s d = (d < length s.shop.racks) × (told : Shop) × IsShop s told × HasLatched IsShop s d
 
 -- each reel stands once, so many reels are there, and the bin has room for all of them
 pub record IsStocked (s : ShopOf TroubledTape) (reels room : ℕ) : Type 0 where

@@ -2,9 +2,12 @@
 
 ghost use Rattle.std.specs.Prelude.{◌≡◌, ◌≢◌, ℕ, ◌<◌, ◌≤◌, ◌↔◌, IsTrue};
 ghost use Rattle.drives.specs.declared.view.View.{View};
-ghost use Rattle.drives.specs.Holding.{has, taken, given, looked, found_by, Answers, word_after_take, word_after_give};
+ghost use Rattle.drives.specs.Holding.{has, taken, given, looked, found_by, TakeAnswers, word_after_take, word_after_give};
 
 use crate::Taken;
+
+/// The greatest number of drives.
+pub const DRIVE_LIMIT: usize = 64;
 
 /// Drives that seats hold, each drive by one seat at most, where they tell.
 ///
@@ -35,7 +38,7 @@ pub trait Holds {
         requires seat { belongs self.old seat.old }
         requires drive { drive < drives self.old }
         ensures step { shows seat.new ≡ taken (shows seat.old) drive (found_by result) }
-        ensures answer { Answers result (shows seat.old) (shows seat.new) drive }
+        ensures answer { TakeAnswers result (shows seat.old) (shows seat.new) drive }
         ensures known { found_by result ≤ seated self.old }
         ensures found { (n : ℕ) → tells self.old drive n → found_by result ≡ n }
         ensures told { (d n : ℕ) → tells self.old d n → tells self.new d (word_after_take (shows seat.old).number drive d n) }

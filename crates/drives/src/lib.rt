@@ -18,7 +18,7 @@ mod taken;
 mod view;
 
 pub use fault::DriveFault;
-pub use holds::Holds;
+pub use holds::{DRIVE_LIMIT, Holds};
 pub use laws::{lying_troubles, told_orders};
 pub use list::ListStacks;
 pub use listed::ListedReel;

@@ -3,9 +3,9 @@
 ghost use Rattle.std.specs.Prelude.{◌≡◌, ◌<◌, ◌≤◌, ◌+◌, None, IfOk, IfSome, replicate, length};
 ghost use Rattle.drives.specs.declared.view.View.{View};
 ghost use Rattle.drives.specs.Holding.{moved, last_step, HoldsJust};
-ghost use Rattle.drives.specs.Local.{holders, IsSeated, IsSeatOf, IsHeldBy};
+ghost use Rattle.drives.specs.Local.{holders, IsSeatGiven, IsSeatOf, IsHeldBy};
 
-use crate::{Holds, LastStep, StepKind, Taken, View};
+use crate::{DRIVE_LIMIT, Holds, LastStep, StepKind, Taken, View};
 use std::alloc::{AllocError, Global};
 use std::marker::Model;
 
@@ -33,7 +33,7 @@ impl LocalSeat {
     }
 }
 
-/// The drives of one thread, from 1 to 64, each with the number of the seat that holds it, or 0.
+/// The drives of one thread, from 1 to `DRIVE_LIMIT`, each with the number of the seat that holds it, or 0.
 #[derive(Drop)]
 pub struct LocalHolds {
     numbers: Vec<u64>,
@@ -51,10 +51,10 @@ impl Model for LocalHolds {
 }
 
 impl LocalHolds {
-    /// That many drives, from 1 to 64, which no seat holds. It fails only where memory is refused.
+    /// That many drives, from 1 to `DRIVE_LIMIT`, which no seat holds. It fails only where memory is refused.
     pub fn new(alloc: Global, drives: usize) -> Result<LocalHolds, AllocError>
         requires some { 1 ≤ drives }
-        requires few { drives ≤ 64 }
+        requires few { drives ≤ DRIVE_LIMIT }
         ensures { IfOk result (λ all. all ≡ holders (replicate drives 0) 0) }
     {
         let numbers = Vec::from_elem(alloc, 0u64, drives)?;
@@ -64,7 +64,7 @@ impl LocalHolds {
     /// A seat that holds no drive. Seats have the numbers 1, 2, 3 and on; there is none once the greatest `u64`
     /// was given. It takes no memory.
     pub fn seat(&mut self) -> Option<LocalSeat>
-        ensures next { IsSeated self.old result self.new }
+        ensures next { IsSeatGiven self.old result self.new }
         ensures own { IfSome result (λ seat. IsSeatOf self.new seat) }
         ensures idle { IfSome result (λ seat. HoldsJust seat None) }
         ensures others { (v : View) → IsSeatOf self.old v → IsSeatOf self.new v }
@@ -75,7 +75,7 @@ impl LocalHolds {
         self.last += 1;
         let view = View {
             number: self.last,
-            held: [false; 64],
+            held: [false; DRIVE_LIMIT],
             steps: 0,
             last: None,
         };

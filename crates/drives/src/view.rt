@@ -1,5 +1,7 @@
 //! What a seat knows, and the last step that it made.
 
+use crate::DRIVE_LIMIT;
+
 /// What a step at a drive was.
 #[derive(Clone, Copy, Debug, Drop)]
 pub enum StepKind {
@@ -28,8 +30,8 @@ pub struct LastStep {
 pub struct View {
     /// The number of the seat, from 1.
     pub number: u64,
-    /// Of each of 64 drives, whether the seat holds it.
-    pub held: [bool; 64],
+    /// Of each drive that there can be, whether the seat holds it.
+    pub held: [bool; DRIVE_LIMIT],
     /// How many steps it made, up to the greatest `u64`.
     pub steps: u64,
     /// The last of them.

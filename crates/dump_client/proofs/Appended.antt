@@ -3,7 +3,7 @@ use Rattle.std.proofs.Common.{◌≡◌, ℕ, true, false, List, length, refl, s
 use Rattle.rmt_wire.specs.Request.{PlainRequest}
 use Rattle.rmt_wire.specs.Request.PlainRequest.{Write}
 use Rattle.dump_client.specs.Standing.{Standing, checkpoint_of}
-use Rattle.dump_client.specs.Client.{IsRequestOf, IsScarce, IsFaultAt, IsPushed, AppendedBy, ReadBy, IsRequestGiven, is_source_fault, has_failed, failures_after}
+use Rattle.dump_client.specs.Client.{IsRequestOf, IsScarce, IsFaultAt, IsRequestPushed, AppendedBy, ReadBy, IsRequestGiven, is_source_fault, has_failed, failures_after}
 use Rattle.dump_run.specs.declared.blocks.SourceFailed.{SourceFailed}
 use Rattle.dump_client.specs.declared.step.Step.{Step}
 use Rattle.dump_client.specs.declared.step.Step.TheVariants.{Open, Rewind, Label, Block, Mark, Unload, Close}
@@ -20,24 +20,24 @@ scarce_at (Unload next) capacity len h = h
 scarce_at Close capacity len h = h
 
 pub appended : (told : List (List ℕ) → Type 0) (at : Standing) (step : Step) (request : PlainRequest) (capacity : ℕ) (before : List ℕ) (result : Result Unit AttemptFault) (now : List ℕ)
-    → IsRequestOf told at.run (checkpoint_of at.counts) step request → IsPushed request capacity before result now → AppendedBy told at step capacity before result now
+    → IsRequestOf told at.run (checkpoint_of at.counts) step request → IsRequestPushed request capacity before result now → AppendedBy told at step capacity before result now
 appended told at step request capacity before (Ok x) now is h = (request, is, h.0, h.1)
 appended told at step request capacity before (Err fault) now is h =
     (subst (λ f. IsFaultAt step f capacity (length before)) (sym h.0) (scarce_at step capacity (length before) h.1), h.2)
 
 pub appended_at : (told : List (List ℕ) → Type 0) (at : Standing) (step this : Step) (request : PlainRequest) (capacity : ℕ) (before : List ℕ) (result : Result Unit AttemptFault) (now : List ℕ)
-    → step ≡ this → IsRequestOf told at.run (checkpoint_of at.counts) this request → IsPushed request capacity before result now → AppendedBy told at step capacity before result now
+    → step ≡ this → IsRequestOf told at.run (checkpoint_of at.counts) this request → IsRequestPushed request capacity before result now → AppendedBy told at step capacity before result now
 appended_at told at step this request capacity before result now same is h =
     subst (λ s. AppendedBy told at s capacity before result now) (sym same) (appended told at this request capacity before result now is h)
 
 -- where a request was to be pushed no read failed
 pub pushed_counted : (request : PlainRequest) (capacity : ℕ) (before : List ℕ) (result : Result Unit AttemptFault) (now : List ℕ) (failures : ℕ)
-    → IsPushed request capacity before result now → failures ≡ failures_after result failures
+    → IsRequestPushed request capacity before result now → failures ≡ failures_after result failures
 pushed_counted request capacity before (Ok x) now failures h = refl
 pushed_counted request capacity before (Err fault) now failures h = subst (λ f. failures ≡ failures_after {T = Unit {0}} (Err f) failures) (sym h.0) refl
 
 pub pushed_able : (request : PlainRequest) (capacity : ℕ) (before : List ℕ) (result : Result Unit AttemptFault) (now : List ℕ) (A : Type 0)
-    → IsPushed request capacity before result now → is_source_fault result ≡ true → A
+    → IsRequestPushed request capacity before result now → is_source_fault result ≡ true → A
 pushed_able request capacity before (Ok x) now A h fails = absurd cc
 pushed_able request capacity before (Err fault) now A h fails =
     let none : is_source_fault {T = Unit {0}} (Err fault) ≡ false = subst (λ f. is_source_fault {T = Unit {0}} (Err f) ≡ false) (sym h.0) refl in
@@ -46,16 +46,16 @@ pushed_able request capacity before (Err fault) now A h fails =
 -- a block that was read
 pub block_read : (B : Type 0) (size : ℕ) (reads : B → ℕ → List ℕ → Result Unit SourceFailed → B → List ℕ → Type 0) (step : Step) (number : ℕ) (old new : B) (into given : List ℕ) (read : Result Unit SourceFailed)
     (capacity : ℕ) (before : List ℕ) (result : Result Unit AttemptFault) (now : List ℕ)
-    → step ≡ Block number → length into ≡ size → reads old number into read new given → read ≡ Ok tt → IsPushed (Write given) capacity before result now → ReadBy {B = B} {T = Unit {0}} step size reads old before result new now
+    → step ≡ Block number → length into ≡ size → reads old number into read new given → read ≡ Ok tt → IsRequestPushed (Write given) capacity before result now → ReadBy {B = B} {T = Unit {0}} step size reads old before result new now
 block_read B size reads step number old new into given read capacity before result now same long h done pushed =
     subst (λ s. ReadBy {B = B} {T = Unit {0}} s size reads old before result new now) (sym same)
     (into, given, read, long, h, subst (λ r. is_source_fault result ≡ has_failed r) (sym done) (no_fault result pushed), was_given result pushed)
   where
-    no_fault : (r : Result Unit AttemptFault) → IsPushed (Write given) capacity before r now → is_source_fault r ≡ false
+    no_fault : (r : Result Unit AttemptFault) → IsRequestPushed (Write given) capacity before r now → is_source_fault r ≡ false
     no_fault (Ok x) p = refl
     no_fault (Err fault) p = subst (λ f. is_source_fault {T = Unit {0}} (Err f) ≡ false) (sym p.0) refl
 
-    was_given : (r : Result Unit AttemptFault) → IsPushed (Write given) capacity before r now → IsRequestGiven before r now given
+    was_given : (r : Result Unit AttemptFault) → IsRequestPushed (Write given) capacity before r now → IsRequestGiven before r now given
     was_given (Ok x) p = p.1
     was_given (Err fault) p = tt
 

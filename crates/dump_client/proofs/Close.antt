@@ -2,6 +2,7 @@
 use Rattle.std.proofs.Common.{◌≡◌, ◌≢◌, ℕ, ◌+◌, ◌==◌, Bool, true, false, if◌then◌else◌, nat_lt, refl}
 use Rattle.rmt_wire.specs.Reply.{PlainReply}
 use Rattle.rmt_wire.specs.Reply.PlainReply.{Done, Data, Error}
+use Rattle.rmt_wire.specs.declared.errno.TheConstants.{ENOSPC}
 use Rattle.dump_run.specs.Run.{PlainRun}
 use Rattle.dump_run.specs.Label.{label_bytes}
 use Rattle.dump_client.specs.Position.{Heard, outcome, after_step, at_end_of_reel, after_write, after_op, after_number, after_refusal, after_error, after_noise, after_reply}
@@ -73,7 +74,7 @@ op_before : (run : PlainRun) (first : ℕ) (step : Step) (n : ℕ) → IsBefore 
 op_before run first step n = either_before (n == 1) (after_step run first step) (Fails Botched) (step_before run first step) tt
 
 refusal_before : (first : ℕ) (step : Step) (n : ℕ) → IsBefore (at_end_of_reel first step) → IsBefore (after_refusal first step n)
-refusal_before first step n h = either_before (n == 28) (at_end_of_reel first step) (Fails (Refused n)) h tt
+refusal_before first step n h = either_before (n == ENOSPC) (at_end_of_reel first step) (Fails (Refused n)) h tt
 
 number_before : (run : PlainRun) (first : ℕ) (step : Step) (n : ℕ) → IsBefore (after_number run first step n)
 number_before run first Open n = step_before run first Open

@@ -6,7 +6,7 @@ use Rattle.rmt_wire.specs.ReplyReader as reader
 use Rattle.rmt_wire.specs.ReplyReader.{ReplyUnread}
 use Rattle.rmt_wire.specs.Reply.Wanted.{Number}
 use Rattle.dump_client.specs.Position.Heard.{Reply, Noise, End}
-use Rattle.dump_client.specs.Listening.{IsWaiting, IsSaid, IsListened}
+use Rattle.dump_client.specs.Listening.{IsReaderWaiting, IsSaid, IsListened}
 use Rattle.dump_client.specs.Standing.{Standing, standing, IsOver, HearsAt, FedAt, CutAt, StartedAt}
 use Rattle.dump_client.specs.Client.{HasFedAt, unanswered, AppendedBy, AskedAt, IsPayload, ReadBy, IsScarce, IsFaultAt, is_source_fault}
 use Rattle.dump_run.specs.Run.{PlainRun}
@@ -59,7 +59,7 @@ start_done Finished old room new h = let e = h.0 in absurd cc
 start_done Abandoned old room new h = let e = h.0 in absurd cc
 
 -- a beginning of a reply
-pub fed_waits : (old : Standing) (step : Step) (r new_reader : reader.ReplyHeld) (bytes piece : List ℕ) → Waiting step ≡ old.stage → (IsWaiting Number r bytes → IsListened Number (bytes ++ piece) listened.Waits new_reader)
+pub fed_waits : (old : Standing) (step : Step) (r new_reader : reader.ReplyHeld) (bytes piece : List ℕ) → Waiting step ≡ old.stage → (IsReaderWaiting Number r bytes → IsListened Number (bytes ++ piece) listened.Waits new_reader)
     → HasFedAt old.stage r bytes → FedAt old.stage old bytes piece moved.Waiting old
 fed_waits old step r new_reader bytes piece at seen h =
     subst (λ s. HasFedAt s r bytes → FedAt s old bytes piece moved.Waiting old) at
@@ -67,7 +67,7 @@ fed_waits old step r new_reader bytes piece at seen h =
 
 -- a reply
 pub fed_reply : (old : Standing) (step : Step) (r new_reader : reader.ReplyHeld) (bytes piece : List ℕ) (said : Said) (more : Bool) (progress : Progress) (new : Standing) → Waiting step ≡ old.stage
-    → (IsWaiting Number r bytes → IsListened Number (bytes ++ piece) (listened.Reply said more) new_reader)
+    → (IsReaderWaiting Number r bytes → IsListened Number (bytes ++ piece) (listened.Reply said more) new_reader)
     → ((reply : PlainReply) → IsSaid reply said → HearsAt old step (Reply reply) more progress new)
     → HasFedAt old.stage r bytes → FedAt old.stage old bytes piece progress new
 fed_reply old step r new_reader bytes piece said more progress new at seen heard h =
@@ -76,17 +76,17 @@ fed_reply old step r new_reader bytes piece said more progress new at seen heard
 
 -- no reply
 pub fed_noise : (old : Standing) (step : Step) (r new_reader : reader.ReplyHeld) (bytes piece : List ℕ) (progress : Progress) (new : Standing) → Waiting step ≡ old.stage
-    → (IsWaiting Number r bytes → IsListened Number (bytes ++ piece) listened.Noise new_reader) → HearsAt old step Noise false progress new
+    → (IsReaderWaiting Number r bytes → IsListened Number (bytes ++ piece) listened.Noise new_reader) → HearsAt old step Noise false progress new
     → HasFedAt old.stage r bytes → FedAt old.stage old bytes piece progress new
 fed_noise old step r new_reader bytes piece progress new at seen heard h =
     subst (λ s. HasFedAt s r bytes → FedAt s old bytes piece progress new) at
     (λ w. let l = seen w in (Err l.0, bytes ++ piece, l.1, heard)) h
 
 -- the bytes that were fed where a reply is waited for
-pub waiting_at : (stage : Stage) (step : Step) (r : reader.ReplyHeld) (bytes : List ℕ) → Waiting step ≡ stage → HasFedAt stage r bytes → IsWaiting Number r bytes
-waiting_at stage step r bytes at h = subst (λ s. HasFedAt s r bytes → IsWaiting Number r bytes) at (λ w. w) h
+pub waiting_at : (stage : Stage) (step : Step) (r : reader.ReplyHeld) (bytes : List ℕ) → Waiting step ≡ stage → HasFedAt stage r bytes → IsReaderWaiting Number r bytes
+waiting_at stage step r bytes at h = subst (λ s. HasFedAt s r bytes → IsReaderWaiting Number r bytes) at (λ w. w) h
 
-pub fed_at_waiting : (stage : Stage) (step : Step) (r : reader.ReplyHeld) (bytes : List ℕ) → Waiting step ≡ stage → IsWaiting Number r bytes → HasFedAt stage r bytes
+pub fed_at_waiting : (stage : Stage) (step : Step) (r : reader.ReplyHeld) (bytes : List ℕ) → Waiting step ≡ stage → IsReaderWaiting Number r bytes → HasFedAt stage r bytes
 fed_at_waiting stage step r bytes at w = subst (λ s. HasFedAt s r bytes) at w
 
 -- bytes that nobody waits for
@@ -94,7 +94,7 @@ pub fed_unasked : (old : Standing) (step : Step) (bytes piece : List ℕ) (progr
     → HearsAt old step Noise false progress new → FedAt old.stage old bytes piece progress new
 fed_unasked old step bytes piece progress new at some heard = subst (λ s. FedAt s old bytes piece progress new) at (inr (some, heard))
 
-pub unanswered_waiting : (stage : Stage) (step : Step) (r : reader.ReplyHeld) (bytes : List ℕ) → Waiting step ≡ stage → IsWaiting Number r bytes
+pub unanswered_waiting : (stage : Stage) (step : Step) (r : reader.ReplyHeld) (bytes : List ℕ) → Waiting step ≡ stage → IsReaderWaiting Number r bytes
     → HasFedAt stage r (unanswered stage bytes)
 unanswered_waiting stage step r bytes at w = subst (λ s. HasFedAt s r (unanswered s bytes)) at w
 
@@ -148,8 +148,8 @@ pub fed_anew : (stage new_stage : Stage) (step : Step) (r new_reader : reader.Re
     → (ReplyUnread r None [] → ReplyUnread new_reader (Some Number) []) → HasFedAt stage r bytes → HasFedAt new_stage new_reader bytes
 fed_anew stage new_stage step r new_reader bytes at then_at expects h =
     subst (λ s. HasFedAt s new_reader bytes) (sym then_at)
-    (subst (λ s. HasFedAt s r bytes → IsWaiting Number new_reader bytes) at
-    (λ k. subst (λ b. IsWaiting Number new_reader b) (sym k.1) (waiting_anew new_reader (expects k.0))) h)
+    (subst (λ s. HasFedAt s r bytes → IsReaderWaiting Number new_reader bytes) at
+    (λ k. subst (λ b. IsReaderWaiting Number new_reader b) (sym k.1) (waiting_anew new_reader (expects k.0))) h)
 
 -- what is read is told of an answer with a truth value as of one without
 pub read_done : (B : Type 0) (size : ℕ) (reads : B → ℕ → List ℕ → Result Unit SourceFailed → B → List ℕ → Type 0) (step : Step) (old new : B) (before now : List ℕ)

@@ -3,6 +3,7 @@ use Rattle.std.proofs.Common.{◌≡◌, ◌⊎◌, inl, inr, ℕ, ◌+◌, ◌-
 use Rattle.std.proofs.lemmas.Bool.Decides.{nat_tests}
 use Rattle.rmt_wire.specs.Reply.{PlainReply}
 use Rattle.rmt_wire.specs.Reply.PlainReply.{Done, Data, Error}
+use Rattle.rmt_wire.specs.declared.errno.TheConstants.{ENOSPC}
 use Rattle.dump_run.specs.Run.{PlainRun}
 use Rattle.dump_run.specs.Label.{label_bytes}
 use Rattle.dump_client.specs.Script.{IsCount}
@@ -114,9 +115,9 @@ reply_fits run counts room (Unload next) (Done n) v fits r =
 reply_fits run counts room Close (Done n) v fits r = fits
 reply_fits run counts room step (Data bytes) v fits r = noise_fits run counts room step fits
 reply_fits run counts room Label (Error n text) v fits r =
-    either_fits run counts room (n == 28) (at_end_of_reel (checkpoint_of counts).1 Label) (Fails (Refused n)) fits fits
+    either_fits run counts room (n == ENOSPC) (at_end_of_reel (checkpoint_of counts).1 Label) (Fails (Refused n)) fits fits
 reply_fits run counts room (Block number) (Error n text) v fits r =
-    either_fits run counts room (n == 28) (at_end_of_reel (checkpoint_of counts).1 (Block number)) (Fails (Refused n))
+    either_fits run counts room (n == ENOSPC) (at_end_of_reel (checkpoint_of counts).1 (Block number)) (Fails (Refused n))
     (end_fits_by run counts room number (nat_lt (checkpoint_of counts).1 number) refl fits r) fits.0
 reply_fits run counts room Close (Error n text) v fits r = fits
 reply_fits run counts room Open (Error n text) v fits r = fits

@@ -9,7 +9,7 @@ use Rattle.dump_client.specs.Script.{Wish, Grants, IsCount, block_steps, refused
 use Rattle.dump_client.specs.declared.step.Step.{Step}
 use Rattle.dump_client.specs.declared.step.Step.TheVariants.{Open, Rewind, Label, Block, Mark, Unload, Close}
 use Rattle.dump_client.specs.Script.Wish.{AnyNumber, Number, NoRoom, Anything}
-use Rattle.dump_client.specs.Position.{Follows, after_reply, after_write, at_end_of_reel, block_or_mark}
+use Rattle.dump_client.specs.Position.{RepliesFollow, after_reply, after_write, at_end_of_reel, block_or_mark}
 use Rattle.dump_client.specs.declared.outcome.Outcome.TheVariants.{GoesOn, Counted, Ended}
 
 -- a step whose wanted reply is a number of its own
@@ -68,13 +68,13 @@ block_refused run first number size h (Data bytes) k = absurd k
 block_refused run first number size h (Error n text) k =
     subst (λ m. after_reply run first (Block number) (Error m text) ≡ GoesOn (Mark number)) (sym k) (at_end first number h)
 
-tail_follows : (run : PlainRun) (first next : ℕ) → Follows run first (last_steps next)
+tail_follows : (run : PlainRun) (first next : ℕ) → RepliesFollow run first (last_steps next)
 tail_follows run first next = (mark_done run first next, (unload_done run first next, close_done run first))
 
 -- behind the last block that is written
 last_follows : (run : PlainRun) (first n : ℕ) (left : Bool) (s : Step) (w : Wish) → 0 < run.block_bytes → (left ≡ true → first < n)
     → ((reply : PlainReply) → Grants w reply → after_reply run first s reply ≡ GoesOn (if left then Block n else Mark n))
-    → Follows run first ((s, w) ∷ ((if left then (Block n, NoRoom) ∷ [] else []) ++ last_steps n))
+    → RepliesFollow run first ((s, w) ∷ ((if left then (Block n, NoRoom) ∷ [] else []) ++ last_steps n))
 last_follows run first n true s w size more h = (h, (block_refused run first n size (more refl), tail_follows run first n))
 last_follows run first n false s w size more h = (h, tail_follows run first n)
 
@@ -82,7 +82,7 @@ last_follows run first n false s w size more h = (h, tail_follows run first n)
 blocks_follow : (run : PlainRun) (first n count end : ℕ) (s : Step) (w : Wish) → 0 < run.block_bytes → n + count ≡ end → end ≤ run.blocks
     → (nat_lt end run.blocks ≡ true → first < end)
     → ((reply : PlainReply) → Grants w reply → after_reply run first s reply ≡ GoesOn (block_or_mark run n))
-    → Follows run first ((s, w) ∷ (block_steps run n count ++ (refused_step run end ++ last_steps end)))
+    → RepliesFollow run first ((s, w) ∷ (block_steps run n count ++ (refused_step run end ++ last_steps end)))
 blocks_follow run first n zero end s w size at within more h =
     let same : n ≡ end = omega arith in
     last_follows run first end (nat_lt end run.blocks) s w size more (λ reply g. h reply g ∙ ap (λ m. GoesOn (block_or_mark run m)) same)
@@ -99,7 +99,7 @@ refused_behind : (run : PlainRun) (first count : ℕ) → IsCount run first coun
 refused_behind run first count (h, inl some) lt = omega arith
 refused_behind run first count (h, inr none) lt = grind (arith, nat_tests)
 
-pub script_follows : (run : PlainRun) (first count : ℕ) → IsRun run → IsCount run first count → Follows run first (steps_of run first count)
+pub script_follows : (run : PlainRun) (first count : ℕ) → IsRun run → IsCount run first count → RepliesFollow run first (steps_of run first count)
 script_follows run first count good h =
     let size : 0 < run.block_bytes = let range = good.block_bytes in let least = range.0 in omega arith in (
       open_done run first,

@@ -3,6 +3,7 @@ use Rattle.std.proofs.Common.{◌≡◌, ◌⊎◌, inl, inr, ℕ, ◌<◌, ◌=
 use Rattle.std.proofs.lemmas.Bool.Decides.{nat_tests}
 use Rattle.rmt_wire.specs.Reply.{PlainReply}
 use Rattle.rmt_wire.specs.Reply.PlainReply.{Done, Data, Error}
+use Rattle.rmt_wire.specs.declared.errno.TheConstants.{ENOSPC}
 use Rattle.dump_run.specs.Run.{PlainRun}
 use Rattle.dump_run.specs.Label.{label_bytes}
 use Rattle.dump_client.specs.declared.step.Step.{Step}
@@ -57,11 +58,11 @@ block_done_or run first number n = whole (eq_or_not n run.block_bytes)
 block_error_or : (run : PlainRun) (first number n : ℕ) (text : List ℕ) → IsWantedAt run first (Block number) (Error n text) ⊎ IsFailure (after_reply run first (Block number) (Error n text))
 block_error_or run first number n text = full (eq_or_not n 28)
   where
-    behind : n ≡ 28 → (first < number) ⊎ IsFailure (at_end_of_reel first (Block number)) → IsWantedAt run first (Block number) (Error n text) ⊎ IsFailure (after_reply run first (Block number) (Error n text))
+    behind : n ≡ ENOSPC → (first < number) ⊎ IsFailure (at_end_of_reel first (Block number)) → IsWantedAt run first (Block number) (Error n text) ⊎ IsFailure (after_reply run first (Block number) (Error n text))
     behind same (inl less) = inl (inr (less, same))
-    behind same (inr fails) = let is : (n == 28) ≡ true = grind (arith, nat_tests) in inr (rw is fails)
+    behind same (inr fails) = let is : (n == ENOSPC) ≡ true = grind (arith, nat_tests) in inr (rw is fails)
 
-    full : (n ≡ 28) ⊎ ((n == 28) ≡ false) → IsWantedAt run first (Block number) (Error n text) ⊎ IsFailure (after_reply run first (Block number) (Error n text))
+    full : (n ≡ ENOSPC) ⊎ ((n == ENOSPC) ≡ false) → IsWantedAt run first (Block number) (Error n text) ⊎ IsFailure (after_reply run first (Block number) (Error n text))
     full (inl same) = behind same (end_or first number)
     full (inr differs) = inr (rw differs tt)
 
@@ -82,7 +83,7 @@ other_replies run first Rewind (Data bytes) = inr tt
 other_replies run first Rewind (Error n text) = inr tt
 other_replies run first Label (Done n) = number_or n label_bytes (GoesOn (block_or_mark run first)) (if n == 0 then at_end_of_reel first Label else Fails ShortWrite) (label_short first (n == 0))
 other_replies run first Label (Data bytes) = inr tt
-other_replies run first Label (Error n text) = inr (label_error first n (n == 28))
+other_replies run first Label (Error n text) = inr (label_error first n (n == ENOSPC))
 other_replies run first (Block number) (Done n) = block_done_or run first number n
 other_replies run first (Block number) (Data bytes) = inr tt
 other_replies run first (Block number) (Error n text) = block_error_or run first number n text

@@ -2,6 +2,8 @@
 use Rattle.std.proofs.Common.{◌≡◌, [], ◌∷◌, refl}
 use Rattle.std.specs.Prelude.{codes}
 use Rattle.rmt_wire.specs.Request.PlainRequest.{Open, Op, Write, Close}
+use Rattle.rmt_wire.specs.declared.fcntl.TheConstants.{O_RDWR}
+use Rattle.rmt_wire.specs.declared.mtio.TheConstants.{MTOFFL, MTREW, MTWEOF}
 use Rattle.dump_run.specs.Run.{PlainRun, plain_run}
 use Rattle.dump_run.specs.Label.{label}
 use Rattle.dump_client.specs.Script.{script}
@@ -11,6 +13,6 @@ abbrev pub row : PlainRun
 row = plain_run (codes "/dev/st0") (codes "/usr") 0 951782400 0 1024 0
 
 pub row_script : script row [] 1 0 0
-    ≡ (Open (codes "/dev/st0") 2, AnyNumber) ∷ (Op 5 1, Number 1) ∷ (Write (label row 1 0), Number 1024)
-    ∷ (Op 0 1, Number 1) ∷ (Op 6 1, Number 1) ∷ (Close, Anything) ∷ []
+    ≡ (Open (codes "/dev/st0") O_RDWR, AnyNumber) ∷ (Op MTREW 1, Number 1) ∷ (Write (label row 1 0), Number 1024)
+    ∷ (Op MTWEOF 1, Number 1) ∷ (Op MTOFFL 1, Number 1) ∷ (Close, Anything) ∷ []
 row_script = refl

@@ -4,9 +4,10 @@ use Rattle.std.proofs.lemmas.List.{map-append}
 use Rattle.std.proofs.Math.Seq.{take-length, take-append_seam}
 use Rattle.rmt_wire.specs.Request.{PlainRequest}
 use Rattle.rmt_wire.specs.Request.PlainRequest.{Op}
+use Rattle.rmt_wire.specs.declared.mtio.TheConstants.{MTOFFL}
 use Rattle.dump_run.specs.Run.{PlainRun}
 use Rattle.dump_client.specs.Script.{Wish, IsCount, request_of, steps_of, script}
-use Rattle.dump_client.specs.Position.{Position, Counts}
+use Rattle.dump_client.specs.Position.{Position, CountsVolume}
 use Rattle.dump_client.specs.Standing.{Standing, checkpoint_after, checkpoint_of}
 use Rattle.dump_client.specs.Lawful.{AreVolumes, IsRunLeft, StepFits, StageFits, IsLawful, steps_before, counts_before, attempt_at, sent_before, attempt_request, StandsAtStep, StandsAt}
 use Rattle.dump_client.specs.declared.step.Step.{Step}
@@ -90,7 +91,7 @@ requests_before run payload volume first next step = map (request_of run payload
 
 -- before the close, MTOFFL is not among the answered requests
 abbrev Stands : PlainRun → List (List ℕ) → ℕ → ℕ → List PlainRequest → ℕ → Type 0
-Stands run payload volume first sent got = (count : ℕ) × Position run payload volume first count sent got × (Contains (take got sent) (Op 6 1) → ⊥)
+Stands run payload volume first sent got = (count : ℕ) × Position run payload volume first count sent got × (Contains (take got sent) (Op MTOFFL 1) → ⊥)
 
 stands_to_send : (run : PlainRun) (payload : List (List ℕ)) (volume first next : ℕ) (step : Step) → NotClose step → Reaches run first next step
     → Stands run payload volume first (requests_before run payload volume first next step) (length (requests_before run payload volume first next step))
@@ -98,7 +99,7 @@ stands_to_send run payload volume first next step other r =
     let sent : List PlainRequest = requests_before run payload volume first next step in (
       r.0,
       to_send run payload volume first r.0 (steps_before run first next step) step r.2 r.1 r.3,
-      subst (λ l. Contains l (Op 6 1) → ⊥) (sym (take-length sent)) (not_unloaded run payload volume first next step other),
+      subst (λ l. Contains l (Op MTOFFL 1) → ⊥) (sym (take-length sent)) (not_unloaded run payload volume first next step other),
     )
 
 stands_waiting : (run : PlainRun) (payload : List (List ℕ)) (volume first next : ℕ) (step : Step) → NotClose step → Reaches run first next step
@@ -108,27 +109,27 @@ stands_waiting run payload volume first next step other r =
     let sent : List PlainRequest = requests_before run payload volume first next step in (
       r.0,
       waiting run payload volume first r.0 (steps_before run first next step) step r.2 r.1 r.3,
-      subst (λ l. Contains l (Op 6 1) → ⊥) (sym (take-append_seam sent (request_of run payload volume first step ∷ []))) (not_unloaded run payload volume first next step other),
+      subst (λ l. Contains l (Op MTOFFL 1) → ⊥) (sym (take-append_seam sent (request_of run payload volume first step ∷ []))) (not_unloaded run payload volume first next step other),
     )
 
 -- at the close the volume is counted
 counted_to_send : (run : PlainRun) (payload : List (List ℕ)) (volume first count next : ℕ) → IsCount run first count → next ≡ first + count
-    → Counts run payload volume first count (requests_before run payload volume first next Close) (length (requests_before run payload volume first next Close))
+    → CountsVolume run payload volume first count (requests_before run payload volume first next Close) (length (requests_before run payload volume first next Close))
 counted_to_send run payload volume first count next n at =
     let sent : List PlainRequest = requests_before run payload volume first next Close in
     record {
       position = to_send run payload volume first count (steps_before run first next Close) Close [] n (reaches_close run first count next at);
-      unloaded = subst (λ l. Contains l (Op 6 1)) (sym (take-length sent)) (unloaded run payload volume first next);
+      unloaded = subst (λ l. Contains l (Op MTOFFL 1)) (sym (take-length sent)) (unloaded run payload volume first next);
     }
 
 counted_waiting : (run : PlainRun) (payload : List (List ℕ)) (volume first count next : ℕ) → IsCount run first count → next ≡ first + count
-    → Counts run payload volume first count (requests_before run payload volume first next Close ++ request_of run payload volume first Close ∷ [])
+    → CountsVolume run payload volume first count (requests_before run payload volume first next Close ++ request_of run payload volume first Close ∷ [])
     (length (requests_before run payload volume first next Close))
 counted_waiting run payload volume first count next n at =
     let sent : List PlainRequest = requests_before run payload volume first next Close in
     record {
       position = waiting run payload volume first count (steps_before run first next Close) Close [] n (reaches_close run first count next at);
-      unloaded = subst (λ l. Contains l (Op 6 1)) (sym (take-append_seam sent (request_of run payload volume first Close ∷ []))) (unloaded run payload volume first next);
+      unloaded = subst (λ l. Contains l (Op MTOFFL 1)) (sym (take-append_seam sent (request_of run payload volume first Close ∷ []))) (unloaded run payload volume first next);
     }
 
 -- the last of the counts is this volume's

@@ -3,12 +3,12 @@ use Rattle.std.proofs.Common.{ℕ, ◌≤◌, length, length-append, decimal, ar
 use Rattle.std.proofs.lemmas.Fmt.{length-decimal-le}
 use Rattle.rmt_wire.specs.Request.{PlainRequest, HasSpelling, request_text}
 use Rattle.rmt_wire.specs.Request.PlainRequest.{Open, Close, Write, WriteDropped, Read, Op}
-use Rattle.rmt_wire.specs.Limits.{reader_limit}
+use Rattle.rmt_wire.specs.declared.limits.TheConstants.{READER_LIMIT}
 
 ten_digits : (n : ℕ) → n ≤ 2147483647 → length (decimal n) ≤ 10
 ten_digits n small = length-decimal-le 10 n (omega arith) (omega arith) (omega arith)
 
-pub text_within : (request : PlainRequest) → HasSpelling request → length (request_text request) ≤ reader_limit
+pub text_within : (request : PlainRequest) → HasSpelling request → length (request_text request) ≤ READER_LIMIT
 text_within (Open device mode) h =
     let line = h.0 in
     let short = line.0 in

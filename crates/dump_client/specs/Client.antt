@@ -3,17 +3,19 @@ use Rattle.std.specs.Prelude.{◌≡◌, ◌≢◌, ℕ, ◌+◌, ◌<◌, Bool,
 use Rattle.rmt_wire.specs.Counted.{raised}
 use Rattle.rmt_wire.specs.Request.{PlainRequest, IsTextOf, request_text}
 use Rattle.rmt_wire.specs.Request.PlainRequest.{Write}
-use Rattle.rmt_wire.specs.Limits.{reader_limit}
+use Rattle.rmt_wire.specs.declared.limits.TheConstants.{READER_LIMIT}
 use Rattle.rmt_wire.specs.ReplyReader as reader
 use Rattle.rmt_wire.specs.ReplyReader.{ReplyUnread}
 use Rattle.dumpdates.specs.Stored.{plain_entry}
 use Rattle.dumpdates.specs.declared.entry.Entry.{Entry}
 use Rattle.dump_run.specs.Run.{PlainRun}
+use Rattle.dump_run.specs.Label.{label}
 use Rattle.dump_client.specs.Script.{request_of, wanted_of}
-use Rattle.dump_client.specs.Listening.{IsWaiting}
-use Rattle.dump_client.specs.Standing.{Standing, standing, checkpoint_of, IsOver}
+use Rattle.dump_client.specs.Listening.{IsReaderWaiting}
+use Rattle.dump_client.specs.Standing.{Standing, standing, checkpoint_of, IsOver, Feeds}
 use Rattle.dump_client.specs.declared.step.Step.{Step}
 use Rattle.dump_client.specs.declared.step.Step.TheVariants.{Block, Close}
+use Rattle.dump_client.specs.declared.stage.Progress.{Progress}
 use Rattle.dump_client.specs.declared.stage.Stage.{Stage}
 use Rattle.dump_client.specs.declared.stage.Stage.TheVariants.{ToSend, Waiting, Asking, Finished}
 use Rattle.dump_run.specs.declared.blocks.SourceFailed.{SourceFailed}
@@ -30,7 +32,7 @@ pub record ClientHeld (B : Type 0) : Type 0 where
 -- the bytes that were fed since the request that waits for its reply was sent; none in the other stages
 abbrev pub HasFedAt : Stage → reader.ReplyHeld → List ℕ → Type 0
 HasFedAt (ToSend step) reader bytes = ReplyUnread reader None [] × (bytes ≡ [])
-HasFedAt (Waiting step) reader bytes = IsWaiting (wanted_of step) reader bytes
+HasFedAt (Waiting step) reader bytes = IsReaderWaiting (wanted_of step) reader bytes
 HasFedAt stage reader bytes = bytes ≡ []
 
 abbrev pub HasFed : {B : Type 0} → ClientHeld B → List ℕ → Type 0
@@ -40,6 +42,10 @@ HasFed c bytes = HasFedAt c.at.stage c.reader bytes
 abbrev pub unanswered : Stage → List ℕ → List ℕ
 unanswered (Waiting step) bytes = bytes
 unanswered stage bytes = []
+
+-- a client that stands there since this piece is fed the next one
+abbrev pub FeedsNext : Standing → List ℕ → List ℕ → List ℕ → Progress → Standing → Type 0
+FeedsNext middle bytes piece next progress new = Feeds middle (unanswered middle.stage (bytes ++ piece)) next progress new
 
 -- the payload has the run's number of blocks, each of its size
 abbrev pub IsPayload : PlainRun → List (List ℕ) → Type 0
@@ -57,7 +63,7 @@ IsRequestOf told run at step request =
 
 -- there is spare room for fewer bytes than the longest request has
 abbrev pub IsScarce : ℕ → ℕ → Type 0
-IsScarce capacity len = capacity < len + reader_limit
+IsScarce capacity len = capacity < len + READER_LIMIT
 
 -- why no request could be appended: a block that could not be read, or want of memory
 abbrev pub IsFaultAt : Step → AttemptFault → ℕ → ℕ → Type 0
@@ -66,9 +72,13 @@ IsFaultAt step OutOfMemory capacity len = IsScarce capacity len
 IsFaultAt step fault capacity len = ⊥
 
 -- a request is appended, or nothing, where memory is scarce
-abbrev pub IsPushed : PlainRequest → ℕ → List ℕ → Result Unit AttemptFault → List ℕ → Type 0
-IsPushed request capacity before (Ok x) now = IsTextOf (request_text request) request × (now ≡ before ++ request_text request)
-IsPushed request capacity before (Err fault) now = (fault ≡ OutOfMemory) × IsScarce capacity (length before) × (now ≡ before)
+abbrev pub IsRequestPushed : PlainRequest → ℕ → List ℕ → Result Unit AttemptFault → List ℕ → Type 0
+IsRequestPushed request capacity before (Ok x) now = IsTextOf (request_text request) request × (now ≡ before ++ request_text request)
+IsRequestPushed request capacity before (Err fault) now = (fault ≡ OutOfMemory) × IsScarce capacity (length before) × (now ≡ before)
+
+-- the write of the next volume's label
+abbrev pub label_request : Standing → PlainRequest
+label_request at = Write (label at.run (checkpoint_of at.counts).0 (checkpoint_of at.counts).1)
 
 -- a step's request is appended, or nothing for one of these causes
 abbrev pub AppendedBy : (List (List ℕ) → Type 0) → Standing → Step → ℕ → List ℕ → Result Unit AttemptFault → List ℕ → Type 0
@@ -104,7 +114,7 @@ IsRequestGiven before (Ok x) now given = now ≡ before ++ request_text (Write g
 IsRequestGiven before (Err fault) now given = Unit {0}
 
 -- Where a block was asked for the source was read once, into room for a block, and what it gave was appended, or its failure is the
--- fault. Nothing else was done with the source.
+-- fault. Nothing else changed the source.
 abbrev pub ReadBy : {B T : Type 0} → Step → ℕ → (B → ℕ → List ℕ → Result Unit SourceFailed → B → List ℕ → Type 0)
     → B → List ℕ → Result T AttemptFault → B → List ℕ → Type 0
 ReadBy {B} {T} (Block number) size reads old before result new now =

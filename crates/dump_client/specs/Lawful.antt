@@ -2,10 +2,12 @@
 use Rattle.std.specs.Prelude.{◌≡◌, ◌⊎◌, ℕ, zero, suc, ◌+◌, ◌-◌, ◌<◌, ◌≤◌, if◌then◌else◌, nat_lt, List, [], ◌∷◌, ◌++◌, length, map, take, Contains}
 use Rattle.rmt_wire.specs.Request.{PlainRequest}
 use Rattle.rmt_wire.specs.Request.PlainRequest.{Op}
+use Rattle.rmt_wire.specs.Reply.{PlainReply}
+use Rattle.rmt_wire.specs.declared.mtio.TheConstants.{MTOFFL}
 use Rattle.dump_run.specs.Run.{PlainRun, IsRun}
 use Rattle.dump_client.specs.Script.{IsCount, request_of}
-use Rattle.dump_client.specs.Position.{Covers, Position, Counts}
-use Rattle.dump_client.specs.Standing.{Standing, checkpoint_of}
+use Rattle.dump_client.specs.Position.{Covers, Position, CountsVolume, after_reply}
+use Rattle.dump_client.specs.Standing.{Standing, checkpoint_of, counted_to}
 use Rattle.dump_client.specs.declared.step.Step.{Step}
 use Rattle.dump_client.specs.declared.step.Step.TheVariants.{Open, Rewind, Label, Block, Mark, Unload, Close}
 use Rattle.dump_client.specs.declared.outcome.Outcome.{Outcome}
@@ -100,13 +102,36 @@ sent_before run payload counts step =
 abbrev pub attempt_request : PlainRun → List (List ℕ) → List VolumeCount → Step → PlainRequest
 attempt_request run payload counts step = request_of run payload (attempt_at step counts).0 (attempt_at step counts).1 step
 
+-- the same, and then the request of the step
+abbrev pub sent_with : PlainRun → List (List ℕ) → List VolumeCount → Step → List PlainRequest
+sent_with run payload counts step = sent_before run payload counts step ++ attempt_request run payload counts step ∷ []
+
+-- At the checkpoint the request of a step is that of the attempt.
+abbrev pub AsksAtCheckpoint : PlainRun → List (List ℕ) → List VolumeCount → Type 0
+AsksAtCheckpoint run payload counts =
+    (step : Step) → request_of run payload (checkpoint_of counts).0 (checkpoint_of counts).1 step ≡ attempt_request run payload counts step
+
+-- At each step that a reply leads to one request more was sent, that of the step before.
+abbrev pub SendsNext : PlainRun → List (List ℕ) → List VolumeCount → Type 0
+SendsNext run payload counts =
+    (step next : Step) (reply : PlainReply) → StepFits run counts step
+    → after_reply run (checkpoint_of counts).1 step reply ≡ GoesOn next
+    → sent_before run payload counts next ≡ sent_with run payload counts step
+
+-- so also at the close, where the reply counts the volume
+abbrev pub SendsLast : PlainRun → List (List ℕ) → List VolumeCount → Type 0
+SendsLast run payload counts =
+    (step : Step) (end : ℕ) (reply : PlainReply) → StepFits run counts step
+    → after_reply run (checkpoint_of counts).1 step reply ≡ Counted end
+    → sent_before run payload (counted_to counts end) Close ≡ sent_with run payload counts step
+
 -- the volume is counted at the close, as the last of the counts, and nowhere before
 abbrev pub CountsAt : PlainRun → List (List ℕ) → List VolumeCount → Step → ℕ → List PlainRequest → ℕ → Type 0
 CountsAt run payload counts Close count sent got =
-    Counts run payload (attempt_at Close counts).0 (attempt_at Close counts).1 count sent got
+    CountsVolume run payload (attempt_at Close counts).0 (attempt_at Close counts).1 count sent got
     × (counts ≡ counts_before Close counts
     ++ record { volume = (attempt_at Close counts).0; first = (attempt_at Close counts).1; count = count } ∷ [])
-CountsAt run payload counts step count sent got = Contains (take got sent) (Op 6 1) → ⊥
+CountsAt run payload counts step count sent got = Contains (take got sent) (Op MTOFFL 1) → ⊥
 
 -- it stands at a position of the attempt's volume
 abbrev pub StandsAtStep : PlainRun → List (List ℕ) → List VolumeCount → Step → List PlainRequest → ℕ → Type 0
@@ -120,6 +145,6 @@ abbrev pub StandsAt : PlainRun → List (List ℕ) → List VolumeCount → Stag
 StandsAt run payload counts (ToSend step) =
     StandsAtStep run payload counts step (sent_before run payload counts step) (length (sent_before run payload counts step))
 StandsAt run payload counts (Waiting step) =
-    StandsAtStep run payload counts step (sent_before run payload counts step ++ attempt_request run payload counts step ∷ [])
+    StandsAtStep run payload counts step (sent_with run payload counts step)
     (length (sent_before run payload counts step))
 StandsAt run payload counts stage = Unit {0}

@@ -2,7 +2,7 @@
 use Rattle.std.specs.Prelude.{◌≡◌, ℕ, ◌<◌, Bool, true, false, List, [], ◌∷◌, ◌++◌, length, Option, Some, None, Result, Ok, Err}
 use Rattle.rmt_wire.specs.Reply.{PlainReply, Wanted}
 use Rattle.rmt_wire.specs.Reply.PlainReply.{Done, Data, Error}
-use Rattle.rmt_wire.specs.Limits.{reader_limit}
+use Rattle.rmt_wire.specs.declared.limits.TheConstants.{READER_LIMIT}
 use Rattle.rmt_wire.specs.ReplyParts.{ReplyGives}
 use Rattle.rmt_wire.specs.ReplyReader.{ReplyHeld, ReplyUnread}
 use Rattle.rmt_wire.specs.declared.fault.WireFault.{WireFault}
@@ -12,10 +12,10 @@ use Rattle.dump_client.specs.declared.listen.Listened.{Listened}
 use Rattle.dump_client.specs.declared.listen.Listened.TheVariants.{Waits, Reply, Noise}
 
 -- these bytes came since a reply of this kind was waited for, and are a beginning of one, for the rest of which there is room
-pub record IsWaiting (wanted : Wanted) (h : ReplyHeld) (bytes : List ℕ) : Type 0 where
+pub record IsReaderWaiting (wanted : Wanted) (h : ReplyHeld) (bytes : List ℕ) : Type 0 where
   pub unread : ReplyUnread h (Some wanted) bytes
   pub begun : ReplyGives (Some wanted) bytes (Ok None) bytes
-  pub room : length h.kept < reader_limit
+  pub room : length h.kept < READER_LIMIT
 
 -- the reply without its text; data are no reply to one who waits for a number
 abbrev pub IsSaid : PlainReply → Said → Type 0
@@ -30,17 +30,17 @@ is_more [] = false
 is_more (b ∷ bytes) = true
 
 -- what a reader answers of the bytes that it holds, and where it stands then; a fault stays, whatever follows
-abbrev pub IsHeard : Wanted → List ℕ → Result (Option Said) WireFault → ReplyHeld → Type 0
-IsHeard wanted bytes (Ok None) new = IsWaiting wanted new bytes
-IsHeard wanted bytes (Ok (Some s)) new =
+abbrev pub IsReplyHeard : Wanted → List ℕ → Result (Option Said) WireFault → ReplyHeld → Type 0
+IsReplyHeard wanted bytes (Ok None) new = IsReaderWaiting wanted new bytes
+IsReplyHeard wanted bytes (Ok (Some s)) new =
     (reply : PlainReply) × (rest : List ℕ) × ReplyGives (Some wanted) bytes (Ok (Some reply)) rest
     × IsSaid reply s × ReplyUnread new None rest
-IsHeard wanted bytes (Err fault) new = (more : List ℕ) → ReplyGives (Some wanted) (bytes ++ more) (Err fault) (bytes ++ more)
+IsReplyHeard wanted bytes (Err fault) new = (more : List ℕ) → ReplyGives (Some wanted) (bytes ++ more) (Err fault) (bytes ++ more)
 
 -- What all the bytes are that came since a reply was waited for, and where the reader stands then: a beginning of a reply; a
 -- reply first, behind which none is unread where no more bytes follow; or bytes of which no beginning is a reply.
 abbrev pub IsListened : Wanted → List ℕ → Listened → ReplyHeld → Type 0
-IsListened wanted bytes Waits new = IsWaiting wanted new bytes
+IsListened wanted bytes Waits new = IsReaderWaiting wanted new bytes
 IsListened wanted bytes (Reply s more) new =
     (reply : PlainReply) × (rest : List ℕ) × ReplyGives (Some wanted) bytes (Ok (Some reply)) rest × IsSaid reply s × (more ≡ is_more rest)
     × (more ≡ false → ReplyUnread new None [])

@@ -4,6 +4,8 @@ use Rattle.rmt_wire.specs.Request.{PlainRequest}
 use Rattle.rmt_wire.specs.Request.PlainRequest.{Op}
 use Rattle.rmt_wire.specs.Reply.{PlainReply}
 use Rattle.rmt_wire.specs.Reply.PlainReply.{Done, Data, Error}
+use Rattle.rmt_wire.specs.declared.errno.TheConstants.{ENOSPC}
+use Rattle.rmt_wire.specs.declared.mtio.TheConstants.{MTOFFL}
 use Rattle.dump_run.specs.Run.{PlainRun}
 use Rattle.dump_run.specs.Label.{label_bytes}
 use Rattle.dump_client.specs.Script.{Wish, Grants, IsCount, script}
@@ -25,9 +27,9 @@ pub record Position (run : PlainRun) (payload : List (List ℕ)) (volume first c
   pub awaited : length sent ≤ got + 1
 
 -- the volume is counted once the reply to MTOFFL is among those that came
-pub record Counts (run : PlainRun) (payload : List (List ℕ)) (volume first count : ℕ) (sent : List PlainRequest) (got : ℕ) : Type 0 where
+pub record CountsVolume (run : PlainRun) (payload : List (List ℕ)) (volume first count : ℕ) (sent : List PlainRequest) (got : ℕ) : Type 0 where
   pub position : Position run payload volume first count sent got
-  pub unloaded : Contains (take got sent) (Op 6 1)
+  pub unloaded : Contains (take got sent) (Op MTOFFL 1)
 
 -- what a client hears: a reply; bytes that are none, or that nobody waits for; the end of the connection
 pub data Heard : Type 0 where
@@ -82,7 +84,7 @@ after_number run first Close n = Ended
 
 -- an error in reply to a write
 abbrev pub after_refusal : ℕ → Step → ℕ → Outcome
-after_refusal first step n = if n == 28 then at_end_of_reel first step else Fails (Refused n)
+after_refusal first step n = if n == ENOSPC then at_end_of_reel first step else Fails (Refused n)
 
 -- what an error in reply to a step leads to
 abbrev pub after_error : ℕ → Step → ℕ → Outcome
@@ -119,11 +121,11 @@ leads_to Close (Unload next) = Counted next
 leads_to following step = GoesOn following
 
 -- each reply that is wanted leads to the next step, that to MTOFFL to the count, and the last one to the end
-abbrev pub Follows : PlainRun → ℕ → List (Step × Wish) → Type 0
-Follows run first [] = Unit {0}
-Follows run first (s ∷ []) = (reply : PlainReply) → Grants s.1 reply → after_reply run first s.0 reply ≡ Ended
-Follows run first (s ∷ t ∷ steps) =
-    ((reply : PlainReply) → Grants s.1 reply → after_reply run first s.0 reply ≡ leads_to t.0 s.0) × Follows run first (t ∷ steps)
+abbrev pub RepliesFollow : PlainRun → ℕ → List (Step × Wish) → Type 0
+RepliesFollow run first [] = Unit {0}
+RepliesFollow run first (s ∷ []) = (reply : PlainReply) → Grants s.1 reply → after_reply run first s.0 reply ≡ Ended
+RepliesFollow run first (s ∷ t ∷ steps) =
+    ((reply : PlainReply) → Grants s.1 reply → after_reply run first s.0 reply ≡ leads_to t.0 s.0) × RepliesFollow run first (t ∷ steps)
 
 -- the replies that are wanted at a step; at a block also that there is no room, once one was written
 abbrev pub IsWantedAt : PlainRun → ℕ → Step → PlainReply → Type 0

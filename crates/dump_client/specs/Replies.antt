@@ -1,12 +1,12 @@
 -- Where the replies that come lead, and that they are those that the script wants. Public contracts cite it.
-use Rattle.std.specs.Prelude.{◌≡◌, ℕ, ◌+◌, List, [], ◌∷◌, ◌++◌, length, map}
+use Rattle.std.specs.Prelude.{◌≡◌, ◌⊎◌, ℕ, ◌+◌, ◌-◌, ◌<◌, ◌≤◌, List, [], ◌∷◌, ◌++◌, length, map}
 use Rattle.rmt_wire.specs.Reply.{PlainReply}
 use Rattle.dump_run.specs.Run.{PlainRun}
 use Rattle.dump_client.specs.Script.{Wish, Grants, IsCount, steps_of}
 use Rattle.dump_client.specs.Position.{after_reply}
 use Rattle.dump_client.specs.Lawful.{steps_before}
 use Rattle.dump_client.specs.declared.step.Step.{Step}
-use Rattle.dump_client.specs.declared.step.Step.TheVariants.{Mark, Unload, Close}
+use Rattle.dump_client.specs.declared.step.Step.TheVariants.{Open, Mark, Unload, Close}
 use Rattle.dump_client.specs.declared.outcome.Outcome.{Outcome}
 use Rattle.dump_client.specs.declared.outcome.Outcome.TheVariants.{GoesOn, Counted}
 
@@ -42,3 +42,15 @@ pub record Granted (run : PlainRun) (first next count : ℕ) (step : Step) (repl
   pub answered : length replies ≡ length (steps_before run first next step)
   pub rest : List Step
   pub goes_on : map (λ s. s.0) (steps_of run first count) ≡ steps_before run first next step ++ step ∷ rest
+
+-- Where a volume may begin at this block, and these replies lead from the open to this step, they are those that a script wants.
+abbrev pub GrantedOnTheWay : PlainRun → ℕ → Step → List PlainReply → Type 0
+GrantedOnTheWay run first step replies =
+    first ≤ run.blocks → (first < run.blocks) ⊎ (run.blocks ≡ 0) → led_by run first Open replies ≡ GoesOn step
+    → (count : ℕ) × Granted run first first count step replies
+
+-- so also where they lead to the count, of the blocks up to `next`
+abbrev pub GrantedAtTheCount : PlainRun → ℕ → ℕ → List PlainReply → Type 0
+GrantedAtTheCount run first next replies =
+    first ≤ run.blocks → (first < run.blocks) ⊎ (run.blocks ≡ 0) → led_by run first Open replies ≡ Counted next
+    → Granted run first next (next - first) Close replies

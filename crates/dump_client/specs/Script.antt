@@ -5,6 +5,9 @@ use Rattle.rmt_wire.specs.Request.PlainRequest.{Open as OpenDevice, Op, Write, C
 use Rattle.rmt_wire.specs.Reply.{PlainReply, Wanted}
 use Rattle.rmt_wire.specs.Reply.Wanted.{Number as NumberReply}
 use Rattle.rmt_wire.specs.Reply.PlainReply.{Done, Error}
+use Rattle.rmt_wire.specs.declared.errno.TheConstants.{ENOSPC}
+use Rattle.rmt_wire.specs.declared.fcntl.TheConstants.{O_RDWR}
+use Rattle.rmt_wire.specs.declared.mtio.TheConstants.{MTOFFL, MTREW, MTWEOF}
 use Rattle.dump_run.specs.Run.{PlainRun}
 use Rattle.dump_run.specs.Label.{label, label_bytes}
 use Rattle.dump_client.specs.declared.step.Step.{Step}
@@ -12,12 +15,12 @@ use Rattle.dump_client.specs.declared.step.Step.TheVariants.{Open, Rewind, Label
 
 -- volume `volume` from block `first` on: an open for reading and writing, MTREW, the label, blocks, MTWEOF, MTOFFL, a close
 abbrev pub request_of : PlainRun → List (List ℕ) → ℕ → ℕ → Step → PlainRequest
-request_of run payload volume first Open = OpenDevice run.device 2
-request_of run payload volume first Rewind = Op 5 1
+request_of run payload volume first Open = OpenDevice run.device O_RDWR
+request_of run payload volume first Rewind = Op MTREW 1
 request_of run payload volume first Label = Write (label run volume first)
 request_of run payload volume first (Block number) = Write (get_or payload number [])
-request_of run payload volume first (Mark next) = Op 0 1
-request_of run payload volume first (Unload next) = Op 6 1
+request_of run payload volume first (Mark next) = Op MTWEOF 1
+request_of run payload volume first (Unload next) = Op MTOFFL 1
 request_of run payload volume first Close = CloseDevice
 
 -- the kind of reply that a step wants: a number, at each of them
@@ -36,7 +39,7 @@ abbrev pub Grants : Wish → PlainReply → Type 0
 Grants AnyNumber (Done n) = Unit {0}
 Grants (Number number) (Done n) = n ≡ number
 Grants NoRoom (Done n) = n ≡ 0
-Grants NoRoom (Error n text) = n ≡ 28
+Grants NoRoom (Error n text) = n ≡ ENOSPC
 Grants Anything reply = Unit {0}
 Grants wish reply = ⊥
 

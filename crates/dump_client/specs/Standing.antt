@@ -108,6 +108,10 @@ FedAt (Waiting step) old bytes piece progress new =
     × Makes old step (bytes ++ piece) seen rest progress new
 FedAt stage old bytes piece progress new = (progress ≡ moved.Idle) × (new ≡ old)
 
+-- a client that stands there is fed a piece
+abbrev pub Feeds : Standing → List ℕ → List ℕ → Progress → Standing → Type 0
+Feeds old bytes piece progress new = FedAt old.stage old bytes piece progress new
+
 -- the connection ends
 abbrev pub CutAt : Stage → Standing → Progress → Standing → Type 0
 CutAt (ToSend step) old progress new = HearsAt old step End false progress new

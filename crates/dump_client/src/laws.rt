@@ -1,20 +1,20 @@
 //! Laws of an attempt and its counts, each the contract of a call that does nothing.
 
-ghost use Rattle.std.specs.Prelude.{◌≡◌, ◌≢◌, ◌⊎◌, ℕ, ◌-◌, ◌<◌, ◌≤◌, List, [], ◌∷◌, ◌++◌};
+ghost use Rattle.std.specs.Prelude.{◌≡◌, ◌≢◌, ◌⊎◌, ℕ, List, [], ◌++◌};
 ghost use Rattle.rmt_wire.specs.Reply.{PlainReply};
 ghost use Rattle.dump_run.specs.Run.{PlainRun, IsRun};
-ghost use Rattle.dump_client.specs.Script.{IsCount, request_of, steps_of};
-ghost use Rattle.dump_client.specs.Position.{Follows, Heard, IsWantedAt, IsFailure, after_reply, outcome};
+ghost use Rattle.dump_client.specs.Script.{IsCount, steps_of};
+ghost use Rattle.dump_client.specs.Position.{RepliesFollow, Heard, IsWantedAt, IsFailure, after_reply, outcome};
 ghost use Rattle.dump_client.specs.Position.Heard.{Noise, End};
-ghost use Rattle.dump_client.specs.Standing.{Standing, FedAt, CutAt, checkpoint_of, counted_to};
-ghost use Rattle.dump_client.specs.Client.{unanswered};
+ghost use Rattle.dump_client.specs.Standing.{Standing, Feeds, CutAt};
+ghost use Rattle.dump_client.specs.Client.{FeedsNext};
 ghost use Rattle.dump_client.specs.Going.{GoesOnWith, StandsAfter};
 ghost use Rattle.dump_client.specs.declared.step.Step.{Step};
-ghost use Rattle.dump_client.specs.Lawful.{IsLawful, StepFits, StandsAt, sent_before, attempt_request};
-ghost use Rattle.dump_client.specs.Replies.{Granted, led_by};
+ghost use Rattle.dump_client.specs.Lawful.{IsLawful, StandsAt, sent_before, AsksAtCheckpoint, SendsNext, SendsLast};
+ghost use Rattle.dump_client.specs.Replies.{GrantedOnTheWay, GrantedAtTheCount};
 ghost use Rattle.dump_client.specs.declared.count.VolumeCount.{VolumeCount};
 ghost use Rattle.dump_client.specs.declared.step.Step.TheVariants.{Open, Close};
-ghost use Rattle.dump_client.specs.declared.outcome.Outcome.TheVariants.{GoesOn, Fails, Counted, Ended};
+ghost use Rattle.dump_client.specs.declared.outcome.Outcome.TheVariants.{Fails, Ended};
 ghost use Rattle.dump_client.specs.declared.stage.Progress.{Progress};
 ghost use Rattle.dump_client.specs.declared.stage.Progress.TheVariants.{Failed};
 ghost use Rattle.dump_client.specs.declared.fault.AttemptFault.{AttemptFault};
@@ -26,7 +26,7 @@ ghost use Rattle.dump_client.specs.declared.fault.AttemptFault.TheVariants.{Botc
 /// It does nothing: its contract is a law of the definitions.
 pub fn wanted_replies()
     ensures next { (run : PlainRun) (first count : ℕ) → IsRun run → IsCount run first count →
-        Follows run first (steps_of run first count) }
+        RepliesFollow run first (steps_of run first count) }
     ensures others { (run : PlainRun) (first : ℕ) (step : Step) (reply : PlainReply) →
         IsWantedAt run first step reply ⊎ IsFailure (after_reply run first step reply) }
 {}
@@ -37,12 +37,8 @@ pub fn wanted_replies()
 ///
 /// It does nothing: its contract is a law of the definitions.
 pub fn granted_replies()
-    ensures on_the_way { (run : PlainRun) (first : ℕ) (step : Step) (replies : List PlainReply) →
-        first ≤ run.blocks → (first < run.blocks) ⊎ (run.blocks ≡ 0) → led_by run first Open replies ≡ GoesOn step →
-        (count : ℕ) × Granted run first first count step replies }
-    ensures counted { (run : PlainRun) (first next : ℕ) (replies : List PlainReply) →
-        first ≤ run.blocks → (first < run.blocks) ⊎ (run.blocks ≡ 0) → led_by run first Open replies ≡ Counted next →
-        Granted run first next (next - first) Close replies }
+    ensures on_the_way { (run : PlainRun) (first : ℕ) (step : Step) (replies : List PlainReply) → GrantedOnTheWay run first step replies }
+    ensures counted { (run : PlainRun) (first next : ℕ) (replies : List PlainReply) → GrantedAtTheCount run first next replies }
 {}
 
 /// A client in an attempt stands at a position of its volume. What it holds says what was sent, which begins the script of a
@@ -53,8 +49,7 @@ pub fn granted_replies()
 /// It does nothing: its contract is a law of the definitions.
 pub fn lawful_positions()
     ensures stands { (s : Standing) (payload : List (List ℕ)) → IsLawful s → StandsAt s.run payload s.counts s.stage }
-    ensures asked { (run : PlainRun) (payload : List (List ℕ)) (counts : List VolumeCount) (step : Step) →
-        request_of run payload (checkpoint_of counts).0 (checkpoint_of counts).1 step ≡ attempt_request run payload counts step }
+    ensures asked { (run : PlainRun) (payload : List (List ℕ)) (counts : List VolumeCount) → AsksAtCheckpoint run payload counts }
 {}
 
 /// What was sent is what was appended: nothing at the start of an attempt, and at each step that a reply leads to one request
@@ -63,13 +58,8 @@ pub fn lawful_positions()
 /// It does nothing: its contract is a law of the definitions.
 pub fn sent_in_order()
     ensures none { (run : PlainRun) (payload : List (List ℕ)) (counts : List VolumeCount) → sent_before run payload counts Open ≡ [] }
-    ensures next { (run : PlainRun) (payload : List (List ℕ)) (counts : List VolumeCount) (step next : Step) (reply : PlainReply) →
-        StepFits run counts step → after_reply run (checkpoint_of counts).1 step reply ≡ GoesOn next →
-        sent_before run payload counts next ≡ sent_before run payload counts step ++ attempt_request run payload counts step ∷ [] }
-    ensures counted { (run : PlainRun) (payload : List (List ℕ)) (counts : List VolumeCount) (step : Step) (end : ℕ) (reply : PlainReply) →
-        StepFits run counts step → after_reply run (checkpoint_of counts).1 step reply ≡ Counted end →
-        sent_before run payload (counted_to counts end) Close
-        ≡ sent_before run payload counts step ++ attempt_request run payload counts step ∷ [] }
+    ensures next { (run : PlainRun) (payload : List (List ℕ)) (counts : List VolumeCount) → SendsNext run payload counts }
+    ensures counted { (run : PlainRun) (payload : List (List ℕ)) (counts : List VolumeCount) → SendsLast run payload counts }
 {}
 
 /// From the close on nothing fails: whatever is heard there ends the attempt. Before it bytes that are no reply fail it,
@@ -87,11 +77,10 @@ pub fn after_the_count()
 ///
 /// It does nothing: its contract is a law of the definitions.
 pub fn fed_in_pieces()
-    ensures pieces { (old middle new : Standing) (bytes p q : List ℕ) (first second : Progress) → FedAt old.stage old bytes p first middle →
-        FedAt middle.stage middle (unanswered middle.stage (bytes ++ p)) q second new →
-        (whole : Progress) × FedAt old.stage old bytes (p ++ q) whole new }
+    ensures pieces { (old middle new : Standing) (bytes p q : List ℕ) (a b : Progress) → Feeds old bytes p a middle →
+        FeedsNext middle bytes p q b new → (c : Progress) × Feeds old bytes (p ++ q) c new }
     ensures failed { (old new : Standing) (bytes p : List ℕ) (fault : AttemptFault) →
-        FedAt old.stage old bytes p (Failed fault) new → new.counts ≡ old.counts }
+        Feeds old bytes p (Failed fault) new → new.counts ≡ old.counts }
     ensures cut { (old new : Standing) (fault : AttemptFault) → CutAt old.stage old (Failed fault) new → new.counts ≡ old.counts }
 {}
 
@@ -100,12 +89,12 @@ pub fn fed_in_pieces()
 ///
 /// It does nothing: its contract is a law of the definitions.
 pub fn same_run()
-    ensures fed { (old new : Standing) (bytes piece : List ℕ) (progress : Progress) → FedAt old.stage old bytes piece progress new →
+    ensures fed { (old new : Standing) (bytes piece : List ℕ) (progress : Progress) → Feeds old bytes piece progress new →
         (more : List VolumeCount) × GoesOnWith old new more }
     ensures cut { (old new : Standing) (progress : Progress) → CutAt old.stage old progress new → GoesOnWith old new [] }
     ensures fed_lawful { (old new : Standing) (bytes piece : List ℕ) (progress : Progress) → IsLawful old →
-        FedAt old.stage old bytes piece progress new → IsLawful new }
-    ensures fed_stands { (old new : Standing) (bytes piece : List ℕ) (progress : Progress) → FedAt old.stage old bytes piece progress new →
+        Feeds old bytes piece progress new → IsLawful new }
+    ensures fed_stands { (old new : Standing) (bytes piece : List ℕ) (progress : Progress) → Feeds old bytes piece progress new →
         StandsAfter old progress new }
     ensures cut_stands { (old new : Standing) (progress : Progress) → CutAt old.stage old progress new → StandsAfter old progress new }
     ensures cut_lawful { (old new : Standing) (progress : Progress) → IsLawful old → CutAt old.stage old progress new → IsLawful new }

@@ -3,7 +3,7 @@ ghost use Rattle.std.specs.Prelude.{ℕ, List, ◌++◌, Some};
 ghost use Rattle.rmt_wire.specs.Lent.{plain_reply};
 ghost use Rattle.rmt_wire.specs.Reply as kinds;
 ghost use Rattle.rmt_wire.specs.ReplyReader.{ReplyUnread};
-ghost use Rattle.dump_client.specs.Listening.{IsWaiting, IsSaid, IsHeard, IsListened};
+ghost use Rattle.dump_client.specs.Listening.{IsReaderWaiting, IsSaid, IsReplyHeard, IsListened};
 
 use rmt_wire::{Reply, ReplyReader, WireFault};
 
@@ -43,7 +43,7 @@ fn without_text(reply: Reply<'_>) -> Said
 fn hear(reader: &mut ReplyReader) -> Result<Option<Said>, WireFault>
     requires held { (bytes : List ℕ) × ReplyUnread reader.old (Some kinds.Wanted.Number) bytes }
     ensures heard { (bytes : List ℕ) → ReplyUnread reader.old (Some kinds.Wanted.Number) bytes →
-        IsHeard kinds.Wanted.Number bytes result reader.new }
+        IsReplyHeard kinds.Wanted.Number bytes result reader.new }
 {
     match reader.next()? {
         None => Ok(None),
@@ -57,8 +57,8 @@ fn hear(reader: &mut ReplyReader) -> Result<Option<Said>, WireFault>
 /// piece. After a reply that no byte follows, the reader waits for nothing and holds nothing. After any other answer it may
 /// have taken a part of the piece only. It takes no memory.
 pub(crate) fn listen(reader: &mut ReplyReader, piece: &[u8]) -> Listened
-    requires waiting { (bytes : List ℕ) × IsWaiting kinds.Wanted.Number reader.old bytes }
-    ensures listened { (bytes : List ℕ) → IsWaiting kinds.Wanted.Number reader.old bytes →
+    requires waiting { (bytes : List ℕ) × IsReaderWaiting kinds.Wanted.Number reader.old bytes }
+    ensures listened { (bytes : List ℕ) → IsReaderWaiting kinds.Wanted.Number reader.old bytes →
         IsListened kinds.Wanted.Number (bytes ++ piece.now) result reader.new }
 {
     let mut at = 0;

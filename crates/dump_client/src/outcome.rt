@@ -9,9 +9,7 @@ use crate::listen::Said;
 use crate::step::Step;
 use crate::{AttemptFault, Run};
 use dump_run::LABEL_BYTES;
-
-/// The error of a write for which there is no room (ENOSPC).
-const NO_ROOM: u32 = 28;
+use rmt_wire::errno::ENOSPC;
 
 /// What comes next in an attempt: a request, its failure, the count of its volume, which ends before this block, or its
 /// end.
@@ -97,7 +95,7 @@ fn after_error(first: u32, step: Step, n: u32) -> Outcome
 {
     match step {
         Step::Close => Outcome::Ended,
-        Step::Label | Step::Block(_) if n == NO_ROOM => at_end_of_reel(first, step),
+        Step::Label | Step::Block(_) if n == ENOSPC => at_end_of_reel(first, step),
         _ => Outcome::Fails(AttemptFault::Refused(n)),
     }
 }

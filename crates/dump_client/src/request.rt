@@ -3,29 +3,20 @@ ghost use Rattle.std.specs.Prelude.{◌≡◌, ◌↔◌, ℕ, ◌≤◌, true, 
 ghost use Rattle.std.specs.Vec.{vec_capacity};
 ghost use Rattle.rmt_wire.specs.Lent.{plain_request};
 ghost use Rattle.rmt_wire.specs.Request as requests;
-ghost use Rattle.rmt_wire.specs.Request.PlainRequest.{Open, Write, Op};
-ghost use Rattle.dump_client.specs.Client.{IsPayload, IsPushed, AppendedBy, ReadBy, failures_after, is_source_fault};
-ghost use Rattle.dump_run.specs.Label as labels;
+ghost use Rattle.rmt_wire.specs.Request.PlainRequest.{Open, Op};
+ghost use Rattle.dump_client.specs.Client.{IsPayload, IsRequestPushed, AppendedBy, ReadBy, failures_after, is_source_fault, label_request};
 ghost use Rattle.dump_client.specs.Lawful.{IsLawful, StepFits};
-ghost use Rattle.dump_client.specs.Standing.{checkpoint_of};
 
 use crate::ledger::Ledger;
 use crate::step::Step;
 use crate::{AttemptFault, Blocks, Run};
 use dump_run::label;
+use rmt_wire::fcntl::O_RDWR;
+use rmt_wire::mtio::{MTOFFL, MTREW, MTWEOF};
 use rmt_wire::{Request, push_request};
 
-/// An open for reading and writing.
-const READ_WRITE: u32 = 2;
-
-/// The operations of mtio that an attempt asks for.
-const MTWEOF: u32 = 0;
-
-const MTREW: u32 = 5;
-
-const MTOFFL: u32 = 6;
-
-/// Appends the request of a step: a block is read from the source. Nothing is appended where that fails.
+/// Appends the request of a step: a block is read from the source, which is told of a volume where its label is
+/// written. Nothing is appended where the read fails.
 pub(crate) fn push_step<B: Blocks>(
     ledger: &Ledger,
     step: Step,
@@ -48,7 +39,7 @@ pub(crate) fn push_step<B: Blocks>(
     match step {
         Step::Open => push_open(ledger.run(), out),
         Step::Rewind => push_op(MTREW, out),
-        Step::Label => push_label(ledger, out),
+        Step::Label => push_label(ledger, source, out),
         Step::Block(number) => match source.read(number, block) {
             Ok(()) => push(&Request::Write { bytes: block }, out),
             Err(_) => Err(AttemptFault::SourceFault),
@@ -61,22 +52,26 @@ pub(crate) fn push_step<B: Blocks>(
 
 /// Appends the open of the run's device, for reading and writing.
 fn push_open(run: &Run, out: &mut Vec<u8>) -> Result<(), AttemptFault>
-    ensures { IsPushed (Open run.now.device 2) (vec_capacity out.old) out.old.items result out.new.items }
+    ensures { IsRequestPushed (Open run.now.device O_RDWR) (vec_capacity out.old) out.old.items result out.new.items }
 {
     let request = Request::Open {
         device: run.device(),
-        mode: READ_WRITE,
+        mode: O_RDWR,
     };
     push(&request, out)
 }
 
-/// Appends the write of the next volume's label.
-fn push_label(ledger: &Ledger, out: &mut Vec<u8>) -> Result<(), AttemptFault>
-    ensures { IsPushed
-        (Write (labels.label ledger.now.at.run (checkpoint_of ledger.now.at.counts).0 (checkpoint_of ledger.now.at.counts).1))
-        (vec_capacity out.old) out.old.items result out.new.items }
+/// Appends the write of the next volume's label, and tells the source of the volume.
+fn push_label<B: Blocks>(
+    ledger: &Ledger,
+    source: &mut B,
+    out: &mut Vec<u8>,
+) -> Result<(), AttemptFault>
+    ensures pushed { IsRequestPushed (label_request ledger.now.at) (vec_capacity out.old) out.old.items result out.new.items }
+    ensures same_source { source.new ≡ source.old }
 {
     let (volume, first) = ledger.checkpoint();
+    source.begin_volume(volume, first);
     let label = label(ledger.run(), volume, first);
     push(&Request::Write { bytes: &label }, out)
 }
@@ -84,7 +79,7 @@ fn push_label(ledger: &Ledger, out: &mut Vec<u8>) -> Result<(), AttemptFault>
 /// Appends an operation of count 1.
 fn push_op(op: u32, out: &mut Vec<u8>) -> Result<(), AttemptFault>
     requires { op ≤ 7 }
-    ensures { IsPushed (Op op 1) (vec_capacity out.old) out.old.items result out.new.items }
+    ensures { IsRequestPushed (Op op 1) (vec_capacity out.old) out.old.items result out.new.items }
 {
     push(&Request::Op { op, count: 1 }, out)
 }
@@ -93,7 +88,7 @@ fn push_op(op: u32, out: &mut Vec<u8>) -> Result<(), AttemptFault>
 #[tactic(auto, using(crate::proofs::Texts::text_within))]
 fn push(request: &Request<'_>, out: &mut Vec<u8>) -> Result<(), AttemptFault>
     requires { requests.HasSpelling (plain_request request.now) }
-    ensures { IsPushed (plain_request request.now) (vec_capacity out.old) out.old.items result out.new.items }
+    ensures { IsRequestPushed (plain_request request.now) (vec_capacity out.old) out.old.items result out.new.items }
 {
     match push_request(out, request) {
         Ok(()) => Ok(()),

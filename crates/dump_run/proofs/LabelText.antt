@@ -6,7 +6,7 @@ use Rattle.std.proofs.lemmas.Slice.{drop-put_mid}
 use borrow.Rule.Slice.PartMut.{put_mid}
 use Rattle.rmt_wire.specs.Number.{line_feed, space}
 use Rattle.dump_run.specs.Run.{PlainRun, IsRun}
-use Rattle.dump_run.specs.Label.{label, label_text, line_of}
+use Rattle.dump_run.specs.Label.{label, label_lines, line_of}
 
 -- a number of a line has at most twelve digits
 pub line_number_is_short : (n : ℕ) → n ≤ 999999999999 → length (decimal n) ≤ 12
@@ -39,7 +39,7 @@ pub length_with_line : (old word text new : List ℕ) → new ≡ old ++ line_of
 length_with_line old word text new e = omega (arith, ap length e, length-append old (line_of word text), length_line word text)
 
 -- the longest text has 341 bytes
-pub label_text_fits : (run : PlainRun) (volume first : ℕ) → IsRun run → volume < 2 ^ 32 → first < 2 ^ 32 → length (label_text run volume first) ≤ 341
+pub label_text_fits : (run : PlainRun) (volume first : ℕ) → IsRun run → volume < 2 ^ 32 → first < 2 ^ 32 → length (label_lines run volume first) ≤ 341
 label_text_fits run volume first within v f =
     let name = within.name in
     let level : length (decimal run.level) ≤ 1 = length-decimal-le 1 run.level (omega arith) (let l = within.level in omega arith) (let l = within.level in omega arith) in
@@ -53,6 +53,6 @@ label_text_fits run volume first within v f =
 pub length_label : (run : PlainRun) (volume first : ℕ) → IsRun run → volume < 2 ^ 32 → first < 2 ^ 32 → length (label run volume first) ≡ 1024
 length_label run volume first within v f =
     let fits = label_text_fits run volume first within v f in
-    length-append (label_text run volume first) (replicate (1024 - length (label_text run volume first)) 0)
-    ∙ ap (λ n. length (label_text run volume first) + n) (length-replicate (1024 - length (label_text run volume first)) 0)
+    length-append (label_lines run volume first) (replicate (1024 - length (label_lines run volume first)) 0)
+    ∙ ap (λ n. length (label_lines run volume first) + n) (length-replicate (1024 - length (label_lines run volume first)) 0)
     ∙ omega arith

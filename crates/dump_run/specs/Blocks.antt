@@ -23,20 +23,20 @@ cut_blocks zero size payload = []
 cut_blocks (suc n) size payload = take size payload ∷ cut_blocks n size (drop size payload)
 
 -- a payload in memory: its blocks, whether reads of it fail, and how many have failed
-pub record Listed : Type 0 where
+pub record ListedBlocks : Type 0 where
   pub blocks : List (List ℕ)
   pub troubled : Bool
   pub failures : ℕ
 
-abbrev pub listed : List (List ℕ) → Bool → ℕ → Listed
+abbrev pub listed : List (List ℕ) → Bool → ℕ → ListedBlocks
 listed blocks troubled failures = record { blocks = blocks; troubled = troubled; failures = failures }
 
 -- it always tells its blocks
-abbrev pub AreBlocksOf : Listed → List (List ℕ) → Type 0
+abbrev pub AreBlocksOf : ListedBlocks → List (List ℕ) → Type 0
 AreBlocksOf source blocks = source.blocks ≡ blocks
 
 -- One read of it: without trouble it gives the block and changes nothing; in trouble it gives nothing and is counted.
-abbrev pub ListedRead : Listed → ℕ → List ℕ → Result Unit SourceFailed → Listed → List ℕ → Type 0
+abbrev pub ListedRead : ListedBlocks → ℕ → List ℕ → Result Unit SourceFailed → ListedBlocks → List ℕ → Type 0
 ListedRead old n into (Ok x) new given = (old.troubled ≡ false) × (new ≡ old) × (given ≡ get_or old.blocks n [])
 ListedRead old n into (Err failed) new given =
     (old.troubled ≡ true) × (new ≡ listed old.blocks true (raised old.failures)) × (given ≡ into)

@@ -8,8 +8,8 @@ use Rattle.dump_run.specs.Run.{PlainRun}
 abbrev pub line_of : List ℕ → List ℕ → List ℕ
 line_of word text = word ++ space ∷ (text ++ line_feed ∷ [])
 
-abbrev pub label_text : PlainRun → ℕ → ℕ → List ℕ
-label_text run volume first =
+abbrev pub label_lines : PlainRun → ℕ → ℕ → List ℕ
+label_lines run volume first =
     line_of (codes "name") run.name
     ++ (line_of (codes "level") (decimal run.level)
     ++ (line_of (codes "date") (decimal run.date)
@@ -22,4 +22,4 @@ label_bytes = 1024
 
 -- the text, and zero bytes behind it
 abbrev pub label : PlainRun → ℕ → ℕ → List ℕ
-label run volume first = let text = label_text run volume first in text ++ replicate (label_bytes - length text) 0
+label run volume first = let text = label_lines run volume first in text ++ replicate (label_bytes - length text) 0

@@ -1,8 +1,8 @@
 -- A run: what is dumped, to which drive, and in how many blocks (dump(8)). Public contracts cite it.
-use Rattle.std.specs.Prelude.{◌⊎◌, ℕ, ◌<◌, ◌≤◌, List, length}
+use Rattle.std.specs.Prelude.{◌≡◌, ◌⊎◌, ℕ, ◌<◌, ◌≤◌, List, length, Result, MatchResult}
 use Rattle.std.specs.Int.{IsInRange}
 use Rattle.rmt_wire.specs.Number.{HasNoLineFeed}
-use Rattle.rmt_wire.specs.Limits.{data_limit}
+use Rattle.rmt_wire.specs.declared.limits.TheConstants.{RECORD_LIMIT}
 use Rattle.dumpdates.specs.Entry.{IsName, last_second}
 use Rattle.dump_run.specs.declared.fault.RunFault.{RunFault}
 use Rattle.dump_run.specs.declared.fault.RunFault.TheVariants.{BadDevice, BadName, BadLevel, BadDate, BadBlockSize, TooManyBlocks}
@@ -28,7 +28,7 @@ IsDevice device = IsInRange 1 255 (length device) × HasNoLineFeed device
 
 -- a block is written as one record
 abbrev pub IsBlockSize : ℕ → Type 0
-IsBlockSize bytes = IsInRange 1 data_limit bytes
+IsBlockSize bytes = IsInRange 1 RECORD_LIMIT bytes
 
 abbrev pub blocks_limit : ℕ
 blocks_limit = 2147483647
@@ -54,3 +54,11 @@ IsFirstBroken BadBlockSize r =
 IsFirstBroken TooManyBlocks r =
     IsDevice r.device × IsName r.name × (r.level ≤ 9) × (r.date ≤ last_second) × (r.since ≤ last_second) × IsBlockSize r.block_bytes
     × (blocks_limit < r.blocks)
+
+-- the run is within its limits, or the first that is broken is told
+abbrev pub IsCheckedRun : PlainRun → Result Unit RunFault → Type 0
+IsCheckedRun run result = MatchResult result (λ _. IsRun run) (λ fault. IsFirstBroken fault run)
+
+-- this run was made, or the first of its limits that is broken is told
+abbrev pub IsRunOf : PlainRun → Result PlainRun RunFault → Type 0
+IsRunOf run result = MatchResult result (λ made. made ≡ run) (λ fault. IsFirstBroken fault run)

@@ -30,6 +30,14 @@ pub trait Blocks {
     /// over these bytes, with what it answers, the source then, and the bytes then.
     ghost reads: { Self → ℕ → List ℕ → Result Unit SourceFailed → Self → List ℕ → Type 0 };
 
+    /// Is told that an attempt begins the volume of this number, counted from 1, whose first block is this, counted from 0.
+    /// A source may show it.
+    fn begin_volume(&mut self, volume: u32, first: u32)
+        ensures { self.new ≡ self.old }
+    {
+        let _ = (volume, first);
+    }
+
     /// Reads the block of this number, counted from 0, into `into`, which has the block's length.
     ///
     /// Answers `SourceFailed` where the read failed. The blocks are as they were then, and `into` may have changed.
@@ -47,5 +55,6 @@ pub trait Blocks {
         ensures { result ≡ failures self.now };
 
     /// It tells one list at most.
-    ghost single: { (source : Self) (blocks others : List (List ℕ)) → holds source blocks → holds source others → blocks ≡ others };
+    ghost single: { (source : Self) (blocks others : List (List ℕ)) →
+        holds source blocks → holds source others → blocks ≡ others };
 }

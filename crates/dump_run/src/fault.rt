@@ -17,7 +17,7 @@ pub enum RunFault {
     /// The date, or the date of the dump that it builds on, is behind the last second of the year 9999.
     #[error("BadDate")]
     BadDate,
-    /// A block is not 1 to `DATA_LIMIT` bytes.
+    /// A block is not 1 to `RECORD_LIMIT` bytes.
     #[error("BadBlockSize")]
     BadBlockSize,
     /// The blocks are more than `BLOCKS_LIMIT`.

@@ -2,7 +2,7 @@
 
 ghost use Rattle.std.specs.Prelude.{◌≡◌, ◌+◌, ◌-◌, ◌≤◌, ◌++◌, [], length, replicate, decimal};
 ghost use Rattle.dump_run.specs.Label as labels;
-ghost use Rattle.dump_run.specs.Label.{line_of, label_bytes, label_text};
+ghost use Rattle.dump_run.specs.Label.{line_of, label_bytes, label_lines};
 
 use crate::Run;
 use itoa::Buffer;
@@ -16,12 +16,12 @@ const LINE_NUMBER_LIMIT: u64 = 999_999_999_999;
 
 /// The lines of a label so far, with zero bytes behind them.
 #[derive(Drop)]
-struct Lines {
+struct LabelLines {
     bytes: [u8; LABEL_BYTES],
     end: usize,
 }
 
-impl Model for Lines {
+impl Model for LabelLines {
     ghost use Rattle.std.specs.Prelude.{List, ℕ, ◌≡◌, ◌-◌, ◌≤◌, take, drop, replicate};
     ghost use Rattle.dump_run.specs.Label.{label_bytes};
 
@@ -32,11 +32,11 @@ impl Model for Lines {
     ghost invariant = { λ l. (l.end ≤ label_bytes) × (drop l.end l.bytes ≡ replicate (label_bytes - l.end) 0) };
 }
 
-impl Lines {
-    fn new() -> Lines
+impl LabelLines {
+    fn new() -> LabelLines
         ensures { result ≡ [] }
     {
-        Lines {
+        LabelLines {
             bytes: [0; LABEL_BYTES],
             end: 0,
         }
@@ -85,10 +85,10 @@ impl Lines {
 }
 
 /// The lines of the label of a volume of the run, from this block on.
-fn lines_of(run: &Run, volume: u32, first: u32) -> Lines
-    ensures { result ≡ label_text run.now volume first }
+fn lines_of(run: &Run, volume: u32, first: u32) -> LabelLines
+    ensures { result ≡ label_lines run.now volume first }
 {
-    let mut lines = Lines::new();
+    let mut lines = LabelLines::new();
     lines.push_line("name", run.name().as_bytes());
     lines.push_number("level", u64::from(run.level()));
     lines.push_number("date", run.date());

@@ -21,9 +21,9 @@ pub struct ListBlocks {
 
 impl Model for ListBlocks {
     ghost use Rattle.std.specs.Prelude.{◌≡◌, ◌*◌, length};
-    ghost use Rattle.dump_run.specs.Blocks.{Listed, listed, cut_blocks};
+    ghost use Rattle.dump_run.specs.Blocks.{ListedBlocks, listed, cut_blocks};
 
-    ghost Value = { Listed };
+    ghost Value = { ListedBlocks };
 
     ghost view = { λ s. listed (cut_blocks s.blocks s.block_bytes s.payload.items) s.troubled s.failures };
 

@@ -1,13 +1,13 @@
 //! A run: what is dumped, to which drive, and in how many blocks.
 
-ghost use Rattle.std.specs.Prelude.{◌≡◌, ℕ, ◌≤◌, ◌↔◌, List, IsTrue, IfOk, MatchResult, Ok};
+ghost use Rattle.std.specs.Prelude.{◌≡◌, ℕ, ◌≤◌, ◌↔◌, List, IsTrue, IfOk, Ok};
 ghost use Rattle.dumpdates.specs.Entry.{IsName, last_second};
-ghost use Rattle.dump_run.specs.Run.{IsDevice, IsBlockSize, IsRun, IsFirstBroken, plain_run};
+ghost use Rattle.dump_run.specs.Run.{IsDevice, IsBlockSize, IsRun, IsCheckedRun, IsRunOf, plain_run};
 
 use crate::RunFault;
 use crate::row::Row;
 use dumpdates::{LAST_SECOND, is_name};
-use rmt_wire::{DATA_LIMIT, LINE_LIMIT, NUMBER_LIMIT};
+use rmt_wire::{LINE_LIMIT, NUMBER_LIMIT, RECORD_LIMIT};
 use std::alloc::AllocError;
 use std::marker::Model;
 
@@ -75,8 +75,7 @@ fn check_numbers(
     blocks: u64,
 ) -> Result<(), RunFault>
     ensures { (device name : List ℕ) → IsDevice device → IsName name →
-        MatchResult result (λ done. IsRun (plain_run device name level date since block_bytes blocks))
-        (λ fault. IsFirstBroken fault (plain_run device name level date since block_bytes blocks)) }
+        IsCheckedRun (plain_run device name level date since block_bytes blocks) result }
 {
     if level > LAST_LEVEL {
         return Err(RunFault::BadLevel);
@@ -84,7 +83,7 @@ fn check_numbers(
     if date > LAST_SECOND || since > LAST_SECOND {
         return Err(RunFault::BadDate);
     }
-    if block_bytes == 0 || block_bytes > DATA_LIMIT as u64 {
+    if block_bytes == 0 || block_bytes > RECORD_LIMIT as u64 {
         return Err(RunFault::BadBlockSize);
     }
     if blocks > u64::from(BLOCKS_LIMIT) {
@@ -98,7 +97,7 @@ impl Run {
     ///
     /// The device is 1 to 255 bytes of one line, the name `fs` 1 to 255 bytes of printed ASCII without a space, and the
     /// level 0 to 9. Dates are in seconds since 1970 began, UTC, up to `dumpdates::LAST_SECOND`; `since` is that of the
-    /// dump that this one builds on, 0 where there is none. A block has 1 to `rmt_wire::DATA_LIMIT` bytes, and there are
+    /// dump that this one builds on, 0 where there is none. A block has 1 to `rmt_wire::RECORD_LIMIT` bytes, and there are
     /// up to `BLOCKS_LIMIT` of them.
     ///
     /// Answers the fault of the first of these limits that is broken, in the order of `RunFault`. It takes no memory.
@@ -111,8 +110,7 @@ impl Run {
         block_bytes: u64,
         blocks: u64,
     ) -> Result<Run, RunFault>
-        ensures run { MatchResult result (λ run. run ≡ plain_run device.now fs.now level date since block_bytes blocks)
-            (λ fault. IsFirstBroken fault (plain_run device.now fs.now level date since block_bytes blocks)) }
+        ensures run { IsRunOf (plain_run device.now fs.now level date since block_bytes blocks) result }
         ensures limits { IfOk result IsRun }
     {
         if !is_device(device) {

@@ -11,7 +11,7 @@ use Rattle.dumpdates.specs.Entry.{DatesEntry, IsEntry, last_second}
 use Rattle.dumpdates.specs.Line.{IsGap, AreParted, PlainWords, word_list, PlainFields, SpellsDigits, IsWeekday, SpellsTime, SpellsWords, SpellsLine}
 use Rattle.dumpdates.specs.Moment.{PlainMoment, IsMoment, day_numbered, moment_of, seconds_at}
 use Rattle.dumpdates.specs.Names.{weekday_name, month_name}
-use Rattle.dumpdates.specs.Text.{space, digit, two_digits, day_text, time_text, ctime_text, padded}
+use Rattle.dumpdates.specs.Text.{space, digit, two_digits, day_text, time_text, ctime_text, padded_name}
 use Rattle.dumpdates.proofs.Days.{is_numbered, days_from_1970}
 use Rattle.dumpdates.proofs.Digits.{below_power, digit_known}
 
@@ -152,7 +152,7 @@ words_spelled e i =
 
 -- a line without its end
 abbrev pub line_front : DatesEntry → List ℕ
-line_front e = padded e.name ++ (space ∷ digit e.level ∷ space ∷ ctime_text e.date)
+line_front e = padded_name e.name ++ (space ∷ digit e.level ∷ space ∷ ctime_text e.date)
 
 one_space : IsGap (space ∷ [])
 one_space = (omega arith, (refl, tt))

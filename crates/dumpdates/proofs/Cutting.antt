@@ -4,7 +4,7 @@ use Rattle.std.specs.List.{AllByRecursion, prefix_len, position_or_len}
 use Rattle.std.proofs.lemmas.Bool.{not-true, both_ways}
 use Rattle.std.proofs.lemmas.List.{take-append-drop, append-nil}
 use Rattle.dumpdates.specs.Front.{after_spaces, first_word, after_word}
-use Rattle.dumpdates.specs.Line.{is_space, AreSpaces, IsGap, AreParted, IsLineOf}
+use Rattle.dumpdates.specs.Line.{is_space, AreSpaces, IsGap, AreParted, IsLineOfWords}
 
 -- each byte passes
 abbrev pub AllPass : (ℕ → Bool) → List ℕ → Type 0
@@ -125,7 +125,7 @@ parted_is_cut (word ∷ next ∷ words) before text after w b a e =
     ap (λ t. before ++ (t ++ after)) e.3 ∙ ap (λ t. before ++ t) (append_assoc word (gap ++ rest) after ∙ ap (λ t. word ++ t) (append_assoc gap rest after)) in
     subst (λ l. IsCutInto l (word ∷ next ∷ words)) (sym same) (cut.0, subst (λ l. IsCutInto l (next ∷ words)) (sym cut.1) later)
 
-pub line_is_cut : (line : List ℕ) (words : List (List ℕ)) → AreWords words → IsLineOf line words → IsCutInto line words
+pub line_is_cut : (line : List ℕ) (words : List (List ℕ)) → AreWords words → IsLineOfWords line words → IsCutInto line words
 line_is_cut line words w l =
     subst (λ t. IsCutInto t words) (sym l.joined) (parted_is_cut words l.before l.text l.after w l.spaces_before l.spaces_after l.parted)
 
@@ -145,7 +145,7 @@ gap_between [] text after s ends never = absurd (never ends)
 gap_between (b ∷ before) text after s ends never = (omega arith, s)
 
 -- and a line that is cut into words is these words with gaps between them
-pub cut_is_line : (words : List (List ℕ)) (line : List ℕ) → AreWords words → IsCutInto line words → IsLineOf line words
+pub cut_is_line : (words : List (List ℕ)) (line : List ℕ) → AreWords words → IsCutInto line words → IsLineOfWords line words
 cut_is_line [] line w c =
     record { before = line; text = []; after = []; spaces_before = c; spaces_after = tt; parted = refl; joined = sym (append-nil line) }
 cut_is_line (word ∷ []) line w c =

@@ -14,7 +14,7 @@ use Rattle.dumpdates.specs.Entry.{DatesEntry, IsEntry, AreEntries}
 use Rattle.dumpdates.specs.Lines.{lines_of, SpellLines, SpellsDates}
 use Rattle.dumpdates.specs.Moment.{PlainMoment, moment_of}
 use Rattle.dumpdates.specs.Names.{weekday_names, month_names, weekday_name, month_name}
-use Rattle.dumpdates.specs.Text.{space, colon, line_feed, digit, two_digits, day_text, time_text, ctime_text, padded, line_text, written}
+use Rattle.dumpdates.specs.Text.{space, colon, line_feed, digit, two_digits, day_text, time_text, ctime_text, padded_name, line_text, written}
 use Rattle.dumpdates.proofs.Again.{line_front, front_spelled, moment_is}
 use Rattle.dumpdates.proofs.Shapes.{names_at}
 
@@ -88,7 +88,7 @@ visible_date e i =
 
 visible_front : (e : DatesEntry) → IsEntry e → AllVisible (line_front e)
 visible_front e i =
-    visible_joined (padded e.name) (space ∷ digit e.level ∷ space ∷ ctime_text e.date)
+    visible_joined (padded_name e.name) (space ∷ digit e.level ∷ space ∷ ctime_text e.date)
     (visible_joined e.name (replicate (32 - length e.name) space) (visible_name e.name i.name.1) (visible_spaces (32 - length e.name)))
     (omega arith, (omega arith, (omega arith, visible_date e i)))
 
@@ -103,7 +103,7 @@ first_line_written e later i =
     let p = λ (b : ℕ). eqb b line_feed in
     let front = line_front e in
     let same : line_text e ++ later ≡ front ++ line_feed ∷ later =
-    ap (λ t. t ++ later) (sym (append_assoc (padded e.name) (space ∷ digit e.level ∷ space ∷ ctime_text e.date) (line_feed ∷ []))) ∙ append_assoc front (line_feed ∷ []) later in
+    ap (λ t. t ++ later) (sym (append_assoc (padded_name e.name) (space ∷ digit e.level ∷ space ∷ ctime_text e.date) (line_feed ∷ []))) ∙ append_assoc front (line_feed ∷ []) later in
     ap lines_of same ∙ slice_split_at p front line_feed later (All-from_recursion (λ b. p b ≡ false) front (no_line_feed front (visible_front e i))) refl
 
 -- what is written of entries spells them

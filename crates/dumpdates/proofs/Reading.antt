@@ -6,7 +6,7 @@ use Rattle.std.proofs.lemmas.List.{take_all}
 use Rattle.std.proofs.lemmas.List.Splits.{slice_split_first, slice_split_none}
 use Rattle.std.proofs.lemmas.List.Sums.{fails_before_first, prefix_len-le-length}
 use Rattle.dumpdates.specs.Entry.{DatesEntry}
-use Rattle.dumpdates.specs.Found.{IsAdded, IsRefused}
+use Rattle.dumpdates.specs.Found.{IsAdded, IsLineRefused}
 use Rattle.dumpdates.specs.Lines.{lines_of, SpellLines, SpellsDates, HasDatesFault}
 use Rattle.dumpdates.specs.Text.{line_feed}
 use Rattle.dumpdates.specs.declared.fault.DatesFault.{DatesFault}
@@ -70,7 +70,7 @@ all_read bytes rest number len old new h is all added =
     subst (λ l. SpellLines l new) (sym lines) (good_more h.before (take len rest) old new h.good added)
 
 pub line_refused : (bytes rest : List ℕ) (number len : ℕ) (old : List DatesEntry) (fault : DatesFault) → HasRead bytes rest number old
-    → len ≡ position_or_len (λ b. eqb b line_feed) rest → IsRefused (take len rest) number fault → HasDatesFault bytes fault
+    → len ≡ position_or_len (λ b. eqb b line_feed) rest → IsLineRefused (take len rest) number fault → HasDatesFault bytes fault
 line_refused bytes rest number len old (BadLine k) h is r =
     let some = some_line rest len is in
     record { before = h.before; line = take len rest; after = some.0; entries = old; split = h.split ∙ ap (λ l. h.before ++ l) some.1; number = r.0 ∙ h.count; good = h.good; kind = r.1 }

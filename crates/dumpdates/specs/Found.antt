@@ -2,17 +2,18 @@
 use Rattle.std.specs.Prelude.{◌≡◌, ◌⊎◌, ◌++◌, [], ◌∷◌, List, ℕ, Option, Some, None, Result, Ok, Err}
 use Rattle.dumpdates.specs.Entry.{DatesEntry}
 use Rattle.dumpdates.specs.Clock.{plain_moment}
-use Rattle.dumpdates.specs.Line.{PlainWords, PlainFields, AreSpaces, SpellsLine, IsBadLine, IsBadDate}
+use Rattle.dumpdates.specs.Line.{PlainWords, PlainFields, AreSpaces, SpellsDigits, SpellsMonth, SpellsTime, SpellsLine, IsBadLine, IsBadDate}
 use Rattle.dumpdates.specs.Lines.{IsEntryLine}
-use Rattle.dumpdates.specs.declared.words.Words.{Words}
-use Rattle.dumpdates.specs.declared.fields.Fields.{Fields}
+use Rattle.dumpdates.specs.declared.moment.Moment.{Moment}
+use Rattle.dumpdates.specs.declared.words.LineWords.{LineWords}
+use Rattle.dumpdates.specs.declared.fields.LineFields.{LineFields}
 use Rattle.dumpdates.specs.declared.line.Found.{Found}
-use Rattle.dumpdates.specs.declared.line.LineFault.{LineFault}
-use Rattle.dumpdates.specs.declared.line.LineFault.TheVariants.{BadShape, NoDate}
+use Rattle.dumpdates.specs.declared.line.EntryFault.{EntryFault}
+use Rattle.dumpdates.specs.declared.line.EntryFault.TheVariants.{BadShape, NoDate}
 use Rattle.dumpdates.specs.declared.fault.DatesFault.{DatesFault}
 use Rattle.dumpdates.specs.declared.fault.DatesFault.TheVariants.{BadLine, BadDate, OutOfMemory}
 
-abbrev pub plain_words : Words → PlainWords
+abbrev pub plain_words : LineWords → PlainWords
 plain_words w = record {
   name = w.name.now;
   level = w.level.now;
@@ -23,25 +24,30 @@ plain_words w = record {
   year = w.year.now;
 }
 
-abbrev pub plain_fields : Fields → PlainFields
+abbrev pub plain_fields : LineFields → PlainFields
 plain_fields f = record { name = f.name.now; level = f.level; moment = plain_moment f.moment }
+
+-- the words of a date say this moment, whether it is one or not
+abbrev pub SpellsMoment : PlainWords → Moment → Type 0
+SpellsMoment w m =
+    SpellsMonth w.month m.month × SpellsDigits 1 2 w.day m.day × SpellsTime w.time m.hour m.minute m.second × SpellsDigits 4 4 w.year m.year
 
 abbrev pub plain_found : Found → DatesEntry
 plain_found e = record { name = e.name.now; level = e.level; date = e.date }
 
 -- what a line was found to be
-abbrev pub IsFound : List ℕ → Result (Option Found) LineFault → Type 0
-IsFound line (Ok None) = AreSpaces line
-IsFound line (Ok (Some found)) = SpellsLine line (plain_found found)
-IsFound line (Err BadShape) = IsBadLine line
-IsFound line (Err NoDate) = IsBadDate line
+abbrev pub IsLineFound : List ℕ → Result (Option Found) EntryFault → Type 0
+IsLineFound line (Ok None) = AreSpaces line
+IsLineFound line (Ok (Some found)) = SpellsLine line (plain_found found)
+IsLineFound line (Err BadShape) = IsBadLine line
+IsLineFound line (Err NoDate) = IsBadDate line
 
 -- a line that was read: nothing for a blank one, or its entry at the end
 abbrev pub IsAdded : List ℕ → List DatesEntry → List DatesEntry → Type 0
 IsAdded line before now = (AreSpaces line × (now ≡ before)) ⊎ ((e : DatesEntry) × SpellsLine line e × (now ≡ before ++ e ∷ []))
 
 -- why the line numbered n was not read
-abbrev pub IsRefused : List ℕ → ℕ → DatesFault → Type 0
-IsRefused line n (BadLine k) = (k ≡ n) × IsBadLine line
-IsRefused line n (BadDate k) = (k ≡ n) × IsBadDate line
-IsRefused line n OutOfMemory = IsEntryLine line
+abbrev pub IsLineRefused : List ℕ → ℕ → DatesFault → Type 0
+IsLineRefused line n (BadLine k) = (k ≡ n) × IsBadLine line
+IsLineRefused line n (BadDate k) = (k ≡ n) × IsBadDate line
+IsLineRefused line n OutOfMemory = IsEntryLine line

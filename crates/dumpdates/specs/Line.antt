@@ -31,7 +31,7 @@ AreParted text (word ∷ next ∷ words) =
     (gap rest : List ℕ) × IsGap gap × (text ≡ word ++ (gap ++ rest)) × AreParted rest (next ∷ words)
 
 -- the line is these words, perhaps with a gap before the first and one behind the last
-pub record IsLineOf (line : List ℕ) (words : List (List ℕ)) : Type 0 where
+pub record IsLineOfWords (line : List ℕ) (words : List (List ℕ)) : Type 0 where
   pub before : List ℕ
   pub text : List ℕ
   pub after : List ℕ
@@ -96,7 +96,7 @@ pub record SpellsWords (w : PlainWords) (f : PlainFields) : Type 0 where
 
 -- the line has the shape of an entry
 abbrev pub HasShape : List ℕ → PlainFields → Type 0
-HasShape line f = (w : PlainWords) × IsLineOf line (word_list w) × SpellsWords w f
+HasShape line f = (w : PlainWords) × IsLineOfWords line (word_list w) × SpellsWords w f
 
 -- the line is this entry: it has the shape, and its date is one
 abbrev pub SpellsLine : List ℕ → DatesEntry → Type 0

@@ -25,6 +25,11 @@ two_digits n = digit (n / 10) ∷ digit (n % 10) ∷ []
 abbrev pub day_text : ℕ → List ℕ
 day_text n = if nat_lt n 10 then space ∷ digit n ∷ [] else two_digits n
 
+-- the weekday of a date, and a month and a day, with a space after each
+abbrev pub day_words : ℕ → PlainMoment → List ℕ
+day_words date m =
+    ((weekday_name (date / 86400) ++ space ∷ []) ++ (month_name m.month ++ space ∷ [])) ++ (day_text m.day ++ space ∷ [])
+
 -- hh:mm:ss
 abbrev pub time_text : PlainMoment → List ℕ
 time_text m = two_digits m.hour ++ (colon ∷ (two_digits m.minute ++ (colon ∷ two_digits m.second)))
@@ -37,12 +42,12 @@ ctime_text date =
     ++ (space ∷ (month_name m.month ++ (space ∷ (day_text m.day ++ (space ∷ (time_text m ++ (space ∷ decimal m.year)))))))
 
 -- a name in 32 places, with spaces behind it; a longer one as it is
-abbrev pub padded : List ℕ → List ℕ
-padded name = name ++ replicate (32 - length name) space
+abbrev pub padded_name : List ℕ → List ℕ
+padded_name name = name ++ replicate (32 - length name) space
 
 -- the name, a space, the level, a space, the date, and the end of the line
 unfoldable pub line_text : DatesEntry → List ℕ
-line_text e = padded e.name ++ (space ∷ digit e.level ∷ space ∷ (ctime_text e.date ++ line_feed ∷ []))
+line_text e = padded_name e.name ++ (space ∷ digit e.level ∷ space ∷ (ctime_text e.date ++ line_feed ∷ []))
 
 -- the one text that is written of these entries
 abbrev pub written : List DatesEntry → List ℕ

@@ -1,24 +1,24 @@
 //! What the words of a line say.
 
 ghost use Rattle.std.specs.Prelude.{ℕ, ◌^◌, ◌<◌, ◌≤◌, MatchOption, IfSome};
-ghost use Rattle.dumpdates.specs.Found.{plain_words, plain_fields};
-ghost use Rattle.dumpdates.specs.Line.{PlainFields, SpellsDigits, SpellsMonth, SpellsTime, SpellsWords};
+ghost use Rattle.dumpdates.specs.Found.{SpellsMoment, plain_words, plain_fields};
+ghost use Rattle.dumpdates.specs.Line.{PlainFields, SpellsDigits, SpellsTime, SpellsWords};
 
 use crate::entry::is_name;
 use crate::moment::Moment;
 use crate::names::{is_weekday, month_named};
-use crate::words::Words;
+use crate::words::LineWords;
 
 /// What the words of a line say, whether its date is one or not.
 #[derive(Clone, Copy)]
-pub(crate) struct Fields<'a> {
+pub(crate) struct LineFields<'a> {
     pub(crate) name: &'a [u8],
     pub(crate) level: u8,
     pub(crate) moment: Moment,
 }
 
 /// What the words say. None where one of them has not its shape.
-pub(crate) fn fields_of(words: Words<'_>) -> Option<Fields<'_>>
+pub(crate) fn fields_of(words: LineWords<'_>) -> Option<LineFields<'_>>
     ensures { MatchOption result ((f : PlainFields) → ¬ SpellsWords (plain_words words.entry) f)
         (λ f. SpellsWords (plain_words words.entry) (plain_fields f)) }
 {
@@ -27,7 +27,7 @@ pub(crate) fn fields_of(words: Words<'_>) -> Option<Fields<'_>>
     }
     let level = number(words.level, 1, 1)?;
     let moment = moment_in(words)?;
-    Some(Fields {
+    Some(LineFields {
         name: words.name,
         level: level as u8,
         moment,
@@ -35,10 +35,9 @@ pub(crate) fn fields_of(words: Words<'_>) -> Option<Fields<'_>>
 }
 
 /// The moment that the words say, whether it is one or not.
-fn moment_in(words: Words<'_>) -> Option<Moment>
+fn moment_in(words: LineWords<'_>) -> Option<Moment>
     ensures { MatchOption result ((f : PlainFields) → ¬ SpellsWords (plain_words words.entry) f)
-        (λ m. SpellsMonth words.entry.month.now m.month × SpellsDigits 1 2 words.entry.day.now m.day
-        × SpellsTime words.entry.time.now m.hour m.minute m.second × SpellsDigits 4 4 words.entry.year.now m.year) }
+        (λ m. SpellsMoment (plain_words words.entry) m) }
 {
     let month = month_named(words.month)?;
     let day = number(words.day, 1, 2)?;

@@ -2,12 +2,12 @@
 
 ghost use Rattle.std.specs.Prelude.{◌≡◌, ◌==◌, ◌≤◌, length, OnOk, IfErr};
 ghost use Rattle.std.specs.List.{position_or_len};
-ghost use Rattle.dumpdates.specs.Found.{IsAdded, IsRefused};
+ghost use Rattle.dumpdates.specs.Found.{IsAdded, IsLineRefused};
 ghost use Rattle.dumpdates.specs.Stored.{plain_all};
 ghost use Rattle.dumpdates.specs.Text.{line_feed};
 
 use crate::DatesFault;
-use crate::line::{LineFault, line_of};
+use crate::line::{EntryFault, line_of};
 use crate::list::push;
 use crate::stored::Stored;
 use std::alloc::Global;
@@ -33,12 +33,12 @@ pub(crate) fn read_line(
     number: usize,
 ) -> Result<(), DatesFault>
     ensures added { OnOk result (IsAdded line.now (plain_all entries.old.items) (plain_all entries.new.items)) }
-    ensures refused { IfErr result (IsRefused line.now number) }
+    ensures refused { IfErr result (IsLineRefused line.now number) }
 {
     match line_of(line) {
         Ok(None) => Ok(()),
         Ok(Some(found)) => Ok(push(alloc, entries, found)?),
-        Err(LineFault::BadShape) => Err(DatesFault::BadLine(number)),
-        Err(LineFault::NoDate) => Err(DatesFault::BadDate(number)),
+        Err(EntryFault::BadShape) => Err(DatesFault::BadLine(number)),
+        Err(EntryFault::NoDate) => Err(DatesFault::BadDate(number)),
     }
 }

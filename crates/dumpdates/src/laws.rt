@@ -22,7 +22,8 @@ pub fn one_reading()
     ensures no_fault { (bytes : List ℕ) (entries : List DatesEntry) (fault : DatesFault) →
         SpellsDates bytes entries → HasDatesFault bytes fault → fault ≡ OutOfMemory }
     ensures fault { (bytes : List ℕ) (fault other : DatesFault) →
-        HasDatesFault bytes fault → HasDatesFault bytes other → (fault ≡ other) ⊎ ((fault ≡ OutOfMemory) ⊎ (other ≡ OutOfMemory)) }
+        HasDatesFault bytes fault → HasDatesFault bytes other →
+        (fault ≡ other) ⊎ ((fault ≡ OutOfMemory) ⊎ (other ≡ OutOfMemory)) }
 {}
 
 /// What is written of entries spells just these entries: reading it gives the same list. The date that is written is the

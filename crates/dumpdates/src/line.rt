@@ -1,6 +1,6 @@
 //! A line of the file, as what it is.
 
-ghost use Rattle.dumpdates.specs.Found.{IsFound};
+ghost use Rattle.dumpdates.specs.Found.{IsLineFound};
 
 use crate::fields::fields_of;
 use crate::moment::seconds_of;
@@ -16,7 +16,7 @@ pub(crate) struct Found<'a> {
 
 /// Why a line is neither blank nor an entry.
 #[derive(Clone, Copy)]
-pub(crate) enum LineFault {
+pub(crate) enum EntryFault {
     /// It has not the shape of an entry.
     BadShape,
     /// It has the shape, and its date or time is none.
@@ -24,20 +24,20 @@ pub(crate) enum LineFault {
 }
 
 /// The entry that a line is. None for a blank one.
-pub(crate) fn line_of(line: &[u8]) -> Result<Option<Found<'_>>, LineFault>
-    ensures { IsFound line.now result }
+pub(crate) fn line_of(line: &[u8]) -> Result<Option<Found<'_>>, EntryFault>
+    ensures { IsLineFound line.now result }
 {
     if is_blank(line) {
         return Ok(None);
     }
     let Some(words) = words_of(line) else {
-        return Err(LineFault::BadShape);
+        return Err(EntryFault::BadShape);
     };
     let Some(fields) = fields_of(words) else {
-        return Err(LineFault::BadShape);
+        return Err(EntryFault::BadShape);
     };
     let Some(date) = seconds_of(fields.moment) else {
-        return Err(LineFault::NoDate);
+        return Err(EntryFault::NoDate);
     };
     Ok(Some(Found {
         name: fields.name,

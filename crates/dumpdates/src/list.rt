@@ -63,7 +63,8 @@ pub(crate) fn replace(entries: &mut Vec<Stored>, at: usize, entry: Entry<'_>)
 /// Takes out the entries of the same name and level from that place on.
 fn drop_same(entries: &mut Vec<Stored>, from: usize, entry: Entry<'_>)
     requires { from ≤ length entries.old.items }
-    ensures { entries.new.items ≡ take from entries.old.items ++ filter (is_other (plain_entry entry.entry)) (drop from entries.old.items) }
+    ensures { entries.new.items ≡ take from entries.old.items
+        ++ filter (is_other (plain_entry entry.entry)) (drop from entries.old.items) }
 {
     let (_, later) = entries.as_mut_slice().split_at_mut(from);
     let kept = keep_others(later, entry);

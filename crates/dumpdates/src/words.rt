@@ -8,7 +8,7 @@ ghost use Rattle.dumpdates.specs.Line as line_spec;
 
 /// The seven words of an entry's line. Where a line has fewer, the last ones are empty.
 #[derive(Clone, Copy)]
-pub(crate) struct Words<'a> {
+pub(crate) struct LineWords<'a> {
     pub(crate) name: &'a [u8],
     pub(crate) level: &'a [u8],
     pub(crate) weekday: &'a [u8],
@@ -20,7 +20,7 @@ pub(crate) struct Words<'a> {
 
 /// The words of a line that has seven at most.
 #[tactic(auto, unfolding(crate::specs::Front::words_of))]
-pub(crate) fn words_of(line: &[u8]) -> Option<Words<'_>>
+pub(crate) fn words_of(line: &[u8]) -> Option<LineWords<'_>>
     ensures { option_map plain_words result ≡ spec.words_of line.now }
 {
     let (name, rest) = first_word(line);
@@ -33,7 +33,7 @@ pub(crate) fn words_of(line: &[u8]) -> Option<Words<'_>>
     if !is_blank(rest) {
         return None;
     }
-    Some(Words {
+    Some(LineWords {
         name,
         level,
         weekday,

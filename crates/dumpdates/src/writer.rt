@@ -1,9 +1,8 @@
 //! The line of an entry, as it is written.
 
-ghost use Rattle.std.specs.Prelude.{◌≡◌, ◌-◌, ◌/◌, ◌<◌, ◌≤◌, [], ◌∷◌, ◌++◌, IsOk, OnOk};
+ghost use Rattle.std.specs.Prelude.{◌≡◌, ◌-◌, ◌<◌, ◌≤◌, [], ◌∷◌, ◌++◌, IsOk, OnOk};
 ghost use Rattle.dumpdates.specs.Clock.{plain_moment};
 ghost use Rattle.dumpdates.specs.Moment.{IsMoment};
-ghost use Rattle.dumpdates.specs.Names.{weekday_name, month_name};
 ghost use Rattle.dumpdates.specs.Stored.{plain_stored, plain_all};
 ghost use Rattle.dumpdates.specs.Text as spec;
 
@@ -42,7 +41,7 @@ fn push_line(out: &mut Vec<u8>, entry: &Stored) -> Result<(), AllocError>
 
 /// Appends a name, and spaces up to its places.
 fn push_padded(out: &mut Vec<u8>, name: &[u8]) -> Result<(), AllocError>
-    ensures { OnOk result (out.new.items ≡ out.old.items ++ spec.padded name.now) }
+    ensures { OnOk result (out.new.items ≡ out.old.items ++ spec.padded_name name.now) }
 {
     out.extend_from_slice(name)?;
     out.extend_from_slice(&SPACES[name.len().min(NAME_PLACES)..])
@@ -63,8 +62,7 @@ fn push_ctime(out: &mut Vec<u8>, date: u64) -> Result<(), AllocError>
 /// Appends the weekday of a date, the month and the day.
 fn push_day(out: &mut Vec<u8>, date: u64, moment: Moment) -> Result<(), AllocError>
     requires { IsMoment (plain_moment moment) }
-    ensures { OnOk result (out.new.items ≡ out.old.items ++ (((weekday_name (date / DAY) ++ spec.space ∷ [])
-        ++ (month_name moment.month ++ spec.space ∷ [])) ++ (spec.day_text moment.day ++ spec.space ∷ []))) }
+    ensures { OnOk result (out.new.items ≡ out.old.items ++ spec.day_words date (plain_moment moment)) }
 {
     push_word(out, &weekday_name(date / DAY))?;
     push_word(out, &month_name(moment.month))?;

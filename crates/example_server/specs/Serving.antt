@@ -1,5 +1,5 @@
 -- What a tape that keeps nothing answers, and what serving it does to both streams. Public contracts cite it.
-use Rattle.std.specs.Prelude.{◌≡◌, ◌≢◌, ◌<◌, ℕ, List, [], length, codes, Option, Result, Ok, Err}
+use Rattle.std.specs.Prelude.{◌≡◌, ◌≢◌, ℕ, List, [], length, codes, Option, Result, Ok, Err}
 use Rattle.std.specs.List.{flat_map}
 use Rattle.std.specs.Io.KnownBytes.{Appends, Consumes, IsAtEnd}
 use Rattle.rmt_wire.specs.Request.{PlainRequest}
@@ -9,8 +9,6 @@ use Rattle.rmt_wire.specs.Reply.PlainReply.{Done, Data, Error}
 use Rattle.rmt_wire.specs.RequestParts.{IsOpen, HasNoSpelling, Spelled, HasFault}
 use Rattle.rmt_wire.specs.Counted.{Counting, HasRisen}
 use Rattle.rmt_wire.specs.ReplyWriter.{AppendsBeginning}
-use Rattle.rmt_wire.specs.RequestReader.{RequestHeld, Unread, taken_of}
-use Rattle.rmt_wire.specs.Limits.{reader_limit}
 use Rattle.example_server.specs.declared.stream.Stop.{Stop}
 use Rattle.example_server.specs.declared.stream.Stop.TheVariants.{Truncated, Broken, Input, Output}
 
@@ -35,24 +33,6 @@ answers_text requests = flat_map (λ request. reply_text (answer_to request)) re
 abbrev pub Wrote : Result Unit Stop → Option (List ℕ) → Option (List ℕ) → List ℕ → Type 0
 Wrote (Err Output) known known' text = AppendsBeginning known known' text
 Wrote result known known' text = Appends known known' text
-
--- No request is whole in the rest: the reader holds a beginning of one, and has room for more of it, or the rest is none. The
--- output failed just where that is the answer.
-abbrev pub StopsAnswering : Result Unit Stop → RequestHeld → ℕ → ℕ → List ℕ → Type 0
-StopsAnswering (Ok done) held failures failures' rest =
-    Unread held rest × IsOpen rest × HasNoSpelling rest × (taken_of rest < reader_limit) × (failures' ≡ failures)
-StopsAnswering (Err (Broken fault)) held failures failures' rest = HasFault rest fault × HasNoSpelling rest × (failures' ≡ failures)
-StopsAnswering (Err Output) held failures failures' rest = HasRisen failures failures'
-StopsAnswering (Err stop) held failures failures' rest = ⊥
-
--- the bytes are the spellings of requests and then a rest, and just their answers were written
-pub record Answers {W : Type 0} (contents : W → Option (List ℕ)) (result : Result Unit Stop) (held : RequestHeld)
-    (output output' : Counting W) (bytes : List ℕ) : Type 0 where
-  pub requests : List PlainRequest
-  pub rest : List ℕ
-  pub spelled : Spelled bytes requests rest
-  pub written : Wrote result (contents output.inner) (contents output'.inner) (answers_text requests)
-  pub stops : StopsAnswering result held output.failures output'.failures rest
 
 -- How serving ends, by what follows the last whole request of the bytes read: nothing, or a beginning of a request, both with no
 -- byte of the input left; bytes that are no request; or, where the input failed, a beginning of a request, perhaps none of it.

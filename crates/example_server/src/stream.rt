@@ -1,14 +1,11 @@
 //! Serving one stream of requests: an example to copy.
-ghost use Rattle.std.specs.Prelude.{ℕ, List, []};
+ghost use Rattle.std.specs.Prelude.{[]};
 ghost use Rattle.rmt_wire.specs.RequestReader.{Unread};
-ghost use Rattle.example_server.specs.Serving.{IsServed, Answers};
+ghost use Rattle.example_server.specs.Serving.{IsServed};
 
 use crate::reply::answer;
 use rmt_wire::{Counted, OutputFault, RequestReader, WireFault, write_reply};
 use std::io::{Read, Write};
-
-/// The most bytes that are read at once: a piece of the stream, and no limit of a request.
-const PIECE: usize = 4096;
 
 /// Why a server stopped before the end of its stream, or at an end inside a request.
 #[derive(Clone, Copy, Debug, PartialEq, Eq)]
@@ -34,25 +31,10 @@ impl From<OutputFault> for Stop {
     }
 }
 
-/// Answers each whole request that the reader holds.
-fn answer_all<W: Write>(requests: &mut RequestReader, output: &mut Counted<W>) -> Result<(), Stop>
-    requires held { (bytes : List ℕ) × Unread requests.old bytes }
-    ensures { (bytes : List ℕ) → Unread requests.old bytes →
-        Answers W.contents result requests.new output.old output.new bytes }
-{
-    loop {
-        match requests.next() {
-            Err(fault) => return Err(Stop::Broken(fault)),
-            Ok(None) => return Ok(()),
-            Ok(Some(request)) => write_reply(output, &answer(&request))?,
-        }
-    }
-}
-
 /// Answers the requests of a stream, one reply to each, up to its end.
 ///
 /// It stops at the first bytes that are no request, at a stream that ends inside one, and where a read or a write fails.
-/// The reader has given all that was pushed. It takes no memory, and reads pieces of up to 4,096 bytes.
+/// The reader has given all that was pushed. It takes no memory.
 pub fn serve<R: Read, W: Write>(
     requests: &mut RequestReader,
     input: &mut Counted<R>,
@@ -61,17 +43,16 @@ pub fn serve<R: Read, W: Write>(
     requires { Unread requests.old [] }
     ensures { IsServed R.remaining W.contents result input.old input.new output.old output.new }
 {
-    let mut piece = [0; PIECE];
     loop {
-        answer_all(requests, output)?;
-        let most = requests.room().min(PIECE);
-        match input.read(&mut piece[..most]) {
-            Err(_) => return Err(Stop::Input),
-            Ok(0) if requests.is_empty() => return Ok(()),
-            Ok(0) => return Err(Stop::Truncated),
-            Ok(count) => {
-                requests.push(&piece[..count]);
-            }
+        match requests.next() {
+            Err(fault) => return Err(Stop::Broken(fault)),
+            Ok(Some(request)) => write_reply(output, &answer(&request))?,
+            Ok(None) => match requests.fill(input) {
+                Err(_) => return Err(Stop::Input),
+                Ok(0) if requests.is_empty() => return Ok(()),
+                Ok(0) => return Err(Stop::Truncated),
+                Ok(_) => {}
+            },
         }
     }
 }

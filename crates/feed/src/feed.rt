@@ -2,7 +2,7 @@
 
 ghost use Rattle.std.specs.Prelude.{◌<◌};
 
-use rmt_wire::{DATA_LIMIT, ReplyReader, RequestReader, Wanted};
+use rmt_wire::{RECORD_LIMIT, ReplyReader, RequestReader, Wanted};
 use std::alloc::{AllocError, Global};
 
 /// What a reader is fed.
@@ -36,7 +36,7 @@ fn text(alloc: Global, kind: Kind) -> Result<Vec<u8>, AllocError> {
         Kind::Errors => (b"E5\n", b"\n"),
     };
     let mut text = Vec::from_slice(alloc, line)?;
-    text.extend_from_slice(&[b'x'; DATA_LIMIT])?;
+    text.extend_from_slice(&[b'x'; RECORD_LIMIT])?;
     text.extend_from_slice(end)?;
     Ok(text)
 }
@@ -60,7 +60,7 @@ fn gives_reply(reader: &mut ReplyReader, text: &[u8], piece: usize) -> bool
     requires { 0 < piece }
 {
     reader.clear();
-    reader.expect(Wanted::Data(65536));
+    reader.expect(Wanted::Data(RECORD_LIMIT as u32));
     let mut is_given = false;
     for part in text.chunks(piece) {
         if is_given || reader.push(part) != part.len() {

@@ -10,12 +10,14 @@ use lib.ListN.{get_elem?}
 use prog.Atomic.{either}
 use Rattle.atomic_table.specs.Table.{State, Me, step, keeps, Allows, Splits}
 use Rattle.atomic_table.proofs.Lists.{at_set}
+use Rattle.drives.specs.declared.holds.TheConstants.{DRIVE_LIMIT}
+use Rattle.hold_table.specs.declared.table.TheConstants.{SEAT_LIMIT}
 use Rattle.drives.specs.declared.view.LastStep.{LastStep}
 use Rattle.drives.specs.declared.view.StepKind.TheVariants.{Take, Give, Look}
 use Rattle.drives.specs.Holding.{has, last_step, newcomer, moved, taken, given, looked}
 use Rattle.hold_table.specs.declared.rule.Seated.{Seated}
 use Rattle.hold_table.specs.Rule.{seated, HoldRule}
-use Rattle.hold_table.specs.Keeping.{settled, following, stepped, IsNumbered, IsKept, KeepsRule, TakesAt, GivesAt, LooksAt}
+use Rattle.hold_table.specs.Keeping.{settled, following, stepped, IsNumbered, IsTableKept, KeepsRule, TakesAt, GivesAt, LooksAt}
 
 abbrev M : Type 0
 M = Me (Unit {0}) Seated
@@ -43,7 +45,7 @@ at_snoc_where (x ∷ xs) a b zero e = inl e
 at_snoc_where (x ∷ xs) a b (suc j) e = ⊎_elim inl (λ t. let t0 = t.0 in inr (omega arith, t.1)) (at_snoc_where xs a b j e)
 
 -- the hold rule in its own words
-pub in_words : (drives : ℕ) (words : List ℕ) (seats : List Seated) → IsKept drives words seats → HoldRule words seats
+pub in_words : (drives : ℕ) (words : List ℕ) (seats : List Seated) → IsTableKept drives words seats → HoldRule words seats
 in_words drives words seats r = record {
   ranged = λ k x at. let n = r.numbered k x at in let n0 = n.number in let n1 = n.most in (omega arith, omega arith);
   distinct = λ j k x y at bt same. let m = (r.numbered j x at).number in let n = (r.numbered k y bt).number in omega arith;
@@ -63,12 +65,12 @@ in_words drives words seats r = record {
 one_more_shown : (shown made : ℕ) → shown ≡ min made (2 ^ 64 - 1) → min (shown + 1) (2 ^ 64 - 1) ≡ min (made + 1) (2 ^ 64 - 1)
 one_more_shown shown made e = omega arith
 
-module _ (drives : ℕ) (s : St) (r : IsKept drives s.words s.views) (id : ℕ) (v : Seated) (at : get_elem? s.views id ≡ some v) where
+module _ (drives : ℕ) (s : St) (r : IsTableKept drives s.words s.views) (id : ℕ) (v : Seated) (at : get_elem? s.views id ≡ some v) where
   -- The word d becomes m, and the seat's drives are then those whose word is its number. No other seat's drives change.
   placed : (held' : List Bool) (last : LastStep) (d m : ℕ) → d < length s.words → length held' ≡ length v.view.held → m ≤ length s.views
       → ((i : ℕ) → i < length s.words → get_or held' i false ≡ eqb (get_or (set s.words d m) i 0) v.view.number)
       → ((k : ℕ) (u : Seated) → k ≢ id → get_elem? s.views k ≡ some u → has u.view d ≡ eqb m u.view.number)
-      → IsKept drives (set s.words d m) (set s.views id (stepped v (moved v.view held' last)))
+      → IsTableKept drives (set s.words d m) (set s.views id (stepped v (moved v.view held' last)))
   placed held' last d m inside wide bound mine others =
       let w : Seated = stepped v (moved v.view held' last) in
       let words : length (set s.words d m) ≡ length s.words = length-set s.words d m in
@@ -103,7 +105,7 @@ module _ (drives : ℕ) (s : St) (r : IsKept drives s.words s.views) (id : ℕ) 
 
   -- nothing changes but what the seat knows of its steps
   stays : (held' : List Bool) (last : LastStep) (d : ℕ) → d < length s.words → held' ≡ v.view.held
-      → IsKept drives (set s.words d (get_or s.words d 0)) (set s.views id (stepped v (moved v.view held' last)))
+      → IsTableKept drives (set s.words d (get_or s.words d 0)) (set s.views id (stepped v (moved v.view held' last)))
   stays held' last d inside same = placed held' last d (get_or s.words d 0) inside (ap length same) (r.known d inside)
       (λ i h. ap (λ (xs : List Bool). get_or xs i false) same ∙ r.held id v i at h ∙ ap (λ (ws : List ℕ). eqb (get_or ws i 0) v.view.number) (sym (set-get_or s.words d 0)))
       (λ k u ne e. r.held k u d e inside)
@@ -112,7 +114,7 @@ module _ (drives : ℕ) (s : St) (r : IsKept drives s.words s.views) (id : ℕ) 
   marks : (held' : List Bool) (last : LastStep) (d m : ℕ) (b : Bool) → d < length s.words → held' ≡ set v.view.held d b
       → m ≤ length s.views → b ≡ eqb m v.view.number
       → ((k : ℕ) (u : Seated) → k ≢ id → get_elem? s.views k ≡ some u → has u.view d ≡ eqb m u.view.number)
-      → IsKept drives (set s.words d m) (set s.views id (stepped v (moved v.view held' last)))
+      → IsTableKept drives (set s.words d m) (set s.views id (stepped v (moved v.view held' last)))
   marks held' last d m b inside is bound right others =
       let wide = (r.numbered id v at).marks in let small = r.small in let size = r.size in
       placed held' last d m inside (ap length is ∙ length-set v.view.held d b) bound
@@ -127,21 +129,21 @@ module _ (drives : ℕ) (s : St) (r : IsKept drives s.words s.views) (id : ℕ) 
       r.held id v d at inside ∙ ne_eqb (get_or s.words d 0) v.view.number (λ e. absurd (omega arith))
 
   takes_free : (held' : List Bool) (last : LastStep) (d : ℕ) → d < length s.words → held' ≡ set v.view.held d true → get_or s.words d 0 ≡ 0
-      → IsKept drives (set s.words d v.view.number) (set s.views id (stepped v (moved v.view held' last)))
+      → IsTableKept drives (set s.words d v.view.number) (set s.views id (stepped v (moved v.view held' last)))
   takes_free held' last d inside is free = let mine = (r.numbered id v at).number in let below = at_below s.views id v at in
       marks held' last d v.view.number true inside is (omega arith) (sym (eq-eqb v.view.number v.view.number refl))
       (λ k u ne e. let theirs = (r.numbered k u e).number in
       r.held k u d e inside ∙ ne_eqb (get_or s.words d 0) u.view.number (λ same. absurd (omega arith)) ∙ sym (ne_eqb v.view.number u.view.number (λ same. absurd (ne (omega arith)))))
 
   gives_held : (held' : List Bool) (last : LastStep) (d : ℕ) → d < length s.words → held' ≡ set v.view.held d false → get_or s.words d 0 ≡ v.view.number
-      → IsKept drives (set s.words d 0) (set s.views id (stepped v (moved v.view held' last)))
+      → IsTableKept drives (set s.words d 0) (set s.views id (stepped v (moved v.view held' last)))
   gives_held held' last d inside is own = let mine = (r.numbered id v at).number in
       marks held' last d 0 false inside is (omega arith) (sym (ne_eqb 0 v.view.number (λ z. absurd (omega arith))))
       (λ k u ne e. let theirs = (r.numbered k u e).number in
       r.held k u d e inside ∙ ne_eqb (get_or s.words d 0) u.view.number (λ same. absurd (ne (omega arith))) ∙ sym (ne_eqb 0 u.view.number (λ same. absurd (omega arith))))
 
   -- the seat's numbers are handed on to a new seat
-  deals_one : 0 < v.spare → IsKept drives s.words (set s.views id (settled v) ++ following v ∷ [])
+  deals_one : 0 < v.spare → IsTableKept drives s.words (set s.views id (settled v) ++ following v ∷ [])
   deals_one more =
       let n = r.numbered id v at in let n0 = n.number in let n1 = n.most in let n2 = n.newest more in let n3 = n.marks in let n4 = n.shown in
       let seats : length (set s.views id (settled v)) ≡ length s.views = length-set s.views id (settled v) in
@@ -169,11 +171,11 @@ module _ (drives : ℕ) (s : St) (r : IsKept drives s.words s.views) (id : ℕ) 
             (at_set s.views id k (settled v) u old))
             (λ new. subst (λ (x : Seated). has x.view i ≡ eqb (get_or s.words i 0) x.view.number) new.1
             (let o = r.known i h in let size = r.size in let small = r.small in
-            get_or-replicate 64 i false false (omega arith) ∙ sym (ne_eqb (get_or s.words i 0) (v.view.number + 1) (λ z. absurd (omega arith)))))
+            get_or-replicate DRIVE_LIMIT i false false (omega arith) ∙ sym (ne_eqb (get_or s.words i 0) (v.view.number + 1) (λ z. absurd (omega arith)))))
             (at_snoc_where (set s.views id (settled v)) (following v) u k e);
       }
 
-both : (drives : ℕ) (words : List ℕ) (seats : List Seated) → IsKept drives words seats → KeepsRule drives words seats
+both : (drives : ℕ) (words : List ℕ) (seats : List Seated) → IsTableKept drives words seats → KeepsRule drives words seats
 both drives words seats r = (r, in_words drives words seats r)
 
 pub takes : (drives slots id : ℕ) (me : M) (d n : ℕ) → d < drives → me.0.view.number ≡ n
@@ -183,7 +185,7 @@ takes drives slots id me d n small is s rs _ at _ =
     let size = r.size in let inside : d < length s.words = omega arith in let few = r.few in let known = r.known d inside in
     let picked : (b : Bool) → List Bool = λ b. cond b (set v.view.held d true) v.view.held in
     let w : Seated = stepped v (taken v.view d x) in
-    let kept : (y : ℕ) → Type 0 = λ y. IsKept drives (set s.words d y) (set s.views id w) in
+    let kept : (y : ℕ) → Type 0 = λ y. IsTableKept drives (set s.words d y) (set s.views id w) in
     let all : kept (cond (eqb x 0) v.view.number x) = dite (ℕ_discrete x 0)
     (λ free. subst (λ b. kept (cond b v.view.number x)) (sym (eq-eqb x 0 free)) (takes_free drives s r id v at (picked (eqb x 0)) (last_step Take d x) d inside (ap picked (eq-eqb x 0 free)) free))
     (λ busy. subst (λ b. kept (cond b v.view.number x)) (sym (ne_eqb x 0 busy)) (stays drives s r id v at (picked (eqb x 0)) (last_step Take d x) d inside (ap picked (ne_eqb x 0 busy)))) in
@@ -220,7 +222,7 @@ gives drives slots id me d small holds s rs _ at _ =
     let r = rs.0 in let v : Seated = me.0 in let w : Seated = stepped v (given v.view d) in
     let size = r.size in let inside : d < length s.words = omega arith in
     let own : get_or s.words d 0 ≡ v.view.number = eqb-true (get_or s.words d 0) v.view.number (sym (r.held id v d at inside) ∙ holds) in
-    let all : IsKept drives (set s.words d 0) (set s.views id w) = gives_held drives s r id v at (set v.view.held d false) (last_step Give d v.view.number) d inside refl own in (
+    let all : IsTableKept drives (set s.words d 0) (set s.views id w) = gives_held drives s r id v at (set v.view.held d false) (last_step Give d v.view.number) d inside refl own in (
       w,
       keeps,
       tt,
@@ -246,7 +248,7 @@ pub looks : (drives slots id : ℕ) (me : M) (d : ℕ) → d < drives
 looks drives slots id me d small s rs _ at _ =
     let r = rs.0 in let x : ℕ = get_or s.words d 0 in let v : Seated = me.0 in let w : Seated = stepped v (looked v.view d x) in
     let size = r.size in let inside : d < length s.words = omega arith in let few = r.few in let known = r.known d inside in
-    let all : IsKept drives (set s.words d x) (set s.views id w) = stays drives s r id v at v.view.held (last_step Look d x) d inside refl in (
+    let all : IsTableKept drives (set s.words d x) (set s.views id w) = stays drives s r id v at v.view.held (last_step Look d x) d inside refl in (
       w,
       keeps,
       tt,
@@ -277,9 +279,9 @@ only a b zero e = (refl, some-injective a b e)
 only a b (suc k) e = absurd (some-ne-none b (sym e))
 
 -- the table is as it should be at the start
-pub opens : (drives : ℕ) (words : List ℕ) → drives ≤ 64 → words ≡ replicate drives 0 → KeepsRule drives words (seated (newcomer 1) 0 31 ∷ [])
+pub opens : (drives : ℕ) (words : List ℕ) → drives ≤ DRIVE_LIMIT → words ≡ replicate drives 0 → KeepsRule drives words (seated (newcomer 1) 0 (SEAT_LIMIT - 1) ∷ [])
 opens drives words small is =
-    let a : Seated = seated (newcomer 1) 0 31 in let size : length words ≡ drives = ap length is ∙ length-replicate drives 0 in
+    let a : Seated = seated (newcomer 1) 0 (SEAT_LIMIT - 1) in let size : length words ≡ drives = ap length is ∙ length-replicate drives 0 in
     let free : (d : ℕ) → d < length words → get_or words d 0 ≡ 0 = λ d h. ap (λ (ws : List ℕ). get_or ws d 0) is ∙ get_or-replicate drives d 0 0 (omega arith) in
     both drives words (a ∷ []) (record {
       size = size;
@@ -289,5 +291,5 @@ opens drives words small is =
           (record { number = omega arith; most = omega arith; newest = λ m. omega arith; marks = refl; shown = refl });
       known = λ d h. let f = free d h in omega arith;
       held = λ k u d e h. let o = only a u k e in
-          subst (λ (x : Seated). has x.view d ≡ eqb (get_or words d 0) x.view.number) o.1 (get_or-replicate 64 d false false (omega arith) ∙ sym (ap (λ z. eqb z 1) (free d h)));
+          subst (λ (x : Seated). has x.view d ≡ eqb (get_or words d 0) x.view.number) o.1 (get_or-replicate DRIVE_LIMIT d false false (omega arith) ∙ sym (ap (λ z. eqb z 1) (free d h)));
     })

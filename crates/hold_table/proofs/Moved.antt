@@ -4,6 +4,7 @@ use Rattle.std.proofs.lemmas.List.{get_or-set_other}
 use Rattle.std.proofs.lemmas.Grind.{get_or-set_at}
 use mathlib.Core.Logic.{dite}
 use native.Mathlib.Decide.{ℕ_discrete}
+use Rattle.hold_table.specs.declared.table.TheConstants.{SEAT_LIMIT}
 use Rattle.drives.specs.Holding.{has}
 use Rattle.drives.specs.declared.view.StepKind.TheVariants.{Take, Give, Look}
 use Rattle.drives.specs.declared.view.View.{View}
@@ -31,15 +32,15 @@ word_of words seats d n rule inside is = ⊎_elim
     (λ held. ⊎_elim (λ none. absurd (clash seats d (get_or words d 0) none.1 held)) (λ one. same_number seats d (get_or words d 0) n held one) is)
     (rule.held d inside)
 
--- a holder's number is at most 32
-in_range : (words : List ℕ) (seats : List Seated) (d n : ℕ) → HoldRule words seats → IsHolder seats d n → n ≤ 32
+-- a holder's number is at most SEAT_LIMIT
+in_range : (words : List ℕ) (seats : List Seated) (d n : ℕ) → HoldRule words seats → IsHolder seats d n → n ≤ SEAT_LIMIT
 in_range words seats d n rule is = ⊎_elim
     (λ none. let z = none.0 in omega arith)
     (λ one. let t = one.0 in let number = t.3 in let most = (rule.ranged t.0 t.1 t.2).1 in omega arith)
     is
 
 pub known_holder : (words : List ℕ) (seats : List Seated) (d n : ℕ) → HoldRule words seats → d < length words → IsHolder seats d n
-    → (n ≤ 32) × (get_or words d 0 ≡ n)
+    → (n ≤ SEAT_LIMIT) × (get_or words d 0 ≡ n)
 known_holder words seats d n rule inside is = (in_range words seats d n rule is, word_of words seats d n rule inside is)
 
 module _ (words : List ℕ) (seats after : List Seated) (d left e n m : ℕ) (inside : d < length words)

@@ -3,6 +3,8 @@ use Rattle.std.specs.Prelude.{◌≡◌, ℕ, ◌+◌, ◌-◌, ◌^◌, ◌<◌
 use mathlib.Core.Option.{some}
 use lib.ListN.{get_elem?}
 use Rattle.atomic_table.specs.Table.{Me, Step}
+use Rattle.drives.specs.declared.holds.TheConstants.{DRIVE_LIMIT}
+use Rattle.hold_table.specs.declared.table.TheConstants.{SEAT_LIMIT}
 use Rattle.drives.specs.declared.view.View.{View}
 use Rattle.drives.specs.Holding.{has, newcomer, taken, given, looked}
 use Rattle.hold_table.specs.declared.rule.Seated.{Seated}
@@ -20,20 +22,20 @@ following x = seated (newcomer (x.view.number + 1)) 0 (x.spare - 1)
 abbrev pub stepped : Seated → View → Seated
 stepped x v = seated v (x.made + 1) x.spare
 
--- The seat at the place k has the number k + 1 and a mark for each of 64 drives, and it shows its steps. Only the newest
+-- The seat at the place k has the number k + 1 and a mark for each drive that there can be, and it shows its steps. Only the newest
 -- seat has numbers left to hand on.
 pub record IsNumbered (count k : ℕ) (x : Seated) : Type 0 where
   pub number : x.view.number ≡ k + 1
-  pub most : x.view.number + x.spare ≤ 32
+  pub most : x.view.number + x.spare ≤ SEAT_LIMIT
   pub newest : 0 < x.spare → count ≡ k + 1
-  pub marks : length x.view.held ≡ 64
+  pub marks : length x.view.held ≡ DRIVE_LIMIT
   pub shown : x.view.steps ≡ min x.made (2 ^ 64 - 1)
 
 -- a seat holds a drive exactly where the drive's word is its number
-pub record IsKept (drives : ℕ) (words : List ℕ) (seats : List Seated) : Type 0 where
+pub record IsTableKept (drives : ℕ) (words : List ℕ) (seats : List Seated) : Type 0 where
   pub size : length words ≡ drives
-  pub small : drives ≤ 64
-  pub few : length seats ≤ 32
+  pub small : drives ≤ DRIVE_LIMIT
+  pub few : length seats ≤ SEAT_LIMIT
   pub numbered : (k : ℕ) (x : Seated) → get_elem? seats k ≡ some x → IsNumbered (length seats) k x
   pub known : (d : ℕ) → d < length words → slice_index words d ≤ length seats
   pub held : (k : ℕ) (x : Seated) (d : ℕ) → get_elem? seats k ≡ some x → d < length words
@@ -41,7 +43,7 @@ pub record IsKept (drives : ℕ) (words : List ℕ) (seats : List Seated) : Type
 
 -- the rule as it is kept, and the hold rule in its own words
 abbrev pub KeepsRule : ℕ → List ℕ → List Seated → Type 0
-KeepsRule drives words seats = IsKept drives words seats × HoldRule words seats
+KeepsRule drives words seats = IsTableKept drives words seats × HoldRule words seats
 
 -- a seat at the table, which has no slots
 abbrev Sat : Type 0
@@ -51,7 +53,7 @@ Sat = Me (Unit {0}) Seated
 abbrev pub TakesAt : Step (Unit {0}) → Sat → ℕ → Sat → Type 0
 TakesAt s me found me' =
     (me'.0 ≡ stepped me.0 (taken me.0.view s.word found))
-    × (found ≤ 32)
+    × (found ≤ SEAT_LIMIT)
     × (found ≡ 0 → (has me.0.view s.word ≡ false) × (has me'.0.view s.word ≡ true))
     × IsRuledStep s.word me.0.view me.0.made found (cond (found == 0) me.0.view.number found) me'.0.view
 
@@ -65,6 +67,6 @@ GivesAt s me stored me' =
 abbrev pub LooksAt : Step (Unit {0}) → Sat → ℕ → Sat → Type 0
 LooksAt s me found me' =
     (me'.0 ≡ stepped me.0 (looked me.0.view s.word found))
-    × (found ≤ 32)
+    × (found ≤ SEAT_LIMIT)
     × ((found == me.0.view.number) ≡ has me.0.view s.word)
     × IsRuledStep s.word me.0.view me.0.made found found me'.0.view

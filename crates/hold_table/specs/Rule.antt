@@ -1,7 +1,8 @@
 -- The rule that holds between any two atomic steps at the table, and one step under it. Public contracts cite it.
-use Rattle.std.specs.Prelude.{◌≡◌, ◌⊎◌, ℕ, ◌+◌, ◌-◌, ◌^◌, ◌<◌, ◌≤◌, min, true, false, List, length, slice_index, slice_set}
+use Rattle.std.specs.Prelude.{◌≡◌, ◌⊎◌, ℕ, ◌+◌, ◌-◌, ◌^◌, ◌<◌, ◌≤◌, min, true, false, IsTrue, List, length, slice_index, slice_set}
 use mathlib.Core.Option.{some}
 use lib.ListN.{get_elem?}
+use Rattle.hold_table.specs.declared.table.TheConstants.{SEAT_LIMIT}
 use Rattle.drives.specs.declared.view.View.{View}
 use Rattle.drives.specs.Holding.{has}
 use Rattle.hold_table.specs.declared.rule.Seated.{Seated}
@@ -30,10 +31,14 @@ HasOneHolder seats n d = IsSeated seats n × ((k : ℕ) (x : Seated) → get_ele
 abbrev pub IsHolder : List Seated → ℕ → ℕ → Type 0
 IsHolder seats d n = ((n ≡ 0) × HasNoHolder seats d) ⊎ HasOneHolder seats n d
 
+-- the seat at the place k holds drive d
+abbrev pub IsHeldAt : List Seated → ℕ → ℕ → Type 0
+IsHeldAt seats k d = (x : Seated) × (get_elem? seats k ≡ some x) × IsTrue (has x.view d)
+
 -- The hold rule, of the drives' words and of all seats.
 pub record HoldRule (words : List ℕ) (seats : List Seated) : Type 0 where
-  -- the numbers of the seats are from 1 to 32 and distinct
-  pub ranged : (k : ℕ) (x : Seated) → get_elem? seats k ≡ some x → (1 ≤ x.view.number) × (x.view.number ≤ 32)
+  -- the numbers of the seats are from 1 to SEAT_LIMIT and distinct
+  pub ranged : (k : ℕ) (x : Seated) → get_elem? seats k ≡ some x → (1 ≤ x.view.number) × (x.view.number ≤ SEAT_LIMIT)
   pub distinct : (j k : ℕ) (x y : Seated) → get_elem? seats j ≡ some x → get_elem? seats k ≡ some y
       → x.view.number ≡ y.view.number → j ≡ k
   -- each word tells who holds that drive

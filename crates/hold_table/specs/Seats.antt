@@ -1,6 +1,7 @@
 -- What contracts see of a seat at the table. Public contracts cite it.
 use Rattle.std.specs.Prelude.{◌≡◌, ℕ, zero, suc, ◌+◌, ◌≤◌, List, [], ◌∷◌, ◌++◌}
 use Rattle.atomic_table.specs.Seated.{TableId}
+use Rattle.hold_table.specs.declared.table.TheConstants.{SEAT_LIMIT}
 use Rattle.drives.specs.declared.view.View.{View}
 use Rattle.drives.specs.Holding.{newcomer}
 
@@ -22,8 +23,8 @@ abbrev pub dealt : TableId → ℕ → List TableSeat
 dealt t zero = []
 dealt t (suc n) = dealt t n ++ table_seat t (newcomer (n + 1)) 0 ∷ []
 
--- the seat is one of the table's, so its number is from 1 to 32
+-- the seat is one of the table's, so its number is from 1 to SEAT_LIMIT
 pub record IsSeatAt (t : TableId) (s : TableSeat) : Type 0 where
   pub same : s.table ≡ t
   pub numbered : 1 ≤ s.view.number
-  pub dealt : s.view.number ≤ 32
+  pub dealt : s.view.number ≤ SEAT_LIMIT

@@ -14,6 +14,7 @@ pub struct TableHand<'a> {
 
 impl<'a> Holds for TableHand<'a> {
     ghost use Rattle.hold_table.specs.Seats.{IsSeatAt};
+    ghost use Rattle.hold_table.specs.declared.table.TheConstants.{SEAT_LIMIT};
 
     type Seat = HoldSeat;
 
@@ -21,7 +22,7 @@ impl<'a> Holds for TableHand<'a> {
 
     ghost drives = { λ h. h.table.now.words };
 
-    ghost seated = { λ _. 32 };
+    ghost seated = { λ _. SEAT_LIMIT };
 
     ghost shows = { λ s. s.view };
 

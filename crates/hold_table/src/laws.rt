@@ -1,32 +1,29 @@
 //! Laws of the definitions, each the contract of a call that does nothing.
-ghost use Rattle.std.specs.Prelude.{◌≡◌, ℕ, ◌<◌, ◌≤◌, ◌==◌, cond, IsTrue, List, length, slice_index};
-ghost use mathlib.Core.Option.{some};
-ghost use lib.ListN.{get_elem?};
-ghost use Rattle.drives.specs.Holding.{has};
+ghost use Rattle.std.specs.Prelude.{◌≡◌, ℕ, ◌<◌, ◌≤◌, ◌==◌, cond, List, length, slice_index};
 ghost use Rattle.drives.specs.declared.view.StepKind.TheVariants.{Take, Give, Look};
 ghost use Rattle.drives.specs.declared.view.View.{View};
 ghost use Rattle.hold_table.specs.declared.rule.Seated.{Seated};
+ghost use Rattle.hold_table.specs.declared.table.TheConstants.{SEAT_LIMIT};
 ghost use Rattle.hold_table.specs.Moves.{StepMoves};
-ghost use Rattle.hold_table.specs.Rule.{IsHolder, HoldRule};
+ghost use Rattle.hold_table.specs.Rule.{IsHeldAt, IsHolder, HoldRule};
 
 /// Where the hold rule holds, no drive is held by two seats.
 ///
 /// It does nothing: its contract is a law of the definitions.
 pub fn one_holder()
-    ensures { (words : List ℕ) (seats : List Seated) (d j k : ℕ) (x y : Seated) → HoldRule words seats → d < length words →
-        get_elem? seats j ≡ some x → get_elem? seats k ≡ some y →
-        IsTrue (has x.view d) → IsTrue (has y.view d) → j ≡ k }
+    ensures { (words : List ℕ) (seats : List Seated) (d j k : ℕ) → HoldRule words seats → d < length words →
+        IsHeldAt seats j d → IsHeldAt seats k d → j ≡ k }
 {}
 
 /// Each atomic step moves the drives between seats as its kind says. A take moves its drive from nobody to the seat, a
 /// give from the seat that makes it to nobody, and a look leaves it. A held drive stays where a seat takes it, and so
-/// does each other drive. Where the hold rule holds, a drive's word is the number of its holder, which is at most 32,
-/// or 0 where nobody holds it.
+/// does each other drive. Where the hold rule holds, a drive's word is the number of its holder, which is at most
+/// `SEAT_LIMIT`, or 0 where nobody holds it.
 ///
 /// It does nothing: its contract is a law of the definitions.
 pub fn holders_move()
     ensures known { (words : List ℕ) (seats : List Seated) (d n : ℕ) → HoldRule words seats → d < length words → IsHolder seats d n →
-        (n ≤ 32) × (slice_index words d ≡ n) }
+        (n ≤ SEAT_LIMIT) × (slice_index words d ≡ n) }
     ensures takes { (d made found : ℕ) (old new : View) →
         StepMoves Take d old made found (cond (found == 0) old.number found) new }
     ensures gives { (d made : ℕ) (old new : View) → StepMoves Give d old made old.number 0 new }

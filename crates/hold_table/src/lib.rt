@@ -1,4 +1,4 @@
-//! Who holds which drive, kept between threads: a table with one word for each drive, and 32 seats.
+//! Who holds which drive, kept between threads: a table with one word for each drive, and `SEAT_LIMIT` seats.
 //!
 //! A word is 0, or the number of the seat that holds the drive. Each call is one atomic step on one drive's word, and
 //! none waits. `TableHand` is a shared reference to the table that is a `Holds`.
@@ -14,4 +14,4 @@ mod table;
 pub use hand::TableHand;
 pub use laws::{holders_move, one_holder};
 pub use seat::HoldSeat;
-pub use table::HoldTable;
+pub use table::{HoldTable, SEAT_LIMIT};

@@ -16,13 +16,15 @@ pub struct Seated {
 pub struct HoldLaw;
 
 impl TableRule<(), Seated, usize> for HoldLaw {
+    ghost use Rattle.std.specs.Prelude.{◌-◌};
     ghost use Rattle.drives.specs.Holding.{newcomer};
+    ghost use Rattle.hold_table.specs.declared.table.TheConstants.{SEAT_LIMIT};
     ghost use Rattle.hold_table.specs.Rule.{seated};
     ghost use Rattle.hold_table.specs.Keeping.{KeepsRule};
 
     ghost holds = { λ drives s. KeepsRule drives s.words s.views };
 
-    ghost first = { λ _. seated (newcomer 1) 0 31 };
+    ghost first = { λ _. seated (newcomer 1) 0 (SEAT_LIMIT - 1) };
 }
 
 /// A seat hands its numbers on to a new seat.

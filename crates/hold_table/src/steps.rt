@@ -2,6 +2,7 @@
 ghost use Rattle.std.specs.Prelude.{◌≡◌, ◌<◌, ◌≤◌, ◌↔◌, ◌==◌, true, false, cond, IsTrue};
 ghost use Rattle.drives.specs.Holding.{has, taken, given, looked};
 ghost use Rattle.hold_table.specs.Rule.{IsRuledStep};
+ghost use Rattle.hold_table.specs.declared.table.TheConstants.{SEAT_LIMIT};
 ghost use Rattle.hold_table.specs.Seats.{next, IsSeatAt};
 
 use crate::rule::{Gives, Looks, Takes};
@@ -14,7 +15,7 @@ impl HoldTable {
         requires seat { IsSeatAt self.now seat.old }
         requires drive { drive < self.now.words }
         ensures step { seat.new ≡ next seat.old (taken seat.old.view drive result) }
-        ensures known { result ≤ 32 }
+        ensures known { result ≤ SEAT_LIMIT }
         ensures free { result ≡ 0 → (has seat.old.view drive ≡ false) × (has seat.new.view drive ≡ true) }
         ensures rule { IsRuledStep drive seat.old.view seat.old.made result
             (cond (result == 0) seat.old.view.number result) seat.new.view }
@@ -40,7 +41,7 @@ impl HoldTable {
         requires seat { IsSeatAt self.now seat.old }
         requires drive { drive < self.now.words }
         ensures step { seat.new ≡ next seat.old (looked seat.old.view drive result) }
-        ensures known { result ≤ 32 }
+        ensures known { result ≤ SEAT_LIMIT }
         ensures mine { result ≡ seat.old.view.number ↔ IsTrue (has seat.old.view drive) }
         ensures rule { IsRuledStep drive seat.old.view seat.old.made result result seat.new.view }
     {

@@ -1,6 +1,7 @@
 //! The table, and its atomic steps.
-ghost use Rattle.std.specs.Prelude.{◌≡◌, ◌<◌, ◌≤◌, ◌↔◌, ◌==◌, None, cond, length, All, IsTrue, IfOk};
-ghost use Rattle.drives.specs.Holding.{has, newcomer, taken, given, looked, found_by, Answers, HoldsJust};
+ghost use Rattle.std.specs.Prelude.{◌≡◌, ◌-◌, ◌<◌, ◌≤◌, ◌↔◌, ◌==◌, None, cond, length, All, IsTrue, IfOk};
+ghost use Rattle.drives.specs.declared.holds.TheConstants.{DRIVE_LIMIT};
+ghost use Rattle.drives.specs.Holding.{has, newcomer, taken, given, looked, found_by, TakeAnswers, HoldsJust};
 ghost use Rattle.hold_table.specs.Rule.{seated, IsRuledStep};
 ghost use Rattle.hold_table.specs.Seats.{next, dealt, IsSeatAt};
 
@@ -12,13 +13,13 @@ use std::alloc::{AllocError, Global};
 use std::marker::Model;
 
 /// How many seats a table has.
-const SEATS: usize = 32;
+pub const SEAT_LIMIT: usize = 32;
 
-/// Drives, from 1 to 64, that 32 seats share between threads. Each drive has one word: 0, or the number of the seat that
-/// holds it.
+/// Drives, from 1 to `DRIVE_LIMIT`, that `SEAT_LIMIT` seats share between threads. Each drive has one word: 0, or the
+/// number of the seat that holds it.
 ///
-/// Between any two steps the seats' numbers are distinct and from 1 to 32, and each word is 0 while no seat holds that
-/// drive, or n while the seat numbered n holds it and no other does. Contracts see which table it is.
+/// Between any two steps the seats' numbers are distinct and from 1 to `SEAT_LIMIT`, and each word is 0 while no seat
+/// holds that drive, or n while the seat numbered n holds it and no other does. Contracts see which table it is.
 #[derive(Drop)]
 pub struct HoldTable {
     pub(crate) table: Table<(), Seated, usize, HoldLaw, Global>,
@@ -38,14 +39,14 @@ impl Model for HoldTable {
 }
 
 impl HoldTable {
-    /// A table of that many drives, from 1 to 64, which no seat holds, and its 32 seats in the order of their numbers,
-    /// from 1. It fails only where memory is refused.
+    /// A table of that many drives, from 1 to `DRIVE_LIMIT`, which no seat holds, and its `SEAT_LIMIT` seats in the order
+    /// of their numbers, from 1. It fails only where memory is refused.
     pub fn new(alloc: Global, drives: usize) -> Result<(HoldTable, Vec<HoldSeat>), AllocError>
         requires some { 1 ≤ drives }
-        requires few { drives ≤ 64 }
+        requires few { drives ≤ DRIVE_LIMIT }
         ensures drives { IfOk result (λ made. made.0.words ≡ drives) }
-        ensures seats { IfOk result (λ made. made.1.items ≡ dealt made.0 32) }
-        ensures count { IfOk result (λ made. length made.1.items ≡ 32) }
+        ensures seats { IfOk result (λ made. made.1.items ≡ dealt made.0 SEAT_LIMIT) }
+        ensures count { IfOk result (λ made. length made.1.items ≡ SEAT_LIMIT) }
         ensures idle { IfOk result (λ made. All (λ s. IsSeatAt made.0 s × HoldsJust s.view None) made.1.items) }
     {
         let (table, first) = HoldTable::laid(alloc, drives)?;
@@ -56,10 +57,10 @@ impl HoldTable {
     // A table of that many drives, which no seat holds, and its first seat, which has all numbers to hand on.
     fn laid(alloc: Global, drives: usize) -> Result<(HoldTable, Seat<(), Seated>), AllocError>
         requires some { 1 ≤ drives }
-        requires few { drives ≤ 64 }
+        requires few { drives ≤ DRIVE_LIMIT }
         ensures drives { IfOk result (λ made. made.0.words ≡ drives) }
         ensures same { IfOk result (λ made. made.1.table_id ≡ made.0) }
-        ensures first { IfOk result (λ made. made.1.me.0 ≡ seated (newcomer 1) 0 31) }
+        ensures first { IfOk result (λ made. made.1.me.0 ≡ seated (newcomer 1) 0 (SEAT_LIMIT - 1)) }
     {
         let words = Vec::from_elem(alloc, 0u64, drives)?;
         let (table, first) = Table::of_words(alloc, words.as_slice(), &drives)?;
@@ -70,14 +71,14 @@ impl HoldTable {
     fn deal(&self, alloc: Global, first: Seat<(), Seated>) -> Result<Vec<HoldSeat>, AllocError>
         requires words { 0 < self.now.words }
         requires same { first.table_id ≡ self.now }
-        requires first { first.me.0 ≡ seated (newcomer 1) 0 31 }
-        ensures seats { IfOk result (λ seats. seats.items ≡ dealt self.now 32) }
+        requires first { first.me.0 ≡ seated (newcomer 1) 0 (SEAT_LIMIT - 1) }
+        ensures seats { IfOk result (λ seats. seats.items ≡ dealt self.now SEAT_LIMIT) }
         ensures idle { IfOk result (λ seats. All (λ s. IsSeatAt self.now s × HoldsJust s.view None) seats.items) }
     {
         let mut seat = first;
-        let mut seats = Vec::with_capacity(alloc, SEATS)?;
+        let mut seats = Vec::with_capacity(alloc, SEAT_LIMIT)?;
         let mut dealt = 0;
-        while dealt < 31 {
+        while dealt < SEAT_LIMIT as u64 - 1 {
             let next = self.table.shared.split_seat::<Deal>(&mut seat);
             dealt += 1;
             seats.push(HoldSeat {
@@ -86,7 +87,10 @@ impl HoldTable {
             })?;
             seat = next;
         }
-        seats.push(HoldSeat { seat, number: 32 })?;
+        seats.push(HoldSeat {
+            seat,
+            number: SEAT_LIMIT as u64,
+        })?;
         Ok(seats)
     }
 
@@ -96,8 +100,8 @@ impl HoldTable {
         requires seat { IsSeatAt self.now seat.old }
         requires drive { drive < self.now.words }
         ensures step { seat.new ≡ next seat.old (taken seat.old.view drive (found_by result)) }
-        ensures answer { Answers result seat.old.view seat.new.view drive }
-        ensures known { found_by result ≤ 32 }
+        ensures answer { TakeAnswers result seat.old.view seat.new.view drive }
+        ensures known { found_by result ≤ SEAT_LIMIT }
         ensures rule { IsRuledStep drive seat.old.view seat.old.made (found_by result)
             (cond (found_by result == 0) seat.old.view.number (found_by result)) seat.new.view }
     {
@@ -125,7 +129,7 @@ impl HoldTable {
         requires seat { IsSeatAt self.now seat.old }
         requires drive { drive < self.now.words }
         ensures step { seat.new ≡ next seat.old (looked seat.old.view drive result) }
-        ensures known { result ≤ 32 }
+        ensures known { result ≤ SEAT_LIMIT }
         ensures mine { result ≡ seat.old.view.number ↔ IsTrue (has seat.old.view drive) }
         ensures rule { IsRuledStep drive seat.old.view seat.old.made result result seat.new.view }
     {

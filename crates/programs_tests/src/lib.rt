@@ -1,6 +1,6 @@
-//! Tests of what the programs are made of, by public calls alone: their words (`rmtd_words`, `rmt_words`), streams that are served
-//! (`rmt_serve`), the files of a dump (`dump_files`), its talk over a connection (`rmt_peer`), and these put together (`rmt_programs`). They
-//! stand here so that each of these crates is proved once.
+//! Tests of what the programs are made of, by public calls alone: their words (`rmtd_words`, `rdump_words`), streams that are served
+//! (`rmtd_serve`), the files of a dump (`rdump_files`), its talk over a connection (`rdump_talk`), what `rdump` makes of these
+//! (`rdump_commands`), and a peer in memory (`rmt_tools`). They stand here so that each of these crates is proved once.
 #![tactic(auto)]
 
 #[cfg(test)]

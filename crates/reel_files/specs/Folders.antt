@@ -49,10 +49,10 @@ IsRowNamed name s None = (k : ℕ) → k < length s.rows → (row_at s k).name �
 IsRowNamed name s (Some d) = (d < length s.rows) × ((row_at s d).name ≡ name) × ((k : ℕ) → k < d → (row_at s k).name ≢ name)
 
 -- The device failed, which is counted, or a growth was refused, and nothing changed.
-abbrev pub IsRefused : FolderShop → DriveFault → FolderShop → Type 0
-IsRefused old Device new = new ≡ after_fault old
-IsRefused old OutOfMemory new = new ≡ old
-IsRefused old _ new = ⊥
+abbrev pub IsFolderRefused : FolderShop → DriveFault → FolderShop → Type 0
+IsFolderRefused old Device new = new ≡ after_fault old
+IsFolderRefused old OutOfMemory new = new ≡ old
+IsFolderRefused old _ new = ⊥
 
 -- A reel was latched where none was, at its beginning and with the capacity. It is not only where one is latched or none
 -- was found, for want of memory, which change nothing, and where the device failed, which is counted.
@@ -60,7 +60,7 @@ abbrev pub IsFolderLatch : {M : Type 0} → FolderShop → ℕ → Result (FileT
 IsFolderLatch old d (Ok reel) new =
     ((row_at old d).latched ≡ false) × (reel.offset ≡ 0) × (reel.capacity ≡ old.capacity) × (new ≡ with_latched old d true)
 IsFolderLatch old d (Err NoReel) new = new ≡ old
-IsFolderLatch old d (Err fault) new = ((row_at old d).latched ≡ false) × IsRefused old fault new
+IsFolderLatch old d (Err fault) new = ((row_at old d).latched ≡ false) × IsFolderRefused old fault new
 
 -- The latched reel was moved. It is not only where its name is taken, which changes nothing, and where the device failed,
 -- which is counted.

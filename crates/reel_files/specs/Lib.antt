@@ -1,3 +1,2 @@
--- In reading order: Files (one file), Folders (drives).
-pub mod Files
+-- Drives in folders: Folders.
 pub mod Folders

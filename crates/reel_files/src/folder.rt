@@ -4,7 +4,8 @@ ghost use Rattle.std.specs.Prelude.{◌≡◌, ◌≤◌, ◌<◌, ◌↔◌, fa
 ghost use Rattle.std.specs.IoError.{error_kind, raw_os_error};
 ghost use Rattle.drives.specs.declared.fault.DriveFault.TheVariants.{Device, OutOfMemory};
 ghost use Rattle.drives.specs.Shop.{Shop, IsDriveNamed};
-ghost use Rattle.reel_files.specs.Folders.{folder_shop, folder_row, after_fault, IsFolderOf, IsRowNamed, IsRefused, IsFolderMove};
+ghost use Rattle.drives.specs.declared.holds.TheConstants.{DRIVE_LIMIT};
+ghost use Rattle.reel_files.specs.Folders.{folder_shop, folder_row, after_fault, IsFolderOf, IsRowNamed, IsFolderRefused, IsFolderMove};
 
 mod listing;
 mod look;
@@ -65,8 +66,8 @@ impl<R: Files<File = File> + AllocGlobal + Clone + Drop> Model for FolderStacks<
 }
 
 impl<R: Files<File = File> + AllocGlobal + Clone + Drop> FolderStacks<R> {
-    /// These drives, from 1 to 64 of them with a name each, and the folder of the bin. Each reel takes so many bytes. It
-    /// reads no folder. It fails only where memory is refused. Of drives with one name the first is found.
+    /// These drives, from 1 to `DRIVE_LIMIT` of them with a name each, and the folder of the bin. Each reel takes so many
+    /// bytes. It reads no folder. It fails only where memory is refused. Of drives with one name the first is found.
     pub fn open(
         rt: R,
         drives: &[FolderDrive<'_>],
@@ -74,7 +75,7 @@ impl<R: Files<File = File> + AllocGlobal + Clone + Drop> FolderStacks<R> {
         capacity: u64,
     ) -> Result<FolderStacks<R>, AllocError>
         requires some { 1 ≤ length drives.now }
-        requires few { length drives.now ≤ 64 }
+        requires few { length drives.now ≤ DRIVE_LIMIT }
         ensures drives { IfOk result (λ opened. opened
             ≡ folder_shop (map (λ d. folder_row d.name.now d.folder.now false) drives.now) bin.now capacity 0) }
         ensures count { IfOk result (λ opened. length opened.rows ≡ length drives.now) }
@@ -132,7 +133,7 @@ impl<R: Files<File = File> + AllocGlobal + Clone + Drop> FolderStacks<R> {
 
     /// Why a reel could not be latched. A failure is counted, but for a growth that was refused.
     fn refuse(&mut self, error: io::Error) -> DriveFault
-        ensures refused { IsRefused self.old result self.new }
+        ensures refused { IsFolderRefused self.old result self.new }
         ensures memory { result ≡ OutOfMemory ↔ (error_kind error ≡ ErrorKind.OutOfMemory) × (raw_os_error error ≡ None) }
     {
         if error.kind() == ErrorKind::OutOfMemory && error.raw_os_error().is_none() {

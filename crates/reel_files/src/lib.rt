@@ -1,9 +1,9 @@
-//! Reels in files of the system: a file as the medium of a reel, and drives whose stacks are folders of such files.
+//! Reels in files of the system: drives whose stacks are folders of such files, with a file as the medium of a reel
+//! (`FileMedium`).
 //!
-//! Neither tells anything of what lies in files and folders. How often the system failed is counted.
+//! They tell nothing of what lies in files and folders. How often the system failed is counted.
 #![tactic(auto)]
 
-mod file_medium;
 mod folder;
 
 pub use file_medium::FileMedium;

@@ -14,7 +14,7 @@ use Rattle.rmt_wire.specs.Counted.{Counting, HasRisen}
 use Rattle.rmt_wire.specs.declared.reply.writer.OutputFault.{OutputFault}
 use Rattle.rmt_wire.specs.Lent.{plain_request}
 use Rattle.rmt_wire.specs.RequestReader.{RequestHeld, Unread, IsNext, dropped_line, told}
-use Rattle.rmt_wire.specs.Limits.{reader_limit}
+use Rattle.rmt_wire.specs.declared.limits.TheConstants.{READER_LIMIT}
 use Rattle.rmt_wire.specs.declared.request.Request.{Request}
 use Rattle.rmt_wire.specs.declared.fault.WireFault.{WireFault}
 use Rattle.drives.specs.Opening.{Kinds}
@@ -24,7 +24,7 @@ use Rattle.rmt_server.specs.Opening.{IsClosed}
 use Rattle.rmt_server.specs.Carrying.{IsCarriedOut, MayFail, MayShare}
 use Rattle.rmt_server.proofs.Alone.{may_share, may_find}
 use Rattle.rmt_server.specs.Session.{Scene, ServeRun, none as no_steps, one_more as one_step}
-use Rattle.rmt_server.specs.Stream.{Exchange, requests_of, replies_text, IsAnswered, IsCutOff, Advances, AnswersAs, CarryRun, IsSettled, IsFaulty, EndsAs, IsServedAs, none, one_more}
+use Rattle.rmt_server.specs.Stream.{streams, streams_kind, Exchange, requests_of, replies_text, IsAnswered, IsCutOff, Advances, AnswersAs, CarryRun, IsSettled, IsFaulty, EndsAs, IsServedAs, none, one_more}
 use Rattle.rmt_server.specs.declared.stream.Served.{Served}
 use Rattle.rmt_server.specs.declared.stream.Served.TheVariants.{Broken}
 use Rattle.rmt_server.specs.declared.stream.ServeFault.{ServeFault}
@@ -256,16 +256,16 @@ pub next_shorter : (old new : RequestHeld) (result : Result (Option Request) Wir
 next_shorter old new result request n e = (subst (λ a. IsNext old (told a) new) e n).shrinks
 
 -- a reader that is settled takes some of a piece that is not empty
-pub push_some : (count len taken : ℕ) → count ≡ min len (reader_limit - taken) → taken < reader_limit → 0 < len → (0 < count) × (count ≤ len)
+pub push_some : (count len taken : ℕ) → count ≡ min len (READER_LIMIT - taken) → taken < READER_LIMIT → 0 < len → (0 < count) × (count ≤ len)
 push_some count len taken e room some = (omega arith, omega arith)
 
 -- where the output failed
 pub output_ends : {In W : Type 0} (remaining : In → Option (List ℕ)) (contents : W → Option (List ℕ)) (result : Result Served ServeFault) (input input' : Counting In) (output output' : Counting W)
     (read : List ℕ) (done : List Exchange) (rest : List ℕ) → IsErrAnd result (λ e. e ≡ Output)
-    → IsCutOff (contents output.inner) (contents output'.inner) read done rest → HasRisen output.failures output'.failures → EndsAs remaining contents result input input' output output' read done rest
+    → IsCutOff (contents output.inner) (contents output'.inner) read done rest → HasRisen output.failures output'.failures → EndsAs (streams_kind remaining contents) result (streams input output) (streams input' output') read done rest
 output_ends remaining contents (Ok ending) input input' output output' read done rest e c r = absurd e
 output_ends remaining contents (Err fault) input input' output output' read done rest e c r =
-    subst (λ f. EndsAs remaining contents (Err f) input input' output output' read done rest) (sym e) (c, r)
+    subst (λ f. EndsAs (streams_kind remaining contents) (Err f) (streams input output) (streams input' output') read done rest) (sym e) (c, r)
 
 -- where bytes are no request
 pub broken_ends : (rest : List ℕ) (fault : WireFault) → IsFaulty rest fault → HasFault rest fault × HasNoSpelling rest
@@ -278,7 +278,7 @@ module _ {H S Seat R : Type 0} {k : Kinds H Seat S R} {old between new : State H
       → Advances k old between (λ done rest. IsAnswered (contents first.inner) (contents out.inner) read done rest × IsSettled wire rest)
       → ((rest : List ℕ) → IsSettled wire rest → Advances k between new
       (λ more later. IsCutOff (contents out.inner) (contents out'.inner) (rest ++ part) more later × HasRisen out.failures out'.failures))
-      → Advances k old new (EndsAs remaining contents result input input' first out' (read ++ part))
+      → Advances k old new (EndsAs (streams_kind remaining contents) result (streams input first) (streams input' out') (read ++ part))
   read_cut remaining contents result input input' first out out' wire read part failed since a f =
       advances_then a (λ done rest p.
       let b = f rest p.1 in
@@ -294,7 +294,7 @@ module _ {H S Seat R : Type 0} {k : Kinds H Seat S R} {old between new : State H
       → Advances k old between (λ done rest. IsAnswered (contents first.inner) (contents out.inner) read done rest × IsSettled wire rest)
       → ((rest : List ℕ) → IsSettled wire rest → Advances k between new
       (λ more later. IsAnswered (contents out.inner) (contents out'.inner) (rest ++ part) more later × IsFaulty later fault))
-      → Advances k old new (EndsAs remaining contents (Ok (Broken fault)) input input' first out' (read ++ part))
+      → Advances k old new (EndsAs (streams_kind remaining contents) (Ok (Broken fault)) (streams input first) (streams input' out') (read ++ part))
   read_faulty remaining contents fault input input' first out out' wire read part a f =
       advances_then a (λ done rest p.
       let b = f rest p.1 in
@@ -332,8 +332,8 @@ run_seats (one_more request reply run carried spelling) =
 pub served_as : {H S Seat R In Out : Type 0} {k : Kinds H Seat S R} (remaining : In → Option (List ℕ)) (contents : Out → Option (List ℕ))
     (result : Result Served ServeFault) (input input' : Counting In) (output output' : Counting Out) {old last new : State H S Seat R}
     (read : List ℕ) → Consumes (remaining input.inner) (remaining input'.inner) read
-    → Advances k old last (EndsAs remaining contents result input input' output output' read) → IsClosed k last new
-    → IsServedAs k remaining contents result input input' output output' old new
+    → Advances k old last (EndsAs (streams_kind remaining contents) result (streams input output) (streams input' output') read) → IsClosed k last new
+    → IsServedAs k (streams_kind remaining contents) result (streams input output) (streams input' output') old new
 served_as remaining contents result input input' output output' {last = last} read consumed a ended = record {
   read = read;
   done = a.done;

@@ -1,5 +1,6 @@
 -- A move of the open reel to the bin, by the parts of its code.
 use Rattle.std.proofs.Common.{◌≡◌, ℕ, Option, Some, None, MatchOption, Result, refl, sym, ap, subst, ◌∙◌}
+use Rattle.rmt_wire.specs.declared.mtio.TheConstants.{MTOFFL}
 use Rattle.rmt_wire.specs.Request.PlainRequest.{Op}
 use Rattle.rmt_wire.specs.Reply.{PlainReply}
 use Rattle.drives.specs.declared.fault.DriveFault.{DriveFault}
@@ -22,7 +23,7 @@ module _ {H S Seat R : Type 0} (k : Kinds H Seat S R) (old : State H S Seat R) w
 
   refused_in : (device : Opened R) (lying : Option R) (count : ℕ) (reply : PlainReply) (new : State H S Seat R)
       → lying ≡ None → reply ≡ refused NotConfigured → new ≡ old
-      → MatchOption (refusal (status_in device.access lying) (Op 6 count)) (MovesIn k old device lying count reply new) (λ x. (reply ≡ refused x) × (new ≡ old))
+      → MatchOption (refusal (status_in device.access lying) (Op MTOFFL count)) (MovesIn k old device lying count reply new) (λ x. (reply ≡ refused x) × (new ≡ old))
   refused_in device lying count reply new e x n = rw e (x, n)
 
   -- a drive whose reel is in the bin
@@ -30,12 +31,12 @@ module _ {H S Seat R : Type 0} (k : Kinds H Seat S R) (old : State H S Seat R) w
       → MovesOff k old 6 count (refused NotConfigured) (record { drives = old.drives; seat = old.seat; opened = Some (record device { reel = after }) })
   unfolding with_opened
   moves_none device after count o e a =
-      subst (λ p. MatchOption (refusal (status_at p) (Op 6 count)) (MovesReel k old p count (refused NotConfigured) (with_opened (Some (record device { reel = after })))) (λ x. (refused NotConfigured ≡ refused x) × (with_opened (Some (record device { reel = after })) ≡ old)))
+      subst (λ p. MatchOption (refusal (status_at p) (Op MTOFFL count)) (MovesReel k old p count (refused NotConfigured) (with_opened (Some (record device { reel = after })))) (λ x. (refused NotConfigured ≡ refused x) × (with_opened (Some (record device { reel = after })) ≡ old)))
       (sym o) (refused_in device device.reel count (refused NotConfigured) (with_opened (Some (record device { reel = after }))) (sym e) refl (same_state device after o (a ∙ e)))
 
   moves_in : (device : Opened R) (lying : Option R) (reel : R) (count : ℕ) (reply : PlainReply) (result : Result (Unit {0}) DriveFault) (new : State H S Seat R)
       → lying ≡ Some reel → reply ≡ move_reply count result → IsTakenOff k old device reel result new
-      → MatchOption (refusal (status_in device.access lying) (Op 6 count)) (MovesIn k old device lying count reply new) (λ x. (reply ≡ refused x) × (new ≡ old))
+      → MatchOption (refusal (status_in device.access lying) (Op MTOFFL count)) (MovesIn k old device lying count reply new) (λ x. (reply ≡ refused x) × (new ≡ old))
   moves_in device lying reel count reply result new e x m = rw e (result, x, m)
 
   -- no check refuses a move while the reel is online
@@ -43,5 +44,5 @@ module _ {H S Seat R : Type 0} (k : Kinds H Seat S R) (old : State H S Seat R) w
       → old.opened ≡ Some device → device.reel ≡ Some reel → reply ≡ move_reply count result → IsTakenOff k old device reel result new
       → MovesOff k old 6 count reply new
   moves_some device reel count reply result new o e x m =
-      subst (λ p. MatchOption (refusal (status_at p) (Op 6 count)) (MovesReel k old p count reply new) (λ x. (reply ≡ refused x) × (new ≡ old)))
+      subst (λ p. MatchOption (refusal (status_at p) (Op MTOFFL count)) (MovesReel k old p count reply new) (λ x. (reply ≡ refused x) × (new ≡ old)))
       (sym o) (moves_in device device.reel reel count reply result new e x m)

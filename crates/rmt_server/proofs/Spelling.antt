@@ -1,12 +1,12 @@
 -- Each reply has a spelling, which is short.
 use Rattle.std.proofs.Common.{◌≡◌, ℕ, ◌≤◌, ◌==◌, Bool, true, false, cond, List, [], ◌∷◌, ◌++◌, length, Result, Ok, Err, refl, arith, length-append, length-take, take, decimal}
-use Rattle.rmt_wire.specs.Limits.{data_limit}
+use Rattle.rmt_wire.specs.declared.limits.TheConstants.{RECORD_LIMIT}
 use Rattle.std.proofs.lemmas.Bool.Decides.{nat_tests}
 use Rattle.std.proofs.lemmas.Fmt.{length-decimal-le}
 use Rattle.rmt_wire.specs.Number.{HasNoLineFeed, line_feed}
 use Rattle.rmt_wire.specs.Reply.{ReplyHasSpelling, reply_text}
 use Rattle.rmt_wire.specs.Reply.PlainReply.{Done, Error}
-use Rattle.rmt_wire.specs.Limits.{reader_limit}
+use Rattle.rmt_wire.specs.declared.limits.TheConstants.{READER_LIMIT}
 use Rattle.rmt_server.specs.declared.refusal.Refusal.{Refusal}
 use Rattle.rmt_server.specs.declared.refusal.Refusal.TheVariants.{NoSuchFile, InputOutput, NotConfigured, BadDescriptor, NoMemory, Permission, Busy, Invalid, NoSpace}
 use Rattle.rmt_server.specs.declared.session.dispatch.Given.{Given}
@@ -42,7 +42,7 @@ refused_spelled Busy = (omega arith, omega arith, is_line_means (text_of Busy) r
 refused_spelled Invalid = (omega arith, omega arith, is_line_means (text_of Invalid) refl)
 refused_spelled NoSpace = (omega arith, omega arith, is_line_means (text_of NoSpace) refl)
 
-pub outcome_spelled : (outcome : Result Given Refusal) (buffer : List ℕ) → length buffer ≡ data_limit → IsOutcomeSayable outcome → ReplyHasSpelling (outcome_reply outcome buffer)
+pub outcome_spelled : (outcome : Result Given Refusal) (buffer : List ℕ) → length buffer ≡ RECORD_LIMIT → IsOutcomeSayable outcome → ReplyHasSpelling (outcome_reply outcome buffer)
 outcome_spelled (Ok (Number n)) buffer l h = h
 outcome_spelled (Ok (Bytes n)) buffer l h = omega (arith, length-take n buffer)
 outcome_spelled (Err r) buffer l h = refused_spelled r
@@ -51,17 +51,17 @@ decimal_short : (n : ℕ) → n ≤ 2147483647 → length (decimal n) ≤ 10
 decimal_short n small = length-decimal-le 10 n (omega arith) (omega arith) (omega arith)
 
 -- a number's reply is short
-pub number_short : (n : ℕ) → n ≤ 2147483647 → length (reply_text (Done n)) ≤ reader_limit
+pub number_short : (n : ℕ) → n ≤ 2147483647 → length (reply_text (Done n)) ≤ READER_LIMIT
 number_short n small = omega (arith, length-append (decimal n) (line_feed ∷ []), decimal_short n small)
 
-error_short : (n : ℕ) (text : List ℕ) → n ≤ 2147483647 → length text ≤ 255 → length (reply_text (Error n text)) ≤ reader_limit
+error_short : (n : ℕ) (text : List ℕ) → n ≤ 2147483647 → length text ≤ 255 → length (reply_text (Error n text)) ≤ READER_LIMIT
 error_short n text small few = omega (arith, length-append (decimal n) (line_feed ∷ (text ++ line_feed ∷ [])), length-append text (line_feed ∷ []), decimal_short n small)
 
-pub outcome_short : (outcome : Result Given Refusal) (buffer : List ℕ) → length buffer ≡ data_limit → IsOutcomeSayable outcome
-    → length (reply_text (outcome_reply outcome buffer)) ≤ reader_limit
+pub outcome_short : (outcome : Result Given Refusal) (buffer : List ℕ) → length buffer ≡ RECORD_LIMIT → IsOutcomeSayable outcome
+    → length (reply_text (outcome_reply outcome buffer)) ≤ READER_LIMIT
 outcome_short (Ok (Number n)) buffer l h = number_short n h
 outcome_short (Ok (Bytes n)) buffer l h =
-    let few : length (take n buffer) ≤ data_limit = omega (arith, length-take n buffer) in
+    let few : length (take n buffer) ≤ RECORD_LIMIT = omega (arith, length-take n buffer) in
     omega (arith, length-append (decimal (length (take n buffer))) (line_feed ∷ take n buffer), few, decimal_short (length (take n buffer)) (omega (arith, few)))
 outcome_short (Err r) buffer l h =
     let s = refused_spelled r in

@@ -1,5 +1,5 @@
 -- In reading order: Access, Refusals, Session (what each request does); State, Replies, Opening, Moving, Serving, Carrying (a session);
--- Stream; Memory, Troubling, TroubledServe (in memory); Hall (all connections).
+-- Stream; Memory, Troubling, TroubledServe (in memory); Hall (all connections); Laws.
 pub mod Access
 pub mod Refusals
 pub mod Session
@@ -14,3 +14,4 @@ pub mod Troubling
 pub mod Memory
 pub mod TroubledServe
 pub mod Hall
+pub mod Laws

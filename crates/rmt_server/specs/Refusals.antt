@@ -1,6 +1,7 @@
 -- Errors as they are sent: the numbers and texts are those of errno. Public contracts stand on it (through Session).
 use Rattle.std.specs.Prelude.{ℕ, List, codes}
 use Rattle.rmt_wire.specs.Reply.{PlainReply}
+use Rattle.rmt_wire.specs.declared.errno.TheConstants.{ENOENT, EIO, ENXIO, EBADF, ENOMEM, EACCES, EBUSY, EINVAL, ENOSPC}
 use Rattle.rmt_wire.specs.Reply.PlainReply.{Error}
 use Rattle.tape.specs.declared.fault.TapeFault.{TapeFault}
 use Rattle.tape.specs.declared.fault.TapeFault.TheVariants as tape
@@ -11,15 +12,15 @@ use Rattle.rmt_server.specs.declared.refusal.Refusal.TheVariants.{NoSuchFile, In
 
 -- its number in errno
 abbrev pub number_of : Refusal → ℕ
-number_of NoSuchFile = 2
-number_of InputOutput = 5
-number_of NotConfigured = 6
-number_of BadDescriptor = 9
-number_of NoMemory = 12
-number_of Permission = 13
-number_of Busy = 16
-number_of Invalid = 22
-number_of NoSpace = 28
+number_of NoSuchFile = ENOENT
+number_of InputOutput = EIO
+number_of NotConfigured = ENXIO
+number_of BadDescriptor = EBADF
+number_of NoMemory = ENOMEM
+number_of Permission = EACCES
+number_of Busy = EBUSY
+number_of Invalid = EINVAL
+number_of NoSpace = ENOSPC
 
 -- the text that is sent beside the number
 abbrev pub text_of : Refusal → List ℕ

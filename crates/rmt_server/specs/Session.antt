@@ -2,11 +2,14 @@
 -- Public contracts cite it.
 use Rattle.std.specs.Prelude.{◌≡◌, ℕ, ◌<◌, min, ◌==◌, nat_lt, Bool, true, false, ◌||◌, IsTrue, if◌then◌else◌, List, [], ◌∷◌, ◌++◌, length, Option, Some, None, MatchOption, Result, Ok, Err}
 use Rattle.rmt_wire.specs.Request.{PlainRequest}
-use Rattle.rmt_wire.specs.Limits.{data_limit}
+use Rattle.rmt_wire.specs.declared.limits.TheConstants.{RECORD_LIMIT}
+use Rattle.rmt_wire.specs.declared.mtio.TheConstants.{MTWEOF, MTOFFL, MTNOP}
 use Rattle.rmt_wire.specs.Request.PlainRequest.{Open, Close, Write, WriteDropped, Read, Op}
 use Rattle.rmt_wire.specs.Reply.{PlainReply}
 use Rattle.rmt_wire.specs.Reply.PlainReply.{Done, Data}
-use Rattle.tape.specs.Tape.{Tape, tape, record_limit, TapeRequest, TapeAnswer, TapeStep, entries_of, op_request}
+use Rattle.tape.specs.Tape.{Tape, tape, TapeRequest, TapeAnswer, TapeStep, entries_of, op_request}
+use Rattle.rmt_wire.specs.declared.limits.TheConstants.{RECORD_LIMIT}
+use Rattle.rmt_wire.specs.declared.mtio.TheConstants.{MTWEOF, MTOFFL, MTNOP}
 use Rattle.tape.specs.Tape.TapeRequest.{Write as WriteRecord, Read as ReadRecord, Unknown}
 use Rattle.tape.specs.Tape.TapeAnswer.{Done as Did, Gave, Fault}
 use Rattle.tape.specs.declared.fault.TapeFault.{TapeFault}
@@ -60,7 +63,7 @@ status_of (Online drive access reel) = Ready access
 -- a record has 1 to 65,536 bytes
 abbrev pub write_refusal : Access → ℕ → Option Refusal
 write_refusal access count =
-    if writes access then (if (count == 0) || nat_lt record_limit count then Some Invalid else None) else Some BadDescriptor
+    if writes access then (if (count == 0) || nat_lt RECORD_LIMIT count then Some Invalid else None) else Some BadDescriptor
 
 abbrev pub read_refusal : Access → ℕ → Option Refusal
 read_refusal access count = if reads access then (if count == 0 then Some Invalid else None) else Some BadDescriptor
@@ -68,7 +71,7 @@ read_refusal access count = if reads access then (if count == 0 then Some Invali
 -- mtio's operations are 0 to 7, of which MTWEOF 0 writes
 abbrev pub op_refusal : Access → ℕ → Option Refusal
 op_refusal access op =
-    if op == 0 then (if writes access then None else Some Permission) else if nat_lt 7 op then Some Invalid else None
+    if op == MTWEOF then (if writes access then None else Some Permission) else if nat_lt MTNOP op then Some Invalid else None
 
 -- the first check that refuses the request, if one does; those of an open come after what was open is closed
 abbrev pub refusal : Status → PlainRequest → Option Refusal
@@ -85,7 +88,7 @@ refusal (Ready access) (Op op count) = op_refusal access op
 -- what a request asks of the reel; a read gives 65,536 bytes at most
 abbrev pub tape_request : PlainRequest → TapeRequest
 tape_request (Write bytes) = WriteRecord bytes
-tape_request (Read count) = ReadRecord (min count data_limit)
+tape_request (Read count) = ReadRecord (min count RECORD_LIMIT)
 tape_request (Op op count) = op_request op count
 tape_request request = Unknown
 
@@ -162,7 +165,7 @@ OpensAs troubled asked found before device (Some access) reply after =
 
 -- mtio's MTOFFL 6 takes the reel to the bin; all other operations are the reel's own
 abbrev pub is_offline : ℕ → Bool
-is_offline op = op == 6
+is_offline op = op == MTOFFL
 
 -- a reel was not moved: the device is at fault only where there was trouble
 abbrev pub IsMoveExcused : Bool → DriveFault → Type 0

@@ -1,7 +1,7 @@
 -- A session at its drives: what it holds and has open, what is told of it, and what each of its calls keeps. Public contracts cite it.
 use Rattle.std.specs.Prelude.{◌≡◌, ◌≢◌, ◌⊎◌, ℕ, ◌<◌, ◌≤◌, Option, Some, None}
 use Rattle.tape.specs.Tape.{Tape, TapeRequest, TapeAnswer}
-use Rattle.tape.specs.Call.{IsCall}
+use Rattle.tape.specs.Call.{IsTapeCall, reel_kind}
 use Rattle.tape.specs.declared.reel.Reel.{Ghosts as ReelPromise}
 use Rattle.drives.specs.declared.table.DriveTable.{DriveTable}
 use Rattle.drives.specs.Holding.{HoldsJust}
@@ -92,7 +92,8 @@ SessionCanFail k x = k.stacks.can_fail x.drives.stacks ⊎ ReelCanFail k.reels (
 
 -- one call of a reel
 abbrev pub IsReelCall : {R : Type 0} → ReelPromise R → R → TapeRequest → TapeAnswer → R → Type 0
-IsReelCall r old request answer new = IsCall r.holds r.capacity r.failures r.can_fail r.makes r.GROWS old new request answer
+IsReelCall r old request answer new =
+    IsTapeCall (reel_kind r.holds r.capacity r.failures r.can_fail r.makes r.GROWS) old new request answer
 
 -- The counts of drives stay, that of failures does not fall, the seat keeps its number, other seats hold what they
 -- held, and reels stay latched in other drives than those that were open before and after.
@@ -105,3 +106,9 @@ pub record KeepsDrives {H S Seat R : Type 0} (k : Kinds H Seat S R) (old new : S
   pub counted : k.stacks.failures old.drives.stacks ≤ k.stacks.failures new.drives.stacks
   pub elsewhere : (d : ℕ) → drive_of old.opened ≢ Some d → drive_of new.opened ≢ Some d
       → HasLatched k.stacks.holds old.drives.stacks d → HasLatched k.stacks.holds new.drives.stacks d
+
+-- A desk is at all drives that its seat belongs to, of which the stacks have no more than the holds.
+abbrev pub FitsItsDrives : {H S Seat R : Type 0} → Kinds H Seat S R → Seat → Desk Seat R → Type 0
+FitsItsDrives {H} {S} {Seat} {R} k seat desk =
+    (drives : DriveTable H S Seat R) → k.holds.belongs drives.holds seat → k.stacks.drives drives.stacks ≤ k.holds.drives drives.holds
+    → IsAt k (state drives desk)

@@ -7,7 +7,7 @@ use Rattle.rmt_wire.specs.Reply.{PlainReply, ReplyHasSpelling, reply_text}
 use Rattle.rmt_wire.specs.RequestParts.{IsOpen, HasNoSpelling, Spelled, HasFault}
 use Rattle.rmt_wire.specs.Counted.{Counting, HasRisen}
 use Rattle.rmt_wire.specs.RequestReader.{RequestHeld, Unread, taken_of}
-use Rattle.rmt_wire.specs.Limits.{reader_limit}
+use Rattle.rmt_wire.specs.declared.limits.TheConstants.{READER_LIMIT}
 use Rattle.rmt_wire.specs.declared.fault.WireFault.{WireFault}
 use Rattle.rmt_wire.specs.declared.reply.writer.OutputFault.{OutputFault}
 use Rattle.drives.specs.Opening.{Kinds}
@@ -66,7 +66,7 @@ pub record IsSettled (wire : RequestHeld) (rest : List ℕ) : Type 0 where
   pub unread : Unread wire rest
   pub begins : IsOpen rest
   pub none : HasNoSpelling rest
-  pub room : taken_of rest < reader_limit
+  pub room : taken_of rest < READER_LIMIT
 
 -- whatever follows, the rest is no request, and this is why
 abbrev pub IsFaulty : List ℕ → WireFault → Type 0
@@ -82,38 +82,80 @@ AnswersAs contents (Ok (Some fault)) output output' wire bytes done rest =
 AnswersAs contents (Err failed) output output' wire bytes done rest =
     IsCutOff (contents output.inner) (contents output'.inner) bytes done rest × HasRisen output.failures output'.failures
 
+-- the two streams of a session, each with its count of failures
+pub record Streams (In Out : Type 0) : Type 0 where
+  pub input : Counting In
+  pub output : Counting Out
+
+-- streams by their parts
+abbrev pub streams : {In Out : Type 0} → Counting In → Counting Out → Streams In Out
+streams input output = record { input = input; output = output }
+
+-- what streams of these types tell: the bytes that an input has left, and those that an output has, where they are known
+pub record StreamsKind (In Out : Type 0) : Type 0 where
+  pub remaining : In → Option (List ℕ)
+  pub contents : Out → Option (List ℕ)
+
+-- the same by its parts
+abbrev pub streams_kind : {In Out : Type 0} → (In → Option (List ℕ)) → (Out → Option (List ℕ)) → StreamsKind In Out
+streams_kind remaining contents = record { remaining = remaining; contents = contents }
+
+-- these bytes were read between two moments
+abbrev pub AreRead : {In Out : Type 0} → StreamsKind In Out → Streams In Out → Streams In Out → List ℕ → Type 0
+AreRead kind old new read = Consumes (kind.remaining old.input.inner) (kind.remaining new.input.inner) read
+
+-- the bytes read hold these requests and then the rest, and all replies were written
+abbrev pub AreAnswered : {In Out : Type 0} → StreamsKind In Out → Streams In Out → Streams In Out → List ℕ → List Exchange → List ℕ → Type 0
+AreAnswered kind old new read done rest = IsAnswered (kind.contents old.output.inner) (kind.contents new.output.inner) read done rest
+
 -- How serving ends, by what follows the last whole request of the bytes read: nothing, or a beginning of a request,
 -- both with no byte of the input left; or bytes that are no request. `Input` and `Output` come only where that
 -- stream failed.
-abbrev pub EndsAs : {R W : Type 0} → (R → Option (List ℕ)) → (W → Option (List ℕ)) → Result Served ServeFault
-    → Counting R → Counting R → Counting W → Counting W → List ℕ → List Exchange → List ℕ → Type 0
-EndsAs remaining contents (Ok End) input input' output output' read done rest =
-    IsAnswered (contents output.inner) (contents output'.inner) read done rest × (rest ≡ []) × IsAtEnd (remaining input'.inner)
-EndsAs remaining contents (Ok Truncated) input input' output output' read done rest =
-    IsAnswered (contents output.inner) (contents output'.inner) read done rest
-    × (rest ≢ []) × IsOpen rest × HasNoSpelling rest × IsAtEnd (remaining input'.inner)
-EndsAs remaining contents (Ok (Broken fault)) input input' output output' read done rest =
-    IsAnswered (contents output.inner) (contents output'.inner) read done rest × HasFault rest fault × HasNoSpelling rest
-EndsAs remaining contents (Err Input) input input' output output' read done rest =
-    IsAnswered (contents output.inner) (contents output'.inner) read done rest
-    × IsOpen rest × HasNoSpelling rest × HasRisen input.failures input'.failures
-EndsAs remaining contents (Err Output) input input' output output' read done rest =
-    IsCutOff (contents output.inner) (contents output'.inner) read done rest × HasRisen output.failures output'.failures
+abbrev pub EndsAs : {In Out : Type 0} → StreamsKind In Out → Result Served ServeFault → Streams In Out → Streams In Out
+    → List ℕ → List Exchange → List ℕ → Type 0
+EndsAs kind (Ok End) old new read done rest =
+    AreAnswered kind old new read done rest × (rest ≡ []) × IsAtEnd (kind.remaining new.input.inner)
+EndsAs kind (Ok Truncated) old new read done rest =
+    AreAnswered kind old new read done rest
+    × (rest ≢ []) × IsOpen rest × HasNoSpelling rest × IsAtEnd (kind.remaining new.input.inner)
+EndsAs kind (Ok (Broken fault)) old new read done rest =
+    AreAnswered kind old new read done rest × HasFault rest fault × HasNoSpelling rest
+EndsAs kind (Err Input) old new read done rest =
+    AreAnswered kind old new read done rest
+    × IsOpen rest × HasNoSpelling rest × HasRisen old.input.failures new.input.failures
+EndsAs kind (Err Output) old new read done rest =
+    IsCutOff (kind.contents old.output.inner) (kind.contents new.output.inner) read done rest
+    × HasRisen old.output.failures new.output.failures
 
 -- no read and no write failed
-abbrev pub NoneFailed : {R W : Type 0} → Counting R → Counting R → Counting W → Counting W → Type 0
-NoneFailed input input' output output' = (input'.failures ≡ input.failures) × (output'.failures ≡ output.failures)
+abbrev pub NoneFailed : {In Out : Type 0} → Streams In Out → Streams In Out → Type 0
+NoneFailed old new = (new.input.failures ≡ old.input.failures) × (new.output.failures ≡ old.output.failures)
+
+-- whatever bytes the reader holds, requests were carried out, with this outcome for the bytes
+abbrev pub AnswersUnread : {H S Seat R : Type 0} → RequestHeld → Kinds H Seat S R → State H S Seat R → State H S Seat R
+    → (List ℕ → List Exchange → List ℕ → Type 0) → Type 0
+AnswersUnread wire k old new Outcome = (bytes : List ℕ) → Unread wire bytes → Advances k old new (Outcome bytes)
+
+-- the same of a reader that is settled, and of its bytes with a piece more
+abbrev pub AnswersPiece : {H S Seat R : Type 0} → RequestHeld → List ℕ → Kinds H Seat S R → State H S Seat R → State H S Seat R
+    → (List ℕ → List Exchange → List ℕ → Type 0) → Type 0
+AnswersPiece wire piece k old new Outcome = (bytes : List ℕ) → IsSettled wire bytes → Advances k old new (Outcome (bytes ++ piece))
+
+-- bytes were read, and requests were carried out, up to this end
+abbrev pub ConversesAs : {H S Seat R In Out : Type 0} → Kinds H Seat S R → StreamsKind In Out → Result Served ServeFault
+    → Streams In Out → Streams In Out → State H S Seat R → State H S Seat R → Type 0
+ConversesAs k kind result old_streams new_streams old new =
+    (read : List ℕ) × AreRead kind old_streams new_streams read × Advances k old new (EndsAs kind result old_streams new_streams read)
 
 -- What was served: the bytes read, the requests carried out with their replies, and what follows them of the bytes.
 -- Then what was open was closed. Where stacks and reel tell, the requests and replies are a run of serve steps.
-pub record IsServedAs {H S Seat R In Out : Type 0} (k : Kinds H Seat S R) (remaining : In → Option (List ℕ))
-    (contents : Out → Option (List ℕ)) (result : Result Served ServeFault) (input input' : Counting In) (output output' : Counting Out)
-    (old new : State H S Seat R) : Type 0 where
+pub record IsServedAs {H S Seat R In Out : Type 0} (k : Kinds H Seat S R) (kind : StreamsKind In Out) (result : Result Served ServeFault)
+    (old_streams new_streams : Streams In Out) (old new : State H S Seat R) : Type 0 where
   pub read : List ℕ
   pub done : List Exchange
   pub rest : List ℕ
-  pub consumed : Consumes (remaining input.inner) (remaining input'.inner) read
-  pub ends : EndsAs remaining contents result input input' output output' read done rest
+  pub consumed : AreRead kind old_streams new_streams read
+  pub ends : EndsAs kind result old_streams new_streams read done rest
   pub last : State H S Seat R
   pub run : CarryRun k old done last
   pub ended : IsClosed k last new

@@ -3,6 +3,8 @@
 ghost use Rattle.std.specs.Prelude.{◌≡◌};
 ghost use Rattle.rmt_server.specs.Access.{access_of, reads, writes};
 
+use rmt_wire::fcntl::{ACCESS_MODES, O_RDONLY, O_RDWR, O_WRONLY};
+
 /// What a device was opened for.
 #[derive(Clone, Copy)]
 pub(crate) enum Access {
@@ -19,10 +21,10 @@ impl Access {
     pub(crate) fn of(mode: u32) -> Option<Access>
         ensures { result ≡ access_of mode }
     {
-        match mode % 4 {
-            0 => Some(Access::Read),
-            1 => Some(Access::Write),
-            2 => Some(Access::Both),
+        match mode % ACCESS_MODES {
+            O_RDONLY => Some(Access::Read),
+            O_WRONLY => Some(Access::Write),
+            O_RDWR => Some(Access::Both),
             _ => None,
         }
     }

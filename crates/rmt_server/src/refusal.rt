@@ -6,6 +6,7 @@ ghost use Rattle.rmt_server.specs.Refusals.{number_of, text_of, refused, tape_re
 
 use drives::DriveFault;
 use rmt_wire::Reply;
+use rmt_wire::errno::{EACCES, EBADF, EBUSY, EINVAL, EIO, ENOENT, ENOMEM, ENOSPC, ENXIO};
 use tape::TapeFault;
 
 /// Why a request was refused, as errno names it.
@@ -28,15 +29,15 @@ impl Refusal {
         ensures { result ≡ number_of self }
     {
         match self {
-            Refusal::NoSuchFile => 2,
-            Refusal::InputOutput => 5,
-            Refusal::NotConfigured => 6,
-            Refusal::BadDescriptor => 9,
-            Refusal::NoMemory => 12,
-            Refusal::Permission => 13,
-            Refusal::Busy => 16,
-            Refusal::Invalid => 22,
-            Refusal::NoSpace => 28,
+            Refusal::NoSuchFile => ENOENT,
+            Refusal::InputOutput => EIO,
+            Refusal::NotConfigured => ENXIO,
+            Refusal::BadDescriptor => EBADF,
+            Refusal::NoMemory => ENOMEM,
+            Refusal::Permission => EACCES,
+            Refusal::Busy => EBUSY,
+            Refusal::Invalid => EINVAL,
+            Refusal::NoSpace => ENOSPC,
         }
     }
 

@@ -2,7 +2,7 @@
 ghost use Rattle.std.specs.Prelude.{◌≡◌, ◌≤◌, length, Ok, Err, IfOk};
 ghost use Rattle.rmt_wire.specs.Lent.{plain_request, plain_reply};
 ghost use Rattle.rmt_wire.specs.Reply.{ReplyHasSpelling, reply_text};
-ghost use Rattle.rmt_wire.specs.Limits.{reader_limit};
+ghost use Rattle.rmt_wire.specs.declared.limits.TheConstants.{READER_LIMIT};
 
 mod desk;
 mod dispatch;
@@ -14,7 +14,7 @@ mod trouble;
 pub(crate) use desk::{Desk, Opened};
 use dispatch::{Given, dispatch};
 use drives::{DriveTable, Holds, Stacks};
-use rmt_wire::{DATA_LIMIT, Reply, Request};
+use rmt_wire::{RECORD_LIMIT, Reply, Request};
 use std::alloc::{AllocError, Global};
 use std::marker::Model;
 
@@ -30,14 +30,14 @@ pub struct Session<H: Holds, S: Stacks> {
 
 impl<H: Holds, S: Stacks> Model for Session<H, S> {
     ghost use Rattle.std.specs.Prelude.{◌≡◌, length};
-    ghost use Rattle.rmt_wire.specs.Limits.{data_limit};
+    ghost use Rattle.rmt_wire.specs.declared.limits.TheConstants.{RECORD_LIMIT};
     ghost use Rattle.rmt_server.specs.declared.session.desk.Desk.{Desk};
 
     ghost Value = { Desk H.Seat S.Reel };
 
     ghost view = { λ s. s.desk };
 
-    ghost invariant = { λ s. length s.buffer.items ≡ data_limit };
+    ghost invariant = { λ s. length s.buffer.items ≡ RECORD_LIMIT };
 }
 
 impl<H: Holds, S: Stacks> Session<H, S> {
@@ -46,9 +46,8 @@ impl<H: Holds, S: Stacks> Session<H, S> {
     ghost use Rattle.std.specs.Io.BufRead.{Rests};
     ghost use Rattle.rmt_server.specs.contracts.session.Session.{the_row};
     ghost use Rattle.drives.specs.Holding.{HoldsJust};
-    ghost use Rattle.drives.specs.declared.table.DriveTable.{DriveTable as Drives};
     ghost use Rattle.drives.specs.Opening.{kinds};
-    ghost use Rattle.rmt_server.specs.State.{state, IsAt, IsOnline, online_drive};
+    ghost use Rattle.rmt_server.specs.State.{state, IsAt, FitsItsDrives, IsOnline, online_drive};
     ghost use Rattle.rmt_server.specs.Replies.{IsSayable};
     ghost use Rattle.rmt_server.specs.Opening.{IsClosed};
     ghost use Rattle.rmt_server.specs.Carrying.{IsCarriedOut};
@@ -59,11 +58,9 @@ impl<H: Holds, S: Stacks> Session<H, S> {
     pub fn new(alloc: Global, seat: H::Seat) -> Result<Session<H, S>, (H::Seat, AllocError)>
         requires { HoldsJust (H.shows seat) None }
         ensures made { MatchResult result (λ s. s ≡ record { seat = seat; opened = None }) (λ refused. refused.0 ≡ seat) }
-        ensures at { IfOk result (λ s. (drives : Drives H S H.Seat S.Reel) → H.belongs drives.holds seat →
-            S.drives drives.stacks ≤ H.drives drives.holds →
-            IsAt (kinds H.Holds S.Stacks S.Reel.Reel) (state drives s)) }
+        ensures at { IfOk result (FitsItsDrives (kinds H.Holds S.Stacks S.Reel.Reel) seat) }
     {
-        match Vec::from_elem(alloc, 0u8, DATA_LIMIT) {
+        match Vec::from_elem(alloc, 0u8, RECORD_LIMIT) {
             Ok(buffer) => Ok(Session {
                 desk: Desk { seat, opened: None },
                 buffer,
@@ -95,7 +92,7 @@ impl<H: Holds, S: Stacks> Session<H, S> {
             IsCarriedOut (kinds H.Holds S.Stacks S.Reel.Reel) (state drives.old self.old) (plain_request request.entry)
             (plain_reply result) (state drives.new new))) }
         ensures spelling { IsSayable (plain_request request.entry) → ReplyHasSpelling (plain_reply result) }
-        ensures short { IsSayable (plain_request request.entry) → length (reply_text (plain_reply result)) ≤ reader_limit }
+        ensures short { IsSayable (plain_request request.entry) → length (reply_text (plain_reply result)) ≤ READER_LIMIT }
     {
         let outcome = dispatch(drives, &mut self.desk, self.buffer.as_mut_slice(), request);
         match outcome {

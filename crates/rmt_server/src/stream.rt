@@ -1,19 +1,19 @@
 //! Serving one stream of requests.
-ghost use Rattle.std.specs.Prelude.{◌≡◌, ◌<◌, ◌≤◌, ℕ, List, [], ◌++◌, Option, None, Ok, Err, OnOk};
-ghost use Rattle.std.specs.Io.KnownBytes.{Consumes};
+ghost use Rattle.std.specs.Prelude.{◌≡◌, ◌<◌, ◌≤◌, ℕ, List, [], Option, None, Ok, Err, OnOk};
 ghost use Rattle.rmt_wire.specs.RequestReader.{Unread};
 ghost use Rattle.drives.specs.Opening.{kinds};
 ghost use Rattle.rmt_server.specs.State.{state, IsAt};
-ghost use Rattle.rmt_server.specs.Stream.{IsServedAs, Advances, AnswersAs, IsSettled, EndsAs, NoneFailed};
+ghost use Rattle.rmt_server.specs.Stream.{streams, streams_kind, AnswersAs, AnswersPiece, AnswersUnread, ConversesAs, IsServedAs};
+ghost use Rattle.rmt_server.specs.Stream.{IsSettled, NoneFailed};
 
 use crate::session::Session;
 use drives::{DriveTable, Holds, Stacks};
-use rmt_wire::{Counted, OutputFault, RequestReader, WireFault, write_reply};
+use rmt_wire::{Counted, OutputFault, RECORD_LIMIT, RequestReader, WireFault, write_reply};
 use std::io::{Read, Write};
 use thiserror::Error;
 
-/// The most bytes that are read at once: a piece of the stream, and no limit of a request.
-const PIECE: usize = 65536;
+/// The most bytes that are read at once: as many as the longest record has. It is no limit of a request.
+const PIECE: usize = RECORD_LIMIT;
 
 /// How the stream of a session ended.
 #[derive(Clone, Copy, Debug, PartialEq, Eq)]
@@ -58,9 +58,8 @@ fn answer_all<W: Write, H: Holds, S: Stacks>(
     requires at { IsAt (kinds H.Holds S.Stacks S.Reel.Reel) (state drives.old session.old) }
     requires held { (bytes : List ℕ) × Unread wire.old bytes }
     ensures at { IsAt (kinds H.Holds S.Stacks S.Reel.Reel) (state drives.new session.new) }
-    ensures answers { (bytes : List ℕ) → Unread wire.old bytes →
-        Advances (kinds H.Holds S.Stacks S.Reel.Reel) (state drives.old session.old) (state drives.new session.new)
-        (AnswersAs W.contents result output.old output.new wire.new bytes) }
+    ensures answers { AnswersUnread wire.old (kinds H.Holds S.Stacks S.Reel.Reel) (state drives.old session.old)
+        (state drives.new session.new) (AnswersAs W.contents result output.old output.new wire.new) }
     ensures counted { output.old.failures ≤ output.new.failures }
     ensures steady { OnOk result (output.new.failures ≡ output.old.failures) }
 {
@@ -87,9 +86,8 @@ fn take_in<W: Write, H: Holds, S: Stacks>(
     requires at { IsAt (kinds H.Holds S.Stacks S.Reel.Reel) (state drives.old session.old) }
     requires settled { (bytes : List ℕ) × IsSettled wire.old bytes }
     ensures at { IsAt (kinds H.Holds S.Stacks S.Reel.Reel) (state drives.new session.new) }
-    ensures answers { (bytes : List ℕ) → IsSettled wire.old bytes →
-        Advances (kinds H.Holds S.Stacks S.Reel.Reel) (state drives.old session.old) (state drives.new session.new)
-        (AnswersAs W.contents result output.old output.new wire.new (bytes ++ piece.now)) }
+    ensures answers { AnswersPiece wire.old piece.now (kinds H.Holds S.Stacks S.Reel.Reel) (state drives.old session.old)
+        (state drives.new session.new) (AnswersAs W.contents result output.old output.new wire.new) }
     ensures counted { output.old.failures ≤ output.new.failures }
     ensures steady { OnOk result (output.new.failures ≡ output.old.failures) }
 {
@@ -114,10 +112,9 @@ fn converse<R: Read, W: Write, H: Holds, S: Stacks>(
     requires at { IsAt (kinds H.Holds S.Stacks S.Reel.Reel) (state drives.old session.old) }
     requires empty { Unread wire.old [] }
     ensures at { IsAt (kinds H.Holds S.Stacks S.Reel.Reel) (state drives.new session.new) }
-    ensures converses { (read : List ℕ) × Consumes (R.remaining input.old.inner) (R.remaining input.new.inner) read ×
-        Advances (kinds H.Holds S.Stacks S.Reel.Reel) (state drives.old session.old) (state drives.new session.new)
-        (EndsAs R.remaining W.contents result input.old input.new output.old output.new read) }
-    ensures steady { OnOk result (NoneFailed input.old input.new output.old output.new) }
+    ensures converses { ConversesAs (kinds H.Holds S.Stacks S.Reel.Reel) (streams_kind R.remaining W.contents) result
+        (streams input.old output.old) (streams input.new output.new) (state drives.old session.old) (state drives.new session.new) }
+    ensures steady { OnOk result (NoneFailed (streams input.old output.old) (streams input.new output.new)) }
 {
     let mut piece = [0; PIECE];
     loop {
@@ -151,10 +148,10 @@ pub fn serve<R: Read, W: Write, H: Holds, S: Stacks>(
     requires at { IsAt (kinds H.Holds S.Stacks S.Reel.Reel) (state drives.old session.old) }
     // the reader has given all that was pushed
     requires empty { Unread wire.old [] }
-    ensures served { IsServedAs (kinds H.Holds S.Stacks S.Reel.Reel) R.remaining W.contents result input.old input.new output.old output.new
-        (state drives.old session.old) (state drives.new session.new) }
+    ensures served { IsServedAs (kinds H.Holds S.Stacks S.Reel.Reel) (streams_kind R.remaining W.contents) result
+        (streams input.old output.old) (streams input.new output.new) (state drives.old session.old) (state drives.new session.new) }
     // a stream that failed ends as failed
-    ensures steady { OnOk result (NoneFailed input.old input.new output.old output.new) }
+    ensures steady { OnOk result (NoneFailed (streams input.old output.old) (streams input.new output.new)) }
     ensures nothing { session.new.opened ≡ None }
 {
     let ending = converse(input, output, wire, session, drives);

@@ -1,15 +1,26 @@
-//! What the programs of this repository do, by one name: all that `rmt_programs`, `rmt_serve` and `rmtd_words` make and pass on,
-//! and the schedules of `rsim`.
+//! All that the programs of this repository are made of, by one name: what the crates below make for `rmtd`, `rdump` and `rsim`.
+//! Beside it a peer in memory, which tests have in place of a connection.
 #![tactic(auto)]
 
-pub use rmt_programs::{
-    Clearing, DatesFile, DatesStore, DumpLine, DumperFault, Gauge, MemoryPeer, MtLine, Passed,
-    PayloadFile, Peer, ProgressLine, RdumpLine, ReadFault, ReadLine, RunFault, Shown, SocketPeer,
-    UpdateFault, base_date, copy_volume, dates, dump, dump_and_update, dumper, mt, rdump_words,
-    read_or_empty, read_steady, read_volume, seconds_now, update,
+mod memory_peer;
+
+pub use hold_table::{HoldSeat, HoldTable, TableHand};
+pub use memory_peer::MemoryPeer;
+pub use rdump_commands::{rdump, run_client, run_dates, run_dump, run_mt, run_read, run_words};
+pub use rdump_files::{
+    Clearing, DumperFault, FileFailed, Gauge, PayloadFile, ProgressLine, ReplacedFile, Shown,
+    UpdateFault, WholeFile, base_date, dates, dump_and_update, dumper, read_or_empty, read_steady,
+    seconds_now, update,
 };
-pub use rmt_serve::{
-    MemoryServer, TapeServer, exit_status, folder_stacks, run_stdio, seat_stacks, serve_connections,
+pub use rdump_talk::{
+    Passed, Peer, ReadFault, SocketPeer, VolumeRequest, copy_volume, dump, failure_line, mt,
+    read_volume,
+};
+pub use rdump_words::{DumpLine, MtLine, RdumpLine, ReadLine, rdump_words};
+pub use reel_files::{FileMedium, FolderDrive, FolderFault, FolderStacks};
+pub use rmtd_serve::{
+    Begun, Connections, Incoming, MemoryServer, Site, TapeServer, begin, exit_status,
+    folder_stacks, run_stdio, seat_stacks, serve_at, serve_connections, serve_many, start,
 };
 pub use rmtd_words::{DriveWord, LineFault, ServerLine, server_line, server_words};
-pub use schedules::schedule;
+pub use schedules::{rsim, schedule};

@@ -3,7 +3,8 @@ use Rattle.std.proofs.Common.{◌≡◌, ℕ, ◌+◌, ◌-◌, ◌<◌, ◌≤�
 use Rattle.std.proofs.lemmas.Bool.Decides.{nat_tests}
 use Rattle.std.proofs.lemmas.List.{length-append, length-take-le, length-drop, take-append-drop, take-append-le, drop-append-le, take_at, drop_at, drop-drop}
 use Rattle.rmt_wire.specs.Number.{SpellsNumber, line_feed}
-use Rattle.rmt_wire.specs.Limits.{data_limit, reader_limit}
+use Rattle.rmt_wire.specs.declared.limits.TheConstants.{READER_LIMIT}
+use Rattle.rmt_wire.specs.declared.limits.TheConstants.{RECORD_LIMIT}
 use Rattle.rmt_wire.specs.Request.PlainRequest.{WriteDropped}
 use Rattle.rmt_wire.specs.Seen.{Seen, number_front}
 use Rattle.rmt_wire.specs.RequestFront.{front_of}
@@ -26,13 +27,13 @@ long_write : (bytes : List ℕ) (seen : Seen (ℕ × ℕ)) (line : ℕ × ℕ) �
 long_write bytes (Ok None) line v e = absurd (cc)
 long_write bytes (Ok (Some p)) line v e =
     ⊎_elim
-    (λ (h : (ltb data_limit p.0 ≡ true) × (Some (p.1 + 2, p.0) ≡ Some line)).
+    (λ (h : (ltb RECORD_LIMIT p.0 ≡ true) × (Some (p.1 + 2, p.0) ≡ Some line)).
     let same : (p.1 + 2, p.0) ≡ line = some_same (p.1 + 2, p.0) line h.1 in
     let stop : v.2 ≡ line_feed = grind (arith, nat_tests) in
     let count : p.0 ≡ line.1 = ap (λ q. q.1) same in
     let size : p.1 + 2 ≡ line.0 = ap (λ q. q.0) same in
     let digits = v.7 in
-    let great : data_limit < p.0 = grind (arith, nat_tests) in
+    let great : RECORD_LIMIT < p.0 = grind (arith, nat_tests) in
     let s : SpellsNumber v.0 p.0 = rw v.6 (digits_spell v.0 v.3 v.8) in
     record {
       number = v.0;
@@ -43,7 +44,7 @@ long_write bytes (Ok (Some p)) line v e =
       long = omega arith;
     })
     (λ h. absurd (cc))
-    (chosen (ltb data_limit p.0) (Some (p.1 + 2, p.0)) None (Some line) e)
+    (chosen (ltb RECORD_LIMIT p.0) (Some (p.1 + 2, p.0)) None (Some line) e)
 long_write bytes (Err fault) line v e = absurd (cc)
 
 letter_write : (letter : ℕ) (bytes : List ℕ) (line : ℕ × ℕ) → cond (eqb letter 87) (dropped_if_long (number_front places.Line bytes)) None ≡ Some line → IsDroppedLine (letter ∷ bytes) line.0 line.1
@@ -61,10 +62,10 @@ dropped_found [] line e = absurd (cc)
 dropped_found (letter ∷ bytes) line e = letter_write letter bytes line e
 
 -- such a line is found, whatever follows it
-pub dropped_seen : (number rest : List ℕ) (n : ℕ) → SpellsNumber number n → data_limit < n → dropped_line (87 ∷ (number ++ line_feed ∷ rest)) ≡ Some (length number + 2, n)
+pub dropped_seen : (number rest : List ℕ) (n : ℕ) → SpellsNumber number n → RECORD_LIMIT < n → dropped_line (87 ∷ (number ++ line_feed ∷ rest)) ≡ Some (length number + 2, n)
 unfolding dropped_line
 dropped_seen number rest n s great =
-    let large : ltb data_limit n ≡ true = grind (arith, nat_tests) in
+    let large : ltb RECORD_LIMIT n ≡ true = grind (arith, nat_tests) in
     ap dropped_if_long (number_is_seen places.Line number n line_feed rest s refl refl) ∙ ap (λ b. cond b (Some (length number + 2, n)) None) large
 
 -- the line is what is kept in front, and the rest is behind it
@@ -291,7 +292,7 @@ less_seen kept dropped line bytes e less u =
 
 -- until then none is
 pub less_given : (kept : List ℕ) (dropped : ℕ) (line : ℕ × ℕ) (bytes : List ℕ) → dropped_line kept ≡ Some line → dropped + (length kept - line.0) < line.1
-    → Unread (held kept dropped) bytes → Gives bytes (Ok None) bytes × (taken_of bytes < reader_limit)
+    → Unread (held kept dropped) bytes → Gives bytes (Ok None) bytes × (taken_of bytes < READER_LIMIT)
 less_given kept dropped line bytes e less u =
     let n = less_seen kept dropped line bytes e less u in
     (gives_none bytes n, room bytes n)

@@ -6,7 +6,8 @@ use Rattle.std.proofs.lemmas.List.{length-append, length-replicate, take-append-
 use Rattle.std.specs.Str.Parse.{digits_value}
 use Rattle.rmt_wire.specs.Number.{SpellsNumber, line_feed, space}
 use Rattle.rmt_wire.specs.Request.{PlainRequest, SpellsRequest}
-use Rattle.rmt_wire.specs.Limits.{data_limit, reader_limit}
+use Rattle.rmt_wire.specs.declared.limits.TheConstants.{READER_LIMIT}
+use Rattle.rmt_wire.specs.declared.limits.TheConstants.{RECORD_LIMIT}
 use Rattle.rmt_wire.specs.Request.PlainRequest.{Write, WriteDropped, Read, Op}
 use Rattle.rmt_wire.specs.RequestParts.{IsOpen, IsCause}
 use Rattle.rmt_wire.specs.Seen.{Seen, after, ends_number, number_front}
@@ -23,7 +24,7 @@ use Rattle.rmt_wire.proofs.Spellings.{drop_past, length_line, drop_line, number_
 -- What the bytes begin with: a beginning of a spelling, for which there is room; a spelling; or bytes that a byte
 -- rules out, whatever follows it
 abbrev pub FrontView : List ℕ → Seen (PlainRequest × ℕ) → Type 0
-FrontView bytes (Ok None) = IsOpen bytes × (taken_of bytes < reader_limit)
+FrontView bytes (Ok None) = IsOpen bytes × (taken_of bytes < READER_LIMIT)
 FrontView bytes (Ok (Some p)) = (text rest : List ℕ) × (bytes ≡ text ++ rest) × SpellsRequest text p.0 × (p.1 ≡ length text)
 FrontView bytes (Err fault) =
     (seen later : List ℕ) × (byte : ℕ) × (bytes ≡ seen ++ byte ∷ later) × IsOpen seen × IsCause seen byte fault
@@ -46,9 +47,9 @@ few_digits digits d = let few = d.few in omega arith
 some_write : (number written : List ℕ) (n : ℕ) → SpellsNumber number n → length written ≡ n → (request : PlainRequest) × SpellsRequest (87 ∷ (number ++ line_feed ∷ written)) request
 some_write number written n s long =
     ⊎_elim
-    (λ (great : data_limit < n). (WriteDropped n, (number, written, s, great, long, refl)))
-    (λ (small : n ≤ data_limit). (Write written, (number, (rw long s), (rw long small), refl)))
-    (cases_lt data_limit n)
+    (λ (great : RECORD_LIMIT < n). (WriteDropped n, (number, written, s, great, long, refl)))
+    (λ (small : n ≤ RECORD_LIMIT). (Write written, (number, (rw long s), (rw long small), refl)))
+    (cases_lt RECORD_LIMIT n)
 
 -- the end of a number on a line of its own is a line feed
 pub end_feed : (stop : ℕ) → ends_number places.Line stop ≡ true → stop ≡ line_feed
@@ -100,12 +101,12 @@ read_view bytes (Err fault) v =
     (82 ∷ v.0, v.1, v.2, ap (λ l. 82 ∷ l) v.4, open_read v.0 v.3, (v.0, v.3.each, few_digits v.0 v.3, inr (inl refl)), λ more. read_faulty (v.0 ++ v.2 ∷ more) BadNumber (v.6 more ∙ ap Err bad))
 
 -- the room that a write's line takes, with none of its data or some
-taken_write : (bytes : List ℕ) (p : ℕ × ℕ) → number_front places.Line bytes ≡ Ok (Some p) → length bytes + 1 < p.1 + 2 + p.0 → p.1 ≤ 10 → taken_of (87 ∷ bytes) < reader_limit
+taken_write : (bytes : List ℕ) (p : ℕ × ℕ) → number_front places.Line bytes ≡ Ok (Some p) → length bytes + 1 < p.1 + 2 + p.0 → p.1 ≤ 10 → taken_of (87 ∷ bytes) < READER_LIMIT
 unfolding dropped_line
 taken_write bytes p e short few =
-    rw e (by_test (λ o. taken_at o (87 ∷ bytes) < reader_limit) (ltb data_limit p.0) (Some (p.1 + 2, p.0)) None
+    rw e (by_test (λ o. taken_at o (87 ∷ bytes) < READER_LIMIT) (ltb RECORD_LIMIT p.0) (Some (p.1 + 2, p.0)) None
     (λ large. omega arith)
-    (λ small. (let s : p.0 ≤ data_limit = grind (arith, nat_tests) in omega arith)))
+    (λ small. (let s : p.0 ≤ RECORD_LIMIT = grind (arith, nat_tests) in omega arith)))
 
 taken_short : (bytes : List ℕ) → number_front places.Line bytes ≡ Ok None → taken_of (87 ∷ bytes) ≡ suc (length bytes)
 unfolding dropped_line
@@ -134,10 +135,10 @@ write_line_view number rest n s =
     let room : n ≤ length rest = grind (arith, nat_tests) in
     let size : length (take n rest) ≡ n = length-take-le n rest room in
     let long : length number + 2 + n ≡ length (87 ∷ (number ++ line_feed ∷ take n rest)) = omega (arith, length_line 87 number (take n rest)) in
-    by_test (FrontView bytes) (ltb data_limit n) _ _
+    by_test (FrontView bytes) (ltb RECORD_LIMIT n) _ _
     (λ large. (87 ∷ (number ++ line_feed ∷ take n rest), drop n rest, split room, (number, take n rest, s, grind (arith, nat_tests), size, refl), long))
     (λ small.
-    let fits : n ≤ data_limit = grind (arith, nat_tests) in
+    let fits : n ≤ RECORD_LIMIT = grind (arith, nat_tests) in
     subst (λ l. FrontView bytes (Ok (Some (Write l, length number + 2 + n)))) (ap (take n) (sym behind))
     (87 ∷ (number ++ line_feed ∷ take n rest), drop n rest, split room, (number, (rw size s), (rw size fits), refl), long)))
 

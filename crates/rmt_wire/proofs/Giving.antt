@@ -5,7 +5,7 @@ use Rattle.rmt_wire.specs.Request.{PlainRequest, SpellsRequest}
 use Rattle.rmt_wire.specs.RequestParts.{IsOpen, HasNoSpelling, HasFault, Gives}
 use Rattle.rmt_wire.specs.Seen.{Seen}
 use Rattle.rmt_wire.specs.RequestFront.{front_of}
-use Rattle.rmt_wire.specs.Limits.{reader_limit}
+use Rattle.rmt_wire.specs.declared.limits.TheConstants.{READER_LIMIT}
 use Rattle.rmt_wire.specs.RequestReader.{taken_of}
 use Rattle.rmt_wire.specs.declared.fault.WireFault.{WireFault}
 use Rattle.rmt_wire.proofs.Spellings.{request_seen}
@@ -66,12 +66,12 @@ pub gives : (bytes : List ℕ) → Gives bytes (answer_to (front_of bytes)) (res
 gives bytes = gives_at bytes (front_of bytes) refl (front_view bytes)
 
 -- where a beginning is all that there is, there is room for more
-room_at : (bytes : List ℕ) (seen : Seen (PlainRequest × ℕ)) → seen ≡ Ok None → FrontView bytes seen → taken_of bytes < reader_limit
+room_at : (bytes : List ℕ) (seen : Seen (PlainRequest × ℕ)) → seen ≡ Ok None → FrontView bytes seen → taken_of bytes < READER_LIMIT
 room_at bytes (Ok None) e v = v.1
 room_at bytes (Ok (Some p)) e v = absurd (cc)
 room_at bytes (Err fault) e v = absurd (cc)
 
-pub room : (bytes : List ℕ) → front_of bytes ≡ Ok None → taken_of bytes < reader_limit
+pub room : (bytes : List ℕ) → front_of bytes ≡ Ok None → taken_of bytes < READER_LIMIT
 room bytes e = room_at bytes (front_of bytes) e (front_view bytes)
 
 -- an open beginning is not a fault

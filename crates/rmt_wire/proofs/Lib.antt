@@ -6,6 +6,7 @@ pub mod Fronts
 pub mod Opens
 pub mod Giving
 pub mod Dropped
+pub mod Given
 pub mod Nexts
 pub mod Reading
 pub mod Replies

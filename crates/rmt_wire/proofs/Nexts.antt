@@ -8,12 +8,13 @@ use Rattle.rmt_wire.specs.RequestParts.{Gives}
 use Rattle.rmt_wire.specs.Seen.{Seen}
 use Rattle.rmt_wire.specs.RequestFront.{front_of}
 use Rattle.rmt_wire.specs.Lent.{plain_request, lent_front}
-use Rattle.rmt_wire.specs.Limits.{reader_limit}
+use Rattle.rmt_wire.specs.declared.limits.TheConstants.{READER_LIMIT}
 use Rattle.rmt_wire.specs.RequestReader.{dropped_line, held, IsDropped, Unread, gone_at, taken_of, IsNext, StaysFaulty, told_front, held_after}
 use Rattle.rmt_wire.specs.declared.request.Request.{Request}
 use Rattle.rmt_wire.specs.declared.fault.WireFault.{WireFault}
 use Rattle.rmt_wire.proofs.Fronts.{FrontView}
 use Rattle.rmt_wire.proofs.Opens.{front_view}
+use Rattle.rmt_wire.proofs.Given.{is_next}
 use Rattle.rmt_wire.proofs.Giving.{gives, room, answer_to, rest_behind, fault_stays}
 use Rattle.rmt_wire.proofs.Dropped.{unread_whole, plain_unread, whole_given, less_given, dropped_found, line_split, empty_unread, taken_kept, within_some, let_go_unread, let_go_dropped}
 
@@ -49,34 +50,31 @@ gives_of bytes seen e = subst (λ s. Gives bytes (answer_to s) (rest_behind s by
 -- with no dropped write at the front, what is seen of the bytes kept is given
 pub plain_next : (kept : List ℕ) (dropped : ℕ) (found : Result (Option (Request × ℕ)) WireFault) → dropped_line kept ≡ None → lent_front found ≡ front_of kept
     → IsNext (held kept dropped) (told_front found) (held_after found (held kept dropped))
-plain_next kept dropped (Ok None) none e = record {
-  continues = λ bytes u.
-      let same = plain_unread kept dropped bytes none u in
-      (bytes, u, gives_of bytes (Ok None) (ap front_of same ∙ sym e));
-  room = λ bytes u.
-      let same = plain_unread kept dropped bytes none u in
-      room bytes (ap front_of same ∙ sym e);
-  shrinks = tt;
-  unchanged = refl;
-}
+plain_next kept dropped (Ok None) none e = is_next _ _ _
+    (λ bytes u.
+    let same = plain_unread kept dropped bytes none u in
+    (bytes, u, gives_of bytes (Ok None) (ap front_of same ∙ sym e)))
+    (λ bytes u.
+    let same = plain_unread kept dropped bytes none u in
+    room bytes (ap front_of same ∙ sym e))
+    (tt)
+    refl
 plain_next kept dropped (Ok (Some f)) none e =
     let g = gives_of kept (Ok (Some (plain_request f.0, f.1))) (sym e) in
-    record {
-      continues = λ bytes u.
-          let same = plain_unread kept dropped bytes none u in
-          (drop f.1 kept, unread_whole (drop f.1 kept), subst (λ b. Gives b (Ok (Some (plain_request f.0))) (drop f.1 kept)) (sym same) g);
-      room = tt;
-      shrinks = given_shrinks kept (drop f.1 kept) (plain_request f.0) g;
-      unchanged = tt;
-    }
-plain_next kept dropped (Err fault) none e = record {
-  continues = λ bytes u.
-      let same = plain_unread kept dropped bytes none u in
-      (bytes, u, gives_of bytes (Err fault) (ap front_of same ∙ sym e));
-  room = tt;
-  shrinks = tt;
-  unchanged = refl;
-}
+    is_next _ _ _
+    (λ bytes u.
+    let same = plain_unread kept dropped bytes none u in
+    (drop f.1 kept, unread_whole (drop f.1 kept), subst (λ b. Gives b (Ok (Some (plain_request f.0))) (drop f.1 kept)) (sym same) g))
+    (tt)
+    (given_shrinks kept (drop f.1 kept) (plain_request f.0) g)
+    tt
+plain_next kept dropped (Err fault) none e = is_next _ _ _
+    (λ bytes u.
+    let same = plain_unread kept dropped bytes none u in
+    (bytes, u, gives_of bytes (Err fault) (ap front_of same ∙ sym e)))
+    (tt)
+    (tt)
+    refl
 
 pub plain_faulty : (kept : List ℕ) (dropped : ℕ) (found : Result (Option (Request × ℕ)) WireFault) → dropped_line kept ≡ None → lent_front found ≡ front_of kept
     → StaysFaulty (held kept dropped) (told_front found)
@@ -89,21 +87,19 @@ plain_faulty kept dropped (Err fault) none e = λ bytes more u.
 -- at a dropped write
 pub whole_next : (kept : List ℕ) (dropped : ℕ) (line : ℕ × ℕ) → dropped_line kept ≡ Some line → line.1 ≤ dropped + (length kept - line.0) → 0 < line.0 → line.0 ≤ length kept
     → IsNext (held kept dropped) (Ok (Some (WriteDropped line.1))) (held (drop (line.0 + (line.1 - dropped)) kept) 0)
-whole_next kept dropped line e enough some within = record {
-  continues = λ bytes u. (drop (line.0 + (line.1 - dropped)) kept, unread_whole (drop (line.0 + (line.1 - dropped)) kept), whole_given kept dropped line bytes e enough u);
-  room = tt;
-  shrinks = omega (arith, length-drop (line.0 + (line.1 - dropped)) kept);
-  unchanged = tt;
-}
+whole_next kept dropped line e enough some within = is_next _ _ _
+    (λ bytes u. (drop (line.0 + (line.1 - dropped)) kept, unread_whole (drop (line.0 + (line.1 - dropped)) kept), whole_given kept dropped line bytes e enough u))
+    (tt)
+    (omega (arith, length-drop (line.0 + (line.1 - dropped)) kept))
+    tt
 
 pub less_next : (kept : List ℕ) (dropped : ℕ) (line : ℕ × ℕ) → dropped_line kept ≡ Some line → dropped + (length kept - line.0) < line.1
     → IsNext (held kept dropped) (Ok None) (held kept dropped)
-less_next kept dropped line e less = record {
-  continues = λ bytes u. (bytes, u, (less_given kept dropped line bytes e less u).0);
-  room = λ bytes u. (less_given kept dropped line bytes e less u).1;
-  shrinks = tt;
-  unchanged = refl;
-}
+less_next kept dropped line e less = is_next _ _ _
+    (λ bytes u. (bytes, u, (less_given kept dropped line bytes e less u).0))
+    (λ bytes u. (less_given kept dropped line bytes e less u).1)
+    (tt)
+    refl
 
 -- the length of a dropped write's line
 pub line_some : (kept : List ℕ) (line : ℕ × ℕ) → dropped_line kept ≡ Some line → (0 < line.0) × (line.0 ≤ length kept)
@@ -148,9 +144,9 @@ all_given items start dropped len e within at_line t =
     subst (λ l. Unread (held l dropped) []) (sym none) (none_dropped, refl)
 
 -- the room is what the bytes pushed do not take
-pub room_at : (items : List ℕ) (start dropped : ℕ) (bytes : List ℕ) (all : List ℕ) (gone : ℕ) → all ≡ items → length items ≤ reader_limit → start ≤ length items
+pub room_at : (items : List ℕ) (start dropped : ℕ) (bytes : List ℕ) (all : List ℕ) (gone : ℕ) → all ≡ items → length items ≤ READER_LIMIT → start ≤ length items
     → gone ≡ gone_at (dropped_line (take (length all - start) (drop start all))) (length (take (length all - start) (drop start all))) dropped
-    → Unread (held (drop start items) dropped) bytes → reader_limit - (length (take (length all - start) (drop start all)) - gone) + taken_of bytes ≡ reader_limit
+    → Unread (held (drop start items) dropped) bytes → READER_LIMIT - (length (take (length all - start) (drop start all)) - gone) + taken_of bytes ≡ READER_LIMIT
 room_at items start dropped bytes all gone e most within g u =
     let t = taken_kept (drop start items) dropped bytes u in
     let same : take (length all - start) (drop start all) ≡ drop start items = take_rest all start ∙ ap (drop start) e in

@@ -10,7 +10,7 @@ use Rattle.rmt_wire.specs.Request.PlainRequest.{Open, Close}
 use Rattle.rmt_wire.specs.RequestParts.{IsOpen}
 use Rattle.rmt_wire.specs.Seen.{Seen, after, ends_number, number_front}
 use Rattle.rmt_wire.specs.RequestFront.{line_front, mode_head, open_head, close_head, write_head, read_head, op_head, letter_head, head_of, request_at, front_of}
-use Rattle.rmt_wire.specs.Limits.{reader_limit}
+use Rattle.rmt_wire.specs.declared.limits.TheConstants.{READER_LIMIT}
 use Rattle.rmt_wire.specs.RequestReader.{taken_of, dropped_line}
 use Rattle.rmt_wire.specs.declared.fault.WireFault.{WireFault}
 use Rattle.rmt_wire.specs.declared.fault.WireFault.TheVariants.{UnknownCommand, BadNumber, LineTooLong}
@@ -270,7 +270,7 @@ op_at bytes = op_view bytes (number_front places.Line bytes) (number_view places
 nothing_open : IsOpen []
 nothing_open = (67 ∷ line_feed ∷ [], Close, ([], (omega arith, tt), refl))
 
-nothing_taken : taken_of [] < reader_limit
+nothing_taken : taken_of [] < READER_LIMIT
 unfolding dropped_line
 nothing_taken = omega arith
 

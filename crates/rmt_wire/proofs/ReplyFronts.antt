@@ -9,7 +9,7 @@ use Rattle.rmt_wire.specs.Reply.{PlainReply, Wanted, SpellsReply}
 use Rattle.rmt_wire.specs.Reply.PlainReply.{Done, Data, Error}
 use Rattle.rmt_wire.specs.Reply.Wanted.{Number, DataUpTo}
 use Rattle.rmt_wire.specs.ReplyParts.{ReplyIsOpen, IsTooMuch, ReplyIsCause}
-use Rattle.rmt_wire.specs.Limits.{reader_limit}
+use Rattle.rmt_wire.specs.declared.limits.TheConstants.{READER_LIMIT}
 use Rattle.rmt_wire.specs.ReplyReader.{IsWithin}
 use Rattle.rmt_wire.specs.Seen.{Seen, after, number_front}
 use Rattle.rmt_wire.specs.ReplyFront.{text_len, kept_text, error_at, data_at, done_front, error_front, reply_front, kept_behind, kept_of}
@@ -117,7 +117,7 @@ kept_error number text n s =
 -- What the bytes begin with: a beginning of a reply, for which there is room; a reply; or bytes that a byte rules out,
 -- whatever follows it
 abbrev pub ReplyView : Wanted → List ℕ → Seen (PlainReply × ℕ) → Type 0
-ReplyView wanted bytes (Ok None) = ReplyIsOpen wanted bytes × (IsWithin wanted → length (kept_of bytes) < reader_limit)
+ReplyView wanted bytes (Ok None) = ReplyIsOpen wanted bytes × (IsWithin wanted → length (kept_of bytes) < READER_LIMIT)
 ReplyView wanted bytes (Ok (Some p)) = (text rest : List ℕ) × (bytes ≡ text ++ rest) × SpellsReply text p.0 wanted × (p.1 ≡ length text)
 ReplyView wanted bytes (Err fault) =
     (seen later : List ℕ) × (byte : ℕ) × (bytes ≡ seen ++ byte ∷ later) × ReplyIsOpen wanted seen × ReplyIsCause wanted seen byte fault
@@ -355,7 +355,7 @@ letter_faulty : (wanted : Wanted) (letter : ℕ) (bytes : List ℕ) → eqb lett
 unfolding reply_front
 letter_faulty wanted letter bytes a b = rw (a, b) refl
 
-kept_none : length (kept_of []) < reader_limit
+kept_none : length (kept_of []) < READER_LIMIT
 unfolding kept_of
 kept_none = omega arith
 

@@ -10,7 +10,7 @@ use Rattle.rmt_wire.specs.Reply.PlainReply.{Error}
 use Rattle.rmt_wire.specs.ReplyParts.{ReplyGives, wanted_after}
 use Rattle.rmt_wire.specs.Seen.{Seen, number_front}
 use Rattle.rmt_wire.specs.ReplyFront.{reply_front, text_len, kept_text, kept_behind, kept_of}
-use Rattle.rmt_wire.specs.Limits.{reader_limit}
+use Rattle.rmt_wire.specs.declared.limits.TheConstants.{READER_LIMIT}
 use Rattle.rmt_wire.specs.ReplyReader.{reply_held, IsWithin, kept_while, ReplyUnread, reply_taken_of, ReplyIsNext, ReplyStaysFaulty, reply_told_front, reply_held_after, IsErrorText}
 use Rattle.rmt_wire.specs.Lent.{plain_reply, lent_reply, plain_wanted, plain_wanted_if_some}
 use Rattle.rmt_wire.specs.declared.reply.Reply.{Reply}
@@ -163,13 +163,13 @@ continues_at old kept found (Some wanted) bytes e u =
     subst (λ w. (rest : List ℕ) × ReplyUnread (reply_held_after found (reply_held (Some old) kept)) (wanted_after (Some w) (reply_told_front found)) rest × ReplyGives (Some w) bytes (reply_told_front found) rest) same g
 
 -- where a beginning is all that there is, there is room for more
-room_at : (wanted : Wanted) (bytes : List ℕ) (seen : Seen (PlainReply × ℕ)) → seen ≡ Ok None → IsWithin wanted → ReplyView wanted bytes seen → length (kept_of bytes) < reader_limit
+room_at : (wanted : Wanted) (bytes : List ℕ) (seen : Seen (PlainReply × ℕ)) → seen ≡ Ok None → IsWithin wanted → ReplyView wanted bytes seen → length (kept_of bytes) < READER_LIMIT
 room_at wanted bytes (Ok None) e within v = v.1 within
 room_at wanted bytes (Ok (Some p)) e within v = absurd (cc)
 room_at wanted bytes (Err fault) e within v = absurd (cc)
 
 room_of : (old : Wanted) (kept : List ℕ) (wanted : Option Wanted) (bytes : List ℕ) → IsWithin old → reply_front old kept ≡ Ok None → ReplyUnread (reply_held (Some old) kept) wanted bytes
-    → reply_taken_of wanted bytes < reader_limit
+    → reply_taken_of wanted bytes < READER_LIMIT
 room_of old kept None bytes within e u = let h = u.waits in absurd (cc)
 room_of old kept (Some wanted) bytes within e u =
     let same : old ≡ wanted = some_same old wanted u.waits in

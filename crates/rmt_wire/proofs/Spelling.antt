@@ -3,7 +3,8 @@ use Rattle.std.proofs.Common.{◌≡◌, ℕ, ◌^◌, ◌<◌, ◌≤◌, List,
 use Rattle.std.proofs.lemmas.Fmt.{decimal_is_IsNumeral, length-decimal-le}
 use Rattle.std.proofs.lemmas.List.{take_all, nil_from_length}
 use Rattle.rmt_wire.specs.Number.{SpellsNumber, IsLine, line_feed}
-use Rattle.rmt_wire.specs.Limits.{data_limit, reader_limit}
+use Rattle.rmt_wire.specs.declared.limits.TheConstants.{READER_LIMIT}
+use Rattle.rmt_wire.specs.declared.limits.TheConstants.{RECORD_LIMIT}
 use Rattle.rmt_wire.specs.ReplyReader.{IsWithin}
 use Rattle.rmt_wire.specs.Reply.{PlainReply, Wanted, ReplyHasSpelling, AnswersTo, SpellsReply, data_length, reply_text}
 use Rattle.rmt_wire.specs.Reply.PlainReply.{Done, Data, Error}
@@ -74,7 +75,7 @@ request_text_spells (Op op count) h =
     whole_text (Op op count) refl (decimal op, decimal count, decimal_spells op h.0, decimal_spells count h.1, refl)
 
 -- what a writer writes of a reply fits into a reader, where its data are a record's
-pub short_reply : (reply : PlainReply) → ReplyHasSpelling reply → data_length reply ≤ data_limit → length (reply_text reply) ≤ reader_limit
+pub short_reply : (reply : PlainReply) → ReplyHasSpelling reply → data_length reply ≤ RECORD_LIMIT → length (reply_text reply) ≤ READER_LIMIT
 short_reply (Done n) h few = omega (arith, length-append (decimal n) (line_feed ∷ []), decimal_is_short n h)
 short_reply (Data bytes) h few =
     omega (arith, length-append (decimal (length bytes)) (line_feed ∷ bytes), decimal_is_short (length bytes) h)
@@ -84,7 +85,7 @@ short_reply (Error n text) h few =
     omega (arith, length-append (decimal n) (line_feed ∷ (text ++ line_feed ∷ [])), length-append text (line_feed ∷ []))
 
 -- and they are where it answers one who may wait for it
-pub short_answer : (reply : PlainReply) (wanted : Wanted) → AnswersTo reply wanted → IsWithin wanted → data_length reply ≤ data_limit
+pub short_answer : (reply : PlainReply) (wanted : Wanted) → AnswersTo reply wanted → IsWithin wanted → data_length reply ≤ RECORD_LIMIT
 short_answer (Done n) wanted answers within = omega arith
 short_answer (Data bytes) Number answers within = absurd answers
 short_answer (Data bytes) (DataUpTo most) answers within = omega arith

@@ -5,7 +5,7 @@ use Rattle.std.proofs.lemmas.List.{length-append, take_at}
 use Rattle.std.specs.Str.Parse.{digits_value_after}
 use Rattle.rmt_wire.specs.Number.{SpellsNumber, IsLine, line_feed, space}
 use Rattle.rmt_wire.specs.Request.{PlainRequest, SpellsMode, SpellsRequest}
-use Rattle.rmt_wire.specs.Limits.{data_limit}
+use Rattle.rmt_wire.specs.declared.limits.TheConstants.{RECORD_LIMIT}
 use Rattle.rmt_wire.specs.Request.PlainRequest.{Open, Close, Write, WriteDropped, Read, Op}
 use Rattle.rmt_wire.specs.Seen.{after, ends_number, is_too_much, number_front}
 use Rattle.rmt_wire.specs.RequestFront.{line_front, mode_head, open_head, close_head, write_head, read_head, count_head, op_head, letter_head, head_of, written_at, request_at, front_of}
@@ -98,22 +98,22 @@ drop_line letter number more =
     let e : length number + 2 ≡ suc (length number + 1) = omega arith in
     rw e (drop_past number more line_feed)
 
-pub written_whole : (number written rest : List ℕ) (n : ℕ) → length written ≡ n → n ≤ data_limit
+pub written_whole : (number written rest : List ℕ) (n : ℕ) → length written ≡ n → n ≤ RECORD_LIMIT
     → written_at n (length number + 2) (87 ∷ (number ++ line_feed ∷ (written ++ rest))) ≡ Ok (Some (Write written, length number + 2 + n))
 written_whole number written rest n long short =
     let all = length_line 87 number (written ++ rest) in
     let parts = length-append written rest in
     let enough : ltb (length (87 ∷ (number ++ line_feed ∷ (written ++ rest)))) (length number + 2 + n) ≡ false = grind (arith, nat_tests) in
-    let small : ltb data_limit n ≡ false = grind (arith, nat_tests) in
+    let small : ltb RECORD_LIMIT n ≡ false = grind (arith, nat_tests) in
     rw (enough, small) (ap (λ l. Ok (Some (Write (take n l), length number + 2 + n))) (drop_line 87 number (written ++ rest)) ∙ ap (λ l. Ok (Some (Write l, length number + 2 + n))) (take_at written rest n long))
 
-pub dropped_whole : (number gone rest : List ℕ) (n : ℕ) → length gone ≡ n → data_limit < n
+pub dropped_whole : (number gone rest : List ℕ) (n : ℕ) → length gone ≡ n → RECORD_LIMIT < n
     → written_at n (length number + 2) (87 ∷ (number ++ line_feed ∷ (gone ++ rest))) ≡ Ok (Some (WriteDropped n, length number + 2 + n))
 dropped_whole number gone rest n long great =
     let all = length_line 87 number (gone ++ rest) in
     let parts = length-append gone rest in
     let enough : ltb (length (87 ∷ (number ++ line_feed ∷ (gone ++ rest)))) (length number + 2 + n) ≡ false = grind (arith, nat_tests) in
-    let large : ltb data_limit n ≡ true = grind (arith, nat_tests) in
+    let large : ltb RECORD_LIMIT n ≡ true = grind (arith, nat_tests) in
     rw (enough, large) refl
 
 pub written_less : (number some : List ℕ) (n : ℕ) → length some < n → written_at n (length number + 2) (87 ∷ (number ++ line_feed ∷ some)) ≡ Ok None

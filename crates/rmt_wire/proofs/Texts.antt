@@ -1,9 +1,35 @@
 -- The text of an error, as it is read and as it is kept.
-use Rattle.std.proofs.Common.{◌≡◌, ℕ, zero, suc, ◌⊎◌, Bool, true, false, eqb, min, List, [], ◌∷◌, ◌++◌, length, take, drop, refl, sym, ap, ◌∙◌, arith, append_assoc, append-nil, inl, inr, ⊎_elim}
+use Rattle.std.proofs.Common.{◌≡◌, ℕ, zero, suc, ◌⊎◌, Bool, true, false, eqb, min, List, [], ◌∷◌, ◌++◌, length, take, drop, refl, sym, ap, subst, cond, if◌then◌else◌, ◌≤◌, ◌+◌, ◌==◌, ltb, Some, None, ◌∙◌, arith, append_assoc, append-nil, inl, inr, ⊎_elim}
 use Rattle.std.proofs.lemmas.Bool.Decides.{nat_tests}
 use Rattle.std.proofs.lemmas.List.{take_min, take-append-le, drop_at, drop_all}
+use Rattle.std.specs.List.{position}
+use Rattle.std.specs.Option.{unwrap_or}
+use Rattle.std.proofs.lemmas.List.Recursion.{is_position_or_len}
 use Rattle.rmt_wire.specs.Number.{HasNoLineFeed, line_feed}
 use Rattle.rmt_wire.specs.ReplyFront.{text_len, kept_text}
+
+-- the place of the first line feed, if there is one, and else the length
+not_longer_at : (b : ℕ) (text : List ℕ) (test : Bool) → text_len text ≤ length text → (if test then 0 else suc (text_len text)) ≤ length (b ∷ text)
+not_longer_at b text true h = omega arith
+not_longer_at b text false h = omega arith
+
+not_longer : (text : List ℕ) → text_len text ≤ length text
+not_longer [] = omega arith
+not_longer (b ∷ text) = not_longer_at b text (b == line_feed) (not_longer text)
+
+step_at : (n : ℕ) (test : Bool) → (if test then 0 else suc n) ≡ cond test 0 (1 + n)
+step_at n true = refl
+step_at n false = omega arith
+
+found_at : (n len : ℕ) (test : Bool) → ltb n len ≡ test → n ≤ len → unwrap_or (cond test (Some n) None) len ≡ n
+found_at n len true e h = refl
+found_at n len false e h = grind (arith, nat_tests)
+
+pub found_len : (text : List ℕ) → unwrap_or (position (λ b. b == line_feed) text) (length text) ≡ text_len text
+found_len text =
+    let same = is_position_or_len text_len (λ b. b == line_feed) refl (λ b bytes. step_at (text_len bytes) (b == line_feed)) text in
+    subst (λ n. unwrap_or (cond (ltb n (length text)) (Some n) None) (length text) ≡ n) same (found_at (text_len text) (length text) (ltb (text_len text) (length text)) refl (not_longer text))
+    ∙ sym same
 
 -- a line ends at its line feed
 pub ended_len : (line rest : List ℕ) → HasNoLineFeed line → text_len (line ++ line_feed ∷ rest) ≡ length line

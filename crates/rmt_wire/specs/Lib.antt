@@ -1,7 +1,6 @@
--- In reading order: Number, Limits, Request, Reply, RequestParts, ReplyParts (the grammar); Counted, Lent, Seen, RequestReader,
--- ReplyFront, ReplyReader, ReplyWriter (what reads and writes it); RequestFront (in code).
+-- In reading order: Number, Request, Reply, RequestParts, ReplyParts (the grammar); Counted, Lent, Seen, RequestReader,
+-- RequestFill, ReplyFront, ReplyReader, ReplyWriter (what reads and writes it); RequestFront (in code); Print, Argument (for programs over it).
 pub mod Number
-pub mod Limits
 pub mod Seen
 pub mod Request
 pub mod Reply
@@ -9,8 +8,11 @@ pub mod Lent
 pub mod RequestParts
 pub mod RequestFront
 pub mod RequestReader
+pub mod RequestFill
 pub mod ReplyParts
 pub mod ReplyFront
 pub mod ReplyReader
 pub mod ReplyWriter
 pub mod Counted
+pub mod Print
+pub mod Argument

@@ -61,3 +61,9 @@ abbrev pub wanted_after : Option Wanted → Result (Option PlainReply) WireFault
 wanted_after wanted (Ok (Some reply)) = None
 wanted_after wanted (Ok None) = wanted
 wanted_after wanted (Err fault) = wanted
+
+-- at these bytes a reader gives one thing, and leaves one
+abbrev pub ReplyIsDecided : Option Wanted → List ℕ → Type 0
+ReplyIsDecided wanted bytes =
+    (rest other : List ℕ) (answer another : Result (Option PlainReply) WireFault) →
+    ReplyGives wanted bytes answer rest → ReplyGives wanted bytes another other → (answer ≡ another) × (rest ≡ other)

@@ -1,7 +1,8 @@
 -- What a reader of replies holds of a stream. Public contracts cite it.
 use Rattle.std.specs.Prelude.{◌≡◌, ◌≤◌, ℕ, ◌<◌, List, ◌∷◌, ◌++◌, length, drop, Option, Some, None, Result, Ok, Err}
 use Rattle.rmt_wire.specs.Number.{SpellsNumber, line_feed}
-use Rattle.rmt_wire.specs.Limits.{data_limit, reader_limit}
+use Rattle.rmt_wire.specs.declared.limits.TheConstants.{READER_LIMIT}
+use Rattle.rmt_wire.specs.declared.limits.TheConstants.{RECORD_LIMIT}
 use Rattle.rmt_wire.specs.Reply.{PlainReply, Wanted}
 use Rattle.rmt_wire.specs.Reply.Wanted.{Number, DataUpTo}
 use Rattle.rmt_wire.specs.ReplyParts.{ReplyGives, wanted_after}
@@ -21,7 +22,7 @@ reply_held wanted kept = record { wanted = wanted; kept = kept }
 -- no more data are waited for than a record has
 abbrev pub IsWithin : Wanted → Type 0
 IsWithin Number = Unit {0}
-IsWithin (DataUpTo most) = most ≤ data_limit
+IsWithin (DataUpTo most) = most ≤ RECORD_LIMIT
 
 abbrev pub IsWithinIfSome : Option Wanted → Type 0
 IsWithinIfSome None = Unit {0}
@@ -57,7 +58,7 @@ ReplyContinues old answer new =
 -- after none was given, there is room for one byte or more
 abbrev pub ReplyLeavesRoom : Result (Option PlainReply) WireFault → ReplyHeld → Type 0
 ReplyLeavesRoom (Ok None) new =
-    (wanted : Option Wanted) (bytes : List ℕ) → ReplyUnread new wanted bytes → reply_taken_of wanted bytes < reader_limit
+    (wanted : Option Wanted) (bytes : List ℕ) → ReplyUnread new wanted bytes → reply_taken_of wanted bytes < READER_LIMIT
 ReplyLeavesRoom (Ok (Some reply)) new = Unit {0}
 ReplyLeavesRoom (Err fault) new = Unit {0}
 
@@ -92,8 +93,12 @@ reply_held_after (Ok None) h = h
 reply_held_after (Ok (Some found)) h = reply_held None (drop found.1 h.kept)
 reply_held_after (Err fault) h = h
 
+-- an error with this number, and this text so far
+abbrev pub error_bytes : List ℕ → List ℕ → List ℕ
+error_bytes number text = 69 ∷ (number ++ line_feed ∷ text)
+
 -- the bytes are those of an error, as far as its text at least
 pub record IsErrorText (bytes number text : List ℕ) : Type 0 where
   pub value : ℕ
   pub spelled : SpellsNumber number value
-  pub split : bytes ≡ 69 ∷ (number ++ line_feed ∷ text)
+  pub split : bytes ≡ error_bytes number text

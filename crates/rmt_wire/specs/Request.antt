@@ -1,6 +1,6 @@
 -- Requests as values, and how each is spelled (rmt(8)). Public contracts cite it.
 use Rattle.std.specs.Prelude.{◌≡◌, ◌⊎◌, ℕ, ◌<◌, ◌≤◌, List, [], ◌∷◌, ◌++◌, length, decimal}
-use Rattle.rmt_wire.specs.Limits.{data_limit}
+use Rattle.rmt_wire.specs.declared.limits.TheConstants.{RECORD_LIMIT}
 use Rattle.rmt_wire.specs.Number.{SpellsNumber, IsLine, line_feed, space}
 
 -- a request as a value
@@ -25,10 +25,10 @@ SpellsRequest bytes (Open device mode) =
     (line : List ℕ) × IsLine device × SpellsMode line mode × (bytes ≡ 79 ∷ (device ++ line_feed ∷ (line ++ line_feed ∷ [])))
 SpellsRequest bytes Close = (line : List ℕ) × IsLine line × (bytes ≡ 67 ∷ (line ++ line_feed ∷ []))
 SpellsRequest bytes (Write written) =
-    (number : List ℕ) × SpellsNumber number (length written) × (length written ≤ data_limit)
+    (number : List ℕ) × SpellsNumber number (length written) × (length written ≤ RECORD_LIMIT)
     × (bytes ≡ 87 ∷ (number ++ line_feed ∷ written))
 SpellsRequest bytes (WriteDropped count) =
-    (number : List ℕ) × (dropped : List ℕ) × SpellsNumber number count × (data_limit < count) × (length dropped ≡ count)
+    (number : List ℕ) × (dropped : List ℕ) × SpellsNumber number count × (RECORD_LIMIT < count) × (length dropped ≡ count)
     × (bytes ≡ 87 ∷ (number ++ line_feed ∷ dropped))
 SpellsRequest bytes (Read count) = (number : List ℕ) × SpellsNumber number count × (bytes ≡ 82 ∷ (number ++ line_feed ∷ []))
 SpellsRequest bytes (Op op count) =
@@ -40,8 +40,8 @@ SpellsRequest bytes (Op op count) =
 abbrev pub HasSpelling : PlainRequest → Type 0
 HasSpelling (Open device mode) = IsLine device × (mode ≤ 2147483647)
 HasSpelling Close = Unit {0}
-HasSpelling (Write written) = length written ≤ data_limit
-HasSpelling (WriteDropped count) = (data_limit < count) × (count ≤ 2147483647)
+HasSpelling (Write written) = length written ≤ RECORD_LIMIT
+HasSpelling (WriteDropped count) = (RECORD_LIMIT < count) × (count ≤ 2147483647)
 HasSpelling (Read count) = count ≤ 2147483647
 HasSpelling (Op op count) = (op ≤ 2147483647) × (count ≤ 2147483647)
 

@@ -3,7 +3,7 @@ use Rattle.std.specs.Prelude.{ℕ, ◌≤◌, ◌+◌, ◌==◌, if◌then◌els
 use Rattle.rmt_wire.specs.Number.{line_feed}
 use Rattle.rmt_wire.specs.Seen.{Seen, after, number_front}
 use Rattle.rmt_wire.specs.Request.{PlainRequest}
-use Rattle.rmt_wire.specs.Limits.{data_limit}
+use Rattle.rmt_wire.specs.declared.limits.TheConstants.{RECORD_LIMIT}
 use Rattle.rmt_wire.specs.Request.PlainRequest.{Open, Close, Write, WriteDropped, Read, Op}
 use Rattle.rmt_wire.specs.declared.number.Place.TheVariants as places
 use Rattle.rmt_wire.specs.declared.fault.WireFault.TheVariants.{UnknownCommand, LineTooLong}
@@ -71,7 +71,7 @@ LiesIn most (head.Op op count len) = len ≤ most
 abbrev pub written_at : ℕ → ℕ → List ℕ → Seen (PlainRequest × ℕ)
 written_at count len bytes =
     if nat_lt (length bytes) (len + count) then Ok None
-    else if nat_lt data_limit count then Ok (Some (WriteDropped count, len + count))
+    else if nat_lt RECORD_LIMIT count then Ok (Some (WriteDropped count, len + count))
     else Ok (Some (Write (take count (drop len bytes)), len + count))
 
 -- the request that these lines begin, and how long it is

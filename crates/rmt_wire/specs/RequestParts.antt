@@ -3,7 +3,7 @@ use Rattle.std.specs.Prelude.{◌≡◌, ◌≢◌, ◌⊎◌, ℕ, ◌+◌, ◌
 use Rattle.std.specs.Str.Parse.{AllDigits}
 use Rattle.rmt_wire.specs.Number.{SpellsNumber, HasNoLineFeed, IsLine, line_feed}
 use Rattle.rmt_wire.specs.Request.{PlainRequest, SpellsRequest}
-use Rattle.rmt_wire.specs.Limits.{data_limit}
+use Rattle.rmt_wire.specs.declared.limits.TheConstants.{RECORD_LIMIT}
 use Rattle.rmt_wire.specs.declared.fault.WireFault.{WireFault}
 use Rattle.rmt_wire.specs.declared.fault.WireFault.TheVariants.{UnknownCommand, BadNumber, LineTooLong, NotAReply, TooMuchData}
 
@@ -71,6 +71,6 @@ pub record IsDroppedLine (bytes : List ℕ) (len count : ℕ) : Type 0 where
   pub number : List ℕ
   pub rest : List ℕ
   pub spelled : SpellsNumber number count
-  pub large : data_limit < count
+  pub large : RECORD_LIMIT < count
   pub split : bytes ≡ 87 ∷ (number ++ line_feed ∷ rest)
   pub long : len ≡ length number + 2

@@ -1,8 +1,9 @@
 -- What a reader of requests holds of a stream. Public contracts cite it.
 use Rattle.std.specs.Prelude.{◌≡◌, ◌≤◌, ℕ, ◌+◌, ◌-◌, ◌==◌, ◌<◌, if◌then◌else◌, nat_lt, min, List, [], ◌∷◌, ◌++◌, length, take, drop, Option, Some, None, Result, Ok, Err}
 use Rattle.rmt_wire.specs.Request.{PlainRequest}
-use Rattle.rmt_wire.specs.Limits.{data_limit, reader_limit}
-use Rattle.rmt_wire.specs.RequestParts.{Gives}
+use Rattle.rmt_wire.specs.declared.limits.TheConstants.{READER_LIMIT}
+use Rattle.rmt_wire.specs.declared.limits.TheConstants.{RECORD_LIMIT}
+use Rattle.rmt_wire.specs.RequestParts.{Gives, IsOpen, HasNoSpelling, HasFault, Spelled}
 use Rattle.rmt_wire.specs.Seen.{Seen, number_front}
 use Rattle.rmt_wire.specs.Lent.{plain_request}
 use Rattle.rmt_wire.specs.declared.request.Request.{Request}
@@ -11,7 +12,7 @@ use Rattle.rmt_wire.specs.declared.number.Place.TheVariants as places
 
 -- a write of so many bytes after a line of so many, if it is to be dropped
 abbrev pub dropped_if_long : Seen (ℕ × ℕ) → Option (ℕ × ℕ)
-dropped_if_long (Ok (Some count)) = if nat_lt data_limit count.0 then Some (count.1 + 2, count.0) else None
+dropped_if_long (Ok (Some count)) = if nat_lt RECORD_LIMIT count.0 then Some (count.1 + 2, count.0) else None
 dropped_if_long (Ok None) = None
 dropped_if_long (Err fault) = None
 
@@ -70,7 +71,7 @@ Continues old answer new = (bytes : List ℕ) → Unread old bytes → (rest : L
 
 -- after none was given, there is room for one byte or more
 abbrev pub LeavesRoom : Result (Option PlainRequest) WireFault → RequestHeld → Type 0
-LeavesRoom (Ok None) new = (bytes : List ℕ) → Unread new bytes → taken_of bytes < reader_limit
+LeavesRoom (Ok None) new = (bytes : List ℕ) → Unread new bytes → taken_of bytes < READER_LIMIT
 LeavesRoom (Ok (Some request)) new = Unit {0}
 LeavesRoom (Err fault) new = Unit {0}
 
@@ -86,12 +87,30 @@ StaysUnlessGiven old (Ok (Some request)) new = Unit {0}
 StaysUnlessGiven old (Ok None) new = new ≡ old
 StaysUnlessGiven old (Err fault) new = new ≡ old
 
+-- of all bytes pushed to it, a reader has given these requests, one a call, and holds the rest
+abbrev pub IsGiven : RequestHeld → List ℕ → List PlainRequest → Type 0
+IsGiven held pushed requests = (rest : List ℕ) × Unread held rest × Spelled pushed requests rest
+
+-- so does it after one call more, whose request is the next one; where there is none, the rest begins one, or has the fault
+abbrev pub GivesMore : Result (Option PlainRequest) WireFault → RequestHeld → List ℕ → List PlainRequest → Type 0
+GivesMore (Ok (Some request)) new pushed requests = IsGiven new pushed (requests ++ request ∷ [])
+GivesMore (Ok None) new pushed requests =
+    (rest : List ℕ) × Unread new rest × Spelled pushed requests rest × IsOpen rest × HasNoSpelling rest
+GivesMore (Err fault) new pushed requests =
+    (rest : List ℕ) × Unread new rest × Spelled pushed requests rest × HasFault rest fault × HasNoSpelling rest
+
+-- call after call, the requests given are the list that the bytes pushed spell
+abbrev pub GivesOn : RequestHeld → Result (Option PlainRequest) WireFault → RequestHeld → Type 0
+GivesOn old answer new =
+    (pushed : List ℕ) (requests : List PlainRequest) → IsGiven old pushed requests → GivesMore answer new pushed requests
+
 -- one call of `next`
 pub record IsNext (old : RequestHeld) (answer : Result (Option PlainRequest) WireFault) (new : RequestHeld) : Type 0 where
   pub continues : Continues old answer new
   pub room : LeavesRoom answer new
   pub shrinks : Shrinks old answer new
   pub unchanged : StaysUnlessGiven old answer new
+  pub gives_on : GivesOn old answer new
 
 -- a fault is answered for good, whatever is pushed later
 abbrev pub StaysFaulty : RequestHeld → Result (Option PlainRequest) WireFault → Type 0

@@ -7,11 +7,11 @@ ghost use Rattle.rmt_wire.specs.Reply.{PlainReply, Wanted, AnswersTo, ReplyHasSp
 ghost use Rattle.rmt_wire.specs.RequestParts.{IsOpen, HasFault, Parts, Gives, IsDroppedLine};
 ghost use Rattle.rmt_wire.specs.RequestReader.{dropped_line};
 ghost use Rattle.rmt_wire.specs.ReplyFront.{kept_of};
-ghost use Rattle.rmt_wire.specs.ReplyParts.{ReplyGives};
-ghost use Rattle.rmt_wire.specs.ReplyReader.{IsErrorText, IsWithin};
+ghost use Rattle.rmt_wire.specs.ReplyParts.{ReplyGives, ReplyIsDecided};
+ghost use Rattle.rmt_wire.specs.ReplyReader.{IsErrorText, IsWithin, error_bytes};
 ghost use Rattle.rmt_wire.specs.declared.fault.WireFault.{WireFault};
 
-use crate::limits::{DATA_LIMIT, READER_LIMIT};
+use crate::limits::{READER_LIMIT, RECORD_LIMIT};
 
 /// A stream falls into requests and a rest, and in one way only: the rest is a beginning of a request, or has a
 /// fault. At each place a reader can give one thing only.
@@ -26,7 +26,7 @@ pub fn one_reading()
         Gives bytes answer rest → Gives bytes another other → (answer ≡ another) × (rest ≡ other) }
 {}
 
-/// A write is to be dropped exactly where the grammar says so: the bytes begin with `W`, a number above `DATA_LIMIT`
+/// A write is to be dropped exactly where the grammar says so: the bytes begin with `W`, a number above `RECORD_LIMIT`
 /// and a line feed. It is found with the length of that line in bytes and with that number, whatever follows.
 ///
 /// It does nothing: its contract is a law of the definitions.
@@ -47,21 +47,20 @@ pub fn one_reply()
 ///
 /// It does nothing: its contract is a law of the definitions.
 pub fn one_reply_reading()
-    ensures answers { (wanted : Option Wanted) (bytes rest other : List ℕ) (answer another : Result (Option PlainReply) WireFault) →
-        ReplyGives wanted bytes answer rest → ReplyGives wanted bytes another other → (answer ≡ another) × (rest ≡ other) }
+    ensures answers { (wanted : Option Wanted) (bytes : List ℕ) → ReplyIsDecided wanted bytes }
     ensures some_answer { (wanted : Option Wanted) (bytes : List ℕ) →
         (answer : Result (Option PlainReply) WireFault) × (rest : List ℕ) × ReplyGives wanted bytes answer rest }
 {}
 
 /// What a writer writes of a reply is at most `READER_LIMIT` bytes, where its data, if it has any, are at most
-/// `DATA_LIMIT`. They are where the reply answers one who waits for no more.
+/// `RECORD_LIMIT`. They are where the reply answers one who waits for no more.
 ///
 /// It does nothing: its contract is a law of the definitions.
 pub fn short_replies()
     ensures short { (reply : PlainReply) →
-        ReplyHasSpelling reply → data_length reply ≤ DATA_LIMIT → length (reply_text reply) ≤ READER_LIMIT }
+        ReplyHasSpelling reply → data_length reply ≤ RECORD_LIMIT → length (reply_text reply) ≤ READER_LIMIT }
     ensures answers { (reply : PlainReply) (wanted : Wanted) →
-        AnswersTo reply wanted → IsWithin wanted → data_length reply ≤ DATA_LIMIT }
+        AnswersTo reply wanted → IsWithin wanted → data_length reply ≤ RECORD_LIMIT }
 {}
 
 /// What is kept of a reply that is waited for: of the text of an error the first 255 bytes, and what stands from its
@@ -70,8 +69,9 @@ pub fn short_replies()
 /// It does nothing: its contract is a law of the definitions.
 pub fn long_texts()
     ensures begun { (bytes number line : List ℕ) → IsErrorText bytes number line → HasNoLineFeed line →
-        kept_of bytes ≡ 69 ∷ (number ++ line_feed ∷ take 255 line) }
+        kept_of bytes ≡ error_bytes number (take 255 line) }
     ensures whole { (bytes number line rest : List ℕ) → IsErrorText bytes number (line ++ line_feed ∷ rest) → HasNoLineFeed line →
-        kept_of bytes ≡ 69 ∷ (number ++ line_feed ∷ (take 255 line ++ line_feed ∷ rest)) }
-    ensures others { (bytes : List ℕ) → ((number text : List ℕ) → IsErrorText bytes number text → ⊥) → kept_of bytes ≡ bytes }
+        kept_of bytes ≡ error_bytes number (take 255 line ++ line_feed ∷ rest) }
+    ensures others { (bytes : List ℕ) → ((number text : List ℕ) → IsErrorText bytes number text → ⊥) →
+        kept_of bytes ≡ bytes }
 {}

@@ -4,24 +4,37 @@
 //! The server's half: `RequestReader` splits a stream into requests, however it is cut; `write_reply` writes a reply;
 //! `Counted` counts the failures of the streams of both. The client's half: `push_request` appends a request, and
 //! `ReplyReader` gives the reply that is waited for. `push_reply` appends a reply.
+//!
+//! For the programs over it: `print_text` prints a text whole, `find_byte` finds a byte, and `argument` reads the devices
+//! and numbers of their words.
+//!
+//! Numbers that more than one crate writes have their one home here: the limits, and the modules `mtio`, `fcntl` and `errno`.
 #![tactic(auto)]
 
 mod append;
+pub mod argument;
 mod counted;
+pub mod errno;
 mod fault;
+pub mod fcntl;
+mod find;
 mod kept;
 mod laws;
 mod limits;
+pub mod mtio;
 mod number;
+mod print;
 mod reply;
 mod request;
 mod short_text;
 
 pub use counted::Counted;
 pub use fault::WireFault;
+pub use find::find_byte;
 pub use laws::{
     dropped_writes, long_texts, one_reading, one_reply, one_reply_reading, short_replies,
 };
-pub use limits::{DATA_LIMIT, LINE_LIMIT, NUMBER_LIMIT, READER_LIMIT};
+pub use limits::{LINE_LIMIT, NUMBER_LIMIT, READER_LIMIT, RECORD_LIMIT};
+pub use print::print_text;
 pub use reply::{OutputFault, Reply, ReplyReader, Wanted, push_reply, write_reply};
 pub use request::{Request, RequestReader, push_request};

@@ -21,7 +21,7 @@ pub enum Reply<'a> {
     Done { number: u32 },
     /// The bytes that a read gave; none at a mark or at the end of a reel.
     ///
-    /// Syntax: `A` count LF, then that many bytes, with no LF after them. A record has up to `DATA_LIMIT` bytes, but
+    /// Syntax: `A` count LF, then that many bytes, with no LF after them. A record has up to `RECORD_LIMIT` bytes, but
     /// all up to `NUMBER_LIMIT` have a spelling. A client waits for as many as its read asked for; a reply with more
     /// is none to it.
     Data { bytes: &'a [u8] },

@@ -1,6 +1,7 @@
 //! A request to a tape server, and what appends and reads it.
 
 mod append;
+mod fill;
 mod front;
 mod head;
 mod line;
@@ -26,16 +27,16 @@ pub enum Request<'a> {
     Close,
     /// Writes one record.
     ///
-    /// Syntax: `W` count LF, then that many bytes, of which there are up to `DATA_LIMIT`. 0 bytes are refused with
+    /// Syntax: `W` count LF, then that many bytes, of which there are up to `RECORD_LIMIT`. 0 bytes are refused with
     /// E22.
     Write { bytes: &'a [u8] },
-    /// A write of more than `DATA_LIMIT` bytes, which were read and dropped. It is refused with E22.
+    /// A write of more than `RECORD_LIMIT` bytes, which were read and dropped. It is refused with E22.
     ///
-    /// Syntax: that of `Write`, with a count above `DATA_LIMIT`.
+    /// Syntax: that of `Write`, with a count above `RECORD_LIMIT`.
     WriteDropped { count: u32 },
     /// Reads one record, of which at most `count` bytes are given.
     ///
-    /// Syntax: `R` count LF. A count above `DATA_LIMIT` is cut to it. 0 is refused with E22.
+    /// Syntax: `R` count LF. A count above `RECORD_LIMIT` is cut to it. 0 is refused with E22.
     Read { count: u32 },
     /// Does an operation of mtio with this count.
     ///

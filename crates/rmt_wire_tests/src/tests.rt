@@ -5,6 +5,8 @@ mod calls;
 mod counted;
 mod fake;
 mod fed;
+mod filled;
+mod helpers;
 mod listener;
 mod pushed;
 mod replies;

@@ -5,7 +5,7 @@ use Rattle.clap.specs.declared.error.Error.{Error}
 use Rattle.clap.specs.declared.error.kind.ErrorKind.{ErrorKind}
 use Rattle.clap.specs.declared.error.kind.ErrorKind.TheVariants.{OutOfMemory}
 use Rattle.clap.proofs.OnLiterals.{clap_on_literals}
-use Rattle.rmtd_words.specs.Rmtd.{app}
+use Rattle.rmtd_words.specs.Rmtd.{app, IsShown}
 
 pub app_is_simple : is_simple app ≡ true
 unfolding app clap_on_literals
@@ -29,3 +29,18 @@ pub some_where_not_memory : {T : Type 0} (r : Result T Error) (kinds others : Ki
     → IfErr r (λ x. (kind_of x ≡ OutOfMemory → ⊥) → others ≡ [] → ⊥)
 some_where_not_memory (Ok m) kinds others e h = tt
 some_where_not_memory (Err x) kinds others e h = λ other none. some_kind (kind_of x) kinds other h (e ∙ none)
+
+-- memory is no kind that is shown
+pub memory_not_shown : (k : ErrorKind) → k ≡ OutOfMemory → IsShown k → ⊥
+memory_not_shown k e (inl h) = cc
+memory_not_shown k e (inr h) = cc
+
+-- what is shown has one of the kinds
+shown_among : (k : ErrorKind) (kinds others : Kinds) → kinds ≡ others → (k ≡ OutOfMemory) ⊎ IsAmong k kinds → IsShown k → IsAmong k others
+shown_among k kinds others e (inl h) shown = absurd (memory_not_shown k h shown)
+shown_among k kinds others e (inr h) shown = subst (λ (ks : Kinds). IsAmong k ks) e h
+
+pub shown_where_err : {T : Type 0} (r : Result T Error) (kinds others : Kinds) → kinds ≡ others → FailsBy kinds r
+    → IfErr r (λ x. IsShown (kind_of x) → (k : ErrorKind) × IsShown k × IsAmong k others)
+shown_where_err (Ok m) kinds others e h = tt
+shown_where_err (Err x) kinds others e h = λ shown. (kind_of x, shown, shown_among (kind_of x) kinds others e h shown)

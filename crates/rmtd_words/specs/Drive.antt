@@ -1,5 +1,6 @@
 -- The words DEVICE=DIR of `rmtd`: drives whose stacks are folders. Public contracts cite it.
-use Rattle.std.specs.Prelude.{◌≤◌, ◌<◌, ◌==◌, ◌≢◌, ℕ, Option, IsSome, List, length}
+use Rattle.std.specs.Prelude.{◌≤◌, ◌<◌, ◌==◌, ◌≢◌, ℕ, Option, IsSome, List, length, map}
+use Rattle.std.specs.Borrow.{Bor}
 use Rattle.std.specs.Int.{IsInRange}
 use Rattle.std.specs.List.{All, AllPairs, before_first, after_first}
 use Rattle.clap.specs.Words.{Text}
@@ -24,9 +25,17 @@ split_of word = record {
   folder = after_first (λ b. b == equals_sign) word;
 }
 
+-- the drives that words say, in order
+abbrev pub drives_said : List (Bor Text) → List PlainDrive
+drives_said words = map split_of (map (λ s. s.now) words)
+
 -- the device is 1 to 255 bytes of one line, and the folder is not empty
 abbrev pub IsDrive : PlainDrive → Type 0
 IsDrive d = IsInRange 1 255 (length d.device) × HasNoLineFeed d.device × (0 < length d.folder)
+
+-- no two have one device
+abbrev pub HaveOwnDevices : List PlainDrive → Type 0
+HaveOwnDevices drives = AllPairs (λ d e. d.device ≢ e.device) drives
 
 abbrev pub drive_limit : ℕ
 drive_limit = 64
@@ -34,6 +43,6 @@ drive_limit = 64
 -- the drives and the folder of the bin, if one is given, keep the rules
 pub record KeepsDriveRules (bin : Option Text) (drives : List PlainDrive) : Type 0 where
   pub each : All IsDrive drives
-  pub differ : AllPairs (λ d e. d.device ≢ e.device) drives
+  pub differ : HaveOwnDevices drives
   pub few : length drives ≤ drive_limit
   pub has_bin : 0 < length drives → IsSome bin

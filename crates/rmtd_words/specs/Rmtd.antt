@@ -1,10 +1,13 @@
 -- The words of `rmtd`, as clap reads them. Public contracts cite it.
-use Rattle.std.specs.Prelude.{◌≡◌, ◌≤◌, ℕ, ◌&&◌, ◌||◌, Bool, true, false, not, is_some, List, [], Option, Some, None, MatchOption, codes, map, option_map, unwrap_or}
+use Rattle.std.specs.Prelude.{◌≡◌, ◌⊎◌, ◌≤◌, ℕ, ◌&&◌, ◌||◌, Bool, true, false, not, is_some, List, [], Option, Some, None, MatchOption, codes, map, option_map, unwrap_or}
 use Rattle.std.specs.Option.{option_map_or}
 use Rattle.std.specs.Str.{bytes_eq}
 use Rattle.std.specs.Str.Parse.{IsNumeral, digits_value}
-use Rattle.clap.specs.Words.{App, Row, Rule, Text, Kinds, all_of, fault_of, first_of, matches_of, new_app, new_rule, with_rule}
+use Rattle.clap.specs.Words.{App, Row, Rule, Text, IsAmong, Kinds, all_of, fault_of, first_of, matches_of, new_app, new_rule, with_rule}
 use Rattle.clap.specs.declared.builder.action.ArgAction.TheVariants.{Set, SetTrue, Append}
+use Rattle.clap.specs.declared.error.kind.ErrorKind.{ErrorKind}
+use Rattle.clap.specs.declared.error.kind.ErrorKind.TheVariants.{DisplayHelp, DisplayVersion}
+use Rattle.rmt_wire.specs.Argument.{IsNumber}
 use Rattle.rmtd_words.specs.Drive.{PlainDrive, KeepsDriveRules, plain_drive, split_of}
 use Rattle.rmtd_words.specs.declared.rmtd_line.ServerLine.{ServerLine}
 
@@ -66,19 +69,8 @@ drives_in rows = map split_of (words_in rows)
 abbrev pub is_one_way : Bool → Bool → Bool
 is_one_way stdio listens = (stdio && not listens) || (not stdio && listens)
 
-abbrev pub number_limit : ℕ
-number_limit = 9223372036854775807
-
 abbrev pub usual_capacity : ℕ
 usual_capacity = 1048576
-
--- a number within its limit, in digits alone
-abbrev pub IsNumber : Text → Type 0
-IsNumber text = IsNumeral 10 text × (digits_value 10 text ≤ number_limit)
-
--- the number that a text says, or none where it says none
-abbrev pub SaysNumber : Text → Option ℕ → Type 0
-SaysNumber text found = MatchOption found (¬ (IsNumber text)) (λ n. IsNumber text × (n ≡ digits_value 10 text))
 
 -- the capacity is that of its text, and the usual one where no text says it
 abbrev pub ReadsCapacity : Option Text → ℕ → Type 0
@@ -119,5 +111,13 @@ pub record IsLineOf (words : List Text) (line : ServerLine) : Type 0 where
   pub taken : faults_in words ≡ []
 
 -- clap refuses the words, or their matches break a rule
-abbrev pub IsRefused : List Text → Type 0
-IsRefused words = faults_in words ≡ [] → ¬ (KeepsRules (matches_in words))
+abbrev pub AreBadWords : List Text → Type 0
+AreBadWords words = faults_in words ≡ [] → ¬ (KeepsRules (matches_in words))
+
+-- an error of this kind is clap's help or its version
+abbrev pub IsShown : ErrorKind → Type 0
+IsShown kind = (kind ≡ DisplayHelp) ⊎ (kind ≡ DisplayVersion)
+
+-- clap answers the words with its help or its version
+abbrev pub AskToBeShown : List Text → Type 0
+AskToBeShown words = (kind : ErrorKind) × IsShown kind × IsAmong kind (faults_in words)

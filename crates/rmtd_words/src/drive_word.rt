@@ -1,12 +1,12 @@
 //! The words `DEVICE=DIR` of `rmtd`.
 
 ghost use Rattle.std.specs.Prelude.{◌≡◌, ◌≢◌, ◌↔◌, map, option_map, IfOk, IsTrue, MatchOption, MatchResult};
-ghost use Rattle.std.specs.List.{list_any, All, AllPairs};
+ghost use Rattle.std.specs.List.{list_any, All};
 ghost use Rattle.std.specs.Str.{bytes_eq};
-ghost use Rattle.rmtd_words.specs.Drive.{plain_drive, split_of, IsDrive, KeepsDriveRules};
+ghost use Rattle.rmtd_words.specs.Drive.{drives_said, plain_drive, split_of, HaveOwnDevices, IsDrive, KeepsDriveRules};
 
-use crate::device::is_device;
 use crate::wrong::Wrong;
+use rmt_wire::argument::is_device;
 use std::alloc::{AllocError, Global};
 
 /// The most drives that the words may name.
@@ -26,7 +26,7 @@ pub(crate) fn drives_of<'a>(
     alloc: Global,
     words: &[&'a str],
 ) -> Result<Vec<DriveWord<'a>>, AllocError>
-    ensures { IfOk result (λ v. map plain_drive v.items ≡ map split_of (map (λ s. s.now) words.now)) }
+    ensures { IfOk result (λ v. map plain_drive v.items ≡ drives_said words.now) }
 {
     let mut drives = Vec::new(alloc);
     for word in words {
@@ -58,8 +58,8 @@ fn is_drive(word: &str) -> bool
 /// then the first that names a drive again.
 pub(crate) fn check_drives<'a>(words: &[&'a str], bin: Option<&str>) -> Result<(), Wrong<'a>>
     ensures { MatchResult result
-        (λ _. KeepsDriveRules (option_map (λ s. s.now) bin.entry) (map split_of (map (λ s. s.now) words.now)))
-        (λ _. ¬ (KeepsDriveRules (option_map (λ s. s.now) bin.entry) (map split_of (map (λ s. s.now) words.now)))) }
+        (λ _. KeepsDriveRules (option_map (λ s. s.now) bin.entry) (drives_said words.now))
+        (λ _. ¬ (KeepsDriveRules (option_map (λ s. s.now) bin.entry) (drives_said words.now))) }
 {
     if let Some(word) = words.first()
         && bin.is_none()
@@ -80,9 +80,7 @@ pub(crate) fn check_drives<'a>(words: &[&'a str], bin: Option<&str>) -> Result<(
 
 /// The first of the words that names no drive.
 fn not_drive<'a>(words: &[&'a str]) -> Option<&'a str>
-    ensures { MatchOption result
-        (All IsDrive (map split_of (map (λ s. s.now) words.now)))
-        (λ _. ¬ (All IsDrive (map split_of (map (λ s. s.now) words.now)))) }
+    ensures { MatchOption result (All IsDrive (drives_said words.now)) (λ _. ¬ (All IsDrive (drives_said words.now))) }
 {
     for word in words {
         if !is_drive(word) {
@@ -94,9 +92,7 @@ fn not_drive<'a>(words: &[&'a str]) -> Option<&'a str>
 
 /// The first of the words whose device one before it has.
 fn named_again<'a>(words: &[&'a str]) -> Option<&'a str>
-    ensures { MatchOption result
-        (AllPairs (λ d e. d.device ≢ e.device) (map split_of (map (λ s. s.now) words.now)))
-        (λ _. ¬ (AllPairs (λ d e. d.device ≢ e.device) (map split_of (map (λ s. s.now) words.now)))) }
+    ensures { MatchOption result (HaveOwnDevices (drives_said words.now)) (λ _. ¬ (HaveOwnDevices (drives_said words.now))) }
 {
     for place in 0..words.len() {
         if any_names(&words[..place], split(words[place]).device) {

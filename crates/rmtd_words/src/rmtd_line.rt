@@ -3,13 +3,13 @@
 ghost use Rattle.std.specs.Prelude.{◌≡◌, map, codes, false, [], IfOk, IfErr, IsErrOf, MatchOption, MatchResult, option_map};
 ghost use Rattle.clap.specs.Words.{App, app_of, first_of, found_of, kind_of, new_app, rows_of, rule_of, with_rule};
 ghost use Rattle.rmtd_words.specs.Drive.{plain_drive, split_of};
-ghost use Rattle.rmtd_words.specs.Rmtd.{app, app_with_limits, app_with_ways, words_in, words_rule, faults_in, flag_rule, has_stdio, matches_in, option_rule, with_version, IsLineIn, IsLineOf, IsRefused, KeepsRules, ReadsCapacity, ReadsConnections, IsNumberIfGiven};
+ghost use Rattle.rmtd_words.specs.Rmtd.{app, app_with_limits, app_with_ways, words_in, words_rule, faults_in, flag_rule, has_stdio, matches_in, option_rule, with_version, AreBadWords, AskToBeShown, IsLineIn, IsLineOf, IsShown, KeepsRules, ReadsCapacity, ReadsConnections, IsNumberIfGiven};
 
 use crate::drive_word::{DriveWord, check_drives, drives_of};
-use crate::number::number_of;
 use crate::wrong::Wrong;
 use clap::error::ErrorKind;
 use clap::{Arg, ArgAction, ArgMatches, Command, Error};
+use rmt_wire::argument::number_of;
 use std::alloc::{AllocError, Global};
 
 /// How many bytes the reel in memory holds where no word says it.
@@ -51,7 +51,7 @@ pub enum LineFault {
 /// `--bin` is given where there is one.
 pub fn server_words<'a>(alloc: Global, words: &'a [&'a str]) -> Result<ServerLine<'a>, LineFault>
     ensures line { IfOk result (IsLineOf (map (λ s. s.now) words.entry.now)) }
-    ensures refused { IsErrOf result LineFault.BadWords → IsRefused (map (λ s. s.now) words.entry.now) }
+    ensures refused { IsErrOf result LineFault.BadWords → AreBadWords (map (λ s. s.now) words.entry.now) }
 {
     match server_line(alloc, words) {
         Ok(line) => Ok(line),
@@ -60,10 +60,11 @@ pub fn server_words<'a>(alloc: Global, words: &'a [&'a str]) -> Result<ServerLin
 }
 
 /// The same, with clap's text for the user in place of the fault: what is wrong with the words, or the help or the
-/// version where they ask for it. Where memory was refused its kind is `OutOfMemory`.
+/// version where they ask for it, and only then. Where memory was refused its kind is `OutOfMemory`.
 pub fn server_line<'a>(alloc: Global, words: &'a [&'a str]) -> Result<ServerLine<'a>, Error>
     ensures line { IfOk result (IsLineOf (map (λ s. s.now) words.entry.now)) }
-    ensures refused { IfErr result (λ e. ¬ (kind_of e ≡ ErrorKind.OutOfMemory) → IsRefused (map (λ s. s.now) words.entry.now)) }
+    ensures refused { IfErr result (λ e. ¬ (kind_of e ≡ ErrorKind.OutOfMemory) → AreBadWords (map (λ s. s.now) words.entry.now)) }
+    ensures shown { IfErr result (λ e. IsShown (kind_of e) → AskToBeShown (map (λ s. s.now) words.entry.now)) }
 {
     match command(alloc) {
         Ok(mut rmtd) => line_by(alloc, &mut rmtd, words),
@@ -79,7 +80,8 @@ fn line_by<'a>(
 ) -> Result<ServerLine<'a>, Error>
     requires { app_of rmtd.old ≡ app }
     ensures line { IfOk result (IsLineOf (map (λ s. s.now) words.entry.now)) }
-    ensures refused { IfErr result (λ e. ¬ (kind_of e ≡ ErrorKind.OutOfMemory) → IsRefused (map (λ s. s.now) words.entry.now)) }
+    ensures refused { IfErr result (λ e. ¬ (kind_of e ≡ ErrorKind.OutOfMemory) → AreBadWords (map (λ s. s.now) words.entry.now)) }
+    ensures shown { IfErr result (λ e. IsShown (kind_of e) → AskToBeShown (map (λ s. s.now) words.entry.now)) }
 {
     let matches = matched(rmtd, words)?;
     line_or_refusal(alloc, rmtd, &matches)
@@ -93,6 +95,7 @@ fn line_or_refusal<'a>(
 ) -> Result<ServerLine<'a>, Error>
     ensures line { IfOk result (IsLineIn (rows_of (found_of matches.now))) }
     ensures refused { IfErr result (λ e. ¬ (kind_of e ≡ ErrorKind.OutOfMemory) → ¬ (KeepsRules (rows_of (found_of matches.now)))) }
+    ensures plain { IfErr result (λ e. ¬ (IsShown (kind_of e))) }
 {
     match line_of(alloc, matches)? {
         Ok(line) => Ok(line),
@@ -106,12 +109,15 @@ fn matched<'a>(rmtd: &mut Command<'a>, words: &'a [&'a str]) -> Result<ArgMatche
     ensures rows { IfOk result (λ m. rows_of (found_of m) ≡ matches_in (map (λ s. s.now) words.entry.now)) }
     ensures taken { IfOk result (λ _. faults_in (map (λ s. s.now) words.entry.now) ≡ []) }
     ensures refused { IfErr result (λ e. ¬ (kind_of e ≡ ErrorKind.OutOfMemory) → ¬ (faults_in (map (λ s. s.now) words.entry.now) ≡ [])) }
+    ensures shown { IfErr result (λ e. IsShown (kind_of e) → AskToBeShown (map (λ s. s.now) words.entry.now)) }
 {
     rmtd.try_get_matches_from_mut(words)
 }
 
 /// What a user is told of words that clap takes and that break a rule.
-fn refusal(alloc: Global, rmtd: &mut Command<'_>, wrong: Wrong<'_>) -> Result<Error, AllocError> {
+fn refusal(alloc: Global, rmtd: &mut Command<'_>, wrong: Wrong<'_>) -> Result<Error, AllocError>
+    ensures { IfOk result (λ e. ¬ (IsShown (kind_of e))) }
+{
     let text = format!(in alloc; "{wrong}")?;
     rmtd.error(wrong.kind(), text.as_str())
 }

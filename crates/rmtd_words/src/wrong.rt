@@ -1,5 +1,7 @@
 //! What is wrong with words that clap takes.
 
+ghost use Rattle.rmtd_words.specs.Rmtd.{IsShown};
+
 use clap::error::ErrorKind;
 use std::fmt;
 
@@ -24,7 +26,9 @@ pub(crate) enum Wrong<'a> {
 
 impl Wrong<'_> {
     /// The kind of clap's error.
-    pub(crate) fn kind(self) -> ErrorKind {
+    pub(crate) fn kind(self) -> ErrorKind
+        ensures { ¬ (IsShown result) }
+    {
         match self {
             Wrong::Ways | Wrong::Again(_) => ErrorKind::ArgumentConflict,
             Wrong::Capacity | Wrong::Connections | Wrong::Drive(_) => ErrorKind::ValueValidation,

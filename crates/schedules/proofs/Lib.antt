@@ -1,3 +1,4 @@
+pub mod Cutting
 pub mod Ended
 pub mod Played
 pub mod Reported

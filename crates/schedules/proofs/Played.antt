@@ -3,8 +3,8 @@ use Rattle.std.proofs.Common.{◌≡◌, ℕ, List, [], ◌∷◌, ◌++◌, Boo
 use Rattle.std.specs.Result.{IsErrAnd}
 use Rattle.std.proofs.lemmas.Result.{err_from_is_err_and}
 use Rattle.rmt_wire.specs.Counted.{Counting}
-use Rattle.rmt_peer.specs.Print.{IsPrinted}
-use Rattle.rmt_peer.proofs.Printed.{nothing_printed, printed_both}
+use Rattle.rmt_wire.specs.Print.{IsPrinted}
+use Rattle.rdump_talk.proofs.Printed.{nothing_printed, printed_both}
 use Rattle.tape_events.specs.World.{World}
 use Rattle.tape_events.specs.Events.{PlainEvent}
 use Rattle.tape_events.specs.Steps.{Runs, none as no_run, one_more as run_more}

@@ -1,9 +1,9 @@
 -- How a schedule ends: what it prints, and its status. Public contracts cite it.
 use Rattle.std.specs.Prelude.{◌≡◌, ◌≢◌, ◌⊎◌, ◌≤◌, ℕ, Bool, true, false, List, [], ◌++◌, codes, decimal, if◌then◌else◌, Option, Result, Ok, Err}
 use Rattle.rmt_wire.specs.Counted.{Counting}
-use Rattle.rmt_peer.specs.Print.{IsPrinted}
+use Rattle.rmt_wire.specs.Print.{IsPrinted}
 use Rattle.tape_events.specs.World.{World}
-use Rattle.tape_events.specs.First.{PlainDrive, AreGoodDrives, first_world}
+use Rattle.tape_events.specs.First.{PlainDriveSpec, AreGoodDrives, first_world}
 use Rattle.schedules.specs.Playing.{Plays}
 use Rattle.schedules.specs.Report.{report_text}
 use Rattle.schedules.specs.declared.halt.Halt.{Halt}
@@ -31,7 +31,7 @@ IsHaltTold contents n halt out status out' =
 
 -- a world of good drives has come so far, and events printed this on the way
 pub record HasPlayed (w : World) (text : List ℕ) : Type 0 where
-  pub drives : List PlainDrive
+  pub drives : List PlainDriveSpec
   pub good : AreGoodDrives drives
   pub plays : Plays (first_world drives) w text
 
@@ -41,7 +41,7 @@ IsPlay text = (text ≡ []) ⊎ ((w : World) × HasPlayed w text)
 
 -- what events print in some world, and behind it the report of what that world has come to
 pub record IsReport (text : List ℕ) : Type 0 where
-  pub drives : List PlainDrive
+  pub drives : List PlainDriveSpec
   pub world : World
   pub played : List ℕ
   pub good : AreGoodDrives drives
@@ -55,11 +55,11 @@ pub record IsHalted (n : ℕ) (halt : Halt) (text : List ℕ) : Type 0 where
   pub is : text ≡ played ++ halt_line n halt
 
 -- All lines were run, and the report was printed; or a write failed. Or why they were not, after what was printed by then.
-abbrev pub IsRun : {W : Type 0} → (W → Option (List ℕ)) → Counting W → Result Unit Halt → Counting W → Type 0
-IsRun contents out (Ok x) out' = (text : List ℕ) × IsReport text × IsPrinted contents text out out' true
-IsRun contents out (Err StreamFailed) out' =
+abbrev pub IsScheduleRun : {W : Type 0} → (W → Option (List ℕ)) → Counting W → Result Unit Halt → Counting W → Type 0
+IsScheduleRun contents out (Ok x) out' = (text : List ℕ) × IsReport text × IsPrinted contents text out out' true
+IsScheduleRun contents out (Err StreamFailed) out' =
     (text : List ℕ) × (IsPlay text ⊎ IsReport text) × IsPrinted contents text out out' false
-IsRun contents out (Err halt) out' = (text : List ℕ) × IsPlay text × IsPrinted contents text out out' true
+IsScheduleRun contents out (Err halt) out' = (text : List ℕ) × IsPlay text × IsPrinted contents text out out' true
 
 -- A report was printed, with status 0. Or the line that ends the schedule early was, with its status. Or a write failed, and a
 -- beginning was printed of what else would have been, with status 3.
@@ -70,3 +70,7 @@ IsScheduled contents out status out' =
     × IsPrinted contents text out out' true × (status ≡ halt_status halt))
     ⊎ ((text : List ℕ) × (IsPlay text ⊎ IsReport text ⊎ ((n : ℕ) × (halt : Halt) × IsHalted n halt text))
     × IsPrinted contents text out out' false × (status ≡ 3))
+
+-- A schedule was run, and this is its status. Or none was, and nothing was printed of one.
+abbrev pub IsRsim : {W : Type 0} → (W → Option (List ℕ)) → Counting W → ℕ → Counting W → Type 0
+IsRsim contents out status out' = IsScheduled contents out status out' ⊎ ((out' ≡ out) × ((status ≡ 0) ⊎ (status ≡ 1)))

@@ -1,5 +1,4 @@
--- In reading order: Playing, Report, Ending (what is printed, and the status); Number, Cut, Drives (lines and their fields).
-pub mod Number
+-- In reading order: Playing, Report, Ending (what is printed, and the status); Cut, Drives (lines and their fields).
 pub mod Cut
 pub mod Drives
 pub mod Playing

@@ -1,19 +1,16 @@
 -- What events print. Public contracts stand on it (through Ending).
-use Rattle.std.specs.Prelude.{ℕ, Bool, true, false, List, [], ◌∷◌, ◌++◌, codes, decimal, Option, Some, None, Result, Err}
+use Rattle.std.specs.Prelude.{ℕ, Bool, true, false, List, [], ◌∷◌, ◌++◌, Option, Some, None, Result, Err}
 use Rattle.rmt_wire.specs.Counted.{Counting}
 use Rattle.dump_client.specs.declared.fault.AttemptFault.{AttemptFault}
-use Rattle.rmt_peer.specs.Lines.{fault_text}
-use Rattle.rmt_peer.specs.Print.{IsPrinted}
+use Rattle.rdump_talk.specs.Lines.{failure_line}
+use Rattle.rmt_wire.specs.Print.{IsPrinted}
 use Rattle.tape_events.specs.World.{World}
 use Rattle.tape_events.specs.Events.{PlainEvent}
 use Rattle.tape_events.specs.Steps.{Runs}
 use Rattle.schedules.specs.declared.halt.Halt.{Halt}
 use Rattle.schedules.specs.declared.halt.Halt.TheVariants.{StreamFailed}
 
--- an attempt that failed: its volume, and the fault as a dump prints it
-abbrev pub failure_line : ℕ → AttemptFault → List ℕ
-failure_line volume fault = codes "volume " ++ decimal volume ++ codes " failed: " ++ fault_text fault ++ codes "\n"
-
+-- the line of an attempt that failed, as a dump prints it
 abbrev pub failed_line : Option (ℕ × AttemptFault) → List ℕ
 failed_line None = []
 failed_line (Some failure) = failure_line failure.0 failure.1

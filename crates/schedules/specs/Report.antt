@@ -7,7 +7,7 @@ use Rattle.tape.specs.List.{bytes_of}
 use Rattle.drives.specs.Shop.{KeptReel, Slot, Rack, names_of}
 use Rattle.dumpdates.specs.Text.{written}
 use Rattle.tape_events.specs.World.{World, Count}
-use Rattle.tape_events.specs.First.{PlainDrive}
+use Rattle.tape_events.specs.First.{PlainDriveSpec}
 use Rattle.tape_world.specs.Entries.{entries_on}
 
 -- an entry by its length: a mark is one without bytes
@@ -46,7 +46,7 @@ count_line c =
     ++ codes " " ++ c.reel ++ codes "\n"
 
 -- each reel in the order of the drives, each stack, the bin, what was counted, and dumpdates
-abbrev pub report_text : List PlainDrive → World → List ℕ
+abbrev pub report_text : List PlainDriveSpec → World → List ℕ
 report_text drives w =
     flat_map (λ d. flat_map (reel_line w) d.reels) drives ++ flat_map (λ d. stack_line w d.name) drives ++ bin_line w
     ++ flat_map count_line w.counts ++ codes "dumpdates\n" ++ written w.dates

@@ -1,23 +1,25 @@
 //! Schedules: texts of one command a line that say what happens between a dump client, a tape server and strangers.
 //!
-//! `schedule` runs one in a world of its own, and prints what came of it.
+//! `schedule` runs one in a world of its own, and prints what came of it. `rsim` is what the program does with its words.
 #![tactic(auto)]
 
-mod count;
+mod byte_count;
 mod cut;
 mod drive_line;
-mod fields;
 mod halt;
 mod hex_text;
 mod line;
+mod line_fields;
 mod lines;
 mod making;
 mod names;
-mod number;
 mod player;
 mod printing;
+mod program;
 mod report;
 mod running;
 mod setup;
+mod words;
 
+pub use program::rsim;
 pub use running::schedule;

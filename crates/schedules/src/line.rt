@@ -1,8 +1,8 @@
 //! What a line of a schedule says.
 
-use crate::count::Count;
-use crate::fields::Fields;
+use crate::byte_count::ByteCount;
 use crate::hex_text::HexText;
+use crate::line_fields::LineFields;
 use crate::names::Names;
 use dump_client::Answer;
 use tape::Trouble;
@@ -10,7 +10,7 @@ use tape_world::Event;
 
 /// What a line that is a command says.
 #[derive(Clone, Copy)]
-pub(crate) enum Line<'a> {
+pub(crate) enum ScheduleLine<'a> {
     /// There is a drive with these reels, which are empty and take so many bytes each.
     Drive {
         device: &'a [u8],
@@ -47,7 +47,7 @@ pub(crate) enum Act {
     Arrives {
         end: End,
         connection: usize,
-        count: Count,
+        count: ByteCount,
     },
     /// A connection is served for so many rounds.
     Pump {
@@ -70,30 +70,30 @@ pub(crate) enum End {
 }
 
 /// What a command says, of a line that is no comment. None where it is none of a schedule.
-pub(crate) fn read_command(text: &[u8]) -> Option<Line<'_>> {
-    let mut fields = Fields::new(Some(text));
+pub(crate) fn read_command(text: &[u8]) -> Option<ScheduleLine<'_>> {
+    let mut fields = LineFields::new(Some(text));
     let line = read_words(&mut fields);
     if fields.is_over() { line } else { None }
 }
 
 /// What a command says with the fields that it takes.
-fn read_words<'a>(fields: &mut Fields<'a>) -> Option<Line<'a>> {
+fn read_words<'a>(fields: &mut LineFields<'a>) -> Option<ScheduleLine<'a>> {
     match fields.word()? {
         "drive" => read_drive(fields),
         "run" => read_run(fields),
         "arrange" => read_arrange(fields),
         "says" => read_says(fields),
         command => match read_act(command, fields) {
-            Some(act) => Some(Line::Act { act }),
+            Some(act) => Some(ScheduleLine::Act { act }),
             None => None,
         },
     }
 }
 
 /// A drive: its device, the capacity of its reels, and their names.
-fn read_drive<'a>(fields: &mut Fields<'a>) -> Option<Line<'a>> {
+fn read_drive<'a>(fields: &mut LineFields<'a>) -> Option<ScheduleLine<'a>> {
     match (fields.device(), fields.number(), fields.names()) {
-        (Some(device), Some(capacity), Some(reels)) => Some(Line::Drive {
+        (Some(device), Some(capacity), Some(reels)) => Some(ScheduleLine::Drive {
             device,
             capacity,
             reels,
@@ -103,9 +103,9 @@ fn read_drive<'a>(fields: &mut Fields<'a>) -> Option<Line<'a>> {
 }
 
 /// A run: its device, the name of the file system, and its numbers.
-fn read_run<'a>(fields: &mut Fields<'a>) -> Option<Line<'a>> {
+fn read_run<'a>(fields: &mut LineFields<'a>) -> Option<ScheduleLine<'a>> {
     match (fields.device(), fields.word(), read_numbers(fields)) {
-        (Some(device), Some(name), Some(numbers)) => Some(Line::Run {
+        (Some(device), Some(name), Some(numbers)) => Some(ScheduleLine::Run {
             device,
             name,
             numbers,
@@ -115,7 +115,7 @@ fn read_run<'a>(fields: &mut Fields<'a>) -> Option<Line<'a>> {
 }
 
 /// Five numbers, one after the other.
-fn read_numbers(fields: &mut Fields<'_>) -> Option<[u64; 5]> {
+fn read_numbers(fields: &mut LineFields<'_>) -> Option<[u64; 5]> {
     let mut numbers = [0; 5];
     for number in &mut numbers {
         *number = fields.number()?;
@@ -124,23 +124,23 @@ fn read_numbers(fields: &mut Fields<'_>) -> Option<[u64; 5]> {
 }
 
 /// A device, and the names of reels.
-fn read_arrange<'a>(fields: &mut Fields<'a>) -> Option<Line<'a>> {
+fn read_arrange<'a>(fields: &mut LineFields<'a>) -> Option<ScheduleLine<'a>> {
     match (fields.device(), fields.names()) {
-        (Some(device), Some(reels)) => Some(Line::Arrange { device, reels }),
+        (Some(device), Some(reels)) => Some(ScheduleLine::Arrange { device, reels }),
         _ => None,
     }
 }
 
 /// A connection, and bytes.
-fn read_says<'a>(fields: &mut Fields<'a>) -> Option<Line<'a>> {
+fn read_says<'a>(fields: &mut LineFields<'a>) -> Option<ScheduleLine<'a>> {
     match (fields.connection(), fields.hex()) {
-        (Some(connection), Some(text)) => Some(Line::Says { connection, text }),
+        (Some(connection), Some(text)) => Some(ScheduleLine::Says { connection, text }),
         _ => None,
     }
 }
 
 /// What a command says that names no device, and has no bytes.
-fn read_act(command: &str, fields: &mut Fields<'_>) -> Option<Act> {
+fn read_act(command: &str, fields: &mut LineFields<'_>) -> Option<Act> {
     match command {
         "to-server" => read_arrival(End::Server, fields),
         "to-client" => read_arrival(End::Client, fields),
@@ -151,7 +151,7 @@ fn read_act(command: &str, fields: &mut Fields<'_>) -> Option<Act> {
 }
 
 /// A connection, and a count.
-fn read_arrival(end: End, fields: &mut Fields<'_>) -> Option<Act> {
+fn read_arrival(end: End, fields: &mut LineFields<'_>) -> Option<Act> {
     let connection = fields.connection()?;
     let count = fields.count()?;
     Some(Act::Arrives {
@@ -162,14 +162,14 @@ fn read_arrival(end: End, fields: &mut Fields<'_>) -> Option<Act> {
 }
 
 /// A connection, and a number of rounds.
-fn read_pump(fields: &mut Fields<'_>) -> Option<Act> {
+fn read_pump(fields: &mut LineFields<'_>) -> Option<Act> {
     let connection = fields.connection()?;
     let rounds = fields.number()?;
     Some(Act::Pump { connection, rounds })
 }
 
 /// A connection, and the trouble of the device, if there is one.
-fn read_serve(fields: &mut Fields<'_>) -> Option<Act> {
+fn read_serve(fields: &mut LineFields<'_>) -> Option<Act> {
     let connection = fields.connection()?;
     let trouble = read_trouble(fields)?;
     let event = Event::Serve {
@@ -180,7 +180,7 @@ fn read_serve(fields: &mut Fields<'_>) -> Option<Act> {
 }
 
 /// The event that a command is which takes a connection at most.
-fn read_event(command: &str, fields: &mut Fields<'_>) -> Option<Act> {
+fn read_event(command: &str, fields: &mut LineFields<'_>) -> Option<Act> {
     if fields.is_over() {
         return event_of(command);
     }
@@ -216,7 +216,7 @@ fn answer_of(command: &str) -> Option<Act> {
 }
 
 /// A send whose read fails, as `fault` says.
-fn read_send(fields: &mut Fields<'_>) -> Option<Act> {
+fn read_send(fields: &mut LineFields<'_>) -> Option<Act> {
     if fields.word()? != "fault" {
         return None;
     }
@@ -236,7 +236,7 @@ fn event_at(command: &str, connection: usize) -> Option<Act> {
 }
 
 /// The trouble that is named: none behind the last field.
-fn read_trouble(fields: &mut Fields<'_>) -> Option<Trouble> {
+fn read_trouble(fields: &mut LineFields<'_>) -> Option<Trouble> {
     if fields.is_over() {
         return Some(Trouble::None);
     }

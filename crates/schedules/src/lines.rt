@@ -6,7 +6,7 @@ use crate::cut::cut;
 
 /// The lines of a text that are still to be read, and the number of the last command that was read: 1 where none was.
 #[derive(Clone, Copy)]
-pub(crate) struct Lines<'a> {
+pub(crate) struct ScheduleLines<'a> {
     // What is left of the text; none behind its last line.
     pub(crate) rest: Option<&'a [u8]>,
     // How many lines were read.
@@ -16,10 +16,10 @@ pub(crate) struct Lines<'a> {
     ghost counted: { 1 ≤ number },
 }
 
-impl<'a> Lines<'a> {
+impl<'a> ScheduleLines<'a> {
     /// All lines of this text.
-    pub(crate) fn new(text: &'a [u8]) -> Lines<'a> {
-        Lines {
+    pub(crate) fn new(text: &'a [u8]) -> ScheduleLines<'a> {
+        ScheduleLines {
             rest: Some(text),
             passed: 0,
             number: 1,

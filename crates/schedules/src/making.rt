@@ -1,8 +1,8 @@
 //! Events that are made in a world, and the attempts that they make fail, which are printed.
-ghost use Rattle.rmt_peer.specs.Print.{IsPrinted};
+ghost use Rattle.rmt_wire.specs.Print.{IsPrinted};
 ghost use Rattle.schedules.specs.Playing.{IsPlayed, failed_line, is_whole};
 
-use crate::count::Count;
+use crate::byte_count::ByteCount;
 use crate::halt::Halt;
 use crate::line::End;
 use crate::printing::print_failure;
@@ -122,12 +122,17 @@ fn arrive<W: Write>(
 ) -> Result<bool, Halt>
     ensures { IsPlayed W.contents world.old out.old (is_whole result) world.new out.new }
 {
-    let event = arrival(world, end, connection, Count::All);
+    let event = arrival(world, end, connection, ByteCount::All);
     make_if_possible(world, event, out)
 }
 
 /// So many of the bytes on the way that can reach that end now do: none where there is no such connection.
-pub(crate) fn arrival<'a>(world: &World, end: End, connection: usize, count: Count) -> Event<'a> {
+pub(crate) fn arrival<'a>(
+    world: &World,
+    end: End,
+    connection: usize,
+    count: ByteCount,
+) -> Event<'a> {
     let (to_server, to_client) = world.on_way(connection).unwrap_or((0, 0));
     match end {
         End::Server => Event::ToServer {

@@ -1,15 +1,15 @@
 //! Names of drives and of reels.
 
-use crate::fields::Fields;
-use rmt_wire::LINE_LIMIT;
+use crate::line_fields::LineFields;
+use rmt_wire::argument::is_device;
 use std::alloc::{AllocError, Global};
 
 /// The most bytes of a reel's name.
 const NAME_LIMIT: usize = 32;
 
-/// Whether a field is a device: 1 to 255 bytes of ASCII.
-pub(crate) fn is_device(field: &[u8]) -> bool {
-    !field.is_empty() && field.len() <= LINE_LIMIT && field.is_ascii()
+/// Whether a field is a device of a schedule: one that an open can name, and ASCII.
+pub(crate) fn is_ascii_device(field: &[u8]) -> bool {
+    is_device(field) && field.is_ascii()
 }
 
 /// Whether a field is the name of a reel: 1 to 32 bytes of printed ASCII.
@@ -28,7 +28,7 @@ pub(crate) struct Names<'a> {
 impl<'a> Names<'a> {
     /// The names in a text of fields, if each is one. None is no field.
     pub(crate) fn new(text: Option<&'a [u8]>) -> Option<Names<'a>> {
-        let mut fields = Fields::new(text);
+        let mut fields = LineFields::new(text);
         while let Some(field) = fields.field() {
             if !is_reel(field) {
                 return None;
@@ -40,13 +40,13 @@ impl<'a> Names<'a> {
     /// A list of them.
     pub(crate) fn list(&self, alloc: Global) -> Result<Vec<&'a [u8]>, AllocError> {
         let mut list = Vec::new(alloc);
-        push_fields(&mut list, Fields::new(self.text))?;
+        push_fields(&mut list, LineFields::new(self.text))?;
         Ok(list)
     }
 }
 
 /// Appends all fields.
-fn push_fields<'a>(list: &mut Vec<&'a [u8]>, mut fields: Fields<'a>) -> Result<(), AllocError> {
+fn push_fields<'a>(list: &mut Vec<&'a [u8]>, mut fields: LineFields<'a>) -> Result<(), AllocError> {
     while let Some(field) = fields.field() {
         list.push(field)?;
     }

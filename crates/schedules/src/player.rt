@@ -1,11 +1,11 @@
 //! A world that does what lines say.
 ghost use Rattle.schedules.specs.Playing.{IsPlayed, is_whole};
 
-use crate::count::Count;
+use crate::byte_count::ByteCount;
 use crate::halt::Halt;
 use crate::hex_text::HexText;
-use crate::line::{Act, End, Line, read_command};
-use crate::lines::Lines;
+use crate::line::{Act, End, ScheduleLine, read_command};
+use crate::lines::ScheduleLines;
 use crate::making::{arrival, make, pump};
 use crate::names::Names;
 use dump_client::{Run, State};
@@ -18,7 +18,7 @@ use tape_world::{Event, World};
 pub(crate) fn play_all<W: Write>(
     alloc: Global,
     world: &mut World,
-    lines: &mut Lines<'_>,
+    lines: &mut ScheduleLines<'_>,
     out: &mut Counted<W>,
 ) -> Result<(), Halt>
     ensures { IsPlayed W.contents world.old out.old (is_whole result) world.new out.new }
@@ -40,17 +40,17 @@ fn play<W: Write>(
 {
     match read_command(text) {
         None => Err(Halt::BadLine),
-        Some(Line::Drive { .. }) => Err(Halt::BadLine),
+        Some(ScheduleLine::Drive { .. }) => Err(Halt::BadLine),
         Some(
-            Line::Run {
+            ScheduleLine::Run {
                 device,
                 name,
                 numbers,
             },
         ) => begin_run(alloc, world, device, name, numbers, out),
-        Some(Line::Arrange { device, reels }) => arrange(alloc, world, device, reels, out),
-        Some(Line::Says { connection, text }) => say(alloc, world, connection, text, out),
-        Some(Line::Act { act }) => play_act(world, act, out),
+        Some(ScheduleLine::Arrange { device, reels }) => arrange(alloc, world, device, reels, out),
+        Some(ScheduleLine::Says { connection, text }) => say(alloc, world, connection, text, out),
+        Some(ScheduleLine::Act { act }) => play_act(world, act, out),
     }
 }
 
@@ -175,7 +175,7 @@ fn arrive<W: Write>(
     world: &mut World,
     end: End,
     connection: usize,
-    count: Count,
+    count: ByteCount,
     out: &mut Counted<W>,
 ) -> Result<(), Halt>
     ensures { IsPlayed W.contents world.old out.old (is_whole result) world.new out.new }

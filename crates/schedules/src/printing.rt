@@ -1,8 +1,8 @@
 //! What is printed while a schedule runs, and of one that ends early.
-ghost use Rattle.std.specs.Prelude.{◌≡◌, ◌≤◌, ◌+◌, ◌++◌, Bool, length, codes, decimal, if◌then◌else◌, IfErr};
-ghost use Rattle.rmt_peer.specs.Lines.{fault_text};
-ghost use Rattle.rmt_peer.specs.Print.{IsPrinted};
-ghost use Rattle.schedules.specs.Playing.{failure_line, is_whole};
+ghost use Rattle.std.specs.Prelude.{◌≡◌, ◌≤◌, ◌++◌, Bool, length, codes, decimal, if◌then◌else◌, IfErr};
+ghost use Rattle.rdump_talk.specs.Lines.{failure_line as line_of};
+ghost use Rattle.rmt_wire.specs.Print.{IsPrinted};
+ghost use Rattle.schedules.specs.Playing.{is_whole};
 ghost use Rattle.schedules.specs.Ending.{IsHaltTold};
 ghost use Rattle.schedules.specs.declared.halt.Halt.TheVariants.{StreamFailed};
 
@@ -10,12 +10,9 @@ use crate::halt::Halt;
 use arrayvec::ArrayString;
 use dump_client::AttemptFault;
 use itoa::Buffer;
-use rmt_peer::print_text;
-use rmt_wire::Counted;
+use rdump_talk::{LINE_ROOM, failure_line};
+use rmt_wire::{Counted, print_text};
 use std::io::Write;
-
-/// A line fits into so many bytes.
-const LINE_ROOM: usize = 128;
 
 /// The status of a schedule that has a line at fault.
 const AT_FAULT: u8 = 1;
@@ -29,10 +26,9 @@ pub(crate) fn print_failure<W: Write>(
     fault: AttemptFault,
     out: &mut Counted<W>,
 ) -> Result<(), Halt>
-    ensures { IsPrinted W.contents (failure_line volume fault) out.old out.new (is_whole result) }
+    ensures { IsPrinted W.contents (line_of volume fault) out.old out.new (is_whole result) }
 {
-    let line = failure_text(volume, fault);
-    print_all(line.as_bytes(), out)
+    print_all(failure_line(volume, fault).as_bytes(), out)
 }
 
 /// Prints a text whole.
@@ -77,48 +73,10 @@ fn halt_text(number: usize, what: &str) -> ArrayString<LINE_ROOM>
     requires { length what.now ≤ 16 }
     ensures { result.bytes ≡ codes "line " ++ decimal number ++ what.now }
 {
+    let mut digits = Buffer::new();
     let mut line = ArrayString::new();
-    push_part(&mut line, "line ", number as u64);
+    line.push_str("line ");
+    line.push_str(digits.format(number as u64));
     line.push_str(what);
     line
-}
-
-/// The line of an attempt that failed.
-fn failure_text(volume: u32, fault: AttemptFault) -> ArrayString<LINE_ROOM>
-    ensures { result.bytes ≡ failure_line volume fault }
-{
-    let mut line = ArrayString::new();
-    push_part(&mut line, "volume ", u64::from(volume));
-    line.push_str(" failed: ");
-    push_fault(&mut line, fault);
-    line.push_str("\n");
-    line
-}
-
-/// Appends a text, and a number after it.
-fn push_part(line: &mut ArrayString<LINE_ROOM>, text: &str, number: u64)
-    requires { length line.old.bytes + length text.now + 20 ≤ LINE_ROOM }
-    ensures appended { line.new.bytes ≡ line.old.bytes ++ text.now ++ decimal number }
-    ensures short { length line.new.bytes ≤ length line.old.bytes + length text.now + 20 }
-{
-    let mut digits = Buffer::new();
-    line.push_str(text);
-    line.push_str(digits.format(number));
-}
-
-/// Appends a fault by its name, and with a refusal its number.
-fn push_fault(line: &mut ArrayString<LINE_ROOM>, fault: AttemptFault)
-    requires { length line.old.bytes + 36 ≤ LINE_ROOM }
-    ensures appended { line.new.bytes ≡ line.old.bytes ++ fault_text fault }
-    ensures short { length line.new.bytes ≤ length line.old.bytes + 36 }
-{
-    match fault {
-        AttemptFault::Refused(number) => push_part(line, "Refused ", u64::from(number)),
-        AttemptFault::Botched => line.push_str("Botched"),
-        AttemptFault::ConnectionEnded => line.push_str("ConnectionEnded"),
-        AttemptFault::ShortWrite => line.push_str("ShortWrite"),
-        AttemptFault::ReelTooSmall => line.push_str("ReelTooSmall"),
-        AttemptFault::SourceFault => line.push_str("SourceFault"),
-        AttemptFault::OutOfMemory => line.push_str("OutOfMemory"),
-    }
 }

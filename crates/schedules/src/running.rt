@@ -2,11 +2,11 @@
 ghost use Rattle.std.specs.Prelude.{◌≡◌, map};
 ghost use Rattle.tape_events.specs.First.{AreGoodDrives, first_world};
 ghost use Rattle.schedules.specs.Drives.{plain_line};
-ghost use Rattle.schedules.specs.Ending.{IsRun, IsScheduled};
+ghost use Rattle.schedules.specs.Ending.{IsScheduleRun, IsScheduled};
 
 use crate::drive_line::DriveLine;
 use crate::halt::Halt;
-use crate::lines::Lines;
+use crate::lines::ScheduleLines;
 use crate::player::play_all;
 use crate::printing::{print_all, print_halt};
 use crate::report::report_of;
@@ -28,7 +28,7 @@ use tape_world::World;
 pub fn schedule<W: Write>(alloc: Global, text: &[u8], out: &mut Counted<W>) -> u8
     ensures { IsScheduled W.contents out.old result out.new }
 {
-    let mut lines = Lines::new(text);
+    let mut lines = ScheduleLines::new(text);
     match run_all(alloc, &mut lines, out) {
         Ok(()) => 0,
         Err(halt) => print_halt(lines.number, halt, out),
@@ -36,8 +36,12 @@ pub fn schedule<W: Write>(alloc: Global, text: &[u8], out: &mut Counted<W>) -> u
 }
 
 /// Runs all lines, and prints the report.
-fn run_all<W: Write>(alloc: Global, lines: &mut Lines<'_>, out: &mut Counted<W>) -> Result<(), Halt>
-    ensures { IsRun W.contents out.old result out.new }
+fn run_all<W: Write>(
+    alloc: Global,
+    lines: &mut ScheduleLines<'_>,
+    out: &mut Counted<W>,
+) -> Result<(), Halt>
+    ensures { IsScheduleRun W.contents out.old result out.new }
 {
     let drives = read_drives(alloc, lines)?;
     run_at(alloc, &drives, lines, out)
@@ -47,11 +51,11 @@ fn run_all<W: Write>(alloc: Global, lines: &mut Lines<'_>, out: &mut Counted<W>)
 fn run_at<W: Write>(
     alloc: Global,
     drives: &[DriveLine<'_>],
-    lines: &mut Lines<'_>,
+    lines: &mut ScheduleLines<'_>,
     out: &mut Counted<W>,
 ) -> Result<(), Halt>
     requires { AreGoodDrives (map plain_line drives.now) }
-    ensures { IsRun W.contents out.old result out.new }
+    ensures { IsScheduleRun W.contents out.old result out.new }
 {
     match world_of(alloc, drives) {
         Ok(mut world) => play_and_report(alloc, &mut world, drives, lines, out),
@@ -64,11 +68,11 @@ fn play_and_report<W: Write>(
     alloc: Global,
     world: &mut World,
     drives: &[DriveLine<'_>],
-    lines: &mut Lines<'_>,
+    lines: &mut ScheduleLines<'_>,
     out: &mut Counted<W>,
 ) -> Result<(), Halt>
     requires { AreGoodDrives (map plain_line drives.now) × (world.old ≡ first_world (map plain_line drives.now)) }
-    ensures { IsRun W.contents out.old result out.new }
+    ensures { IsScheduleRun W.contents out.old result out.new }
 {
     play_all(alloc, world, lines, out)?;
     let report = report_of(alloc, world, drives)?;

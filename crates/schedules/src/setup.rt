@@ -1,14 +1,14 @@
 //! The drives of a schedule.
 ghost use Rattle.std.specs.Prelude.{◌≡◌, ◌≢◌, ◌↔◌, [], true, map, IfOk, MatchResult};
 ghost use Rattle.tape_events.specs.First.{AreGoodDrives, first_world};
-ghost use Rattle.tape_world.specs.Making.{plain_drive};
+ghost use Rattle.tape_world.specs.Making.{plain_drive_spec};
 ghost use Rattle.schedules.specs.Drives.{plain_line};
 ghost use Rattle.schedules.specs.declared.halt.Halt.TheVariants.{StreamFailed};
 
 use crate::drive_line::DriveLine;
 use crate::halt::Halt;
-use crate::line::{Line, read_command};
-use crate::lines::Lines;
+use crate::line::{ScheduleLine, read_command};
+use crate::lines::ScheduleLines;
 use crate::names::Names;
 use std::alloc::{AllocError, Global};
 use tape_world::{DriveSpec, World, good_drives};
@@ -18,7 +18,7 @@ use tape_world::{DriveSpec, World, good_drives};
 /// Answers `BadLine` where the first command is none of a drive, where there is none, and where a world can't have the drives.
 pub(crate) fn read_drives<'a>(
     alloc: Global,
-    lines: &mut Lines<'a>,
+    lines: &mut ScheduleLines<'a>,
 ) -> Result<Vec<DriveLine<'a>>, Halt>
     ensures { MatchResult result (λ d. AreGoodDrives (map plain_line d.items)) (λ halt. halt ≢ StreamFailed) }
 {
@@ -31,7 +31,7 @@ pub(crate) fn read_drives<'a>(
 fn add_drives<'a>(
     alloc: Global,
     drives: &mut Vec<DriveLine<'a>>,
-    lines: &mut Lines<'a>,
+    lines: &mut ScheduleLines<'a>,
 ) -> Result<(), Halt>
     requires { drives.old.items ≡ [] }
     ensures { MatchResult result (λ _. AreGoodDrives (map plain_line drives.new.items)) (λ halt. halt ≢ StreamFailed) }
@@ -39,7 +39,7 @@ fn add_drives<'a>(
     let mut ahead = *lines;
     while let Some(text) = ahead.command() {
         let Some(
-            Line::Drive {
+            ScheduleLine::Drive {
                 device,
                 capacity,
                 reels,
@@ -103,7 +103,7 @@ fn specs_of<'a>(
     alloc: Global,
     drives: &'a [DriveLine<'_>],
 ) -> Result<Vec<DriveSpec<'a>>, AllocError>
-    ensures { IfOk result (λ specs. map plain_drive specs.items ≡ map plain_line drives.entry.now) }
+    ensures { IfOk result (λ specs. map plain_drive_spec specs.items ≡ map plain_line drives.entry.now) }
 {
     let mut specs = Vec::new(alloc);
     for drive in drives {
@@ -114,7 +114,7 @@ fn specs_of<'a>(
 
 /// The same drive, as a world takes it.
 fn spec_of<'a>(drive: &'a DriveLine<'_>) -> DriveSpec<'a>
-    ensures { plain_drive result ≡ plain_line drive.entry.now }
+    ensures { plain_drive_spec result ≡ plain_line drive.entry.now }
 {
     DriveSpec {
         name: drive.device,

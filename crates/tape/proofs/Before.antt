@@ -5,6 +5,7 @@ use Rattle.std.proofs.lemmas.List.{drop_at, reverse-append}
 use Rattle.std.proofs.lemmas.List.Elements.{All-head}
 use Rattle.std.proofs.lemmas.Grind.{flat_map-append}
 use Rattle.std.specs.List.{All}
+use Rattle.rmt_wire.specs.declared.limits.TheConstants.{RECORD_LIMIT}
 use Rattle.tape.specs.Tape.{PlainEntry, Tape, IsTapeEntry, size_of}
 use Rattle.tape.specs.Tape.PlainEntry.{Record, Mark}
 use Rattle.tape.specs.List.{bytes_of}
@@ -90,7 +91,7 @@ last_is x at t o f some begins =
     let bound = length_bound l.e l.lawful in
     begins_one (drop (at - 4) x) l.more (length_of l.e) o (omega arith) l.begins begins ∙ ap Some (length_is l.e) ∙ sym l.back
 
-pub last_fits : (x : List ℕ) (at n : ℕ) (t : Tape) → IsFile x at t → 4 ≤ at → BeginsWith (drop (at - 4) x) (Some n) → (n ≤ 65536) × (size_by_length n ≤ at)
+pub last_fits : (x : List ℕ) (at n : ℕ) (t : Tape) → IsFile x at t → 4 ≤ at → BeginsWith (drop (at - 4) x) (Some n) → (n ≤ RECORD_LIMIT) × (size_by_length n ≤ at)
 last_fits x at n t f some begins =
     let l = some_before x at t f (omega arith) in
     let bound = length_bound l.e l.lawful in

@@ -1,9 +1,10 @@
 -- Lengths and images in a file.
-use Rattle.std.proofs.Common.{◌≡◌, ◌≢◌, ℕ, ◌+◌, ◌-◌, ◌<◌, ◌≤◌, ◌^◌, List, [], ◌∷◌, ◌++◌, length, take, drop, Option, Some, None, refl, sym, ap, subst, ◌∙◌, append_assoc, length-append, length-drop, length-take, take-append-drop, drop-drop, arith}
+use Rattle.std.proofs.Common.{◌≡◌, ◌≢◌, ℕ, ◌+◌, ◌<◌, ◌≤◌, ◌^◌, List, [], ◌∷◌, ◌++◌, length, take, drop, Option, Some, None, refl, sym, ap, subst, ◌∙◌, append_assoc, length-append, length-drop, length-take, take-append-drop, drop-drop, arith}
 use Rattle.std.proofs.lemmas.List.{take_at, drop_at, take_all}
 use Rattle.std.proofs.lemmas.List.Elements.{All-head}
 use Rattle.std.specs.List.{All}
 use Rattle.std.specs.Int.{w32, from_le_bytes}
+use Rattle.rmt_wire.specs.declared.limits.TheConstants.{RECORD_LIMIT}
 use Rattle.tape.specs.Tape.{PlainEntry, Tape, IsTapeEntry, IsRecord}
 use Rattle.tape.specs.Tape.PlainEntry.{Record, Mark}
 use Rattle.tape.specs.List.{bytes_of}
@@ -78,7 +79,7 @@ mark_there bytes at t n f zero_is begins =
     file_first bytes at t Mark begins.1.0 f tt (begins.1.1 ∙ ap (λ k. length_bytes k ++ begins.1.0) zero_is)
 
 -- no image begins with such a length
-pub long_tail : (x : List ℕ) (n : ℕ) → 65536 < n → BeginsWith x (Some n) → IsTail x
+pub long_tail : (x : List ℕ) (n : ℕ) → RECORD_LIMIT < n → BeginsWith x (Some n) → IsTail x
 long_tail x n long begins e rest lawful is =
     let bound = length_bound e lawful in
     let there = length_there x begins.1.0 n begins.0 begins.1.1 in
@@ -109,7 +110,7 @@ torn_tail bytes at n to behind some to_is begins ends not e rest lawful is =
     absurd (not (begins_one (drop to bytes) rest n behind begins.0 stands ends))
 
 -- a length, so many bytes and the length again are the image of a record
-pub record_there : (bytes : List ℕ) (at n to : ℕ) (t : Tape) → IsFile bytes at t → 0 < n → n ≤ 65536 → to ≡ at + 4 + n → BeginsWith (drop at bytes) (Some n)
+pub record_there : (bytes : List ℕ) (at n to : ℕ) (t : Tape) → IsFile bytes at t → 0 < n → n ≤ RECORD_LIMIT → to ≡ at + 4 + n → BeginsWith (drop at bytes) (Some n)
     → BeginsWith (drop to bytes) (Some n) → Some n ≡ first_length t.after
 record_there bytes at n to t f some small to_is begins ends =
     let rest = begins.1.0 in

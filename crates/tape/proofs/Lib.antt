@@ -5,6 +5,7 @@ pub mod Devices
 pub mod Spelling
 pub mod Places
 pub mod MediumRuns
+mod Appends
 pub mod Images
 pub mod Writing
 pub mod Putting

@@ -6,10 +6,10 @@ use Rattle.tape.specs.Tape.{Tape, TapeRequest, TapeAnswer, TapeStep, SpaceStep, 
 use Rattle.tape.specs.Tape.PlainEntry.{Record, Mark}
 use Rattle.tape.specs.Tape.TapeRequest.{Write, WriteMarks, ForwardFiles, BackFiles, ForwardRecords, BackRecords, Rewind, Nothing, Unknown}
 use Rattle.tape.specs.Tape.TapeAnswer.{Done, Fault}
-use Rattle.tape.specs.Call.{IsCall, CanAnswer, CanSpace}
+use Rattle.tape.specs.Call.{IsTapeCall, CanAnswer, CanSpace}
 use Rattle.tape.specs.Medium.{MediumKind}
-use Rattle.tape.specs.RecordFile.{IsFile, FileTape, HoldsTape, IsFileCall, image_added}
-use Rattle.tape.specs.FileSteps.{IsRun, IsReelRun, IsWalked, Puts, ahead, moved, files_request, records_request}
+use Rattle.tape.specs.RecordFile.{IsFile, FileTape, file_reel_kind, image_added}
+use Rattle.tape.specs.FileSteps.{IsMediumRun, IsReelRun, IsWalked, PutsEntries, ahead, place_after, files_request, records_request}
 use Rattle.tape.specs.declared.file_reel.walk.Way.{Way}
 use Rattle.tape.specs.declared.file_reel.walk.Way.TheVariants.{Forward, Back}
 use Rattle.tape.proofs.MediumRuns.{run_as}
@@ -20,8 +20,7 @@ use Rattle.tape.proofs.Writing.{offset_at}
 
 -- a call of a reel on a medium
 abbrev pub FileCall : {M : Type 0} → MediumKind M → FileTape M → FileTape M → TapeRequest → TapeAnswer → Type 0
-FileCall {M} m old new request answer =
-    IsCall (HoldsTape m.holds) (λ r. r.capacity) (λ r. m.failures r.medium) (λ _. Unit {0}) (λ old new request answer. IsFileCall m old new request answer) false old new request answer
+FileCall m old new request answer = IsTapeCall (file_reel_kind m) old new request answer
 
 pub file_call : {M : Type 0} {m : MediumKind M} {does : Tape → Tape → Type 0} {added : ℕ} {fails : Type 0} (old new : FileTape M) (request : TapeRequest) (answer : TapeAnswer)
     → IsReelRun m does added fails old new → (answer ≡ Fault Device → fails) → (fails → answer ≡ Fault Device) → CanAnswer request answer
@@ -62,7 +61,7 @@ reel_none m here = record {
 }
 
 pub write_call : {M : Type 0} {m : MediumKind M} (old new : FileTape M) (bytes : List ℕ) (r : Result Unit TapeFault) → IfErr r (λ fault. fault ≡ Device)
-    → old.offset + (length bytes + 8 + 4) ≤ old.capacity → IsReelRun m (Puts (Record bytes ∷ []) r) (length bytes + 8) (IsErr r) old new
+    → old.offset + (length bytes + 8 + 4) ≤ old.capacity → IsReelRun m (PutsEntries (Record bytes ∷ []) r) (length bytes + 8) (IsErr r) old new
     → FileCall m old new (Write bytes) (done_answer r)
 write_call old new bytes (Ok x) device room run =
     file_call old new (Write bytes) Done run (λ is. cc) (λ f. cc) (inl refl) (λ is. cc) (omega arith)
@@ -89,7 +88,7 @@ full_call m here bytes short =
     (λ file t u f same. (omega (arith, offset_at file here.offset t f), same))
 
 pub marks_call : {M : Type 0} {m : MediumKind M} (old new : FileTape M) (count : ℕ) (r : Result Unit TapeFault) → IfErr r (λ fault. fault ≡ Device)
-    → 0 < count → old.offset + 4 * count ≤ old.capacity → IsReelRun m (Puts (replicate count Mark) r) (4 * count) (IsErr r) old new
+    → 0 < count → old.offset + 4 * count ≤ old.capacity → IsReelRun m (PutsEntries (replicate count Mark) r) (4 * count) (IsErr r) old new
     → FileCall m old new (WriteMarks count) (done_answer r)
 marks_call old new count (Ok x) device some room run =
     file_call old new (WriteMarks count) Done run (λ is. cc) (λ f. cc) (inl refl) (λ is. cc) (omega arith)
@@ -148,8 +147,8 @@ abbrev Walked : {M : Type 0} → Way → ℕ → ℕ → ℕ → (Tape → ℕ) 
 Walked way count at left met far old x y = (y ≡ x) × ((t : Tape) → IsFile x old.offset t → IsWalked way count (met t) (far t) x t at left)
 
 walked_run : {M : Type 0} {m : MediumKind M} {F : Type 0} (way : Way) (count at left : ℕ) (met far : Tape → ℕ) (old : FileTape M) (b : M)
-    → IsRun m (Walked way count at left met far old) 0 F old.medium b → (F → ⊥)
-    → IsReelRun m (λ t u. (u ≡ stands_at (moved way (far t) t) t) × (left ≡ count - met t)) 0 ⊥ old (record { medium = b; offset = at; capacity = old.capacity })
+    → IsMediumRun m (Walked way count at left met far old) 0 F old.medium b → (F → ⊥)
+    → IsReelRun m (λ t u. (u ≡ stands_at (place_after way (far t) t) t) × (left ≡ count - met t)) 0 ⊥ old (record { medium = b; offset = at; capacity = old.capacity })
 walked_run way count at left met far old b r never = record {
   step = λ t h.
       let s = r.step h.0 h.1 in
@@ -160,9 +159,9 @@ walked_run way count at left met far old b r never = record {
 }
 
 space_by : {M : Type 0} {m : MediumKind M} {F : Type 0} (way : Way) (count at left : ℕ) (met far : Tape → ℕ) (request : TapeRequest) (old : FileTape M) (b : M) (r : Result Unit TapeFault)
-    → IsRun m (Walked way count at left met far old) 0 F old.medium b → (F → ⊥) → left ≤ count
+    → IsMediumRun m (Walked way count at left met far old) 0 F old.medium b → (F → ⊥) → left ≤ count
     → MatchResult r (λ _. left ≡ 0) (λ fault. (fault ≡ EndOrMark) × (0 < left))
-    → ((answer : TapeAnswer) (t u : Tape) → SpaceStep count (met t) (moved way (far t) t) t answer u → TapeStep old.capacity t request answer u)
+    → ((answer : TapeAnswer) (t u : Tape) → SpaceStep count (met t) (place_after way (far t) t) t answer u → TapeStep old.capacity t request answer u)
     → ((answer : TapeAnswer) → CanSpace count answer → CanAnswer request answer)
     → FileCall m old (record { medium = b; offset = at; capacity = old.capacity }) request (done_answer r)
 space_by way count at left met far request old b (Ok x) run never within none step can =
@@ -176,7 +175,7 @@ space_by {m = m} way count at left met far request old b (Err fault) run never w
     (λ file t u f d. step (Fault EndOrMark) t u (let e = d.1 in omega arith, d.0)))
 
 pub files_spaced : {M : Type 0} {m : MediumKind M} {F : Type 0} (way : Way) (count at left : ℕ) (old : FileTape M) (b : M) (r : Result Unit TapeFault)
-    → IsRun m (Walked way count at left (λ t. marks_met (ahead way t)) (λ t. passed_for_marks count (ahead way t)) old) 0 F old.medium b → (F → ⊥) → left ≤ count
+    → IsMediumRun m (Walked way count at left (λ t. marks_met (ahead way t)) (λ t. passed_for_marks count (ahead way t)) old) 0 F old.medium b → (F → ⊥) → left ≤ count
     → MatchResult r (λ _. left ≡ 0) (λ fault. (fault ≡ EndOrMark) × (0 < left))
     → FileCall m old (record { medium = b; offset = at; capacity = old.capacity }) (files_request way count) (done_answer r)
 files_spaced Forward count at left old b r run never within answered =
@@ -185,7 +184,7 @@ files_spaced Back count at left old b r run never within answered =
     space_by Back count at left _ _ (BackFiles count) old b r run never within answered (λ answer t u s. s) (λ answer c. c)
 
 pub records_spaced : {M : Type 0} {m : MediumKind M} {F : Type 0} (way : Way) (count at left : ℕ) (old : FileTape M) (b : M) (r : Result Unit TapeFault)
-    → IsRun m (Walked way count at left (λ t. records_met (ahead way t)) (λ t. passed_for_records count (ahead way t)) old) 0 F old.medium b → (F → ⊥) → left ≤ count
+    → IsMediumRun m (Walked way count at left (λ t. records_met (ahead way t)) (λ t. passed_for_records count (ahead way t)) old) 0 F old.medium b → (F → ⊥) → left ≤ count
     → MatchResult r (λ _. left ≡ 0) (λ fault. (fault ≡ EndOrMark) × (0 < left))
     → FileCall m old (record { medium = b; offset = at; capacity = old.capacity }) (records_request way count) (done_answer r)
 records_spaced Forward count at left old b r run never within answered =

@@ -5,13 +5,13 @@ use Rattle.std.proofs.lemmas.List.{map-append, take-append-drop}
 use Rattle.std.proofs.lemmas.Nat.{le_bytes_4}
 use Rattle.std.specs.Int.{w32, from_le_bytes}
 use Rattle.std.specs.List.{slice_get}
+use Rattle.rmt_wire.specs.declared.limits.TheConstants.{RECORD_LIMIT}
 use Rattle.tape.specs.Tape.{PlainEntry, IsTapeEntry}
 use Rattle.tape.specs.Tape.PlainEntry.{Record, Mark}
 use Rattle.tape.specs.List.{bytes_of, plain_of, plain_entries}
 use Rattle.tape.specs.RecordFile.{length_bytes, image_of, IsTail, SpellsReel, entries_in}
 use Rattle.tape.specs.Scan.{IsFirst, IsNth}
 use Rattle.tape.specs.declared.entry.Entry.{Entry}
-use Rattle.tape.specs.declared.entry.Entry.TheVariants as entry
 use Rattle.tape.proofs.Spelling.{image_size, spelling, length_length_bytes, from_length_bytes, length_of, length_bound, body_of, image_parts, spells_in, found_in, tail_spells, more_spells}
 
 -- two lengths that begin the same bytes are one
@@ -30,7 +30,7 @@ begun_by n rest e behind small lawful is =
     same_length n (length_of e) rest (body_of e ++ behind) small (omega (arith, length_bound e lawful)) (is ∙ image_parts e behind)
 
 -- a length that is too great begins no entry
-pub tail_long : (n : ℕ) (bytes rest : List ℕ) → n < 2 ^ 32 → bytes ≡ length_bytes n ++ rest → 65536 < n → IsTail bytes
+pub tail_long : (n : ℕ) (bytes rest : List ℕ) → n < 2 ^ 32 → bytes ≡ length_bytes n ++ rest → RECORD_LIMIT < n → IsTail bytes
 tail_long n bytes rest small is long e behind lawful whole =
     let same = begun_by n rest e behind small lawful (sym is ∙ whole) in
     absurd (omega (arith, same.0, length_bound e lawful))
@@ -69,7 +69,7 @@ tail_other n m bytes rest others small also is some stands other e behind lawful
 pub first_mark : (bytes rest : List ℕ) (n : ℕ) → bytes ≡ length_bytes n ++ rest → n ≡ 0 → IsFirst bytes [] rest
 first_mark bytes rest n is none = record { entry = Mark; whole = is ∙ ap (λ m. length_bytes m ++ rest) none; bytes_is = refl; lawful = tt }
 
-pub first_record : (n m : ℕ) (bytes rest front behind : List ℕ) → bytes ≡ length_bytes n ++ rest → 0 < n → n ≤ 65536
+pub first_record : (n m : ℕ) (bytes rest front behind : List ℕ) → bytes ≡ length_bytes n ++ rest → 0 < n → n ≤ RECORD_LIMIT
     → rest ≡ front ++ (length_bytes m ++ behind) → length front ≡ n → m ≡ n → IsFirst bytes front behind
 first_record n m bytes rest front behind is some limit stands long same =
     let there : rest ≡ front ++ (length_bytes (length front) ++ behind) = stands ∙ ap (λ k. front ++ (length_bytes k ++ behind)) (same ∙ sym long) in

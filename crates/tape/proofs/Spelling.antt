@@ -8,7 +8,8 @@ use Rattle.std.proofs.lemmas.Nat.{from_le_bytes-to_le_bytes_4}
 use Rattle.std.proofs.lemmas.Slice.Eq.{starts_is}
 use Rattle.std.specs.Int.{w32, from_le_bytes}
 use Rattle.std.specs.List.{All, starts_with}
-use Rattle.tape.specs.Tape.{PlainEntry, IsTapeEntry, record_limit}
+use Rattle.tape.specs.Tape.{PlainEntry, IsTapeEntry}
+use Rattle.rmt_wire.specs.declared.limits.TheConstants.{RECORD_LIMIT}
 use Rattle.tape.specs.Tape.PlainEntry.{Record, Mark}
 use Rattle.tape.specs.RecordFile.{length_bytes, image_of, images_of, IsTail, SpellsReel, first_in, entries_within, entries_in}
 
@@ -25,7 +26,7 @@ abbrev pub length_of : PlainEntry → ℕ
 length_of (Record bytes) = length bytes
 length_of Mark = 0
 
-pub length_bound : (e : PlainEntry) → IsTapeEntry e → length_of e ≤ 65536
+pub length_bound : (e : PlainEntry) → IsTapeEntry e → length_of e ≤ RECORD_LIMIT
 length_bound (Record bytes) lawful = lawful.1
 length_bound Mark lawful = omega arith
 
@@ -79,7 +80,7 @@ first_image e rest lawful =
     let bound = length_bound e lawful in
     let n = head_length e rest (omega arith) in
     let entry = told_image e rest lawful in
-    let small = le-leb (length_of e) record_limit (length_bound e lawful) in
+    let small = le-leb (length_of e) RECORD_LIMIT (length_bound e lawful) in
     let there = begins bytes e rest refl in
     rw (n, entry, small, there) refl
 
@@ -88,7 +89,7 @@ pick true x e is = (refl, cc)
 pick false x e is = cc
 
 -- the entry of a length is lawful where its image stands
-lawful_told : (n : ℕ) (bytes rest : List ℕ) → n ≤ record_limit → from_le_bytes w32 (take 4 bytes) ≡ n → bytes ≡ image_of (told n bytes) ++ rest
+lawful_told : (n : ℕ) (bytes rest : List ℕ) → n ≤ RECORD_LIMIT → from_le_bytes w32 (take 4 bytes) ≡ n → bytes ≡ image_of (told n bytes) ++ rest
     → IsTapeEntry (told n bytes)
 lawful_told zero bytes rest small first is = tt
 lawful_told (suc k) bytes rest small first is =
@@ -106,10 +107,10 @@ unfolding first_in
 first_some bytes e is =
     let n = from_le_bytes w32 (take 4 bytes) in
     let entry = told n bytes in
-    let p = pick (nat_le n record_limit && starts_with nat_eq bytes (image_of entry)) entry e is in
-    let parts = and_parts (nat_le n record_limit) (starts_with nat_eq bytes (image_of entry)) p.0 in
+    let p = pick (nat_le n RECORD_LIMIT && starts_with nat_eq bytes (image_of entry)) entry e is in
+    let parts = and_parts (nat_le n RECORD_LIMIT) (starts_with nat_eq bytes (image_of entry)) p.0 in
     let there = begun bytes entry parts.1 in
-    let lawful = lawful_told n bytes (drop (length (image_of entry)) bytes) (leb-true n record_limit parts.0) refl there in
+    let lawful = lawful_told n bytes (drop (length (image_of entry)) bytes) (leb-true n RECORD_LIMIT parts.0) refl there in
     let P : PlainEntry → Type 0 = λ x. IsTapeEntry x × (bytes ≡ image_of x ++ drop (length (image_of x)) bytes) in
     subst P p.1 (lawful, there)
 

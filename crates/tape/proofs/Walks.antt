@@ -6,8 +6,8 @@ use Rattle.tape.specs.Tape.{PlainEntry, Tape, tape, entries_of, stands_at, mark_
 use Rattle.tape.specs.Tape.PlainEntry.{Record, Mark}
 use Rattle.tape.specs.Medium.{MediumKind}
 use Rattle.tape.specs.RecordFile.{IsFile}
-use Rattle.tape.specs.FileSteps.{IsRun, IsPassed, IsWalked, ahead, moved, way_left}
-use Rattle.tape.specs.declared.file_reel.walk.Passed.{Passed}
+use Rattle.tape.specs.FileSteps.{IsMediumRun, IsPassed, IsWalked, ahead, place_after, way_left}
+use Rattle.tape.specs.declared.file_reel.walk.PassedEntry.{PassedEntry}
 use Rattle.tape.proofs.MediumRuns.{run_as, run_then}
 use Rattle.tape.proofs.Spacing.{IsCounted, mark_of_marks, record_of_marks, mark_of_records, record_of_records, marks_end, records_end}
 use Rattle.tape.specs.declared.file_reel.walk.Way.{Way}
@@ -18,7 +18,7 @@ use Rattle.tape.specs.declared.file_reel.walk.Way.TheVariants.{Forward, Back}
 pub record Walks (way : Way) (count met passed : ℕ) (bytes : List ℕ) (t : Tape) (at left : ℕ) (met_on passed_on : Tape → ℕ) : Type 0 where
   pub to : Tape
   pub file : IsFile bytes at to
-  pub place : stands_at (moved way passed t) t ≡ stands_at (moved way (passed_on to) to) to
+  pub place : stands_at (place_after way passed t) t ≡ stands_at (place_after way (passed_on to) to) to
   pub left_is : count - met ≡ left - met_on to
 
 pub walks_from : (way : Way) (count : ℕ) (bytes : List ℕ) (t : Tape) (at : ℕ) (met_on passed_on : Tape → ℕ) → IsFile bytes at t
@@ -36,12 +36,12 @@ pub walks_on : {way : Way} {count met passed : ℕ} {bytes : List ℕ} {t : Tape
 walks_on {way = way} {passed_next = passed_next} w u file p far met = record {
   to = u;
   file = file;
-  place = w.place ∙ ap (λ n. stands_at (moved way n w.to) w.to) far ∙ ap (λ n. stands_at n w.to) (p.place (passed_next u)) ∙ same_stand (moved way (passed_next u) u) w.to u p.same;
+  place = w.place ∙ ap (λ n. stands_at (place_after way n w.to) w.to) far ∙ ap (λ n. stands_at n w.to) (p.place (passed_next u)) ∙ same_stand (place_after way (passed_next u) u) w.to u p.same;
   left_is = w.left_is ∙ met;
 }
 
 -- a tape stands where it stands
-pub stands_here : (way : Way) (before after : List PlainEntry) → stands_at (moved way 0 (tape before after)) (tape before after) ≡ tape before after
+pub stands_here : (way : Way) (before after : List PlainEntry) → stands_at (place_after way 0 (tape before after)) (tape before after) ≡ tape before after
 stands_here Forward before after =
     let none : length before + 0 ≡ length before = omega arith in
     ap (λ n. stands_at n (tape before after)) none ∙ ap (λ x. tape x (drop (length before) (before ++ after))) (take-append_seam before after) ∙ ap (tape before) (drop-append_seam before after)
@@ -55,7 +55,7 @@ pub walks_end : {way : Way} {count met passed : ℕ} {bytes : List ℕ} {t : Tap
 walks_end {way = way} w none met = record {
   to = w.to;
   file = w.file;
-  place = sym (w.place ∙ ap (λ n. stands_at (moved way n w.to) w.to) none ∙ stands_here way w.to.before w.to.after);
+  place = sym (w.place ∙ ap (λ n. stands_at (place_after way n w.to) w.to) none ∙ stands_here way w.to.before w.to.after);
   left_is = sym (w.left_is ∙ met);
 }
 
@@ -78,7 +78,7 @@ Goes way count offset at left met far old new = (new ≡ old) × ((t : Tape) →
     Walks way count (met t) (far count t) old t at left met (far left))
 
 -- the bytes stay, and this was found on the way from an offset
-abbrev pub Finds : Way → ℕ → Option Passed → List ℕ → List ℕ → Type 0
+abbrev pub Finds : Way → ℕ → Option PassedEntry → List ℕ → List ℕ → Type 0
 Finds way at found old new = (new ≡ old) × ((t : Tape) → IsFile old at t →
     MatchOption found (ahead way t ≡ []) (λ p. (u : Tape) × IsFile old p.at u × IsPassed way t p.is_mark u))
 
@@ -95,10 +95,10 @@ goes_none way count offset met far bytes = (refl, λ t file. walks_from way coun
 same_file : {x y : List ℕ} {at : ℕ} {t : Tape} → y ≡ x → IsFile x at t → IsFile y at t
 same_file {at = at} {t} e f = subst (λ b. IsFile b at t) (sym e) f
 
-pub goes_on : {S : Type 0} {m : MediumKind S} {a b c : S} {way : Way} {count offset at left left' : ℕ} {found : Option Passed} {passed : Passed} {F : Type 0} (met : Tape → ℕ) (far : ℕ → Tape → ℕ)
-    → IsRun m (Goes way count offset at left met far) 0 ⊥ a b → IsRun m (Finds way at found) 0 F b c → (F → ⊥) → found ≡ Some passed
+pub goes_on : {S : Type 0} {m : MediumKind S} {a b c : S} {way : Way} {count offset at left left' : ℕ} {found : Option PassedEntry} {passed : PassedEntry} {F : Type 0} (met : Tape → ℕ) (far : ℕ → Tape → ℕ)
+    → IsMediumRun m (Goes way count offset at left met far) 0 ⊥ a b → IsMediumRun m (Finds way at found) 0 F b c → (F → ⊥) → found ≡ Some passed
     → ((t u : Tape) → IsPassed way t passed.is_mark u → IsCounted (far left t) (far left' u) (met t) (met u) left left')
-    → IsRun m (Goes way count offset passed.at left' met far) 0 ⊥ a c
+    → IsMediumRun m (Goes way count offset passed.at left' met far) 0 ⊥ a c
 goes_on {way = way} {at = at} {passed = passed} met far r q not is counts =
     run_then r q (λ f. f) not (λ f. absurd f) (omega arith)
     (λ x y z held f n. (
@@ -112,16 +112,16 @@ goes_on {way = way} {at = at} {passed = passed} met far r q not is counts =
 
 -- the walk ends where it stands, with nothing left to pass
 pub goes_end : {S : Type 0} {m : MediumKind S} {a b : S} {way : Way} {count offset at left : ℕ} {G : Type 0} (met : Tape → ℕ) (far : ℕ → Tape → ℕ)
-    → IsRun m (Goes way count offset at left met far) 0 ⊥ a b → (G → ⊥)
+    → IsMediumRun m (Goes way count offset at left met far) 0 ⊥ a b → (G → ⊥)
     → ((t : Tape) → far left t ≡ 0) → ((t : Tape) → left - met t ≡ left)
-    → IsRun m (Ends way count offset at left met far) 0 G a b
+    → IsMediumRun m (Ends way count offset at left met far) 0 G a b
 goes_end met far r never none all = run_as r (λ f. absurd f) never (omega arith) (λ x y held f. (f.0, λ t file. let w = f.1 t file in walks_end w (none w.to) (all w.to)))
 
 -- or with nothing found on the way
-pub goes_out : {S : Type 0} {m : MediumKind S} {a b c : S} {way : Way} {count offset at left : ℕ} {found : Option Passed} {F G : Type 0} (met : Tape → ℕ) (far : ℕ → Tape → ℕ)
-    → IsRun m (Goes way count offset at left met far) 0 ⊥ a b → IsRun m (Finds way at found) 0 F b c → (F → G) → (G → F) → found ≡ None
+pub goes_out : {S : Type 0} {m : MediumKind S} {a b c : S} {way : Way} {count offset at left : ℕ} {found : Option PassedEntry} {F G : Type 0} (met : Tape → ℕ) (far : ℕ → Tape → ℕ)
+    → IsMediumRun m (Goes way count offset at left met far) 0 ⊥ a b → IsMediumRun m (Finds way at found) 0 F b c → (F → G) → (G → F) → found ≡ None
     → ((t : Tape) → ahead way t ≡ [] → (far left t ≡ 0) × (met t ≡ 0))
-    → IsRun m (Ends way count offset at left met far) 0 G a c
+    → IsMediumRun m (Ends way count offset at left met far) 0 G a c
 goes_out {way = way} {left = left} met far r q to from is none =
     run_then r q (λ f. f) to from (omega arith)
     (λ x y z held f n. (
@@ -136,8 +136,8 @@ goes_out {way = way} {left = left} met far r q to from is none =
 
 -- or where the medium failed
 pub goes_wrong : {S : Type 0} {m : MediumKind S} {a b c : S} {way : Way} {count offset at left : ℕ} {next : List ℕ → List ℕ → Type 0} {F G : Type 0} (met : Tape → ℕ) (far : ℕ → Tape → ℕ)
-    → IsRun m (Goes way count offset at left met far) 0 ⊥ a b → IsRun m (λ old new. (new ≡ old) × next old new) 0 F b c → (F → G) → (G → F)
-    → IsRun m (λ old new. (new ≡ old) × Unit {0}) 0 G a c
+    → IsMediumRun m (Goes way count offset at left met far) 0 ⊥ a b → IsMediumRun m (λ old new. (new ≡ old) × next old new) 0 F b c → (F → G) → (G → F)
+    → IsMediumRun m (λ old new. (new ≡ old) × Unit {0}) 0 G a c
 goes_wrong met far r q to from = run_then r q (λ f. f) to from (omega arith) (λ x y z held f n. (n.0 ∙ f.0, tt))
 
 -- which entry was passed
@@ -179,7 +179,7 @@ pub marks_gone : (way : Way) (left : ℕ) (t : Tape) → ahead way t ≡ [] → 
 marks_gone way left t is = marks_end left (ahead way t) is
 
 -- what was found is nearer to the end of the way
-pub nearer_on : (way : Way) (at : ℕ) {found : Option Passed} {passed : Passed} → found ≡ Some passed
+pub nearer_on : (way : Way) (at : ℕ) {found : Option PassedEntry} {passed : PassedEntry} → found ≡ Some passed
     → IfSome found (λ p. way_left way p.at < way_left way at) → way_left way passed.at < way_left way at
 nearer_on way at is near = subst (λ o. IfSome o (λ p. way_left way p.at < way_left way at)) is near
 
@@ -211,10 +211,10 @@ pub records_gone : (way : Way) (left : ℕ) (t : Tape) → ahead way t ≡ [] �
 records_gone way left t is = records_end left (ahead way t) is
 
 -- the walk ends after one entry more, where it stops
-pub goes_stop : {S : Type 0} {m : MediumKind S} {a b c : S} {way : Way} {count offset at left : ℕ} {found : Option Passed} {passed : Passed} {F G : Type 0} (met : Tape → ℕ) (far : ℕ → Tape → ℕ)
-    → IsRun m (Goes way count offset at left met far) 0 ⊥ a b → IsRun m (Finds way at found) 0 F b c → (F → G) → (G → F) → found ≡ Some passed
+pub goes_stop : {S : Type 0} {m : MediumKind S} {a b c : S} {way : Way} {count offset at left : ℕ} {found : Option PassedEntry} {passed : PassedEntry} {F G : Type 0} (met : Tape → ℕ) (far : ℕ → Tape → ℕ)
+    → IsMediumRun m (Goes way count offset at left met far) 0 ⊥ a b → IsMediumRun m (Finds way at found) 0 F b c → (F → G) → (G → F) → found ≡ Some passed
     → ((t u : Tape) → IsPassed way t passed.is_mark u → IsCounted (far left t) 0 (met t) 0 left left)
-    → IsRun m (Ends way count offset passed.at left met far) 0 G a c
+    → IsMediumRun m (Ends way count offset passed.at left met far) 0 G a c
 goes_stop {way = way} {left = left} {passed = passed} met far r q to from is counts =
     run_then r q (λ f. f) to from (omega arith)
     (λ x y z held f n. (

@@ -11,28 +11,20 @@ use Rattle.tape.specs.Tape.PlainEntry.{Record, Mark}
 use Rattle.tape.specs.Medium.{MediumStep}
 use Rattle.tape.specs.Medium.MediumCall.{Append, Cut}
 use Rattle.tape.specs.RecordFile.{length_bytes, image_of, images_of, IsTail, SpellsReel, IsFile, first_in}
-use Rattle.tape.specs.FileSteps.{IsWritten}
+use Rattle.tape.specs.FileSteps.{IsImageWritten}
 use Rattle.tape.specs.declared.medium.MediumFailed.{MediumFailed}
 use Rattle.tape.proofs.Spelling.{length_length_bytes, first_image, tail_spells, tail_short, more_spells}
+use Rattle.tape.proofs.Appends.{beyond}
 use Rattle.tape.proofs.Places.{parted, joined, front_is}
-
--- ---- bytes that were added
-
--- some of more than there are is all of it
-beyond : (n : ℕ) (a b : List ℕ) → take (length a + n) (a ++ b) ≡ a ++ take n b
-beyond n [] b = ap (λ k. take k b) (omega arith)
-beyond n (x ∷ a) b =
-    let more : suc (length a) + n ≡ suc (length a + n) = omega arith in
-    ap (λ k. take k (x ∷ (a ++ b))) more ∙ ap (λ l. x ∷ l) (beyond n a b)
 
 -- ---- a cut and an append
 
 pub cut_append : (at : ℕ) (image : List ℕ) (r : Result Unit MediumFailed) (u : Unit {0}) (x y z : List ℕ) → MediumStep (Cut at (Ok u)) x y
-    → MediumStep (Append image r) y z → IsWritten at image r x z
+    → MediumStep (Append image r) y z → IsImageWritten at image r x z
 cut_append at image (Ok v) u x y z first next = next ∙ ap (λ l. l ++ image) first
 cut_append at image (Err e) u x y z first next = inr (next.0, next.1 ∙ ap (λ l. l ++ take next.0 image) first)
 
-pub cut_failed : (at : ℕ) (image : List ℕ) (e d : MediumFailed) (x y : List ℕ) → MediumStep (Cut at (Err e)) x y → IsWritten at image (Err d) x y
+pub cut_failed : (at : ℕ) (image : List ℕ) (e d : MediumFailed) (x y : List ℕ) → MediumStep (Cut at (Err e)) x y → IsImageWritten at image (Err d) x y
 cut_failed at image e d x y step = elim step [ inl same ↦ inl same | inr gone ↦ inr (0, gone ∙ sym (append-nil (take at x))) ]
 
 -- ---- what was written as entries
@@ -92,7 +84,7 @@ written_whole x y image at to t written f lawful image_is to_is is =
     })
 
 pub written_part : (x y image : List ℕ) (at : ℕ) (e : MediumFailed) (t : Tape) (written : List PlainEntry) → IsFile x at t → All IsTapeEntry written
-    → image ≡ images_of written → IsWritten at image (Err e) x y
+    → image ≡ images_of written → IsImageWritten at image (Err e) x y
     → (u : Tape) × IsFile y at u × ((u.before ≡ t.before) × ((u.after ≡ t.after) ⊎ ((n : ℕ) × (u.after ≡ take n written))))
 written_part x y image at e t written f lawful image_is step = elim step [
   | inl same ↦ (t, subst (λ l. IsFile l at t) (sym same) f, (refl, inl refl))

@@ -25,24 +25,38 @@ CanAnswer Rewind answer = answer ≡ Done
 CanAnswer Nothing answer = answer ≡ Done
 CanAnswer Unknown answer = answer ≡ Fault BadOperation
 
-pub record IsCall {S : Type 0} (holds : S → Tape → Type 0) (capacity : S → ℕ) (failures : S → ℕ) (can_fail : S → Type 0)
-    (makes : S → S → TapeRequest → TapeAnswer → Type 0) (grows : Bool)
-    (old new : S) (request : TapeRequest) (answer : TapeAnswer) : Type 0 where
+-- what reels of a kind promise: the tape that they tell, how many bytes they take, the count of failures, whether the
+-- device can fail, what they promise of a call beside what every reel promises, and whether a call can ask for memory
+pub record ReelKind (S : Type 0) : Type 1 where
+  pub holds : S → Tape → Type 0
+  pub capacity : S → ℕ
+  pub failures : S → ℕ
+  pub can_fail : S → Type 0
+  pub makes : S → S → TapeRequest → TapeAnswer → Type 0
+  pub grows : Bool
+
+abbrev pub reel_kind : {S : Type 0} → (S → Tape → Type 0) → (S → ℕ) → (S → ℕ) → (S → Type 0)
+    → (S → S → TapeRequest → TapeAnswer → Type 0) → Bool → ReelKind S
+reel_kind holds capacity failures can_fail makes grows =
+    record { holds = holds; capacity = capacity; failures = failures; can_fail = can_fail; makes = makes; grows = grows }
+
+-- one call of a reel
+pub record IsTapeCall {S : Type 0} (r : ReelKind S) (old new : S) (request : TapeRequest) (answer : TapeAnswer) : Type 0 where
   -- where the reel tells, the call is a step of its tape
-  pub step : Steps holds old new (λ t u. TapeStep (capacity old) t request answer u)
+  pub step : Steps r.holds old new (λ t u. TapeStep (r.capacity old) t request answer u)
   -- and whether it tells or not, the answer is one that the call can have
   pub can : CanAnswer request answer
   -- the device is at fault only where it failed in the call
-  pub device : answer ≡ Fault Device → HasRisen (failures old) (failures new)
+  pub device : answer ≡ Fault Device → HasRisen (r.failures old) (r.failures new)
   -- and where it failed in the call, that is the answer
-  pub failed : (failures new ≡ failures old) ⊎ (answer ≡ Fault Device)
+  pub failed : (r.failures new ≡ r.failures old) ⊎ (answer ≡ Fault Device)
   -- it is at fault only where it can fail, which no call brings about
-  pub able : answer ≡ Fault Device → can_fail old
-  pub quiet : can_fail new → can_fail old
+  pub able : answer ≡ Fault Device → r.can_fail old
+  pub quiet : r.can_fail new → r.can_fail old
   -- memory is wanting only where the reel grows
-  pub memory : answer ≡ Fault OutOfMemory → IsTrue grows
+  pub memory : answer ≡ Fault OutOfMemory → IsTrue r.grows
   -- the count of failures does not fall
-  pub counted : failures old ≤ failures new
-  pub same_capacity : capacity new ≡ capacity old
+  pub counted : r.failures old ≤ r.failures new
+  pub same_capacity : r.capacity new ≡ r.capacity old
   -- and what this kind of reel promises beside that
-  pub made : makes old new request answer
+  pub made : r.makes old new request answer

@@ -4,7 +4,7 @@ use Rattle.std.specs.List.{slice_get}
 use Rattle.std.specs.Option.{option_map}
 use Rattle.tape.specs.Tape.{PlainEntry, Tape, TapeRequest, TapeAnswer, entries_of}
 use Rattle.tape.specs.Tape.PlainEntry.{Record, Mark}
-use Rattle.tape.specs.Call.{IsCall}
+use Rattle.tape.specs.Call.{IsTapeCall, ReelKind, reel_kind}
 use Rattle.tape.specs.Media.{MemoryBytes, IsMemory}
 use Rattle.tape.specs.RecordFile.{FileTape, HoldsTape, tape_in}
 use Rattle.tape.specs.declared.entry.Entry.{Entry}
@@ -27,9 +27,13 @@ IsSeen r = HoldsTape IsMemory r (seen r).tape
 abbrev pub IsTape : ListTape → Tape → Type 0
 IsTape reel t = reel.tape ≡ t
 
--- a call of a reel in memory, whose device never fails
+-- its device never fails
+abbrev pub list_kind : ReelKind ListTape
+list_kind = reel_kind IsTape (λ r. r.capacity) (λ _. 0) (λ _. ⊥) (λ _ _ _ _. Unit {0}) true
+
+-- a call of a reel in memory
 abbrev pub IsListCall : ListTape → ListTape → TapeRequest → TapeAnswer → Type 0
-IsListCall old new request answer = IsCall IsTape (λ r. r.capacity) (λ _. 0) (λ _. ⊥) (λ _ _ _ _. Unit {0}) true old new request answer
+IsListCall old new request answer = IsTapeCall list_kind old new request answer
 
 -- an entry as plain bytes
 abbrev pub plain_of : Entry → PlainEntry

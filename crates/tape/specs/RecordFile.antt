@@ -1,13 +1,16 @@
 -- A record file: a reel's entries as bytes (the format is this project's own). Public contracts cite it.
-use Rattle.std.specs.Prelude.{◌≡◌, ◌≢◌, ◌⊎◌, ◌&&◌, ◌==◌, if◌then◌else◌, ℕ, zero, suc, ◌+◌, ◌*◌, ◌<◌, ◌≤◌, List, [], ◌∷◌, ◌++◌, length, take, drop, flat_map, nat_eq, nat_le, Option, Some, None, refl}
+use Rattle.std.specs.Prelude.{◌≡◌, ◌≢◌, ◌⊎◌, ◌&&◌, ◌==◌, if◌then◌else◌, ℕ, zero, suc, ◌+◌, ◌*◌, ◌<◌, ◌≤◌, false, List, [], ◌∷◌, ◌++◌, length, take, drop, flat_map, nat_eq, nat_le, Option, Some, None, refl}
 use Rattle.std.specs.Coded.{Coded, code_by, coded×, coded_ℕ}
 use Rattle.std.specs.Int.{w32, to_le_bytes, from_le_bytes}
 use Rattle.std.specs.List.{All, starts_with}
-use Rattle.tape.specs.Tape.{PlainEntry, Tape, TapeRequest, TapeAnswer, IsTapeEntry, entries_of, record_limit, tape}
+use Rattle.tape.specs.Tape.{PlainEntry, Tape, TapeRequest, TapeAnswer, IsEntryUpTo, entries_of, tape}
+use Rattle.rmt_wire.specs.declared.limits.TheConstants.{RECORD_LIMIT}
 use Rattle.tape.specs.Tape.PlainEntry.{Record, Mark}
 use Rattle.tape.specs.Tape.TapeRequest.{Write, WriteMarks}
 use Rattle.tape.specs.Tape.TapeAnswer.{Fault}
-use Rattle.tape.specs.Medium.{MediumKind}
+use Rattle.tape.specs.Call.{ReelKind, reel_kind}
+use Rattle.tape.specs.Medium.{MediumKind, medium_kind}
+use Rattle.tape.specs.declared.medium.Medium.{Ghosts as MediumPromise}
 use Rattle.tape.specs.declared.fault.TapeFault.TheVariants.{Device}
 
 -- a length as it stands in the file: 4 bytes, little-endian
@@ -23,16 +26,24 @@ image_of Mark = length_bytes 0
 abbrev pub images_of : List PlainEntry → List ℕ
 images_of entries = flat_map image_of entries
 
--- no beginning of these bytes is the image of an entry
-abbrev pub IsTail : List ℕ → Type 0
-IsTail tail = (entry : PlainEntry) (rest : List ℕ) → IsTapeEntry entry → tail ≢ image_of entry ++ rest
+-- no beginning of these bytes is the image of an entry, where a record has so many bytes at most
+abbrev pub IsTailUpTo : ℕ → List ℕ → Type 0
+IsTailUpTo most tail = (entry : PlainEntry) (rest : List ℕ) → IsEntryUpTo most entry → tail ≢ image_of entry ++ rest
 
--- The bytes spell these entries: their images, and then a tail, which is ignored.
-pub record SpellsReel (bytes : List ℕ) (entries : List PlainEntry) : Type 0 where
+-- the same, where a record has at most as many as the wire can say
+abbrev pub IsTail : List ℕ → Type 0
+IsTail tail = IsTailUpTo RECORD_LIMIT tail
+
+-- The bytes spell these entries, where a record has so many bytes at most: their images, and then a tail, which is ignored.
+pub record SpellsReelUpTo (most : ℕ) (bytes : List ℕ) (entries : List PlainEntry) : Type 0 where
   pub tail : List ℕ
   pub whole : bytes ≡ images_of entries ++ tail
-  pub is_tail : IsTail tail
-  pub lawful : All IsTapeEntry entries
+  pub is_tail : IsTailUpTo most tail
+  pub lawful : All (IsEntryUpTo most) entries
+
+-- the same, where a record has at most as many as the wire can say
+abbrev pub SpellsReel : List ℕ → List PlainEntry → Type 0
+SpellsReel bytes entries = SpellsReelUpTo RECORD_LIMIT bytes entries
 
 -- The bytes spell the entries of this tape, and its place is at this offset.
 pub record IsFile (bytes : List ℕ) (offset : ℕ) (t : Tape) : Type 0 where
@@ -44,7 +55,7 @@ unfoldable pub first_in : List ℕ → Option PlainEntry
 first_in bytes =
     let n = from_le_bytes w32 (take 4 bytes) in
     let entry = if n == 0 then Mark else Record (take n (drop 4 bytes)) in
-    if nat_le n record_limit && starts_with nat_eq bytes (image_of entry) then Some entry else None
+    if nat_le n RECORD_LIMIT && starts_with nat_eq bytes (image_of entry) then Some entry else None
 
 -- the entries whose images begin the bytes, one after the other, and so many at most
 unfoldable pub entries_within : ℕ → List ℕ → List PlainEntry
@@ -93,3 +104,13 @@ pub record IsFileCall {M : Type 0} (m : MediumKind M) (old new : FileTape M) (re
   pub cause : answer ≡ Fault Device → m.can_fail old.medium ⊎ (m.spare old.medium < image_added request)
   pub quiet : m.can_fail new.medium → m.can_fail old.medium
   pub room : m.spare old.medium ≤ m.spare new.medium + image_added request
+
+-- what media of a type promise
+abbrev pub medium_kind_of : {M : Type 0} → MediumPromise M → MediumKind M
+medium_kind_of m = medium_kind m.holds m.failures m.can_fail m.spare
+
+-- What a reel on such a medium promises. Each device can fail, as far as every reel says it.
+abbrev pub file_reel_kind : {M : Type 0} → MediumKind M → ReelKind (FileTape M)
+file_reel_kind m =
+    reel_kind (HoldsTape m.holds) (λ r. r.capacity) (λ r. m.failures r.medium) (λ _. Unit {0})
+    (λ old new request answer. IsFileCall m old new request answer) false

@@ -1,5 +1,7 @@
 -- A reel of tape, and what each call does to it (the operations are mtio's, their effects this project's). Public contracts cite it.
 use Rattle.std.specs.Prelude.{◌≡◌, ◌⊎◌, ℕ, zero, suc, ◌+◌, ◌-◌, ◌*◌, ◌<◌, ◌≤◌, ◌==◌, if◌then◌else◌, List, [], ◌∷◌, ◌++◌, length, reverse, sum_by, take, drop, replicate, Result, Ok, Err}
+use Rattle.rmt_wire.specs.declared.limits.TheConstants.{RECORD_LIMIT}
+use Rattle.rmt_wire.specs.declared.mtio.TheConstants.{MTWEOF, MTFSF, MTBSF, MTFSR, MTBSR, MTREW, MTNOP}
 use Rattle.tape.specs.declared.fault.TapeFault.{TapeFault}
 use Rattle.tape.specs.declared.fault.TapeFault.TheVariants.{Device, Full, EndOrMark, BadOperation, OutOfMemory}
 
@@ -30,18 +32,22 @@ tape before after = record { before = before; after = after }
 abbrev pub entries_of : Tape → List PlainEntry
 entries_of t = t.before ++ t.after
 
--- the greatest length of a record, in bytes
-abbrev pub record_limit : ℕ
-record_limit = 65536
+-- a record has 1 byte at least, and so many at most
+abbrev pub IsRecordUpTo : ℕ → List ℕ → Type 0
+IsRecordUpTo most bytes = (0 < length bytes) × (length bytes ≤ most)
 
--- a record has 1 byte at least, and at most so many
+-- the same, with at most as many as the wire can say
 abbrev pub IsRecord : List ℕ → Type 0
-IsRecord bytes = (0 < length bytes) × (length bytes ≤ record_limit)
+IsRecord bytes = IsRecordUpTo RECORD_LIMIT bytes
 
--- what a reel in memory holds at a place: a record of such a length, or a mark
+-- what a reel holds at a place: a record of so many bytes at most, or a mark
+abbrev pub IsEntryUpTo : ℕ → PlainEntry → Type 0
+IsEntryUpTo most (Record bytes) = IsRecordUpTo most bytes
+IsEntryUpTo most Mark = Unit {0}
+
+-- the same, where the record has at most as many as the wire can say
 abbrev pub IsTapeEntry : PlainEntry → Type 0
-IsTapeEntry (Record bytes) = IsRecord bytes
-IsTapeEntry Mark = Unit {0}
+IsTapeEntry entry = IsEntryUpTo RECORD_LIMIT entry
 
 pub data TapeRequest : Type 0 where
   Write : (bytes : List ℕ) → TapeRequest
@@ -194,13 +200,13 @@ TapeStep capacity t Unknown answer u = UnknownStep t answer u
 -- what an operation's number asks for
 abbrev pub op_request : ℕ → ℕ → TapeRequest
 op_request op count =
-    if op == 0 then WriteMarks count
-    else if op == 1 then ForwardFiles count
-    else if op == 2 then BackFiles count
-    else if op == 3 then ForwardRecords count
-    else if op == 4 then BackRecords count
-    else if op == 5 then Rewind
-    else if op == 7 then Nothing
+    if op == MTWEOF then WriteMarks count
+    else if op == MTFSF then ForwardFiles count
+    else if op == MTBSF then BackFiles count
+    else if op == MTFSR then ForwardRecords count
+    else if op == MTBSR then BackRecords count
+    else if op == MTREW then Rewind
+    else if op == MTNOP then Nothing
     else Unknown
 
 -- what a call that gives no bytes answered

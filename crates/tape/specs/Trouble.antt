@@ -5,7 +5,7 @@ use Rattle.tape.specs.Tape.{PlainEntry, Tape, TapeRequest, TapeAnswer, TapeStep,
 use Rattle.tape.specs.Tape.PlainEntry.{Record, Mark}
 use Rattle.tape.specs.Tape.TapeRequest.{Write, Read, WriteMarks, ForwardFiles, BackFiles, ForwardRecords, BackRecords, Rewind, Nothing, Unknown}
 use Rattle.tape.specs.Tape.TapeAnswer.{Fault}
-use Rattle.tape.specs.Call.{IsCall}
+use Rattle.tape.specs.Call.{IsTapeCall, ReelKind, reel_kind}
 use Rattle.tape.specs.declared.fault.TapeFault.TheVariants.{Device, OutOfMemory}
 use Rattle.tape.specs.declared.trouble.Trouble.{Trouble}
 use Rattle.tape.specs.declared.trouble.Trouble.TheVariants.{None, Kept, Lost, Written}
@@ -57,6 +57,11 @@ DeviceStep capacity trouble t request (Fault Device) u =
 DeviceStep capacity trouble t request (Fault OutOfMemory) u = TapeStep capacity t request (Fault OutOfMemory) u
 DeviceStep capacity trouble t request answer u = IsSpared capacity trouble t request × TapeStep capacity t request answer u
 
+-- each of these steps is one of a tape of this capacity
+abbrev pub AreTapeSteps : ℕ → (Tape → TapeRequest → TapeAnswer → Tape → Type 0) → Type 0
+AreTapeSteps capacity step =
+    (t : Tape) (request : TapeRequest) (answer : TapeAnswer) (u : Tape) → step t request answer u → TapeStep capacity t request answer u
+
 -- what a reel is whose device can be told to fail: its tape, how many bytes it takes, how the next device call fails,
 -- and how many have failed
 pub record TroubledTape : Type 0 where
@@ -80,10 +85,13 @@ pub record TroubledStep (old new : TroubledTape) (request : TapeRequest) (answer
   pub counted : IsCounted answer old new
   pub same_capacity : new.capacity ≡ old.capacity
 
--- what it promises as a reel: its device can fail where a trouble is set
+-- its device can fail where a trouble is set
+abbrev pub troubled_kind : ReelKind TroubledTape
+troubled_kind = reel_kind IsTapeOf (λ r. r.capacity) (λ r. r.failures) (λ r. r.trouble ≢ None) TroubledStep true
+
+-- what it promises as a reel
 abbrev pub IsTroubledCall : TroubledTape → TroubledTape → TapeRequest → TapeAnswer → Type 0
-IsTroubledCall old new request answer =
-    IsCall IsTapeOf (λ r. r.capacity) (λ r. r.failures) (λ r. r.trouble ≢ None) TroubledStep true old new request answer
+IsTroubledCall old new request answer = IsTapeCall troubled_kind old new request answer
 
 -- How many of so many entries that are written stand afterwards: no number where what stood before stands.
 abbrev pub IsTroubleLeft : Trouble → ℕ → Option ℕ → Type 0

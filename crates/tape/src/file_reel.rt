@@ -4,20 +4,18 @@ ghost use Rattle.std.specs.Prelude.{◌≡◌, ◌+◌, ◌*◌, ◌^◌, ◌<�
 ghost use Rattle.tape.specs.Tape.{PlainEntry, IsRecord, tape, done_answer};
 ghost use Rattle.tape.specs.Tape.PlainEntry.{Record, Mark};
 ghost use Rattle.tape.specs.Tape.TapeRequest.{WriteMarks};
-ghost use Rattle.tape.specs.Call.{IsCall};
-ghost use Rattle.tape.specs.Medium.{medium_kind};
-ghost use Rattle.tape.specs.RecordFile.{FileTape, SpellsReel, HoldsTape, IsFileCall};
-ghost use Rattle.tape.specs.FileSteps.{IsReelRun, Puts, files_request, records_request};
+ghost use Rattle.tape.specs.Call.{IsTapeCall};
+ghost use Rattle.tape.specs.RecordFile.{FileTape, SpellsReel, HoldsTape, IsFileCall, file_reel_kind, medium_kind_of};
+ghost use Rattle.tape.specs.FileSteps.{IsReelRun, PutsEntries, files_request, records_request};
 ghost use Rattle.tape.specs.declared.fault.TapeFault.TheVariants.{Device, OutOfMemory};
 
 mod image;
 mod walk;
 
 use crate::entry::{MARK_SIZE, RECORD_FRAME};
-use crate::{
-    MTBSF, MTBSR, MTFSF, MTFSR, MTNOP, MTREW, MTWEOF, Medium, MemoryMedium, Reel, TapeFault,
-};
+use crate::{Medium, MemoryMedium, Reel, TapeFault};
 use image::{next_length, put_marks, put_record, size_of};
+use rmt_wire::mtio::{MTBSF, MTBSR, MTFSF, MTFSR, MTNOP, MTREW, MTWEOF};
 use std::marker::Model;
 use walk::{Way, walk_files, walk_records};
 
@@ -47,6 +45,14 @@ impl<M: Medium> FileReel<M> {
         ensures { result.now ≡ self.now.medium }
     {
         &self.medium
+    }
+
+    /// Gives the medium back as it is, so that it can be opened again. It makes no call of the medium.
+    pub fn into_medium(self) -> M
+        ensures { result ≡ self.medium }
+    {
+        let FileReel { medium, .. } = self;
+        medium
     }
 
     /// The reel that lies on this medium, at its beginning, and takes so many bytes. It makes no call of the medium.
@@ -93,7 +99,7 @@ impl<M: Medium> FileReel<M> {
     ///
     /// Answers `Device`. The entries are the same then, or cut.
     pub(crate) fn cut(&mut self) -> Result<(), TapeFault>
-        ensures run { IsReelRun (medium_kind M.holds M.failures M.can_fail M.spare) (Puts [] result) 0 (IsErr result) self.old self.new }
+        ensures run { IsReelRun (medium_kind_of M.Medium) (PutsEntries [] result) 0 (IsErr result) self.old self.new }
         ensures device { IfErr result (λ fault. fault ≡ Device) }
     {
         self.medium.cut(self.offset)?;
@@ -106,7 +112,7 @@ impl<M: Medium> FileReel<M> {
     pub(crate) fn put_record(&mut self, bytes: &[u8]) -> Result<(), TapeFault>
         requires record_is { IsRecord bytes.now }
         requires room { self.old.offset + (length bytes.now + 8) < 2 ^ 64 }
-        ensures run { IsReelRun (medium_kind M.holds M.failures M.can_fail M.spare) (Puts (Record bytes.now ∷ []) result)
+        ensures run { IsReelRun (medium_kind_of M.Medium) (PutsEntries (Record bytes.now ∷ []) result)
             (length bytes.now + 8) (IsErr result) self.old self.new }
         ensures device { IfErr result (λ fault. fault ≡ Device) }
     {
@@ -120,7 +126,7 @@ impl<M: Medium> FileReel<M> {
     /// Answers `Device`. The place is the same then, and from it on stands what stood, or the first of the marks.
     pub(crate) fn put_marks(&mut self, count: u32) -> Result<(), TapeFault>
         requires { self.old.offset + 4 * count < 2 ^ 64 }
-        ensures run { IsReelRun (medium_kind M.holds M.failures M.can_fail M.spare) (Puts (replicate count Mark) result)
+        ensures run { IsReelRun (medium_kind_of M.Medium) (PutsEntries (replicate count Mark) result)
             (4 * count) (IsErr result) self.old self.new }
         ensures device { IfErr result (λ fault. fault ≡ Device) }
     {
@@ -131,9 +137,7 @@ impl<M: Medium> FileReel<M> {
 
     /// Writes so many marks at the place.
     fn write_marks(&mut self, count: u32) -> Result<(), TapeFault>
-        ensures { IsCall (HoldsTape M.holds) (λ r. r.capacity) (λ r. M.failures r.medium) (λ _. Unit {0})
-            (λ old new request answer. IsFileCall (medium_kind M.holds M.failures M.can_fail M.spare) old new request answer)
-            false self.old self.new (WriteMarks count) (done_answer result) }
+        ensures { IsTapeCall (file_reel_kind (medium_kind_of M.Medium)) self.old self.new (WriteMarks count) (done_answer result) }
     {
         if count == 0 {
             return Ok(());
@@ -146,9 +150,7 @@ impl<M: Medium> FileReel<M> {
 
     /// Goes past so many marks on the way, or as far as it goes.
     fn space_files(&mut self, way: Way, count: u32) -> Result<(), TapeFault>
-        ensures { IsCall (HoldsTape M.holds) (λ r. r.capacity) (λ r. M.failures r.medium) (λ _. Unit {0})
-            (λ old new request answer. IsFileCall (medium_kind M.holds M.failures M.can_fail M.spare) old new request answer)
-            false self.old self.new (files_request way count) (done_answer result) }
+        ensures { IsTapeCall (file_reel_kind (medium_kind_of M.Medium)) self.old self.new (files_request way count) (done_answer result) }
     {
         let walked = walk_files(&mut self.medium, way, self.offset, count)?;
         self.offset = walked.at;
@@ -157,9 +159,7 @@ impl<M: Medium> FileReel<M> {
 
     /// Goes past so many records on the way, or past the first mark, or as far as it goes.
     fn space_records(&mut self, way: Way, count: u32) -> Result<(), TapeFault>
-        ensures { IsCall (HoldsTape M.holds) (λ r. r.capacity) (λ r. M.failures r.medium) (λ _. Unit {0})
-            (λ old new request answer. IsFileCall (medium_kind M.holds M.failures M.can_fail M.spare) old new request answer)
-            false self.old self.new (records_request way count) (done_answer result) }
+        ensures { IsTapeCall (file_reel_kind (medium_kind_of M.Medium)) self.old self.new (records_request way count) (done_answer result) }
     {
         let walked = walk_records(&mut self.medium, way, self.offset, count)?;
         self.offset = walked.at;
@@ -191,7 +191,7 @@ impl<M: Medium> Reel for FileReel<M> {
 
     ghost can_fail = { λ _. Unit {0} };
 
-    ghost makes = { λ old new request answer. IsFileCall (medium_kind M.holds M.failures M.can_fail M.spare) old new request answer };
+    ghost makes = { λ old new request answer. IsFileCall (medium_kind_of M.Medium) old new request answer };
 
     ghost GROWS = { false };
 

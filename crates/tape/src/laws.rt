@@ -1,10 +1,10 @@
 //! Laws of tapes and record files, each the contract of a call that does nothing.
 
 ghost use Rattle.std.specs.Prelude.{◌≡◌, ◌≢◌, ◌↔◌, ℕ, List};
-ghost use Rattle.tape.specs.Tape.{PlainEntry, Tape, TapeRequest, TapeAnswer, TapeStep};
+ghost use Rattle.tape.specs.Tape.{PlainEntry, Tape, TapeRequest, TapeAnswer};
 ghost use Rattle.tape.specs.Tape.TapeAnswer.{Fault};
 ghost use Rattle.tape.specs.RecordFile.{SpellsReel, IsFile, entries_in, tape_in};
-ghost use Rattle.tape.specs.Trouble.{DeviceStep, TroubledTape, TroubledStep, IsTroubledCall};
+ghost use Rattle.tape.specs.Trouble.{AreTapeSteps, DeviceStep, TroubledTape, TroubledStep, IsTroubledCall};
 ghost use Rattle.tape.specs.declared.fault.TapeFault.TheVariants.{Device};
 ghost use Rattle.tape.specs.declared.trouble.Trouble.{Trouble};
 ghost use Rattle.tape.specs.declared.trouble.Trouble.TheVariants.{None};
@@ -14,8 +14,7 @@ ghost use Rattle.tape.specs.declared.trouble.Trouble.TheVariants.{None};
 ///
 /// It does nothing: its contract is a law of the definitions.
 pub fn device_steps()
-    ensures step { (capacity : ℕ) (trouble : Trouble) (t : Tape) (request : TapeRequest) (answer : TapeAnswer) (u : Tape) →
-        DeviceStep capacity trouble t request answer u → TapeStep capacity t request answer u }
+    ensures step { (capacity : ℕ) (trouble : Trouble) → AreTapeSteps capacity (DeviceStep capacity trouble) }
     ensures untroubled { (capacity : ℕ) (t : Tape) (request : TapeRequest) (answer : TapeAnswer) (u : Tape) →
         DeviceStep capacity None t request answer u → answer ≢ Fault Device }
     ensures call { (old new : TroubledTape) (request : TapeRequest) (answer : TapeAnswer) →

@@ -14,8 +14,9 @@ mod device;
 
 use crate::entry::{MARK_SIZE, RECORD_FRAME};
 use crate::scan::nth_entry;
-use crate::{FileReel, MTWEOF, MemoryMedium, Reel, TapeFault, Trouble};
+use crate::{FileReel, MemoryMedium, Reel, TapeFault, Trouble};
 use device::{put_marks, put_record};
+use rmt_wire::mtio::MTWEOF;
 use std::alloc::Global;
 use std::marker::Model;
 

@@ -4,7 +4,7 @@ ghost use Rattle.std.specs.Prelude.{◌≡◌, ◌≤◌, ℕ, Bool, IfOk, lengt
 ghost use Rattle.tape.specs.Tape.{Tape, TapeRequest, TapeAnswer, IsRecord, op_request, done_answer, given_answer};
 ghost use Rattle.tape.specs.Tape.TapeRequest.{Write, Read, Rewind};
 ghost use Rattle.tape.specs.Tape.TapeAnswer.{Done};
-ghost use Rattle.tape.specs.Call.{IsCall};
+ghost use Rattle.tape.specs.Call.{IsTapeCall, reel_kind};
 
 use crate::TapeFault;
 
@@ -45,7 +45,8 @@ pub trait Reel {
     /// nothing, or the record.
     fn write(&mut self, bytes: &[u8]) -> Result<(), TapeFault>
         requires { IsRecord bytes.now }
-        ensures { IsCall holds capacity failures can_fail makes GROWS self.old self.new (Write bytes.now) (done_answer result) };
+        ensures { IsTapeCall (reel_kind holds capacity failures can_fail makes GROWS) self.old self.new
+            (Write bytes.now) (done_answer result) };
 
     /// Copies the first bytes of the record at the place, as many as `into` takes, to the front of `into`, and
     /// passes the record whole: what it has beyond that is skipped. Answers how many bytes it copied: 0 at a mark,
@@ -54,7 +55,7 @@ pub trait Reel {
     /// Answers `Device` where the medium failed. The place did not move then.
     fn read(&mut self, into: &mut [u8]) -> Result<usize, TapeFault>
         ensures bound { IfOk result (λ n. n ≤ length into.new) }
-        ensures call { IsCall holds capacity failures can_fail makes GROWS self.old self.new
+        ensures call { IsTapeCall (reel_kind holds capacity failures can_fail makes GROWS) self.old self.new
             (Read (length into.old)) (given_answer result into.new) };
 
     /// Carries out an operation of rmt(8)'s `I` request, by its number in mtio.
@@ -80,11 +81,12 @@ pub trait Reel {
     /// the entries before it stay, and from the place on stands what stood before, nothing, or any number of the marks
     /// up to the count. The room is looked at first.
     fn op(&mut self, op: u32, count: u32) -> Result<(), TapeFault>
-        ensures { IsCall holds capacity failures can_fail makes GROWS self.old self.new (op_request op count) (done_answer result) };
+        ensures { IsTapeCall (reel_kind holds capacity failures can_fail makes GROWS) self.old self.new
+            (op_request op count) (done_answer result) };
 
     /// Goes to the beginning. The entries stay as they are. It never fails.
     fn rewind(&mut self)
-        ensures { IsCall holds capacity failures can_fail makes GROWS self.old self.new Rewind Done };
+        ensures { IsTapeCall (reel_kind holds capacity failures can_fail makes GROWS) self.old self.new Rewind Done };
 
     /// How often the device has failed. It stays at the greatest `u64`.
     fn failures(&self) -> u64

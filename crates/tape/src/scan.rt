@@ -7,7 +7,8 @@ ghost use Rattle.tape.specs.List.{plain_of, plain_entries, bytes_of};
 ghost use Rattle.tape.specs.RecordFile.{IsTail, SpellsReel, entries_in, length_bytes};
 ghost use Rattle.tape.specs.Scan.{IsFirst, IsNth};
 
-use crate::{Entry, RECORD_LIMIT};
+use crate::Entry;
+use rmt_wire::RECORD_LIMIT;
 use std::alloc::{AllocError, Global};
 
 /// The entries that the bytes of a record file spell, from its beginning to the last whole one.

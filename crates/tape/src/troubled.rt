@@ -12,7 +12,8 @@ ghost use Rattle.tape.specs.Trouble.{IsTapeOf, IsTroubledCall, TroubledStep};
 ghost use Rattle.tape.specs.declared.fault.TapeFault.TheVariants.{Device};
 ghost use Rattle.tape.specs.declared.trouble.Trouble.TheVariants.{None};
 
-use crate::{ListReel, MTBSR, MTWEOF, Reel, TapeFault, Trouble};
+use crate::{ListReel, Reel, TapeFault, Trouble};
+use rmt_wire::mtio::{MTBSR, MTWEOF};
 use std::marker::Model;
 
 /// A reel in memory whose next device call can be told to fail, and how.

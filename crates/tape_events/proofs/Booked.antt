@@ -28,9 +28,11 @@ use Rattle.tape_events.specs.World.{World, Dumping, Begun, Caller, Count, Entere
 use Rattle.tape_events.specs.Events.{PlainEvent}
 use Rattle.tape_events.specs.Events.PlainEvent.{StartRun, Connect, Send, ToServer, Serve, ToClient, Cut, EndAtServer, EndAtClient, ServerRestart, ClientRestart, Respond, Arrange, Stranger, Says, Enter}
 use Rattle.tape_events.specs.Changes.{changed, calm, counts_of, counted_from, came_to}
-use Rattle.tape_events.specs.Rows.{IsEntered}
+use Rattle.tape_events.specs.Rows.{IsRunEntered}
 use Rattle.tape_events.specs.Steps.{Happens, Sends, Finds, Hears, SeesEnd, forgotten_from, entry_of, caller, recorded}
-use Rattle.tape_events.specs.Kept.{volume_of, counted_if, counts_in, dates_with, dates_after, IsEarned, AreOnce, AreBooked, HasLawful}
+use Rattle.tape_events.specs.Books.{volume_of, counted_if, counts_in, dates_with, dates_after}
+use Rattle.tape_events.specs.Headline.{IsEarned, AreOnce}
+use Rattle.tape_events.specs.Kept.{AreBooked, HasLawful}
 use Rattle.tape_events.proofs.Numbers.{pushed_is, numbered_more, numbered_last, numbered_within}
 
 -- counts of lists that are put together
@@ -349,7 +351,7 @@ once_more es e new once i j x y one other same = elim (pushed_is es e i x one) [
   ]
 ]
 
-entered_booked : (w : World) (c : Caller) → w.caller ≡ Some c → c.at.stage ≡ Finished → (IsEntered w c.number → ⊥) → IsLawful c.at → AreBooked w
+entered_booked : (w : World) (c : Caller) → w.caller ≡ Some c → c.at.stage ≡ Finished → (IsRunEntered w c.number → ⊥) → IsLawful c.at → AreBooked w
     → AreBooked (recorded w c)
 entered_booked w c there stage not_yet lawful k =
     let b = k.begun c there in
@@ -397,4 +399,4 @@ booked_after g w (Says k bytes) u lawful (may, is) b = beside w u _ is record { 
 booked_after g w Enter u lawful ((x, at, stage, not_yet), (c, there, is)) b =
     let same : x ≡ c = same_Some x c (sym at ∙ there) in
     subst AreBooked (sym is) (entered_booked w c there (ap (λ (z : Caller). z.at.stage) (sym same) ∙ stage)
-    (λ e. not_yet (subst (λ (z : Caller). IsEntered w z.number) (sym same) e)) (lawful c there) b)
+    (λ e. not_yet (subst (λ (z : Caller). IsRunEntered w z.number) (sym same) e)) (lawful c there) b)

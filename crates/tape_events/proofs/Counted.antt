@@ -7,16 +7,19 @@ use Rattle.dump_run.specs.Run.{PlainRun}
 use Rattle.dump_run.specs.Label.{label}
 use Rattle.tape_events.specs.World.{World, Link, Dumping, Begun, Count, numbered}
 use Rattle.tape_events.specs.Changes.{opening}
-use Rattle.tape_events.specs.Kept.{AreHeld, AreLaid}
-use Rattle.tape_events.specs.Naming.{AreNamed, IsLastOpening}
-use Rattle.tape_events.specs.Standing.{StandsOn}
-use Rattle.tape_events.specs.Written.{label_if, mark_if, block_records, written, whole_volume, AreLabelled, LabelledReels, AreCountsEarned, IsEarnedBy, CountedReels}
+use Rattle.tape_events.specs.Standing.{AreHeld, StandsOn}
+use Rattle.tape_events.specs.Kept.{AreLaid}
+use Rattle.tape_events.specs.Naming.{AreNamed}
+use Rattle.tape_events.specs.Headline.{IsUnopenedSince, block_records, whole_volume, CountedReels}
+use Rattle.tape_events.specs.Written.{label_if, mark_if, attempt_written}
+use Rattle.tape_events.specs.Attempts.{AreLabelled, AreCountsEarned, IsEarnedBy}
+use Rattle.tape_events.specs.Further.{LabelledReels}
 use Rattle.tape_events.proofs.Booked.{among_at}
 use Rattle.tape_events.proofs.LabelledThere.{stands_somewhere}
 
 -- what an attempt wrote that was counted is its volume
 written_whole : (w : World) (run : PlainRun) (payload : List (List ℕ)) (x : Count) (l : Link) (d : Dumping) (b : Begun) → IsEarnedBy w x l d b
-    → written run payload d ≡ whole_volume run payload x.volume x.first x.count
+    → attempt_written run payload d ≡ whole_volume run payload x.volume x.first x.count
 written_whole w run payload x l d b e =
     ap (λ t. label_if t run d.volume d.first ++ (block_records payload d.first d.blocks ++ mark_if d.mark)) e.label
     ∙ ap (λ t. Record (label run d.volume d.first) ∷ (block_records payload d.first d.blocks ++ mark_if t)) e.mark
@@ -30,7 +33,7 @@ counted_reels w held laid named labelled earned x among =
     let p = e.3 in
     let a = labelled x.connection e.0 e.1 p.there p.dump p.label in
     let same : a.0 ≡ e.2 = same_Some a.0 e.2 (sym a.1 ∙ ap (numbered w.begun) p.run ∙ p.begun) in
-    let just : IsLastOpening w.opens x.connection x.reel → (entries : List PlainEntry) → StandsOn w.hall x.reel entries
+    let just : IsUnopenedSince w.opens x.connection x.reel → (entries : List PlainEntry) → StandsOn w.hall x.reel entries
     → entries ≡ whole_volume a.0.run a.0.payload x.volume x.first x.count
     = λ last entries stands. (a.2 x.reel (p.fault, last)).stands entries stands ∙ written_whole w a.0.run a.0.payload x e.0 e.1 e.2 p in
     let on = stands_somewhere w.hall x.reel held laid (named.opened _ p.opened) in
@@ -44,8 +47,13 @@ counted_reels w held laid named labelled earned x among =
     }
 
 pub labelled_reels : (w : World) → AreHeld w.hall → AreLaid w.hall → AreNamed w → AreLabelled w → LabelledReels w
-labelled_reels w held laid named labelled k l d reel there dump label quiet =
-    let a = labelled k l d there dump label in
-    let just = (a.2 reel quiet).stands in
+labelled_reels w held laid named labelled k d reel has label quiet =
+    let a = labelled k has.0 d has.1 has.2 label in
+    let wrote = a.2 reel quiet in
     let on = stands_somewhere w.hall reel held laid (named.opened (opening k reel) (among_at w.opens quiet.1.0 (opening k reel) quiet.1.1)) in
-    (a.0, a.1, (subst (StandsOn w.hall reel) (just on.0 on.1) on.1, just))
+    record {
+      begun = a.0;
+      begun_as = a.1;
+      holds = (subst (StandsOn w.hall reel) (wrote.stands on.0 on.1) on.1, wrote.stands);
+      at_end = wrote.behind;
+    }

@@ -5,10 +5,10 @@ use Rattle.std.proofs.lemmas.List.Elements.{Contains-push_cases, Contains-append
 use Rattle.std.proofs.lemmas.Bool.Decides.{eqb_tells}
 use Rattle.dump_client.specs.Standing.{checkpoint_of, count_to}
 use Rattle.tape_events.specs.World.{World, Link, Dumping, Begun, Count, Opening, numbered}
-use Rattle.tape_events.specs.Changes.{side_of, link_of, opening, reel_of, counts_of}
+use Rattle.tape_events.specs.Changes.{side_of, link_of, opening, reel_opened_by, counts_of}
 use Rattle.tape_events.specs.Owning.{IsOwned}
 use Rattle.tape_events.specs.Sending.{AreTold}
-use Rattle.tape_events.specs.Written.{IsSingle, AreSingle, IsEarnedBy, AreCountsEarned}
+use Rattle.tape_events.specs.Attempts.{IsSingle, AreSingle, IsEarnedBy, AreCountsEarned}
 use Rattle.tape_events.proofs.Booked.{drop_front}
 use Rattle.tape_events.proofs.Sent.{still_unloaded}
 use Rattle.tape_events.proofs.SentWire.{OneReply}
@@ -18,8 +18,8 @@ use Rattle.tape_events.proofs.CountedHears.{HasCounted, heard_counts}
 
 -- the first opening of a connection is there, if one is
 first_there : (b : Bool) (k : ℕ) (o : Opening) (rest : List Opening) (reel : List ℕ) → (o.connection == k) ≡ b → Contains (o ∷ rest) (opening k reel)
-    → (Contains rest (opening k reel) → Contains rest (opening k (reel_of k rest)))
-    → Contains (o ∷ rest) (opening k (if b then o.reel else reel_of k rest))
+    → (Contains rest (opening k reel) → Contains rest (opening k (reel_opened_by k rest)))
+    → Contains (o ∷ rest) (opening k (if b then o.reel else reel_opened_by k rest))
 first_there true k o rest reel test among on = elim (eqb_tells o.connection k) [
   | inl (equal, same) ↦ subst (Contains (o ∷ rest)) (ap (λ n. opening n o.reel) same) (0, omega arith, refl)
   | inr (unequal, other) ↦ (let clash = sym test ∙ unequal in absurd cc)
@@ -32,10 +32,10 @@ first_there false k o rest reel test among on = elim (Contains-append_cases (o �
       | inr (unequal, other) ↦ absurd (other (ap (λ (z : Opening). z.connection) is))
     ]
   ]
-  | inr behind ↦ Contains-append_right (o ∷ []) rest (opening k (reel_of k rest)) (on behind)
+  | inr behind ↦ Contains-append_right (o ∷ []) rest (opening k (reel_opened_by k rest)) (on behind)
 ]
 
-reel_there : (k : ℕ) (opens : List Opening) (reel : List ℕ) → Contains opens (opening k reel) → Contains opens (opening k (reel_of k opens))
+reel_there : (k : ℕ) (opens : List Opening) (reel : List ℕ) → Contains opens (opening k reel) → Contains opens (opening k (reel_opened_by k opens))
 reel_there k [] reel (i, within, is) = absurd (omega (arith, within))
 reel_there k (o ∷ rest) reel among = first_there (o.connection == k) k o rest reel refl among (reel_there k rest reel)
 

@@ -6,6 +6,7 @@ use Rattle.rmt_wire.specs.Reply.PlainReply.{Done, Data, Error}
 use Rattle.rmt_wire.specs.Reply.Wanted.{Number}
 use Rattle.rmt_wire.specs.ReplyParts.{ReplyGives}
 use Rattle.rmt_wire.specs.declared.fault.WireFault.{WireFault}
+use Rattle.rmt_wire.specs.declared.errno.TheConstants.{ENOSPC}
 use Rattle.rmt_server.specs.Hall.{Side}
 use Rattle.dump_run.specs.Run.{PlainRun}
 use Rattle.dump_run.specs.Label.{label_bytes}
@@ -21,7 +22,7 @@ use Rattle.dump_client.specs.declared.stage.Stage.{Stage}
 use Rattle.dump_client.specs.declared.stage.Stage.TheVariants.{Ready, ToSend, Waiting, Asking, Finished, Abandoned}
 use Rattle.dump_client.specs.declared.stage.Progress.{Progress}
 use Rattle.tape_events.specs.World.{Link, Dumping, Begun, Caller}
-use Rattle.tape_events.specs.Sending.{GoesTo, LeadsOn, IsBrief, IsReply, IsAttempt, IsReplied, IsToldAt}
+use Rattle.tape_events.specs.Sending.{GoesTo, LeadsOn, IsBrief, IsStepReply, IsAttempt, IsStepReplied, IsLinkToldAt}
 use Rattle.tape_events.proofs.SentWire.{OneReply, one_heard, reply_whole, reply_no_fault}
 use Rattle.tape_events.proofs.ToldHears.{unlike_close, some_way}
 
@@ -59,14 +60,14 @@ becomes_counts old new Label (Done n) progress becomes =
     (λ h. by_test (λ out. Becomes old out false progress new) (Counts old new) (n == 0) _ _ (λ x. same_after old new _ x.1) (λ x. same_after old new _ x.1) h) becomes
 becomes_counts old new Label (Data bytes) progress (moved, is) = same_after old new _ is
 becomes_counts old new Label (Error n text) progress becomes =
-    by_test (λ out. Becomes old out false progress new) (Counts old new) (n == 28) _ _ (λ h. same_after old new _ h.1) (λ h. same_after old new _ h.1) becomes
+    by_test (λ out. Becomes old out false progress new) (Counts old new) (n == ENOSPC) _ _ (λ h. same_after old new _ h.1) (λ h. same_after old new _ h.1) becomes
 becomes_counts old new (Block number) (Done n) progress becomes =
     by_test (λ out. Becomes old out false progress new) (Counts old new) (n == old.run.block_bytes) _ _ (λ h. same_after old new _ h.1)
     (λ h. by_test (λ out. Becomes old out false progress new) (Counts old new) (n == 0) _ _ (end_counts old new number (checkpoint_of old.counts).1 progress)
     (λ x. same_after old new _ x.1) h) becomes
 becomes_counts old new (Block number) (Data bytes) progress (moved, is) = same_after old new _ is
 becomes_counts old new (Block number) (Error n text) progress becomes =
-    by_test (λ out. Becomes old out false progress new) (Counts old new) (n == 28) _ _ (end_counts old new number (checkpoint_of old.counts).1 progress)
+    by_test (λ out. Becomes old out false progress new) (Counts old new) (n == ENOSPC) _ _ (end_counts old new number (checkpoint_of old.counts).1 progress)
     (λ h. same_after old new _ h.1) becomes
 becomes_counts old new (Mark next) (Done n) progress becomes =
     by_test (λ out. Becomes old out false progress new) (Counts old new) (n == 1) _ _ (λ h. same_after old new _ h.1) (λ h. same_after old new _ h.1) becomes
@@ -111,7 +112,7 @@ makes_counts g begun o l c d step b new bytes rest way reply progress (Err fault
     absurd (reply_no_fault Number (reply_text reply) bytes way rest reply fault brief.spelled text gives)
 
 reply_counts : OneReply → (begun : List Begun) (o : Option Side) (l : Link) (c : Caller) (d : Dumping) (step : Step) (b : Begun) (new : Standing) (fed : List ℕ)
-    (n : ℕ) (progress : Progress) → 1 ≤ n → n ≤ length l.back → (r : IsReplied b o l c d step) → IsReply b.run o c.at d step (r.fed ++ l.back)
+    (n : ℕ) (progress : Progress) → 1 ≤ n → n ≤ length l.back → (r : IsStepReplied b o l c d step) → IsStepReply b.run o c.at d step (r.fed ++ l.back)
     → IsAttempt begun c d step b → HasFedAt (Waiting step) c.reader fed → FedAt (Waiting step) c.at fed (take n l.back) progress new
     → (new.counts ≡ c.at.counts) ⊎ HasCounted begun o c d new
 reply_counts g begun o l c d step b new fed n progress first within r (inl none) attempt had feeds =
@@ -129,7 +130,7 @@ reply_counts g begun o l c d step b new fed n progress first within r (inr (repl
 
 -- What was heard: no count more, or that of an attempt of which all was done up to its close.
 pub heard_counts : OneReply → (stage : Stage) (begun : List Begun) (o : Option Side) (l : Link) (c : Caller) (d : Dumping) (new : Standing) (fed : List ℕ) (n : ℕ)
-    (progress : Progress) → 1 ≤ n → n ≤ length l.back → IsToldAt stage begun o l c d → HasFedAt stage c.reader fed
+    (progress : Progress) → 1 ≤ n → n ≤ length l.back → IsLinkToldAt stage begun o l c d → HasFedAt stage c.reader fed
     → FedAt stage c.at fed (take n l.back) progress new → (new.counts ≡ c.at.counts) ⊎ HasCounted begun o c d new
 heard_counts g (ToSend step) begun o l c d new fed n progress first within (b, attempt, turn) had feeds = absurd (some_way l n first within turn.back)
 heard_counts g (Waiting step) begun o l c d new fed n progress first within (b, attempt, inl asked) had feeds = absurd (some_way l n first within asked.back)

@@ -23,7 +23,7 @@ use Rattle.tape_events.specs.Events.{PlainEvent}
 use Rattle.tape_events.specs.Events.PlainEvent.{StartRun, Connect, Send, ToServer, Serve, ToClient, Cut, EndAtServer, EndAtClient, ServerRestart, ClientRestart, Respond, Arrange, Stranger, Says, Enter}
 use Rattle.tape_events.specs.Changes.{side_of, with_side, ended_from, ended, all_ended, came_to, calm}
 use Rattle.tape_events.specs.Steps.{Happens, Sends, Finds, Hears, SeesEnd, forgotten_from}
-use Rattle.tape_events.specs.Kept.{AreHeld}
+use Rattle.tape_events.specs.Standing.{AreHeld}
 use Rattle.tape_events.proofs.Numbers.{set_is, set_here, set_other, with_here, with_other, pushed_is, numbered_more, numbered_first}
 use Rattle.tape_events.proofs.Served.{closed_racks, holders_length, step_serves}
 

@@ -3,13 +3,14 @@ use Rattle.std.proofs.Common.{◌≡◌, ℕ, List, [], Some, arith}
 use Rattle.drives.specs.Shop.{EachReelOnce}
 use Rattle.tape_events.specs.World.{World, Link, numbered}
 use Rattle.tape_events.specs.Events.{PlainEvent}
-use Rattle.tape_events.specs.First.{PlainDrive, first_world}
-use Rattle.tape_events.specs.Kept.{AreHeld, AreLaid}
+use Rattle.tape_events.specs.First.{PlainDriveSpec, first_world}
+use Rattle.tape_events.specs.Standing.{AreHeld}
+use Rattle.tape_events.specs.Kept.{AreLaid}
 use Rattle.tape_events.specs.Naming.{AreOpened}
 use Rattle.tape_events.specs.Owning.{IsOwned}
 use Rattle.tape_events.specs.Sending.{AreTold}
 use Rattle.tape_events.specs.Steps.{Happens}
-use Rattle.tape_events.specs.Written.{AreLabelled, AreSingle, AreCountsEarned}
+use Rattle.tape_events.specs.Attempts.{AreLabelled, AreSingle, AreCountsEarned}
 use Rattle.tape_events.proofs.Numbers.{numbered_within, numbered_first}
 use Rattle.tape_events.proofs.SentWire.{OneReading, DroppedWrites, OneReply}
 use Rattle.tape_events.proofs.LabelledEvents.{Brings, quiet, listens, serves, event_brings}
@@ -25,13 +26,13 @@ none_there k l at =
     let first = numbered_first [] k l at in
     omega (arith, within, first)
 
-pub first_single : (drives : List PlainDrive) → AreSingle (first_world drives)
+pub first_single : (drives : List PlainDriveSpec) → AreSingle (first_world drives)
 first_single drives k l d at dump = absurd (none_there k l at)
 
-pub first_labelled : (drives : List PlainDrive) → AreLabelled (first_world drives)
+pub first_labelled : (drives : List PlainDriveSpec) → AreLabelled (first_world drives)
 first_labelled drives k l d at dump = absurd (none_there k l at)
 
-pub first_earned : (drives : List PlainDrive) → AreCountsEarned (first_world drives)
+pub first_earned : (drives : List PlainDriveSpec) → AreCountsEarned (first_world drives)
 first_earned drives x (i, within, is) = absurd (omega (arith, within))
 
 brings_single : OneReading → DroppedWrites → (w u : World) → Brings w u → AreTold w → AreOpened w → AreSingle w → AreSingle u

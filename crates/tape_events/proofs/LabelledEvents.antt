@@ -25,7 +25,7 @@ use Rattle.tape_events.specs.World.{World, Link, Dumping, Begun, Caller, numbere
 use Rattle.tape_events.specs.Events.{PlainEvent}
 use Rattle.tape_events.specs.Events.PlainEvent.{StartRun, Connect, Send, ToServer, Serve, ToClient, Cut, EndAtServer, EndAtClient, ServerRestart, ClientRestart, Respond, Arrange, Stranger, Says, Enter}
 use Rattle.tape_events.specs.Changes.{changed, side_of, link_of, with_side, new_link, over_there, over_here, ended_from, ended, all_ended, calm, noted_sent, sent_on, counts_of, came_to}
-use Rattle.tape_events.specs.Kept.{online_in, AreHeld}
+use Rattle.tape_events.specs.Standing.{online_drive_in, AreHeld}
 use Rattle.tape_events.specs.Steps.{Happens, Sends, Finds, Hears, SeesEnd, forgotten_from, sent_link, carried}
 use Rattle.tape_events.proofs.Numbers.{changed_is, length_changed, pushed_is, numbered_more, numbered_within, numbered_there, numbered_first, with_here, with_other}
 use Rattle.tape_events.proofs.Held.{side_there}
@@ -140,7 +140,7 @@ link_still xs ys t k x at =
 -- each side that is online was so, with the same session
 abbrev pub SidesStay : Hall → Hall → Type 0
 SidesStay h u =
-    (k d : ℕ) (y : Side) → side_of u k ≡ Some y → online_in y.session ≡ Some d → (x : Side) × (side_of h k ≡ Some x) × (y.session ≡ x.session)
+    (k d : ℕ) (y : Side) → side_of u k ≡ Some y → online_drive_in y.session ≡ Some d → (x : Side) × (side_of h k ≡ Some x) × (y.session ≡ x.session)
 
 -- Nothing new stands on a reel, and no request of an attempt was carried out.
 pub record Quietly (w u : World) : Type 0 where
@@ -239,7 +239,7 @@ joined_quiet w u dump fresh same opens begun links =
       | inl before ↦ (y, ap (option_and_then (λ x. x)) before, refl)
       | inr (last, new) ↦ (
           let its : y ≡ side (held [] 0) Idle = same_Some y (side (held [] 0) Idle) new in
-          let clash : online_in Idle ≡ Some d = ap (λ (z : Side). online_in z.session) (sym its) ∙ on in absurd cc)
+          let clash : online_drive_in Idle ≡ Some d = ap (λ (z : Side). online_drive_in z.session) (sym its) ∙ on in absurd cc)
     ] in
     record {
       stands = λ name entries. subst (λ (h : Hall). StoodIn w.hall h) (sym same) (sides_stand w.hall (with_side w.hall) refl stay) name entries;
@@ -277,7 +277,7 @@ all_ended_stay : (h : Hall) (n : ℕ) → SidesStay h (all_ended h n)
 all_ended_stay h zero j d y at on = (y, at, refl)
 all_ended_stay h (suc n) j d y at on =
     let x = ended_stay_from (all_ended h n) (suc n) (side_of (all_ended h n) (suc n)) refl j d y at on in
-    let z = all_ended_stay h n j d x.0 x.1 (ap online_in (sym x.2) ∙ on) in
+    let z = all_ended_stay h n j d x.0 x.1 (ap online_drive_in (sym x.2) ∙ on) in
     (z.0, z.1, x.2 ∙ z.2)
 
 -- each row

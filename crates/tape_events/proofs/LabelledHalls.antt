@@ -13,8 +13,7 @@ use Rattle.rmt_server.specs.Hall.{Hall, hall, Side}
 use Rattle.rmt_server.specs.Session.{PlainSession, scene, closed_shop}
 use Rattle.rmt_server.specs.TroubledServe.{drive_in, TroubledServeStep}
 use Rattle.tape_events.specs.Changes.{side_of, ended_from, ended, all_ended, first_name}
-use Rattle.tape_events.specs.Kept.{online_in, AreHeld}
-use Rattle.tape_events.specs.Standing.{LiesOn, HasInDrive, StandsOn}
+use Rattle.tape_events.specs.Standing.{online_drive_in, AreHeld, ReelLiesOn, HasInDrive, StandsOn}
 use Rattle.tape_events.proofs.Held.{all_ended_held}
 use Rattle.tape_events.proofs.Laid.{IsOnlineElse, Sits, sits_here, sits_other, alone_at, rack_other, free_off}
 use Rattle.tape_events.proofs.Opened.{closed_else, comes_else}
@@ -34,9 +33,9 @@ scene_stands h k s name entries live (inr has) = inr (k, s, live, has)
 
 -- the rack of its drive is the same
 same_rack : (s t : Shop) (session : PlainSession) (name : List ℕ) (entries : List PlainEntry)
-    → ((d : ℕ) → online_in session ≡ Some d → rack_at s d ≡ rack_at t d) → HasInDrive s session name entries → HasInDrive t session name entries
+    → ((d : ℕ) → online_drive_in session ≡ Some d → rack_at s d ≡ rack_at t d) → HasInDrive s session name entries → HasInDrive t session name entries
 same_rack s t session name entries racks (drive, access, reel, online, named, holds) =
-    (drive, access, reel, online, ap (λ (r : Rack KeptReel). first_name r.stack) (sym (racks drive (ap online_in online))) ∙ named, holds)
+    (drive, access, reel, online, ap (λ (r : Rack KeptReel). first_name r.stack) (sym (racks drive (ap online_drive_in online))) ∙ named, holds)
 
 -- one side serves a request
 pub served_stands : (trouble : Trouble) (holders : List ℕ) (h u : Hall) (k : ℕ) (s x : Side) (request : PlainRequest) (reply : PlainReply) → Sits h k s (Some x) u → AreHeld h
@@ -104,10 +103,10 @@ all_ended_stands h (suc n) a name entries stands =
 
 -- sides are others, and each that is online was there with the same session
 pub sides_stand : (h u : Hall) → u.shop ≡ h.shop
-    → ((k d : ℕ) (y : Side) → side_of u k ≡ Some y → online_in y.session ≡ Some d → (x : Side) × (side_of h k ≡ Some x) × (y.session ≡ x.session)) → StoodIn h u
-sides_stand h u shop same name entries (inl lies) = inl (subst (λ s. LiesOn s name entries) shop lies)
+    → ((k d : ℕ) (y : Side) → side_of u k ≡ Some y → online_drive_in y.session ≡ Some d → (x : Side) × (side_of h k ≡ Some x) × (y.session ≡ x.session)) → StoodIn h u
+sides_stand h u shop same name entries (inl lies) = inl (subst (λ s. ReelLiesOn s name entries) shop lies)
 sides_stand h u shop same name entries (inr (k, y, at, (drive, access, reel, online, named, holds))) =
-    let x = same k drive y at (ap online_in online) in
+    let x = same k drive y at (ap online_drive_in online) in
     inr (k, x.0, x.1, (drive, access, reel, sym x.2 ∙ online, ap (λ (s : Shop). first_name (rack_at s drive).stack) (sym shop) ∙ named, holds))
 
 -- an operator's order of the stack of a free drive

@@ -16,14 +16,14 @@ use Rattle.rmt_server.specs.Session.{PlainReel}
 use Rattle.rmt_server.specs.Session.PlainSession.{Online}
 use Rattle.rmt_server.specs.TroubledServe.{drive_in}
 use Rattle.tape_events.specs.Changes.{side_of, first_name}
-use Rattle.tape_events.specs.Kept.{IsFirstAway, online_in, AreHeld, AreLaid}
-use Rattle.tape_events.specs.Standing.{LiesIn, LiesOn, StandsOn}
+use Rattle.tape_events.specs.Standing.{IsFirstAway, online_drive_in, AreHeld, ReelLiesIn, ReelLiesOn, StandsOn}
+use Rattle.tape_events.specs.Kept.{AreLaid}
 use Rattle.tape_events.proofs.Laid.{rack_other, alone_at, drive_within}
 use Rattle.tape_events.proofs.Named.{first_times}
 use Rattle.tape_events.proofs.Opened.{names_differ}
 
 -- a reel of that name lies there
-lies_times : (xs : List (Slot KeptReel)) (name : List ℕ) (entries : List PlainEntry) → LiesIn xs name entries → 0 < sum_by (named name) xs
+lies_times : (xs : List (Slot KeptReel)) (name : List ℕ) (entries : List PlainEntry) → ReelLiesIn xs name entries → 0 < sum_by (named name) xs
 lies_times [] name entries lies = absurd lies
 lies_times (x ∷ xs) name entries (inl here) =
     let one : named name x ≡ 1 = ap bit ((bytes_eq-Decides name x.name).1 (sym here.named)) in
@@ -34,7 +34,7 @@ lies_times (x ∷ xs) name entries (inr rest) =
     let all = sum_by-cons (named name) x xs in
     omega (arith, some, all)
 
-lies_within : (racks : List (Rack KeptReel)) (d : ℕ) (name : List ℕ) (entries : List PlainEntry) → LiesIn (slice_index_or racks d (rack [] [])).stack name entries
+lies_within : (racks : List (Rack KeptReel)) (d : ℕ) (name : List ℕ) (entries : List PlainEntry) → ReelLiesIn (slice_index_or racks d (rack [] [])).stack name entries
     → d < length racks
 lies_within [] d name entries lies = absurd lies
 lies_within (r ∷ racks) zero name entries lies = omega arith
@@ -42,7 +42,7 @@ lies_within (r ∷ racks) (suc d) name entries lies = let on = lies_within racks
 
 -- the first of a stack is away, and no other has its name
 away_alone : (xs : List (Slot KeptReel)) (name : List ℕ) (entries : List PlainEntry) → IsFirstAway xs → first_name xs ≡ name → sum_by (named name) xs ≤ 1
-    → LiesIn xs name entries → ⊥
+    → ReelLiesIn xs name entries → ⊥
 away_alone [] name entries away is few lies = absurd lies
 away_alone (x ∷ xs) name entries away is few (inl here) = let clash = sym away.0 ∙ here.there in absurd cc
 away_alone (x ∷ xs) name entries away is few (inr rest) =
@@ -53,13 +53,13 @@ away_alone (x ∷ xs) name entries away is few (inr rest) =
 
 -- no reel of that name lies on a stack or in the bin
 lies_nowhere : (s : Shop) (drive : ℕ) (name : List ℕ) (entries : List PlainEntry) → EachReelOnce s → drive < length s.racks → IsFirstAway (rack_at s drive).stack
-    → first_name (rack_at s drive).stack ≡ name → LiesOn s name entries → ⊥
+    → first_name (rack_at s drive).stack ≡ name → ReelLiesOn s name entries → ⊥
 lies_nowhere s drive name entries once within away is (inl (d, lies)) = elim (eqb_tells d drive) [
   | inl (equal, same) ↦
       let whole = sum_by_with_rack (named name) s drive (rack [] []) within in
       let all = times_named name (slots_in s) in
       let few = once name in
-      away_alone (rack_at s drive).stack name entries away is (omega (arith, whole, all, few)) (subst (λ i. LiesIn (rack_at s i).stack name entries) same lies)
+      away_alone (rack_at s drive).stack name entries away is (omega (arith, whole, all, few)) (subst (λ i. ReelLiesIn (rack_at s i).stack name entries) same lies)
   | inr (unequal, other) ↦
       let t = with_rack s drive (rack [] []) in
       let there = lies_within s.racks d name entries lies in
@@ -88,7 +88,7 @@ pub stands_one : (h : Hall) (k : ℕ) (s : Side) (drive : ℕ) (access : Access)
     → s.session ≡ Online drive access reel → first_name (rack_at h.shop drive).stack ≡ name → AreHeld h → AreLaid h → EachReelOnce h.shop → StandsOn h name entries
     → entries ≡ entries_of reel.tape
 stands_one h k s drive access reel name entries live online is a l once (inl lies) =
-    absurd (lies_nowhere h.shop drive name entries once (drive_within h k s drive a live (ap drive_in online)) (l.latched drive (k, s, live, ap online_in online)) is lies)
+    absurd (lies_nowhere h.shop drive name entries once (drive_within h k s drive a live (ap drive_in online)) (l.latched drive (k, s, live, ap online_drive_in online)) is lies)
 stands_one h k s drive access reel name entries live online is a l once (inr (j, y, at, (e, other, r, now, named, holds))) = elim (eqb_tells j k) [
   | inl (equal, same) ↦
       let its : y ≡ s = same_Some y s (sym at ∙ ap (side_of h) same ∙ live) in
@@ -97,7 +97,7 @@ stands_one h k s drive access reel name entries live online is a l once (inr (j,
       sym holds ∙ ap (λ (x : PlainReel). entries_of x.tape) reels
   | inr (unequal, differ) ↦
       let apart : e ≢ drive
-      = λ same. alone_at h k s drive a live (ap drive_in online) (j, differ, (y, at, ap online_in now ∙ ap Some same)) in
-      absurd (names_differ h.shop e drive once apart (drive_within h j y e a at (ap drive_in now)) (l.latched e (j, y, at, ap online_in now))
-      (drive_within h k s drive a live (ap drive_in online)) (l.latched drive (k, s, live, ap online_in online)) (named ∙ sym is))
+      = λ same. alone_at h k s drive a live (ap drive_in online) (j, differ, (y, at, ap online_drive_in now ∙ ap Some same)) in
+      absurd (names_differ h.shop e drive once apart (drive_within h j y e a at (ap drive_in now)) (l.latched e (j, y, at, ap online_drive_in now))
+      (drive_within h k s drive a live (ap drive_in online)) (l.latched drive (k, s, live, ap online_drive_in online)) (named ∙ sym is))
 ]

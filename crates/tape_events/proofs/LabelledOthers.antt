@@ -12,11 +12,11 @@ use Rattle.dump_client.specs.Lawful.{steps_before}
 use Rattle.dump_client.specs.declared.step.Step.TheVariants.{Unload}
 use Rattle.tape_events.specs.World.{World, Dumping, Begun, Opening, numbered, with_numbered}
 use Rattle.tape_events.specs.Changes.{side_of, opening, opened_reel}
-use Rattle.tape_events.specs.Kept.{online_in, AreHeld}
-use Rattle.tape_events.specs.Naming.{IsLastOpening, AreOpened}
-use Rattle.tape_events.specs.Sending.{IsOnlineWith}
-use Rattle.tape_events.specs.Standing.{StandsOn}
-use Rattle.tape_events.specs.Written.{written, label_if, mark_if, block_records, IsBeforeOffline, IsWritten, IsLabelled, AreLabelled}
+use Rattle.tape_events.specs.Standing.{online_drive_in, AreHeld, IsOnlineWith, StandsOn}
+use Rattle.tape_events.specs.Headline.{IsUnopenedSince, block_records}
+use Rattle.tape_events.specs.Naming.{AreOpened}
+use Rattle.tape_events.specs.Written.{attempt_written, label_if, mark_if, IsBeforeOffline}
+use Rattle.tape_events.specs.Attempts.{IsReelWritten, IsLabelled, AreLabelled}
 use Rattle.tape_events.proofs.Numbers.{pushed_is, numbered_more}
 use Rattle.tape_events.proofs.Laid.{Sits, sits_other, less_or_more}
 use Rattle.tape_events.proofs.LabelledHalls.{served_stands}
@@ -24,7 +24,7 @@ use Rattle.tape_events.proofs.LabelledEvents.{SameNotes, same_notes, IsFresh, Qu
 use Rattle.tape_events.proofs.LabelledSingle.{like_back}
 
 -- the same was written
-written_same : (run : PlainRun) (payload : List (List ℕ)) (d e : Dumping) → SameNotes d e → written run payload d ≡ written run payload e
+written_same : (run : PlainRun) (payload : List (List ℕ)) (d e : Dumping) → SameNotes d e → attempt_written run payload d ≡ attempt_written run payload e
 written_same run payload d e s =
     ap (λ t. label_if t run d.volume d.first ++ (block_records payload d.first d.blocks ++ mark_if d.mark)) (sym s.label)
     ∙ ap (λ n. label_if e.label run n d.first ++ (block_records payload d.first d.blocks ++ mark_if d.mark)) (sym s.volume)
@@ -46,12 +46,12 @@ record StillWritten (w u : World) (k : ℕ) (reel : List ℕ) : Type 0 where
   stands : (entries : List PlainEntry) → StandsOn u.hall reel entries → StandsOn w.hall reel entries
   sides : (s : Side) (r : PlainReel) → side_of u.hall k ≡ Some s → IsOnlineWith s.session r → (x : Side) × (side_of w.hall k ≡ Some x) × (s.session ≡ x.session)
 
-still_written : (w u : World) (k : ℕ) (b : Begun) (d e : Dumping) (reel : List ℕ) → SameNotes d e → StillWritten w u k reel → IsWritten w k b d reel → IsWritten u k b e reel
-still_written w u k b d e reel s t written = record {
-  stands = λ entries on. written.stands entries (t.stands entries on) ∙ written_same b.run b.payload d e s;
+still_written : (w u : World) (k : ℕ) (b : Begun) (d e : Dumping) (reel : List ℕ) → SameNotes d e → StillWritten w u k reel → IsReelWritten w k b d reel → IsReelWritten u k b e reel
+still_written w u k b d e reel s t was = record {
+  stands = λ entries on. was.stands entries (t.stands entries on) ∙ written_same b.run b.payload d e s;
   behind = λ y r at on before. (
       let x = t.sides y r at on in
-      written.behind x.0 r x.1 (subst (λ z. IsOnlineWith z r) x.2 on) (before_same b.run d e s before));
+      was.behind x.0 r x.1 (subst (λ z. IsOnlineWith z r) x.2 on) (before_same b.run d e s before));
 }
 
 pub quiet_labelled : (w u : World) → Quietly w u → AreLabelled w → AreLabelled u
@@ -65,15 +65,15 @@ quiet_labelled w u q labelled k l d at dump label = elim (q.links.at k l at) [
             still_written w u k a.0 e.0 d reel e.2
             record {
               stands = λ entries on. q.stands reel entries on;
-              sides = λ s r here on. q.sides k on.0 s here (ap online_in on.1);
+              sides = λ s r here on. q.sides k on.0 s here (ap online_drive_in on.1);
             }
-            (a.2 reel (sym e.2.fault ∙ quiet.0, subst (λ os. IsLastOpening os k reel) q.opens quiet.1)),
+            (a.2 reel (sym e.2.fault ∙ quiet.0, subst (λ os. IsUnopenedSince os k reel) q.opens quiet.1)),
       )
   | inr (new, fresh) ↦ (let f = subst IsFresh dump fresh in let clash = sym f.0 ∙ label in absurd cc)
 ]
 
 -- one connection has the last opening of a reel
-pub last_same : (opens : List Opening) (j k : ℕ) (reel : List ℕ) → IsLastOpening opens j reel → IsLastOpening opens k reel → j ≡ k
+pub last_same : (opens : List Opening) (j k : ℕ) (reel : List ℕ) → IsUnopenedSince opens j reel → IsUnopenedSince opens k reel → j ≡ k
 last_same opens j k reel (i, at, behind) (m, its, after) = elim (eqb_tells i m) [
   | inl (equal, same) ↦ ap (λ (o : Opening). o.connection) (same_Some (opening j reel) (opening k reel) (sym at ∙ ap (numbered opens) same ∙ its))
   | inr (unequal, other) ↦ absurd (elim (less_or_more i m other) [
@@ -83,9 +83,9 @@ last_same opens j k reel (i, at, behind) (m, its, after) = elim (eqb_tells i m) 
 ]
 
 -- an opening by another was none of its
-last_before : (opens : List Opening) (j k : ℕ) (reel : List ℕ) (opened : Option (List ℕ)) → j ≢ k → IsLastOpening (opens ++ option_to_list (option_map (opening k) opened)) j reel
-    → IsLastOpening opens j reel
-last_before opens j k reel None other last = subst (λ os. IsLastOpening os j reel) (append-nil opens) last
+last_before : (opens : List Opening) (j k : ℕ) (reel : List ℕ) (opened : Option (List ℕ)) → j ≢ k → IsUnopenedSince (opens ++ option_to_list (option_map (opening k) opened)) j reel
+    → IsUnopenedSince opens j reel
+last_before opens j k reel None other last = subst (λ os. IsUnopenedSince os j reel) (append-nil opens) last
 last_before opens j k reel (Some r) other (i, at, behind) = elim (pushed_is opens (opening k r) i (opening j reel) at) [
   | inl was ↦ (i, was, λ m o less there. behind m o less (numbered_more opens (opening k r ∷ []) m o there))
   | inr (last, is) ↦ absurd (other (ap (λ (o : Opening). o.connection) is))
@@ -101,8 +101,8 @@ others_labelled w u v j d other a b opened labelled label =
       p.0,
       ap (λ (x : World). numbered x.begun d.run) v.is ∙ p.1,
       λ reel quiet.
-          (let last : IsLastOpening w.opens j reel
-          = last_before w.opens j v.k reel (opened_reel v.request v.shop v.session) other (subst (λ (x : World). IsLastOpening x.opens j reel) v.is quiet.1) in
+          (let last : IsUnopenedSince w.opens j reel
+          = last_before w.opens j v.k reel (opened_reel v.request v.shop v.session) other (subst (λ (x : World). IsUnopenedSince x.opens j reel) v.is quiet.1) in
           still_written w u j p.0 d d reel (same_notes d)
           record {
             stands = λ entries on.

@@ -6,10 +6,10 @@ use Rattle.tape.specs.Tape.{PlainEntry}
 use Rattle.dump_client.specs.declared.step.Step.{Step}
 use Rattle.dump_client.specs.declared.step.Step.TheVariants.{Open, Rewind, Label, Block, Mark, Unload, Close}
 use Rattle.tape_events.specs.World.{World, Link, Dumping, Begun, with_numbered}
-use Rattle.tape_events.specs.Kept.{AreHeld}
+use Rattle.tape_events.specs.Standing.{AreHeld, StandsOn}
 use Rattle.tape_events.specs.Sending.{HasDone, request_in}
-use Rattle.tape_events.specs.Standing.{StandsOn}
-use Rattle.tape_events.specs.Written.{written, IsWritten}
+use Rattle.tape_events.specs.Written.{attempt_written}
+use Rattle.tape_events.specs.Attempts.{IsReelWritten}
 use Rattle.tape_events.proofs.Laid.{Sits}
 use Rattle.tape_events.proofs.LabelledSteps.{is_write}
 use Rattle.tape_events.proofs.LabelledHalls.{served_stands}
@@ -28,7 +28,7 @@ marked_reads b o d Close done marked = refl
 
 -- what stands on the reel stood there before, so it is what was written
 pub marked_stands : (w u : World) (v : Serves w u) (l : Link) (d : Dumping) → IsServed w u v l d → d.mark ≡ true → AreHeld w.hall → AreHeld u.hall → (b : Begun) (reel : List ℕ)
-    → IsWritten w v.k b d reel → (entries : List PlainEntry) → StandsOn u.hall reel entries → entries ≡ written b.run b.payload d
+    → IsReelWritten w v.k b d reel → (entries : List PlainEntry) → StandsOn u.hall reel entries → entries ≡ attempt_written b.run b.payload d
 marked_stands w u v l d p marked a c b reel was entries on =
     let h : Hall = hall v.shop v.holders (with_numbered w.hall.sides v.k (Some (side v.reached v.session))) in
     let same : u.hall ≡ h = ap (λ (x : World). x.hall) v.is in

@@ -4,7 +4,9 @@ use Rattle.rmt_wire.specs.Request.{PlainRequest}
 use Rattle.rmt_wire.specs.Request.PlainRequest.{Write, Op}
 use Rattle.rmt_wire.specs.Reply.{PlainReply}
 use Rattle.rmt_wire.specs.Reply.PlainReply.{Done}
-use Rattle.tape.specs.Tape.{PlainEntry, Tape, tape, TapeAnswer, record_limit}
+use Rattle.tape.specs.Tape.{PlainEntry, Tape, tape, TapeAnswer}
+use Rattle.rmt_wire.specs.declared.limits.TheConstants.{RECORD_LIMIT}
+use Rattle.rmt_wire.specs.declared.mtio.TheConstants.{MTWEOF}
 use Rattle.tape.specs.Tape.PlainEntry.{Record, Mark}
 use Rattle.tape.specs.Tape.TapeAnswer.{Done as Did, Gave, Fault}
 use Rattle.tape.specs.Trouble.{DeviceStep}
@@ -79,7 +81,7 @@ write_put trouble before after drive reel bytes b reply (Fault faults.OutOfMemor
     keeps (λ d. ap (λ r. noted_by d (Write bytes) r) is) (left_as before after drive reel t reel.tape device.1 left)
 
 write_tested : (trouble : Trouble) (before : Scene) (bytes : List ℕ) (reply : PlainReply) (after : Scene) (drive : ℕ) (reel : PlainReel) (b : Bool)
-    → ((length bytes == 0) || nat_lt record_limit (length bytes)) ≡ b → before.session ≡ Online drive Both reel
+    → ((length bytes == 0) || nat_lt RECORD_LIMIT (length bytes)) ≡ b → before.session ≡ Online drive Both reel
     → MatchOption (if b then Some (tape_refusal faults.BadOperation) else None) (TroubledDoneStep trouble before (Write bytes) reply after)
     (λ r. (reply ≡ refused r) × (after ≡ before)) → Puts before after drive reel (Record bytes ∷ []) (Write bytes) reply
 write_tested trouble before bytes reply after drive reel true test was (replies, is) =
@@ -89,36 +91,36 @@ write_tested trouble before bytes reply after drive reel true test was (replies,
     }
 write_tested trouble before bytes reply after drive reel false test was done =
     let c = called trouble before (Write bytes) reply after drive reel was done in
-    write_put trouble before after drive reel bytes (nat_lt record_limit (length bytes)) reply c.answer c.now test c.device c.replies c.left
+    write_put trouble before after drive reel bytes (nat_lt RECORD_LIMIT (length bytes)) reply c.answer c.now test c.device c.replies c.left
 
 pub write_puts : (trouble : Trouble) (holders : List ℕ) (before : Scene) (bytes : List ℕ) (reply : PlainReply) (after : Scene) (drive : ℕ) (reel : PlainReel)
     → before.session ≡ Online drive Both reel → TroubledServeStep trouble holders before (Write bytes) reply after
     → Puts before after drive reel (Record bytes ∷ []) (Write bytes) reply
 write_puts trouble holders before bytes reply after drive reel was step =
-    write_tested trouble before bytes reply after drive reel ((length bytes == 0) || nat_lt record_limit (length bytes)) refl was
+    write_tested trouble before bytes reply after drive reel ((length bytes == 0) || nat_lt RECORD_LIMIT (length bytes)) refl was
     (subst (λ s. MatchOption (refusal (status_of s) (Write bytes)) (TroubledDoneStep trouble before (Write bytes) reply after) (λ r. (reply ≡ refused r) × (after ≡ before)))
     was step)
 
 -- a mark
 mark_put : (trouble : Trouble) (before after : Scene) (drive : ℕ) (reel : PlainReel) (reply : PlainReply) (answer : TapeAnswer) (t : Tape)
-    → DeviceStep reel.capacity trouble reel.tape (tape_request (Op 0 1)) answer t → reply ≡ reel_reply (Op 0 1) answer → IsLeftWith before after drive reel t
-    → Puts before after drive reel (Mark ∷ []) (Op 0 1) reply
+    → DeviceStep reel.capacity trouble reel.tape (tape_request (Op MTWEOF 1)) answer t → reply ≡ reel_reply (Op MTWEOF 1) answer → IsLeftWith before after drive reel t
+    → Puts before after drive reel (Mark ∷ []) (Op MTWEOF 1) reply
 mark_put trouble before after drive reel reply Did t (spared, inl none) is left = (let clash = none.0 in absurd (omega (arith, clash)))
 mark_put trouble before after drive reel reply Did t (spared, inr some) is left =
     puts 0 is (left_as before after drive reel t (tape (reel.tape.before ++ Mark ∷ []) []) some.2 left)
 mark_put trouble before after drive reel reply (Gave given) t device is left = absurd (device.1)
-mark_put trouble before after drive reel reply (Fault faults.Device) t device is left = fails (λ d. ap (λ r. (noted_by d (Op 0 1) r).fault) is)
+mark_put trouble before after drive reel reply (Fault faults.Device) t device is left = fails (λ d. ap (λ r. (noted_by d (Op MTWEOF 1) r).fault) is)
 mark_put trouble before after drive reel reply (Fault faults.Full) t device is left =
-    keeps (λ d. ap (λ r. noted_by d (Op 0 1) r) is) (left_as before after drive reel t reel.tape device.1.2 left)
+    keeps (λ d. ap (λ r. noted_by d (Op MTWEOF 1) r) is) (left_as before after drive reel t reel.tape device.1.2 left)
 mark_put trouble before after drive reel reply (Fault faults.EndOrMark) t device is left = absurd (device.1)
 mark_put trouble before after drive reel reply (Fault faults.BadOperation) t device is left = absurd (device.1)
 mark_put trouble before after drive reel reply (Fault faults.OutOfMemory) t device is left =
-    keeps (λ d. ap (λ r. noted_by d (Op 0 1) r) is) (left_as before after drive reel t reel.tape device.2 left)
+    keeps (λ d. ap (λ r. noted_by d (Op MTWEOF 1) r) is) (left_as before after drive reel t reel.tape device.2 left)
 
 pub mark_puts : (trouble : Trouble) (holders : List ℕ) (before : Scene) (reply : PlainReply) (after : Scene) (drive : ℕ) (reel : PlainReel)
-    → before.session ≡ Online drive Both reel → TroubledServeStep trouble holders before (Op 0 1) reply after → Puts before after drive reel (Mark ∷ []) (Op 0 1) reply
+    → before.session ≡ Online drive Both reel → TroubledServeStep trouble holders before (Op MTWEOF 1) reply after → Puts before after drive reel (Mark ∷ []) (Op MTWEOF 1) reply
 mark_puts trouble holders before reply after drive reel was step =
-    let c = called trouble before (Op 0 1) reply after drive reel was
-    (subst (λ s. MatchOption (refusal (status_of s) (Op 0 1)) (TroubledDoneStep trouble before (Op 0 1) reply after) (λ r. (reply ≡ refused r) × (after ≡ before)))
+    let c = called trouble before (Op MTWEOF 1) reply after drive reel was
+    (subst (λ s. MatchOption (refusal (status_of s) (Op MTWEOF 1)) (TroubledDoneStep trouble before (Op MTWEOF 1) reply after) (λ r. (reply ≡ refused r) × (after ≡ before)))
     was step) in
     mark_put trouble before after drive reel reply c.answer c.now c.device c.replies c.left

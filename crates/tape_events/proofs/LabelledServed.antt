@@ -6,6 +6,7 @@ use Rattle.std.proofs.lemmas.Option.{same_Some}
 use Rattle.rmt_wire.specs.Counted.{raised}
 use Rattle.rmt_wire.specs.Request.{PlainRequest}
 use Rattle.rmt_wire.specs.Request.PlainRequest.{Op}
+use Rattle.rmt_wire.specs.declared.mtio.TheConstants.{MTWEOF}
 use Rattle.tape.specs.Tape.{PlainEntry, Tape, tape, entries_of}
 use Rattle.tape.specs.Tape.PlainEntry.{Record, Mark}
 use Rattle.drives.specs.Shop.{Shop, rack_at, EachReelOnce}
@@ -21,10 +22,13 @@ use Rattle.dump_client.specs.declared.step.Step.{Step}
 use Rattle.dump_client.specs.declared.step.Step.TheVariants.{Open, Rewind, Label, Block, Mark as MarkStep, Unload, Close}
 use Rattle.tape_events.specs.World.{World, Link, Dumping, Begun, numbered, with_numbered}
 use Rattle.tape_events.specs.Changes.{side_of, first_name, written_reel, opening, opened_reel, noted}
-use Rattle.tape_events.specs.Kept.{AreHeld, AreLaid}
-use Rattle.tape_events.specs.Naming.{IsLastOpening, AreOpened}
+use Rattle.tape_events.specs.Standing.{AreHeld}
+use Rattle.tape_events.specs.Kept.{AreLaid}
+use Rattle.tape_events.specs.Headline.{IsUnopenedSince, block_records}
+use Rattle.tape_events.specs.Naming.{AreOpened}
 use Rattle.tape_events.specs.Sending.{HasDone, request_in, IsGood, AreTold}
-use Rattle.tape_events.specs.Written.{block_records, label_if, mark_if, written, IsQuiet, IsWritten, IsLabelled, AreLabelled, IsSingle, AreSingle}
+use Rattle.tape_events.specs.Written.{label_if, mark_if, attempt_written, IsQuiet}
+use Rattle.tape_events.specs.Attempts.{IsReelWritten, IsLabelled, AreLabelled, IsSingle, AreSingle}
 use Rattle.tape_events.proofs.Booked.{among_at}
 use Rattle.tape_events.proofs.Laid.{Sits, sits_here}
 use Rattle.tape_events.proofs.Sent.{before_length, raised_one}
@@ -48,7 +52,7 @@ more_records payload first (suc count) =
 
 -- what was written once the label was accepted
 pub labelled_as : (run : PlainRun) (payload : List (List ℕ)) (d : Dumping) (mark : Bool) → d.label ≡ true → d.mark ≡ mark
-    → written run payload d ≡ Record (label run d.volume d.first) ∷ (block_records payload d.first d.blocks ++ mark_if mark)
+    → attempt_written run payload d ≡ Record (label run d.volume d.first) ∷ (block_records payload d.first d.blocks ++ mark_if mark)
 labelled_as run payload d mark is marked =
     ap (λ t. label_if t run d.volume d.first ++ (block_records payload d.first d.blocks ++ mark_if d.mark)) is
     ∙ ap (λ t. Record (label run d.volume d.first) ∷ (block_records payload d.first d.blocks ++ mark_if t)) marked
@@ -66,14 +70,14 @@ pub record Own (w u : World) (v : Serves w u) (l : Link) (d : Dumping) : Type 0 
   pub labelled : IsLabelled w v.k d
 
 -- no request but an open changes the openings
-last_was : (w u : World) (v : Serves w u) (reel : List ℕ) → opened_reel v.request v.shop v.session ≡ None → IsLastOpening u.opens v.k reel → IsLastOpening w.opens v.k reel
+last_was : (w u : World) (v : Serves w u) (reel : List ℕ) → opened_reel v.request v.shop v.session ≡ None → IsUnopenedSince u.opens v.k reel → IsUnopenedSince w.opens v.k reel
 last_was w u v reel none last =
-    subst (λ os. IsLastOpening os v.k reel)
+    subst (λ os. IsUnopenedSince os v.k reel)
     (ap (λ (x : World). x.opens) v.is ∙ ap (λ o. w.opens ++ option_to_list (option_map (opening v.k) o)) none ∙ append-nil w.opens) last
 
 -- the reel in the drive is that of the attempt's last opening
 its_name : (w u : World) (v : Serves w u) (l : Link) (d : Dumping) → Own w u v l d → (drive : ℕ) (reel : PlainReel) (name : List ℕ)
-    → v.s.session ≡ Online drive Both reel → IsLastOpening w.opens v.k name → first_name (rack_at w.hall.shop drive).stack ≡ name
+    → v.s.session ≡ Online drive Both reel → IsUnopenedSince w.opens v.k name → first_name (rack_at w.hall.shop drive).stack ≡ name
 its_name w u v l d o drive reel name online last =
     let first = first_name (rack_at w.hall.shop drive).stack in
     let mine = o.opened.last v.k v.s first v.live (ap (written_reel w.hall.shop) online) in
@@ -81,8 +85,8 @@ its_name w u v l d o drive reel name online last =
 
 -- what was written stands on the tape of the session
 now_written : (w u : World) (v : Serves w u) (l : Link) (d e : Dumping) → Own w u v l d → (b : Begun) (drive : ℕ) (reel : PlainReel) (name : List ℕ) (t : Tape)
-    → v.s.session ≡ Online drive Both reel → IsLastOpening w.opens v.k name
-    → IsLeftWith (scene w.hall.shop v.s.session) (scene v.shop v.session) drive reel t → entries_of t ≡ written b.run b.payload e → t.after ≡ [] → IsWritten u v.k b e name
+    → v.s.session ≡ Online drive Both reel → IsUnopenedSince w.opens v.k name
+    → IsLeftWith (scene w.hall.shop v.s.session) (scene v.shop v.session) drive reel t → entries_of t ≡ attempt_written b.run b.payload e → t.after ≡ [] → IsReelWritten u v.k b e name
 now_written w u v l d e o b drive reel name t online last left same none =
     let h : Hall = hall v.shop v.holders (with_numbered w.hall.sides v.k (Some (side v.reached v.session))) in
     let is : u.hall ≡ h = ap (λ (x : World). x.hall) v.is in
@@ -105,11 +109,11 @@ now_written w u v l d e o b drive reel name t online last left same none =
 
 -- what stood there before
 record WasThere (b : Begun) (d : Dumping) (reel : PlainReel) : Type 0 where
-  stood : entries_of reel.tape ≡ written b.run b.payload d
+  stood : entries_of reel.tape ≡ attempt_written b.run b.payload d
   none : reel.tape.after ≡ []
 
 was_there : (w u : World) (v : Serves w u) (l : Link) (d : Dumping) → Own w u v l d → (b : Begun) (drive : ℕ) (reel : PlainReel) (name : List ℕ) → v.s.session ≡ Online drive Both reel
-    → IsLastOpening w.opens v.k name → d.mark ≡ false → IsWritten w v.k b d name → WasThere b d reel
+    → IsUnopenedSince w.opens v.k name → d.mark ≡ false → IsReelWritten w v.k b d name → WasThere b d reel
 was_there w u v l d o b drive reel name online last unmarked was = record {
   stood = was.stands (entries_of reel.tape) (inr (v.k, v.s, v.live, (drive, Both, reel, online, its_name w u v l d o drive reel name online last, refl)));
   none = was.behind v.s reel v.live (drive, online) (λ marked. (let clash = sym unmarked ∙ marked in absurd cc));
@@ -122,7 +126,7 @@ one_entry_more t x all is none =
 
 -- a block more, and the mark
 block_written : (run : PlainRun) (payload : List (List ℕ)) (d : Dumping) (number : ℕ) → d.label ≡ true → d.mark ≡ false → number ≡ d.first + d.blocks → d.blocks + 1 < 2 ^ 64
-    → written run payload d ++ Record (get_or payload number []) ∷ [] ≡ written run payload (record d { blocks = raised d.blocks })
+    → attempt_written run payload d ++ Record (get_or payload number []) ∷ [] ≡ attempt_written run payload (record d { blocks = raised d.blocks })
 block_written run payload d number labelled unmarked at few =
     let name = Record (label run d.volume d.first) in
     let blocks = block_records payload d.first d.blocks in
@@ -136,7 +140,7 @@ block_written run payload d number labelled unmarked at few =
     ∙ sym (labelled_as run payload (record d { blocks = raised d.blocks }) false labelled unmarked)
 
 mark_written : (run : PlainRun) (payload : List (List ℕ)) (d : Dumping) → d.label ≡ true → d.mark ≡ false
-    → written run payload d ++ Mark ∷ [] ≡ written run payload (record d { mark = true })
+    → attempt_written run payload d ++ Mark ∷ [] ≡ attempt_written run payload (record d { mark = true })
 mark_written run payload d labelled unmarked =
     let name = Record (label run d.volume d.first) in
     let blocks = block_records payload d.first d.blocks in
@@ -145,21 +149,21 @@ mark_written run payload d labelled unmarked =
     ∙ sym (labelled_as run payload (record d { mark = true }) true labelled refl)
 
 label_written : (run : PlainRun) (payload : List (List ℕ)) (d : Dumping) → d.blocks ≡ 0 → d.mark ≡ false
-    → Record (label run d.volume d.first) ∷ [] ≡ written run payload (record d { label = true })
+    → Record (label run d.volume d.first) ∷ [] ≡ attempt_written run payload (record d { label = true })
 label_written run payload d none unmarked =
     ap (λ n. Record (label run d.volume d.first) ∷ (block_records payload d.first n ++ [])) (sym none)
     ∙ sym (labelled_as run payload (record d { label = true }) false refl unmarked)
 
 -- what was written before, while the attempt is quiet
-was_written : (w u : World) (v : Serves w u) (l : Link) (d : Dumping) (o : Own w u v l d) → d.label ≡ true → d.fault ≡ false → (reel : List ℕ) → IsLastOpening w.opens v.k reel
-    → IsWritten w v.k o.p.b d reel
+was_written : (w u : World) (v : Serves w u) (l : Link) (d : Dumping) (o : Own w u v l d) → d.label ≡ true → d.fault ≡ false → (reel : List ℕ) → IsUnopenedSince w.opens v.k reel
+    → IsReelWritten w v.k o.p.b d reel
 was_written w u v l d o labelled fault reel last =
     let a = o.labelled labelled in
-    subst (λ b. IsWritten w v.k b d reel) (same_Some a.0 o.p.b (sym a.1 ∙ o.p.begun)) (a.2 reel (fault, last))
+    subst (λ b. IsReelWritten w v.k b d reel) (same_Some a.0 o.p.b (sym a.1 ∙ o.p.begun)) (a.2 reel (fault, last))
 
 -- the run is the same
 labelled_so : (w u : World) (v : Serves w u) (l : Link) (d : Dumping) (o : Own w u v l d)
-    → ((noted v.request v.reply d).label ≡ true → (reel : List ℕ) → IsQuiet u.opens v.k (noted v.request v.reply d) reel → IsWritten u v.k o.p.b (noted v.request v.reply d) reel)
+    → ((noted v.request v.reply d).label ≡ true → (reel : List ℕ) → IsQuiet u.opens v.k (noted v.request v.reply d) reel → IsReelWritten u v.k o.p.b (noted v.request v.reply d) reel)
     → IsLabelled u v.k (noted v.request v.reply d)
 labelled_so w u v l d o all labelled = (
   o.p.b,
@@ -170,7 +174,7 @@ labelled_so w u v l d o all labelled = (
 -- the request of a write that was accepted, or was not
 abbrev IsNow : (w u : World) (v : Serves w u) → Begun → Dumping → PlainRequest → Type 0
 IsNow w u v b d request =
-    (noted request v.reply d).label ≡ true → (reel : List ℕ) → (noted request v.reply d).fault ≡ false → IsLastOpening w.opens v.k reel → IsWritten u v.k b (noted request v.reply d) reel
+    (noted request v.reply d).label ≡ true → (reel : List ℕ) → (noted request v.reply d).fault ≡ false → IsUnopenedSince w.opens v.k reel → IsReelWritten u v.k b (noted request v.reply d) reel
 
 -- the label
 own_label : (w u : World) (v : Serves w u) (l : Link) (d : Dumping) (o : Own w u v l d) (drive : ℕ) (reel : PlainReel) → v.s.session ≡ Online drive Both reel → reel.tape.before ≡ []
@@ -181,7 +185,7 @@ own_label w u v l d o drive reel online first done (puts n is left) labelled nam
     let x = Record (label o.p.b.run d.volume d.first) in
     let becomes : noted (request_in o.p.b d Label) v.reply d ≡ on_by_one (record d { label = true })
     = ap (λ r. noted (request_in o.p.b d Label) r d) is ∙ ap on_by_one (label_accepted d done.label) in
-    subst (λ e. IsWritten u v.k o.p.b e name) (sym becomes)
+    subst (λ e. IsReelWritten u v.k o.p.b e name) (sym becomes)
     (now_written w u v l d (on_by_one (record d { label = true })) o o.p.b drive reel name (tape (reel.tape.before ++ x ∷ []) []) online last left
     (append-nil (reel.tape.before ++ x ∷ []) ∙ ap (λ t. t ++ x ∷ []) first ∙ label_written o.p.b.run o.p.b.payload d done.blocks done.mark) refl)
 own_label w u v l d o drive reel online first done (keeps same left) labelled name quiet last =
@@ -199,36 +203,36 @@ own_block w u v l d o drive reel number online done (puts n is left) labelled na
     = ap (λ r. noted (request_in o.p.b d (Block number)) r d) is ∙ ap on_by_one (block_accepted d done.label) in
     let was = was_there w u v l d o o.p.b drive reel name online last done.mark (was_written w u v l d o done.label done.fault name last) in
     let few : d.blocks + 1 < 2 ^ 64 = (let at = done.blocks.0 in let within = done.blocks.1 in let limit = o.good.run.blocks in omega (arith, at, within, limit)) in
-    subst (λ e. IsWritten u v.k o.p.b e name) (sym becomes)
+    subst (λ e. IsReelWritten u v.k o.p.b e name) (sym becomes)
     (now_written w u v l d (on_by_one (record d { blocks = raised d.blocks })) o o.p.b drive reel name (tape (reel.tape.before ++ x ∷ []) []) online last left
-    (one_entry_more reel.tape x (written o.p.b.run o.p.b.payload d) was.stood was.none ∙ block_written o.p.b.run o.p.b.payload d number done.label done.mark done.blocks.0 few) refl)
+    (one_entry_more reel.tape x (attempt_written o.p.b.run o.p.b.payload d) was.stood was.none ∙ block_written o.p.b.run o.p.b.payload d number done.label done.mark done.blocks.0 few) refl)
 own_block w u v l d o drive reel number online done (keeps same left) labelled name quiet last =
     let was = was_there w u v l d o o.p.b drive reel name online last done.mark (was_written w u v l d o done.label done.fault name last) in
-    subst (λ e. IsWritten u v.k o.p.b e name) (sym (ap on_by_one (same d)))
+    subst (λ e. IsReelWritten u v.k o.p.b e name) (sym (ap on_by_one (same d)))
     (now_written w u v l d (on_by_one d) o o.p.b drive reel name reel.tape online last left was.stood was.none)
 own_block w u v l d o drive reel number online done (fails fault) labelled name quiet last = (let clash = sym (fault d) ∙ quiet in absurd cc)
 
 -- the mark
 own_mark : (w u : World) (v : Serves w u) (l : Link) (d : Dumping) (o : Own w u v l d) (drive : ℕ) (reel : PlainReel) (next : ℕ) → v.s.session ≡ Online drive Both reel
     → HasDone o.p.b.run (Some v.s) d (MarkStep next)
-    → Puts (scene w.hall.shop v.s.session) (scene v.shop v.session) drive reel (Mark ∷ []) (Op 0 1) v.reply → IsNow w u v o.p.b d (Op 0 1)
+    → Puts (scene w.hall.shop v.s.session) (scene v.shop v.session) drive reel (Mark ∷ []) (Op MTWEOF 1) v.reply → IsNow w u v o.p.b d (Op MTWEOF 1)
 own_mark w u v l d o drive reel next online done (puts n is left) labelled name quiet last =
-    let becomes : noted (Op 0 1) v.reply d ≡ on_by_one (record d { mark = true }) = ap (λ r. noted (Op 0 1) r d) is in
+    let becomes : noted (Op MTWEOF 1) v.reply d ≡ on_by_one (record d { mark = true }) = ap (λ r. noted (Op MTWEOF 1) r d) is in
     let was = was_there w u v l d o o.p.b drive reel name online last done.mark (was_written w u v l d o done.label done.fault name last) in
-    subst (λ e. IsWritten u v.k o.p.b e name) (sym becomes)
+    subst (λ e. IsReelWritten u v.k o.p.b e name) (sym becomes)
     (now_written w u v l d (on_by_one (record d { mark = true })) o o.p.b drive reel name (tape (reel.tape.before ++ Mark ∷ []) []) online last left
-    (one_entry_more reel.tape Mark (written o.p.b.run o.p.b.payload d) was.stood was.none ∙ mark_written o.p.b.run o.p.b.payload d done.label done.mark) refl)
+    (one_entry_more reel.tape Mark (attempt_written o.p.b.run o.p.b.payload d) was.stood was.none ∙ mark_written o.p.b.run o.p.b.payload d done.label done.mark) refl)
 own_mark w u v l d o drive reel next online done (keeps same left) labelled name quiet last =
     let was = was_there w u v l d o o.p.b drive reel name online last done.mark (was_written w u v l d o done.label done.fault name last) in
-    subst (λ e. IsWritten u v.k o.p.b e name) (sym (ap on_by_one (same d)))
+    subst (λ e. IsReelWritten u v.k o.p.b e name) (sym (ap on_by_one (same d)))
     (now_written w u v l d (on_by_one d) o o.p.b drive reel name reel.tape online last left was.stood was.none)
 own_mark w u v l d o drive reel next online done (fails fault) labelled name quiet last = (let clash = sym (fault d) ∙ quiet in absurd cc)
 
 -- behind the mark nothing is written, and more was carried out than up to it
 own_marked : (w u : World) (v : Serves w u) (l : Link) (d e : Dumping) (o : Own w u v l d) → d.label ≡ true → d.fault ≡ false → d.mark ≡ true
     → length (steps_before o.p.b.run d.first (d.first + d.blocks) (Unload (d.first + d.blocks))) < e.carried
-    → (e.mark ≡ d.mark) → (e.first ≡ d.first) → (e.blocks ≡ d.blocks) → (written o.p.b.run o.p.b.payload e ≡ written o.p.b.run o.p.b.payload d) → (name : List ℕ)
-    → IsLastOpening w.opens v.k name → IsWritten u v.k o.p.b e name
+    → (e.mark ≡ d.mark) → (e.first ≡ d.first) → (e.blocks ≡ d.blocks) → (attempt_written o.p.b.run o.p.b.payload e ≡ attempt_written o.p.b.run o.p.b.payload d) → (name : List ℕ)
+    → IsUnopenedSince w.opens v.k name → IsReelWritten u v.k o.p.b e name
 own_marked w u v l d e o labelled fault marked more mark first blocks same name last = record {
   stands = λ entries on.
       marked_stands w u v l d o.p marked o.held o.held_after o.p.b name (was_written w u v l d o labelled fault name last) entries on ∙ sym same;

@@ -7,8 +7,8 @@ use Rattle.dump_client.specs.declared.step.Step.{Step}
 use Rattle.dump_client.specs.declared.step.Step.TheVariants.{Open, Rewind, Label, Block, Mark, Unload, Close}
 use Rattle.tape_events.specs.World.{World, Link, Dumping, Begun, Count, Opening, numbered, with_numbered}
 use Rattle.tape_events.specs.Changes.{changed_from, link_of, opening, noted, answered}
-use Rattle.tape_events.specs.Sending.{HasDone, request_in, IsSent, AreTold}
-use Rattle.tape_events.specs.Written.{IsEarnedBy, AreCountsEarned}
+use Rattle.tape_events.specs.Sending.{HasDone, request_in, IsLinkSent, AreTold}
+use Rattle.tape_events.specs.Attempts.{IsEarnedBy, AreCountsEarned}
 use Rattle.tape_events.proofs.Numbers.{changed_is, with_here, with_other}
 use Rattle.tape_events.proofs.Sent.{still_unloaded}
 use Rattle.tape_events.proofs.SentWire.{OneReading, DroppedWrites}
@@ -37,7 +37,7 @@ pub record IsServed (w u : World) (v : Serves w u) (l : Link) (d : Dumping) : Ty
   pub few : d.carried + 1 < 2 ^ 64
   pub asks : v.request ≡ request_in b d step
 
-served_sent : OneReading → DroppedWrites → (w u : World) (v : Serves w u) (l : Link) (d : Dumping) → IsSent w.begun (Some v.s) l d → IsServed w u v l d
+served_sent : OneReading → DroppedWrites → (w u : World) (v : Serves w u) (l : Link) (d : Dumping) → IsLinkSent w.begun (Some v.s) l d → IsServed w u v l d
 served_sent g h w u v l d (inl settled) = absurd (nothing_there h v.s l.toward v.bytes v.rest v.request settled.unserved v.unread v.gives)
 served_sent g h w u v l d (inr (b, step, at, p)) =
     let all = serve_pending g h b v.s l.toward d step v.bytes v.rest v.request v.reply v.reached v.session p v.unread v.gives v.left in
@@ -53,7 +53,7 @@ served_sent g h w u v l d (inr (b, step, at, p)) =
 pub served_step : OneReading → DroppedWrites → (w u : World) (v : Serves w u) → AreTold w → (l : Link) (d : Dumping) → link_of w v.k ≡ Some l → l.dump ≡ Some d
     → IsServed w u v l d
 served_step g h w u v told l d at dump =
-    served_sent g h w u v l d (subst (λ o. IsSent w.begun o l d) v.live ((told.each v.k l at).sent d dump))
+    served_sent g h w u v l d (subst (λ o. IsLinkSent w.begun o l d) v.live ((told.each v.k l at).sent d dump))
 
 -- all but how many were carried out, and those are no fewer
 pub record SameWrites (d e : Dumping) : Type 0 where

@@ -13,7 +13,7 @@ use Rattle.tape_events.specs.World.{World, Link, Dumping, Begun, Opening}
 use Rattle.tape_events.specs.Changes.{opening, opened_reel, written_reel, first_name, noted}
 use Rattle.tape_events.specs.Naming.{AreOpened}
 use Rattle.tape_events.specs.Sending.{HasDone, StandsFor, request_in, AreTold}
-use Rattle.tape_events.specs.Written.{IsSingle, AreSingle}
+use Rattle.tape_events.specs.Attempts.{IsSingle, AreSingle}
 use Rattle.tape_events.proofs.Booked.{among_at}
 use Rattle.tape_events.proofs.Named.{opening_is}
 use Rattle.tape_events.proofs.Sent.{raised_one}

@@ -4,6 +4,7 @@ use Rattle.std.proofs.lemmas.List.{take-append-drop}
 use Rattle.rmt_wire.specs.Request.{PlainRequest}
 use Rattle.rmt_wire.specs.Request.PlainRequest.{Open, Close, Write, WriteDropped, Read, Op}
 use Rattle.rmt_wire.specs.Reply.{PlainReply}
+use Rattle.rmt_wire.specs.declared.mtio.TheConstants.{MTWEOF, MTFSF, MTBSF, MTFSR, MTBSR, MTREW, MTNOP}
 use Rattle.tape.specs.Tape.{PlainEntry, Tape, tape, entries_of, TapeRequest, TapeAnswer, TapeStep, SpaceStep, Passes}
 use Rattle.tape.specs.Tape.PlainEntry.{Record, Mark}
 use Rattle.tape.specs.Tape.TapeRequest.{Write as WriteRecord, Read as ReadRecord, WriteMarks, ForwardFiles, BackFiles, ForwardRecords, BackRecords, Rewind, Nothing, Unknown}
@@ -21,7 +22,7 @@ use Rattle.rmt_server.specs.Session.{PlainReel, plain_reel, PlainSession, Scene,
 use Rattle.rmt_server.specs.Session.PlainSession.{Idle, Offline, Online}
 use Rattle.rmt_server.specs.TroubledServe.{TroubledServeStep, TroubledOpens, TroubledReelStep, TroubledMoveStep, TroubledOpStep, TroubledDoneStep}
 use Rattle.tape_events.specs.Changes.{first_name, written_reel}
-use Rattle.tape_events.specs.Standing.{LiesOn, HasInDrive}
+use Rattle.tape_events.specs.Standing.{ReelLiesOn, HasInDrive}
 use Rattle.tape_events.proofs.Laid.{rack_same}
 use Rattle.tape_events.proofs.LabelledFrame.{first_lies, latch_lies, closed_lies, moved_lies}
 
@@ -101,7 +102,7 @@ device_same request trouble capacity t u (Fault faults.OutOfMemory) reads step =
 
 -- it stands on a reel that lies there, or on the reel that the session has in its drive
 abbrev pub StandsIn : Scene → List ℕ → List PlainEntry → Type 0
-StandsIn v name entries = LiesOn v.shop name entries ⊎ HasInDrive v.shop v.session name entries
+StandsIn v name entries = ReelLiesOn v.shop name entries ⊎ HasInDrive v.shop v.session name entries
 
 -- the session may write on that reel, and the request asks for a write
 abbrev pub WritesOn : Scene → PlainRequest → List ℕ → Type 0
@@ -161,7 +162,7 @@ idle_none s session name entries idle (drive, access, reel, online, named, holds
 
 closed_stood : (before : Scene) (request : PlainRequest) (after : Scene) → after.shop ≡ closed_shop before.shop before.session → after.session ≡ Idle → Stood before request after
 closed_stood before request after shop idle name entries (inl lies) =
-    inl (closed_lies before.shop before.session name entries (subst (λ s. LiesOn s name entries) shop lies))
+    inl (closed_lies before.shop before.session name entries (subst (λ s. ReelLiesOn s name entries) shop lies))
 closed_stood before request after shop idle name entries (inr has) = absurd (idle_none after.shop after.session name entries idle has)
 
 -- MTOFFL
@@ -177,7 +178,7 @@ move_stood trouble before request count reply after (drive, access, reel, Ok don
     ])
     moved_stands (inr (e, other, r, clash, named, holds)) = absurd cc
 move_stood trouble before request count reply after (drive, access, reel, Err why, online, cause, replies, (excused, stay, is)) name entries (inl lies) =
-    inl (inl (subst (λ s. LiesOn s name entries) stay.0 lies))
+    inl (inl (subst (λ s. ReelLiesOn s name entries) stay.0 lies))
 move_stood trouble before request count reply after (drive, access, reel, Err why, online, cause, replies, (excused, stay, is)) name entries (inr (e, other, r, now, named, holds)) =
     let both : Online e other r ≡ Online drive access (plain_reel (tape [] (entries_of reel.tape)) reel.capacity) = sym now ∙ is in
     let same : e ≡ drive = cc in
@@ -207,7 +208,7 @@ latched_stood : (before : Scene) (request : PlainRequest) (after : Scene) (d : �
     → Stood before request after
 latched_stood before request after d access reel first within waits shop has is name entries (inl lies) =
     inl (closed_lies before.shop before.session name entries
-    (latch_lies (closed_shop before.shop before.session) d name entries (subst (λ s. LiesOn s name entries) shop lies)))
+    (latch_lies (closed_shop before.shop before.session) d name entries (subst (λ s. ReelLiesOn s name entries) shop lies)))
 latched_stood before request after d access reel first within waits shop has is name entries (inr (e, other, r, now, called, holds)) =
     let s = closed_shop before.shop before.session in
     let both : Online e other r ≡ Online d access reel = sym now ∙ is in
@@ -255,7 +256,7 @@ not_refused false x o is = refl
 
 op_may : (access : Access) (op count : ℕ) → op_refusal access op ≡ None → MayWrite (Op op count) access
 op_may ReadOnly op count none write =
-    (let reads = others_read (op == 0) (op == 1) (op == 2) (op == 3) (op == 4) (op == 5) (op == 7) count (not_refused (op == 0) _ _ none) in
+    (let reads = others_read (op == MTWEOF) (op == MTFSF) (op == MTBSF) (op == MTFSR) (op == MTBSR) (op == MTREW) (op == MTNOP) count (not_refused (op == MTWEOF) _ _ none) in
     let clash = sym reads ∙ write in absurd cc)
 op_may WriteOnly op count none write = refl
 op_may Both op count none write = refl

@@ -14,9 +14,8 @@ use Rattle.rmt_server.specs.Session.{PlainSession}
 use Rattle.rmt_server.specs.TroubledServe.{drive_in}
 use Rattle.rmt_server.specs.Session.PlainSession.{Idle, Offline, Online}
 use Rattle.tape_events.specs.Changes.{side_of, first_name}
-use Rattle.tape_events.specs.Kept.{AreThere, IsFirstAway, online_in, IsOnlineAt, AreHeld, AreLaid}
-use Rattle.tape_events.specs.Naming.{HasReel}
-use Rattle.tape_events.specs.Standing.{LiesIn, HasInDrive, StandsOn}
+use Rattle.tape_events.specs.Standing.{AreThere, IsFirstAway, online_drive_in, IsOnlineAt, AreHeld, HasReel, ReelLiesIn, HasInDrive, StandsOn}
+use Rattle.tape_events.specs.Kept.{AreLaid}
 use Rattle.tape_events.proofs.Held.{side_there}
 use Rattle.tape_events.proofs.Laid.{online_drive}
 
@@ -53,17 +52,17 @@ stack_among [] name some = absurd (slot_among [] name some)
 stack_among (r ∷ racks) name some = stack_first racks r name (sum_by (named name) r.stack) refl (stack_among racks name) some
 
 -- what lies there
-there_lies : (xs : List (Slot KeptReel)) (name : List ℕ) → HasSlot xs name → AreThere xs → (entries : List PlainEntry) × LiesIn xs name entries
+there_lies : (xs : List (Slot KeptReel)) (name : List ℕ) → HasSlot xs name → AreThere xs → (entries : List PlainEntry) × ReelLiesIn xs name entries
 there_lies [] name has there = absurd has
 there_lies (x ∷ xs) name (inl named) ((reel, is), rest) = (reel.entries, inl record { named = named; reel = reel; there = is; holds = refl })
 there_lies (x ∷ xs) name (inr has) (first, rest) = let on = there_lies xs name has rest in (on.0, inr on.1)
 
-away_or_lies : (xs : List (Slot KeptReel)) (name : List ℕ) → HasSlot xs name → IsFirstAway xs → (first_name xs ≡ name) ⊎ ((entries : List PlainEntry) × LiesIn xs name entries)
+away_or_lies : (xs : List (Slot KeptReel)) (name : List ℕ) → HasSlot xs name → IsFirstAway xs → (first_name xs ≡ name) ⊎ ((entries : List PlainEntry) × ReelLiesIn xs name entries)
 away_or_lies [] name has away = absurd has
 away_or_lies (x ∷ xs) name (inl named) (away, rest) = inl named
 away_or_lies (x ∷ xs) name (inr has) (away, rest) = let on = there_lies xs name has rest in inr (on.0, inr on.1)
 
-in_drive : (s : Shop) (session : PlainSession) (d : ℕ) (name : List ℕ) → online_in session ≡ Some d → first_name (rack_at s d).stack ≡ name
+in_drive : (s : Shop) (session : PlainSession) (d : ℕ) (name : List ℕ) → online_drive_in session ≡ Some d → first_name (rack_at s d).stack ≡ name
     → (entries : List PlainEntry) × HasInDrive s session name entries
 in_drive s Idle d name online named = absurd cc
 in_drive s (Offline drive access) d name online named = absurd cc
@@ -71,15 +70,15 @@ in_drive s (Online drive access reel) d name online named =
     (entries_of reel.tape, (drive, access, reel, refl, ap (λ n. first_name (rack_at s n).stack) (same_Some drive d online) ∙ named, refl))
 
 -- a drive has a session online, or none
-holder_online : (h : Hall) (k d : ℕ) (s : Side) (o : Option ℕ) → AreHeld h → slice_get h.holders d ≡ Some k → side_of h k ≡ Some s → online_in s.session ≡ o
+holder_online : (h : Hall) (k d : ℕ) (s : Side) (o : Option ℕ) → AreHeld h → slice_get h.holders d ≡ Some k → side_of h k ≡ Some s → online_drive_in s.session ≡ o
     → (o ≡ Some d → ⊥) → IsOnlineAt h d → ⊥
 holder_online h k d s o a holds at is off (j, x, there, online) =
     let same : j ≡ k = same_Some j k (sym (a.opened j d x there (online_drive x.session d online)) ∙ holds) in
     let its : x ≡ s = same_Some x s (sym there ∙ ap (side_of h) same ∙ at) in
-    off (sym is ∙ ap (λ (y : Side). online_in y.session) (sym its) ∙ online)
+    off (sym is ∙ ap (λ (y : Side). online_drive_in y.session) (sym its) ∙ online)
 
 online_there : (h : Hall) (k d : ℕ) (s : Side) (o : Option ℕ) → AreHeld h → slice_get h.holders d ≡ Some k → side_of h k ≡ Some s → drive_in s.session ≡ Some d
-    → online_in s.session ≡ o → IsOnlineAt h d ⊎ (IsOnlineAt h d → ⊥)
+    → online_drive_in s.session ≡ o → IsOnlineAt h d ⊎ (IsOnlineAt h d → ⊥)
 online_there h k d s None a holds at drive is = inr (holder_online h k d s None a holds at is (λ clash. cc))
 online_there h k d s (Some e) a holds at drive is =
     let same : e ≡ d = same_Some e d (sym (online_drive s.session e is) ∙ drive) in
@@ -95,7 +94,7 @@ held_online h d None a is = inr (none_online h d None a is (λ k clash. cc))
 held_online h d (Some zero) a is = inr (none_online h d (Some zero) a is (λ k clash. (let same = same_Some zero (suc k) clash in omega (arith, same))))
 held_online h d (Some (suc k)) a is =
     let s = a.holds k d is in
-    online_there h (suc k) d s.0 (online_in s.0.session) a is s.1 s.2 refl
+    online_there h (suc k) d s.0 (online_drive_in s.0.session) a is s.1 s.2 refl
 
 -- on a stack, or in the drive
 stack_stands : (h : Hall) (d : ℕ) (name : List ℕ) → AreLaid h → HasSlot (rack_at h.shop d).stack name → IsOnlineAt h d ⊎ (IsOnlineAt h d → ⊥)

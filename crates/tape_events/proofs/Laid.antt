@@ -32,24 +32,25 @@ use Rattle.tape_events.specs.Events.{PlainEvent}
 use Rattle.tape_events.specs.Events.PlainEvent.{StartRun, Connect, Send, ToServer, Serve, ToClient, Cut, EndAtServer, EndAtClient, ServerRestart, ClientRestart, Respond, Arrange, Stranger, Says, Enter}
 use Rattle.tape_events.specs.Changes.{side_of, with_side, ended_from, ended, all_ended, came_to, calm}
 use Rattle.tape_events.specs.Steps.{Happens, Sends, Finds, Hears, SeesEnd, forgotten_from}
-use Rattle.tape_events.specs.Kept.{AreThere, IsFirstAway, online_in, IsOnlineAt, AreHeld, AreLaid}
+use Rattle.tape_events.specs.Standing.{AreThere, IsFirstAway, online_drive_in, IsOnlineAt, AreHeld}
+use Rattle.tape_events.specs.Kept.{AreLaid}
 use Rattle.tape_events.proofs.Numbers.{set_other, with_here, with_other, pushed_is, numbered_more}
 use Rattle.tape_events.proofs.Held.{side_there, all_ended_held, free_then}
 use Rattle.tape_events.proofs.Served.{step_serves}
 
 -- an online session has its drive open
-pub online_drive : (s : PlainSession) (d : ℕ) → online_in s ≡ Some d → drive_in s ≡ Some d
+pub online_drive : (s : PlainSession) (d : ℕ) → online_drive_in s ≡ Some d → drive_in s ≡ Some d
 online_drive Idle d is = absurd cc
 online_drive (Offline drive access) d is = absurd cc
 online_drive (Online drive access reel) d is = is
 
 abbrev online_of : Option Side → Option ℕ
 online_of None = None
-online_of (Some s) = online_in s.session
+online_of (Some s) = online_drive_in s.session
 
 -- a session of another connection is online there
 abbrev pub IsOnlineElse : Hall → ℕ → ℕ → Type 0
-IsOnlineElse h k d = (j : ℕ) × (j ≢ k) × ((s : Side) × (side_of h j ≡ Some s) × (online_in s.session ≡ Some d))
+IsOnlineElse h k d = (j : ℕ) × (j ≢ k) × ((s : Side) × (side_of h j ≡ Some s) × (online_drive_in s.session ≡ Some d))
 
 -- the live side of one connection is another, or over
 pub record Sits (h : Hall) (k : ℕ) (s : Side) (o : Option Side) (u : Hall) : Type 0 where
@@ -71,9 +72,9 @@ now_online h k s o u t d (j, x, at, online) = elim (eqb_tells j k) [
   | inr (unequal, other) ↦ inr (j, other, (x, sym (sits_other h k j s o u t other) ∙ at, online))
 ]
 
-was_online : (h : Hall) (k : ℕ) (s : Side) → side_of h k ≡ Some s → (d : ℕ) → IsOnlineAt h d → (online_in s.session ≡ Some d) ⊎ IsOnlineElse h k d
+was_online : (h : Hall) (k : ℕ) (s : Side) → side_of h k ≡ Some s → (d : ℕ) → IsOnlineAt h d → (online_drive_in s.session ≡ Some d) ⊎ IsOnlineElse h k d
 was_online h k s was d (j, x, at, online) = elim (eqb_tells j k) [
-  | inl (equal, same) ↦ inl (ap (λ (z : Side). online_in z.session) (same_Some s x (sym was ∙ ap (side_of h) (sym same) ∙ at)) ∙ online)
+  | inl (equal, same) ↦ inl (ap (λ (z : Side). online_drive_in z.session) (same_Some s x (sym was ∙ ap (side_of h) (sym same) ∙ at)) ∙ online)
   | inr (unequal, other) ↦ inr (j, other, (x, at, online))
 ]
 
@@ -83,7 +84,7 @@ else_stays h k s o u t d (j, other, (x, at, online)) = (j, x, sits_other h k j s
 pub else_was : (h : Hall) (k d : ℕ) → IsOnlineElse h k d → IsOnlineAt h d
 else_was h k d (j, other, (x, at, online)) = (j, x, at, online)
 
-pub own_now : (h : Hall) (k : ℕ) (s x : Side) (u : Hall) → Sits h k s (Some x) u → (d : ℕ) → online_in x.session ≡ Some d → IsOnlineAt u d
+pub own_now : (h : Hall) (k : ℕ) (s x : Side) (u : Hall) → Sits h k s (Some x) u → (d : ℕ) → online_drive_in x.session ≡ Some d → IsOnlineAt u d
 own_now h k s x u t d online = (k, x, sits_here h k s (Some x) u t, online)
 
 own_there : (h : Hall) (k : ℕ) (s : Side) (o : Option Side) (u : Hall) → Sits h k s o u → (d : ℕ) → online_of o ≡ Some d → IsOnlineAt u d
@@ -144,7 +145,7 @@ record Shifts (h : Hall) (k : ℕ) (s : Side) (o : Option Side) (u : Hall) (e : 
   racks : u.shop.racks ≡ slice_set h.shop.racks e r
   within : e < length h.shop.racks
   alone : IsOnlineElse h k e → ⊥
-  before : (d : ℕ) → online_in s.session ≡ Some d → d ≡ e
+  before : (d : ℕ) → online_drive_in s.session ≡ Some d → d ≡ e
   after : (d : ℕ) → online_of o ≡ Some d → d ≡ e
   away : online_of o ≡ Some e → IsFirstAway r.stack
   there : (online_of o ≡ Some e → ⊥) → AreThere r.stack
@@ -191,7 +192,7 @@ still_laid h u shop back on l = record {
 }
 
 -- the side that turns is online as before
-turn_laid : (h : Hall) (k : ℕ) (s : Side) (o : Option Side) (u : Hall) → Sits h k s o u → u.shop ≡ h.shop → online_of o ≡ online_in s.session → AreLaid h → AreLaid u
+turn_laid : (h : Hall) (k : ℕ) (s : Side) (o : Option Side) (u : Hall) → Sits h k s o u → u.shop ≡ h.shop → online_of o ≡ online_drive_in s.session → AreLaid h → AreLaid u
 turn_laid h k s o u t shop same l = still_laid h u shop
     (λ d on. elim (now_online h k s o u t d on) [
       | inl own ↦ (k, s, t.was, sym same ∙ own)
@@ -211,8 +212,8 @@ drive_within h k s d a was own =
 -- what a session had open is laid back
 closed_laid : (h : Hall) (k : ℕ) (s : Side) (o : Option Side) (u : Hall) (session : PlainSession) → s.session ≡ session → Sits h k s o u → u.shop ≡ closed_shop h.shop session
     → online_of o ≡ None → AreHeld h → AreLaid h → AreLaid u
-closed_laid h k s o u Idle is t shop off a l = turn_laid h k s o u t shop (off ∙ sym (ap online_in is)) l
-closed_laid h k s o u (Offline drive access) is t shop off a l = turn_laid h k s o u t shop (off ∙ sym (ap online_in is)) l
+closed_laid h k s o u Idle is t shop off a l = turn_laid h k s o u t shop (off ∙ sym (ap online_drive_in is)) l
+closed_laid h k s o u (Offline drive access) is t shop off a l = turn_laid h k s o u t shop (off ∙ sym (ap online_drive_in is)) l
 closed_laid h k s o u (Online drive access reel) is t shop off a l =
     let own : drive_in s.session ≡ Some drive = ap drive_in is in
     let reel' = kept_reel (entries_of reel.tape) reel.capacity in
@@ -221,15 +222,15 @@ closed_laid h k s o u (Online drive access reel) is t shop off a l =
       racks = ap (λ (v : Shop). v.racks) shop;
       within = drive_within h k s drive a t.was own;
       alone = alone_at h k s drive a t.was own;
-      before = λ d at. same_Some d drive (sym at ∙ ap online_in is);
+      before = λ d at. same_Some d drive (sym at ∙ ap online_drive_in is);
       after = λ d at. (let clash = sym off ∙ at in absurd cc);
       away = λ at. (let clash = sym off ∙ at in absurd cc);
-      there = λ no. laid_first reel' (rack_at h.shop drive).stack (l.latched drive (k, s, t.was, ap online_in is));
+      there = λ no. laid_first reel' (rack_at h.shop drive).stack (l.latched drive (k, s, t.was, ap online_drive_in is));
       bin = subst (λ (v : Shop). AreThere v.bin) (sym shop) l.bin;
     } l
 
 -- the first reel of a free drive is latched
-open_laid : (h : Hall) (k : ℕ) (s x : Side) (u : Hall) (d : ℕ) (first : KeptReel) → Sits h k s (Some x) u → online_in s.session ≡ None → online_in x.session ≡ Some d
+open_laid : (h : Hall) (k : ℕ) (s x : Side) (u : Hall) (d : ℕ) (first : KeptReel) → Sits h k s (Some x) u → online_drive_in s.session ≡ None → online_drive_in x.session ≡ Some d
     → waiting_reel h.shop d ≡ Some first → u.shop ≡ after_latch h.shop d → d < length h.shop.racks → (IsOnlineElse h k d → ⊥) → AreLaid h → AreLaid u
 open_laid h k s x u d first t off on waits shop within alone l =
     let lying = l.lying d (λ at. elim (was_online h k s t.was d at) [
@@ -249,7 +250,7 @@ open_laid h k s x u d first t off on waits shop within alone l =
     } l
 
 -- the latched reel lies in the bin
-moved_laid : (h : Hall) (k : ℕ) (s x : Side) (u : Hall) (d : ℕ) (reel : KeptReel) → Sits h k s (Some x) u → online_in s.session ≡ Some d → online_in x.session ≡ None
+moved_laid : (h : Hall) (k : ℕ) (s x : Side) (u : Hall) (d : ℕ) (reel : KeptReel) → Sits h k s (Some x) u → online_drive_in s.session ≡ Some d → online_drive_in x.session ≡ None
     → u.shop.racks ≡ slice_set h.shop.racks d (rack (rack_at h.shop d).name (drop 1 (rack_at h.shop d).stack))
     → u.shop.bin ≡ h.shop.bin ++ with_first (Some reel) (take 1 (rack_at h.shop d).stack) → AreHeld h → AreLaid h → AreLaid u
 moved_laid h k s x u d reel t on off racks bin a l =
@@ -274,21 +275,21 @@ record Scenes (h : Hall) (k : ℕ) (s x : Side) (u : Hall) (after : Scene) : Typ
 
 same_scene : (h : Hall) (k : ℕ) (s x : Side) (u : Hall) (after : Scene) → Scenes h k s x u after → after ≡ scene h.shop s.session → AreLaid h → AreLaid u
 same_scene h k s x u after t is l =
-    turn_laid h k s (Some x) u t.sits (t.shop ∙ ap (λ (v : Scene). v.shop) is) (ap online_in (t.session ∙ ap (λ (v : Scene). v.session) is)) l
+    turn_laid h k s (Some x) u t.sits (t.shop ∙ ap (λ (v : Scene). v.shop) is) (ap online_drive_in (t.session ∙ ap (λ (v : Scene). v.session) is)) l
 
 reel_laid : (trouble : Trouble) (h : Hall) (k : ℕ) (s x : Side) (u : Hall) (request : PlainRequest) (reply : PlainReply) (after : Scene) → Scenes h k s x u after
     → TroubledReelStep trouble (scene h.shop s.session) request reply after → AreLaid h → AreLaid u
 reel_laid trouble h k s x u request reply after t (drive, access, reel, answer, tape, online, device, replies, is) l =
     turn_laid h k s (Some x) u t.sits (t.shop ∙ ap (λ (v : Scene). v.shop) is)
-    (ap online_in (t.session ∙ ap (λ (v : Scene). v.session) is) ∙ sym (ap online_in online)) l
+    (ap online_drive_in (t.session ∙ ap (λ (v : Scene). v.session) is) ∙ sym (ap online_drive_in online)) l
 
 move_laid : (trouble : Trouble) (h : Hall) (k : ℕ) (s x : Side) (u : Hall) (count : ℕ) (reply : PlainReply) (after : Scene) → Scenes h k s x u after
     → TroubledMoveStep trouble (scene h.shop s.session) count reply after → AreHeld h → AreLaid h → AreLaid u
 move_laid trouble h k s x u count reply after t (drive, access, reel, Ok done, online, cause, replies, is) a l =
-    moved_laid h k s x u drive (kept_reel (entries_of reel.tape) reel.capacity) t.sits (ap online_in online) (ap online_in (t.session ∙ ap (λ (v : Scene). v.session) is))
+    moved_laid h k s x u drive (kept_reel (entries_of reel.tape) reel.capacity) t.sits (ap online_drive_in online) (ap online_drive_in (t.session ∙ ap (λ (v : Scene). v.session) is))
     (ap (λ (v : Shop). v.racks) (t.shop ∙ ap (λ (v : Scene). v.shop) is)) (ap (λ (v : Shop). v.bin) (t.shop ∙ ap (λ (v : Scene). v.shop) is)) a l
 move_laid trouble h k s x u count reply after t (drive, access, reel, Err why, online, cause, replies, (excused, stays, is)) a l =
-    turn_laid h k s (Some x) u t.sits (t.shop ∙ stays.0) (ap online_in (t.session ∙ is) ∙ sym (ap online_in online)) l
+    turn_laid h k s (Some x) u t.sits (t.shop ∙ stays.0) (ap online_drive_in (t.session ∙ is) ∙ sym (ap online_drive_in online)) l
 
 op_laid : (offline : Bool) (trouble : Trouble) (h : Hall) (k : ℕ) (s x : Side) (u : Hall) (op count : ℕ) (reply : PlainReply) (after : Scene) → Scenes h k s x u after
     → TroubledOpStep offline trouble (scene h.shop s.session) op count reply after → AreHeld h → AreLaid h → AreLaid u
@@ -297,7 +298,7 @@ op_laid false trouble h k s x u op count reply after t step a l = reel_laid trou
 
 close_laid : (h : Hall) (k : ℕ) (s x : Side) (u : Hall) (after : Scene) → Scenes h k s x u after → after ≡ closed (scene h.shop s.session) → AreHeld h → AreLaid h → AreLaid u
 close_laid h k s x u after t is a l =
-    closed_laid h k s (Some x) u s.session refl t.sits (t.shop ∙ ap (λ (v : Scene). v.shop) is) (ap online_in (t.session ∙ ap (λ (v : Scene). v.session) is)) a l
+    closed_laid h k s (Some x) u s.session refl t.sits (t.shop ∙ ap (λ (v : Scene). v.shop) is) (ap online_drive_in (t.session ∙ ap (λ (v : Scene). v.session) is)) a l
 
 done_laid : (trouble : Trouble) (h : Hall) (k : ℕ) (s x : Side) (u : Hall) (request : PlainRequest) (reply : PlainReply) (after : Scene) → Scenes h k s x u after
     → AreHeld h → AreLaid h → TroubledDoneStep trouble (scene h.shop s.session) request reply after → AreLaid u
@@ -336,7 +337,7 @@ from_idle h k s x u t = record {
 }
 
 -- nothing is latched: the drives are as once what was open is laid back
-not_opened : (h : Hall) (k : ℕ) (s x : Side) (u : Hall) → Sits h k s (Some x) u → u.shop ≡ closed_shop h.shop s.session → online_in x.session ≡ None → AreHeld h → AreLaid h → AreLaid u
+not_opened : (h : Hall) (k : ℕ) (s x : Side) (u : Hall) → Sits h k s (Some x) u → u.shop ≡ closed_shop h.shop s.session → online_drive_in x.session ≡ None → AreHeld h → AreLaid h → AreLaid u
 not_opened h k s x u t shop off a l = closed_laid h k s (Some x) u s.session refl t shop off a l
 
 -- no other is online there in between
@@ -349,19 +350,19 @@ opens_laid : (trouble : Trouble) (h : Hall) (k : ℕ) (s x : Side) (u : Hall) (h
     → TroubledOpens trouble holders (closed (scene h.shop s.session)) device access reply after → AreLaid u
 opens_laid trouble h k s x u holders device None reply after t a l free (replies, is) = close_laid h k s x u after t is a l
 opens_laid trouble h k s x u holders device (Some access) reply after t a l free (Ok opened, asked, (found, named, latch), cause, replies, is) =
-    open_laid (idle_hall h k s) k (side s.reached Idle) x u opened.0 latch.0 (from_idle h k s x u t.sits) refl (ap online_in (t.session ∙ is)) latch.1 (t.shop ∙ latch.2) named.0
+    open_laid (idle_hall h k s) k (side s.reached Idle) x u opened.0 latch.0 (from_idle h k s x u t.sits) refl (ap online_drive_in (t.session ∙ is)) latch.1 (t.shop ∙ latch.2) named.0
     (λ elsewhere. alone_free h k s opened.0 a t.sits.was (free opened.0 (ap drive_in is)) (idle_else h k s opened.0 t.sits.was elsewhere))
     (idle_laid h k s t.sits.was a l)
 opens_laid trouble h k s x u holders device (Some access) reply after t a l free (Err NoSuchDrive, asked, (named, same), cause, replies, is) =
-    not_opened h k s x u t.sits (t.shop ∙ same) (ap online_in (t.session ∙ is)) a l
+    not_opened h k s x u t.sits (t.shop ∙ same) (ap online_drive_in (t.session ∙ is)) a l
 opens_laid trouble h k s x u holders device (Some access) reply after t a l free (Err (Busy n), asked, (e, found, named, same), cause, replies, is) =
-    not_opened h k s x u t.sits (t.shop ∙ same) (ap online_in (t.session ∙ is)) a l
+    not_opened h k s x u t.sits (t.shop ∙ same) (ap online_drive_in (t.session ∙ is)) a l
 opens_laid trouble h k s x u holders device (Some access) reply after t a l free (Err NoReel, asked, (e, found, named, latch), cause, replies, is) =
-    not_opened h k s x u t.sits (t.shop ∙ latch.1) (ap online_in (t.session ∙ is)) a l
+    not_opened h k s x u t.sits (t.shop ∙ latch.1) (ap online_drive_in (t.session ∙ is)) a l
 opens_laid trouble h k s x u holders device (Some access) reply after t a l free (Err Device, asked, (e, found, named, latch), cause, replies, is) =
-    not_opened h k s x u t.sits (t.shop ∙ latch.1) (ap online_in (t.session ∙ is)) a l
+    not_opened h k s x u t.sits (t.shop ∙ latch.1) (ap online_drive_in (t.session ∙ is)) a l
 opens_laid trouble h k s x u holders device (Some access) reply after t a l free (Err OutOfMemory, asked, (e, found, named, latch), cause, replies, is) =
-    not_opened h k s x u t.sits (t.shop ∙ latch.1) (ap online_in (t.session ∙ is)) a l
+    not_opened h k s x u t.sits (t.shop ∙ latch.1) (ap online_drive_in (t.session ∙ is)) a l
 opens_laid trouble h k s x u holders device (Some access) reply after t a l free (Err NameTaken, asked, step, cause, replies, is) = absurd cause
 
 step_laid : (trouble : Trouble) (h : Hall) (k : ℕ) (s x : Side) (u : Hall) (request : PlainRequest) (reply : PlainReply) (after : Scene) → Scenes h k s x u after
@@ -398,7 +399,7 @@ joined_laid h l = still_laid h (with_side h) refl
       | inl before ↦ (k, s, ap (option_and_then (λ x. x)) before, on)
       | inr (last, new) ↦ (
           let its : s ≡ side (held [] 0) Idle = same_Some s (side (held [] 0) Idle) new in
-          let clash : online_in Idle ≡ Some d = ap (λ (z : Side). online_in z.session) (sym its) ∙ on in absurd cc)
+          let clash : online_drive_in Idle ≡ Some d = ap (λ (z : Side). online_drive_in z.session) (sym its) ∙ on in absurd cc)
     ])
     (λ d (k, s, at, on). (k, s, ap (option_and_then (λ y. y)) (numbered_more h.sides (Some (side (held [] 0) Idle) ∷ []) k (Some s) (side_there h k s at)), on)) l
 

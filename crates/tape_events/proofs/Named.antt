@@ -23,9 +23,10 @@ use Rattle.tape_events.specs.World.{World, Opening, numbered, with_numbered}
 use Rattle.tape_events.specs.Events.{PlainEvent}
 use Rattle.tape_events.specs.Changes.{side_of, ended_from, ended, all_ended, first_name, written_reel, opening}
 use Rattle.tape_events.specs.Steps.{Happens}
-use Rattle.tape_events.specs.First.{PlainDrive, AreGoodDrives, blank_rack, first_world}
-use Rattle.tape_events.specs.Kept.{IsFirstAway, online_in, AreHeld, AreLaid}
-use Rattle.tape_events.specs.Naming.{HasReel, SameNames, AreNamed}
+use Rattle.tape_events.specs.First.{PlainDriveSpec, AreGoodDrives, blank_rack, first_world}
+use Rattle.tape_events.specs.Standing.{IsFirstAway, online_drive_in, AreHeld, HasReel}
+use Rattle.tape_events.specs.Kept.{AreLaid}
+use Rattle.tape_events.specs.Naming.{SameNames, AreNamed}
 use Rattle.tape_events.proofs.Numbers.{with_here}
 use Rattle.tape_events.proofs.Held.{side_there, all_ended_held}
 use Rattle.tape_events.proofs.Laid.{online_drive, drive_within}
@@ -147,7 +148,7 @@ written_if false name reel is = absurd cc
 
 -- what a session that writes has open
 pub written_is : (s : Shop) (session : PlainSession) (reel : List ℕ) → written_reel s session ≡ Some reel
-    → (d : ℕ) × (online_in session ≡ Some d) × (first_name (rack_at s d).stack ≡ reel)
+    → (d : ℕ) × (online_drive_in session ≡ Some d) × (first_name (rack_at s d).stack ≡ reel)
 written_is s Idle reel is = absurd cc
 written_is s (Offline drive access) reel is = absurd cc
 written_is s (Online drive access r) reel is = (drive, refl, written_if (writes access) (first_name (rack_at s drive).stack) reel is)
@@ -251,18 +252,18 @@ blank_names : (capacity : ℕ) (names : List (List ℕ)) → names_of (map (λ n
 blank_names capacity [] = refl
 blank_names capacity (name ∷ names) = ap (λ l. name ∷ l) (blank_names capacity names)
 
-first_world_names : (drives : List PlainDrive) → names_of (flat_map (λ (r : Rack KeptReel). r.stack) (map blank_rack drives)) ≡ flat_map (λ (d : PlainDrive). d.reels) drives
+first_world_names : (drives : List PlainDriveSpec) → names_of (flat_map (λ (r : Rack KeptReel). r.stack) (map blank_rack drives)) ≡ flat_map (λ (d : PlainDriveSpec). d.reels) drives
 first_world_names [] = refl
 first_world_names (d ∷ drives) =
     names_more (blank_rack d).stack (flat_map (λ (r : Rack KeptReel). r.stack) (map blank_rack drives))
     ∙ ap (λ l. l ++ names_of (flat_map (λ (r : Rack KeptReel). r.stack) (map blank_rack drives))) (blank_names d.capacity d.reels)
     ∙ ap (λ l. d.reels ++ l) (first_world_names drives)
 
-pub first_named : (drives : List PlainDrive) → AreGoodDrives drives → AreNamed (first_world drives)
+pub first_named : (drives : List PlainDriveSpec) → AreGoodDrives drives → AreNamed (first_world drives)
 first_named drives good = record {
   once = λ name.
-      (let all : names_in (first_world drives).hall.shop ≡ flat_map (λ (d : PlainDrive). d.reels) drives
+      (let all : names_in (first_world drives).hall.shop ≡ flat_map (λ (d : PlainDriveSpec). d.reels) drives
       = ap (λ l. names_of l) (append-nil (flat_map (λ (r : Rack KeptReel). r.stack) (map blank_rack drives))) ∙ first_world_names drives in
-      subst (λ l. times name l ≤ 1) (sym all) (distinct_once (flat_map (λ (d : PlainDrive). d.reels) drives) good.2 name));
+      subst (λ l. times name l ≤ 1) (sym all) (distinct_once (flat_map (λ (d : PlainDriveSpec). d.reels) drives) good.2 name));
   opened = λ o (k, within, is). absurd (omega (arith, within));
 }

@@ -19,10 +19,12 @@ use Rattle.rmt_server.specs.TroubledServe.{drive_in}
 use Rattle.tape_events.specs.World.{World, Opening, with_numbered}
 use Rattle.tape_events.specs.Events.{PlainEvent}
 use Rattle.tape_events.specs.Changes.{side_of, with_side, ended_from, ended, all_ended, first_name, written_reel, opening}
-use Rattle.tape_events.specs.First.{PlainDrive, first_world}
+use Rattle.tape_events.specs.First.{PlainDriveSpec, first_world}
 use Rattle.tape_events.specs.Steps.{Happens}
-use Rattle.tape_events.specs.Kept.{AreTidy, IsFirstAway, online_in, AreHeld, AreLaid}
-use Rattle.tape_events.specs.Naming.{IsLastOpening, AreOpened}
+use Rattle.tape_events.specs.Kept.{AreTidy, AreLaid}
+use Rattle.tape_events.specs.Standing.{IsFirstAway, online_drive_in, AreHeld}
+use Rattle.tape_events.specs.Headline.{IsUnopenedSince}
+use Rattle.tape_events.specs.Naming.{AreOpened}
 use Rattle.tape_events.proofs.Numbers.{pushed_is, numbered_more, numbered_last, numbered_within, numbered_first}
 use Rattle.tape_events.proofs.Held.{side_there, all_ended_held}
 use Rattle.tape_events.proofs.Laid.{IsOnlineElse, Sits, sits_here, sits_other, alone_at, rack_other, drive_within, free_off, online_drive}
@@ -31,9 +33,9 @@ use Rattle.tape_events.proofs.NamedEvents.{Makes, leaves, joins, reads, serves, 
 use Rattle.tape_events.proofs.Named.{first_times, comes_reel, written_is, opening_is}
 
 -- an opening that was the last of its reel, where one may have been added
-last_stays : (all : List Opening) (k j : ℕ) (reel : List ℕ) (opened : Option (List ℕ)) → ((r : List ℕ) → opened ≡ Some r → r ≢ reel) → IsLastOpening all k reel
-    → IsLastOpening (all ++ option_to_list (option_map (opening j) opened)) k reel
-last_stays all k j reel None differs last = subst (λ l. IsLastOpening l k reel) (sym (append-nil all)) last
+last_stays : (all : List Opening) (k j : ℕ) (reel : List ℕ) (opened : Option (List ℕ)) → ((r : List ℕ) → opened ≡ Some r → r ≢ reel) → IsUnopenedSince all k reel
+    → IsUnopenedSince (all ++ option_to_list (option_map (opening j) opened)) k reel
+last_stays all k j reel None differs last = subst (λ l. IsUnopenedSince l k reel) (sym (append-nil all)) last
 last_stays all k j reel (Some r) differs (i, at, behind) = (
   i,
   numbered_more all (opening j r ∷ []) i (opening k reel) at,
@@ -44,7 +46,7 @@ last_stays all k j reel (Some r) differs (i, at, behind) = (
 )
 
 -- one that was added is the last
-last_new : (all : List Opening) (k : ℕ) (reel : List ℕ) → IsLastOpening (all ++ opening k reel ∷ []) k reel
+last_new : (all : List Opening) (k : ℕ) (reel : List ℕ) → IsUnopenedSince (all ++ opening k reel ∷ []) k reel
 last_new all k reel = (
   suc (length all),
   numbered_last all (opening k reel),
@@ -57,10 +59,10 @@ last_new all k reel = (
 
 -- of each session that may write, the last opening of its reel is its own
 abbrev AreLast : Hall → List Opening → Type 0
-AreLast h all = (k : ℕ) (s : Side) (reel : List ℕ) → side_of h k ≡ Some s → written_reel h.shop s.session ≡ Some reel → IsLastOpening all k reel
+AreLast h all = (k : ℕ) (s : Side) (reel : List ℕ) → side_of h k ≡ Some s → written_reel h.shop s.session ≡ Some reel → IsUnopenedSince all k reel
 
 -- the reel that is written is told by the rack of its drive alone
-written_shop : (s t : Shop) (session : PlainSession) (d : ℕ) → online_in session ≡ Some d → rack_at s d ≡ rack_at t d → written_reel s session ≡ written_reel t session
+written_shop : (s t : Shop) (session : PlainSession) (d : ℕ) → online_drive_in session ≡ Some d → rack_at s d ≡ rack_at t d → written_reel s session ≡ written_reel t session
 written_shop s t Idle d on same = refl
 written_shop s t (Offline drive access) d on same = refl
 written_shop s t (Online drive access reel) d on same =
@@ -81,10 +83,10 @@ written_use s (Online drive access reel) = refl
 turn_last : (h u : Hall) (k : ℕ) (s : Side) (o : Option Side) (all : List Opening) (opened : Option (List ℕ)) → Sits h k s o u
     → ((d : ℕ) → IsOnlineElse h k d → rack_at u.shop d ≡ rack_at h.shop d)
     → ((d : ℕ) → IsOnlineElse h k d → (r : List ℕ) → opened ≡ Some r → r ≢ first_name (rack_at u.shop d).stack)
-    → ((x : Side) (reel : List ℕ) → o ≡ Some x → written_reel u.shop x.session ≡ Some reel → IsLastOpening (all ++ option_to_list (option_map (opening k) opened)) k reel)
+    → ((x : Side) (reel : List ℕ) → o ≡ Some x → written_reel u.shop x.session ≡ Some reel → IsUnopenedSince (all ++ option_to_list (option_map (opening k) opened)) k reel)
     → AreLast h all → AreLast u (all ++ option_to_list (option_map (opening k) opened))
 turn_last h u k s o all opened t racks differs own l j x reel at written = elim (eqb_tells j k) [
-  | inl (equal, same) ↦ subst (λ m. IsLastOpening (all ++ option_to_list (option_map (opening k) opened)) m reel) (sym same)
+  | inl (equal, same) ↦ subst (λ m. IsUnopenedSince (all ++ option_to_list (option_map (opening k) opened)) m reel) (sym same)
       (own x reel (sym (sits_here h k s o u t) ∙ ap (side_of u) (sym same) ∙ at) written)
   | inr (unequal, other) ↦
       let was : side_of h j ≡ Some x = sym (sits_other h k j s o u t other) ∙ at in
@@ -97,11 +99,11 @@ turn_last h u k s o all opened t racks differs own l j x reel at written = elim 
 -- the same where nothing was opened
 quiet_last : (h u : Hall) (k : ℕ) (s : Side) (o : Option Side) (all : List Opening) → Sits h k s o u
     → ((d : ℕ) → IsOnlineElse h k d → rack_at u.shop d ≡ rack_at h.shop d)
-    → ((x : Side) (reel : List ℕ) → o ≡ Some x → written_reel u.shop x.session ≡ Some reel → IsLastOpening all k reel)
+    → ((x : Side) (reel : List ℕ) → o ≡ Some x → written_reel u.shop x.session ≡ Some reel → IsUnopenedSince all k reel)
     → AreLast h all → AreLast u all
 quiet_last h u k s o all t racks own l =
     subst (AreLast u) (append-nil all) (turn_last h u k s o all None t racks (λ d elsewhere r is. absurd cc)
-    (λ x reel is written. subst (λ m. IsLastOpening m k reel) (sym (append-nil all)) (own x reel is written)) l)
+    (λ x reel is written. subst (λ m. IsUnopenedSince m k reel) (sym (append-nil all)) (own x reel is written)) l)
 
 -- the racks of drives where others are online
 pub closed_else : (h : Hall) (k : ℕ) (s : Side) → side_of h k ≡ Some s → AreHeld h → (session : PlainSession) → s.session ≡ session → (d : ℕ) → IsOnlineElse h k d
@@ -213,7 +215,7 @@ served_last h u k s x all opened t comes a b laid once l =
     let its : written_reel u.shop x.session ≡ Some reel = ap (λ (z : Side). written_reel u.shop z.session) (same_Some x y same) ∙ written in
     elim (comes_own (scene h.shop s.session) (scene u.shop x.session) opened reel comes its) [
       | inl (before, none) ↦ last_stays all k k reel opened (λ r is. (let clash = sym none ∙ is in absurd cc)) (l k s reel t.was before)
-      | inr new ↦ subst (λ o. IsLastOpening (all ++ option_to_list (option_map (opening k) o)) k reel) (sym new) (last_new all k reel)
+      | inr new ↦ subst (λ o. IsUnopenedSince (all ++ option_to_list (option_map (opening k) o)) k reel) (sym new) (last_new all k reel)
     ]))
     l
 
@@ -267,13 +269,13 @@ pub opened_after : (w : World) (event : PlainEvent) (u : World) → Happens w ev
 opened_after w event u happens t a b l once n = makes_opened w u (event_makes w event u happens) t a b l once n
 
 -- no side is there in the first world
-none_live : (drives : List PlainDrive) (k : ℕ) (s : Side) → side_of (first_world drives).hall k ≡ Some s → ⊥
+none_live : (drives : List PlainDriveSpec) (k : ℕ) (s : Side) → side_of (first_world drives).hall k ≡ Some s → ⊥
 none_live drives k s at =
     let within = numbered_within [] k (Some s) (side_there (first_world drives).hall k s at) in
     let first = numbered_first [] k (Some s) (side_there (first_world drives).hall k s at) in
     omega (arith, within, first)
 
-pub first_opened : (drives : List PlainDrive) → AreOpened (first_world drives)
+pub first_opened : (drives : List PlainDriveSpec) → AreOpened (first_world drives)
 first_opened drives = record {
   there = λ o (k, within, is). absurd (omega (arith, within));
   last = λ k s reel at written. absurd (none_live drives k s at);

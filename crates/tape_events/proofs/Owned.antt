@@ -23,8 +23,8 @@ use Rattle.tape_events.specs.World.{World, Link, Dumping, Caller, numbered, with
 use Rattle.tape_events.specs.Events.{PlainEvent}
 use Rattle.tape_events.specs.Events.PlainEvent.{StartRun, Connect, Send, ToServer, Serve, ToClient, Cut, EndAtServer, EndAtClient, ServerRestart, ClientRestart, Respond, Arrange, Stranger, Says, Enter}
 use Rattle.tape_events.specs.Changes.{changed, changed_from, link_of, new_link, over_here, over_there, sent_on, answered, came_to, counted_from, given_up, calm, noted, noted_sent}
-use Rattle.tape_events.specs.Rows.{NoRun, is_done}
-use Rattle.tape_events.specs.Steps.{Happens, Sends, Finds, Hears, SeesEnd, sent_link, caller, is_failing, next_text, forgotten_from, connected, fresh}
+use Rattle.tape_events.specs.Rows.{NoRun, is_run_done}
+use Rattle.tape_events.specs.Steps.{Happens, Sends, Finds, Hears, SeesEnd, sent_link, caller, is_failing, next_text, forgotten_from, client_connected, fresh}
 use Rattle.tape_events.specs.Owning.{is_in_attempt, IsClients, IsOwned}
 use Rattle.tape_events.proofs.Numbers.{changed_is, with_here, with_other, pushed_is, numbered_more, numbered_last}
 
@@ -185,7 +185,7 @@ rests w c stage there at off (d, is, inside) =
 in_attempt : (w : World) (c : Caller) → w.caller ≡ Some c → IsTrue (is_in_attempt c.at.stage) → Attempts w
 in_attempt w c there inside = (c, there, inside)
 
-done_rests : (stage : Stage) → IsTrue (is_done stage) → is_in_attempt stage ≡ false
+done_rests : (stage : Stage) → IsTrue (is_run_done stage) → is_in_attempt stage ≡ false
 done_rests Ready is = absurd cc
 done_rests (ToSend step) is = absurd cc
 done_rests (Waiting step) is = absurd cc
@@ -198,16 +198,16 @@ no_run_rests w (inl none) (c, is, inside) = let clash = sym none ∙ is in cc
 no_run_rests w (inr (c, there, done)) attempts = rests w c c.at.stage there refl (done_rests c.at.stage done) attempts
 
 -- an attempt starts on a connection more
-connected_owned : (w : World) (c : Caller) → w.caller ≡ Some c → c.at.stage ≡ Ready → IsOwned w → IsOwned (connected w c)
+connected_owned : (w : World) (c : Caller) → w.caller ≡ Some c → c.at.stage ≡ Ready → IsOwned w → IsOwned (client_connected w c)
 connected_owned w c there ready o =
     let idle = rests w c Ready there ready refl in
     let place : suc (length w.links) ≡ length w.links + 1 = omega arith in
-    let here : link_of (connected w c) (length w.links + 1) ≡ Some (new_link (Some (fresh c)))
+    let here : link_of (client_connected w c) (length w.links + 1) ≡ Some (new_link (Some (fresh c)))
     = ap (numbered (w.links ++ new_link (Some (fresh c)) ∷ [])) (sym place) ∙ numbered_last w.links (new_link (Some (fresh c))) in
     record {
       own = λ k is. (
           let same : length w.links + 1 ≡ k = same_Some (length w.links + 1) k is in (
-            (new_link (Some (fresh c)), fresh c, ap (numbered (connected w c).links) (sym same) ∙ here, refl, refl),
+            (new_link (Some (fresh c)), fresh c, ap (numbered (client_connected w c).links) (sym same) ∙ here, refl, refl),
             (caller c.number (standing c.at.run c.at.counts (ToSend Open)) (reply_held None []), refl, refl),
           ));
       attempt = λ d is inside. (length w.links + 1, refl);

@@ -21,10 +21,10 @@ use Rattle.rmt_server.specs.TroubledServe.{drive_in, with_holder, holder_of, Tro
 use Rattle.tape_events.specs.World.{World, Link, Dumping, with_numbered}
 use Rattle.tape_events.specs.Events.PlainEvent.{Serve}
 use Rattle.tape_events.specs.Changes.{side_of, link_of, calm, ended_at}
-use Rattle.tape_events.specs.Kept.{AreHeld}
+use Rattle.tape_events.specs.Standing.{AreHeld}
 use Rattle.tape_events.specs.Steps.{Happens, Finds}
-use Rattle.tape_events.specs.Sending.{IsSent, AreTold}
-use Rattle.tape_events.specs.Serving.{CarriesOut, IsNextSent, is_open, Meets, refusal, own, free, OthersStay}
+use Rattle.tape_events.specs.Sending.{IsLinkSent, AreTold}
+use Rattle.tape_events.specs.Serving.{ServerTurn, IsNextSent, is_open, Meets, refusal, own, free, OthersStay}
 use Rattle.tape_events.proofs.Laid.{Sits, sits_here, sits_other, rack_other}
 use Rattle.tape_events.proofs.NamedRequests.{Comes, stays, closes, opens, moves, step_comes}
 use Rattle.tape_events.proofs.SentWire.{OneReading, DroppedWrites}
@@ -33,7 +33,7 @@ use Rattle.tape_events.proofs.LabelledEvents.{Serves}
 
 -- a request is carried out, or a fault ends the server's side
 finds_carries : (w : World) (k : ℕ) (trouble : Trouble) (s : Side) (found : Result (Option PlainRequest) WireFault) (bytes rest : List ℕ) (u : World) → side_of w.hall k ≡ Some s
-    → Unread s.reached bytes → Gives bytes found rest → Finds w k trouble s found rest u → CarriesOut w k trouble u ⊎ (u ≡ ended_at (calm w) k)
+    → Unread s.reached bytes → Gives bytes found rest → Finds w k trouble s found rest u → ServerTurn w k trouble u ⊎ (u ≡ ended_at (calm w) k)
 finds_carries w k trouble s (Ok None) bytes rest u live unread gives finds = absurd finds
 finds_carries w k trouble s (Err fault) bytes rest u live unread gives is = inr is
 finds_carries w k trouble s (Ok (Some request)) bytes rest u live unread gives (reply, reached, shop, session, holders, left, served, is) = inl record {
@@ -54,16 +54,16 @@ finds_carries w k trouble s (Ok (Some request)) bytes rest u live unread gives (
   is = is;
 }
 
-pub carries : (w u : World) (k : ℕ) (trouble : Trouble) → Happens w (Serve k trouble) u → CarriesOut w k trouble u ⊎ (u ≡ ended_at (calm w) k)
+pub carries : (w u : World) (k : ℕ) (trouble : Trouble) → Happens w (Serve k trouble) u → ServerTurn w k trouble u ⊎ (u ≡ ended_at (calm w) k)
 carries w u k trouble (may, (s, found, bytes, rest, live, unread, gives, finds)) = finds_carries w k trouble s found bytes rest u live unread gives finds
 
-pub carries_happens : (w u : World) (k : ℕ) (trouble : Trouble) → CarriesOut w k trouble u → Happens w (Serve k trouble) u
+pub carries_happens : (w u : World) (k : ℕ) (trouble : Trouble) → ServerTurn w k trouble u → Happens w (Serve k trouble) u
 carries_happens w u k trouble c = (
   (c.s, Ok (Some c.request), c.live, (c.bytes, c.rest, c.unread, c.gives, λ none. cc)),
   (c.s, Ok (Some c.request), c.bytes, c.rest, c.live, c.unread, c.gives, (c.reply, c.reached, c.shop, c.session, c.holders, c.left, c.served, c.is)),
 )
 
-abbrev pub carries_serves : (w u : World) (k : ℕ) (trouble : Trouble) → CarriesOut w k trouble u → Serves w u
+abbrev pub carries_serves : (w u : World) (k : ℕ) (trouble : Trouble) → ServerTurn w k trouble u → Serves w u
 carries_serves w u k trouble c = record {
   k = k;
   trouble = trouble;
@@ -85,7 +85,7 @@ carries_serves w u k trouble c = record {
 }
 
 -- it is the one that was sent and not carried out
-sent_next : OneReading → DroppedWrites → (w u : World) (v : Serves w u) (l : Link) (d : Dumping) → IsSent w.begun (Some v.s) l d → IsNextSent w d v.request
+sent_next : OneReading → DroppedWrites → (w u : World) (v : Serves w u) (l : Link) (d : Dumping) → IsLinkSent w.begun (Some v.s) l d → IsNextSent w d v.request
 sent_next g h w u v l d (inl settled) = absurd (nothing_there h v.s l.toward v.bytes v.rest v.request settled.unserved v.unread v.gives)
 sent_next g h w u v l d (inr (b, step, at, p)) =
     let all = serve_pending g h b v.s l.toward d step v.bytes v.rest v.request v.reply v.reached v.session p v.unread v.gives v.left in
@@ -103,7 +103,7 @@ sent_next g h w u v l d (inr (b, step, at, p)) =
 
 pub next_request : OneReading → DroppedWrites → (w u : World) (v : Serves w u) (l : Link) (d : Dumping) → AreTold w → link_of w v.k ≡ Some l → l.dump ≡ Some d
     → IsNextSent w d v.request
-next_request g h w u v l d told at dump = sent_next g h w u v l d (subst (λ o. IsSent w.begun o l d) v.live ((told.each v.k l at).sent d dump))
+next_request g h w u v l d told at dump = sent_next g h w u v l d (subst (λ o. IsLinkSent w.begun o l d) v.live ((told.each v.k l at).sent d dump))
 
 -- with nothing open all but an open is refused
 idle_checked : (request : PlainRequest) → is_open request ≡ false → check NothingOpen request ≡ None → ⊥
@@ -181,7 +181,7 @@ beside h u j k d y s x opened a b other one still has two now (moves drive acces
     ap (λ (v : Shop). rack_at v d) shop
     ∙ rack_other h.shop.racks drive d _ (rack [] []) (two_drives h j k d drive y s a other one has two (ap drive_in online))
 
-pub stale_requests : (w u : World) (k : ℕ) (trouble : Trouble) (c : CarriesOut w k trouble u) → AreHeld w.hall → AreHeld u.hall
+pub stale_requests : (w u : World) (k : ℕ) (trouble : Trouble) (c : ServerTurn w k trouble u) → AreHeld w.hall → AreHeld u.hall
     → Meets w k c.s.session c.request c.reply c.session × OthersStay w k u
 stale_requests w u k trouble c a b =
     let h : Hall = hall c.shop c.holders (with_numbered w.hall.sides k (Some (side c.reached c.session))) in

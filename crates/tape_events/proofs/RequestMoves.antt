@@ -4,6 +4,7 @@ use Rattle.std.proofs.lemmas.Option.{same_Some}
 use Rattle.rmt_wire.specs.Request.{PlainRequest}
 use Rattle.rmt_wire.specs.Request.PlainRequest.{Op}
 use Rattle.rmt_wire.specs.Reply.PlainReply.{Done}
+use Rattle.rmt_wire.specs.declared.mtio.TheConstants.{MTOFFL}
 use Rattle.tape.specs.Tape.{entries_of}
 use Rattle.tape.specs.declared.trouble.Trouble.{Trouble}
 use Rattle.drives.specs.Shop.{KeptReel, kept_reel, Slot, slot, Shop, rack_at, with_first, after_offline}
@@ -17,9 +18,11 @@ use Rattle.dump_client.specs.declared.step.Step.{Step}
 use Rattle.dump_client.specs.declared.step.Step.TheVariants.{Open, Rewind, Label, Block, Mark, Unload, Close}
 use Rattle.tape_events.specs.World.{World, Link, Dumping, Begun}
 use Rattle.tape_events.specs.Changes.{side_of, link_of, first_name, written_reel, opening}
-use Rattle.tape_events.specs.Kept.{IsFirstAway, online_in, IsKept}
+use Rattle.tape_events.specs.Standing.{IsFirstAway, online_drive_in}
+use Rattle.tape_events.specs.Kept.{IsWorldKept}
 use Rattle.tape_events.specs.Sending.{HasDone, request_in}
-use Rattle.tape_events.specs.Written.{whole_volume, IsWritten}
+use Rattle.tape_events.specs.Headline.{whole_volume}
+use Rattle.tape_events.specs.Attempts.{IsReelWritten}
 use Rattle.tape_events.specs.Serving.{IsWholeInBin, IsMoveDone}
 use Rattle.tape_events.proofs.Booked.{among_at}
 use Rattle.tape_events.proofs.SentWire.{OneReading, DroppedWrites}
@@ -33,7 +36,7 @@ op_of (Op op count) = op
 op_of request = 0
 
 -- the step is that of the MTOFFL
-move_step : (b : Begun) (d : Dumping) (step : Step) (count : ℕ) → request_in b d step ≡ Op 6 count → (next : ℕ) × (step ≡ Unload next)
+move_step : (b : Begun) (d : Dumping) (step : Step) (count : ℕ) → request_in b d step ≡ Op MTOFFL count → (next : ℕ) × (step ≡ Unload next)
 unfolding op_of
 move_step b d Open count is = absurd cc
 move_step b d Rewind count is = let clash : 5 ≡ 6 = ap op_of is in absurd (omega (arith, clash))
@@ -56,10 +59,10 @@ moved_to trouble before n after drive reel was (e, access, x, Err why, online, c
     (let clash : Done n ≡ refused (drive_refusal why) = replies in absurd cc)
 
 unloaded_to : (trouble : Trouble) (holders : List ℕ) (before : Scene) (n : ℕ) (after : Scene) (drive : ℕ) (reel : PlainReel) → before.session ≡ Online drive Both reel
-    → TroubledServeStep trouble holders before (Op 6 1) (Done n) after → after.shop ≡ after_offline before.shop drive (entries_of reel.tape) reel.capacity
+    → TroubledServeStep trouble holders before (Op MTOFFL 1) (Done n) after → after.shop ≡ after_offline before.shop drive (entries_of reel.tape) reel.capacity
 unloaded_to trouble holders before n after drive reel was step =
     moved_to trouble before n after drive reel was
-    (subst (λ s. MatchOption (refusal (status_of s) (Op 6 1)) (TroubledDoneStep trouble before (Op 6 1) (Done n) after) (λ r. (Done n ≡ refused r) × (after ≡ before)))
+    (subst (λ s. MatchOption (refusal (status_of s) (Op MTOFFL 1)) (TroubledDoneStep trouble before (Op MTOFFL 1) (Done n) after) (λ r. (Done n ≡ refused r) × (after ≡ before)))
     was step)
 
 first_put : (stack : List (Slot KeptReel)) (reel : KeptReel) → IsFirstAway stack → with_first (Some reel) (take 1 stack) ≡ slot (first_name stack) (Some reel) ∷ []
@@ -68,13 +71,13 @@ first_put (x ∷ xs) reel away = refl
 
 -- what stands on the reel is the volume
 stands_whole : (w : World) (k : ℕ) (s : Side) (b : Begun) (d : Dumping) (drive : ℕ) (reel : PlainReel) → side_of w.hall k ≡ Some s → s.session ≡ Online drive Both reel
-    → d.label ≡ true → d.mark ≡ true → IsWritten w k b d (first_name (rack_at w.hall.shop drive).stack)
+    → d.label ≡ true → d.mark ≡ true → IsReelWritten w k b d (first_name (rack_at w.hall.shop drive).stack)
     → entries_of reel.tape ≡ whole_volume b.run b.payload d.volume d.first d.blocks
 stands_whole w k s b d drive reel live online labelled marked written =
     written.stands (entries_of reel.tape) (inr (k, s, live, (drive, Both, reel, online, refl, refl))) ∙ labelled_as b.run b.payload d true labelled marked
 
-moved_whole : (w u : World) (v : Serves w u) (l : Link) (d : Dumping) (p : IsServed w u v l d) (next n : ℕ) → IsKept w → link_of w v.k ≡ Some l → l.dump ≡ Some d
-    → HasDone p.b.run (Some v.s) d (Unload next) → v.request ≡ Op 6 1 → v.reply ≡ Done n → IsWholeInBin w v.k d u
+moved_whole : (w u : World) (v : Serves w u) (l : Link) (d : Dumping) (p : IsServed w u v l d) (next n : ℕ) → IsWorldKept w → link_of w v.k ≡ Some l → l.dump ≡ Some d
+    → HasDone p.b.run (Some v.s) d (Unload next) → v.request ≡ Op MTOFFL 1 → v.reply ≡ Done n → IsWholeInBin w v.k d u
 moved_whole w u v l d p next n kept at dump done asks replies =
     let on = done.stands v.s refl in
     let drive = on.1.0 in
@@ -83,10 +86,10 @@ moved_whole w u v l d p next n kept at dump done asks replies =
     let last = kept.opened.last v.k v.s name v.live (ap (written_reel w.hall.shop) on.1.1) in
     let a = kept.labelled v.k l d at dump done.label in
     let same : a.0 ≡ p.b = same_Some a.0 p.b (sym a.1 ∙ p.begun) in
-    let written : IsWritten w v.k p.b d name = subst (λ b. IsWritten w v.k b d name) same (a.2 name (done.fault, last)) in
+    let written : IsReelWritten w v.k p.b d name = subst (λ b. IsReelWritten w v.k b d name) same (a.2 name (done.fault, last)) in
     let whole = stands_whole w v.k v.s p.b d drive reel v.live on.1.1 done.label done.mark written in
-    let served : TroubledServeStep v.trouble w.hall.holders (scene w.hall.shop v.s.session) (Op 6 1) (Done n) (scene v.shop v.session)
-    = subst (λ r. TroubledServeStep v.trouble w.hall.holders (scene w.hall.shop v.s.session) (Op 6 1) r (scene v.shop v.session)) replies
+    let served : TroubledServeStep v.trouble w.hall.holders (scene w.hall.shop v.s.session) (Op MTOFFL 1) (Done n) (scene v.shop v.session)
+    = subst (λ r. TroubledServeStep v.trouble w.hall.holders (scene w.hall.shop v.s.session) (Op MTOFFL 1) r (scene v.shop v.session)) replies
     (subst (λ r. TroubledServeStep v.trouble w.hall.holders (scene w.hall.shop v.s.session) r v.reply (scene v.shop v.session)) asks v.served.step) in
     let shop = unloaded_to v.trouble w.hall.holders (scene w.hall.shop v.s.session) n (scene v.shop v.session) drive reel on.1.1 served in
     record {
@@ -98,11 +101,11 @@ moved_whole w u v l d p next n kept at dump done asks replies =
       capacity = reel.capacity;
       bin = ap (λ (x : World). x.hall.shop.bin) v.is ∙ ap (λ (s : Shop). s.bin) shop
           ∙ ap (λ t. w.hall.shop.bin ++ t)
-          (first_put (rack_at w.hall.shop drive).stack (kept_reel (entries_of reel.tape) reel.capacity) (kept.laid.latched drive (v.k, v.s, v.live, ap online_in on.1.1)))
+          (first_put (rack_at w.hall.shop drive).stack (kept_reel (entries_of reel.tape) reel.capacity) (kept.laid.latched drive (v.k, v.s, v.live, ap online_drive_in on.1.1)))
           ∙ ap (λ e. w.hall.shop.bin ++ slot name (Some (kept_reel e reel.capacity)) ∷ []) whole;
     }
 
-pub whole_at_the_move : OneReading → DroppedWrites → (w u : World) (v : Serves w u) (l : Link) (d : Dumping) → IsKept w → link_of w v.k ≡ Some l → l.dump ≡ Some d
+pub whole_at_the_move : OneReading → DroppedWrites → (w u : World) (v : Serves w u) (l : Link) (d : Dumping) → IsWorldKept w → link_of w v.k ≡ Some l → l.dump ≡ Some d
     → IsMoveDone v.request v.reply → IsWholeInBin w v.k d u
 whole_at_the_move g h w u v l d kept at dump ((count, asks), (n, replies)) =
     let p = served_step g h w u v kept.told l d at dump in

@@ -8,7 +8,7 @@ use Rattle.dump_client.specs.Lawful.{steps_before, steps_to, blocks_from}
 use Rattle.dump_client.specs.declared.step.Step.{Step}
 use Rattle.dump_client.specs.declared.step.Step.TheVariants.{Open, Rewind, Label, Block, Mark, Unload, Close}
 use Rattle.tape_events.specs.World.{Dumping}
-use Rattle.tape_events.specs.Sending.{HasDone, HasBlocks, StandsFor}
+use Rattle.tape_events.specs.Sending.{HasDone, VolumeHasBlocks, StandsFor}
 
 -- a block more, where one is left
 abbrev pub one_if : Bool → ℕ
@@ -70,7 +70,7 @@ pub one_at_most : (b : Bool) → one_if b ≤ 1
 one_at_most true = omega arith
 one_at_most false = omega arith
 
-few_steps : (run : PlainRun) (first blocks : ℕ) (step : Step) → HasBlocks run first step blocks → first + blocks ≤ run.blocks
+few_steps : (run : PlainRun) (first blocks : ℕ) (step : Step) → VolumeHasBlocks run first step blocks → first + blocks ≤ run.blocks
     → steps_len run first (first + blocks) step ≤ run.blocks + 6
 few_steps run first blocks Open has within = omega arith
 few_steps run first blocks Rewind has within = omega arith

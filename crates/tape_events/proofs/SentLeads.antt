@@ -6,6 +6,9 @@ use Rattle.rmt_wire.specs.Counted.{raised}
 use Rattle.rmt_wire.specs.Request.PlainRequest.{Open as OpenDevice, Write, Op}
 use Rattle.rmt_wire.specs.Reply.{PlainReply}
 use Rattle.rmt_wire.specs.Reply.PlainReply.{Done, Data, Error}
+use Rattle.rmt_wire.specs.declared.errno.TheConstants.{EIO, ENOSPC}
+use Rattle.rmt_wire.specs.declared.fcntl.TheConstants.{O_RDWR}
+use Rattle.rmt_wire.specs.declared.mtio.TheConstants.{MTOFFL, MTREW, MTWEOF}
 use Rattle.rmt_server.specs.Hall.{Side}
 use Rattle.rmt_server.specs.Session.{PlainReel}
 use Rattle.rmt_server.specs.Session.PlainSession.{Offline}
@@ -22,7 +25,8 @@ use Rattle.dump_client.specs.declared.stage.Progress.{Progress}
 use Rattle.dump_client.specs.declared.count.VolumeCount.{VolumeCount}
 use Rattle.tape_events.specs.World.{Dumping}
 use Rattle.tape_events.specs.Changes.{noted, noted_error, accepted}
-use Rattle.tape_events.specs.Sending.{HasDone, StandsFor, IsOnlineWith, GoesTo, AreCounted}
+use Rattle.tape_events.specs.Sending.{HasDone, StandsFor, GoesTo, AreCounted}
+use Rattle.tape_events.specs.Standing.{IsOnlineWith}
 use Rattle.tape_events.proofs.Sent.{steps_len, one_if, before_length, raised_one}
 
 -- a client that goes on to a step is at no other, and in no other stage
@@ -55,9 +59,9 @@ LeadsFrom o old d noted step reply =
 -- nothing is open before, and the drive afterwards
 pub open_leads : (old : Standing) (s x : Side) (d : Dumping) (device : List ℕ) (reply : PlainReply) → HasDone old.run (Some s) d Open → d.carried + 1 < 2 ^ 64
     → ((n : ℕ) → reply ≡ Done n → (reel : PlainReel) × IsOnlineWith x.session reel × (reel.tape.before ≡ []))
-    → LeadsFrom (Some x) old d (noted (OpenDevice device 2) reply d) Open reply
+    → LeadsFrom (Some x) old d (noted (OpenDevice device O_RDWR) reply d) Open reply
 open_leads old s x d device (Done n) h few stands progress new next (moved, is) at =
-    subst (GoesTo old.run (Some x) old (noted (OpenDevice device 2) (Done n) d) new) (arrives old.run old.counts new Rewind next is at) record {
+    subst (GoesTo old.run (Some x) old (noted (OpenDevice device O_RDWR) (Done n) d) new) (arrives old.run old.counts new Rewind next is at) record {
       done = record {
         carried = one_further d.carried old.run d.first (d.first + d.blocks) (d.first + d.blocks) Open Rewind few h.carried refl;
         fault = h.fault;
@@ -76,9 +80,9 @@ open_leads old s x d device (Error n text) h few stands progress new next (moved
 rewind_tested : (old : Standing) (s x : Side) (d : Dumping) (n : ℕ) (b : Bool) → HasDone old.run (Some s) d Rewind → d.carried + 1 < 2 ^ 64
     → ((reel : PlainReel) × IsOnlineWith x.session reel × (reel.tape.before ≡ []))
     → (progress : Progress) (new : Standing) (next : Step) → Becomes old (if b then after_step old.run d.first Rewind else after_noise Rewind) false progress new
-    → new.stage ≡ ToSend next → GoesTo old.run (Some x) old (noted (Op 5 1) (Done n) d) new next
+    → new.stage ≡ ToSend next → GoesTo old.run (Some x) old (noted (Op MTREW 1) (Done n) d) new next
 rewind_tested old s x d n true h few stands progress new next (moved, is) at =
-    subst (GoesTo old.run (Some x) old (noted (Op 5 1) (Done n) d) new) (arrives old.run old.counts new Label next is at) record {
+    subst (GoesTo old.run (Some x) old (noted (Op MTREW 1) (Done n) d) new) (arrives old.run old.counts new Label next is at) record {
       done = record {
         carried = one_further d.carried old.run d.first (d.first + d.blocks) (d.first + d.blocks) Rewind Label few h.carried refl;
         fault = h.fault;
@@ -95,7 +99,7 @@ rewind_tested old s x d n false h few stands progress new next (moved, is) at = 
 
 pub rewind_leads : (old : Standing) (s x : Side) (d : Dumping) (reply : PlainReply) → HasDone old.run (Some s) d Rewind → d.carried + 1 < 2 ^ 64
     → ((n : ℕ) → reply ≡ Done n → (reel : PlainReel) × IsOnlineWith x.session reel × (reel.tape.before ≡ []))
-    → LeadsFrom (Some x) old d (noted (Op 5 1) reply d) Rewind reply
+    → LeadsFrom (Some x) old d (noted (Op MTREW 1) reply d) Rewind reply
 rewind_leads old s x d (Done n) h few stands progress new next becomes at = rewind_tested old s x d n (n == 1) h few (stands n refl) progress new next becomes at
 rewind_leads old s x d (Data bytes) h few stands progress new next (moved, is) at = absurd (not_asking old.run old.counts new next is at)
 rewind_leads old s x d (Error n text) h few stands progress new next (moved, is) at = absurd (not_asking old.run old.counts new next is at)
@@ -193,7 +197,7 @@ label_leads old s x d bytes (Done (suc m)) h few stands progress new next become
     label_tested old s x d (suc m == label_bytes) (suc m == 0) h few stands progress new next becomes at
 label_leads old s x d bytes (Data given) h few stands progress new next (moved, is) at = absurd (not_asking old.run old.counts new next is at)
 label_leads old s x d bytes (Error n text) h few stands progress new next becomes at =
-    error_tested old new next n d.first progress (n == 28) (GoesTo old.run (Some x) old (noted (Write bytes) (Error n text) d) new next) becomes at
+    error_tested old new next n d.first progress (n == ENOSPC) (GoesTo old.run (Some x) old (noted (Write bytes) (Error n text) d) new next) becomes at
 
 -- there is no room for a block, behind one that was written
 end_tested : (old : Standing) (s x : Side) (d : Dumping) (number : ℕ) (t : Bool) → HasDone old.run (Some s) d (Block number) → d.carried + 1 < 2 ^ 64
@@ -253,12 +257,12 @@ none_tested old s x d number true test good h few stands progress new next becom
 none_tested old s x d number false test good h few stands progress new next becomes at =
     end_tested old s x d number (nat_lt d.first number) h few stands progress new next becomes at
 
-refused_tested : (old : Standing) (s x : Side) (d : Dumping) (number n : ℕ) (b : Bool) → (n == 28) ≡ b → HasDone old.run (Some s) d (Block number)
+refused_tested : (old : Standing) (s x : Side) (d : Dumping) (number n : ℕ) (b : Bool) → (n == ENOSPC) ≡ b → HasDone old.run (Some s) d (Block number)
     → d.carried + 1 < 2 ^ 64 → ((reel : PlainReel) × IsOnlineWith x.session reel) → (progress : Progress) (new : Standing) (next : Step)
     → Becomes old (if b then at_end_of_reel d.first (Block number) else after_error d.first Open n) false progress new
     → new.stage ≡ ToSend next → GoesTo old.run (Some x) old (on_by_one (noted_error d n)) new next
 refused_tested old s x d number n true test h few stands progress new next becomes at =
-    let other : (n == 5) ≡ false = grind (arith, nat_tests) in
+    let other : (n == EIO) ≡ false = grind (arith, nat_tests) in
     let same : noted_error d n ≡ d = ap (λ b. if b then record d { fault = true } else d) other in
     subst (λ (e : Dumping). GoesTo old.run (Some x) old (on_by_one e) new next) (sym same)
     (end_tested old s x d number (nat_lt d.first number) h few stands progress new next becomes at)
@@ -272,7 +276,7 @@ block_leads old s x d number bytes (Done (suc m)) good h few stands progress new
     block_tested old s x d number m (suc m == old.run.block_bytes) (suc m == 0) refl good h few stands progress new next becomes at
 block_leads old s x d number bytes (Data given) good h few stands progress new next (moved, is) at = absurd (not_asking old.run old.counts new next is at)
 block_leads old s x d number bytes (Error n text) good h few stands progress new next becomes at =
-    refused_tested old s x d number n (n == 28) refl h few stands progress new next becomes at
+    refused_tested old s x d number n (n == ENOSPC) refl h few stands progress new next becomes at
 
 mark_tested : (old : Standing) (s x : Side) (d : Dumping) (end : ℕ) (b : Bool) → HasDone old.run (Some s) d (Mark end) → d.carried + 1 < 2 ^ 64
     → ((reel : PlainReel) × IsOnlineWith x.session reel) → (progress : Progress) (new : Standing) (next : Step)
@@ -295,7 +299,7 @@ mark_tested old s x d end true h few stands progress new next (moved, is) at =
 mark_tested old s x d end false h few stands progress new next (moved, is) at = absurd (not_asking old.run old.counts new next is at)
 
 pub mark_leads : (old : Standing) (s x : Side) (d : Dumping) (end : ℕ) (reply : PlainReply) → HasDone old.run (Some s) d (Mark end) → d.carried + 1 < 2 ^ 64
-    → ((reel : PlainReel) × IsOnlineWith x.session reel) → LeadsFrom (Some x) old d (noted (Op 0 1) reply d) (Mark end) reply
+    → ((reel : PlainReel) × IsOnlineWith x.session reel) → LeadsFrom (Some x) old d (noted (Op MTWEOF 1) reply d) (Mark end) reply
 mark_leads old s x d end (Done n) h few stands progress new next becomes at = mark_tested old s x d end (n == 1) h few stands progress new next becomes at
 mark_leads old s x d end (Data bytes) h few stands progress new next (moved, is) at = absurd (not_asking old.run old.counts new next is at)
 mark_leads old s x d end (Error n text) h few stands progress new next (moved, is) at = absurd (not_asking old.run old.counts new next is at)
@@ -323,7 +327,7 @@ unload_tested old s x d end true h few stands progress new next (moved, is) at =
 unload_tested old s x d end false h few stands progress new next (moved, is) at = absurd (not_asking old.run old.counts new next is at)
 
 pub unload_leads : (old : Standing) (s x : Side) (d : Dumping) (end : ℕ) (reply : PlainReply) → HasDone old.run (Some s) d (Unload end) → d.carried + 1 < 2 ^ 64
-    → ((n : ℕ) → reply ≡ Done n → (drive : ℕ) × (x.session ≡ Offline drive Both)) → LeadsFrom (Some x) old d (noted (Op 6 1) reply d) (Unload end) reply
+    → ((n : ℕ) → reply ≡ Done n → (drive : ℕ) × (x.session ≡ Offline drive Both)) → LeadsFrom (Some x) old d (noted (Op MTOFFL 1) reply d) (Unload end) reply
 unload_leads old s x d end (Done n) h few stands progress new next becomes at = unload_tested old s x d end (n == 1) h few (stands n refl) progress new next becomes at
 unload_leads old s x d end (Data bytes) h few stands progress new next (moved, is) at = absurd (not_asking old.run old.counts new next is at)
 unload_leads old s x d end (Error n text) h few stands progress new next (moved, is) at = absurd (not_asking old.run old.counts new next is at)

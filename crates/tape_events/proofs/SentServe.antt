@@ -8,6 +8,8 @@ use Rattle.rmt_wire.specs.Reply.{PlainReply, reply_text}
 use Rattle.rmt_wire.specs.Reply.PlainReply.{Done, Data, Error}
 use Rattle.rmt_wire.specs.RequestParts.{Gives}
 use Rattle.rmt_wire.specs.RequestReader.{RequestHeld, Unread}
+use Rattle.rmt_wire.specs.declared.errno.TheConstants.{EIO}
+use Rattle.rmt_wire.specs.declared.mtio.TheConstants.{MTWEOF}
 use Rattle.tape.specs.declared.trouble.Trouble.{Trouble}
 use Rattle.drives.specs.Shop.{Shop}
 use Rattle.rmt_server.specs.Hall.{Side, side}
@@ -25,7 +27,7 @@ use Rattle.dump_client.specs.declared.stage.Stage.{Stage}
 use Rattle.dump_client.specs.declared.stage.Stage.TheVariants.{Ready, ToSend, Waiting, Asking, Finished, Abandoned}
 use Rattle.tape_events.specs.World.{Link, Dumping, Begun, Caller, numbered}
 use Rattle.tape_events.specs.Changes.{sent_on, noted, noted_by, noted_write, noted_marks, answered}
-use Rattle.tape_events.specs.Sending.{HasDone, AreUnserved, request_in, IsPending, IsSettled, IsSent, LeadsOn, IsBrief, IsReply, IsAttempt, IsAsked, IsReplied, IsToldAt, IsGood}
+use Rattle.tape_events.specs.Sending.{HasDone, AreUnserved, request_in, IsPending, IsLinkSettled, IsLinkSent, LeadsOn, IsBrief, IsStepReply, IsAttempt, IsStepAsked, IsStepReplied, IsLinkToldAt, IsGood}
 use Rattle.tape_events.proofs.Sent.{raised_one}
 use Rattle.tape_events.proofs.SentWire.{OneReading, DroppedWrites, one_read, nothing_long, text_not_long, gives_whole, nothing_given}
 use Rattle.tape_events.proofs.SentSteps.{ReplyTexts, plain_brief, write_online, marks_online, rewind_first, unload_away, open_first, close_plain}
@@ -54,12 +56,12 @@ write_same : (d : Dumping) (reply : PlainReply) → SameAttempt d (noted_write d
 write_same d (Done zero) = same_attempt d
 write_same d (Done (suc n)) = accepted_same d d.label
 write_same d (Data bytes) = same_attempt d
-write_same d (Error n text) = error_same d (n == 5)
+write_same d (Error n text) = error_same d (n == EIO)
 
 marks_same : (d : Dumping) (reply : PlainReply) → SameAttempt d (noted_marks d reply)
 marks_same d (Done n) = record { run = refl; volume = refl; first = refl; sent = refl; carried = refl }
 marks_same d (Data bytes) = same_attempt d
-marks_same d (Error n text) = error_same d (n == 5)
+marks_same d (Error n text) = error_same d (n == EIO)
 
 op_same : (d : Dumping) (reply : PlainReply) (b : Bool) → SameAttempt d (if b then noted_marks d reply else d)
 op_same d reply true = marks_same d reply
@@ -71,7 +73,7 @@ noted_same d CloseDevice reply = same_attempt d
 noted_same d (Write bytes) reply = write_same d reply
 noted_same d (WriteDropped count) reply = same_attempt d
 noted_same d (Read count) reply = same_attempt d
-noted_same d (Op op count) reply = op_same d reply (op == 0)
+noted_same d (Op op count) reply = op_same d reply (op == MTWEOF)
 
 -- nothing can be given where nothing is unserved
 empty_start : (a b : List ℕ) → [] ≡ a ++ b → (a ≡ []) × (b ≡ [])
@@ -100,11 +102,11 @@ never_dropped b d Close n is = cc
 -- what is carried out then is the request that was sent last
 pub serve_pending : OneReading → DroppedWrites → (b : Begun) (s : Side) (way : List ℕ) (d : Dumping) (step : Step) (bytes rest : List ℕ) (found : PlainRequest) (reply : PlainReply)
     (reached : RequestHeld) (session : PlainSession) → IsPending b (Some s) way d step → Unread s.reached bytes → Gives bytes (Ok (Some found)) rest → Unread reached rest
-    → (found ≡ request_in b d step) × IsSettled (Some (side reached session)) way (noted found reply d)
+    → (found ≡ request_in b d step) × IsLinkSettled (Some (side reached session)) way (noted found reply d)
 serve_pending g h b s way d step bytes rest found reply reached session p unread gives left = unserved_by p.unserved
   where
     unserved_by : AreUnserved (Some s) way (request_text (request_in b d step)) ⊎ AreUnserved (Some s) way []
-        → (found ≡ request_in b d step) × IsSettled (Some (side reached session)) way (noted found reply d)
+        → (found ≡ request_in b d step) × IsLinkSettled (Some (side reached session)) way (noted found reply d)
     unserved_by (inr none) = absurd (nothing_there h s way bytes rest found none unread gives)
     unserved_by (inl (mine, was, is)) =
         let text = request_text (request_in b d step) in
@@ -122,8 +124,8 @@ serve_pending g h b s way d step bytes rest found reply reached session p unread
         )
 
 pub serve_sent : OneReading → DroppedWrites → (begun : List Begun) (s : Side) (l : Link) (d : Dumping) (bytes rest : List ℕ) (found : PlainRequest) (reply : PlainReply)
-    (reached : RequestHeld) (session : PlainSession) → IsSent begun (Some s) l d → Unread s.reached bytes → Gives bytes (Ok (Some found)) rest → Unread reached rest
-    → IsSent begun (Some (side reached session)) (answered found reply l) (noted found reply d)
+    (reached : RequestHeld) (session : PlainSession) → IsLinkSent begun (Some s) l d → Unread s.reached bytes → Gives bytes (Ok (Some found)) rest → Unread reached rest
+    → IsLinkSent begun (Some (side reached session)) (answered found reply l) (noted found reply d)
 serve_sent g h begun s l d bytes rest found reply reached session (inl settled) unread gives left =
     absurd (nothing_there h s l.toward bytes rest found settled.unserved unread gives)
 serve_sent g h begun s l d bytes rest found reply reached session (inr (b, step, at, p)) unread gives left =
@@ -187,9 +189,9 @@ at_checkpoint o old d noted Close (Error n text) first leads = leads
 -- the client's own connection, at which it waits
 asked_replied : ReplyTexts → OneReading → DroppedWrites → (b : Begun) (s : Side) (l : Link) (c : Caller) (d : Dumping) (step : Step) (bytes rest : List ℕ) (found : PlainRequest)
     (reply : PlainReply) (reached : RequestHeld) (trouble : Trouble) (holders : List ℕ) (shop shop' : Shop) (session : PlainSession) → IsRun b.run → b.run ≡ c.at.run
-    → d.first ≡ (attempt_at step c.at.counts).1 → IsAsked b (Some s) l c d step → Unread s.reached bytes → Gives bytes (Ok (Some found)) rest → Unread reached rest
+    → d.first ≡ (attempt_at step c.at.counts).1 → IsStepAsked b (Some s) l c d step → Unread s.reached bytes → Gives bytes (Ok (Some found)) rest → Unread reached rest
     → TroubledServeStep trouble holders (scene shop s.session) found reply (scene shop' session)
-    → IsReplied b (Some (side reached session)) (answered found reply l) c (noted found reply d) step
+    → IsStepReplied b (Some (side reached session)) (answered found reply l) c (noted found reply d) step
 asked_replied t g h b s l c d step bytes rest found reply reached trouble holders shop shop' session good run first a unread gives left served =
     let p = a.pending in
     let done = serve_pending g h b s l.toward d step bytes rest found reply reached session p unread gives left in
@@ -212,7 +214,7 @@ asked_replied t g h b s l c d step bytes rest found reply reached trouble holder
     }
   where
     on_way : (cut : Bool) → LeadsOn b.run (Some (side reached session)) c.at (noted found reply d) step reply → IsBrief reply
-        → IsReply b.run (Some (side reached session)) c.at (noted found reply d) step ([] ++ sent_on cut l.back (reply_text reply))
+        → IsStepReply b.run (Some (side reached session)) c.at (noted found reply d) step ([] ++ sent_on cut l.back (reply_text reply))
     on_way true leads brief = inl a.back
     on_way false leads brief = inr (reply, ap (λ x. x ++ reply_text reply) a.back, brief, leads)
 
@@ -230,9 +232,9 @@ noted_attempt begun c d step b found reply a =
 
 pub serve_told : ReplyTexts → OneReading → DroppedWrites → (begun : List Begun) (stage : Stage) (s : Side) (l : Link) (c : Caller) (d : Dumping) (bytes rest : List ℕ)
     (found : PlainRequest) (reply : PlainReply) (reached : RequestHeld) (trouble : Trouble) (holders : List ℕ) (shop shop' : Shop) (session : PlainSession)
-    → ((n : ℕ) (b : Begun) → numbered begun n ≡ Some b → IsGood b) → IsToldAt stage begun (Some s) l c d → Unread s.reached bytes → Gives bytes (Ok (Some found)) rest
+    → ((n : ℕ) (b : Begun) → numbered begun n ≡ Some b → IsGood b) → IsLinkToldAt stage begun (Some s) l c d → Unread s.reached bytes → Gives bytes (Ok (Some found)) rest
     → Unread reached rest → TroubledServeStep trouble holders (scene shop s.session) found reply (scene shop' session)
-    → IsToldAt stage begun (Some (side reached session)) (answered found reply l) c (noted found reply d)
+    → IsLinkToldAt stage begun (Some (side reached session)) (answered found reply l) c (noted found reply d)
 serve_told t g h begun (ToSend step) s l c d bytes rest found reply reached trouble holders shop shop' session good (b, attempt, turn) unread gives left served =
     absurd (nothing_there h s l.toward bytes rest found turn.settled.unserved unread gives)
 serve_told t g h begun (Waiting step) s l c d bytes rest found reply reached trouble holders shop shop' session good (b, attempt, inl asked) unread gives left served = (

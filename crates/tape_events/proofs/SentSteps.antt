@@ -8,7 +8,10 @@ use Rattle.rmt_wire.specs.Request.PlainRequest.{Open, Close, Write, Op}
 use Rattle.rmt_wire.specs.Reply.{PlainReply, Wanted, AnswersTo, ReplyHasSpelling, SpellsReply, reply_text}
 use Rattle.rmt_wire.specs.Reply.PlainReply.{Done, Error}
 use Rattle.rmt_wire.specs.Reply.Wanted.{Number}
-use Rattle.tape.specs.Tape.{Tape, TapeAnswer, record_limit}
+use Rattle.tape.specs.Tape.{Tape, TapeAnswer}
+use Rattle.rmt_wire.specs.declared.limits.TheConstants.{RECORD_LIMIT}
+use Rattle.rmt_wire.specs.declared.fcntl.TheConstants.{O_RDWR}
+use Rattle.rmt_wire.specs.declared.mtio.TheConstants.{MTOFFL, MTREW, MTWEOF}
 use Rattle.tape.specs.Tape.TapeAnswer.{Done as Did, Gave, Fault}
 use Rattle.tape.specs.Trouble.{DeviceStep}
 use Rattle.tape.specs.declared.fault.TapeFault.{TapeFault}
@@ -21,7 +24,8 @@ use Rattle.rmt_server.specs.declared.access.Access.TheVariants.{Both}
 use Rattle.rmt_server.specs.Session.{PlainReel, plain_reel, Scene, status_of, refusal, tape_request, reel_reply}
 use Rattle.rmt_server.specs.Session.PlainSession.{Offline, Online}
 use Rattle.rmt_server.specs.TroubledServe.{TroubledServeStep, TroubledReelStep, TroubledMoveStep, TroubledDoneStep}
-use Rattle.tape_events.specs.Sending.{IsOnlineWith, IsBrief}
+use Rattle.tape_events.specs.Standing.{IsOnlineWith}
+use Rattle.tape_events.specs.Sending.{IsBrief}
 
 -- what a writer writes spells its request, and its reply
 abbrev pub RequestTexts : Type 0
@@ -152,21 +156,21 @@ write_called trouble before bytes reply after drive reel false few was done =
 pub write_online : (trouble : Trouble) (holders : List ℕ) (before : Scene) (bytes : List ℕ) (reply : PlainReply) (after : Scene) (drive : ℕ) (reel : PlainReel)
     → length bytes ≤ 2147483647 → before.session ≡ Online drive Both reel → TroubledServeStep trouble holders before (Write bytes) reply after → StaysOnline reply after
 write_online trouble holders before bytes reply after drive reel few was step =
-    write_called trouble before bytes reply after drive reel ((length bytes == 0) || nat_lt record_limit (length bytes)) few was
+    write_called trouble before bytes reply after drive reel ((length bytes == 0) || nat_lt RECORD_LIMIT (length bytes)) few was
     (subst (λ s. MatchOption (refusal (status_of s) (Write bytes)) (TroubledDoneStep trouble before (Write bytes) reply after) (λ r. (reply ≡ refused r) × (after ≡ before)))
     was step)
 
 marks_answer : (trouble : Trouble) (capacity : ℕ) (t u : Tape) (answer : TapeAnswer) (reply : PlainReply)
-    → DeviceStep capacity trouble t (tape_request (Op 0 1)) answer u → reply ≡ reel_reply (Op 0 1) answer → IsPlain reply
+    → DeviceStep capacity trouble t (tape_request (Op MTWEOF 1)) answer u → reply ≡ reel_reply (Op MTWEOF 1) answer → IsPlain reply
 marks_answer trouble capacity t u Did reply step is = inl (1, omega arith, is)
 marks_answer trouble capacity t u (Gave given) reply step is = absurd (step.1)
 marks_answer trouble capacity t u (Fault why) reply step is = tape_plain why reply is
 
 pub marks_online : (trouble : Trouble) (holders : List ℕ) (before : Scene) (reply : PlainReply) (after : Scene) (drive : ℕ) (reel : PlainReel)
-    → before.session ≡ Online drive Both reel → TroubledServeStep trouble holders before (Op 0 1) reply after → StaysOnline reply after
+    → before.session ≡ Online drive Both reel → TroubledServeStep trouble holders before (Op MTWEOF 1) reply after → StaysOnline reply after
 marks_online trouble holders before reply after drive reel was step =
-    let c = reel_called trouble before (Op 0 1) reply after drive reel was
-    (subst (λ s. MatchOption (refusal (status_of s) (Op 0 1)) (TroubledDoneStep trouble before (Op 0 1) reply after) (λ r. (reply ≡ refused r) × (after ≡ before)))
+    let c = reel_called trouble before (Op MTWEOF 1) reply after drive reel was
+    (subst (λ s. MatchOption (refusal (status_of s) (Op MTWEOF 1)) (TroubledDoneStep trouble before (Op MTWEOF 1) reply after) (λ r. (reply ≡ refused r) × (after ≡ before)))
     was step) in
     (marks_answer trouble reel.capacity reel.tape c.tape c.answer reply c.device c.replies, (plain_reel c.tape reel.capacity, (drive, c.session)))
 
@@ -175,7 +179,7 @@ abbrev pub StandsFirst : PlainReply → Scene → Type 0
 StandsFirst reply after = IsPlain reply × ((n : ℕ) → reply ≡ Done n → (reel : PlainReel) × IsOnlineWith after.session reel × (reel.tape.before ≡ []))
 
 rewind_answer : (trouble : Trouble) (capacity : ℕ) (t u : Tape) (answer : TapeAnswer) (reply : PlainReply)
-    → DeviceStep capacity trouble t (tape_request (Op 5 1)) answer u → reply ≡ reel_reply (Op 5 1) answer
+    → DeviceStep capacity trouble t (tape_request (Op MTREW 1)) answer u → reply ≡ reel_reply (Op MTREW 1) answer
     → IsPlain reply × ((n : ℕ) → reply ≡ Done n → u.before ≡ [])
 rewind_answer trouble capacity t u Did reply step is = (inl (1, omega arith, is), λ n done. ap (λ (x : Tape). x.before) step.1)
 rewind_answer trouble capacity t u (Gave given) reply step is = absurd (step.1)
@@ -183,10 +187,10 @@ rewind_answer trouble capacity t u (Fault why) reply step is =
     (tape_plain why reply is, λ n done. (let clash : Done n ≡ refused (tape_refusal why) = sym done ∙ is in absurd cc))
 
 pub rewind_first : (trouble : Trouble) (holders : List ℕ) (before : Scene) (reply : PlainReply) (after : Scene) (drive : ℕ) (reel : PlainReel)
-    → before.session ≡ Online drive Both reel → TroubledServeStep trouble holders before (Op 5 1) reply after → StandsFirst reply after
+    → before.session ≡ Online drive Both reel → TroubledServeStep trouble holders before (Op MTREW 1) reply after → StandsFirst reply after
 rewind_first trouble holders before reply after drive reel was step =
-    let c = reel_called trouble before (Op 5 1) reply after drive reel was
-    (subst (λ s. MatchOption (refusal (status_of s) (Op 5 1)) (TroubledDoneStep trouble before (Op 5 1) reply after) (λ r. (reply ≡ refused r) × (after ≡ before)))
+    let c = reel_called trouble before (Op MTREW 1) reply after drive reel was
+    (subst (λ s. MatchOption (refusal (status_of s) (Op MTREW 1)) (TroubledDoneStep trouble before (Op MTREW 1) reply after) (λ r. (reply ≡ refused r) × (after ≡ before)))
     was step) in
     let a = rewind_answer trouble reel.capacity reel.tape c.tape c.answer reply c.device c.replies in
     (a.0, λ n is. (plain_reel c.tape reel.capacity, (drive, c.session), a.1 n is))
@@ -205,14 +209,14 @@ moved_away trouble before reply after drive reel was (e, access, x, Err why, onl
     (drive_plain why reply replies, λ n done. (let clash : Done n ≡ refused (drive_refusal why) = sym done ∙ replies in absurd cc))
 
 pub unload_away : (trouble : Trouble) (holders : List ℕ) (before : Scene) (reply : PlainReply) (after : Scene) (drive : ℕ) (reel : PlainReel)
-    → before.session ≡ Online drive Both reel → TroubledServeStep trouble holders before (Op 6 1) reply after → StandsAway reply after
+    → before.session ≡ Online drive Both reel → TroubledServeStep trouble holders before (Op MTOFFL 1) reply after → StandsAway reply after
 unload_away trouble holders before reply after drive reel was step =
     moved_away trouble before reply after drive reel was
-    (subst (λ s. MatchOption (refusal (status_of s) (Op 6 1)) (TroubledDoneStep trouble before (Op 6 1) reply after) (λ r. (reply ≡ refused r) × (after ≡ before)))
+    (subst (λ s. MatchOption (refusal (status_of s) (Op MTOFFL 1)) (TroubledDoneStep trouble before (Op MTOFFL 1) reply after) (λ r. (reply ≡ refused r) × (after ≡ before)))
     was step)
 
 pub open_first : (trouble : Trouble) (holders : List ℕ) (before : Scene) (device : List ℕ) (reply : PlainReply) (after : Scene)
-    → TroubledServeStep trouble holders before (Open device 2) reply after → StandsFirst reply after
+    → TroubledServeStep trouble holders before (Open device O_RDWR) reply after → StandsFirst reply after
 open_first trouble holders before device reply after (Ok opened, asked, (found, named, latch), cause, replies, is) =
     (inl (0, omega arith, replies), λ n done. (opened.1, (opened.0, is), ap (λ (x : Tape). x.before) latch.3))
 open_first trouble holders before device reply after (Err why, asked, opens, cause, replies, is) =

@@ -11,7 +11,7 @@ use Rattle.rmt_wire.specs.Request.PlainRequest.{Open, Close, Write, WriteDropped
 use Rattle.rmt_wire.specs.Reply.PlainReply.{Done, Data, Error}
 use Rattle.rmt_wire.specs.Reply.Wanted.{Number, DataUpTo}
 use Rattle.dump_run.specs.Run.{PlainRun, IsRun}
-use Rattle.dump_run.specs.Label.{label_text}
+use Rattle.dump_run.specs.Label.{label_lines}
 use Rattle.dump_client.specs.Standing.{checkpoint_after, checkpoint_of}
 use Rattle.dump_client.specs.Lawful.{AreVolumes}
 use Rattle.dump_client.specs.declared.count.VolumeCount.{VolumeCount}
@@ -98,7 +98,7 @@ few_volumes run volume first (c ∷ d ∷ counts) at h v =
 few_digits : (n : ℕ) → n ≤ 999999999999 → length (decimal n) ≤ 12
 few_digits n small = length-decimal-le 12 n (omega arith) (omega arith) (omega arith)
 
-pub label_short : (run : PlainRun) (volume first : ℕ) → IsRun run → volume ≤ 999999999999 → first ≤ 999999999999 → length (label_text run volume first) ≤ 1024
+pub label_short : (run : PlainRun) (volume first : ℕ) → IsRun run → volume ≤ 999999999999 → first ≤ 999999999999 → length (label_lines run volume first) ≤ 1024
 label_short run volume first good v f =
     let name = good.name in
     let level = few_digits run.level (let l = good.level in omega arith) in
@@ -115,6 +115,6 @@ short_labels s lawful =
     let volume = (checkpoint_of s.counts).0 in
     let first = (checkpoint_of s.counts).1 in
     let short = label_short s.run volume first lawful.run (omega (arith, at.0, limit)) (omega (arith, at.1, limit)) in
-    let size = length-append (label_text s.run volume first) (replicate (1024 - length (label_text s.run volume first)) 0) in
-    let zeros = length-replicate {A = ℕ} (1024 - length (label_text s.run volume first)) 0 in
+    let size = length-append (label_lines s.run volume first) (replicate (1024 - length (label_lines s.run volume first)) 0) in
+    let zeros = length-replicate {A = ℕ} (1024 - length (label_lines s.run volume first)) 0 in
     omega (arith, short, size, zeros)

@@ -2,7 +2,7 @@
 use Rattle.std.proofs.Common.{◌≡◌, ◌≢◌, ◌↔◌, ℕ, suc, ◌+◌, ◌<◌, ◌≤◌, ◌==◌, Bool, true, false, if◌then◌else◌, nat_le, min, List, [], ◌∷◌, ◌++◌, length, length-append, take, drop, replicate, Option, Some, None, Result, Ok, Err, append_assoc, append-nil, refl, sym, ap, subst, ◌∙◌, arith}
 use Rattle.std.proofs.lemmas.List.{take_at, take-append-drop, length-replicate, length-take-le, nil_from_length, length-drop}
 use Rattle.std.proofs.lemmas.Bool.Decides.{nat_tests}
-use Rattle.rmt_wire.specs.Limits.{data_limit}
+use Rattle.rmt_wire.specs.declared.limits.TheConstants.{RECORD_LIMIT}
 use Rattle.rmt_wire.specs.Number.{SpellsNumber, line_feed}
 use Rattle.rmt_wire.specs.Request.{PlainRequest, SpellsRequest}
 use Rattle.rmt_wire.specs.Request.PlainRequest.{Open, Close, Write, WriteDropped, Read, Op}
@@ -33,7 +33,7 @@ fresh_unread = (refl, refl)
 -- what is unread begins with the line of a write that is to be dropped
 abbrev pub BeginsLong : List ℕ → Type 0
 BeginsLong bytes =
-    (number behind : List ℕ) × (count : ℕ) × SpellsNumber number count × (data_limit < count) × (bytes ≡ 87 ∷ (number ++ line_feed ∷ behind))
+    (number behind : List ℕ) × (count : ℕ) × SpellsNumber number count × (RECORD_LIMIT < count) × (bytes ≡ 87 ∷ (number ++ line_feed ∷ behind))
 
 line_of_write : (kept number rest : List ℕ) (len : ℕ) → kept ≡ 87 ∷ (number ++ line_feed ∷ rest) → len ≡ length number + 2
     → take len kept ≡ 87 ∷ (number ++ line_feed ∷ [])
@@ -66,7 +66,7 @@ pub nothing_long : BeginsLong [] → ⊥
 nothing_long (number, behind, count, spelled, large, is) = cc
 
 -- behind the text of a request there is room for all that such a line would drop
-long_gives : (number behind pad : List ℕ) (count : ℕ) → SpellsNumber number count → data_limit < count → count ≤ length (behind ++ pad)
+long_gives : (number behind pad : List ℕ) (count : ℕ) → SpellsNumber number count → RECORD_LIMIT < count → count ≤ length (behind ++ pad)
     → Gives (87 ∷ (number ++ line_feed ∷ (behind ++ pad))) (Ok (Some (WriteDropped count))) (drop count (behind ++ pad))
 long_gives number behind pad count spelled large room = (
   87 ∷ (number ++ line_feed ∷ take count (behind ++ pad)),

@@ -19,13 +19,13 @@ use Rattle.dump_client.specs.declared.step.Step.TheVariants.{Open, Rewind, Label
 use Rattle.dump_client.specs.declared.stage.Stage.{Stage}
 use Rattle.dump_client.specs.declared.stage.Stage.TheVariants.{Ready, ToSend, Waiting, Asking, Finished, Abandoned}
 use Rattle.tape_events.specs.World.{World, Link, Dumping, Begun, Caller, numbered}
-use Rattle.tape_events.specs.First.{PlainDrive}
+use Rattle.tape_events.specs.First.{PlainDriveSpec}
 use Rattle.tape_events.specs.Changes.{changed, changed_from, side_of, sent_on, answered, noted}
 use Rattle.tape_events.specs.Steps.{Finds, carried}
-use Rattle.tape_events.specs.Kept.{IsKept}
+use Rattle.tape_events.specs.Kept.{IsWorldKept}
 use Rattle.tape_events.specs.Owning.{is_in_attempt}
-use Rattle.tape_events.specs.Sending.{AreUnserved, request_in, IsPending, IsAttempt, IsAsked, IsBrief, IsToldAt}
-use Rattle.tape_events.specs.Smooth.{IsSmooth, IsOwnLink, IsUnanswered, StandsAt, StandsWith, StandsBefore, Leads, Stock, stock_of, volume_slots}
+use Rattle.tape_events.specs.Sending.{AreUnserved, request_in, IsPending, IsAttempt, IsStepAsked, IsBrief, IsLinkToldAt}
+use Rattle.tape_events.specs.Smooth.{IsSmooth, IsOwnLink, IsStepUnanswered, ReelsStandAt, StandsWith, StandsBefore, Leads, Stock, stock_of, volume_slots, attempt_on}
 use Rattle.tape_events.proofs.SmoothBins.{served_bin}
 use Rattle.tape_events.proofs.Numbers.{changed_is, with_here, numbered_there, numbered_within, numbered_first}
 use Rattle.tape_events.proofs.Held.{side_there}
@@ -88,7 +88,7 @@ record Carries (w u : World) (k : ℕ) (c : Caller) (l : Link) (d : Dumping) (b 
   stage : c.at.stage ≡ Waiting step
   own : IsOwnLink w k l d b s
   attempt : IsAttempt w.begun c d step b
-  asked : IsAsked b (Some s) l c d step
+  asked : IsStepAsked b (Some s) l c d step
   request : PlainRequest
   reply : PlainReply
   reached : RequestHeld
@@ -104,7 +104,7 @@ record Carries (w u : World) (k : ℕ) (c : Caller) (l : Link) (d : Dumping) (b 
   is : u ≡ carried w k request reply reached shop session holders
 
 -- the bin before a step
-pub before_bin : (drive : PlainDrive) (t : Stock) (k : ℕ) (b : Begun) (d : Dumping) (session : PlainSession) (step : Step) → StandsBefore step drive t k b d session
+pub before_bin : (drive : PlainDriveSpec) (t : Stock) (k : ℕ) (b : Begun) (d : Dumping) (session : PlainSession) (step : Step) → StandsBefore step drive t k b d session
     → t.shop.bin ≡ volume_slots drive t
 before_bin drive t k b d session Open q = ap (λ (x : Shop). x.bin) q.0.shop
 before_bin drive t k b d session Rewind q = ap (λ (x : Shop). x.bin) q.shop
@@ -114,8 +114,8 @@ before_bin drive t k b d session (Mark next) q = ap (λ (x : Shop). x.bin) q.sho
 before_bin drive t k b d session (Unload next) q = ap (λ (x : Shop). x.bin) q.shop
 before_bin drive t k b d session Close q = ap (λ (x : Shop). x.bin) q.shop
 
-carried_smooth : OneReading → DroppedWrites → (drive : PlainDrive) (w u : World) (k : ℕ) (c : Caller) (l : Link) (d : Dumping) (b : Begun) (s : Side) (step : Step) → IsKept w → IsSmooth drive w
-    → IsUnanswered drive w k l d b s step → Carries w u k c l d b s step → IsSmooth drive u
+carried_smooth : OneReading → DroppedWrites → (drive : PlainDriveSpec) (w u : World) (k : ℕ) (c : Caller) (l : Link) (d : Dumping) (b : Begun) (s : Side) (step : Step) → IsWorldKept w → IsSmooth drive w
+    → IsStepUnanswered drive w (attempt_on k b d s.session) l step → Carries w u k c l d b s step → IsSmooth drive u
 carried_smooth g h drive w u k c l d b s step kept sm un v =
     let p = v.asked.pending in
     let all = serve_pending g h b s l.toward d step v.bytes v.rest v.request v.reply v.reached v.session p v.unread v.gives v.left in
@@ -126,8 +126,8 @@ carried_smooth g h drive w u k c l d b s step kept sm un v =
     let brief : IsBrief v.reply
     = (served_leads reply_texts (standing b.run [] Ready) b.payload NoTrouble w.hall.holders w.hall.shop v.shop s v.reached v.session d step v.reply good.run p.done few p.spelled
     served.step).0 in
-    let leads : Leads drive (stock_then (stock_of w) k v.request v.shop v.session v.holders) k c.at b (noted v.request v.reply d) v.session step v.reply
-    = subst (λ r. Leads drive (stock_then (stock_of w) k r v.shop v.session v.holders) k c.at b (noted r v.reply d) v.session step v.reply) (sym all.0)
+    let leads : Leads drive (stock_then (stock_of w) k v.request v.shop v.session v.holders) (attempt_on k b (noted v.request v.reply d) v.session) c.at step v.reply
+    = subst (λ r. Leads drive (stock_then (stock_of w) k r v.shop v.session v.holders) (attempt_on k b (noted r v.reply d) v.session) c.at step v.reply) (sym all.0)
     (step_leads drive (stock_of w) k c.at b d s step v.reply v.shop v.session v.holders record {
       run = v.attempt.run;
       lawful = kept.lawful c v.caller;
@@ -153,7 +153,7 @@ carried_smooth g h drive w u k c l d b s step kept sm un v =
       begun = ap (numbered w.begun) (noted_same d v.request v.reply).run ∙ v.own.begun;
       live = live;
     } in
-    let now : StandsAt (Waiting step) drive x c
+    let now : ReelsStandAt (Waiting step) drive x c
     = (
       k,
       answered v.request v.reply l,
@@ -183,21 +183,21 @@ carried_smooth g h drive w u k c l d b s step kept sm un v =
         | inr (other, on) ↦ subst (λ o. AreUnserved o z.toward []) (sym (turned_beside w x k (Some y) refl j other)) (sm.still j z on not_own)
       ];
       reels = sm.reels;
-      stands = subst (λ o. StandsWith o drive x) (sym v.caller) (subst (λ stage. StandsAt stage drive x c) (sym v.stage) now);
+      stands = subst (λ o. StandsWith o drive x) (sym v.caller) (subst (λ stage. ReelsStandAt stage drive x c) (sym v.stage) now);
       failure = λ volume fault is. absurd cc;
     }
 
 -- what is told of the client's own connection
-pub own_told : (w : World) (k : ℕ) (l : Link) (d : Dumping) (b : Begun) (s : Side) (c : Caller) (stage : Stage) → IsKept w → IsOwnLink w k l d b s → w.caller ≡ Some c
-    → c.at.stage ≡ stage → IsToldAt stage w.begun (Some s) l c d
+pub own_told : (w : World) (k : ℕ) (l : Link) (d : Dumping) (b : Begun) (s : Side) (c : Caller) (stage : Stage) → IsWorldKept w → IsOwnLink w k l d b s → w.caller ≡ Some c
+    → c.at.stage ≡ stage → IsLinkToldAt stage w.begun (Some s) l c d
 own_told w k l d b s c stage kept own there at =
-    subst (λ o. IsToldAt stage w.begun o l c d) own.live
-    (subst (λ x. IsToldAt x w.begun (side_of w.hall k) l c d) at ((kept.told.each k l own.there).own d c own.dump own.own there))
+    subst (λ o. IsLinkToldAt stage w.begun o l c d) own.live
+    (subst (λ x. IsLinkToldAt x w.begun (side_of w.hall k) l c d) at ((kept.told.each k l own.there).own d c own.dump own.own there))
 
 -- the server finds something on a connection where the client waits
-found_smooth : OneReading → DroppedWrites → (drive : PlainDrive) (w u : World) (k : ℕ) (c : Caller) (l : Link) (d : Dumping) (b : Begun) (s : Side) (step : Step)
-    (found : Result (Option PlainRequest) WireFault) (bytes rest : List ℕ) → IsKept w → IsSmooth drive w → w.caller ≡ Some c → c.at.stage ≡ Waiting step → IsOwnLink w k l d b s
-    → IsUnanswered drive w k l d b s step → IsToldAt (Waiting step) w.begun (Some s) l c d → Unread s.reached bytes → Gives bytes found rest
+found_smooth : OneReading → DroppedWrites → (drive : PlainDriveSpec) (w u : World) (k : ℕ) (c : Caller) (l : Link) (d : Dumping) (b : Begun) (s : Side) (step : Step)
+    (found : Result (Option PlainRequest) WireFault) (bytes rest : List ℕ) → IsWorldKept w → IsSmooth drive w → w.caller ≡ Some c → c.at.stage ≡ Waiting step → IsOwnLink w k l d b s
+    → IsStepUnanswered drive w (attempt_on k b d s.session) l step → IsLinkToldAt (Waiting step) w.begun (Some s) l c d → Unread s.reached bytes → Gives bytes found rest
     → Finds w k NoTrouble s found rest u → IsSmooth drive u
 found_smooth g h drive w u k c l d b s step found bytes rest kept sm there stage own un (b', attempt, inr replied) unread gives finds =
     absurd (nothing_found h w u k s l.toward bytes rest found replied.settled.unserved unread gives finds)
@@ -211,7 +211,7 @@ found_smooth g h drive w u k c l d b s step (Ok (Some request)) bytes rest kept 
       stage = stage;
       own = own;
       attempt = subst (λ x. IsAttempt w.begun c d step x) same attempt;
-      asked = subst (λ x. IsAsked x (Some s) l c d step) same asked;
+      asked = subst (λ x. IsStepAsked x (Some s) l c d step) same asked;
       request = request;
       reply = reply;
       reached = reached;
@@ -228,8 +228,8 @@ found_smooth g h drive w u k c l d b s step (Ok (Some request)) bytes rest kept 
     }
 
 -- on the client's own connection, by its stage
-own_found : OneReading → DroppedWrites → (drive : PlainDrive) (w u : World) (k : ℕ) (c : Caller) (s : Side) (stage : Stage) (found : Result (Option PlainRequest) WireFault)
-    (bytes rest : List ℕ) → IsKept w → IsSmooth drive w → w.caller ≡ Some c → c.at.stage ≡ stage → w.own ≡ Some k → IsTrue (is_in_attempt stage) → StandsAt stage drive w c
+own_found : OneReading → DroppedWrites → (drive : PlainDriveSpec) (w u : World) (k : ℕ) (c : Caller) (s : Side) (stage : Stage) (found : Result (Option PlainRequest) WireFault)
+    (bytes rest : List ℕ) → IsWorldKept w → IsSmooth drive w → w.caller ≡ Some c → c.at.stage ≡ stage → w.own ≡ Some k → IsTrue (is_in_attempt stage) → ReelsStandAt stage drive w c
     → side_of w.hall k ≡ Some s → Unread s.reached bytes → Gives bytes found rest → Finds w k NoTrouble s found rest u → IsSmooth drive u
 own_found g h drive w u k c s (ToSend step) found bytes rest kept sm there stage mine under (j, l, d, b, x, own, stands) live unread gives finds =
     let at : j ≡ k = same_Some j k (sym own.own ∙ mine) in
@@ -252,8 +252,8 @@ own_found g h drive w u k c s Finished found bytes rest kept sm there stage mine
 own_found g h drive w u k c s Abandoned found bytes rest kept sm there stage mine under stands live unread gives finds = absurd cc
 
 -- the server carries a request out
-pub serve_smooth : OneReading → DroppedWrites → (drive : PlainDrive) (w u : World) (k : ℕ) (s : Side) (found : Result (Option PlainRequest) WireFault) (bytes rest : List ℕ)
-    → IsKept w → IsSmooth drive w → side_of w.hall k ≡ Some s → Unread s.reached bytes → Gives bytes found rest → Finds w k NoTrouble s found rest u → IsSmooth drive u
+pub serve_smooth : OneReading → DroppedWrites → (drive : PlainDriveSpec) (w u : World) (k : ℕ) (s : Side) (found : Result (Option PlainRequest) WireFault) (bytes rest : List ℕ)
+    → IsWorldKept w → IsSmooth drive w → side_of w.hall k ≡ Some s → Unread s.reached bytes → Gives bytes found rest → Finds w k NoTrouble s found rest u → IsSmooth drive u
 serve_smooth g h drive w u k s found bytes rest kept sm live unread gives finds = by_own w.own refl
   where
     others : (w.own ≢ Some k) → IsSmooth drive u

@@ -16,14 +16,14 @@ use Rattle.dump_client.specs.declared.step.Step.TheVariants.{Open, Rewind, Label
 use Rattle.dump_client.specs.declared.stage.Stage.{Stage}
 use Rattle.dump_client.specs.declared.stage.Stage.TheVariants.{Ready, ToSend, Waiting, Asking, Finished, Abandoned}
 use Rattle.tape_events.specs.World.{World, Link, Dumping, Begun, Caller}
-use Rattle.tape_events.specs.First.{PlainDrive}
+use Rattle.tape_events.specs.First.{PlainDriveSpec}
 use Rattle.tape_events.specs.Changes.{side_of, link_of, new_link, noted_sent}
-use Rattle.tape_events.specs.Rows.{NoRun, is_done}
-use Rattle.tape_events.specs.Steps.{begun, connected, fresh, asked, sent_link, next_text, reached_by}
-use Rattle.tape_events.specs.Kept.{IsKept}
+use Rattle.tape_events.specs.Rows.{NoRun, is_run_done}
+use Rattle.tape_events.specs.Steps.{begun, client_connected, fresh, asked, sent_link, next_text, reached_by}
+use Rattle.tape_events.specs.Kept.{IsWorldKept}
 use Rattle.tape_events.specs.Owning.{is_in_attempt}
 use Rattle.tape_events.specs.Sending.{AreUnserved}
-use Rattle.tape_events.specs.Smooth.{Stock, stock_of, blanks, one_drive, names_left, volume_by, volume_slot, volume_slots, IsFree, IsLatched, IsOwnLink, StandsBefore, StandsAt, StandsWith, IsSmooth}
+use Rattle.tape_events.specs.Smooth.{Stock, stock_of, blanks, one_drive, names_left, volume_by, volume_slot, volume_slots, IsFree, IsLatched, IsOwnLink, StandsBefore, ReelsStandAt, StandsWith, IsSmooth}
 use Rattle.tape_events.proofs.Numbers.{pushed_is, numbered_more, numbered_last, numbered_there, numbered_within, numbered_first}
 use Rattle.tape_events.proofs.ToldEvents.{turned_here, turned_beside}
 use Rattle.tape_events.proofs.SmoothLists.{map_same}
@@ -31,7 +31,7 @@ use Rattle.tape_events.proofs.SmoothCarried.{changed_here, own_told}
 use Rattle.tape_events.proofs.SmoothHears.{changed_links, settles}
 
 -- without a run no session has the drive
-free_stage : (drive : PlainDrive) (w : World) (c : Caller) (stage : Stage) → IsTrue (is_done stage) → StandsAt stage drive w c → IsFree drive (stock_of w)
+free_stage : (drive : PlainDriveSpec) (w : World) (c : Caller) (stage : Stage) → IsTrue (is_run_done stage) → ReelsStandAt stage drive w c → IsFree drive (stock_of w)
 free_stage drive w c Finished done free = free
 free_stage drive w c Abandoned done free = absurd free
 free_stage drive w c Ready done free = free
@@ -39,12 +39,12 @@ free_stage drive w c Asking done free = absurd cc
 free_stage drive w c (ToSend step) done free = absurd cc
 free_stage drive w c (Waiting step) done free = absurd cc
 
-free_then : (drive : PlainDrive) (w : World) → NoRun w → StandsWith w.caller drive w → IsFree drive (stock_of w)
+free_then : (drive : PlainDriveSpec) (w : World) → NoRun w → StandsWith w.caller drive w → IsFree drive (stock_of w)
 free_then drive w (inl none) stands = subst (λ o. StandsWith o drive w) none stands
 free_then drive w (inr (c, there, done)) stands = free_stage drive w c c.at.stage done (subst (λ o. StandsWith o drive w) there stands)
 
 -- the volumes that were counted are the same once another run is begun
-same_volumes : (drive : PlainDrive) (w : World) (b : Begun) → IsKept w
+same_volumes : (drive : PlainDriveSpec) (w : World) (b : Begun) → IsWorldKept w
     → volume_slots drive (stock_of w) ≡ volume_slots drive (record (stock_of w) { begun = w.begun ++ b ∷ [] })
 same_volumes drive w b kept =
     map_same (volume_slot drive.capacity w.begun) (volume_slot drive.capacity (w.begun ++ b ∷ [])) w.counts
@@ -53,7 +53,7 @@ same_volumes drive w b kept =
     let was = e.3.begun in
     ap (λ o. slot x.reel (Some (kept_reel (volume_by o x) drive.capacity))) (was ∙ sym (numbered_more w.begun (b ∷ []) x.run e.2 was))))
 
-pub begun_smooth : (drive : PlainDrive) (w : World) (run : PlainRun) (payload : List ℕ) (reader : ReplyHeld) → IsKept w → IsSmooth drive w → NoRun w
+pub begun_smooth : (drive : PlainDriveSpec) (w : World) (run : PlainRun) (payload : List ℕ) (reader : ReplyHeld) → IsWorldKept w → IsSmooth drive w → NoRun w
     → IsSmooth drive (begun w run payload reader)
 begun_smooth drive w run payload reader kept sm none =
     let b : Begun = record { run = run; payload = cut_blocks run.blocks run.block_bytes payload } in
@@ -67,23 +67,23 @@ begun_smooth drive w run payload reader kept sm none =
     }
 
 -- between attempts there is no own connection
-idle_own : (w : World) (c : Caller) → IsKept w → w.caller ≡ Some c → c.at.stage ≡ Ready → (j : ℕ) → w.own ≡ Some j → ⊥
+idle_own : (w : World) (c : Caller) → IsWorldKept w → w.caller ≡ Some c → c.at.stage ≡ Ready → (j : ℕ) → w.own ≡ Some j → ⊥
 idle_own w c kept there ready j mine =
     let client = (kept.owned.own j mine).1 in
     let same : client.0 ≡ c = same_Some client.0 c (sym client.1 ∙ there) in
     let under : IsTrue (is_in_attempt Ready) = subst (λ s. IsTrue (is_in_attempt s)) ready (subst (λ (x : Caller). IsTrue (is_in_attempt x.at.stage)) same client.2) in
     cc
 
-pub connected_smooth : (drive : PlainDrive) (w : World) (c : Caller) → IsKept w → IsSmooth drive w → w.caller ≡ Some c → c.at.stage ≡ Ready → IsSmooth drive (connected w c)
+pub connected_smooth : (drive : PlainDriveSpec) (w : World) (c : Caller) → IsWorldKept w → IsSmooth drive w → w.caller ≡ Some c → c.at.stage ≡ Ready → IsSmooth drive (client_connected w c)
 connected_smooth drive w c kept sm there ready =
-    let u : World = connected w c in
+    let u : World = client_connected w c in
     let k = length w.links + 1 in
     let l : Link = new_link (Some (fresh c)) in
     let s : Side = side (held [] 0) Idle in
     let last : suc (length w.links) ≡ k = omega arith in
     let paired = kept.tidy.paired in
     let b = kept.booked.begun c there in
-    let free : IsFree drive (stock_of w) = subst (λ x. StandsAt x drive w c) ready (subst (λ o. StandsWith o drive w) there sm.stands) in
+    let free : IsFree drive (stock_of w) = subst (λ x. ReelsStandAt x drive w c) ready (subst (λ o. StandsWith o drive w) there sm.stands) in
     let live : side_of u.hall k ≡ Some s
     = ap (side_of u.hall) (let same : k ≡ suc (length w.hall.sides) = omega (arith, paired) in same) ∙ ap (option_and_then (λ y. y)) (numbered_last w.hall.sides (Some s)) in
     let mine : IsOwnLink u k l (fresh c) b.0 s
@@ -114,7 +114,7 @@ connected_smooth drive w c kept sm there ready =
       failure = λ volume fault is. absurd cc;
     }
 
-sent_latched : (drive : PlainDrive) (t : Stock) (k : ℕ) (b : Begun) (d : Dumping) (session : PlainSession) → IsLatched drive t k b d session
+sent_latched : (drive : PlainDriveSpec) (t : Stock) (k : ℕ) (b : Begun) (d : Dumping) (session : PlainSession) → IsLatched drive t k b d session
     → IsLatched drive t k b (noted_sent d) session
 sent_latched drive t k b d session q = record {
   name = q.name;
@@ -128,7 +128,7 @@ sent_latched drive t k b d session q = record {
 }
 
 -- how all stands does not speak of how much was sent
-sent_stands : (drive : PlainDrive) (t : Stock) (k : ℕ) (b : Begun) (d : Dumping) (session : PlainSession) (step : Step) → StandsBefore step drive t k b d session
+sent_stands : (drive : PlainDriveSpec) (t : Stock) (k : ℕ) (b : Begun) (d : Dumping) (session : PlainSession) (step : Step) → StandsBefore step drive t k b d session
     → StandsBefore step drive t k b (noted_sent d) session
 sent_stands drive t k b d session Open q = q
 sent_stands drive t k b d session Rewind q = sent_latched drive t k b d session q
@@ -139,12 +139,12 @@ sent_stands drive t k b d session (Unload next) q = sent_latched drive t k b d s
 sent_stands drive t k b d session Close q = q
 
 -- the client sends its next request
-pub asked_smooth : (drive : PlainDrive) (w : World) (k : ℕ) (c : Caller) (payload : List (List ℕ)) (step : Step) (reader : ReplyHeld) → IsKept w → IsSmooth drive w
+pub asked_smooth : (drive : PlainDriveSpec) (w : World) (k : ℕ) (c : Caller) (payload : List (List ℕ)) (step : Step) (reader : ReplyHeld) → IsWorldKept w → IsSmooth drive w
     → w.own ≡ Some k → w.caller ≡ Some c → c.at.stage ≡ ToSend step → IsSmooth drive (asked w k c payload step reader)
 asked_smooth drive w k c payload step reader kept sm mine there stage =
-    sent_by (subst (λ x. StandsAt x drive w c) stage (subst (λ o. StandsWith o drive w) there sm.stands))
+    sent_by (subst (λ x. ReelsStandAt x drive w c) stage (subst (λ o. StandsWith o drive w) there sm.stands))
   where
-    sent_by : StandsAt (ToSend step) drive w c → IsSmooth drive (asked w k c payload step reader)
+    sent_by : ReelsStandAt (ToSend step) drive w c → IsSmooth drive (asked w k c payload step reader)
     sent_by (j, l, d, b, s, own, stands) =
         let u : World = asked w j c payload step reader in
         let text = next_text c payload step in
@@ -178,7 +178,7 @@ no_way s way n (reached, unread, is) first within =
     omega (arith, size, both, first, within)
 
 -- bytes reach the server
-pub reached_smooth : (drive : PlainDrive) (w : World) (k n : ℕ) (s : Side) (l : Link) (reached : RequestHeld) → IsKept w → IsSmooth drive w → side_of w.hall k ≡ Some s
+pub reached_smooth : (drive : PlainDriveSpec) (w : World) (k n : ℕ) (s : Side) (l : Link) (reached : RequestHeld) → IsWorldKept w → IsSmooth drive w → side_of w.hall k ≡ Some s
     → link_of w k ≡ Some l → 1 ≤ n → n ≤ length l.toward → IsSmooth drive (reached_by w k n s reached)
 reached_smooth drive w k n s l reached kept sm live link first within = by_own w.own refl
   where
@@ -199,7 +199,7 @@ reached_smooth drive w k n s l reached kept sm live link first within = by_own w
           begun = own.begun;
           live = turned_here w u j y (Some z) own.live refl;
         } in
-        let at : StandsAt (Waiting step) drive u c
+        let at : ReelsStandAt (Waiting step) drive u c
         = (j, record x { toward = drop n x.toward }, d, b, z, now, inl record { back = back; stands = stands }) in
         settles drive w u j sm record {
           own = own.own;
@@ -208,11 +208,11 @@ reached_smooth drive w k n s l reached kept sm live link first within = by_own w
           here = λ a is not_own. absurd (not_own own.own);
           begun = refl;
           reels = sm.reels;
-          stands = subst (λ o. StandsWith o drive u) (sym there) (subst (λ a. StandsAt a drive u c) (sym stage) at);
+          stands = subst (λ o. StandsWith o drive u) (sym there) (subst (λ a. ReelsStandAt a drive u c) (sym stage) at);
           failure = λ volume fault is. absurd cc;
         }
 
-    by_stage : (c : Caller) (stage : Stage) → w.own ≡ Some k → w.caller ≡ Some c → c.at.stage ≡ stage → IsTrue (is_in_attempt stage) → StandsAt stage drive w c
+    by_stage : (c : Caller) (stage : Stage) → w.own ≡ Some k → w.caller ≡ Some c → c.at.stage ≡ stage → IsTrue (is_in_attempt stage) → ReelsStandAt stage drive w c
         → IsSmooth drive (reached_by w k n s reached)
     by_stage c (ToSend step) mine there stage under (j, x, d, b, y, own, stands) =
         let same : j ≡ k = same_Some j k (sym own.own ∙ mine) in

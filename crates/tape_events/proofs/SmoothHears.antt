@@ -22,14 +22,14 @@ use Rattle.dump_client.specs.declared.stage.Stage.TheVariants.{Ready, ToSend, Wa
 use Rattle.dump_client.specs.declared.stage.Progress.{Progress}
 use Rattle.dump_client.specs.declared.stage.Progress.TheVariants as moved
 use Rattle.tape_events.specs.World.{World, Link, Dumping, Begun, Caller, Count, numbered}
-use Rattle.tape_events.specs.First.{PlainDrive}
-use Rattle.tape_events.specs.Changes.{changed, side_of, link_of, over_there, counts_of, reel_of}
+use Rattle.tape_events.specs.First.{PlainDriveSpec}
+use Rattle.tape_events.specs.Changes.{changed, side_of, link_of, over_there, counts_of, reel_opened_by}
 use Rattle.tape_events.specs.Steps.{Hears, caller, heard}
-use Rattle.tape_events.specs.Kept.{IsKept}
+use Rattle.tape_events.specs.Kept.{IsWorldKept}
 use Rattle.tape_events.specs.Owning.{is_in_attempt}
 use Rattle.tape_events.specs.Sending.{AreUnserved, IsAttempt}
-use Rattle.tape_events.specs.Written.{whole_volume}
-use Rattle.tape_events.specs.Smooth.{Stock, stock_of, blanks, one_drive, volume_slot, volume_slots, volume_by, IsFree, IsMoved, IsOffline, IsOwnLink, IsAnswered, StandsBefore, StandsThen, CountsThen, Leads, StandsAt, StandsWith, FailsFaultless, IsFaultlessFailure, IsSmooth}
+use Rattle.tape_events.specs.Headline.{whole_volume}
+use Rattle.tape_events.specs.Smooth.{Stock, stock_of, blanks, one_drive, volume_slot, volume_slots, volume_by, IsFree, IsMoved, IsOffline, IsOwnLink, IsStepAnswered, StandsBefore, StandsThen, CountsThen, Leads, ReelsStandAt, StandsWith, FailsFaultless, IsFaultlessFailure, IsSmooth, attempt_on}
 use Rattle.tape_events.proofs.Numbers.{changed_is}
 use Rattle.tape_events.proofs.Booked.{Goings, drop_front}
 use Rattle.tape_events.proofs.SentWire.{OneReply, one_heard, reply_whole, reply_no_fault}
@@ -56,7 +56,7 @@ changed_links w u k f links dumps j y at = elim (changed_is f w.links k j y (ap 
 ]
 
 -- What an event on the client's own connection leaves.
-pub record Settles (drive : PlainDrive) (w u : World) (k : ℕ) : Type 0 where
+pub record Settles (drive : PlainDriveSpec) (w u : World) (k : ℕ) : Type 0 where
   pub own : w.own ≡ Some k
   pub links : LinksFrom w u k
   pub sides : (j : ℕ) → j ≢ k → side_of u.hall j ≡ side_of w.hall j
@@ -66,7 +66,7 @@ pub record Settles (drive : PlainDrive) (w u : World) (k : ℕ) : Type 0 where
   pub stands : StandsWith u.caller drive u
   pub failure : FailsFaultless drive u
 
-pub settles : (drive : PlainDrive) (w u : World) (k : ℕ) → IsSmooth drive w → Settles drive w u k → IsSmooth drive u
+pub settles : (drive : PlainDriveSpec) (w u : World) (k : ℕ) → IsSmooth drive w → Settles drive w u k → IsSmooth drive u
 settles drive w u k sm v = record {
   clients = λ j y at. (let x = v.links j y at in let d = sm.clients j x.0 x.1 in x.2 d.0 d.1);
   still = λ j y at not_own. elim (eqb_tells j k) [
@@ -97,19 +97,19 @@ back_dumps : (n : ℕ) (l : Link) (d : Dumping) → l.dump ≡ Some d → (e : D
 back_dumps n l d is = (d, is)
 
 -- What was heard, and by whom.
-record Hearing (drive : PlainDrive) (w : World) (k n : ℕ) (c : Caller) (l : Link) (d : Dumping) (b : Begun) (s : Side) (step : Step) (at : Standing) (reader : ReplyHeld) : Type 0 where
+record Hearing (drive : PlainDriveSpec) (w : World) (k n : ℕ) (c : Caller) (l : Link) (d : Dumping) (b : Begun) (s : Side) (step : Step) (at : Standing) (reader : ReplyHeld) : Type 0 where
   caller : w.caller ≡ Some c
   own : IsOwnLink w k l d b s
   attempt : IsAttempt w.begun c d step b
   served : AreUnserved (side_of w.hall k) l.toward []
 
 -- the client goes on
-goes_on : (drive : PlainDrive) (w : World) (k n : ℕ) (c : Caller) (l : Link) (d : Dumping) (b : Begun) (s : Side) (at : Standing) (reader : ReplyHeld) (progress : Progress)
+goes_on : (drive : PlainDriveSpec) (w : World) (k n : ℕ) (c : Caller) (l : Link) (d : Dumping) (b : Begun) (s : Side) (at : Standing) (reader : ReplyHeld) (progress : Progress)
     (counts : List Count) → IsSmooth drive w → IsOwnLink w k l d b s → (came : heard w k n c at reader progress ≡ heard w k n c at reader moved.Send)
     → w.counts ++ map (counts_of w c.number k) (drop (length c.at.counts) at.counts) ≡ counts
     → map (λ (x : Count). x.reel) counts ≡ take (length counts) drive.reels
     → (IsOwnLink (heard w k n c at reader moved.Send) k (record l { back = drop n l.back }) d b s
-    → StandsAt at.stage drive (heard w k n c at reader moved.Send) (caller c.number at reader))
+    → ReelsStandAt at.stage drive (heard w k n c at reader moved.Send) (caller c.number at reader))
     → IsSmooth drive (heard w k n c at reader progress)
 goes_on drive w k n c l d b s at reader progress counts sm own came are reels stands =
     let u : World = heard w k n c at reader moved.Send in
@@ -132,19 +132,19 @@ goes_on drive w k n c l d b s at reader progress counts sm own came are reels st
     })
 
 -- it goes on to a step that is not its close
-goes_to : (drive : PlainDrive) (w : World) (k n : ℕ) (c : Caller) (l : Link) (d : Dumping) (b : Begun) (s : Side) (at : Standing) (reader : ReplyHeld) (next : Step)
+goes_to : (drive : PlainDriveSpec) (w : World) (k n : ℕ) (c : Caller) (l : Link) (d : Dumping) (b : Begun) (s : Side) (at : Standing) (reader : ReplyHeld) (next : Step)
     → IsSmooth drive w → IsOwnLink w k l d b s → at.stage ≡ ToSend next → at.counts ≡ c.at.counts → StandsBefore next drive (stock_of w) k b d s.session
     → IsSmooth drive (heard w k n c at reader moved.Send)
 goes_to drive w k n c l d b s at reader next sm own stage same stands =
     let u : World = heard w k n c at reader moved.Send in
     let counts = none_counted w c.number k c.at at same in
     goes_on drive w k n c l d b s at reader moved.Send w.counts sm own refl counts sm.reels
-    (λ mine. subst (λ x. StandsAt x drive u (caller c.number at reader)) (sym stage)
+    (λ mine. subst (λ x. ReelsStandAt x drive u (caller c.number at reader)) (sym stage)
     (k, record l { back = drop n l.back }, d, b, s, mine, subst (λ cs. StandsBefore next drive (with_counts (stock_of w) cs) k b d s.session) (sym counts) stands))
 
 -- it counts its volume, and goes on to its close
-counts_now : (drive : PlainDrive) (w : World) (k n : ℕ) (c : Caller) (l : Link) (d : Dumping) (b : Begun) (s : Side) (step : Step) (at : Standing) (reader : ReplyHeld)
-    → IsKept w → IsSmooth drive w → IsOwnLink w k l d b s → IsAttempt w.begun c d step b → step ≢ Close → at.stage ≡ ToSend Close
+counts_now : (drive : PlainDriveSpec) (w : World) (k n : ℕ) (c : Caller) (l : Link) (d : Dumping) (b : Begun) (s : Side) (step : Step) (at : Standing) (reader : ReplyHeld)
+    → IsWorldKept w → IsSmooth drive w → IsOwnLink w k l d b s → IsAttempt w.begun c d step b → step ≢ Close → at.stage ≡ ToSend Close
     → at.counts ≡ counted_to c.at.counts (d.first + d.blocks) → IsMoved drive (stock_of w) k b d s.session → IsSmooth drive (heard w k n c at reader moved.Send)
 counts_now drive w k n c l d b s step at reader kept sm own attempt other stage counted q =
     let u : World = heard w k n c at reader moved.Send in
@@ -157,7 +157,7 @@ counts_now drive w k n c l d b s step at reader kept sm own attempt other stage 
     let one : drop (length c.at.counts) at.counts ≡ v ∷ [] = ap (drop (length c.at.counts)) counted ∙ drop_front c.at.counts (v ∷ []) in
     let all : w.counts ++ map (counts_of w c.number k) (drop (length c.at.counts) at.counts) ≡ w.counts ++ x ∷ []
     = ap (λ cs. w.counts ++ map (counts_of w c.number k) cs) one in
-    let reel : reel_of k w.opens ≡ q.name = reel_is k w.opens q.name q.opened ((kept.single k l d own.there own.dump).one) in
+    let reel : reel_opened_by k w.opens ≡ q.name = reel_is k w.opens q.name q.opened ((kept.single k l d own.there own.dump).one) in
     let below = next_of drive.reels (length w.counts) q.name q.others q.next in
     let size = length_push w.counts x in
     let its : numbered w.begun c.number ≡ Some b = ap (numbered w.begun) (sym attempt.number) ∙ own.begun in
@@ -166,7 +166,7 @@ counts_now drive w k n c l d b s step at reader kept sm own attempt other stage 
     ∙ ap (λ m. whole_volume b.run b.payload (checkpoint_of c.at.counts).0 (checkpoint_of c.at.counts).1 m) count ∙ ap (λ o. volume_by o x) (sym its) in
     let placed : slot q.name (Some (kept_reel (whole_volume b.run b.payload d.volume d.first d.blocks) drive.capacity)) ≡ volume_slot drive.capacity w.begun x
     = ap (λ name. slot name (Some (kept_reel (whole_volume b.run b.payload d.volume d.first d.blocks) drive.capacity))) (sym reel)
-    ∙ ap (λ entries. slot (reel_of k w.opens) (Some (kept_reel entries drive.capacity))) whole in
+    ∙ ap (λ entries. slot (reel_opened_by k w.opens) (Some (kept_reel entries drive.capacity))) whole in
     let off : IsOffline drive (with_counts (stock_of w) (w.counts ++ x ∷ [])) k s.session
     = record {
       shop = q.shop
@@ -179,9 +179,9 @@ counts_now drive w k n c l d b s step at reader kept sm own attempt other stage 
       offline = q.offline;
     } in
     goes_on drive w k n c l d b s at reader moved.Send (w.counts ++ x ∷ []) sm own refl all
-    (map-append (λ (y : Count). y.reel) w.counts (x ∷ []) ∙ ap (λ ys. ys ++ reel_of k w.opens ∷ []) sm.reels ∙ ap (λ name. take (length w.counts) drive.reels ++ name ∷ []) reel
+    (map-append (λ (y : Count). y.reel) w.counts (x ∷ []) ∙ ap (λ ys. ys ++ reel_opened_by k w.opens ∷ []) sm.reels ∙ ap (λ name. take (length w.counts) drive.reels ++ name ∷ []) reel
     ∙ sym below.0 ∙ ap (λ m. take m drive.reels) (sym size))
-    (λ mine. subst (λ y. StandsAt y drive u (caller c.number at reader)) (sym stage)
+    (λ mine. subst (λ y. ReelsStandAt y drive u (caller c.number at reader)) (sym stage)
     (k, record l { back = drop n l.back }, d, b, s, mine, subst (λ cs. IsOffline drive (with_counts (stock_of w) cs) k s.session) (sym all) off))
 
 -- what was on the way to the server is so still
@@ -205,7 +205,7 @@ over_links w u k n links j y at =
     ]
 
 -- the attempt is over
-is_over : (drive : PlainDrive) (w u : World) (k n : ℕ) (l : Link) (d : Dumping) (b : Begun) (s : Side) → IsSmooth drive w → IsOwnLink w k l d b s
+is_over : (drive : PlainDriveSpec) (w u : World) (k n : ℕ) (l : Link) (d : Dumping) (b : Begun) (s : Side) → IsSmooth drive w → IsOwnLink w k l d b s
     → AreUnserved (side_of w.hall k) l.toward [] → u.hall ≡ w.hall → u.links ≡ changed over_there (changed (λ x. record x { back = drop n x.back }) w.links k) k → u.begun ≡ w.begun
     → u.counts ≡ w.counts → StandsWith u.caller drive u → FailsFaultless drive u → IsSmooth drive u
 is_over drive w u k n l d b s sm own served hall links begun counts stands failure = settles drive w u k sm record {
@@ -223,14 +223,14 @@ is_over drive w u k n l d b s sm own served hall links begun counts stands failu
 }
 
 -- it failed
-has_failed : (drive : PlainDrive) (w : World) (k n : ℕ) (c : Caller) (l : Link) (d : Dumping) (b : Begun) (s : Side) (step : Step) (at : Standing) (reader : ReplyHeld) (fault : AttemptFault)
+has_failed : (drive : PlainDriveSpec) (w : World) (k n : ℕ) (c : Caller) (l : Link) (d : Dumping) (b : Begun) (s : Side) (step : Step) (at : Standing) (reader : ReplyHeld) (fault : AttemptFault)
     → IsSmooth drive w → IsOwnLink w k l d b s → AreUnserved (side_of w.hall k) l.toward [] → at.stage ≡ Asking → at.counts ≡ c.at.counts → b.run ≡ at.run
     → IsFaultlessFailure drive.capacity b.run fault → w.hall.shop.bin ≡ volume_slots drive (stock_of w) → IsSmooth drive (heard w k n c at reader (moved.Failed fault))
 has_failed drive w k n c l d b s step at reader fault sm own served stage same run why bin =
     let u : World = heard w k n c at reader (moved.Failed fault) in
     let counts = none_counted w c.number k c.at at same in
     is_over drive w u k n l d b s sm own served refl refl refl counts
-    (subst (λ x. StandsAt x drive u (caller c.number at reader)) (sym stage)
+    (subst (λ x. ReelsStandAt x drive u (caller c.number at reader)) (sym stage)
     (subst (λ cs. w.hall.shop.bin ≡ volume_slots drive (with_counts (stock_of w) cs)) (sym counts) bin))
     (λ volume other is. (
       caller c.number at reader,
@@ -240,20 +240,20 @@ has_failed drive w k n c l d b s step at reader fault sm own served stage same r
     ))
 
 -- it ended
-has_ended : (drive : PlainDrive) (w : World) (k n : ℕ) (c : Caller) (l : Link) (d : Dumping) (b : Begun) (s : Side) (at : Standing) (reader : ReplyHeld) (stage : Stage)
+has_ended : (drive : PlainDriveSpec) (w : World) (k n : ℕ) (c : Caller) (l : Link) (d : Dumping) (b : Begun) (s : Side) (at : Standing) (reader : ReplyHeld) (stage : Stage)
     → IsSmooth drive w → IsOwnLink w k l d b s → AreUnserved (side_of w.hall k) l.toward [] → at.stage ≡ stage → at.counts ≡ c.at.counts
-    → ((u : World) (x : Caller) → IsFree drive (stock_of u) → StandsAt stage drive u x) → IsFree drive (stock_of w) → IsSmooth drive (heard w k n c at reader moved.Ended)
+    → ((u : World) (x : Caller) → IsFree drive (stock_of u) → ReelsStandAt stage drive u x) → IsFree drive (stock_of w) → IsSmooth drive (heard w k n c at reader moved.Ended)
 has_ended drive w k n c l d b s at reader stage sm own served is same stands free =
     let u : World = heard w k n c at reader moved.Ended in
     let counts = none_counted w c.number k c.at at same in
     is_over drive w u k n l d b s sm own served refl refl refl counts
-    (subst (λ x. StandsAt x drive u (caller c.number at reader)) (sym is)
+    (subst (λ x. ReelsStandAt x drive u (caller c.number at reader)) (sym is)
     (stands u (caller c.number at reader) (subst (λ cs. IsFree drive (with_counts (stock_of w) cs)) (sym counts) free)))
     (λ volume fault failed. absurd cc)
 
 -- by what came of it
-by_then : (drive : PlainDrive) (w : World) (k n : ℕ) (c : Caller) (l : Link) (d : Dumping) (b : Begun) (s : Side) (step : Step) (at : Standing) (reader : ReplyHeld)
-    (progress : Progress) (stage : Stage) → IsKept w → IsSmooth drive w → IsOwnLink w k l d b s → IsAttempt w.begun c d step b → AreUnserved (side_of w.hall k) l.toward []
+by_then : (drive : PlainDriveSpec) (w : World) (k n : ℕ) (c : Caller) (l : Link) (d : Dumping) (b : Begun) (s : Side) (step : Step) (at : Standing) (reader : ReplyHeld)
+    (progress : Progress) (stage : Stage) → IsWorldKept w → IsSmooth drive w → IsOwnLink w k l d b s → IsAttempt w.begun c d step b → AreUnserved (side_of w.hall k) l.toward []
     → ((next : Step) → at.stage ≡ ToSend next → step ≢ Close) → b.run ≡ at.run → at.stage ≡ stage → StandsThen progress stage drive (stock_of w) k b d s.session
     → CountsThen stage c.at.counts d at.counts → IsSmooth drive (heard w k n c at reader progress)
 by_then drive w k n c l d b s step at reader moved.Send (ToSend Close) kept sm own attempt served early run is stands counts =
@@ -294,15 +294,15 @@ by_then drive w k n c l d b s step at reader moved.Idle stage kept sm own attemp
 by_then drive w k n c l d b s step at reader moved.Waiting stage kept sm own attempt served early run is stands counts = absurd stands
 
 -- it waits for more
-waits_on : (drive : PlainDrive) (w : World) (k n : ℕ) (c : Caller) (l : Link) (d : Dumping) (b : Begun) (s : Side) (step : Step) (at : Standing) (reader : ReplyHeld)
-    (bytes : List ℕ) → IsSmooth drive w → IsOwnLink w k l d b s → (a : IsAnswered drive w k l c d b s step) → c.at.stage ≡ Waiting step → at ≡ c.at
+waits_on : (drive : PlainDriveSpec) (w : World) (k n : ℕ) (c : Caller) (l : Link) (d : Dumping) (b : Begun) (s : Side) (step : Step) (at : Standing) (reader : ReplyHeld)
+    (bytes : List ℕ) → IsSmooth drive w → IsOwnLink w k l d b s → (a : IsStepAnswered drive w (attempt_on k b d s.session) l c step) → c.at.stage ≡ Waiting step → at ≡ c.at
     → reply_text a.reply ≡ bytes ++ drop n l.back → HasFedAt at.stage reader (unanswered at.stage bytes) → IsSmooth drive (heard w k n c at reader moved.Waiting)
 waits_on drive w k n c l d b s step at reader bytes sm own a was same text has =
     let u : World = heard w k n c at reader moved.Send in
     let stage : at.stage ≡ Waiting step = ap (λ (x : Standing). x.stage) same ∙ was in
     let counts = none_counted w c.number k c.at at (ap (λ (x : Standing). x.counts) same) in
     goes_on drive w k n c l d b s at reader moved.Waiting w.counts sm own refl counts sm.reels
-    (λ mine. subst (λ x. StandsAt x drive u (caller c.number at reader)) (sym stage) (
+    (λ mine. subst (λ x. ReelsStandAt x drive u (caller c.number at reader)) (sym stage) (
       k,
       record l { back = drop n l.back },
       d,
@@ -317,15 +317,15 @@ waits_on drive w k n c l d b s step at reader bytes sm own a was same text has =
         text = sym text;
         brief = a.brief;
         bin = (a.bin.0, subst (λ cs. w.hall.shop.bin ≡ volume_slots drive (with_counts (stock_of w) cs) ++ a.bin.0) (sym counts) a.bin.1);
-        leads = subst (λ x. Leads drive (stock_of u) k x b d s.session step a.reply) (sym same)
-            (subst (λ cs. Leads drive (with_counts (stock_of w) cs) k c.at b d s.session step a.reply) (sym counts) a.leads);
+        leads = subst (λ x. Leads drive (stock_of u) (attempt_on k b d s.session) x step a.reply) (sym same)
+            (subst (λ cs. Leads drive (with_counts (stock_of w) cs) (attempt_on k b d s.session) c.at step a.reply) (sym counts) a.leads);
       },
     ))
 
 -- by what its reader makes of the bytes
-makes_smooth : OneReply → (drive : PlainDrive) (w : World) (k n : ℕ) (c : Caller) (l : Link) (d : Dumping) (b : Begun) (s : Side) (step : Step) (at : Standing) (reader : ReplyHeld)
-    (bytes rest : List ℕ) (progress : Progress) (seen : Result (Option PlainReply) WireFault) → IsKept w → IsSmooth drive w → IsOwnLink w k l d b s → IsAttempt w.begun c d step b
-    → (a : IsAnswered drive w k l c d b s step) → c.at.stage ≡ Waiting step → at.run ≡ c.at.run → reply_text a.reply ≡ bytes ++ drop n l.back
+makes_smooth : OneReply → (drive : PlainDriveSpec) (w : World) (k n : ℕ) (c : Caller) (l : Link) (d : Dumping) (b : Begun) (s : Side) (step : Step) (at : Standing) (reader : ReplyHeld)
+    (bytes rest : List ℕ) (progress : Progress) (seen : Result (Option PlainReply) WireFault) → IsWorldKept w → IsSmooth drive w → IsOwnLink w k l d b s → IsAttempt w.begun c d step b
+    → (a : IsStepAnswered drive w (attempt_on k b d s.session) l c step) → c.at.stage ≡ Waiting step → at.run ≡ c.at.run → reply_text a.reply ≡ bytes ++ drop n l.back
     → ReplyGives (Some Number) bytes seen rest → Makes c.at step bytes seen rest progress at → HasFedAt at.stage reader (unanswered at.stage bytes)
     → IsSmooth drive (heard w k n c at reader progress)
 makes_smooth g drive w k n c l d b s step at reader bytes rest progress (Ok None) kept sm own attempt a was run text gives (moves, same) has =
@@ -341,9 +341,9 @@ makes_smooth g drive w k n c l d b s step at reader bytes rest progress (Err fau
     absurd (reply_no_fault Number (reply_text a.reply) bytes (drop n l.back) rest a.reply fault a.brief.spelled text gives)
 
 -- what reached the client that waits
-fed_smooth : OneReply → Goings → (drive : PlainDrive) (w : World) (k n : ℕ) (c : Caller) (l : Link) (d : Dumping) (b : Begun) (s : Side) (step : Step) (at : Standing)
-    (reader : ReplyHeld) (fed : List ℕ) (progress : Progress) → IsKept w → IsSmooth drive w → IsOwnLink w k l d b s → IsAttempt w.begun c d step b
-    → IsAnswered drive w k l c d b s step → c.at.stage ≡ Waiting step → HasFedAt (Waiting step) c.reader fed
+fed_smooth : OneReply → Goings → (drive : PlainDriveSpec) (w : World) (k n : ℕ) (c : Caller) (l : Link) (d : Dumping) (b : Begun) (s : Side) (step : Step) (at : Standing)
+    (reader : ReplyHeld) (fed : List ℕ) (progress : Progress) → IsWorldKept w → IsSmooth drive w → IsOwnLink w k l d b s → IsAttempt w.begun c d step b
+    → IsStepAnswered drive w (attempt_on k b d s.session) l c step → c.at.stage ≡ Waiting step → HasFedAt (Waiting step) c.reader fed
     → FedAt c.at.stage c.at fed (take n l.back) progress at → FedAt (Waiting step) c.at fed (take n l.back) progress at
     → HasFedAt at.stage reader (unanswered at.stage (fed ++ take n l.back)) → IsSmooth drive (heard w k n c at reader progress)
 fed_smooth g o drive w k n c l d b s step at reader fed progress kept sm own attempt a was had feeds (seen, rest, gives, makes) has =
@@ -356,9 +356,9 @@ fed_smooth g o drive w k n c l d b s step at reader fed progress kept sm own att
     makes_smooth g drive w k n c l d b s step at reader (fed ++ take n l.back) rest progress seen kept sm own attempt a was
     ((o.0 c.at at fed (take n l.back) progress feeds).1.run) text gives makes has
 
-stage_hears : OneReply → Goings → (drive : PlainDrive) (w : World) (k n : ℕ) (l : Link) (c : Caller) (stage : Stage) (at : Standing) (reader : ReplyHeld) (fed : List ℕ)
-    (progress : Progress) → IsKept w → IsSmooth drive w → w.caller ≡ Some c → c.at.stage ≡ stage → w.own ≡ Some k → IsTrue (is_in_attempt stage) → link_of w k ≡ Some l
-    → 1 ≤ n → n ≤ length l.back → StandsAt stage drive w c → HasFedAt c.at.stage c.reader fed → FedAt c.at.stage c.at fed (take n l.back) progress at
+stage_hears : OneReply → Goings → (drive : PlainDriveSpec) (w : World) (k n : ℕ) (l : Link) (c : Caller) (stage : Stage) (at : Standing) (reader : ReplyHeld) (fed : List ℕ)
+    (progress : Progress) → IsWorldKept w → IsSmooth drive w → w.caller ≡ Some c → c.at.stage ≡ stage → w.own ≡ Some k → IsTrue (is_in_attempt stage) → link_of w k ≡ Some l
+    → 1 ≤ n → n ≤ length l.back → ReelsStandAt stage drive w c → HasFedAt c.at.stage c.reader fed → FedAt c.at.stage c.at fed (take n l.back) progress at
     → HasFedAt at.stage reader (unanswered at.stage (fed ++ take n l.back)) → IsSmooth drive (heard w k n c at reader progress)
 stage_hears g o drive w k n l c (ToSend step) at reader fed progress kept sm there is mine under link first within (j, x, d, b, s, own, stands) had feeds has =
     let same : j ≡ k = same_Some j k (sym own.own ∙ mine) in
@@ -385,7 +385,7 @@ stage_hears g o drive w k n l c Finished at reader fed progress kept sm there is
 stage_hears g o drive w k n l c Abandoned at reader fed progress kept sm there is mine under link first within stands had feeds has = absurd cc
 
 -- Bytes reach the side that is not the server's: on this link it is the client.
-pub hears_smooth : OneReply → Goings → (dump : Option Dumping) (drive : PlainDrive) (w u : World) (k n : ℕ) (l : Link) → IsKept w → IsSmooth drive w → link_of w k ≡ Some l
+pub hears_smooth : OneReply → Goings → (dump : Option Dumping) (drive : PlainDriveSpec) (w u : World) (k n : ℕ) (l : Link) → IsWorldKept w → IsSmooth drive w → link_of w k ≡ Some l
     → IsTrue l.other → l.dump ≡ dump → 1 ≤ n → n ≤ length l.back → Hears dump w k n (take n l.back) u → IsSmooth drive u
 hears_smooth g o None drive w u k n l kept sm at other dump first within hears =
     let d = sm.clients k l at in

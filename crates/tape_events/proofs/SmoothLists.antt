@@ -1,15 +1,14 @@
 -- Reels of a stack by their places, and the reels of counts.
 use Rattle.std.proofs.Common.{◌≡◌, ℕ, zero, suc, ◌==◌, if◌then◌else◌, Bool, true, false, inl, inr, List, [], ◌∷◌, ◌++◌, length, length-append, map, take, drop, Some, Contains, refl, sym, ap, ◌∙◌, arith}
-use Rattle.std.specs.Prelude.{slice_get}
+use Rattle.std.specs.Prelude.{slice_get, ◌+◌, get_or}
 use Rattle.std.proofs.lemmas.List.Elements.{Contains-append_right, Contains-append_cases, Contains-push_cases}
 use Rattle.std.proofs.lemmas.Bool.Decides.{eqb_tells}
 use Rattle.std.proofs.lemmas.Option.{same_Some}
 use Rattle.tape.specs.Tape.PlainEntry.{Record}
-use Rattle.std.specs.Prelude.{◌+◌, get_or}
 use Rattle.drives.specs.Shop.{names_of}
 use Rattle.tape_events.specs.World.{Begun, Count, Opening}
-use Rattle.tape_events.specs.Changes.{opening, reel_of}
-use Rattle.tape_events.specs.Written.{block_records}
+use Rattle.tape_events.specs.Changes.{opening, reel_opened_by}
+use Rattle.tape_events.specs.Headline.{block_records}
 use Rattle.tape_events.specs.Smooth.{volume_slot}
 
 -- one reel further down the stack
@@ -54,7 +53,7 @@ blocks_more payload first (suc count) =
 -- the reel of the connection that opened this one, and no other
 reel_first : (k : ℕ) (o : Opening) (rest : List Opening) (name : List ℕ) (b : Bool) → (o.connection == k) ≡ b → Contains (o ∷ rest) (opening k name)
     → ((p q : Opening) → Contains (o ∷ rest) p → Contains (o ∷ rest) q → p.connection ≡ k → q.connection ≡ k → p.reel ≡ q.reel)
-    → (Contains rest (opening k name) → reel_of k rest ≡ name) → (if b then o.reel else reel_of k rest) ≡ name
+    → (Contains rest (opening k name) → reel_opened_by k rest ≡ name) → (if b then o.reel else reel_opened_by k rest) ≡ name
 reel_first k o rest name true test among one on = elim (eqb_tells o.connection k) [
   | inl (equal, same) ↦ one o (opening k name) (0, omega arith, refl) among same refl
   | inr (unequal, other) ↦ (let clash = sym test ∙ unequal in absurd cc)
@@ -71,7 +70,7 @@ reel_first k o rest name false test among one on = elim (Contains-append_cases (
 ]
 
 pub reel_is : (k : ℕ) (opens : List Opening) (name : List ℕ) → Contains opens (opening k name)
-    → ((p q : Opening) → Contains opens p → Contains opens q → p.connection ≡ k → q.connection ≡ k → p.reel ≡ q.reel) → reel_of k opens ≡ name
+    → ((p q : Opening) → Contains opens p → Contains opens q → p.connection ≡ k → q.connection ≡ k → p.reel ≡ q.reel) → reel_opened_by k opens ≡ name
 reel_is k [] name (i, within, is) one = absurd (omega (arith, within))
 reel_is k (o ∷ rest) name among one =
     reel_first k o rest name (o.connection == k) refl among one

@@ -14,12 +14,12 @@ use Rattle.dump_client.specs.declared.stage.Stage.TheVariants.{Ready, ToSend, Wa
 use Rattle.tape_events.specs.World.{World, Link, Begun, Caller, Count, numbered}
 use Rattle.tape_events.specs.Events.{PlainEvent}
 use Rattle.tape_events.specs.Events.PlainEvent.{StartRun, Connect, Send, ToServer, Serve, ToClient, Cut, EndAtServer, EndAtClient, ServerRestart, ClientRestart, Respond, Arrange, Stranger, Says, Enter}
-use Rattle.tape_events.specs.First.{PlainDrive, AreGoodDrives, first_world}
+use Rattle.tape_events.specs.First.{PlainDriveSpec, AreGoodDrives, first_world}
 use Rattle.tape_events.specs.Steps.{Happens, Runs, none, one_more, is_failing, Sends, Finds}
-use Rattle.tape_events.specs.Kept.{IsKept, AreHeld, AreLaid}
-use Rattle.tape_events.specs.Standing.{LiesIn, StandsOn}
-use Rattle.tape_events.specs.Written.{whole_volume}
-use Rattle.tape_events.specs.Smooth.{IsFaultless, AreFaultless, IsSmooth, is_between, VolumesInOrder, StandsAt, StandsWith, stock_of, volume_by, volume_slot, volume_slots}
+use Rattle.tape_events.specs.Kept.{IsWorldKept, AreLaid}
+use Rattle.tape_events.specs.Standing.{AreHeld, ReelLiesIn, StandsOn}
+use Rattle.tape_events.specs.Headline.{whole_volume}
+use Rattle.tape_events.specs.Smooth.{IsFaultless, AreFaultless, IsSmooth, is_between, VolumesInOrder, ReelsStandAt, StandsWith, stock_of, volume_by, volume_slot, volume_slots}
 use Rattle.tape_events.proofs.Booked.{among_at}
 use Rattle.tape_events.proofs.LabelledNames.{stands_one}
 use Rattle.tape_events.proofs.Staying.{Laws, first_kept, kept_after}
@@ -33,7 +33,7 @@ no_number : {X : Type 0} (k : ℕ) (x : X) → numbered {X = X} [] k ≡ Some x 
 no_number zero x is = cc
 no_number (suc k) x is = cc
 
-pub first_smooth : (drive : PlainDrive) → IsSmooth drive (first_world (drive ∷ []))
+pub first_smooth : (drive : PlainDriveSpec) → IsSmooth drive (first_world (drive ∷ []))
 first_smooth drive = record {
   clients = λ j l at. absurd (no_number j l at);
   still = λ j l at not_own. absurd (no_number j l at);
@@ -42,7 +42,7 @@ first_smooth drive = record {
   failure = λ volume fault is. absurd cc;
 }
 
-pub smooth_after : Laws → (drive : PlainDrive) (w u : World) (event : PlainEvent) → IsKept w → IsSmooth drive w → IsFaultless event → Happens w event u → IsSmooth drive u
+pub smooth_after : Laws → (drive : PlainDriveSpec) (w u : World) (event : PlainEvent) → IsWorldKept w → IsSmooth drive w → IsFaultless event → Happens w event u → IsSmooth drive u
 smooth_after g drive w u (StartRun run payload) kept sm whole ((idle, good, size), (reader, is)) =
     subst (IsSmooth drive) (sym is) (begun_smooth drive w run payload reader kept sm idle)
 smooth_after g drive w u Connect kept sm whole (may, (c, there, ready, is)) = subst (IsSmooth drive) (sym is) (connected_smooth drive w c kept sm there ready)
@@ -76,8 +76,8 @@ last_faultless [] event whole = (tt, whole.0)
 last_faultless (e ∷ events) event whole = let on = last_faultless events event whole.1 in ((whole.0, on.0), on.1)
 
 -- after every list of events without a fault
-pub runs_smooth : Laws → (drive : PlainDrive) (first w : World) (events : List PlainEvent) → IsKept first → IsSmooth drive first → AreFaultless events → Runs first events w
-    → IsKept w × IsSmooth drive w
+pub runs_smooth : Laws → (drive : PlainDriveSpec) (first w : World) (events : List PlainEvent) → IsWorldKept first → IsSmooth drive first → AreFaultless events → Runs first events w
+    → IsWorldKept w × IsSmooth drive w
 runs_smooth g drive first w events kept sm whole none = (kept, sm)
 runs_smooth g drive first w all kept sm whole (one_more {events = events} {before = before} event run happens) =
     let parts = last_faultless events event whole in
@@ -85,7 +85,7 @@ runs_smooth g drive first w all kept sm whole (one_more {events = events} {befor
     (kept_after g before w event was.0 happens, smooth_after g drive before w event was.0 was.1 parts.1 happens)
 
 -- the reels of the counts come first in the bin
-bin_at : (drive : PlainDrive) (w : World) (c : Caller) (stage : Stage) → StandsAt stage drive w c → Behind (volume_slots drive (stock_of w)) w.hall.shop.bin
+bin_at : (drive : PlainDriveSpec) (w : World) (c : Caller) (stage : Stage) → ReelsStandAt stage drive w c → Behind (volume_slots drive (stock_of w)) w.hall.shop.bin
 bin_at drive w c (ToSend step) (k, l, d, b, s, own, stands) =
     same_bin (volume_slots drive (stock_of w)) w.hall.shop.bin (before_bin drive (stock_of w) k b d s.session step stands)
 bin_at drive w c (Waiting step) (k, l, d, b, s, own, inl un) =
@@ -96,13 +96,13 @@ bin_at drive w c Finished free = same_bin (volume_slots drive (stock_of w)) w.ha
 bin_at drive w c Asking bin = same_bin (volume_slots drive (stock_of w)) w.hall.shop.bin bin
 bin_at drive w c Abandoned never = absurd never
 
-bin_with : (drive : PlainDrive) (w : World) (o : Option Caller) → StandsWith o drive w → Behind (volume_slots drive (stock_of w)) w.hall.shop.bin
+bin_with : (drive : PlainDriveSpec) (w : World) (o : Option Caller) → StandsWith o drive w → Behind (volume_slots drive (stock_of w)) w.hall.shop.bin
 bin_with drive w None free = same_bin (volume_slots drive (stock_of w)) w.hall.shop.bin (ap (λ (x : Shop). x.bin) free.shop)
 bin_with drive w (Some c) stands = bin_at drive w c c.at.stage stands
 
 -- the reel of a count lies there with its volume
 count_lies : (capacity : ℕ) (begun : List Begun) (counts : List Count) (more : List (Slot KeptReel)) (i : ℕ) (x : Count) (b : Begun) → slice_get counts i ≡ Some x
-    → numbered begun x.run ≡ Some b → LiesIn (map (volume_slot capacity begun) counts ++ more) x.reel (whole_volume b.run b.payload x.volume x.first x.count)
+    → numbered begun x.run ≡ Some b → ReelLiesIn (map (volume_slot capacity begun) counts ++ more) x.reel (whole_volume b.run b.payload x.volume x.first x.count)
 count_lies capacity begun [] more i x b at is = absurd cc
 count_lies capacity begun (y ∷ counts) more zero x b at is =
     let same : y ≡ x = same_Some y x at in
@@ -115,7 +115,7 @@ count_lies capacity begun (y ∷ counts) more zero x b at is =
 count_lies capacity begun (y ∷ counts) more (suc i) x b at is = inr (count_lies capacity begun counts more i x b at is)
 
 -- a reel of that name lies there
-lies_named : (xs : List (Slot KeptReel)) (name : List ℕ) (entries : List PlainEntry) → LiesIn xs name entries → 0 < sum_by (named name) xs
+lies_named : (xs : List (Slot KeptReel)) (name : List ℕ) (entries : List PlainEntry) → ReelLiesIn xs name entries → 0 < sum_by (named name) xs
 lies_named [] name entries lies = absurd lies
 lies_named (x ∷ xs) name entries (inl here) =
     let one : named name x ≡ 1 = ap bit ((bytes_eq-Decides name x.name).1 (sym here.named)) in
@@ -127,7 +127,7 @@ lies_named (x ∷ xs) name entries (inr rest) =
     omega (arith, some, all)
 
 -- no two reels of one name lie there
-one_lies : (xs : List (Slot KeptReel)) (name : List ℕ) (entries other : List PlainEntry) → sum_by (named name) xs ≤ 1 → LiesIn xs name entries → LiesIn xs name other
+one_lies : (xs : List (Slot KeptReel)) (name : List ℕ) (entries other : List PlainEntry) → sum_by (named name) xs ≤ 1 → ReelLiesIn xs name entries → ReelLiesIn xs name other
     → other ≡ entries
 one_lies [] name entries other few one two = absurd one
 one_lies (x ∷ xs) name entries other few (inl one) (inl two) =
@@ -147,13 +147,13 @@ one_lies (x ∷ xs) name entries other few (inr one) (inr two) =
     let all = sum_by-cons (named name) x xs in
     one_lies xs name entries other (omega (arith, all, few)) one two
 
-rack_there : (racks : List (Rack KeptReel)) (d : ℕ) (name : List ℕ) (entries : List PlainEntry) → LiesIn (slice_index_or racks d (rack [] [])).stack name entries → d < length racks
+rack_there : (racks : List (Rack KeptReel)) (d : ℕ) (name : List ℕ) (entries : List PlainEntry) → ReelLiesIn (slice_index_or racks d (rack [] [])).stack name entries → d < length racks
 rack_there [] d name entries lies = absurd lies
 rack_there (r ∷ racks) zero name entries lies = omega arith
 rack_there (r ∷ racks) (suc d) name entries lies = let on = rack_there racks d name entries lies in omega (arith, on)
 
 -- what lies in the bin stands nowhere else
-bin_alone : (h : Hall) (name : List ℕ) (entries other : List PlainEntry) → AreHeld h → AreLaid h → EachReelOnce h.shop → LiesIn h.shop.bin name entries → StandsOn h name other
+bin_alone : (h : Hall) (name : List ℕ) (entries other : List PlainEntry) → AreHeld h → AreLaid h → EachReelOnce h.shop → ReelLiesIn h.shop.bin name entries → StandsOn h name other
     → other ≡ entries
 bin_alone h name entries other held laid once lies (inl (inl (d, two))) =
     let t = with_rack h.shop d (rack [] []) in
@@ -172,7 +172,7 @@ bin_alone h name entries other held laid once lies (inl (inr two)) =
 bin_alone h name entries other held laid once lies (inr (k, s, at, (drive, access, reel, online, first, holds))) =
     sym holds ∙ sym (stands_one h k s drive access reel name entries at online first held laid once (inl (inr lies)))
 
-between_names : (drive : PlainDrive) (w : World) (c : Caller) (stage : Stage) → is_between stage ≡ true → StandsAt stage drive w c
+between_names : (drive : PlainDriveSpec) (w : World) (c : Caller) (stage : Stage) → is_between stage ≡ true → ReelsStandAt stage drive w c
     → names_of w.hall.shop.bin ≡ map (λ (x : Count). x.reel) w.counts
 between_names drive w c Ready is free = ap (λ (x : Shop). names_of x.bin) free.shop ∙ slot_names drive.capacity w.begun w.counts
 between_names drive w c Finished is free = ap (λ (x : Shop). names_of x.bin) free.shop ∙ slot_names drive.capacity w.begun w.counts
@@ -182,14 +182,14 @@ between_names drive w c Asking is stands = absurd cc
 between_names drive w c Abandoned is stands = absurd cc
 
 -- the volumes are in order
-pub in_order : (drive : PlainDrive) (w : World) → IsKept w → IsSmooth drive w → VolumesInOrder drive w
+pub in_order : (drive : PlainDriveSpec) (w : World) → IsWorldKept w → IsSmooth drive w → VolumesInOrder drive w
 in_order drive w kept sm = record {
   failure = sm.failure;
   reels = λ i x at. (
       let e = kept.counted x (among_at w.counts (suc i) x at) in
       let b = e.2 in
       let bin = bin_with drive w w.caller sm.stands in
-      let lies = subst (λ l. LiesIn l x.reel (whole_volume b.run b.payload x.volume x.first x.count)) (sym bin.1)
+      let lies = subst (λ l. ReelLiesIn l x.reel (whole_volume b.run b.payload x.volume x.first x.count)) (sym bin.1)
       (count_lies drive.capacity w.begun w.counts bin.0 i x b at e.3.begun) in (
         count_reel w.counts drive.reels i x sm.reels at,
         record {
@@ -202,7 +202,7 @@ in_order drive w kept sm = record {
   bin = λ (c, there, between). between_names drive w c c.at.stage between (subst (λ o. StandsWith o drive w) there sm.stands);
 }
 
-pub runs_in_order : Laws → (drive : PlainDrive) (events : List PlainEvent) (w : World) → AreGoodDrives (drive ∷ []) → AreFaultless events
+pub runs_in_order : Laws → (drive : PlainDriveSpec) (events : List PlainEvent) (w : World) → AreGoodDrives (drive ∷ []) → AreFaultless events
     → Runs (first_world (drive ∷ [])) events w → VolumesInOrder drive w
 runs_in_order g drive events w good whole run =
     let both = runs_smooth g drive (first_world (drive ∷ [])) w events (first_kept (drive ∷ []) good) (first_smooth drive) whole run in

@@ -5,7 +5,8 @@ use Rattle.std.proofs.lemmas.Option.{same_Some}
 use Rattle.std.proofs.lemmas.List.{append-nil}
 use Rattle.std.proofs.lemmas.List.Sums.{sum_by-append, sum_by-cons}
 use Rattle.std.proofs.lemmas.Slice.Eq.{bytes_eq-Decides}
-use Rattle.tape.specs.Tape.{PlainEntry, Tape, tape, TapeAnswer, offset_of, entries_of, record_limit}
+use Rattle.tape.specs.Tape.{PlainEntry, Tape, tape, TapeAnswer, offset_of, entries_of}
+use Rattle.rmt_wire.specs.declared.limits.TheConstants.{RECORD_LIMIT}
 use Rattle.tape.specs.Tape.PlainEntry.{Record, Mark}
 use Rattle.tape.specs.Tape.TapeAnswer.{Done as Did, Gave, Fault}
 use Rattle.tape.specs.Trouble.{DeviceStep}
@@ -15,6 +16,9 @@ use Rattle.rmt_wire.specs.Request.{PlainRequest}
 use Rattle.rmt_wire.specs.Request.PlainRequest.{Open, Close, Write, Op}
 use Rattle.rmt_wire.specs.Reply.{PlainReply}
 use Rattle.rmt_wire.specs.Reply.PlainReply.{Done, Error}
+use Rattle.rmt_wire.specs.declared.errno.TheConstants.{ENOENT, ENOMEM, ENXIO}
+use Rattle.rmt_wire.specs.declared.fcntl.TheConstants.{O_RDWR}
+use Rattle.rmt_wire.specs.declared.mtio.TheConstants.{MTOFFL, MTREW, MTWEOF}
 use Rattle.drives.specs.declared.fault.DriveFault.TheVariants.{NoSuchDrive, Busy as Taken, NoReel, Device, OutOfMemory, NameTaken}
 use Rattle.drives.specs.Shop.{KeptReel, kept_reel, Slot, slot, Shop, EachReelOnce, times, names_in, names_of, IsNameInBin, slots_in, waiting_reel, after_latch, after_offline, latched_at}
 use Rattle.drives.proofs.Shops.{bit, named, times_named}
@@ -23,7 +27,7 @@ use Rattle.rmt_server.specs.Refusals.{refused, tape_refusal}
 use Rattle.rmt_server.specs.Session.{PlainReel, plain_reel, Scene, scene, tape_request, reel_reply}
 use Rattle.rmt_server.specs.Session.PlainSession.{Idle, Offline, Online}
 use Rattle.rmt_server.specs.TroubledServe.{holder_of, TroubledServeStep, TroubledReelStep, TroubledDoneStep}
-use Rattle.tape_events.specs.First.{PlainDrive}
+use Rattle.tape_events.specs.First.{PlainDriveSpec}
 use Rattle.tape_events.specs.Smooth.{blanks, one_drive}
 
 -- no drive, no reel or no memory
@@ -31,14 +35,14 @@ pub record IsTurnedDown (reply : PlainReply) : Type 0 where
   pub number : ℕ
   pub words : List ℕ
   pub is : reply ≡ Error number words
-  pub why : (number ≡ 2) ⊎ (number ≡ 6) ⊎ (number ≡ 12)
+  pub why : (number ≡ ENOENT) ⊎ (number ≡ ENXIO) ⊎ (number ≡ ENOMEM)
 
 -- want of memory
 abbrev pub IsScarce : PlainReply → Type 0
-IsScarce reply = (words : List ℕ) × (reply ≡ Error 12 words)
+IsScarce reply = (words : List ℕ) × (reply ≡ Error ENOMEM words)
 
 -- the open took the next reel, or left all as it was
-pub record Opened (drive : PlainDrive) (names : List (List ℕ)) (bin : List (Slot KeptReel)) (reply : PlainReply) (after : Scene) : Type 0 where
+pub record Opened (drive : PlainDriveSpec) (names : List (List ℕ)) (bin : List (Slot KeptReel)) (reply : PlainReply) (after : Scene) : Type 0 where
   pub name : List ℕ
   pub others : List (List ℕ)
   pub next : names ≡ name ∷ others
@@ -51,11 +55,11 @@ pub record Refused (before : Shop) (reply : PlainReply) (after : Scene) : Type 0
   pub shop : after.shop ≡ before
   pub idle : after.session ≡ Idle
 
-refused_as : (before : Shop) (reply : PlainReply) (after : Scene) (n : ℕ) (words : List ℕ) → reply ≡ Error n words → (n ≡ 2) ⊎ (n ≡ 6) ⊎ (n ≡ 12) → after.shop ≡ before
+refused_as : (before : Shop) (reply : PlainReply) (after : Scene) (n : ℕ) (words : List ℕ) → reply ≡ Error n words → (n ≡ ENOENT) ⊎ (n ≡ ENXIO) ⊎ (n ≡ ENOMEM) → after.shop ≡ before
     → after.session ≡ Idle → Refused before reply after
 refused_as before reply after n words is why shop session = record { replies = record { number = n; words = words; is = is; why = why }; shop = shop; idle = session }
 
-opens_next : (drive : PlainDrive) (names : List (List ℕ)) (bin : List (Slot KeptReel)) (reply : PlainReply) (after : Scene) (reel : PlainReel) (first : KeptReel) → reply ≡ Done 0
+opens_next : (drive : PlainDriveSpec) (names : List (List ℕ)) (bin : List (Slot KeptReel)) (reply : PlainReply) (after : Scene) (reel : PlainReel) (first : KeptReel) → reply ≡ Done 0
     → waiting_reel (one_drive drive (blanks drive names) bin) 0 ≡ Some first → after.shop ≡ after_latch (one_drive drive (blanks drive names) bin) 0
     → reel.tape ≡ tape [] first.entries → reel.capacity ≡ first.capacity → after.session ≡ Online 0 Both reel → Opened drive names bin reply after
 opens_next drive [] bin reply after reel first replies waits shop holds size session = absurd cc
@@ -72,8 +76,8 @@ opens_next drive (name ∷ others) bin reply after reel first replies waits shop
       session = session ∙ ap (λ t. Online 0 Both (plain_reel t reel.capacity)) tapes ∙ ap (λ n. Online 0 Both (plain_reel (tape [] []) n)) sizes;
     }
 
-pub serve_open : (drive : PlainDrive) (names : List (List ℕ)) (bin : List (Slot KeptReel)) (device : List ℕ) (reply : PlainReply) (after : Scene)
-    → TroubledServeStep NoTrouble (0 ∷ []) (scene (one_drive drive (blanks drive names) bin) Idle) (Open device 2) reply after
+pub serve_open : (drive : PlainDriveSpec) (names : List (List ℕ)) (bin : List (Slot KeptReel)) (device : List ℕ) (reply : PlainReply) (after : Scene)
+    → TroubledServeStep NoTrouble (0 ∷ []) (scene (one_drive drive (blanks drive names) bin) Idle) (Open device O_RDWR) reply after
     → Opened drive names bin reply after ⊎ Refused (one_drive drive (blanks drive names) bin) reply after
 serve_open drive names bin device reply after (Ok (d, reel), asked, (found, named, (first, waits, shop, holds, size)), cause, replies, session) =
     let here : d ≡ 0 = (let within = named.0 in omega (arith, within)) in
@@ -124,11 +128,11 @@ IsOnline shop capacity t after = after ≡ scene shop (Online 0 Both (plain_reel
 
 -- a rewind of an empty reel
 pub serve_rewind : (shop : Shop) (capacity : ℕ) (reply : PlainReply) (holders : List ℕ) (after : Scene)
-    → TroubledServeStep NoTrouble holders (scene shop (Online 0 Both (plain_reel (tape [] []) capacity))) (Op 5 1) reply after
+    → TroubledServeStep NoTrouble holders (scene shop (Online 0 Both (plain_reel (tape [] []) capacity))) (Op MTREW 1) reply after
     → (reply ≡ Done 1) × IsOnline shop capacity (tape [] []) after
-serve_rewind shop capacity reply holders after step = rewound (called shop (plain_reel (tape [] []) capacity) (Op 5 1) reply after step)
+serve_rewind shop capacity reply holders after step = rewound (called shop (plain_reel (tape [] []) capacity) (Op MTREW 1) reply after step)
   where
-    answered : (answer : TapeAnswer) (t : Tape) → DeviceStep capacity NoTrouble (tape [] []) (tape_request (Op 5 1)) answer t → reply ≡ reel_reply (Op 5 1) answer
+    answered : (answer : TapeAnswer) (t : Tape) → DeviceStep capacity NoTrouble (tape [] []) (tape_request (Op MTREW 1)) answer t → reply ≡ reel_reply (Op MTREW 1) answer
         → after ≡ scene shop (Online 0 Both (plain_reel t capacity)) → (reply ≡ Done 1) × IsOnline shop capacity (tape [] []) after
     answered Did t device replies is = (replies, is ∙ ap (λ x. scene shop (Online 0 Both (plain_reel x capacity))) device.1)
     answered (Gave bytes) t device replies is = absurd device.1
@@ -138,7 +142,7 @@ serve_rewind shop capacity reply holders after step = rewound (called shop (plai
     answered (Fault faults.BadOperation) t device replies is = absurd device.1
     answered (Fault faults.OutOfMemory) t device replies is = absurd device
 
-    rewound : Called shop (plain_reel (tape [] []) capacity) (Op 5 1) reply after → (reply ≡ Done 1) × IsOnline shop capacity (tape [] []) after
+    rewound : Called shop (plain_reel (tape [] []) capacity) (Op MTREW 1) reply after → (reply ≡ Done 1) × IsOnline shop capacity (tape [] []) after
     rewound c = answered c.answer c.tape c.device c.replies c.is
 
 -- the record was written, or there is no room for it, or no memory
@@ -150,14 +154,14 @@ pub data Writes (shop : Shop) (capacity : ℕ) (before : List PlainEntry) (bytes
   scarce : IsScarce reply → IsOnline shop capacity (tape before []) after → Writes shop capacity before bytes reply after
 
 -- a record of a length that a record can have is not refused
-not_refused : (n : ℕ) → 0 < n → n ≤ 65536 → (n == 0) || nat_lt record_limit n ≡ false
+not_refused : (n : ℕ) → 0 < n → n ≤ RECORD_LIMIT → (n == 0) || nat_lt RECORD_LIMIT n ≡ false
 not_refused n some few = grind (arith, nat_tests)
 
-pub serve_write : (shop : Shop) (capacity : ℕ) (before : List PlainEntry) (bytes : List ℕ) (reply : PlainReply) (holders : List ℕ) (after : Scene) → 0 < length bytes → length bytes ≤ 65536
+pub serve_write : (shop : Shop) (capacity : ℕ) (before : List PlainEntry) (bytes : List ℕ) (reply : PlainReply) (holders : List ℕ) (after : Scene) → 0 < length bytes → length bytes ≤ RECORD_LIMIT
     → TroubledServeStep NoTrouble holders (scene shop (Online 0 Both (plain_reel (tape before []) capacity))) (Write bytes) reply after → Writes shop capacity before bytes reply after
 serve_write shop capacity before bytes reply holders after some few step =
     wrote_by (called shop (plain_reel (tape before []) capacity) (Write bytes) reply after
-    (checked ((length bytes == 0) || nat_lt record_limit (length bytes)) (not_refused (length bytes) some few) step))
+    (checked ((length bytes == 0) || nat_lt RECORD_LIMIT (length bytes)) (not_refused (length bytes) some few) step))
   where
     checked : (b : Bool) → b ≡ false
         → MatchOption (if b then Some (tape_refusal faults.BadOperation) else None)
@@ -183,11 +187,11 @@ serve_write shop capacity before bytes reply holders after some few step =
 
 -- the mark was written, or there is no memory
 pub serve_mark : (shop : Shop) (capacity : ℕ) (before : List PlainEntry) (reply : PlainReply) (holders : List ℕ) (after : Scene) → offset_of before + 4 ≤ capacity
-    → TroubledServeStep NoTrouble holders (scene shop (Online 0 Both (plain_reel (tape before []) capacity))) (Op 0 1) reply after
+    → TroubledServeStep NoTrouble holders (scene shop (Online 0 Both (plain_reel (tape before []) capacity))) (Op MTWEOF 1) reply after
     → ((reply ≡ Done 1) × IsOnline shop capacity (tape (before ++ Mark ∷ []) []) after) ⊎ (IsScarce reply × IsOnline shop capacity (tape before []) after)
-serve_mark shop capacity before reply holders after room step = marked_by (called shop (plain_reel (tape before []) capacity) (Op 0 1) reply after step)
+serve_mark shop capacity before reply holders after room step = marked_by (called shop (plain_reel (tape before []) capacity) (Op MTWEOF 1) reply after step)
   where
-    answered : (answer : TapeAnswer) (t : Tape) → DeviceStep capacity NoTrouble (tape before []) (tape_request (Op 0 1)) answer t → reply ≡ reel_reply (Op 0 1) answer
+    answered : (answer : TapeAnswer) (t : Tape) → DeviceStep capacity NoTrouble (tape before []) (tape_request (Op MTWEOF 1)) answer t → reply ≡ reel_reply (Op MTWEOF 1) answer
         → after ≡ scene shop (Online 0 Both (plain_reel t capacity))
         → ((reply ≡ Done 1) × IsOnline shop capacity (tape (before ++ Mark ∷ []) []) after) ⊎ (IsScarce reply × IsOnline shop capacity (tape before []) after)
     answered Did t (spared, inl (none, put)) replies is = absurd (omega (arith, none))
@@ -200,12 +204,12 @@ serve_mark shop capacity before reply holders after room step = marked_by (calle
     answered (Fault faults.OutOfMemory) t (some, fits, stays) replies is =
         inr ((_, replies), is ∙ ap (λ x. scene shop (Online 0 Both (plain_reel x capacity))) stays)
 
-    marked_by : Called shop (plain_reel (tape before []) capacity) (Op 0 1) reply after
+    marked_by : Called shop (plain_reel (tape before []) capacity) (Op MTWEOF 1) reply after
         → ((reply ≡ Done 1) × IsOnline shop capacity (tape (before ++ Mark ∷ []) []) after) ⊎ (IsScarce reply × IsOnline shop capacity (tape before []) after)
     marked_by c = answered c.answer c.tape c.device c.replies c.is
 
 -- the name of the reel in the drive is not that of one in the bin
-name_free : (drive : PlainDrive) (stack bin : List (Slot KeptReel)) (name : List ℕ) → EachReelOnce (one_drive drive (slot name None ∷ stack) bin) → 0 < times name (names_of bin) → ⊥
+name_free : (drive : PlainDriveSpec) (stack bin : List (Slot KeptReel)) (name : List ℕ) → EachReelOnce (one_drive drive (slot name None ∷ stack) bin) → 0 < times name (names_of bin) → ⊥
 name_free drive stack bin name once among =
     let few : times name (names_in (one_drive drive (slot name None ∷ stack) bin)) ≤ 1 = once name in
     let all = times_named name (slots_in (one_drive drive (slot name None ∷ stack) bin)) in
@@ -216,9 +220,9 @@ name_free drive stack bin name once among =
     omega (arith, few, all, one, first, parts, there, among)
 
 -- the reel went to the bin, or there is no memory, and it stays
-pub serve_unload : (drive : PlainDrive) (stack bin : List (Slot KeptReel)) (name : List ℕ) (before : List PlainEntry) (reply : PlainReply) (holders : List ℕ) (after : Scene)
+pub serve_unload : (drive : PlainDriveSpec) (stack bin : List (Slot KeptReel)) (name : List ℕ) (before : List PlainEntry) (reply : PlainReply) (holders : List ℕ) (after : Scene)
     → EachReelOnce (one_drive drive (slot name None ∷ stack) bin)
-    → TroubledServeStep NoTrouble holders (scene (one_drive drive (slot name None ∷ stack) bin) (Online 0 Both (plain_reel (tape before []) drive.capacity))) (Op 6 1) reply after
+    → TroubledServeStep NoTrouble holders (scene (one_drive drive (slot name None ∷ stack) bin) (Online 0 Both (plain_reel (tape before []) drive.capacity))) (Op MTOFFL 1) reply after
     → ((reply ≡ Done 1) × (after ≡ scene (one_drive drive stack (bin ++ slot name (Some (kept_reel before drive.capacity)) ∷ [])) (Offline 0 Both)))
     ⊎ (IsScarce reply × (after.shop ≡ one_drive drive (slot name None ∷ stack) bin))
 serve_unload drive stack bin name before reply holders after once (e, access, x, Ok done, online, cause, replies, is) =

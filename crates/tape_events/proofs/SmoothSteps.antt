@@ -8,6 +8,7 @@ use Rattle.tape.specs.declared.trouble.Trouble.TheVariants.{None as NoTrouble}
 use Rattle.rmt_wire.specs.Request.{PlainRequest}
 use Rattle.rmt_wire.specs.Request.PlainRequest.{Open as OpenDevice, Write, Op, Close as CloseDevice}
 use Rattle.rmt_wire.specs.Reply.{PlainReply}
+use Rattle.rmt_wire.specs.declared.mtio.TheConstants.{MTOFFL, MTREW, MTWEOF}
 use Rattle.drives.specs.Shop.{Shop, EachReelOnce, rack_at}
 use Rattle.rmt_server.specs.declared.access.Access.TheVariants.{Both}
 use Rattle.rmt_server.specs.Hall.{Side}
@@ -15,17 +16,17 @@ use Rattle.rmt_server.specs.Session.{plain_reel, PlainSession, Scene, scene}
 use Rattle.rmt_server.specs.Session.PlainSession.{Idle, Online}
 use Rattle.rmt_server.specs.TroubledServe.{drive_in, with_holder, TroubledServe, TroubledServeStep}
 use Rattle.dump_run.specs.Run.{IsRun}
-use Rattle.dump_run.specs.Label.{label, label_text, label_bytes}
+use Rattle.dump_run.specs.Label.{label, label_lines, label_bytes}
 use Rattle.dump_client.specs.Lawful.{IsLawful, attempt_at}
 use Rattle.dump_client.specs.Standing.{Standing, checkpoint_of}
 use Rattle.dump_client.specs.declared.step.Step.{Step}
 use Rattle.dump_client.specs.declared.step.Step.TheVariants.{Open, Rewind, Label, Block, Mark, Unload, Close}
 use Rattle.tape_events.specs.World.{Dumping, Begun, Opening}
-use Rattle.tape_events.specs.First.{PlainDrive}
+use Rattle.tape_events.specs.First.{PlainDriveSpec}
 use Rattle.tape_events.specs.Changes.{opening, opened_reel, written_reel, first_name, noted}
 use Rattle.tape_events.specs.Sending.{HasDone, request_in}
-use Rattle.tape_events.specs.Written.{written}
-use Rattle.tape_events.specs.Smooth.{Stock, blanks, one_drive, names_left, volume_slots, IsLatched, IsOffline, StandsBefore, Leads}
+use Rattle.tape_events.specs.Written.{attempt_written}
+use Rattle.tape_events.specs.Smooth.{Stock, blanks, one_drive, names_left, volume_slots, IsLatched, IsOffline, StandsBefore, Leads, attempt_on}
 use Rattle.tape_events.proofs.SentTexts.{few_volumes, label_short}
 use Rattle.tape_events.proofs.SmoothServes.{Writes, wrote, full, scarce, serve_open, serve_rewind, serve_write, serve_mark, serve_unload, serve_close}
 use Rattle.tape_events.proofs.SmoothLeads.{then_stock, nothing_written, opened_leads, refused_leads, rewound_leads, label_leads, block_leads, mark_leads, unload_leads, close_leads}
@@ -38,8 +39,8 @@ label_whole s lawful =
     let volume = (checkpoint_of s.counts).0 in
     let first = (checkpoint_of s.counts).1 in
     let short = label_short s.run volume first lawful.run (omega (arith, at.0, limit)) (omega (arith, at.1, limit)) in
-    let size = length-append (label_text s.run volume first) (replicate (1024 - length (label_text s.run volume first)) 0) in
-    let zeros = length-replicate {A = ℕ} (1024 - length (label_text s.run volume first)) 0 in
+    let size = length-append (label_lines s.run volume first) (replicate (1024 - length (label_lines s.run volume first)) 0) in
+    let zeros = length-replicate {A = ℕ} (1024 - length (label_lines s.run volume first)) 0 in
     omega (arith, short, size, zeros)
 
 its_label : (old : Standing) (b : Begun) (d : Dumping) → b.run ≡ old.run → d.volume ≡ (checkpoint_of old.counts).0 → d.first ≡ (checkpoint_of old.counts).1 → IsLawful old
@@ -79,13 +80,13 @@ still_held t k session after holders mine before now held =
     ∙ ap (λ l. slice_set (slice_set l 0 0) 0 k) mine
 
 -- the request of one whose reel is in the drive
-latched_step : (drive : PlainDrive) (t : Stock) (k : ℕ) (b : Begun) (d : Dumping) (session after : PlainSession) (request : PlainRequest) (reply : PlainReply) (shop : Shop)
+latched_step : (drive : PlainDriveSpec) (t : Stock) (k : ℕ) (b : Begun) (d : Dumping) (session after : PlainSession) (request : PlainRequest) (reply : PlainReply) (shop : Shop)
     (holders : List ℕ) → IsLatched drive t k b d session → Served t k session request reply shop after holders
-    → TroubledServeStep NoTrouble t.holders (scene t.shop (Online 0 Both (plain_reel (tape (written b.run b.payload d) []) drive.capacity))) request reply (scene shop after)
+    → TroubledServeStep NoTrouble t.holders (scene t.shop (Online 0 Both (plain_reel (tape (attempt_written b.run b.payload d) []) drive.capacity))) request reply (scene shop after)
 latched_step drive t k b d session after request reply shop holders q served =
     subst (λ s. TroubledServeStep NoTrouble t.holders (scene t.shop s) request reply (scene shop after)) q.online served.step
 
-latched_held : (drive : PlainDrive) (t : Stock) (k : ℕ) (b : Begun) (d : Dumping) (session after : PlainSession) (request : PlainRequest) (reply : PlainReply) (shop : Shop)
+latched_held : (drive : PlainDriveSpec) (t : Stock) (k : ℕ) (b : Begun) (d : Dumping) (session after : PlainSession) (request : PlainRequest) (reply : PlainReply) (shop : Shop)
     (holders : List ℕ) → (q : IsLatched drive t k b d session) → Served t k session request reply shop after holders → drive_in after ≡ Some 0 → holders ≡ k ∷ []
 latched_held drive t k b d session after request reply shop holders q served now =
     still_held t k session after holders q.holders (ap drive_in q.online) now served.held
@@ -100,9 +101,9 @@ write_online shop capacity before bytes reply after (wrote fits replies online) 
 write_online shop capacity before bytes reply after (full tight replies online) = ap (λ (v : Scene). drive_in v.session) online
 write_online shop capacity before bytes reply after (scarce few online) = ap (λ (v : Scene). drive_in v.session) online
 
-open_step : (drive : PlainDrive) (t : Stock) (k : ℕ) (old : Standing) (b : Begun) (d : Dumping) (s : Side) (reply : PlainReply) (shop : Shop) (session : PlainSession) (holders : List ℕ)
+open_step : (drive : PlainDriveSpec) (t : Stock) (k : ℕ) (old : Standing) (b : Begun) (d : Dumping) (s : Side) (reply : PlainReply) (shop : Shop) (session : PlainSession) (holders : List ℕ)
     → Attempt t k old b d s Open → StandsBefore Open drive t k b d s.session → Served t k s.session (request_in b d Open) reply shop session holders
-    → Leads drive (stock_then t k (request_in b d Open) shop session holders) k old b (noted (request_in b d Open) reply d) session Open reply
+    → Leads drive (stock_then t k (request_in b d Open) shop session holders) (attempt_on k b (noted (request_in b d Open) reply d) session) old Open reply
 open_step drive t k old b d s reply shop session holders a (free, idle) served =
     let r = serve_open drive (names_left drive t) (volume_slots drive t) b.run.device reply (scene shop session)
     (subst (λ h. TroubledServeStep NoTrouble h (scene (one_drive drive (blanks drive (names_left drive t)) (volume_slots drive t)) Idle) (OpenDevice b.run.device 2) reply
@@ -124,73 +125,73 @@ open_step drive t k old b d s reply shop session holders a (free, idle) served =
           (opens_then t k (OpenDevice b.run.device 2) shop session) q refl
     ]
 
-rewind_step : (drive : PlainDrive) (t : Stock) (k : ℕ) (old : Standing) (b : Begun) (d : Dumping) (s : Side) (reply : PlainReply) (shop : Shop) (session : PlainSession) (holders : List ℕ)
+rewind_step : (drive : PlainDriveSpec) (t : Stock) (k : ℕ) (old : Standing) (b : Begun) (d : Dumping) (s : Side) (reply : PlainReply) (shop : Shop) (session : PlainSession) (holders : List ℕ)
     → Attempt t k old b d s Rewind → IsLatched drive t k b d s.session → Served t k s.session (request_in b d Rewind) reply shop session holders
-    → Leads drive (stock_then t k (request_in b d Rewind) shop session holders) k old b (noted (request_in b d Rewind) reply d) session Rewind reply
+    → Leads drive (stock_then t k (request_in b d Rewind) shop session holders) (attempt_on k b (noted (request_in b d Rewind) reply d) session) old Rewind reply
 rewind_step drive t k old b d s reply shop session holders a q served =
     let empty = nothing_written b d a.done.label a.done.blocks a.done.mark in
     let r = serve_rewind t.shop drive.capacity reply t.holders (scene shop session)
-    (subst (λ l. TroubledServeStep NoTrouble t.holders (scene t.shop (Online 0 Both (plain_reel (tape l []) drive.capacity))) (Op 5 1) reply (scene shop session)) empty
-    (latched_step drive t k b d s.session session (Op 5 1) reply shop holders q served)) in
-    rewound_leads drive t k old b d (Some s) s.session reply (scene shop session) holders (opens_then t k (Op 5 1) shop session) a.done
-    (latched_held drive t k b d s.session session (Op 5 1) reply shop holders q served (ap (λ (v : Scene). drive_in v.session) r.1)) q
+    (subst (λ l. TroubledServeStep NoTrouble t.holders (scene t.shop (Online 0 Both (plain_reel (tape l []) drive.capacity))) (Op MTREW 1) reply (scene shop session)) empty
+    (latched_step drive t k b d s.session session (Op MTREW 1) reply shop holders q served)) in
+    rewound_leads drive t k old b d (Some s) s.session reply (scene shop session) holders (opens_then t k (Op MTREW 1) shop session) a.done
+    (latched_held drive t k b d s.session session (Op MTREW 1) reply shop holders q served (ap (λ (v : Scene). drive_in v.session) r.1)) q
     (still_opened t.opens [] (opening k q.name) q.opened) r
 
-label_step : (drive : PlainDrive) (t : Stock) (k : ℕ) (old : Standing) (b : Begun) (d : Dumping) (s : Side) (reply : PlainReply) (shop : Shop) (session : PlainSession) (holders : List ℕ)
+label_step : (drive : PlainDriveSpec) (t : Stock) (k : ℕ) (old : Standing) (b : Begun) (d : Dumping) (s : Side) (reply : PlainReply) (shop : Shop) (session : PlainSession) (holders : List ℕ)
     → Attempt t k old b d s Label → IsLatched drive t k b d s.session → length (label b.run d.volume d.first) ≡ label_bytes
     → Served t k s.session (request_in b d Label) reply shop session holders
-    → Leads drive (stock_then t k (request_in b d Label) shop session holders) k old b (noted (request_in b d Label) reply d) session Label reply
+    → Leads drive (stock_then t k (request_in b d Label) shop session holders) (attempt_on k b (noted (request_in b d Label) reply d) session) old Label reply
 label_step drive t k old b d s reply shop session holders a q size served =
     let bytes = label b.run d.volume d.first in
-    let r = serve_write t.shop drive.capacity (written b.run b.payload d) bytes reply t.holders (scene shop session) (omega (arith, size)) (omega (arith, size))
+    let r = serve_write t.shop drive.capacity (attempt_written b.run b.payload d) bytes reply t.holders (scene shop session) (omega (arith, size)) (omega (arith, size))
     (latched_step drive t k b d s.session session (Write bytes) reply shop holders q served) in
     label_leads drive t k old b d (Some s) s.session reply (scene shop session) holders (opens_then t k (Write bytes) shop session) a.done
     (latched_held drive t k b d s.session session (Write bytes) reply shop holders q served
-    (write_online t.shop drive.capacity (written b.run b.payload d) bytes reply (scene shop session) r)) q (still_opened t.opens [] (opening k q.name) q.opened) size r
+    (write_online t.shop drive.capacity (attempt_written b.run b.payload d) bytes reply (scene shop session) r)) q (still_opened t.opens [] (opening k q.name) q.opened) size r
 
-block_step : (drive : PlainDrive) (t : Stock) (k : ℕ) (old : Standing) (b : Begun) (d : Dumping) (s : Side) (number : ℕ) (reply : PlainReply) (shop : Shop) (session : PlainSession)
+block_step : (drive : PlainDriveSpec) (t : Stock) (k : ℕ) (old : Standing) (b : Begun) (d : Dumping) (s : Side) (number : ℕ) (reply : PlainReply) (shop : Shop) (session : PlainSession)
     (holders : List ℕ) → Attempt t k old b d s (Block number) → IsLatched drive t k b d s.session → length (label b.run d.volume d.first) ≡ label_bytes
     → Served t k s.session (request_in b d (Block number)) reply shop session holders
-    → Leads drive (stock_then t k (request_in b d (Block number)) shop session holders) k old b (noted (request_in b d (Block number)) reply d) session (Block number) reply
+    → Leads drive (stock_then t k (request_in b d (Block number)) shop session holders) (attempt_on k b (noted (request_in b d (Block number)) reply d) session) old (Block number) reply
 block_step drive t k old b d s number reply shop session holders a q label_size served =
     let bytes = get_or b.payload number [] in
     let below = a.done.blocks.1 in
     let size = a.whole number below in
     let least = a.good.block_bytes.0 in
     let most = a.good.block_bytes.1 in
-    let r = serve_write t.shop drive.capacity (written b.run b.payload d) bytes reply t.holders (scene shop session) (omega (arith, size, least)) (omega (arith, size, most))
+    let r = serve_write t.shop drive.capacity (attempt_written b.run b.payload d) bytes reply t.holders (scene shop session) (omega (arith, size, least)) (omega (arith, size, most))
     (latched_step drive t k b d s.session session (Write bytes) reply shop holders q served) in
     block_leads drive t k old b d (Some s) s.session number reply (scene shop session) holders (opens_then t k (Write bytes) shop session) a.done
     (latched_held drive t k b d s.session session (Write bytes) reply shop holders q served
-    (write_online t.shop drive.capacity (written b.run b.payload d) bytes reply (scene shop session) r)) q (still_opened t.opens [] (opening k q.name) q.opened)
+    (write_online t.shop drive.capacity (attempt_written b.run b.payload d) bytes reply (scene shop session) r)) q (still_opened t.opens [] (opening k q.name) q.opened)
     a.good a.run a.first size label_size r
 
-mark_step : (drive : PlainDrive) (t : Stock) (k : ℕ) (old : Standing) (b : Begun) (d : Dumping) (s : Side) (next : ℕ) (reply : PlainReply) (shop : Shop) (session : PlainSession)
+mark_step : (drive : PlainDriveSpec) (t : Stock) (k : ℕ) (old : Standing) (b : Begun) (d : Dumping) (s : Side) (next : ℕ) (reply : PlainReply) (shop : Shop) (session : PlainSession)
     (holders : List ℕ) → Attempt t k old b d s (Mark next) → IsLatched drive t k b d s.session → Served t k s.session (request_in b d (Mark next)) reply shop session holders
-    → Leads drive (stock_then t k (request_in b d (Mark next)) shop session holders) k old b (noted (request_in b d (Mark next)) reply d) session (Mark next) reply
+    → Leads drive (stock_then t k (request_in b d (Mark next)) shop session holders) (attempt_on k b (noted (request_in b d (Mark next)) reply d) session) old (Mark next) reply
 mark_step drive t k old b d s next reply shop session holders a q served =
-    let r = serve_mark t.shop drive.capacity (written b.run b.payload d) reply t.holders (scene shop session) (q.room a.done.label a.done.mark)
-    (latched_step drive t k b d s.session session (Op 0 1) reply shop holders q served) in
+    let r = serve_mark t.shop drive.capacity (attempt_written b.run b.payload d) reply t.holders (scene shop session) (q.room a.done.label a.done.mark)
+    (latched_step drive t k b d s.session session (Op MTWEOF 1) reply shop holders q served) in
     let on : drive_in session ≡ Some 0 = elim r [
       | inl (replies, online) ↦ ap (λ (v : Scene). drive_in v.session) online
       | inr (few, online) ↦ ap (λ (v : Scene). drive_in v.session) online
     ] in
-    mark_leads drive t k old b d (Some s) s.session next reply (scene shop session) holders (opens_then t k (Op 0 1) shop session) a.done
-    (latched_held drive t k b d s.session session (Op 0 1) reply shop holders q served on) q (still_opened t.opens [] (opening k q.name) q.opened) r
+    mark_leads drive t k old b d (Some s) s.session next reply (scene shop session) holders (opens_then t k (Op MTWEOF 1) shop session) a.done
+    (latched_held drive t k b d s.session session (Op MTWEOF 1) reply shop holders q served on) q (still_opened t.opens [] (opening k q.name) q.opened) r
 
-unload_step : (drive : PlainDrive) (t : Stock) (k : ℕ) (old : Standing) (b : Begun) (d : Dumping) (s : Side) (next : ℕ) (reply : PlainReply) (shop : Shop) (session : PlainSession)
+unload_step : (drive : PlainDriveSpec) (t : Stock) (k : ℕ) (old : Standing) (b : Begun) (d : Dumping) (s : Side) (next : ℕ) (reply : PlainReply) (shop : Shop) (session : PlainSession)
     (holders : List ℕ) → Attempt t k old b d s (Unload next) → IsLatched drive t k b d s.session → Served t k s.session (request_in b d (Unload next)) reply shop session holders
-    → Leads drive (stock_then t k (request_in b d (Unload next)) shop session holders) k old b (noted (request_in b d (Unload next)) reply d) session (Unload next) reply
+    → Leads drive (stock_then t k (request_in b d (Unload next)) shop session holders) (attempt_on k b (noted (request_in b d (Unload next)) reply d) session) old (Unload next) reply
 unload_step drive t k old b d s next reply shop session holders a q served =
-    unload_leads drive t k old b d (Some s) s.session next reply (scene shop session) holders (opens_then t k (Op 6 1) shop session) a.done
-    (λ off. latched_held drive t k b d s.session session (Op 6 1) reply shop holders q served (ap drive_in off)) q (still_opened t.opens [] (opening k q.name) q.opened)
-    (serve_unload drive (blanks drive q.others) (volume_slots drive t) q.name (written b.run b.payload d) reply t.holders (scene shop session) (subst EachReelOnce q.shop a.once)
-    (subst (λ x. TroubledServeStep NoTrouble t.holders (scene x (Online 0 Both (plain_reel (tape (written b.run b.payload d) []) drive.capacity))) (Op 6 1) reply (scene shop session))
-    q.shop (latched_step drive t k b d s.session session (Op 6 1) reply shop holders q served)))
+    unload_leads drive t k old b d (Some s) s.session next reply (scene shop session) holders (opens_then t k (Op MTOFFL 1) shop session) a.done
+    (λ off. latched_held drive t k b d s.session session (Op MTOFFL 1) reply shop holders q served (ap drive_in off)) q (still_opened t.opens [] (opening k q.name) q.opened)
+    (serve_unload drive (blanks drive q.others) (volume_slots drive t) q.name (attempt_written b.run b.payload d) reply t.holders (scene shop session) (subst EachReelOnce q.shop a.once)
+    (subst (λ x. TroubledServeStep NoTrouble t.holders (scene x (Online 0 Both (plain_reel (tape (attempt_written b.run b.payload d) []) drive.capacity))) (Op MTOFFL 1) reply (scene shop session))
+    q.shop (latched_step drive t k b d s.session session (Op MTOFFL 1) reply shop holders q served)))
 
-close_step : (drive : PlainDrive) (t : Stock) (k : ℕ) (old : Standing) (b : Begun) (d : Dumping) (s : Side) (reply : PlainReply) (shop : Shop) (session : PlainSession) (holders : List ℕ)
+close_step : (drive : PlainDriveSpec) (t : Stock) (k : ℕ) (old : Standing) (b : Begun) (d : Dumping) (s : Side) (reply : PlainReply) (shop : Shop) (session : PlainSession) (holders : List ℕ)
     → IsOffline drive t k s.session → Served t k s.session (request_in b d Close) reply shop session holders
-    → Leads drive (stock_then t k (request_in b d Close) shop session holders) k old b (noted (request_in b d Close) reply d) session Close reply
+    → Leads drive (stock_then t k (request_in b d Close) shop session holders) (attempt_on k b (noted (request_in b d Close) reply d) session) old Close reply
 close_step drive t k old b d s reply shop session holders q served =
     let r = serve_close t.shop reply t.holders (scene shop session)
     (subst (λ x. TroubledServeStep NoTrouble t.holders (scene t.shop x) CloseDevice reply (scene shop session)) q.offline served.step) in
@@ -200,9 +201,9 @@ close_step drive t k old b d s reply shop session holders q served =
     close_leads drive t k old b d s.session reply (scene shop session) holders (opens_then t k CloseDevice shop session) free q r
 
 -- Where the reply to the request leads, by its step.
-pub step_leads : (drive : PlainDrive) (t : Stock) (k : ℕ) (old : Standing) (b : Begun) (d : Dumping) (s : Side) (step : Step) (reply : PlainReply) (shop : Shop) (session : PlainSession)
+pub step_leads : (drive : PlainDriveSpec) (t : Stock) (k : ℕ) (old : Standing) (b : Begun) (d : Dumping) (s : Side) (step : Step) (reply : PlainReply) (shop : Shop) (session : PlainSession)
     (holders : List ℕ) → Attempt t k old b d s step → StandsBefore step drive t k b d s.session → Served t k s.session (request_in b d step) reply shop session holders
-    → Leads drive (stock_then t k (request_in b d step) shop session holders) k old b (noted (request_in b d step) reply d) session step reply
+    → Leads drive (stock_then t k (request_in b d step) shop session holders) (attempt_on k b (noted (request_in b d step) reply d) session) old step reply
 step_leads drive t k old b d s Open reply shop session holders a stands served = open_step drive t k old b d s reply shop session holders a stands served
 step_leads drive t k old b d s Rewind reply shop session holders a stands served = rewind_step drive t k old b d s reply shop session holders a stands served
 step_leads drive t k old b d s Label reply shop session holders a stands served =

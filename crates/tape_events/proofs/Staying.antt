@@ -7,11 +7,13 @@ use Rattle.std.proofs.lemmas.List.{length-map, length-replicate}
 use Rattle.std.proofs.lemmas.Option.{same_Some}
 use Rattle.tape_events.specs.World.{World, numbered}
 use Rattle.tape_events.specs.Events.{PlainEvent}
-use Rattle.tape_events.specs.First.{PlainDrive, AreGoodDrives, blank_rack, first_world}
+use Rattle.tape_events.specs.First.{PlainDriveSpec, AreGoodDrives, blank_rack, first_world}
 use Rattle.tape_events.specs.Steps.{Happens, Runs, none, one_more}
-use Rattle.tape_events.specs.Kept.{AreThere, IsKept, NoTwoHolders, DumpdatesGained, SentRequests, LatchedReels, ClientsCounts}
+use Rattle.tape_events.specs.Standing.{AreThere}
+use Rattle.tape_events.specs.Kept.{IsWorldKept}
+use Rattle.tape_events.specs.Headline.{NoTwoHolders, DumpdatesGained, Headline, CountedReels}
+use Rattle.tape_events.specs.Further.{SentRequests, LatchedReels, ClientsCounts, LabelledReels}
 use Rattle.tape_events.specs.Naming.{SameNames}
-use Rattle.tape_events.specs.Written.{LabelledReels, CountedReels}
 use Rattle.tape_events.proofs.SentWire.{OneReading, DroppedWrites, OneReply}
 use Rattle.tape_events.proofs.Lawfully.{Lawfully, lawful_after}
 use Rattle.tape_events.proofs.Owned.{Standings, owned_after, first_owned}
@@ -43,12 +45,12 @@ blank_there : (capacity : ℕ) (names : List (List ℕ)) → AreThere (map (λ n
 blank_there capacity [] = tt
 blank_there capacity (name ∷ names) = ((kept_reel [] capacity, refl), blank_there capacity names)
 
-first_there : (drives : List PlainDrive) (d : ℕ) → AreThere (slice_index_or (map blank_rack drives) d (rack [] [])).stack
+first_there : (drives : List PlainDriveSpec) (d : ℕ) → AreThere (slice_index_or (map blank_rack drives) d (rack [] [])).stack
 first_there [] d = tt
 first_there (drive ∷ drives) zero = blank_there drive.capacity drive.reels
 first_there (drive ∷ drives) (suc d) = first_there drives d
 
-pub first_kept : (drives : List PlainDrive) → AreGoodDrives drives → IsKept (first_world drives)
+pub first_kept : (drives : List PlainDriveSpec) → AreGoodDrives drives → IsWorldKept (first_world drives)
 first_kept drives good = record {
   lawful = λ c is. absurd cc;
   owned = first_owned (first_world drives) refl refl refl;
@@ -90,7 +92,7 @@ pub record Laws : Type 0 where
   pub dropped : DroppedWrites
   pub reply : OneReply
 
-pub kept_after : Laws → (w u : World) (event : PlainEvent) → IsKept w → Happens w event u → IsKept u
+pub kept_after : Laws → (w u : World) (event : PlainEvent) → IsWorldKept w → Happens w event u → IsWorldKept u
 kept_after g w u event k happens =
     let held = held_after w event u happens k.held in
     let laid = laid_after w event u happens k.held k.laid in
@@ -111,42 +113,49 @@ kept_after g w u event k happens =
     }
 
 -- after every list of events
-pub runs_kept : Laws → (first w : World) (events : List PlainEvent) → IsKept first → Runs first events w → IsKept w
+pub runs_kept : Laws → (first w : World) (events : List PlainEvent) → IsWorldKept first → Runs first events w → IsWorldKept w
 runs_kept g first w events k none = k
 runs_kept g first w events k (one_more {before = before} event run happens) = kept_after g before w event (runs_kept g first before _ k run) happens
 
-pub kept_names : (w u : World) (event : PlainEvent) → IsKept w → Happens w event u → SameNames w.hall.shop u.hall.shop
+pub kept_names : (w u : World) (event : PlainEvent) → IsWorldKept w → Happens w event u → SameNames w.hall.shop u.hall.shop
 kept_names w u event k happens = names_after w event u happens k.held
 
-pub no_two_holders : (w : World) → IsKept w → NoTwoHolders w
-no_two_holders w kept j k d s t one has other also =
-    same_Some j k (sym (kept.held.opened j d s one has) ∙ kept.held.opened k d t other also)
+pub no_two_holders : (w : World) → IsWorldKept w → NoTwoHolders w
+no_two_holders w kept j k d one other =
+    same_Some j k (sym (kept.held.opened j d one.0 one.1 one.2) ∙ kept.held.opened k d other.0 other.1 other.2)
 
-pub dumpdates_gained : (w : World) → IsKept w → DumpdatesGained w
+pub dumpdates_gained : (w : World) → IsWorldKept w → DumpdatesGained w
 dumpdates_gained w kept = record { dates = kept.booked.dates; once = kept.booked.once; earned = kept.booked.earned }
 
-pub reels_counted : (w : World) → IsKept w → CountedReels w
+pub reels_counted : (w : World) → IsWorldKept w → CountedReels w
 reels_counted w kept = counted_reels w kept.held kept.laid kept.once kept.labelled kept.counted
 
-pub reels_labelled : (w : World) → IsKept w → LabelledReels w
+pub reels_labelled : (w : World) → IsWorldKept w → LabelledReels w
 reels_labelled w kept = labelled_reels w kept.held kept.laid kept.once kept.labelled
 
-pub sent_requests : (w : World) → IsKept w → SentRequests w
-sent_requests w kept k l d at dump = elim ((kept.told.each k l at).sent d dump) [
+pub sent_requests : (w : World) → IsWorldKept w → SentRequests w
+sent_requests w kept k d has = elim ((kept.told.each k has.0 has.1).sent d has.2) [
   | inl settled ↦ inl settled.sent
   | inr (b, step, begun, pending) ↦ inr pending.sent
 ]
 
-pub latched_reels : (w : World) → IsKept w → LatchedReels w
+pub latched_reels : (w : World) → IsWorldKept w → LatchedReels w
 latched_reels w kept = record {
   first = λ k d s at on. (kept.laid.latched d (k, s, at, on), kept.held.opened k d s at (online_drive s.session d on));
   once = λ j k d e s t one on two off same. elim (eqb_tells d e) [
-    | inl (equal, its) ↦ no_two_holders w kept j k e s t one (online_drive s.session e (on ∙ ap Some its)) two (online_drive t.session e off)
+    | inl (equal, its) ↦ no_two_holders w kept j k e (s, one, online_drive s.session e (on ∙ ap Some its)) (t, two, online_drive t.session e off)
     | inr (unequal, other) ↦
         absurd (names_differ w.hall.shop d e kept.once.once other (drive_within w.hall j s d kept.held one (online_drive s.session d on)) (kept.laid.latched d (j, s, one, on))
         (drive_within w.hall k t e kept.held two (online_drive t.session e off)) (kept.laid.latched e (k, t, two, off)) same)
   ];
 }
 
-pub clients_counts : (w : World) → IsKept w → ClientsCounts w
+pub headline : (w : World) → IsWorldKept w → Headline w
+headline w kept = record {
+  counted_reels = reels_counted w kept;
+  no_two_holders = no_two_holders w kept;
+  dumpdates_gained = dumpdates_gained w kept;
+}
+
+pub clients_counts : (w : World) → IsWorldKept w → ClientsCounts w
 clients_counts w kept = record { listed = kept.booked.listed; none = kept.booked.none }

@@ -6,12 +6,12 @@ use Rattle.rmt_server.specs.Hall.{Side}
 use Rattle.tape_events.specs.World.{World, Link, Dumping, Begun, numbered}
 use Rattle.tape_events.specs.Events.{PlainEvent}
 use Rattle.tape_events.specs.Events.PlainEvent.{StartRun, Connect, Send, ToServer, Serve, ToClient, Cut, EndAtServer, EndAtClient, ServerRestart, ClientRestart, Respond, Arrange, Stranger, Says, Enter}
-use Rattle.tape_events.specs.First.{PlainDrive, first_world}
+use Rattle.tape_events.specs.First.{PlainDriveSpec, first_world}
 use Rattle.tape_events.specs.Changes.{new_link, sent_on}
 use Rattle.tape_events.specs.Steps.{Happens, is_failing}
 use Rattle.tape_events.specs.Kept.{AreTidy, AreBooked, HasLawful}
 use Rattle.tape_events.specs.Owning.{IsOwned}
-use Rattle.tape_events.specs.Sending.{IsSent, AreUnserved, AreTold}
+use Rattle.tape_events.specs.Sending.{IsLinkSent, AreUnserved, AreTold}
 use Rattle.tape_events.proofs.SentWire.{OneReading, DroppedWrites, OneReply}
 use Rattle.tape_events.proofs.SentSteps.{RequestTexts, ReplyTexts}
 use Rattle.tape_events.proofs.SentTexts.{request_texts, reply_texts, short_labels}
@@ -34,7 +34,7 @@ no_number : {X : Type 0} (k : ℕ) (x : X) → numbered {X = X} [] k ≡ Some x 
 no_number zero x is = cc
 no_number (suc k) x is = cc
 
-pub first_told : (drives : List PlainDrive) → AreTold (first_world drives)
+pub first_told : (drives : List PlainDriveSpec) → AreTold (first_world drives)
 first_told drives = record { good = λ n b at. absurd (no_number n b at); each = λ k l at. absurd (no_number k l at) }
 
 pub told_after : Sayings → (w : World) (event : PlainEvent) (u : World) → HasLawful w → IsOwned w → AreTidy w → AreBooked w → Happens w event u → AreTold w → AreTold u
@@ -84,7 +84,7 @@ told_stays reading dropped reply w u event lawful owned tidy booked t happens =
     } w event u lawful owned tidy booked happens t
 
 -- at most one request that was sent was not carried out, and where none is, nothing is unserved
-pub sent_at_most : (begun : List Begun) (o : Option Side) (l : Link) (d : Dumping) → IsSent begun o l d
+pub sent_at_most : (begun : List Begun) (o : Option Side) (l : Link) (d : Dumping) → IsLinkSent begun o l d
     → (d.carried ≤ d.sent) × (d.sent ≤ d.carried + 1) × (d.sent ≡ d.carried → AreUnserved o l.toward [])
 sent_at_most begun o l d (inl settled) = let same = settled.sent in (omega (arith, same), omega (arith, same), λ e. settled.unserved)
 sent_at_most begun o l d (inr (b, step, at, p)) =

@@ -16,7 +16,7 @@ use Rattle.tape_events.specs.World.{World, Link, Dumping, numbered, with_numbere
 use Rattle.tape_events.specs.Changes.{changed, side_of, link_of, calm, over_there, over_here, ended_from, ended, all_ended, answered, came_to, noted}
 use Rattle.tape_events.specs.Steps.{Finds, SeesEnd, forgotten_from, carried}
 use Rattle.tape_events.specs.Kept.{AreTidy}
-use Rattle.tape_events.specs.Sending.{IsSent, IsToldAt, IsTold, AreTold}
+use Rattle.tape_events.specs.Sending.{IsLinkSent, IsLinkToldAt, IsLinkTold, AreTold}
 use Rattle.tape_events.proofs.Numbers.{with_here, with_other, numbered_within}
 use Rattle.tape_events.proofs.Held.{side_there}
 use Rattle.tape_events.proofs.SentWire.{OneReading, DroppedWrites}
@@ -66,17 +66,17 @@ mapped f (Some x) y is = (x, refl, same_Some y (f x) (sym is))
 
 -- the connection is the client's, which has none under way
 still_sent : (w u : World) (k : ℕ) (l y : Link) → u.begun ≡ w.begun → side_of u.hall k ≡ side_of w.hall k → y.toward ≡ l.toward → y.dump ≡ l.dump
-    → (u.own ≡ Some k → ⊥) → IsTold w k (side_of w.hall k) l → IsTold u k (side_of u.hall k) y
+    → (u.own ≡ Some k → ⊥) → IsLinkTold w k (side_of w.hall k) l → IsLinkTold u k (side_of u.hall k) y
 still_sent w u k l y begun sides way dump none h = record {
-  sent = λ d is. subst (λ o. IsSent u.begun o y d) (sym sides)
-      (subst (λ bs. IsSent bs (side_of w.hall k) y d) (sym begun)
+  sent = λ d is. subst (λ o. IsLinkSent u.begun o y d) (sym sides)
+      (subst (λ bs. IsLinkSent bs (side_of w.hall k) y d) (sym begun)
       (sent_moves w.begun (side_of w.hall k) (side_of w.hall k) l y d (subst (Moves (side_of w.hall k) (side_of w.hall k) l.toward) (sym way) (no_move (side_of w.hall k) l.toward))
       (h.sent d (sym dump ∙ is))));
   own = λ d c is mine there. absurd (none mine);
 }
 
 -- a stranger's
-pub strangers : (u : World) (k : ℕ) (o : Option Side) (y : Link) → y.dump ≡ None → IsTold u k o y
+pub strangers : (u : World) (k : ℕ) (o : Option Side) (y : Link) → y.dump ≡ None → IsLinkTold u k o y
 strangers u k o y none = record {
   sent = λ d is. (let clash = sym none ∙ is in absurd cc);
   own = λ d c is mine there. (let clash = sym none ∙ is in absurd cc);
@@ -100,10 +100,10 @@ ended_told w u k begun own caller hall links t =
     changed_told w u k over_here begun links
     (λ j other. ap (λ h. side_of h j) hall ∙ ended_beside w.hall k j (side_of w.hall k) other)
     (λ j other mine. (sym own ∙ mine, caller))
-    (λ l at h. subst (λ o. IsTold u k o (over_here l)) (sym over) record {
-      sent = λ d is. subst (λ bs. IsSent bs None (over_here l) d) (sym begun)
+    (λ l at h. subst (λ o. IsLinkTold u k o (over_here l)) (sym over) record {
+      sent = λ d is. subst (λ bs. IsLinkSent bs None (over_here l) d) (sym begun)
           (sent_moves w.begun (side_of w.hall k) None l (over_here l) d (lost_move (side_of w.hall k) l.toward) (h.sent d is));
-      own = λ d c is mine there. subst (λ bs. IsToldAt c.at.stage bs None (over_here l) c d) (sym begun)
+      own = λ d c is mine there. subst (λ bs. IsLinkToldAt c.at.stage bs None (over_here l) c d) (sym begun)
           (told_moves c.at.stage w.begun (side_of w.hall k) None l (over_here l) c d (lost_move (side_of w.hall k) l.toward) refl
           (h.own d c is (sym own ∙ mine) (sym caller ∙ there)));
     }) t
@@ -118,11 +118,11 @@ restarted_told w u tidy begun own caller hall links t = record {
       let over : side_of u.hall j ≡ None
       = ap (λ h. side_of h j) hall ∙ none_live w.hall (length w.hall.sides) j (let paired = tidy.paired in omega (arith, within, paired)) in
       let h = t.each j x.0 x.1 in
-      subst (λ l. IsTold u j (side_of u.hall j) l) (sym x.2)
-      (subst (λ o. IsTold u j o (over_here x.0)) (sym over) record {
-        sent = λ d is. subst (λ bs. IsSent bs None (over_here x.0) d) (sym begun)
+      subst (λ l. IsLinkTold u j (side_of u.hall j) l) (sym x.2)
+      (subst (λ o. IsLinkTold u j o (over_here x.0)) (sym over) record {
+        sent = λ d is. subst (λ bs. IsLinkSent bs None (over_here x.0) d) (sym begun)
             (sent_moves w.begun (side_of w.hall j) None x.0 (over_here x.0) d (lost_move (side_of w.hall j) x.0.toward) (h.sent d is));
-        own = λ d c is mine there. subst (λ bs. IsToldAt c.at.stage bs None (over_here x.0) c d) (sym begun)
+        own = λ d c is mine there. subst (λ bs. IsLinkToldAt c.at.stage bs None (over_here x.0) c d) (sym begun)
             (told_moves c.at.stage w.begun (side_of w.hall j) None x.0 (over_here x.0) c d (lost_move (side_of w.hall j) x.0.toward) refl
             (h.own d c is (sym own ∙ mine) (sym caller ∙ there)));
       }));
@@ -161,13 +161,13 @@ pub reached_told : (w u : World) (k n : ℕ) (s : Side) (reached : RequestHeld) 
 reached_told w u k n s reached live grows begun own caller sides links t =
     changed_told w u k (λ l. record l { toward = drop n l.toward }) begun links (turned_beside w u k (Some (side reached s.session)) sides)
     (λ j other mine. (sym own ∙ mine, caller))
-    (λ l at h. subst (λ o. IsTold u k o (record l { toward = drop n l.toward })) (sym (turned_here w u k s (Some (side reached s.session)) live sides)) record {
-      sent = λ d is. subst (λ bs. IsSent bs (Some (side reached s.session)) (record l { toward = drop n l.toward }) d) (sym begun)
+    (λ l at h. subst (λ o. IsLinkTold u k o (record l { toward = drop n l.toward })) (sym (turned_here w u k s (Some (side reached s.session)) live sides)) record {
+      sent = λ d is. subst (λ bs. IsLinkSent bs (Some (side reached s.session)) (record l { toward = drop n l.toward }) d) (sym begun)
           (sent_moves w.begun (Some s) (Some (side reached s.session)) l (record l { toward = drop n l.toward }) d (reached_move s reached l.toward n (grows l at))
-          (subst (λ o. IsSent w.begun o l d) live (h.sent d is)));
-      own = λ d c is mine there. subst (λ bs. IsToldAt c.at.stage bs (Some (side reached s.session)) (record l { toward = drop n l.toward }) c d) (sym begun)
+          (subst (λ o. IsLinkSent w.begun o l d) live (h.sent d is)));
+      own = λ d c is mine there. subst (λ bs. IsLinkToldAt c.at.stage bs (Some (side reached s.session)) (record l { toward = drop n l.toward }) c d) (sym begun)
           (told_moves c.at.stage w.begun (Some s) (Some (side reached s.session)) l (record l { toward = drop n l.toward }) c d (reached_move s reached l.toward n (grows l at)) refl
-          (subst (λ o. IsToldAt c.at.stage w.begun o l c d) live (h.own d c is (sym own ∙ mine) (sym caller ∙ there))));
+          (subst (λ o. IsLinkToldAt c.at.stage w.begun o l c d) live (h.own d c is (sym own ∙ mine) (sym caller ∙ there))));
     }) t
 
 -- the server carries a request out, or finds a fault
@@ -178,16 +178,16 @@ finds_told x g h w k trouble s (Err fault) bytes rest u live unread gives is t =
 finds_told x g h w k trouble s (Ok (Some request)) bytes rest u live unread gives (reply, reached, shop, session, holders, left, served, is) t =
     subst AreTold (sym is)
     (changed_told w v k (answered request reply) refl refl (turned_beside w v k (Some (side reached session)) refl) (λ j other mine. (mine, refl))
-    (λ l at told. subst (λ o. IsTold v k o (answered request reply l)) (sym (turned_here w v k s (Some (side reached session)) live refl)) record {
+    (λ l at told. subst (λ o. IsLinkTold v k o (answered request reply l)) (sym (turned_here w v k s (Some (side reached session)) live refl)) record {
       sent = λ d dump. (
           let m = mapped (noted request reply) l.dump d dump in
-          subst (IsSent w.begun (Some (side reached session)) (answered request reply l)) (sym m.2)
-          (serve_sent g h w.begun s l m.0 bytes rest request reply reached session (subst (λ o. IsSent w.begun o l m.0) live (told.sent m.0 m.1)) unread gives left));
+          subst (IsLinkSent w.begun (Some (side reached session)) (answered request reply l)) (sym m.2)
+          (serve_sent g h w.begun s l m.0 bytes rest request reply reached session (subst (λ o. IsLinkSent w.begun o l m.0) live (told.sent m.0 m.1)) unread gives left));
       own = λ d c dump mine there. (
           let m = mapped (noted request reply) l.dump d dump in
-          subst (IsToldAt c.at.stage w.begun (Some (side reached session)) (answered request reply l) c) (sym m.2)
+          subst (IsLinkToldAt c.at.stage w.begun (Some (side reached session)) (answered request reply l) c) (sym m.2)
           (serve_told x g h w.begun c.at.stage s l c m.0 bytes rest request reply reached trouble w.hall.holders w.hall.shop shop session t.good
-          (subst (λ o. IsToldAt c.at.stage w.begun o l c m.0) live (told.own m.0 c m.1 mine there)) unread gives left served.step));
+          (subst (λ o. IsLinkToldAt c.at.stage w.begun o l c m.0) live (told.own m.0 c m.1 mine there)) unread gives left served.step));
     }) t)
   where
     v : World

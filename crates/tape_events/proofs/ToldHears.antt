@@ -25,7 +25,7 @@ use Rattle.tape_events.specs.World.{World, Link, Dumping, Begun, Caller}
 use Rattle.tape_events.specs.Changes.{changed, side_of, link_of, calm, counted_from}
 use Rattle.tape_events.specs.Steps.{Hears, caller}
 use Rattle.tape_events.specs.Owning.{IsOwned}
-use Rattle.tape_events.specs.Sending.{GoesTo, AreCounted, LeadsOn, IsBrief, IsReply, IsAttempt, IsReplied, IsToldAt, AreTold}
+use Rattle.tape_events.specs.Sending.{GoesTo, AreCounted, LeadsOn, IsBrief, IsStepReply, IsAttempt, IsStepReplied, IsLinkToldAt, AreTold}
 use Rattle.tape_events.proofs.SentWire.{OneReply, one_heard, reply_whole, reply_no_fault}
 use Rattle.tape_events.proofs.ToldMoves.{changed_told}
 use Rattle.tape_events.proofs.ToldEvents.{came_told}
@@ -87,8 +87,8 @@ goes_attempt begun c reader new d o step next b other g a =
 -- it heard the whole reply, so it waits no more
 whole_stage : (begun : List Begun) (o : Option Side) (l : Link) (c : Caller) (d : Dumping) (step : Step) (b : Begun) (reader : ReplyHeld) (new : Standing) (way bytes : List ℕ)
     (reply : PlainReply) (progress : Progress) (stage : Stage) → new.stage ≡ stage → HasFedAt stage reader (unanswered stage bytes) → SpellsReply bytes reply Number
-    → HearsAt c.at step (Reply reply) false progress new → LeadsOn b.run o c.at d step reply → IsReplied b o l c d step → IsAttempt begun c d step b → way ≡ []
-    → IsToldAt stage begun o (record l { back = way }) (caller c.number new reader) d
+    → HearsAt c.at step (Reply reply) false progress new → LeadsOn b.run o c.at d step reply → IsStepReplied b o l c d step → IsAttempt begun c d step b → way ≡ []
+    → IsLinkToldAt stage begun o (record l { back = way }) (caller c.number new reader) d
 whole_stage begun o l c d step b reader new way bytes reply progress (ToSend next) at has spelled hears leads replied attempt none =
     let g = leads progress new next hears at in (
       b,
@@ -105,12 +105,12 @@ whole_stage begun o l c d step b reader new way bytes reply progress Abandoned a
 -- what comes of the bytes that it heard
 makes_told : OneReply → (begun : List Begun) (o : Option Side) (l : Link) (c : Caller) (d : Dumping) (step : Step) (b : Begun) (reader : ReplyHeld) (new : Standing)
     (bytes rest way : List ℕ) (reply : PlainReply) (progress : Progress) (seen : Result (Option PlainReply) WireFault) → c.at.stage ≡ Waiting step
-    → IsReplied b o l c d step → IsAttempt begun c d step b → reply_text reply ≡ bytes ++ way → IsBrief reply → LeadsOn b.run o c.at d step reply
+    → IsStepReplied b o l c d step → IsAttempt begun c d step b → reply_text reply ≡ bytes ++ way → IsBrief reply → LeadsOn b.run o c.at d step reply
     → ReplyGives (Some Number) bytes seen rest → Makes c.at step bytes seen rest progress new → HasFedAt new.stage reader (unanswered new.stage bytes)
-    → IsToldAt new.stage begun o (record l { back = way }) (caller c.number new reader) d
+    → IsLinkToldAt new.stage begun o (record l { back = way }) (caller c.number new reader) d
 makes_told g begun o l c d step b reader new bytes rest way reply progress (Ok None) stage replied attempt text brief leads gives (moved, is) has =
     let at : new.stage ≡ Waiting step = ap (λ (s : Standing). s.stage) is ∙ stage in
-    subst (λ s. IsToldAt s begun o (record l { back = way }) (caller c.number new reader) d) (sym at) (
+    subst (λ s. IsLinkToldAt s begun o (record l { back = way }) (caller c.number new reader) d) (sym at) (
       b,
       record {
         begun_as = attempt.begun_as;
@@ -142,9 +142,9 @@ pub some_way : (l : Link) (n : ℕ) → 1 ≤ n → n ≤ length l.back → l.ba
 some_way l n first within none = let size : length l.back ≡ 0 = ap length none in omega (arith, first, within, size)
 
 heard_reply : OneReply → (begun : List Begun) (o : Option Side) (l : Link) (c : Caller) (d : Dumping) (step : Step) (b : Begun) (reader : ReplyHeld) (new : Standing) (fed : List ℕ)
-    (n : ℕ) (progress : Progress) → 1 ≤ n → n ≤ length l.back → c.at.stage ≡ Waiting step → (r : IsReplied b o l c d step) → IsReply b.run o c.at d step (r.fed ++ l.back)
+    (n : ℕ) (progress : Progress) → 1 ≤ n → n ≤ length l.back → c.at.stage ≡ Waiting step → (r : IsStepReplied b o l c d step) → IsStepReply b.run o c.at d step (r.fed ++ l.back)
     → IsAttempt begun c d step b → HasFedAt (Waiting step) c.reader fed → FedAt (Waiting step) c.at fed (take n l.back) progress new
-    → HasFedAt new.stage reader (unanswered new.stage (fed ++ take n l.back)) → IsToldAt new.stage begun o (record l { back = drop n l.back }) (caller c.number new reader) d
+    → HasFedAt new.stage reader (unanswered new.stage (fed ++ take n l.back)) → IsLinkToldAt new.stage begun o (record l { back = drop n l.back }) (caller c.number new reader) d
 heard_reply g begun o l c d step b reader new fed n progress first within stage r (inl none) attempt had feeds has =
     let size : length (r.fed ++ l.back) ≡ 0 = ap length none in
     let both = length-append r.fed l.back in
@@ -159,13 +159,13 @@ heard_reply g begun o l c d step b reader new fed n progress first within stage 
     makes_told g begun o l c d step b reader new (fed ++ take n l.back) rest (drop n l.back) reply progress seen stage r attempt text brief leads gives makes has
 
 rests : (begun : List Begun) (o : Option Side) (y : Link) (c : Caller) (d : Dumping) (reader : ReplyHeld) (new : Standing) (stage : Stage) → c.at.stage ≡ stage → new ≡ c.at
-    → IsToldAt stage begun o y (caller c.number new reader) d → IsToldAt new.stage begun o y (caller c.number new reader) d
-rests begun o y c d reader new stage at is told = subst (λ s. IsToldAt s begun o y (caller c.number new reader) d) (sym (ap (λ (s : Standing). s.stage) is ∙ at)) told
+    → IsLinkToldAt stage begun o y (caller c.number new reader) d → IsLinkToldAt new.stage begun o y (caller c.number new reader) d
+rests begun o y c d reader new stage at is told = subst (λ s. IsLinkToldAt s begun o y (caller c.number new reader) d) (sym (ap (λ (s : Standing). s.stage) is ∙ at)) told
 
 heard_told : OneReply → (stage : Stage) (begun : List Begun) (o : Option Side) (l : Link) (c : Caller) (d : Dumping) (reader : ReplyHeld) (new : Standing) (fed : List ℕ) (n : ℕ)
-    (progress : Progress) → 1 ≤ n → n ≤ length l.back → c.at.stage ≡ stage → IsToldAt stage begun o l c d → HasFedAt stage c.reader fed
+    (progress : Progress) → 1 ≤ n → n ≤ length l.back → c.at.stage ≡ stage → IsLinkToldAt stage begun o l c d → HasFedAt stage c.reader fed
     → FedAt stage c.at fed (take n l.back) progress new → HasFedAt new.stage reader (unanswered new.stage (fed ++ take n l.back))
-    → IsToldAt new.stage begun o (record l { back = drop n l.back }) (caller c.number new reader) d
+    → IsLinkToldAt new.stage begun o (record l { back = drop n l.back }) (caller c.number new reader) d
 heard_told g (ToSend step) begun o l c d reader new fed n progress first within at (b, attempt, turn) had feeds has = absurd (some_way l n first within turn.back)
 heard_told g (Waiting step) begun o l c d reader new fed n progress first within at (b, attempt, inl asked) had feeds has = absurd (some_way l n first within asked.back)
 heard_told g (Waiting step) begun o l c d reader new fed n progress first within at (b, attempt, inr replied) had feeds has =
@@ -201,7 +201,7 @@ hears_told g (Some dump) w k n l u owned at some other first within (c, fed, new
           let same : x ≡ l = same_Some x l (sym here ∙ at) in
           let client = same_Some (caller c.number new reader) y now in
           let back = ap (λ (z : Link). length z.back) same in
-          subst (λ (z : Caller). IsToldAt z.at.stage w.begun (side_of w.hall k) (record x { back = drop n x.back }) z d) client
+          subst (λ (z : Caller). IsLinkToldAt z.at.stage w.begun (side_of w.hall k) (record x { back = drop n x.back }) z d) client
           (heard_told g c.at.stage w.begun (side_of w.hall k) x c d reader new fed n progress first (omega (arith, within, back)) refl (h.own d c is_d own there) had
           (subst (λ (z : Link). FedAt c.at.stage c.at fed (take n z.back) progress new) (sym same) feeds)
           (subst (λ (z : Link). HasFedAt new.stage reader (unanswered new.stage (fed ++ take n z.back))) (sym same) has)));

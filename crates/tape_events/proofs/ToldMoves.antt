@@ -15,7 +15,7 @@ use Rattle.dump_client.specs.declared.stage.Stage.TheVariants.{Ready, ToSend, Wa
 use Rattle.rmt_wire.specs.Reply.{PlainReply}
 use Rattle.tape_events.specs.World.{World, Link, Dumping, Begun, Caller, numbered}
 use Rattle.tape_events.specs.Changes.{changed, side_of, link_of, new_link, with_side}
-use Rattle.tape_events.specs.Sending.{AreUnserved, request_in, IsPending, IsSettled, IsSent, LeadsOn, IsReply, IsToldAt, IsTold, IsGood, AreTold}
+use Rattle.tape_events.specs.Sending.{AreUnserved, request_in, IsPending, IsLinkSettled, IsLinkSent, LeadsOn, IsStepReply, IsLinkToldAt, IsLinkTold, IsGood, AreTold}
 use Rattle.tape_events.proofs.Numbers.{changed_is, pushed_is, numbered_more, numbered_last, numbered_within, numbered_there, numbered_first}
 use Rattle.tape_events.proofs.Sent.{moved_done}
 
@@ -25,7 +25,7 @@ pub record Moves (o p : Option Side) (way new : List ℕ) : Type 0 where
   pub stays : (bytes : List ℕ) → AreUnserved o way bytes → AreUnserved p new bytes ⊎ AreUnserved p new []
   pub nothing : AreUnserved o way [] → AreUnserved p new []
 
-pub settled_moves : (o p : Option Side) (way new : List ℕ) (d : Dumping) → Moves o p way new → IsSettled o way d → IsSettled p new d
+pub settled_moves : (o p : Option Side) (way new : List ℕ) (d : Dumping) → Moves o p way new → IsLinkSettled o way d → IsLinkSettled p new d
 settled_moves o p way new d m h = record { sent = h.sent; unserved = m.nothing h.unserved }
 
 unserved_moves : (o p : Option Side) (way new bytes : List ℕ) → Moves o p way new → AreUnserved o way bytes ⊎ AreUnserved o way []
@@ -42,7 +42,7 @@ pending_moves b o p way new d step m h = record {
   unserved = unserved_moves o p way new (request_text (request_in b d step)) m h.unserved;
 }
 
-pub sent_moves : (begun : List Begun) (o p : Option Side) (l y : Link) (d : Dumping) → Moves o p l.toward y.toward → IsSent begun o l d → IsSent begun p y d
+pub sent_moves : (begun : List Begun) (o p : Option Side) (l y : Link) (d : Dumping) → Moves o p l.toward y.toward → IsLinkSent begun o l d → IsLinkSent begun p y d
 sent_moves begun o p l y d m (inl settled) = inl (settled_moves o p l.toward y.toward d m settled)
 sent_moves begun o p l y d m (inr (b, step, at, pending)) = inr (b, step, at, pending_moves b o p l.toward y.toward d step m pending)
 
@@ -53,12 +53,12 @@ leads_moves run o p old d step reply m leads progress new next becomes at =
     record { done = moved_done run o p d next m g.done; same_run = g.same_run; counts = g.counts }
 
 reply_moves : (run : PlainRun) (o p : Option Side) (old : Standing) (d : Dumping) (step : Step) (bytes : List ℕ)
-    → ((s : Side) → p ≡ Some s → (x : Side) × (o ≡ Some x) × (s.session ≡ x.session)) → IsReply run o old d step bytes → IsReply run p old d step bytes
+    → ((s : Side) → p ≡ Some s → (x : Side) × (o ≡ Some x) × (s.session ≡ x.session)) → IsStepReply run o old d step bytes → IsStepReply run p old d step bytes
 reply_moves run o p old d step bytes m (inl none) = inl none
 reply_moves run o p old d step bytes m (inr (reply, is, brief, leads)) = inr (reply, is, brief, leads_moves run o p old d step reply m leads)
 
 pub told_moves : (stage : Stage) (begun : List Begun) (o p : Option Side) (l y : Link) (c : Caller) (d : Dumping) → Moves o p l.toward y.toward → y.back ≡ l.back
-    → IsToldAt stage begun o l c d → IsToldAt stage begun p y c d
+    → IsLinkToldAt stage begun o l c d → IsLinkToldAt stage begun p y c d
 told_moves (ToSend step) begun o p l y c d m back (b, attempt, turn) = (
   b,
   attempt,
@@ -85,7 +85,7 @@ told_moves (Waiting step) begun o p l y c d m back (b, attempt, inr replied) = (
     settled = settled_moves o p l.toward y.toward d m replied.settled;
     fed = replied.fed;
     has = replied.has;
-    reply = subst (λ x. IsReply b.run p c.at d step (replied.fed ++ x)) (sym back)
+    reply = subst (λ x. IsStepReply b.run p c.at d step (replied.fed ++ x)) (sym back)
         (reply_moves b.run o p c.at d step (replied.fed ++ l.back) m.session replied.reply);
   },
 )
@@ -120,13 +120,13 @@ reached_move s reached way n grows =
 
 -- one that is as it was, beside a client that is as it was, or has another connection or none
 pub other_told : (w u : World) (k : ℕ) (l : Link) → u.begun ≡ w.begun → side_of u.hall k ≡ side_of w.hall k
-    → (u.own ≡ Some k → (w.own ≡ Some k) × (u.caller ≡ w.caller)) → IsTold w k (side_of w.hall k) l → IsTold u k (side_of u.hall k) l
+    → (u.own ≡ Some k → (w.own ≡ Some k) × (u.caller ≡ w.caller)) → IsLinkTold w k (side_of w.hall k) l → IsLinkTold u k (side_of u.hall k) l
 other_told w u k l begun sides own h = record {
-  sent = λ d dump. subst (λ o. IsSent u.begun o l d) (sym sides) (subst (λ bs. IsSent bs (side_of w.hall k) l d) (sym begun) (h.sent d dump));
+  sent = λ d dump. subst (λ o. IsLinkSent u.begun o l d) (sym sides) (subst (λ bs. IsLinkSent bs (side_of w.hall k) l d) (sym begun) (h.sent d dump));
   own = λ d c dump mine there. (
       let was = own mine in
-      subst (λ o. IsToldAt c.at.stage u.begun o l c d) (sym sides)
-      (subst (λ bs. IsToldAt c.at.stage bs (side_of w.hall k) l c d) (sym begun) (h.own d c dump was.0 (sym was.1 ∙ there))));
+      subst (λ o. IsLinkToldAt c.at.stage u.begun o l c d) (sym sides)
+      (subst (λ bs. IsLinkToldAt c.at.stage bs (side_of w.hall k) l c d) (sym begun) (h.own d c dump was.0 (sym was.1 ∙ there))));
 }
 
 good_same : (w u : World) → u.begun ≡ w.begun → ((n : ℕ) (b : Begun) → numbered w.begun n ≡ Some b → IsGood b) → (n : ℕ) (b : Begun) → numbered u.begun n ≡ Some b → IsGood b
@@ -144,12 +144,12 @@ same_told w u begun links sides own t = record {
 -- one connection is changed
 pub changed_told : (w u : World) (k : ℕ) (f : Link → Link) → u.begun ≡ w.begun → u.links ≡ changed f w.links k
     → ((j : ℕ) → j ≢ k → side_of u.hall j ≡ side_of w.hall j) → ((j : ℕ) → j ≢ k → u.own ≡ Some j → (w.own ≡ Some j) × (u.caller ≡ w.caller))
-    → ((l : Link) → link_of w k ≡ Some l → IsTold w k (side_of w.hall k) l → IsTold u k (side_of u.hall k) (f l)) → AreTold w → AreTold u
+    → ((l : Link) → link_of w k ≡ Some l → IsLinkTold w k (side_of w.hall k) l → IsLinkTold u k (side_of u.hall k) (f l)) → AreTold w → AreTold u
 changed_told w u k f begun links beside own here t = record {
   good = good_same w u begun t.good;
   each = λ j l at. elim (changed_is f w.links k j l (ap (λ ls. numbered ls j) (sym links) ∙ at)) [
-    | inl (same, (x, was, new)) ↦ subst (λ i. IsTold u i (side_of u.hall i) l) (sym same)
-        (subst (λ y. IsTold u k (side_of u.hall k) y) (sym new) (here x was (t.each k x was)))
+    | inl (same, (x, was, new)) ↦ subst (λ i. IsLinkTold u i (side_of u.hall i) l) (sym same)
+        (subst (λ y. IsLinkTold u k (side_of u.hall k) y) (sym new) (here x was (t.each k x was)))
     | inr (other, on) ↦ other_told w u j l begun (beside j other) (own j other) (t.each j l on)
   ];
 }
@@ -157,7 +157,7 @@ changed_told w u k f begun links beside own here t = record {
 -- a connection more
 pub joined_told : (w u : World) (dump : Option Dumping) → length w.hall.sides ≡ length w.links → u.begun ≡ w.begun → u.links ≡ w.links ++ new_link dump ∷ []
     → u.hall.sides ≡ (with_side w.hall).sides → ((j : ℕ) → j ≤ length w.links → u.own ≡ Some j → (w.own ≡ Some j) × (u.caller ≡ w.caller))
-    → IsTold u (suc (length w.links)) (Some (side (held [] 0) Idle)) (new_link dump) → AreTold w → AreTold u
+    → IsLinkTold u (suc (length w.links)) (Some (side (held [] 0) Idle)) (new_link dump) → AreTold w → AreTold u
 joined_told w u dump paired begun links sides own here t = record {
   good = good_same w u begun t.good;
   each = λ j l at. elim (pushed_is w.links (new_link dump) j l (ap (λ ls. numbered ls j) (sym links) ∙ at)) [
@@ -173,8 +173,8 @@ joined_told w u dump paired begun links sides own here t = record {
         = ap (λ ss. option_and_then (λ s. s) (numbered ss (suc (length w.links)))) sides
         ∙ ap (λ n. option_and_then (λ s. s) (numbered (with_side w.hall).sides (suc n))) (sym paired)
         ∙ ap (option_and_then (λ s. s)) (numbered_last w.hall.sides (Some (side (held [] 0) Idle))) in
-        subst (λ i. IsTold u i (side_of u.hall i) l) (sym last)
-        (subst (λ y. IsTold u (suc (length w.links)) (side_of u.hall (suc (length w.links))) y) (sym new)
-        (subst (λ o. IsTold u (suc (length w.links)) o (new_link dump)) (sym new_side) here))
+        subst (λ i. IsLinkTold u i (side_of u.hall i) l) (sym last)
+        (subst (λ y. IsLinkTold u (suc (length w.links)) (side_of u.hall (suc (length w.links))) y) (sym new)
+        (subst (λ o. IsLinkTold u (suc (length w.links)) o (new_link dump)) (sym new_side) here))
   ];
 }

@@ -2,7 +2,7 @@
 use Rattle.std.proofs.Common.{◌≡◌, ◌⊎◌, ℕ, zero, suc, ◌+◌, ◌*◌, ◌≤◌, Bool, true, false, List, [], ◌∷◌, ◌++◌, IsTrue, length, append_assoc, get_or, take, drop, Option, Some, None, refl, sym, ap, subst, ◌∙◌, inl, inr, arith}
 use Rattle.std.proofs.lemmas.Option.{same_Some}
 use Rattle.std.proofs.lemmas.List.{append-nil}
-use Rattle.rmt_wire.specs.Limits.{data_limit}
+use Rattle.rmt_wire.specs.declared.limits.TheConstants.{RECORD_LIMIT}
 use Rattle.rmt_wire.specs.Request.{HasSpelling, SpellsRequest, request_text, unsent}
 use Rattle.rmt_wire.specs.RequestReader.{held}
 use Rattle.rmt_wire.specs.ReplyReader.{ReplyHeld, reply_held}
@@ -23,11 +23,11 @@ use Rattle.dump_client.specs.declared.stage.Stage.{Stage}
 use Rattle.dump_client.specs.declared.stage.Stage.TheVariants.{Ready, ToSend, Waiting, Asking, Finished, Abandoned}
 use Rattle.tape_events.specs.World.{World, Link, Dumping, Begun, Caller, numbered}
 use Rattle.tape_events.specs.Changes.{side_of, link_of, new_link, sent_on, noted_sent}
-use Rattle.tape_events.specs.Rows.{NoRun, is_done}
-use Rattle.tape_events.specs.Steps.{Sends, begun, caller, fresh, connected, sent_link, next_text, asked}
+use Rattle.tape_events.specs.Rows.{NoRun, is_run_done}
+use Rattle.tape_events.specs.Steps.{Sends, begun, caller, fresh, client_connected, sent_link, next_text, asked}
 use Rattle.tape_events.specs.Kept.{AreTidy, AreBooked}
 use Rattle.tape_events.specs.Owning.{IsOwned, is_in_attempt}
-use Rattle.tape_events.specs.Sending.{HasDone, AreUnserved, request_in, IsPending, IsSettled, IsSent, IsAttempt, IsItsTurn, IsAsked, IsToldAt, IsGood, AreTold}
+use Rattle.tape_events.specs.Sending.{HasDone, AreUnserved, request_in, IsPending, IsLinkSettled, IsLinkSent, IsAttempt, IsItsTurn, IsStepAsked, IsLinkToldAt, IsGood, AreTold}
 use Rattle.tape_events.proofs.Numbers.{pushed_is, numbered_more}
 use Rattle.tape_events.proofs.Sent.{raised_one, done_few}
 use Rattle.tape_events.proofs.SentWire.{fresh_unread}
@@ -39,7 +39,7 @@ use Rattle.tape_events.proofs.ToldEvents.{left_told, mapped}
 idle_none : (w : World) → IsOwned w → ((c : Caller) → w.caller ≡ Some c → IsTrue (is_in_attempt c.at.stage) → ⊥) → (k : ℕ) → w.own ≡ Some k → ⊥
 idle_none w o idle k own = let c = (o.own k own).1 in idle c.0 c.1 c.2
 
-done_idle : (stage : Stage) → IsTrue (is_done stage) → IsTrue (is_in_attempt stage) → ⊥
+done_idle : (stage : Stage) → IsTrue (is_run_done stage) → IsTrue (is_in_attempt stage) → ⊥
 done_idle Ready done attempt = cc
 done_idle (ToSend step) done attempt = cc
 done_idle (Waiting step) done attempt = cc
@@ -58,7 +58,7 @@ cut_most zero size payload i = omega arith
 cut_most (suc n) size payload zero = take_most size payload
 cut_most (suc n) size payload (suc i) = cut_most n size (drop size payload) i
 
-more_sent : (begun more : List Begun) (o : Option Side) (l : Link) (d : Dumping) → IsSent begun o l d → IsSent (begun ++ more) o l d
+more_sent : (begun more : List Begun) (o : Option Side) (l : Link) (d : Dumping) → IsLinkSent begun o l d → IsLinkSent (begun ++ more) o l d
 more_sent begun more o l d (inl settled) = inl settled
 more_sent begun more o l d (inr (b, step, at, pending)) = inr (b, step, numbered_more begun more d.run b at, pending)
 
@@ -70,8 +70,8 @@ begun_told w u b good begun links hall none t = record {
     | inr (last, new) ↦ subst IsGood (sym new) good
   ];
   each = λ k l at. record {
-    sent = λ d is. subst (λ h. IsSent u.begun (side_of h k) l d) (sym hall)
-        (subst (λ bs. IsSent bs (side_of w.hall k) l d) (sym begun)
+    sent = λ d is. subst (λ h. IsLinkSent u.begun (side_of h k) l d) (sym hall)
+        (subst (λ bs. IsLinkSent bs (side_of w.hall k) l d) (sym begun)
         (more_sent w.begun (b ∷ []) (side_of w.hall k) l d ((t.each k l (ap (λ ls. numbered ls k) (sym links) ∙ at)).sent d is)));
     own = λ d c is mine there. absurd (none k mine);
   };
@@ -91,7 +91,7 @@ started_good run payload good size = record {
 pub no_run_idle : (w : World) → NoRun w → IsOwned w → (k : ℕ) → w.own ≡ Some k → ⊥
 no_run_idle w (inl gone) o = idle_none w o (λ c there attempt. (let clash = sym gone ∙ there in absurd cc))
 no_run_idle w (inr (x, is, done)) o =
-    idle_none w o (λ c there attempt. done_idle c.at.stage (subst (λ (z : Caller). IsTrue (is_done z.at.stage)) (same_Some x c (sym is ∙ there)) done) attempt)
+    idle_none w o (λ c there attempt. done_idle c.at.stage (subst (λ (z : Caller). IsTrue (is_run_done z.at.stage)) (same_Some x c (sym is ∙ there)) done) attempt)
 
 -- the operator answered, so there is no attempt
 pub asking_idle : (w : World) (x : Caller) → w.caller ≡ Some x → x.at.stage ≡ Asking → IsOwned w → (k : ℕ) → w.own ≡ Some k → ⊥
@@ -106,17 +106,17 @@ left_within run counts (inl none) = subst (λ l. (checkpoint_of l).1 ≤ run.blo
 left_within run counts (inr less) = omega (arith, less)
 
 -- an attempt starts
-pub connected_told : (w : World) (c : Caller) → AreTidy w → AreBooked w → IsLawful c.at → w.caller ≡ Some c → c.at.stage ≡ Ready → AreTold w → AreTold (connected w c)
+pub connected_told : (w : World) (c : Caller) → AreTidy w → AreBooked w → IsLawful c.at → w.caller ≡ Some c → c.at.stage ≡ Ready → AreTold w → AreTold (client_connected w c)
 connected_told w c tidy booked lawful there ready t =
-    joined_told w (connected w c) (Some (fresh c)) tidy.paired refl refl refl
+    joined_told w (client_connected w c) (Some (fresh c)) tidy.paired refl refl refl
     (λ j within mine. (let same : length w.links + 1 ≡ j = same_Some (length w.links + 1) j mine in absurd (omega (arith, same, within))))
     record {
-      sent = λ d is. subst (IsSent w.begun (Some (side (held [] 0) Idle)) (new_link (Some (fresh c)))) (same_Some (fresh c) d is) (inl settled);
+      sent = λ d is. subst (IsLinkSent w.begun (Some (side (held [] 0) Idle)) (new_link (Some (fresh c)))) (same_Some (fresh c) d is) (inl settled);
       own = λ d x is mine now. (
           let dump = same_Some (fresh c) d is in
           let client = same_Some (caller c.number (standing c.at.run c.at.counts (ToSend Open)) (reply_held None [])) x now in
-          subst (λ (z : Caller). IsToldAt z.at.stage w.begun (Some (side (held [] 0) Idle)) (new_link (Some (fresh c))) z d) client
-          (subst (IsToldAt (ToSend Open) w.begun (Some (side (held [] 0) Idle)) (new_link (Some (fresh c)))
+          subst (λ (z : Caller). IsLinkToldAt z.at.stage w.begun (Some (side (held [] 0) Idle)) (new_link (Some (fresh c))) z d) client
+          (subst (IsLinkToldAt (ToSend Open) w.begun (Some (side (held [] 0) Idle)) (new_link (Some (fresh c)))
           (caller c.number (standing c.at.run c.at.counts (ToSend Open)) (reply_held None []))) dump
           (b.0, record { begun_as = b.1; run = b.2; number = refl; volume = refl; first = refl }, record { done = done; settled = settled; back = refl; fed = fed })));
     } t
@@ -124,7 +124,7 @@ connected_told w c tidy booked lawful there ready t =
     fed : HasFedAt (ToSend Open) (reply_held None []) []
     fed = (record { waits = refl; keeps = refl }, refl)
 
-    settled : IsSettled (Some (side (held [] 0) Idle)) [] (fresh c)
+    settled : IsLinkSettled (Some (side (held [] 0) Idle)) [] (fresh c)
     settled = record { sent = refl; unserved = ([], fresh_unread, refl) }
 
     b : (x : Begun) × (numbered w.begun c.number ≡ Some x) × (x.run ≡ c.at.run)
@@ -147,7 +147,7 @@ connected_told w c tidy booked lawful there ready t =
 
 -- the label of a lawful client's next volume fits a record
 abbrev pub ShortLabels : Type 0
-ShortLabels = (s : Standing) → IsLawful s → length (label s.run (checkpoint_of s.counts).0 (checkpoint_of s.counts).1) ≤ data_limit
+ShortLabels = (s : Standing) → IsLawful s → length (label s.run (checkpoint_of s.counts).0 (checkpoint_of s.counts).1) ≤ RECORD_LIMIT
 
 -- the request of a step at the checkpoint is that of the attempt
 same_request : (run : PlainRun) (payload : List (List ℕ)) (counts : List VolumeCount) (step : Step)
@@ -160,7 +160,7 @@ same_request run payload counts (Mark next) = refl
 same_request run payload counts (Unload next) = refl
 same_request run payload counts Close = refl
 
-has_spelling : ShortLabels → (s : Standing) (payload : List (List ℕ)) (step : Step) → IsLawful s → ((n : ℕ) → length (get_or payload n []) ≤ data_limit)
+has_spelling : ShortLabels → (s : Standing) (payload : List (List ℕ)) (step : Step) → IsLawful s → ((n : ℕ) → length (get_or payload n []) ≤ RECORD_LIMIT)
     → HasSpelling (request_of s.run payload (checkpoint_of s.counts).0 (checkpoint_of s.counts).1 step)
 has_spelling g s payload Open lawful few = let device = lawful.run.device in ((device.0.1, device.1), omega arith)
 has_spelling g s payload Rewind lawful few = (omega arith, omega arith)
@@ -180,7 +180,7 @@ none_to_follow run payload volume first (Mark next) = refl
 none_to_follow run payload volume first (Unload next) = refl
 none_to_follow run payload volume first Close = refl
 
-pub next_spelled : RequestTexts → ShortLabels → (s : Standing) (payload : List (List ℕ)) (step : Step) → IsLawful s → ((n : ℕ) → length (get_or payload n []) ≤ data_limit)
+pub next_spelled : RequestTexts → ShortLabels → (s : Standing) (payload : List (List ℕ)) (step : Step) → IsLawful s → ((n : ℕ) → length (get_or payload n []) ≤ RECORD_LIMIT)
     → SpellsRequest (request_text (request_of s.run payload (checkpoint_of s.counts).0 (checkpoint_of s.counts).1 step))
     (request_of s.run payload (checkpoint_of s.counts).0 (checkpoint_of s.counts).1 step)
 next_spelled x g s payload step lawful few =
@@ -234,9 +234,9 @@ sends_pending : RequestTexts → ShortLabels → (w : World) (k : ℕ) (l : Link
     → w.own ≡ Some k → link_of w k ≡ Some l → l.dump ≡ Some d → w.caller ≡ Some c → c.at.stage ≡ ToSend step → numbered w.begun c.number ≡ Some x
     → HasFedAt (Waiting step) reader []
     → (b : Begun) × IsAttempt w.begun (caller c.number (standing c.at.run c.at.counts (Waiting step)) reader) (noted_sent d) step b
-    × IsAsked b (side_of w.hall k) (sent_link (next_text c x.payload step) l) (caller c.number (standing c.at.run c.at.counts (Waiting step)) reader) (noted_sent d) step
+    × IsStepAsked b (side_of w.hall k) (sent_link (next_text c x.payload step) l) (caller c.number (standing c.at.run c.at.counts (Waiting step)) reader) (noted_sent d) step
 sends_pending t g w k l c x d step reader tidy lawful told own at dump there stage mine fed =
-    let h = subst (λ s. IsToldAt s w.begun (side_of w.hall k) l c d) stage ((told.each k l at).own d c dump own there) in
+    let h = subst (λ s. IsLinkToldAt s w.begun (side_of w.hall k) l c d) stage ((told.each k l at).own d c dump own there) in
     let b = h.0 in
     let attempt = h.1 in
     let turn = h.2 in
@@ -263,12 +263,12 @@ sends_told t g false w k c x step u tidy lawful own there stage mine (reader, fe
       sent = λ d is. (
           let m = mapped noted_sent l.dump d is in
           let p = sends_pending t g w k l c x m.0 step reader tidy lawful told own at m.1 there stage mine fed in
-          subst (IsSent w.begun (side_of w.hall k) (sent_link (next_text c x.payload step) l)) (sym m.2) (inr (p.0, step, p.1.begun_as, p.2.pending)));
+          subst (IsLinkSent w.begun (side_of w.hall k) (sent_link (next_text c x.payload step) l)) (sym m.2) (inr (p.0, step, p.1.begun_as, p.2.pending)));
       own = λ d y is now here. (
           let m = mapped noted_sent l.dump d is in
           let p = sends_pending t g w k l c x m.0 step reader tidy lawful told own at m.1 there stage mine fed in
           let client = same_Some (caller c.number (standing c.at.run c.at.counts (Waiting step)) reader) y here in
-          subst (λ (z : Caller). IsToldAt z.at.stage w.begun (side_of w.hall k) (sent_link (next_text c x.payload step) l) z d) client
-          (subst (IsToldAt (Waiting step) w.begun (side_of w.hall k) (sent_link (next_text c x.payload step) l) (caller c.number (standing c.at.run c.at.counts (Waiting step)) reader))
+          subst (λ (z : Caller). IsLinkToldAt z.at.stage w.begun (side_of w.hall k) (sent_link (next_text c x.payload step) l) z d) client
+          (subst (IsLinkToldAt (Waiting step) w.begun (side_of w.hall k) (sent_link (next_text c x.payload step) l) (caller c.number (standing c.at.run c.at.counts (Waiting step)) reader))
           (sym m.2) (p.0, p.1, inl p.2)));
     }) told)

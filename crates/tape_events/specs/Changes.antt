@@ -1,11 +1,13 @@
 -- Parts of the world, and how an event changes one. Public contracts cite it.
-use Rattle.std.specs.Prelude.{ℕ, zero, suc, ◌==◌, Bool, true, false, if◌then◌else◌, List, [], ◌∷◌, ◌++◌, length, map, option_and_then, option_map, Option, Some, None}
+use Rattle.std.specs.Prelude.{◌≡◌, ℕ, zero, suc, ◌==◌, Bool, true, false, if◌then◌else◌, List, [], ◌∷◌, ◌++◌, length, map, option_and_then, option_map, Option, Some, None}
 use Rattle.rmt_wire.specs.Counted.{raised}
 use Rattle.rmt_wire.specs.Request.{PlainRequest}
 use Rattle.rmt_wire.specs.Request.PlainRequest.{Open, Write, Op}
 use Rattle.rmt_wire.specs.Reply.{PlainReply, reply_text}
 use Rattle.rmt_wire.specs.Reply.PlainReply.{Done, Data, Error}
 use Rattle.rmt_wire.specs.RequestReader.{held}
+use Rattle.rmt_wire.specs.declared.errno.TheConstants.{EIO}
+use Rattle.rmt_wire.specs.declared.mtio.TheConstants.{MTWEOF}
 use Rattle.drives.specs.Shop.{Shop, Slot, rack_at}
 use Rattle.rmt_server.specs.Access.{writes}
 use Rattle.rmt_server.specs.Session.{PlainSession, closed_shop}
@@ -32,6 +34,10 @@ side_of h k = option_and_then (λ s. s) (numbered h.sides k)
 
 abbrev pub link_of : World → ℕ → Option Link
 link_of w k = numbered w.links k
+
+-- connection k is one of the client's, and its attempt came to this
+abbrev pub HasDump : World → ℕ → Dumping → Type 0
+HasDump w k d = (l : Link) × (link_of w k ≡ Some l) × (l.dump ≡ Some d)
 
 -- the last event made nothing fail
 abbrev pub calm : World → World
@@ -60,12 +66,12 @@ abbrev pub over_here : Link → Link
 over_here l = record l { toward = []; cut = true }
 
 -- the side that is not the server's is over
-abbrev pub left : World → ℕ → World
-left w k = record w { links = changed over_there w.links k }
+abbrev pub other_left : World → ℕ → World
+other_left w k = record w { links = changed over_there w.links k }
 
 -- the client's own connection is over on its side, and with it the attempt
 abbrev pub given_up : World → ℕ → World
-given_up w k = record (left w k) { own = None }
+given_up w k = record (other_left w k) { own = None }
 
 -- the server's side is over: what was open is closed, and its drive has no holder
 abbrev pub ended_from : Hall → ℕ → Option Side → Hall
@@ -111,7 +117,7 @@ abbrev pub accepted : Dumping → Dumping
 accepted d = if d.label then record d { blocks = raised d.blocks } else record d { label = true }
 
 abbrev pub noted_error : Dumping → ℕ → Dumping
-noted_error d n = if n == 5 then record d { fault = true } else d
+noted_error d n = if n == EIO then record d { fault = true } else d
 
 abbrev pub noted_write : Dumping → PlainReply → Dumping
 noted_write d (Done zero) = d
@@ -124,10 +130,10 @@ noted_marks d (Done n) = record d { mark = true }
 noted_marks d (Data bytes) = d
 noted_marks d (Error n text) = noted_error d n
 
--- mtio's operation 0 writes marks
+-- MTWEOF writes marks
 abbrev pub noted_by : Dumping → PlainRequest → PlainReply → Dumping
 noted_by d (Write bytes) reply = noted_write d reply
-noted_by d (Op op count) reply = if op == 0 then noted_marks d reply else d
+noted_by d (Op op count) reply = if op == MTWEOF then noted_marks d reply else d
 noted_by d request reply = d
 
 -- a request of it was carried out
@@ -143,14 +149,14 @@ abbrev pub noted_sent : Dumping → Dumping
 noted_sent d = record d { sent = raised d.sent }
 
 -- the reel of a connection's first opening
-abbrev pub reel_of : ℕ → List Opening → List ℕ
-reel_of k [] = []
-reel_of k (o ∷ opens) = if o.connection == k then o.reel else reel_of k opens
+abbrev pub reel_opened_by : ℕ → List Opening → List ℕ
+reel_opened_by k [] = []
+reel_opened_by k (o ∷ opens) = if o.connection == k then o.reel else reel_opened_by k opens
 
 -- a count of the client, told with its run, its connection and the reel of that
 abbrev pub counts_of : World → ℕ → ℕ → VolumeCount → Count
 counts_of w number k c =
-    record { run = number; volume = c.volume; first = c.first; count = c.count; reel = reel_of k w.opens; connection = k }
+    record { run = number; volume = c.volume; first = c.first; count = c.count; reel = reel_opened_by k w.opens; connection = k }
 
 abbrev pub counted_from : World → ℕ → ℕ → List VolumeCount → World
 counted_from w number k counts = record w { counts = w.counts ++ map (counts_of w number k) counts }

@@ -3,28 +3,29 @@ use Rattle.std.specs.Prelude.{◌≡◌, ℕ, IsTrue, List, [], length, map, fla
 use Rattle.std.specs.Int.{IsInRange}
 use Rattle.drives.specs.Shop.{KeptReel, kept_reel, slot, Rack, rack, shop}
 use Rattle.drives.specs.Arranging.{are_distinct}
+use Rattle.drives.specs.declared.holds.TheConstants.{DRIVE_LIMIT}
 use Rattle.rmt_wire.specs.RequestReader.{Unread}
 use Rattle.rmt_server.specs.Hall.{hall, Side}
 use Rattle.tape_events.specs.World.{World}
 use Rattle.tape_events.specs.Changes.{side_of}
 
 -- a drive of the first world: its name, how many bytes each of its reels takes, and their names
-pub record PlainDrive : Type 0 where
+pub record PlainDriveSpec : Type 0 where
   pub name : List ℕ
   pub capacity : ℕ
   pub reels : List (List ℕ)
 
-abbrev pub blank_rack : PlainDrive → Rack KeptReel
+abbrev pub blank_rack : PlainDriveSpec → Rack KeptReel
 blank_rack d = rack d.name (map (λ name. slot name (Some (kept_reel [] d.capacity))) d.reels)
 
--- 1 to 64 drives, no two of one name, and no two reels of one name
-abbrev pub AreGoodDrives : List PlainDrive → Type 0
+-- 1 to `DRIVE_LIMIT` drives, no two of one name, and no two reels of one name
+abbrev pub AreGoodDrives : List PlainDriveSpec → Type 0
 AreGoodDrives drives =
-    IsInRange 1 64 (length drives) × IsTrue (are_distinct (map (λ d. d.name) drives))
+    IsInRange 1 DRIVE_LIMIT (length drives) × IsTrue (are_distinct (map (λ d. d.name) drives))
     × IsTrue (are_distinct (flat_map (λ d. d.reels) drives))
 
 -- nothing has happened: empty reels, no connection, no run
-abbrev pub first_world : List PlainDrive → World
+abbrev pub first_world : List PlainDriveSpec → World
 first_world drives = record {
   hall = hall (shop (map blank_rack drives) []) (replicate (length drives) 0) [];
   links = [];

@@ -1,15 +1,20 @@
--- In reading order: World, Events, Changes, Rows, Steps, First; Owning, Naming, Sending, Standing, Written, Kept; Serving, Smooth.
+-- In reading order: World, Events, Changes, Rows, Steps, First; Books, Standing, Headline; Written, Further; Serving, Smooth. How it is
+-- proved: Owning, Naming, Sending, Attempts, Kept.
 pub mod World
 pub mod Events
 pub mod Changes
 pub mod Rows
 pub mod Steps
 pub mod First
+pub mod Books
+pub mod Standing
+pub mod Headline
+pub mod Written
+pub mod Further
 pub mod Naming
 pub mod Kept
 pub mod Owning
 pub mod Sending
-pub mod Standing
-pub mod Written
+pub mod Attempts
 pub mod Serving
 pub mod Smooth

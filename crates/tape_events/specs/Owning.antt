@@ -1,4 +1,5 @@
--- Whose connection is the client's own, and which run is its. Public contracts stand on it (through Kept).
+-- How the headline is proved: whose connection is the client's own, and which run is its. No sentence of it names these points.
+-- Public contracts stand on it (through Kept).
 use Rattle.std.specs.Prelude.{◌≡◌, ℕ, IsTrue, Bool, true, false, Some}
 use Rattle.dump_client.specs.declared.stage.Stage.{Stage}
 use Rattle.dump_client.specs.declared.stage.Stage.TheVariants.{ToSend, Waiting}

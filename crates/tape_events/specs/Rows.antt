@@ -3,7 +3,7 @@ use Rattle.std.specs.Prelude.{◌≡◌, ◌⊎◌, ◌≢◌, ℕ, ◌+◌, ◌
 use Rattle.rmt_wire.specs.Request.{PlainRequest}
 use Rattle.rmt_wire.specs.RequestParts.{Gives}
 use Rattle.rmt_wire.specs.RequestReader.{RequestHeld, Unread, taken_of}
-use Rattle.rmt_wire.specs.Limits.{reader_limit}
+use Rattle.rmt_wire.specs.declared.limits.TheConstants.{READER_LIMIT}
 use Rattle.rmt_wire.specs.declared.fault.WireFault.{WireFault}
 use Rattle.drives.specs.Shop.{IsDriveNamed}
 use Rattle.drives.specs.Arranging.{are_distinct, is_piled}
@@ -22,18 +22,18 @@ use Rattle.tape_events.specs.Changes.{side_of, link_of}
 abbrev pub StandsIn : World → (Stage → Type 0) → Type 0
 StandsIn w p = (c : Caller) × (w.caller ≡ Some c) × p c.at.stage
 
-abbrev pub is_done : Stage → Bool
-is_done Finished = true
-is_done Abandoned = true
-is_done stage = false
+abbrev pub is_run_done : Stage → Bool
+is_run_done Finished = true
+is_run_done Abandoned = true
+is_run_done stage = false
 
 -- there is no run, or it is finished or abandoned
 abbrev pub NoRun : World → Type 0
-NoRun w = (w.caller ≡ None) ⊎ StandsIn w (λ stage. IsTrue (is_done stage))
+NoRun w = (w.caller ≡ None) ⊎ StandsIn w (λ stage. IsTrue (is_run_done stage))
 
 -- the run's number is among those entered
-abbrev pub IsEntered : World → ℕ → Type 0
-IsEntered w number = (e : Entered) × Contains w.entered e × (e.run ≡ number)
+abbrev pub IsRunEntered : World → ℕ → Type 0
+IsRunEntered w number = (e : Entered) × Contains w.entered e × (e.run ≡ number)
 
 -- the server's side is live, and there it has reached this
 abbrev pub IsLiveHere : World → ℕ → Side → Type 0
@@ -49,11 +49,11 @@ IsPart n way = (1 ≤ n) × (n ≤ length way)
 
 -- the reader has room for so many bytes
 abbrev pub HasRoomFor : RequestHeld → ℕ → Type 0
-HasRoomFor h n = (bytes : List ℕ) → Unread h bytes → n + taken_of bytes ≤ reader_limit
+HasRoomFor h n = (bytes : List ℕ) → Unread h bytes → n + taken_of bytes ≤ READER_LIMIT
 
 -- what is unread begins with a request, or with a fault
-abbrev pub IsFound : RequestHeld → Result (Option PlainRequest) WireFault → Type 0
-IsFound h found = (bytes : List ℕ) × (rest : List ℕ) × Unread h bytes × Gives bytes found rest × (found ≢ Ok None)
+abbrev pub IsRequestFound : RequestHeld → Result (Option PlainRequest) WireFault → Type 0
+IsRequestFound h found = (bytes : List ℕ) × (rest : List ℕ) × Unread h bytes × Gives bytes found rest × (found ≢ Ok None)
 
 -- the drive is there and free, and these reels may lie on its stack
 abbrev pub MayArrange : Hall → List ℕ → List (List ℕ) → Type 0
@@ -68,7 +68,7 @@ Possible w (Send fails) = StandsIn w (λ stage. (step : Step) × (stage ≡ ToSe
 Possible w (ToServer k n) =
     (s : Side) × (l : Link) × IsLiveHere w k s × (link_of w k ≡ Some l) × IsPart n l.toward × HasRoomFor s.reached n
 Possible w (Serve k trouble) =
-    (s : Side) × (found : Result (Option PlainRequest) WireFault) × IsLiveHere w k s × IsFound s.reached found
+    (s : Side) × (found : Result (Option PlainRequest) WireFault) × IsLiveHere w k s × IsRequestFound s.reached found
 Possible w (ToClient k n) = (l : Link) × IsLiveThere w k l × IsPart n l.back
 Possible w (Cut k) = (l : Link) × (link_of w k ≡ Some l) × (l.cut ≡ false)
 Possible w (EndAtServer k) = (s : Side) × (l : Link) × IsLiveHere w k s × (link_of w k ≡ Some l) × IsTrue l.cut
@@ -80,4 +80,4 @@ Possible w (Arrange drive reels) = MayArrange w.hall drive reels
 Possible w Stranger = Unit {0}
 Possible w (Says k bytes) = (l : Link) × IsLiveThere w k l × (l.dump ≡ None)
 Possible w Enter =
-    (c : Caller) × (w.caller ≡ Some c) × (c.at.stage ≡ Finished) × (IsEntered w c.number → ⊥)
+    (c : Caller) × (w.caller ≡ Some c) × (c.at.stage ≡ Finished) × (IsRunEntered w c.number → ⊥)

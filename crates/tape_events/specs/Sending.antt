@@ -1,13 +1,14 @@
--- What was sent on a connection of the client's, and what the server did of it. Public contracts stand on it (through Kept).
+-- How the headline is proved: what was sent on a connection of the client's, and what the server did of it. No sentence of it names
+-- these points. Public contracts stand on it (through Kept).
 use Rattle.std.specs.Prelude.{◌≡◌, ◌⊎◌, ℕ, ◌+◌, ◌^◌, ◌<◌, ◌≤◌, Bool, true, false, List, [], ◌++◌, length, get_or, Option, Some, None}
-use Rattle.rmt_wire.specs.Limits.{data_limit}
+use Rattle.rmt_wire.specs.declared.limits.TheConstants.{RECORD_LIMIT}
 use Rattle.rmt_wire.specs.Request.{PlainRequest, SpellsRequest, request_text}
 use Rattle.rmt_wire.specs.Reply.{PlainReply, SpellsReply, reply_text}
 use Rattle.rmt_wire.specs.Reply.Wanted.{Number}
 use Rattle.rmt_wire.specs.RequestReader.{Unread}
 use Rattle.rmt_server.specs.Hall.{Side}
 use Rattle.rmt_server.specs.Session.{PlainReel, PlainSession}
-use Rattle.rmt_server.specs.Session.PlainSession.{Idle, Offline, Online}
+use Rattle.rmt_server.specs.Session.PlainSession.{Idle, Offline}
 use Rattle.rmt_server.specs.declared.access.Access.TheVariants.{Both}
 use Rattle.dump_run.specs.Run.{PlainRun, IsRun}
 use Rattle.dump_client.specs.Script.{request_of}
@@ -23,6 +24,7 @@ use Rattle.dump_client.specs.declared.stage.Stage.{Stage}
 use Rattle.dump_client.specs.declared.stage.Stage.TheVariants.{ToSend, Waiting}
 use Rattle.tape_events.specs.World.{World, Link, Dumping, Begun, Caller, numbered}
 use Rattle.tape_events.specs.Changes.{side_of, link_of}
+use Rattle.tape_events.specs.Standing.{IsOnlineWith}
 
 -- a step that comes after the label, and one that comes after the mark
 abbrev pub is_labelled : Step → Bool
@@ -37,16 +39,12 @@ is_marked Close = true
 is_marked step = false
 
 -- so many blocks of the volume that begins at `first` are written before the step
-abbrev pub HasBlocks : PlainRun → ℕ → Step → ℕ → Type 0
-HasBlocks run first (Block number) blocks = (number ≡ first + blocks) × (number < run.blocks)
-HasBlocks run first (Mark next) blocks = next ≡ first + blocks
-HasBlocks run first (Unload next) blocks = next ≡ first + blocks
-HasBlocks run first Close blocks = Unit {0}
-HasBlocks run first step blocks = blocks ≡ 0
-
--- the session has its drive open for reading and writing, with this reel
-abbrev pub IsOnlineWith : PlainSession → PlainReel → Type 0
-IsOnlineWith session reel = (drive : ℕ) × (session ≡ Online drive Both reel)
+abbrev pub VolumeHasBlocks : PlainRun → ℕ → Step → ℕ → Type 0
+VolumeHasBlocks run first (Block number) blocks = (number ≡ first + blocks) × (number < run.blocks)
+VolumeHasBlocks run first (Mark next) blocks = next ≡ first + blocks
+VolumeHasBlocks run first (Unload next) blocks = next ≡ first + blocks
+VolumeHasBlocks run first Close blocks = Unit {0}
+VolumeHasBlocks run first step blocks = blocks ≡ 0
 
 -- How the session stands before a step: nothing is open before the open; before the rewind and the label the reel is at its
 -- beginning; after MTOFFL it is away.
@@ -63,7 +61,7 @@ pub record HasDone (run : PlainRun) (o : Option Side) (d : Dumping) (step : Step
   pub carried : d.carried ≡ length (steps_before run d.first (d.first + d.blocks) step)
   pub fault : d.fault ≡ false
   pub label : d.label ≡ is_labelled step
-  pub blocks : HasBlocks run d.first step d.blocks
+  pub blocks : VolumeHasBlocks run d.first step d.blocks
   pub within : d.first + d.blocks ≤ run.blocks
   pub mark : d.mark ≡ is_marked step
   pub stands : (s : Side) → o ≡ Some s → StandsFor step s.session
@@ -87,14 +85,14 @@ pub record IsPending (b : Begun) (o : Option Side) (way : List ℕ) (d : Dumping
   pub unserved : AreUnserved o way (request_text (request_in b d step)) ⊎ AreUnserved o way []
 
 -- all that was sent was carried out
-pub record IsSettled (o : Option Side) (way : List ℕ) (d : Dumping) : Type 0 where
+pub record IsLinkSettled (o : Option Side) (way : List ℕ) (d : Dumping) : Type 0 where
   pub sent : d.sent ≡ d.carried
   pub unserved : AreUnserved o way []
 
 -- Of a connection of the client's all that was sent was carried out, or all but the last request.
-abbrev pub IsSent : List Begun → Option Side → Link → Dumping → Type 0
-IsSent begun o l d =
-    IsSettled o l.toward d
+abbrev pub IsLinkSent : List Begun → Option Side → Link → Dumping → Type 0
+IsLinkSent begun o l d =
+    IsLinkSettled o l.toward d
     ⊎ ((b : Begun) × (step : Step) × (numbered begun d.run ≡ Some b) × IsPending b o l.toward d step)
 
 -- at the close the volume is counted, with the blocks that were written, and before it nothing is
@@ -120,8 +118,8 @@ pub record IsBrief (reply : PlainReply) : Type 0 where
   pub short : length (reply_text reply) < 255
 
 -- What the client heard and what is on the way to it are the reply to this step, or nothing, where that was lost.
-abbrev pub IsReply : PlainRun → Option Side → Standing → Dumping → Step → List ℕ → Type 0
-IsReply run o at d step bytes =
+abbrev pub IsStepReply : PlainRun → Option Side → Standing → Dumping → Step → List ℕ → Type 0
+IsStepReply run o at d step bytes =
     (bytes ≡ []) ⊎ ((reply : PlainReply) × (bytes ≡ reply_text reply) × IsBrief reply × LeadsOn run o at d step reply)
 
 -- the connection is that of the client's attempt
@@ -135,42 +133,42 @@ pub record IsAttempt (begun : List Begun) (c : Caller) (d : Dumping) (step : Ste
 -- it is the client's turn, and it has heard nothing yet
 pub record IsItsTurn (b : Begun) (o : Option Side) (l : Link) (c : Caller) (d : Dumping) (step : Step) : Type 0 where
   pub done : HasDone b.run o d step
-  pub settled : IsSettled o l.toward d
+  pub settled : IsLinkSettled o l.toward d
   pub back : l.back ≡ []
   pub fed : HasFedAt (ToSend step) c.reader []
 
 -- its request was sent, and not carried out
-pub record IsAsked (b : Begun) (o : Option Side) (l : Link) (c : Caller) (d : Dumping) (step : Step) : Type 0 where
+pub record IsStepAsked (b : Begun) (o : Option Side) (l : Link) (c : Caller) (d : Dumping) (step : Step) : Type 0 where
   pub pending : IsPending b o l.toward d step
   pub back : l.back ≡ []
   pub fed : HasFedAt (Waiting step) c.reader []
 
 -- its request was carried out
-pub record IsReplied (b : Begun) (o : Option Side) (l : Link) (c : Caller) (d : Dumping) (step : Step) : Type 0 where
-  pub settled : IsSettled o l.toward d
+pub record IsStepReplied (b : Begun) (o : Option Side) (l : Link) (c : Caller) (d : Dumping) (step : Step) : Type 0 where
+  pub settled : IsLinkSettled o l.toward d
   pub fed : List ℕ
   pub has : HasFedAt (Waiting step) c.reader fed
-  pub reply : IsReply b.run o c.at d step (fed ++ l.back)
+  pub reply : IsStepReply b.run o c.at d step (fed ++ l.back)
 
 -- what is told of the client's own connection, by the stage
-abbrev pub IsToldAt : Stage → List Begun → Option Side → Link → Caller → Dumping → Type 0
-IsToldAt (ToSend step) begun o l c d = (b : Begun) × IsAttempt begun c d step b × IsItsTurn b o l c d step
-IsToldAt (Waiting step) begun o l c d =
-    (b : Begun) × IsAttempt begun c d step b × (IsAsked b o l c d step ⊎ IsReplied b o l c d step)
-IsToldAt stage begun o l c d = Unit {0}
+abbrev pub IsLinkToldAt : Stage → List Begun → Option Side → Link → Caller → Dumping → Type 0
+IsLinkToldAt (ToSend step) begun o l c d = (b : Begun) × IsAttempt begun c d step b × IsItsTurn b o l c d step
+IsLinkToldAt (Waiting step) begun o l c d =
+    (b : Begun) × IsAttempt begun c d step b × (IsStepAsked b o l c d step ⊎ IsStepReplied b o l c d step)
+IsLinkToldAt stage begun o l c d = Unit {0}
 
 -- all that is told of a connection: of a stranger's nothing
-pub record IsTold (w : World) (k : ℕ) (o : Option Side) (l : Link) : Type 0 where
-  pub sent : (d : Dumping) → l.dump ≡ Some d → IsSent w.begun o l d
-  pub own : (d : Dumping) (c : Caller) → l.dump ≡ Some d → w.own ≡ Some k → w.caller ≡ Some c → IsToldAt c.at.stage w.begun o l c d
+pub record IsLinkTold (w : World) (k : ℕ) (o : Option Side) (l : Link) : Type 0 where
+  pub sent : (d : Dumping) → l.dump ≡ Some d → IsLinkSent w.begun o l d
+  pub own : (d : Dumping) (c : Caller) → l.dump ≡ Some d → w.own ≡ Some k → w.caller ≡ Some c → IsLinkToldAt c.at.stage w.begun o l c d
 
 -- A run within its limits, and a payload each block of which fits a record. It has all blocks of the run, and each is whole.
 pub record IsGood (b : Begun) : Type 0 where
   pub run : IsRun b.run
-  pub blocks : (n : ℕ) → length (get_or b.payload n []) ≤ data_limit
+  pub blocks : (n : ℕ) → length (get_or b.payload n []) ≤ RECORD_LIMIT
   pub whole : (i : ℕ) → i < b.run.blocks → length (get_or b.payload i []) ≡ b.run.block_bytes
 
 -- of each connection that is told
 pub record AreTold (w : World) : Type 0 where
   pub good : (n : ℕ) (b : Begun) → numbered w.begun n ≡ Some b → IsGood b
-  pub each : (k : ℕ) (l : Link) → link_of w k ≡ Some l → IsTold w k (side_of w.hall k) l
+  pub each : (k : ℕ) (l : Link) → link_of w k ≡ Some l → IsLinkTold w k (side_of w.hall k) l

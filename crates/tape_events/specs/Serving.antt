@@ -6,6 +6,7 @@ use Rattle.rmt_wire.specs.Reply.{PlainReply}
 use Rattle.rmt_wire.specs.Reply.PlainReply.{Done, Error}
 use Rattle.rmt_wire.specs.RequestParts.{Gives}
 use Rattle.rmt_wire.specs.RequestReader.{RequestHeld, Unread}
+use Rattle.rmt_wire.specs.declared.mtio.TheConstants.{MTOFFL}
 use Rattle.tape.specs.declared.trouble.Trouble.{Trouble}
 use Rattle.drives.specs.Shop.{Shop, kept_reel, slot, rack_at}
 use Rattle.rmt_server.specs.Hall.{Side}
@@ -16,11 +17,11 @@ use Rattle.dump_client.specs.declared.step.Step.{Step}
 use Rattle.tape_events.specs.World.{World, Dumping, Begun, numbered}
 use Rattle.tape_events.specs.Changes.{side_of, opening}
 use Rattle.tape_events.specs.Steps.{carried}
-use Rattle.tape_events.specs.Sending.{is_labelled, is_marked, HasBlocks, request_in}
-use Rattle.tape_events.specs.Written.{whole_volume}
+use Rattle.tape_events.specs.Sending.{is_labelled, is_marked, VolumeHasBlocks, request_in}
+use Rattle.tape_events.specs.Headline.{whole_volume}
 
 -- The server carries out a request that reached it on connection k, and this is the world after it.
-pub record CarriesOut (w : World) (k : ℕ) (trouble : Trouble) (u : World) : Type 0 where
+pub record ServerTurn (w : World) (k : ℕ) (trouble : Trouble) (u : World) : Type 0 where
   pub s : Side
   pub request : PlainRequest
   pub bytes : List ℕ
@@ -46,7 +47,7 @@ pub record IsNextSent (w : World) (d : Dumping) (request : PlainRequest) : Type 
   pub sent : d.sent ≡ d.carried + 1
   pub before : d.carried ≡ length (steps_before begun.run d.first (d.first + d.blocks) step)
   pub label : d.label ≡ is_labelled step
-  pub blocks : HasBlocks begun.run d.first step d.blocks
+  pub blocks : VolumeHasBlocks begun.run d.first step d.blocks
   pub mark : d.mark ≡ is_marked step
   pub asks : request ≡ request_in begun d step
 
@@ -83,4 +84,4 @@ pub record IsWholeInBin (w : World) (k : ℕ) (d : Dumping) (u : World) : Type 0
 
 -- an MTOFFL that was done
 abbrev pub IsMoveDone : PlainRequest → PlainReply → Type 0
-IsMoveDone request reply = ((count : ℕ) × (request ≡ Op 6 count)) × ((n : ℕ) × (reply ≡ Done n))
+IsMoveDone request reply = ((count : ℕ) × (request ≡ Op MTOFFL count)) × ((n : ℕ) × (reply ≡ Done n))

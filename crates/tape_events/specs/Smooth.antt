@@ -4,6 +4,7 @@ use Rattle.tape.specs.Tape.{PlainEntry, tape, offset_of}
 use Rattle.tape.specs.declared.trouble.Trouble.TheVariants.{None as NoTrouble}
 use Rattle.drives.specs.Shop.{KeptReel, kept_reel, Slot, slot, rack, Shop, shop, names_of}
 use Rattle.rmt_wire.specs.Reply.{PlainReply, reply_text}
+use Rattle.rmt_wire.specs.declared.errno.TheConstants.{ENOENT, ENOMEM, ENXIO}
 use Rattle.rmt_server.specs.Hall.{Side}
 use Rattle.rmt_server.specs.Session.{plain_reel, PlainSession}
 use Rattle.rmt_server.specs.Session.PlainSession.{Idle, Offline, Online}
@@ -25,12 +26,13 @@ use Rattle.dump_client.specs.declared.count.VolumeCount.{VolumeCount}
 use Rattle.tape_events.specs.World.{World, Link, Dumping, Begun, Caller, Count, Opening, numbered}
 use Rattle.tape_events.specs.Events.{PlainEvent}
 use Rattle.tape_events.specs.Events.PlainEvent.{StartRun, Connect, Send, ToServer, Serve, ToClient}
-use Rattle.tape_events.specs.First.{PlainDrive}
+use Rattle.tape_events.specs.First.{PlainDriveSpec}
 use Rattle.tape_events.specs.Changes.{side_of, link_of, opening}
 use Rattle.tape_events.specs.Rows.{StandsIn}
 use Rattle.tape_events.specs.Sending.{AreUnserved, AreCounted, IsBrief}
 use Rattle.tape_events.specs.Standing.{StandsOn}
-use Rattle.tape_events.specs.Written.{written, whole_volume}
+use Rattle.tape_events.specs.Written.{attempt_written}
+use Rattle.tape_events.specs.Headline.{whole_volume}
 
 -- An event without a fault: a run begins, the client connects and sends, bytes reach either end, and the server carries a request
 -- out whose device call does not fail.
@@ -54,12 +56,12 @@ room_for_one run = (label_bytes + 8) + (run.block_bytes + 8) + 4
 -- Why an attempt fails there: the server has no such drive, no reel in it or no memory; or the reel is too small, and then label
 -- and one block do not fit.
 abbrev pub IsFaultlessFailure : ℕ → PlainRun → AttemptFault → Type 0
-IsFaultlessFailure capacity run (Refused n) = (n ≡ 2) ⊎ (n ≡ 6) ⊎ (n ≡ 12)
+IsFaultlessFailure capacity run (Refused n) = (n ≡ ENOENT) ⊎ (n ≡ ENXIO) ⊎ (n ≡ ENOMEM)
 IsFaultlessFailure capacity run ReelTooSmall = capacity < room_for_one run
 IsFaultlessFailure capacity run fault = ⊥
 
 -- whatever the last event made fail, it failed for that
-abbrev pub FailsFaultless : PlainDrive → World → Type 0
+abbrev pub FailsFaultless : PlainDriveSpec → World → Type 0
 FailsFaultless drive w =
     (volume : ℕ) (fault : AttemptFault) → w.failure ≡ Some (volume, fault)
     → (c : Caller) × (w.caller ≡ Some c) × IsFaultlessFailure drive.capacity c.at.run fault
@@ -79,7 +81,7 @@ is_between stage = false
 
 -- The volumes are in order: an attempt failed for one of those causes alone; the reel of each count is that of its place on the
 -- stack of the first world, and holds its volume; and between attempts these reels are the bin, in order.
-pub record VolumesInOrder (drive : PlainDrive) (w : World) : Type 0 where
+pub record VolumesInOrder (drive : PlainDriveSpec) (w : World) : Type 0 where
   pub failure : FailsFaultless drive w
   pub reels : (i : ℕ) (x : Count) → slice_get w.counts i ≡ Some x → (slice_get drive.reels i ≡ Some x.reel) × HoldsVolume w x
   pub bin : StandsIn w (λ stage. is_between stage ≡ true) → names_of w.hall.shop.bin ≡ map (λ x. x.reel) w.counts
@@ -96,11 +98,11 @@ abbrev pub stock_of : World → Stock
 stock_of w = record { shop = w.hall.shop; holders = w.hall.holders; counts = w.counts; begun = w.begun; opens = w.opens }
 
 -- reels of these names, on which nothing was written
-abbrev pub blanks : PlainDrive → List (List ℕ) → List (Slot KeptReel)
+abbrev pub blanks : PlainDriveSpec → List (List ℕ) → List (Slot KeptReel)
 blanks drive names = map (λ name. slot name (Some (kept_reel [] drive.capacity))) names
 
 -- the one drive with this stack, and this bin
-abbrev pub one_drive : PlainDrive → List (Slot KeptReel) → List (Slot KeptReel) → Shop
+abbrev pub one_drive : PlainDriveSpec → List (Slot KeptReel) → List (Slot KeptReel) → Shop
 one_drive drive stack bin = shop (rack drive.name stack ∷ []) bin
 
 -- the volume of a count, where its run was begun
@@ -112,32 +114,32 @@ abbrev pub volume_slot : ℕ → List Begun → Count → Slot KeptReel
 volume_slot capacity begun x = slot x.reel (Some (kept_reel (volume_by (numbered begun x.run) x) capacity))
 
 -- the reels of the counts, each with its volume, in order
-abbrev pub volume_slots : PlainDrive → Stock → List (Slot KeptReel)
+abbrev pub volume_slots : PlainDriveSpec → Stock → List (Slot KeptReel)
 volume_slots drive t = map (volume_slot drive.capacity t.begun) t.counts
 
 -- the names of the reels that were not counted, in their order
-abbrev pub names_left : PlainDrive → Stock → List (List ℕ)
+abbrev pub names_left : PlainDriveSpec → Stock → List (List ℕ)
 names_left drive t = drop (length t.counts) drive.reels
 
 -- No session has the drive: it has the reels that were not counted, blank, and the bin those that were.
-pub record IsFree (drive : PlainDrive) (t : Stock) : Type 0 where
+pub record IsFree (drive : PlainDriveSpec) (t : Stock) : Type 0 where
   pub shop : t.shop ≡ one_drive drive (blanks drive (names_left drive t)) (volume_slots drive t)
   pub holders : t.holders ≡ 0 ∷ []
 
 -- Connection k has the next reel in the drive. What the attempt wrote stands on it, its place is the end, and from the label up to
 -- the mark there is room for the mark.
-pub record IsLatched (drive : PlainDrive) (t : Stock) (k : ℕ) (b : Begun) (d : Dumping) (session : PlainSession) : Type 0 where
+pub record IsLatched (drive : PlainDriveSpec) (t : Stock) (k : ℕ) (b : Begun) (d : Dumping) (session : PlainSession) : Type 0 where
   pub name : List ℕ
   pub others : List (List ℕ)
   pub next : names_left drive t ≡ name ∷ others
   pub shop : t.shop ≡ one_drive drive (slot name None ∷ blanks drive others) (volume_slots drive t)
   pub holders : t.holders ≡ k ∷ []
-  pub online : session ≡ Online 0 Both (plain_reel (tape (written b.run b.payload d) []) drive.capacity)
+  pub online : session ≡ Online 0 Both (plain_reel (tape (attempt_written b.run b.payload d) []) drive.capacity)
   pub opened : Contains t.opens (opening k name)
-  pub room : d.label ≡ true → d.mark ≡ false → offset_of (written b.run b.payload d) + 4 ≤ drive.capacity
+  pub room : d.label ≡ true → d.mark ≡ false → offset_of (attempt_written b.run b.payload d) + 4 ≤ drive.capacity
 
 -- The next reel lies last in the bin with the attempt's volume, which is not counted yet.
-pub record IsMoved (drive : PlainDrive) (t : Stock) (k : ℕ) (b : Begun) (d : Dumping) (session : PlainSession) : Type 0 where
+pub record IsMoved (drive : PlainDriveSpec) (t : Stock) (k : ℕ) (b : Begun) (d : Dumping) (session : PlainSession) : Type 0 where
   pub name : List ℕ
   pub others : List (List ℕ)
   pub next : names_left drive t ≡ name ∷ others
@@ -148,20 +150,20 @@ pub record IsMoved (drive : PlainDrive) (t : Stock) (k : ℕ) (b : Begun) (d : D
   pub opened : Contains t.opens (opening k name)
 
 -- The attempt's volume is counted, and its session has the drive still open.
-pub record IsOffline (drive : PlainDrive) (t : Stock) (k : ℕ) (session : PlainSession) : Type 0 where
+pub record IsOffline (drive : PlainDriveSpec) (t : Stock) (k : ℕ) (session : PlainSession) : Type 0 where
   pub shop : t.shop ≡ one_drive drive (blanks drive (names_left drive t)) (volume_slots drive t)
   pub holders : t.holders ≡ k ∷ []
   pub offline : session ≡ Offline 0 Both
 
 -- how all stands before a step of the attempt of connection k
-abbrev pub StandsBefore : Step → PlainDrive → Stock → ℕ → Begun → Dumping → PlainSession → Type 0
+abbrev pub StandsBefore : Step → PlainDriveSpec → Stock → ℕ → Begun → Dumping → PlainSession → Type 0
 StandsBefore Open drive t k b d session = IsFree drive t × (session ≡ Idle)
 StandsBefore Close drive t k b d session = IsOffline drive t k session
 StandsBefore step drive t k b d session = IsLatched drive t k b d session
 
 -- How all stands once a reply is heard: before the step that it leads to, or, before the close, with a volume that is counted then;
 -- where the attempt failed only the bin is told, and where it ended none has the drive.
-abbrev pub StandsThen : Progress → Stage → PlainDrive → Stock → ℕ → Begun → Dumping → PlainSession → Type 0
+abbrev pub StandsThen : Progress → Stage → PlainDriveSpec → Stock → ℕ → Begun → Dumping → PlainSession → Type 0
 StandsThen moved.Send (ToSend Close) drive t k b d session = IsMoved drive t k b d session
 StandsThen moved.Send (ToSend step) drive t k b d session = StandsBefore step drive t k b d session
 StandsThen (moved.Failed fault) Asking drive t k b d session =
@@ -175,11 +177,21 @@ abbrev pub CountsThen : Stage → List VolumeCount → Dumping → List VolumeCo
 CountsThen (ToSend next) counts d new = AreCounted next counts d new
 CountsThen stage counts d new = new ≡ counts
 
+-- an attempt: its connection, its run, what it came to there, and the session
+pub record Attempt : Type 0 where
+  pub connection : ℕ
+  pub begun : Begun
+  pub dump : Dumping
+  pub session : PlainSession
+
+abbrev pub attempt_on : ℕ → Begun → Dumping → PlainSession → Attempt
+attempt_on k b d session = record { connection = k; begun = b; dump = d; session = session }
+
 -- where the reply to a step leads, and how all stands then
-abbrev pub Leads : PlainDrive → Stock → ℕ → Standing → Begun → Dumping → PlainSession → Step → PlainReply → Type 0
-Leads drive t k old b d session step reply =
+abbrev pub Leads : PlainDriveSpec → Stock → Attempt → Standing → Step → PlainReply → Type 0
+Leads drive t a old step reply =
     (progress : Progress) (new : Standing) → HearsAt old step (Reply reply) false progress new
-    → StandsThen progress new.stage drive t k b d session × CountsThen new.stage old.counts d new.counts
+    → StandsThen progress new.stage drive t a.connection a.begun a.dump a.session × CountsThen new.stage old.counts a.dump new.counts
 
 -- the connection of the client's attempt, which no fault met
 pub record IsOwnLink (w : World) (k : ℕ) (l : Link) (d : Dumping) (b : Begun) (s : Side) : Type 0 where
@@ -191,43 +203,41 @@ pub record IsOwnLink (w : World) (k : ℕ) (l : Link) (d : Dumping) (b : Begun) 
   pub live : side_of w.hall k ≡ Some s
 
 -- the request was sent, and nothing is on the way back
-pub record IsUnanswered (drive : PlainDrive) (w : World) (k : ℕ) (l : Link) (d : Dumping) (b : Begun) (s : Side) (step : Step)
-    : Type 0 where
+pub record IsStepUnanswered (drive : PlainDriveSpec) (w : World) (a : Attempt) (l : Link) (step : Step) : Type 0 where
   pub back : l.back ≡ []
-  pub stands : StandsBefore step drive (stock_of w) k b d s.session
+  pub stands : StandsBefore step drive (stock_of w) a.connection a.begun a.dump a.session
 
 -- The request was carried out: what the client heard and what is on the way to it are the reply. The reels of the counts come first
 -- in the bin.
-pub record IsAnswered (drive : PlainDrive) (w : World) (k : ℕ) (l : Link) (c : Caller) (d : Dumping) (b : Begun) (s : Side) (step : Step)
-    : Type 0 where
-  pub served : AreUnserved (side_of w.hall k) l.toward []
+pub record IsStepAnswered (drive : PlainDriveSpec) (w : World) (a : Attempt) (l : Link) (c : Caller) (step : Step) : Type 0 where
+  pub served : AreUnserved (side_of w.hall a.connection) l.toward []
   pub fed : List ℕ
   pub has : HasFedAt (Waiting step) c.reader fed
   pub reply : PlainReply
   pub text : fed ++ l.back ≡ reply_text reply
   pub brief : IsBrief reply
   pub bin : (more : List (Slot KeptReel)) × (w.hall.shop.bin ≡ volume_slots drive (stock_of w) ++ more)
-  pub leads : Leads drive (stock_of w) k c.at b d s.session step reply
+  pub leads : Leads drive (stock_of w) a c.at step reply
 
 -- how all stands, by the stage of the client
-abbrev pub StandsAt : Stage → PlainDrive → World → Caller → Type 0
-StandsAt (ToSend step) drive w c =
+abbrev pub ReelsStandAt : Stage → PlainDriveSpec → World → Caller → Type 0
+ReelsStandAt (ToSend step) drive w c =
     (k : ℕ) × (l : Link) × (d : Dumping) × (b : Begun) × (s : Side) × IsOwnLink w k l d b s
     × StandsBefore step drive (stock_of w) k b d s.session
-StandsAt (Waiting step) drive w c =
+ReelsStandAt (Waiting step) drive w c =
     (k : ℕ) × (l : Link) × (d : Dumping) × (b : Begun) × (s : Side) × IsOwnLink w k l d b s
-    × (IsUnanswered drive w k l d b s step ⊎ IsAnswered drive w k l c d b s step)
-StandsAt Asking drive w c = w.hall.shop.bin ≡ volume_slots drive (stock_of w)
-StandsAt Abandoned drive w c = ⊥
-StandsAt stage drive w c = IsFree drive (stock_of w)
+    × (IsStepUnanswered drive w (attempt_on k b d s.session) l step ⊎ IsStepAnswered drive w (attempt_on k b d s.session) l c step)
+ReelsStandAt Asking drive w c = w.hall.shop.bin ≡ volume_slots drive (stock_of w)
+ReelsStandAt Abandoned drive w c = ⊥
+ReelsStandAt stage drive w c = IsFree drive (stock_of w)
 
-abbrev pub StandsWith : Option Caller → PlainDrive → World → Type 0
+abbrev pub StandsWith : Option Caller → PlainDriveSpec → World → Type 0
 StandsWith None drive w = IsFree drive (stock_of w)
-StandsWith (Some c) drive w = StandsAt c.at.stage drive w c
+StandsWith (Some c) drive w = ReelsStandAt c.at.stage drive w c
 
 -- What stays so while no fault comes: each connection is the client's, and on all but its own nothing is unserved; the reels of
 -- the counts are the first of the opening stack, in order.
-pub record IsSmooth (drive : PlainDrive) (w : World) : Type 0 where
+pub record IsSmooth (drive : PlainDriveSpec) (w : World) : Type 0 where
   pub clients : (j : ℕ) (l : Link) → link_of w j ≡ Some l → (d : Dumping) × (l.dump ≡ Some d)
   pub still : (j : ℕ) (l : Link) → link_of w j ≡ Some l → w.own ≢ Some j → AreUnserved (side_of w.hall j) l.toward []
   pub reels : map (λ (x : Count). x.reel) w.counts ≡ take (length w.counts) drive.reels

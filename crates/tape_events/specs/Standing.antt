@@ -1,12 +1,53 @@
--- Where a reel is, and what stands on it. Public contracts stand on it (through Written).
-use Rattle.std.specs.Prelude.{◌≡◌, ◌⊎◌, ℕ, List, [], ◌∷◌, Some}
+-- Which session has a drive open, where a reel is, and what stands on it. Public contracts cite it.
+use Rattle.std.specs.Prelude.{◌≡◌, ◌⊎◌, ℕ, suc, ◌<◌, List, [], ◌∷◌, length, slice_get, Option, Some, None}
 use Rattle.tape.specs.Tape.{PlainEntry, entries_of}
-use Rattle.drives.specs.Shop.{KeptReel, Slot, Shop, rack_at}
+use Rattle.drives.specs.Shop.{KeptReel, Slot, Shop, rack_at, names_in, times}
 use Rattle.rmt_server.specs.declared.access.Access.{Access}
+use Rattle.rmt_server.specs.declared.access.Access.TheVariants.{Both}
 use Rattle.rmt_server.specs.Session.{PlainReel, PlainSession}
-use Rattle.rmt_server.specs.Session.PlainSession.{Online}
+use Rattle.rmt_server.specs.Session.PlainSession.{Idle, Offline, Online}
+use Rattle.rmt_server.specs.TroubledServe.{drive_in}
 use Rattle.rmt_server.specs.Hall.{Hall, Side}
 use Rattle.tape_events.specs.Changes.{side_of, first_name}
+
+-- the session of connection k has drive d open, with its reel or without it
+abbrev pub HasOpen : Hall → ℕ → ℕ → Type 0
+HasOpen h k d = (s : Side) × (side_of h k ≡ Some s) × (drive_in s.session ≡ Some d)
+
+-- The holder of a drive is the connection whose live side has it open, with its reel or without it. A drive that none has open
+-- has no holder.
+pub record AreHeld (h : Hall) : Type 0 where
+  pub places : length h.holders ≡ length h.shop.racks
+  pub opened : (k d : ℕ) (s : Side) → side_of h k ≡ Some s → drive_in s.session ≡ Some d → slice_get h.holders d ≡ Some k
+  pub holds : (k d : ℕ) → slice_get h.holders d ≡ Some (suc k) → HasOpen h (suc k) d
+
+-- the drive that a session has open with its reel
+abbrev pub online_drive_in : PlainSession → Option ℕ
+online_drive_in Idle = None
+online_drive_in (Offline drive access) = None
+online_drive_in (Online drive access reel) = Some drive
+
+-- a session is online at that drive
+abbrev pub IsOnlineAt : Hall → ℕ → Type 0
+IsOnlineAt h d = (k : ℕ) × (s : Side) × (side_of h k ≡ Some s) × (online_drive_in s.session ≡ Some d)
+
+-- the session has its drive open for reading and writing, with this reel
+abbrev pub IsOnlineWith : PlainSession → PlainReel → Type 0
+IsOnlineWith session reel = (drive : ℕ) × (session ≡ Online drive Both reel)
+
+-- each of these has its reel
+abbrev pub AreThere : List (Slot KeptReel) → Type 0
+AreThere [] = Unit {0}
+AreThere (first ∷ rest) = ((reel : KeptReel) × (first.reel ≡ Some reel)) × AreThere rest
+
+-- the first is away, and it alone
+abbrev pub IsFirstAway : List (Slot KeptReel) → Type 0
+IsFirstAway [] = ⊥
+IsFirstAway (first ∷ rest) = (first.reel ≡ None) × AreThere rest
+
+-- a reel of that name is there: on a stack, in a drive or in the bin
+abbrev pub HasReel : Shop → List ℕ → Type 0
+HasReel s name = 0 < times name (names_in s)
 
 -- a reel of that name lies there, and has these entries
 pub record IsReelOf (x : Slot KeptReel) (name : List ℕ) (entries : List PlainEntry) : Type 0 where
@@ -16,13 +57,13 @@ pub record IsReelOf (x : Slot KeptReel) (name : List ℕ) (entries : List PlainE
   pub holds : reel.entries ≡ entries
 
 -- one of these does
-abbrev pub LiesIn : List (Slot KeptReel) → List ℕ → List PlainEntry → Type 0
-LiesIn [] name entries = ⊥
-LiesIn (x ∷ xs) name entries = IsReelOf x name entries ⊎ LiesIn xs name entries
+abbrev pub ReelLiesIn : List (Slot KeptReel) → List ℕ → List PlainEntry → Type 0
+ReelLiesIn [] name entries = ⊥
+ReelLiesIn (x ∷ xs) name entries = IsReelOf x name entries ⊎ ReelLiesIn xs name entries
 
 -- a reel of that name lies on a stack or in the bin
-abbrev pub LiesOn : Shop → List ℕ → List PlainEntry → Type 0
-LiesOn s name entries = ((d : ℕ) × LiesIn (rack_at s d).stack name entries) ⊎ LiesIn s.bin name entries
+abbrev pub ReelLiesOn : Shop → List ℕ → List PlainEntry → Type 0
+ReelLiesOn s name entries = ((d : ℕ) × ReelLiesIn (rack_at s d).stack name entries) ⊎ ReelLiesIn s.bin name entries
 
 -- The session is online, and the reel in its drive, the first of the drive's stack, has that name and these entries.
 abbrev pub HasInDrive : Shop → PlainSession → List ℕ → List PlainEntry → Type 0
@@ -36,8 +77,8 @@ IsInDrive h name entries = (k : ℕ) × (s : Side) × (side_of h k ≡ Some s) �
 
 -- These entries stand on the reel of that name, wherever it is.
 abbrev pub StandsOn : Hall → List ℕ → List PlainEntry → Type 0
-StandsOn h name entries = LiesOn h.shop name entries ⊎ IsInDrive h name entries
+StandsOn h name entries = ReelLiesOn h.shop name entries ⊎ IsInDrive h name entries
 
 -- They do, and no others.
-abbrev pub HoldsJust : Hall → List ℕ → List PlainEntry → Type 0
-HoldsJust h name entries = StandsOn h name entries × ((others : List PlainEntry) → StandsOn h name others → others ≡ entries)
+abbrev pub ReelHoldsJust : Hall → List ℕ → List PlainEntry → Type 0
+ReelHoldsJust h name entries = StandsOn h name entries × ((others : List PlainEntry) → StandsOn h name others → others ≡ entries)

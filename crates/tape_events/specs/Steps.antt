@@ -28,7 +28,7 @@ use Rattle.tape_events.specs.World.{World, Link, Dumping, Begun, Caller, numbere
 use Rattle.tape_events.specs.Events.{PlainEvent}
 use Rattle.tape_events.specs.Events.PlainEvent.{StartRun, Connect, Send, ToServer, Serve, ToClient, Cut, EndAtServer, EndAtClient, ServerRestart, ClientRestart, Respond, Arrange, Stranger, Says, Enter}
 use Rattle.tape_events.specs.Rows.{Possible}
-use Rattle.tape_events.specs.Changes.{changed, side_of, link_of, calm, joined, sent_on, left, given_up, ended_at, restarted, opened_reel, opening, answered, noted_sent, counted_from, came_to}
+use Rattle.tape_events.specs.Changes.{changed, side_of, link_of, calm, joined, sent_on, other_left, given_up, ended_at, restarted, opened_reel, opening, answered, noted_sent, counted_from, came_to}
 
 abbrev pub caller : ℕ → Standing → ReplyHeld → Caller
 caller number at reader = record { number = number; at = at; reader = reader }
@@ -56,8 +56,8 @@ fresh c = record {
 }
 
 -- the client starts an attempt, on a connection of its own
-abbrev pub connected : World → Caller → World
-connected w c = record (joined w (Some (fresh c))) {
+abbrev pub client_connected : World → Caller → World
+client_connected w c = record (joined w (Some (fresh c))) {
   caller = Some (caller c.number (standing c.at.run c.at.counts (ToSend Open)) (reply_held None []));
   own = Some (length w.links + 1);
   failure = None;
@@ -138,7 +138,7 @@ Hears (Some dump) w k n piece u =
 
 -- the side that is not the server's sees the end
 abbrev pub SeesEnd : Option Dumping → World → ℕ → World → Type 0
-SeesEnd None w k u = u ≡ left (calm w) k
+SeesEnd None w k u = u ≡ other_left (calm w) k
 SeesEnd (Some dump) w k u =
     (c : Caller) × (at : Standing) × (reader : ReplyHeld) × (progress : Progress) × (w.caller ≡ Some c)
     × CutAt c.at.stage c.at progress at × HasFedAt at.stage reader []
@@ -164,7 +164,7 @@ recorded w c = record (calm w) {
 -- One event, and the world after it. Whether it is possible is said by `Possible`.
 abbrev pub WorldStep : World → PlainEvent → World → Type 0
 WorldStep w (StartRun run payload) u = (reader : ReplyHeld) × (u ≡ begun w run payload reader)
-WorldStep w Connect u = (c : Caller) × (w.caller ≡ Some c) × (c.at.stage ≡ Ready) × (u ≡ connected w c)
+WorldStep w Connect u = (c : Caller) × (w.caller ≡ Some c) × (c.at.stage ≡ Ready) × (u ≡ client_connected w c)
 WorldStep w (Send fails) u =
     (c : Caller) × (step : Step) × (k : ℕ) × (b : Begun) × (w.caller ≡ Some c) × (c.at.stage ≡ ToSend step) × (w.own ≡ Some k)
     × (numbered w.begun c.number ≡ Some b) × Sends (is_failing fails step) w k c b.payload step u

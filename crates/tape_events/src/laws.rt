@@ -1,17 +1,19 @@
 //! What stays so whatever happens, and what one request comes to: laws, each the contract of a call that does nothing.
 
-ghost use Rattle.std.specs.Prelude.{◌≡◌, ◌⊎◌, ℕ, List, ◌++◌, Some};
+ghost use Rattle.std.specs.Prelude.{◌≡◌, ◌⊎◌, ℕ, List, ◌++◌};
 ghost use Rattle.tape.specs.declared.trouble.Trouble.{Trouble};
-ghost use Rattle.tape_events.specs.World.{World, Link, Dumping};
-ghost use Rattle.tape_events.specs.Changes.{link_of, calm, ended_at};
+ghost use Rattle.tape_events.specs.World.{World, Dumping};
+ghost use Rattle.tape_events.specs.Changes.{HasDump, calm, ended_at};
 ghost use Rattle.tape_events.specs.Events.{PlainEvent};
 ghost use Rattle.tape_events.specs.Events.PlainEvent.{Serve};
 ghost use Rattle.tape_events.specs.Steps.{Runs, Happens};
-ghost use Rattle.tape_events.specs.First.{PlainDrive, AreGoodDrives, first_world};
-ghost use Rattle.tape_events.specs.Kept.{IsKept, AreHeld, NoTwoHolders, DumpdatesGained, SentRequests, LatchedReels, ClientsCounts};
+ghost use Rattle.tape_events.specs.First.{PlainDriveSpec, AreGoodDrives, first_world};
+ghost use Rattle.tape_events.specs.Headline.{Headline, CountedReels, NoTwoHolders, DumpdatesGained};
+ghost use Rattle.tape_events.specs.Further.{SentRequests, LatchedReels, LabelledReels, ClientsCounts};
+ghost use Rattle.tape_events.specs.Standing.{AreHeld};
+ghost use Rattle.tape_events.specs.Kept.{IsWorldKept};
 ghost use Rattle.tape_events.specs.Naming.{SameNames};
-ghost use Rattle.tape_events.specs.Serving.{CarriesOut, IsNextSent, Meets, OthersStay, IsMoveDone, IsWholeInBin};
-ghost use Rattle.tape_events.specs.Written.{LabelledReels, CountedReels};
+ghost use Rattle.tape_events.specs.Serving.{ServerTurn, IsNextSent, Meets, OthersStay, IsMoveDone, IsWholeInBin};
 
 use dump_client::same_run;
 use rmt_wire::{dropped_writes, one_reading, one_reply};
@@ -31,26 +33,28 @@ pub fn one_run()
 /// volume; and dumpdates gained only dumps whose counted volumes are all their blocks in order.
 ///
 /// Where the label of an attempt was accepted and no write of it met a device fault, what it wrote stands on its reel, and
-/// nothing else, while no session opened that reel for writing since.
+/// nothing else, while no session opened that reel for writing since. While its session has the reel in its drive and was not
+/// asked for MTOFFL, the place is the reel's end.
 ///
 /// As many requests were carried out of a client's connection as were sent there, or one fewer; a latched reel is one
 /// session's, and first on the stack of the drive that this holds; and the counts of the client's number are its own.
 ///
 /// It does nothing: its contract is a law of the definitions.
 pub fn kept()
-    ensures first { (drives : List PlainDrive) → AreGoodDrives drives → IsKept (first_world drives) }
-    ensures after { (w u : World) (event : PlainEvent) → IsKept w → Happens w event u → IsKept u }
-    ensures runs { (drives : List PlainDrive) (events : List PlainEvent) (w : World) → AreGoodDrives drives →
-        Runs (first_world drives) events w → IsKept w }
-    ensures names { (w u : World) (event : PlainEvent) → IsKept w → Happens w event u → SameNames w.hall.shop u.hall.shop }
-    ensures holders { (w : World) → IsKept w → AreHeld w.hall }
-    ensures no_two_holders { (w : World) → IsKept w → NoTwoHolders w }
-    ensures labelled_reels { (w : World) → IsKept w → LabelledReels w }
-    ensures counted_reels { (w : World) → IsKept w → CountedReels w }
-    ensures dumpdates_gained { (w : World) → IsKept w → DumpdatesGained w }
-    ensures sent_requests { (w : World) → IsKept w → SentRequests w }
-    ensures latched_reels { (w : World) → IsKept w → LatchedReels w }
-    ensures clients_counts { (w : World) → IsKept w → ClientsCounts w }
+    ensures first { (drives : List PlainDriveSpec) → AreGoodDrives drives → IsWorldKept (first_world drives) }
+    ensures after { (w u : World) (event : PlainEvent) → IsWorldKept w → Happens w event u → IsWorldKept u }
+    ensures runs { (drives : List PlainDriveSpec) (events : List PlainEvent) (w : World) → AreGoodDrives drives →
+        Runs (first_world drives) events w → IsWorldKept w }
+    ensures names { (w u : World) (event : PlainEvent) → IsWorldKept w → Happens w event u → SameNames w.hall.shop u.hall.shop }
+    ensures headline { (w : World) → IsWorldKept w → Headline w }
+    ensures holders { (w : World) → IsWorldKept w → AreHeld w.hall }
+    ensures no_two_holders { (w : World) → IsWorldKept w → NoTwoHolders w }
+    ensures labelled_reels { (w : World) → IsWorldKept w → LabelledReels w }
+    ensures counted_reels { (w : World) → IsWorldKept w → CountedReels w }
+    ensures dumpdates_gained { (w : World) → IsWorldKept w → DumpdatesGained w }
+    ensures sent_requests { (w : World) → IsWorldKept w → SentRequests w }
+    ensures latched_reels { (w : World) → IsWorldKept w → LatchedReels w }
+    ensures clients_counts { (w : World) → IsWorldKept w → ClientsCounts w }
 {
     same_run();
     one_reading();
@@ -68,14 +72,14 @@ pub fn kept()
 /// It does nothing: its contract is a law of the definitions.
 pub fn one_request()
     ensures carries { (w u : World) (k : ℕ) (trouble : Trouble) → Happens w (Serve k trouble) u →
-        CarriesOut w k trouble u ⊎ (u ≡ ended_at (calm w) k) }
-    ensures next_request { (w u : World) (k : ℕ) (trouble : Trouble) (c : CarriesOut w k trouble u) (l : Link) (d : Dumping) →
-        IsKept w → link_of w k ≡ Some l → l.dump ≡ Some d → IsNextSent w d c.request }
-    ensures stale_requests { (w u : World) (k : ℕ) (trouble : Trouble) (c : CarriesOut w k trouble u) → IsKept w →
+        ServerTurn w k trouble u ⊎ (u ≡ ended_at (calm w) k) }
+    ensures next_request { (w u : World) (k : ℕ) (t : Trouble) (c : ServerTurn w k t u) (d : Dumping) →
+        IsWorldKept w → HasDump w k d → IsNextSent w d c.request }
+    ensures stale_requests { (w u : World) (k : ℕ) (trouble : Trouble) (c : ServerTurn w k trouble u) → IsWorldKept w →
         Meets w k c.s.session c.request c.reply c.session }
-    ensures others_stay { (w u : World) (k : ℕ) (trouble : Trouble) (c : CarriesOut w k trouble u) → IsKept w → OthersStay w k u }
-    ensures whole_at_the_move { (w u : World) (k : ℕ) (trouble : Trouble) (c : CarriesOut w k trouble u) (l : Link) (d : Dumping) →
-        IsKept w → link_of w k ≡ Some l → l.dump ≡ Some d → IsMoveDone c.request c.reply → IsWholeInBin w k d u }
+    ensures others_stay { (w u : World) (k : ℕ) (trouble : Trouble) (c : ServerTurn w k trouble u) → IsWorldKept w → OthersStay w k u }
+    ensures whole_at_the_move { (w u : World) (k : ℕ) (t : Trouble) (c : ServerTurn w k t u) (d : Dumping) →
+        IsWorldKept w → HasDump w k d → IsMoveDone c.request c.reply → IsWholeInBin w k d u }
 {
     one_reading();
     dropped_writes();

@@ -4,8 +4,8 @@ ghost use Rattle.std.specs.Prelude.{List, [], ◌∷◌};
 ghost use Rattle.tape_events.specs.World.{World};
 ghost use Rattle.tape_events.specs.Events.{PlainEvent};
 ghost use Rattle.tape_events.specs.Steps.{Runs, Happens};
-ghost use Rattle.tape_events.specs.First.{PlainDrive, AreGoodDrives, first_world};
-ghost use Rattle.tape_events.specs.Kept.{IsKept};
+ghost use Rattle.tape_events.specs.First.{PlainDriveSpec, AreGoodDrives, first_world};
+ghost use Rattle.tape_events.specs.Kept.{IsWorldKept};
 ghost use Rattle.tape_events.specs.Smooth.{IsFaultless, AreFaultless, IsSmooth, VolumesInOrder};
 
 use dump_client::same_run;
@@ -19,11 +19,11 @@ use rmt_wire::{dropped_writes, one_reading, one_reply};
 ///
 /// It does nothing: its contract is a law of the definitions.
 pub fn smooth()
-    ensures first { (drive : PlainDrive) → IsSmooth drive (first_world (drive ∷ [])) }
-    ensures after { (drive : PlainDrive) (w u : World) (event : PlainEvent) → IsKept w → IsSmooth drive w →
+    ensures first { (drive : PlainDriveSpec) → IsSmooth drive (first_world (drive ∷ [])) }
+    ensures after { (drive : PlainDriveSpec) (w u : World) (event : PlainEvent) → IsWorldKept w → IsSmooth drive w →
         IsFaultless event → Happens w event u → IsSmooth drive u }
-    ensures in_order { (drive : PlainDrive) (w : World) → IsKept w → IsSmooth drive w → VolumesInOrder drive w }
-    ensures runs { (drive : PlainDrive) (events : List PlainEvent) (w : World) → AreGoodDrives (drive ∷ []) →
+    ensures in_order { (drive : PlainDriveSpec) (w : World) → IsWorldKept w → IsSmooth drive w → VolumesInOrder drive w }
+    ensures runs { (drive : PlainDriveSpec) (events : List PlainEvent) (w : World) → AreGoodDrives (drive ∷ []) →
         AreFaultless events → Runs (first_world (drive ∷ [])) events w → VolumesInOrder drive w }
 {
     same_run();

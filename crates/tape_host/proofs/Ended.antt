@@ -18,7 +18,7 @@ use Rattle.tape_host.specs.declared.side.Side.{Side as RealSide}
 use Rattle.tape_host.specs.declared.side.Next.{Next}
 use Rattle.tape_host.specs.declared.side.Next.TheVariants.{Nothing, Seat, Whole}
 use Rattle.tape_host.specs.Halls.{side_at, with_side_at, ended_from, ended}
-use Rattle.tape_host.specs.Hosting.{MemoryDrives, MemoryDesk, idle_desk, seen, hall_of, IsLive, IsIdleAt, IsWaiting, IsHosting}
+use Rattle.tape_host.specs.Hosting.{MemoryDrives, MemoryDesk, idle_desk, seen_side, hall_of, IsLive, IsIdleAt, IsNextWaiting, IsHosting}
 use Rattle.tape_host.proofs.Sides.{side_within, side_other, side_same, side_map, length_with, map_with}
 use Rattle.tape_host.specs.Lying.{LieBut, IsOnlineAt}
 use Rattle.tape_host.proofs.Tidied.{Either, OnlineBeside, closed_fits, side_tidy}
@@ -48,7 +48,7 @@ hall_is {x} {y} {a} {b} {m} {n} e f g = ap (λ z. hall z a m) e ∙ ap (λ z. ha
 
 -- a side that is not live has no end
 pub ended_none : (drives : MemoryDrives) (sides : List (Option RealSide)) (k : ℕ) → side_at sides k ≡ None → hall_of drives sides ≡ ended (hall_of drives sides) k
-ended_none drives sides k e = ap (ended_from (hall_of drives sides) k) (sym (side_map seen sides k ∙ ap (option_map seen) e))
+ended_none drives sides k e = ap (ended_from (hall_of drives sides) k) (sym (side_map seen_side sides k ∙ ap (option_map seen_side) e))
 
 -- who held a drive that is held after a close
 still_held : (drive : Option ℕ) (d m n : ℕ) → word_after_close drive d m ≡ n → 0 < n → (m ≡ n) × (drive ≢ Some d)
@@ -79,7 +79,7 @@ module _ (others : OthersStay) {drives drives' : MemoryDrives} {k : ℕ} {one af
   idle_stays : (n : ℕ) (desk : MemoryDesk) → n ≢ k → IsIdleAt drives n desk → IsIdleAt drives' n desk
   idle_stays n desk apart i = record { at = desk_stays n desk apart i.number i.at; number = i.number; idle = i.idle }
 
-  pub waiting_stays : (n : ℕ) (next : Next) → k ≤ n → drives'.holds.last ≡ drives.holds.last → IsWaiting drives n next → IsWaiting drives' n next
+  pub waiting_stays : (n : ℕ) (next : Next) → k ≤ n → drives'.holds.last ≡ drives.holds.last → IsNextWaiting drives n next → IsNextWaiting drives' n next
   waiting_stays n Nothing within same w = same ∙ w
   waiting_stays n (Seat seat) within same w = (same ∙ w.0, idle_stays (n + 1) (idle_desk seat) (λ e. absurd (omega (arith, e, within))) w.1)
   waiting_stays n (Whole s) within same w = (same ∙ w.0, idle_stays (n + 1) s.session (λ e. absurd (omega (arith, e, within))) w.1, w.2)
@@ -117,9 +117,9 @@ module _ (others : OthersStay) (scene : TellsScene) (ends : EndsUntroubled) {dri
       let apart : n ≢ k = λ same. was.1 (holds_open h d k s live (l, was.0 ∙ same)) in
       (found.0, side_other sides k n None apart ∙ found.1)
 
-  ended_tidy : LieBut (shop_of drives'.stacks) (IsOnlineAt (map (option_map seen) (with_side_at sides k None)))
+  ended_tidy : LieBut (shop_of drives'.stacks) (IsOnlineAt (map (option_map seen_side) (with_side_at sides k None)))
   ended_tidy =
-      let others = OnlineBeside (map (option_map seen) sides) k in
+      let others = OnlineBeside (map (option_map seen_side) sides) k in
       side_tidy sides k s is None (shop_of drives.stacks) (shop_of drives'.stacks) h.tidy
       (λ own. subst (λ (x : Shop). LieBut x (Either None others)) left.tells.shop.0 (closed_fits others (shop_of drives.stacks) (session_seen s.session.opened) own))
 
@@ -127,7 +127,7 @@ module _ (others : OthersStay) (scene : TellsScene) (ends : EndsUntroubled) {dri
   ended_hosting = record {
     live = ended_live;
     held = ended_held;
-    waiting = subst (λ n. IsWaiting drives' n next) (sym (length_with sides k None))
+    waiting = subst (λ n. IsNextWaiting drives' n next) (sym (length_with sides k None))
         (waiting_stays others live.number live.at c.at c.kept (length sides) next (side_within sides k s is).1 c.same_seats h.waiting);
     told = (refl, subst EachReelOnce left.tells.shop.0 left.tells.shop.1);
     paired = c.kept.same_holds ∙ h.paired ∙ sym c.kept.same_stacks;
@@ -138,5 +138,5 @@ module _ (others : OthersStay) (scene : TellsScene) (ends : EndsUntroubled) {dri
 
   pub ended_hall : hall_of drives' (with_side_at sides k None) ≡ ended (hall_of drives sides) k
   ended_hall =
-      hall_is (sym left.tells.shop.0) left.held (map_with seen sides k None)
-      ∙ ap (ended_from (hall_of drives sides) k) (sym (side_map seen sides k ∙ ap (option_map seen) is))
+      hall_is (sym left.tells.shop.0) left.held (map_with seen_side sides k None)
+      ∙ ap (ended_from (hall_of drives sides) k) (sym (side_map seen_side sides k ∙ ap (option_map seen_side) is))

@@ -26,7 +26,7 @@ use Rattle.tape_host.proofs.Lying.{lie_first, none_away}
 use Rattle.tape_host.proofs.Sides.{side_within, side_map, at_more}
 use Rattle.tape_host.proofs.Tidied.{joined_tidy, none_online}
 use Rattle.tape_host.specs.Lying.{AllLie, IsOnlineAt}
-use Rattle.tape_host.specs.Hosting.{MemoryDrives, MemoryDesk, seen, hall_of, is_nothing, IsIdle, IsMade, IsCalm, IsLive, IsIdleAt, IsWaiting, IsHosting}
+use Rattle.tape_host.specs.Hosting.{MemoryDrives, MemoryDesk, seen_side, hall_of, is_nothing, IsIdle, IsMade, IsCalm, IsLive, IsIdleAt, IsNextWaiting, IsHosting}
 
 -- without connections no side is live
 none_live : {S : Type 0} (k : ℕ) (s : S) → side_at [] k ≡ Some s → ⊥
@@ -85,7 +85,7 @@ module _ {drives : MemoryDrives} {sides : List (Option RealSide)} {next : Next} 
       let l : d < length drives.holds.numbers = omega (arith, live.at.below d o, h.paired) in
       (l, number_is (slice_index drives.holds.numbers d) s.session.seat.number (sym (live.at.own.agrees d l) ∙ (live.at.held d).1 o) ∙ live.number)
 
-  open_back : (d k : ℕ) (side : Option RealSide) → side_at sides k ≡ side → drive_open_by (option_map seen side) ≡ Some d → IsHeldBy drives.holds d k
+  open_back : (d k : ℕ) (side : Option RealSide) → side_at sides k ≡ side → drive_open_by (option_map seen_side side) ≡ Some d → IsHeldBy drives.holds d k
   open_back d k None e o = absurd cc
   open_back d k (Some s) e o = open_holds d k s (h.live k s e) (sym (seen_drive s.session.opened) ∙ o)
 
@@ -94,14 +94,14 @@ module _ {drives : MemoryDrives} {sides : List (Option RealSide)} {next : Next} 
   held_once d k x = (
     λ holder. (
         let found = h.held d k holder x in
-        ap drive_open_by (side_map seen sides k ∙ ap (option_map seen) found.1) ∙ seen_drive found.0.session.opened ∙ holds_open d k found.0 (h.live k found.0 found.1) holder),
-    λ o. open_back d k (side_at sides k) refl (ap drive_open_by (sym (side_map seen sides k)) ∙ o),
+        ap drive_open_by (side_map seen_side sides k ∙ ap (option_map seen_side) found.1) ∙ seen_drive found.0.session.opened ∙ holds_open d k found.0 (h.live k found.0 found.1) holder),
+    λ o. open_back d k (side_at sides k) refl (ap drive_open_by (sym (side_map seen_side sides k)) ∙ o),
   )
 
   -- no reel is latched at a drive that has no holder
   pub unlatched : (d : ℕ) → IsHeldBy drives.holds d 0 → latched_at (shop_of drives.stacks) d ≡ None
   unlatched d none =
-      let nobody : IsOnlineAt (map (option_map seen) sides) d → ⊥ = none_online sides d (λ k s e o. (
+      let nobody : IsOnlineAt (map (option_map seen_side) sides) d → ⊥ = none_online sides d (λ k s e o. (
       let held = open_holds d k s (h.live k s e) o in
       let within = side_within sides k s e in absurd (omega (arith, within.0, held.1, none.1)))) in
       none_away (latched_at (shop_of drives.stacks) d) (λ first. nobody (h.tidy.first d first))
@@ -168,7 +168,7 @@ made_hosting drives sides (Seat seat) next h (inr (s, e, fresh)) = subst (IsHost
 made_hosting drives sides (Whole s) next h m = subst (IsHosting drives sides) (sym m) h
 
 -- a seat that waits holds no drive
-pub waiting_idle : (drives : MemoryDrives) (n : ℕ) (next : Next) → IsWaiting drives n next → IsIdle next
+pub waiting_idle : (drives : MemoryDrives) (n : ℕ) (next : Next) → IsNextWaiting drives n next → IsIdle next
 waiting_idle drives n Nothing w = tt
 waiting_idle drives n (Seat seat) w = w.1.at.held
 waiting_idle drives n (Whole s) w = tt
@@ -233,6 +233,6 @@ unread_nothing r u =
 pub joined_hall : (drives : MemoryDrives) (sides : List (Option RealSide)) (s : RealSide) → IsHosting drives sides (Whole s)
     → hall_of drives (sides ++ Some s ∷ []) ≡ joined (hall_of drives sides)
 joined_hall drives sides s h =
-    let fresh : seen s ≡ side (held [] 0) Idle = ap (λ r. side r (session_seen s.session.opened)) (unread_nothing s.reader h.waiting.2) ∙ ap (λ o. side (held [] 0) (session_seen o)) h.waiting.1.idle in
+    let fresh : seen_side s ≡ side (held [] 0) Idle = ap (λ r. side r (session_seen s.session.opened)) (unread_nothing s.reader h.waiting.2) ∙ ap (λ o. side (held [] 0) (session_seen o)) h.waiting.1.idle in
     ap (λ xs. hall (shop_of drives.stacks) drives.holds.numbers xs)
-    (map-append (option_map seen) sides (Some s ∷ []) ∙ ap (λ x. map (option_map seen) sides ++ Some x ∷ []) fresh)
+    (map-append (option_map seen_side) sides (Some s ∷ []) ∙ ap (λ x. map (option_map seen_side) sides ++ Some x ∷ []) fresh)

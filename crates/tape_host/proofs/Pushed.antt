@@ -8,8 +8,8 @@ use Rattle.drives.specs.ListShop.{shop_of}
 use Rattle.rmt_server.specs.Hall.{hall}
 use Rattle.tape_host.specs.declared.side.Side.{Side as RealSide}
 use Rattle.tape_host.specs.declared.side.Next.{Next}
-use Rattle.tape_host.specs.Halls.{Hosted, hosted, side_at, with_side_at, TakesIn, IsPushed}
-use Rattle.tape_host.specs.Hosting.{MemoryDrives, seen, hall_of, IsLive, IsWaiting, IsHosting}
+use Rattle.tape_host.specs.Halls.{Hosted, hosted, side_at, with_side_at, TakesIn, IsPiecePushed}
+use Rattle.tape_host.specs.Hosting.{MemoryDrives, seen_side, hall_of, IsLive, IsNextWaiting, IsHosting}
 use Rattle.tape_host.proofs.Tidied.{side_tidy}
 use Rattle.tape_host.proofs.Sides.{side_within, side_other, side_same, side_map, length_with, map_with}
 
@@ -51,7 +51,7 @@ module _ {drives : MemoryDrives} {sides : List (Option RealSide)} {next : Next} 
   pushed_hosting = record {
     live = pushed_live;
     held = pushed_held;
-    waiting = subst (λ n. IsWaiting drives n next) (sym (length_with sides k (Some (with_reader s reader)))) h.waiting;
+    waiting = subst (λ n. IsNextWaiting drives n next) (sym (length_with sides k (Some (with_reader s reader)))) h.waiting;
     told = h.told;
     paired = h.paired;
     quiet = h.quiet;
@@ -63,13 +63,13 @@ module _ {drives : MemoryDrives} {sides : List (Option RealSide)} {next : Next} 
 pub pushed_seen : (drives : MemoryDrives) (sides : List (Option RealSide)) (ready : Bool) (k : ℕ) (s : RealSide) (piece : List ℕ) (count : ℕ) (reader : RequestHeld) (new : Hosted)
     → side_at sides k ≡ Some s → TakesIn s.reader piece count reader
     → new ≡ hosted (hall_of drives (with_side_at sides k (Some (with_reader s reader)))) ready
-    → IsPushed (hosted (hall_of drives sides) ready) k piece (side_at (map (option_map seen) sides) k) count new
+    → IsPiecePushed (hosted (hall_of drives sides) ready) k piece (side_at (map (option_map seen_side) sides) k) count new
 pushed_seen drives sides ready k s piece count reader new is takes e =
-    subst (λ o. IsPushed (hosted (hall_of drives sides) ready) k piece o count new) (sym (side_map seen sides k ∙ ap (option_map seen) is))
-    (reader, takes, e ∙ ap (λ xs. hosted (hall (shop_of drives.stacks) drives.holds.numbers xs) ready) (map_with seen sides k (Some (with_reader s reader))))
+    subst (λ o. IsPiecePushed (hosted (hall_of drives sides) ready) k piece o count new) (sym (side_map seen_side sides k ∙ ap (option_map seen_side) is))
+    (reader, takes, e ∙ ap (λ xs. hosted (hall (shop_of drives.stacks) drives.holds.numbers xs) ready) (map_with seen_side sides k (Some (with_reader s reader))))
 
 pub pushed_none : (drives : MemoryDrives) (sides : List (Option RealSide)) (ready : Bool) (k : ℕ) (piece : List ℕ) (new : Hosted)
     → side_at sides k ≡ None → new ≡ hosted (hall_of drives sides) ready
-    → IsPushed (hosted (hall_of drives sides) ready) k piece (side_at (map (option_map seen) sides) k) 0 new
+    → IsPiecePushed (hosted (hall_of drives sides) ready) k piece (side_at (map (option_map seen_side) sides) k) 0 new
 pushed_none drives sides ready k piece new is e =
-    subst (λ o. IsPushed (hosted (hall_of drives sides) ready) k piece o 0 new) (sym (side_map seen sides k ∙ ap (option_map seen) is)) (refl, e)
+    subst (λ o. IsPiecePushed (hosted (hall_of drives sides) ready) k piece o 0 new) (sym (side_map seen_side sides k ∙ ap (option_map seen_side) is)) (refl, e)

@@ -13,7 +13,7 @@ use Rattle.tape_host.specs.declared.side.Side.{Side as RealSide}
 use Rattle.tape_host.specs.declared.side.Next.{Next}
 use Rattle.tape_host.specs.declared.side.Next.TheVariants.{Nothing, Seat, Whole}
 use Rattle.tape_host.specs.Halls.{hosted, restacked}
-use Rattle.tape_host.specs.Hosting.{MemoryDrives, MemoryDesk, idle_desk, seen, hall_of, IsIdleAt, IsWaiting, IsHosting}
+use Rattle.tape_host.specs.Hosting.{MemoryDrives, MemoryDesk, idle_desk, seen_side, hall_of, IsIdleAt, IsNextWaiting, IsHosting}
 use Rattle.tape_host.specs.Lying.{LieBut, IsOnlineAt}
 use Rattle.tape_host.proofs.Lying.{lie_arranged}
 use Rattle.tape_host.proofs.Tidied.{none_online}
@@ -46,22 +46,22 @@ module _ (free : LeavesFree) (elsewhere : StaysElsewhere) {drives : MemoryDrives
   idle_stays : (n : ℕ) (desk : MemoryDesk) → IsIdleAt drives n desk → IsIdleAt after n desk
   idle_stays n desk i = record { at = desk_stays desk i.at; number = i.number; idle = i.idle }
 
-  waiting_stays : (n : ℕ) (x : Next) → IsWaiting drives n x → IsWaiting after n x
+  waiting_stays : (n : ℕ) (x : Next) → IsNextWaiting drives n x → IsNextWaiting after n x
   waiting_stays n Nothing w = w
   waiting_stays n (Seat seat) w = (w.0, idle_stays (n + 1) (idle_desk seat) w.1)
   waiting_stays n (Whole s) w = (w.0, idle_stays (n + 1) s.session w.1, w.2)
 
   -- no side is online at the drive
-  pub none_there : IsOnlineAt (map (option_map seen) sides) d → ⊥
+  pub none_there : IsOnlineAt (map (option_map seen_side) sides) d → ⊥
   none_there = none_online sides d (λ k s e. free drives s.session d (h.live k s e).at none)
 
   restacked_tidy : {U : Type 0} (names : List (List ℕ)) (result : Result U DriveFault)
       → MatchResult result (λ _. shop_of stacks ≡ arranged (shop_of drives.stacks) d names) (λ _. shop_of stacks ≡ shop_of drives.stacks)
-      → LieBut (shop_of stacks) (IsOnlineAt (map (option_map seen) sides))
+      → LieBut (shop_of stacks) (IsOnlineAt (map (option_map seen_side) sides))
   restacked_tidy names (Ok x) e =
-      subst (λ (s : Shop). LieBut s (IsOnlineAt (map (option_map seen) sides))) (sym e)
-      (lie_arranged (shop_of drives.stacks) d names (IsOnlineAt (map (option_map seen) sides)) h.tidy none_there)
-  restacked_tidy names (Err why) e = subst (λ (s : Shop). LieBut s (IsOnlineAt (map (option_map seen) sides))) (sym e) h.tidy
+      subst (λ (s : Shop). LieBut s (IsOnlineAt (map (option_map seen_side) sides))) (sym e)
+      (lie_arranged (shop_of drives.stacks) d names (IsOnlineAt (map (option_map seen_side) sides)) h.tidy none_there)
+  restacked_tidy names (Err why) e = subst (λ (s : Shop). LieBut s (IsOnlineAt (map (option_map seen_side) sides))) (sym e) h.tidy
 
   pub restacked_hosting : {U : Type 0} (names : List (List ℕ)) (result : Result U DriveFault)
       → MatchResult result (λ _. shop_of stacks ≡ arranged (shop_of drives.stacks) d names) (λ _. shop_of stacks ≡ shop_of drives.stacks)
@@ -84,5 +84,5 @@ pub restacked_seen : {U : Type 0} (drives : MemoryDrives) (stacks : ListShop) (s
     → MatchResult result (λ _. shop_of stacks ≡ arranged (shop_of drives.stacks) d names) (λ _. shop_of stacks ≡ shop_of drives.stacks)
     → MatchResult result (λ _. hosted (hall_of (record { holds = drives.holds; stacks = stacks }) sides) ready ≡ hosted (restacked (hall_of drives sides) d names) ready)
     (λ _. hosted (hall_of (record { holds = drives.holds; stacks = stacks }) sides) ready ≡ hosted (hall_of drives sides) ready)
-restacked_seen drives stacks sides ready d names (Ok x) e = ap (λ s. hosted (hall s drives.holds.numbers (map (option_map seen) sides)) ready) e
-restacked_seen drives stacks sides ready d names (Err why) e = ap (λ s. hosted (hall s drives.holds.numbers (map (option_map seen) sides)) ready) e
+restacked_seen drives stacks sides ready d names (Ok x) e = ap (λ s. hosted (hall s drives.holds.numbers (map (option_map seen_side) sides)) ready) e
+restacked_seen drives stacks sides ready d names (Err why) e = ap (λ s. hosted (hall s drives.holds.numbers (map (option_map seen_side) sides)) ready) e

@@ -24,8 +24,8 @@ use Rattle.rmt_server.specs.Hall.{Side}
 use Rattle.drives.specs.ListShop.{is_set}
 use Rattle.tape_host.specs.declared.side.Side.{Side as RealSide}
 use Rattle.tape_host.specs.Halls.{side_at, with_side_at}
-use Rattle.tape_host.specs.Lying.{LieBut, online_in, online_by, IsOnlineAt}
-use Rattle.tape_host.specs.Hosting.{seen}
+use Rattle.tape_host.specs.Lying.{LieBut, online_drive_in, online_by, IsOnlineAt}
+use Rattle.tape_host.specs.Hosting.{seen_side}
 use Rattle.tape_host.proofs.Lying.{lie_laid, lie_latched, lie_moved}
 use Rattle.tape_host.proofs.Sides.{side_within, side_other, side_same, side_map, map_with, at_more}
 
@@ -37,7 +37,7 @@ Either own others d = (own ≡ Some d) ⊎ others d
 
 module _ (others : ℕ → Type 0) where
   abbrev Fits : Shop → PlainSession → Type 0
-  Fits s x = LieBut s (Either (online_in x) others)
+  Fits s x = LieBut s (Either (online_drive_in x) others)
 
   given_up : (drive e : ℕ) → e ≢ drive → Either (Some drive) others e → Either None others e
   given_up drive e apart (inl own) = absurd (apart (cc))
@@ -151,18 +151,18 @@ lie_while before after h more = record { bin = h.bin; below = h.below; first = �
 
 -- what one side did
 pub side_tidy : (sides : List (Option RealSide)) (k : ℕ) (s : RealSide) → side_at sides k ≡ Some s → (x : Option RealSide) (old new : Shop)
-    → LieBut old (IsOnlineAt (map (option_map seen) sides))
-    → (LieBut old (Either (online_in (session_seen s.session.opened)) (OnlineBeside (map (option_map seen) sides) k))
-    → LieBut new (Either (online_by (option_map seen x)) (OnlineBeside (map (option_map seen) sides) k)))
-    → LieBut new (IsOnlineAt (map (option_map seen) (with_side_at sides k x)))
+    → LieBut old (IsOnlineAt (map (option_map seen_side) sides))
+    → (LieBut old (Either (online_drive_in (session_seen s.session.opened)) (OnlineBeside (map (option_map seen_side) sides) k))
+    → LieBut new (Either (online_by (option_map seen_side x)) (OnlineBeside (map (option_map seen_side) sides) k)))
+    → LieBut new (IsOnlineAt (map (option_map seen_side) (with_side_at sides k x)))
 side_tidy sides k s is x old new h step =
-    let all = map (option_map seen) sides in
-    let own : side_at all k ≡ Some (seen s) = side_map seen sides k ∙ ap (option_map seen) is in
-    let within = side_within all k (seen s) own in
-    let out : LieBut old (Either (online_by (Some (seen s))) (OnlineBeside all k)) = lie_while (IsOnlineAt all) (Either (online_by (Some (seen s))) (OnlineBeside all k)) h (λ d. by_one all k d (Some (seen s)) own) in
-    subst (λ xs. LieBut new (IsOnlineAt xs)) (sym (map_with seen sides k x))
-    (lie_while (Either (online_by (option_map seen x)) (OnlineBeside all k)) (IsOnlineAt (with_side_at all k (option_map seen x))) (step out)
-    (λ d. by_all all k d (option_map seen x) within.0 within.1))
+    let all = map (option_map seen_side) sides in
+    let own : side_at all k ≡ Some (seen_side s) = side_map seen_side sides k ∙ ap (option_map seen_side) is in
+    let within = side_within all k (seen_side s) own in
+    let out : LieBut old (Either (online_by (Some (seen_side s))) (OnlineBeside all k)) = lie_while (IsOnlineAt all) (Either (online_by (Some (seen_side s))) (OnlineBeside all k)) h (λ d. by_one all k d (Some (seen_side s)) own) in
+    subst (λ xs. LieBut new (IsOnlineAt xs)) (sym (map_with seen_side sides k x))
+    (lie_while (Either (online_by (option_map seen_side x)) (OnlineBeside all k)) (IsOnlineAt (with_side_at all k (option_map seen_side x))) (step out)
+    (λ d. by_all all k d (option_map seen_side x) within.0 within.1))
 
 online_some : (o : Option Side) (d : ℕ) → online_by o ≡ Some d → (x : Side) × (o ≡ Some x)
 online_some None d online = absurd cc
@@ -173,31 +173,31 @@ still_at sides y zero x is = is
 still_at sides y (suc i) x is = at_more sides y i x is
 
 -- one side more
-pub joined_tidy : (sides : List (Option RealSide)) (s : RealSide) (shop : Shop) → LieBut shop (IsOnlineAt (map (option_map seen) sides))
-    → LieBut shop (IsOnlineAt (map (option_map seen) (sides ++ Some s ∷ [])))
+pub joined_tidy : (sides : List (Option RealSide)) (s : RealSide) (shop : Shop) → LieBut shop (IsOnlineAt (map (option_map seen_side) sides))
+    → LieBut shop (IsOnlineAt (map (option_map seen_side) (sides ++ Some s ∷ [])))
 joined_tidy sides s shop h =
-    let all = map (option_map seen) sides in
-    subst (λ xs. LieBut shop (IsOnlineAt xs)) (sym (map-append (option_map seen) sides (Some s ∷ [])))
-    (lie_while (IsOnlineAt all) (IsOnlineAt (all ++ Some (seen s) ∷ [])) h
+    let all = map (option_map seen_side) sides in
+    subst (λ xs. LieBut shop (IsOnlineAt xs)) (sym (map-append (option_map seen_side) sides (Some s ∷ [])))
+    (lie_while (IsOnlineAt all) (IsOnlineAt (all ++ Some (seen_side s) ∷ [])) h
     (λ d (k, online). (
     let found = online_some (side_at all k) d online in
-    (k, ap online_by (still_at all (seen s) k found.0 found.1) ∙ ap online_by (sym found.1) ∙ online))))
+    (k, ap online_by (still_at all (seen_side s) k found.0 found.1) ∙ ap online_by (sym found.1) ∙ online))))
 
-online_with : (drive : ℕ) (access : Access) (reel : Option TroubledTape) (d : ℕ) → online_in (session_with drive access reel) ≡ Some d → Some drive ≡ Some d
+online_with : (drive : ℕ) (access : Access) (reel : Option TroubledTape) (d : ℕ) → online_drive_in (session_with drive access reel) ≡ Some d → Some drive ≡ Some d
 online_with drive access None d online = absurd cc
 online_with drive access (Some reel) d online = online
 
 -- a drive that is open with its reel is open
-online_open : (opened : Option (Opened TroubledTape)) (d : ℕ) → online_in (session_seen opened) ≡ Some d → drive_of opened ≡ Some d
+online_open : (opened : Option (Opened TroubledTape)) (d : ℕ) → online_drive_in (session_seen opened) ≡ Some d → drive_of opened ≡ Some d
 online_open None d online = absurd cc
 online_open (Some device) d online = online_with device.drive device.access device.reel d online
 
-none_online_at : (side : Option RealSide) (d : ℕ) → ((s : RealSide) → side ≡ Some s → drive_of s.session.opened ≢ Some d) → online_by (option_map seen side) ≡ Some d → ⊥
+none_online_at : (side : Option RealSide) (d : ℕ) → ((s : RealSide) → side ≡ Some s → drive_of s.session.opened ≢ Some d) → online_by (option_map seen_side side) ≡ Some d → ⊥
 none_online_at None d free online = absurd cc
 none_online_at (Some s) d free online = free s refl (online_open s.session.opened d online)
 
 -- a drive that is open in no session has no side that is online there
 pub none_online : (sides : List (Option RealSide)) (d : ℕ) → ((k : ℕ) (s : RealSide) → side_at sides k ≡ Some s → drive_of s.session.opened ≢ Some d)
-    → IsOnlineAt (map (option_map seen) sides) d → ⊥
+    → IsOnlineAt (map (option_map seen_side) sides) d → ⊥
 none_online sides d free (k, online) =
-    none_online_at (side_at sides k) d (free k) (sym (ap online_by (side_map seen sides k)) ∙ online)
+    none_online_at (side_at sides k) d (free k) (sym (ap online_by (side_map seen_side sides k)) ∙ online)

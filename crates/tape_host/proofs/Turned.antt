@@ -17,8 +17,8 @@ use Rattle.tape_host.specs.declared.side.Next.{Next}
 use Rattle.tape_host.specs.declared.turn.Turn.{Turn}
 use Rattle.tape_host.specs.declared.turn.Turn.TheVariants as turns
 use Rattle.tape_host.specs.Halls.{Hosted, hosted, side_at, with_side_at}
-use Rattle.tape_host.specs.Turns.{TurnsAt}
-use Rattle.tape_host.specs.Hosting.{MemoryDrives, seen, hall_of, IsLive, IsWaiting, IsHosting, IsCalmAt, IsCarried, TurnsSession}
+use Rattle.tape_host.specs.Turns.{TurnsAt, with_back}
+use Rattle.tape_host.specs.Hosting.{MemoryDrives, seen_side, hall_of, IsLive, IsNextWaiting, IsHosting, IsCalmAt, IsCarried, TurnsSession, session_back}
 use Rattle.tape_host.proofs.Sides.{side_within, side_other, side_same, side_map, length_with, map_with, with_own}
 use Rattle.tape_host.specs.Lying.{LieBut, IsOnlineAt}
 use Rattle.tape_host.proofs.Tidied.{OnlineBeside, served_fits, side_tidy}
@@ -91,17 +91,17 @@ module _ (others : OthersStay) {drives drives' : MemoryDrives} {sides : List (Op
         | inr was ↦ still_there n (h.held d n (l, was) x)
       ]
 
-  carried_tidy : LieBut (shop_of drives'.stacks) (IsOnlineAt (map (option_map seen) (with_side_at sides k (Some after))))
+  carried_tidy : LieBut (shop_of drives'.stacks) (IsOnlineAt (map (option_map seen_side) (with_side_at sides k (Some after))))
   carried_tidy =
       side_tidy sides k s is (Some after) (shop_of drives.stacks) (shop_of drives'.stacks) h.tidy
-      (served_fits (OnlineBeside (map (option_map seen) sides) k) trouble drives.holds.numbers (scene_seen (state drives s.session)) request reply
+      (served_fits (OnlineBeside (map (option_map seen_side) sides) k) trouble drives.holds.numbers (scene_seen (state drives s.session)) request reply
       (scene_seen (state drives' after.session)) c.served.step)
 
   pub carried_hosting : IsHosting drives' (with_side_at sides k (Some after)) next
   carried_hosting = record {
     live = carried_live;
     held = carried_held;
-    waiting = subst (λ n. IsWaiting drives' n next) (sym (length_with sides k (Some after)))
+    waiting = subst (λ n. IsNextWaiting drives' n next) (sym (length_with sides k (Some after)))
         (waiting_stays others live.number live.at c.calm.at c.kept (length sides) next (side_within sides k s is).1 c.same_seats h.waiting);
     told = c.calm.told;
     paired = c.kept.same_holds ∙ h.paired ∙ sym c.kept.same_stacks;
@@ -134,15 +134,14 @@ module _ (drives drives' : MemoryDrives) (sides : List (Option RealSide)) (k : �
 
 module _ (others : OthersStay) {drives : MemoryDrives} (drives' : MemoryDrives) {sides : List (Option RealSide)} {next : Next} (h : IsHosting drives sides next) (k : ℕ)
     (s after : RealSide) (is : side_at sides k ≡ Some s) (trouble : Trouble) (lost : Bool) (back back' : List ℕ) where
-  pub turned_hosting : (turn : Turn) → TurnsSession trouble lost s.reader (state drives s.session) back turn after.reader (state drives' after.session) back'
+  pub turned_hosting : (turn : Turn) → TurnsSession trouble lost (session_back s.reader (state drives s.session) back) turn (session_back after.reader (state drives' after.session) back')
       → IsHosting drives' (with_side_at sides k (Some after)) next
   turned_hosting turns.Nothing t = same_hosting drives drives' sides k s after is t.1 t.2 next h
   turned_hosting (turns.Carried carried) t = carried_hosting others h k s after is (t.2.1, t.2.4) trouble t.0 t.1 t.3
   turned_hosting (turns.Broken fault) t = same_hosting drives drives' sides k s after is t.1 t.2 next h
 
-  turned_from : (turn : Turn) (ready : Bool) → TurnsSession trouble lost s.reader (state drives s.session) back turn after.reader (state drives' after.session) back'
-      → TurnsAt (hosted (hall_of drives sides) ready) trouble lost (hosted (hall_of drives sides) ready) k (Some (seen s)) back turn
-      (hosted (hall_of drives' (with_side_at sides k (Some after))) ready) back'
+  turned_from : (turn : Turn) (ready : Bool) → TurnsSession trouble lost (session_back s.reader (state drives s.session) back) turn (session_back after.reader (state drives' after.session) back')
+      → TurnsAt (hosted (hall_of drives sides) ready) trouble lost (with_back (hosted (hall_of drives sides) ready) back) k (Some (seen_side s)) turn (with_back (hosted (hall_of drives' (with_side_at sides k (Some after))) ready) back')
   turned_from turns.Nothing ready t = (t.0, ap (λ x. hosted x ready) (same_hall drives drives' sides k s after is t.1 t.2), t.3)
   turned_from (turns.Carried carried) ready t = (
     t.0,
@@ -155,7 +154,7 @@ module _ (others : OthersStay) {drives : MemoryDrives} (drives' : MemoryDrives) 
       given = t.2;
       served = subst (λ n. TroubledServe trouble drives.holds.numbers n (scene_seen (state drives s.session)) t.0 t.1 (scene_seen (state drives' after.session)) drives'.holds.numbers)
           (h.live k s is).number t.3.served;
-      after = ap (hall (shop_of drives'.stacks) drives'.holds.numbers) (map_with seen sides k (Some after));
+      after = ap (hall (shop_of drives'.stacks) drives'.holds.numbers) (map_with seen_side sides k (Some after));
     },
     refl,
     t.4,
@@ -164,18 +163,18 @@ module _ (others : OthersStay) {drives : MemoryDrives} (drives' : MemoryDrives) 
   turned_from (turns.Broken fault) ready t = (t.0, ap (λ x. hosted x ready) (same_hall drives drives' sides k s after is t.1 t.2), t.3)
 
   -- it is seen as a turn
-  pub turned_seen : (turn : Turn) (ready : Bool) (new : Hosted) → TurnsSession trouble lost s.reader (state drives s.session) back turn after.reader (state drives' after.session) back'
+  pub turned_seen : (turn : Turn) (ready : Bool) (new : Hosted) → TurnsSession trouble lost (session_back s.reader (state drives s.session) back) turn (session_back after.reader (state drives' after.session) back')
       → new ≡ hosted (hall_of drives' (with_side_at sides k (Some after))) ready
-      → TurnsAt (hosted (hall_of drives sides) ready) trouble lost (hosted (hall_of drives sides) ready) k (side_at (map (option_map seen) sides) k) back turn new back'
+      → TurnsAt (hosted (hall_of drives sides) ready) trouble lost (with_back (hosted (hall_of drives sides) ready) back) k (side_at (map (option_map seen_side) sides) k) turn (with_back new back')
   turned_seen turn ready new t e =
       let old = hosted (hall_of drives sides) ready in
-      subst (λ o. TurnsAt old trouble lost old k o back turn new back') (sym (side_map seen sides k ∙ ap (option_map seen) is))
-      (subst (λ v. TurnsAt old trouble lost old k (Some (seen s)) back turn v back') (sym e) (turned_from turn ready t))
+      subst (λ o. TurnsAt old trouble lost (with_back old back) k o turn (with_back new back')) (sym (side_map seen_side sides k ∙ ap (option_map seen_side) is))
+      (subst (λ v. TurnsAt old trouble lost (with_back old back) k (Some (seen_side s)) turn (with_back v back')) (sym e) (turned_from turn ready t))
 
 -- a side that is not live takes no turn
 pub turned_none : (drives : MemoryDrives) (sides : List (Option RealSide)) (ready : Bool) (k : ℕ) (trouble : Trouble) (lost : Bool) (back : List ℕ) (new : Hosted)
     → side_at sides k ≡ None → new ≡ hosted (hall_of drives sides) ready
-    → TurnsAt (hosted (hall_of drives sides) ready) trouble lost (hosted (hall_of drives sides) ready) k (side_at (map (option_map seen) sides) k) back turns.Nothing new back
+    → TurnsAt (hosted (hall_of drives sides) ready) trouble lost (with_back (hosted (hall_of drives sides) ready) back) k (side_at (map (option_map seen_side) sides) k) turns.Nothing (with_back new back)
 turned_none drives sides ready k trouble lost back new is e =
     let old = hosted (hall_of drives sides) ready in
-    subst (λ o. TurnsAt old trouble lost old k o back turns.Nothing new back) (sym (side_map seen sides k ∙ ap (option_map seen) is)) (refl, e, refl)
+    subst (λ o. TurnsAt old trouble lost (with_back old back) k o turns.Nothing (with_back new back)) (sym (side_map seen_side sides k ∙ ap (option_map seen_side) is)) (refl, e, refl)

@@ -1,7 +1,7 @@
 -- Sides of connections by their numbers, and what each call of a host makes of its hall. Public contracts cite it.
 use Rattle.std.specs.Prelude.{◌≡◌, ℕ, zero, suc, ◌+◌, ◌-◌, ◌<◌, ◌↔◌, min, take, Bool, List, [], ◌∷◌, ◌++◌, length, slice_set, slice_index, slice_index_or, Option, Some, None}
 use Rattle.rmt_wire.specs.RequestReader.{RequestHeld, held, Unread, taken_of}
-use Rattle.rmt_wire.specs.Limits.{reader_limit}
+use Rattle.rmt_wire.specs.declared.limits.TheConstants.{READER_LIMIT}
 use Rattle.drives.specs.Arranging.{arranged}
 use Rattle.rmt_server.specs.Session.{closed_shop}
 use Rattle.rmt_server.specs.Session.PlainSession.{Idle}
@@ -54,18 +54,18 @@ with_reached h k s reached = hall h.shop h.holders (with_side_at h.sides k (Some
 -- there is room for so many bytes, where the side is live
 abbrev pub HasRoom : Option Side → Option ℕ → Type 0
 HasRoom None room = room ≡ None
-HasRoom (Some s) room = (n : ℕ) × (room ≡ Some n) × ((unread : List ℕ) → Unread s.reached unread → n + taken_of unread ≡ reader_limit)
+HasRoom (Some s) room = (n : ℕ) × (room ≡ Some n) × ((unread : List ℕ) → Unread s.reached unread → n + taken_of unread ≡ READER_LIMIT)
 
 -- So many bytes of a piece were taken, as many as there was room for, and the reader has reached this.
 abbrev pub TakesIn : RequestHeld → List ℕ → ℕ → RequestHeld → Type 0
 TakesIn before piece count after =
     (unread : List ℕ) → Unread before unread
-    → (count ≡ min (length piece) (reader_limit - taken_of unread)) × Unread after (unread ++ take count piece)
+    → (count ≡ min (length piece) (READER_LIMIT - taken_of unread)) × Unread after (unread ++ take count piece)
 
 -- A piece reached the side of connection k. Where that is not live nothing was taken.
-abbrev pub IsPushed : Hosted → ℕ → List ℕ → Option Side → ℕ → Hosted → Type 0
-IsPushed old k piece None count new = (count ≡ 0) × (new ≡ old)
-IsPushed old k piece (Some s) count new =
+abbrev pub IsPiecePushed : Hosted → ℕ → List ℕ → Option Side → ℕ → Hosted → Type 0
+IsPiecePushed old k piece None count new = (count ≡ 0) × (new ≡ old)
+IsPiecePushed old k piece (Some s) count new =
     (reached : RequestHeld) × TakesIn s.reached piece count reached × (new ≡ hosted (with_reached old.hall k s reached) old.ready)
 
 -- the side is over: what was open is closed, and its drive has no holder

@@ -20,6 +20,7 @@ use Rattle.rmt_server.specs.Hall.{Hall, hall, Side, side}
 use Rattle.tape_host.specs.declared.side.Side.{Side as RealSide}
 use Rattle.tape_host.specs.declared.side.Next.{Next}
 use Rattle.tape_host.specs.declared.side.Next.TheVariants.{Nothing, Seat, Whole}
+use Rattle.tape_host.specs.declared.turn.Carried.{Carried}
 use Rattle.tape_host.specs.declared.turn.Turn.{Turn}
 use Rattle.tape_host.specs.declared.turn.Turn.TheVariants as turns
 use Rattle.tape_host.specs.Halls.{side_at}
@@ -38,21 +39,21 @@ abbrev pub idle_desk : View → MemoryDesk
 idle_desk seat = record { seat = seat; opened = None }
 
 -- what a side is seen as
-abbrev pub seen : RealSide → Side
-seen s = side s.reader (session_seen s.session.opened)
+abbrev pub seen_side : RealSide → Side
+seen_side s = side s.reader (session_seen s.session.opened)
 
 abbrev pub hall_of : MemoryDrives → List (Option RealSide) → Hall
-hall_of drives sides = hall (shop_of drives.stacks) drives.holds.numbers (map (option_map seen) sides)
+hall_of drives sides = hall (shop_of drives.stacks) drives.holds.numbers (map (option_map seen_side) sides)
 
 abbrev pub is_nothing : Next → Bool
 is_nothing Nothing = true
 is_nothing (Seat seat) = false
 is_nothing (Whole s) = false
 
-abbrev pub is_whole : Next → Bool
-is_whole Nothing = false
-is_whole (Seat seat) = false
-is_whole (Whole s) = true
+abbrev pub is_whole_side : Next → Bool
+is_whole_side Nothing = false
+is_whole_side (Seat seat) = false
+is_whole_side (Whole s) = true
 
 -- where there is a seat alone, it holds no drive
 abbrev pub IsIdle : Next → Type 0
@@ -88,22 +89,22 @@ pub record IsIdleAt (drives : MemoryDrives) (k : ℕ) (desk : MemoryDesk) : Type
   pub idle : desk.opened ≡ None
 
 -- behind n connections there is nothing yet of the next one, or its seat, which has the next number, or all of it
-abbrev pub IsWaiting : MemoryDrives → ℕ → Next → Type 0
-IsWaiting drives n Nothing = drives.holds.last ≡ n
-IsWaiting drives n (Seat seat) = (drives.holds.last ≡ n + 1) × IsIdleAt drives (n + 1) (idle_desk seat)
-IsWaiting drives n (Whole s) = (drives.holds.last ≡ n + 1) × IsIdleAt drives (n + 1) s.session × Unread s.reader []
+abbrev pub IsNextWaiting : MemoryDrives → ℕ → Next → Type 0
+IsNextWaiting drives n Nothing = drives.holds.last ≡ n
+IsNextWaiting drives n (Seat seat) = (drives.holds.last ≡ n + 1) × IsIdleAt drives (n + 1) (idle_desk seat)
+IsNextWaiting drives n (Whole s) = (drives.holds.last ≡ n + 1) × IsIdleAt drives (n + 1) s.session × Unread s.reader []
 
 -- Each drive is held by a live side or by none. No trouble is set, for the stacks or for a reel. Each reel lies there but those
 -- that a live side has open.
 pub record IsHosting (drives : MemoryDrives) (sides : List (Option RealSide)) (next : Next) : Type 0 where
   pub live : (k : ℕ) (s : RealSide) → side_at sides k ≡ Some s → IsLive drives k s
   pub held : (d n : ℕ) → IsHeldBy drives.holds d n → 0 < n → (s : RealSide) × (side_at sides n ≡ Some s)
-  pub waiting : IsWaiting drives (length sides) next
+  pub waiting : IsNextWaiting drives (length sides) next
   pub told : IsShop drives.stacks (shop_of drives.stacks)
   pub paired : length drives.holds.numbers ≡ length drives.stacks.shop.racks
   pub quiet : drives.stacks.trouble ≡ false
   pub lying : troubled_in drives.stacks.shop ≡ 0
-  pub tidy : LieBut (shop_of drives.stacks) (IsOnlineAt (map (option_map seen) sides))
+  pub tidy : LieBut (shop_of drives.stacks) (IsOnlineAt (map (option_map seen_side) sides))
 
 -- The drives are those of a session for which no trouble is set, and each reel stands once.
 pub record IsCalmAt (x : MemoryState) : Type 0 where
@@ -120,12 +121,28 @@ pub record IsCarried (trouble : Trouble) (old : MemoryState) (request : PlainReq
   pub kept : KeepsDrives in_memory old new
   pub same_seats : new.drives.holds.last ≡ old.drives.holds.last
 
--- One turn of a session: of its reader, drives and session, and of what is on the way back.
-abbrev pub TurnsSession : Trouble → Bool → RequestHeld → MemoryState → List ℕ → Turn → RequestHeld → MemoryState → List ℕ → Type 0
-TurnsSession trouble lost reader old back turns.Nothing reader' new back' =
-    GivesNothing reader × (reader' ≡ reader) × (new ≡ old) × (back' ≡ back)
-TurnsSession trouble lost reader old back (turns.Carried carried) reader' new back' =
-    (request : PlainRequest) × (reply : PlainReply) × GivesRequest reader request reader' × IsCarried trouble old request reply new
-    × (carried ≡ carried_of request reply) × (back' ≡ sent_back lost back (reply_text reply))
-TurnsSession trouble lost reader old back (turns.Broken fault) reader' new back' =
-    GivesFault reader fault × (reader' ≡ reader) × (new ≡ old) × (back' ≡ back)
+-- a session with its drives, its reader, and what is on the way back
+pub record SessionBack : Type 0 where
+  pub reader : RequestHeld
+  pub at : MemoryState
+  pub back : List ℕ
+
+abbrev pub session_back : RequestHeld → MemoryState → List ℕ → SessionBack
+session_back reader at back = record { reader = reader; at = at; back = back }
+
+-- A request of a session was carried out, and its reply sent back, unless that is lost.
+abbrev pub CarriesBack : Trouble → Bool → MemoryState → List ℕ → PlainRequest → Carried → MemoryState → List ℕ → Type 0
+CarriesBack trouble lost old back request carried new back' =
+    (reply : PlainReply) × IsCarried trouble old request reply new × (carried ≡ carried_of request reply)
+    × (back' ≡ sent_back lost back (reply_text reply))
+
+-- one turn of a session
+abbrev pub TurnsSession : Trouble → Bool → SessionBack → Turn → SessionBack → Type 0
+TurnsSession trouble lost old turns.Nothing new =
+    GivesNothing old.reader × (new.reader ≡ old.reader) × (new.at ≡ old.at) × (new.back ≡ old.back)
+TurnsSession trouble lost old (turns.Carried carried) new =
+    (request : PlainRequest) × (reply : PlainReply) × GivesRequest old.reader request new.reader
+    × IsCarried trouble old.at request reply new.at
+    × (carried ≡ carried_of request reply) × (new.back ≡ sent_back lost old.back (reply_text reply))
+TurnsSession trouble lost old (turns.Broken fault) new =
+    GivesFault old.reader fault × (new.reader ≡ old.reader) × (new.at ≡ old.at) × (new.back ≡ old.back)

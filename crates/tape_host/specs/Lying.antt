@@ -20,14 +20,14 @@ abbrev pub AllLie : {X : Type 0} → ShopOf X → Type 0
 AllLie s = StacksLie s.racks × Lie s.bin
 
 -- the drive that a session has open with its reel
-abbrev pub online_in : PlainSession → Option ℕ
-online_in Idle = None
-online_in (Offline drive access) = None
-online_in (Online drive access reel) = Some drive
+abbrev pub online_drive_in : PlainSession → Option ℕ
+online_drive_in Idle = None
+online_drive_in (Offline drive access) = None
+online_drive_in (Online drive access reel) = Some drive
 
 abbrev pub online_by : Option Side → Option ℕ
 online_by None = None
-online_by (Some s) = online_in s.session
+online_by (Some s) = online_drive_in s.session
 
 -- a live side has that drive open with its reel
 abbrev pub IsOnlineAt : List (Option Side) → ℕ → Type 0

@@ -7,6 +7,7 @@ use Rattle.rmt_wire.specs.Reply.PlainReply.{Done, Data, Error}
 use Rattle.rmt_wire.specs.RequestParts.{Gives}
 use Rattle.rmt_wire.specs.RequestReader.{RequestHeld, Unread}
 use Rattle.rmt_wire.specs.declared.fault.WireFault.{WireFault}
+use Rattle.rmt_wire.specs.declared.mtio.TheConstants.{MTWEOF}
 use Rattle.tape.specs.declared.trouble.Trouble.{Trouble}
 use Rattle.drives.specs.Shop.{Shop}
 use Rattle.rmt_server.specs.declared.access.Access.{Access}
@@ -14,8 +15,8 @@ use Rattle.rmt_server.specs.Access.{access_of, writes}
 use Rattle.rmt_server.specs.Session.{PlainSession, scene}
 use Rattle.rmt_server.specs.TroubledServe.{TroubledServe}
 use Rattle.rmt_server.specs.Hall.{Hall, hall, Side, side}
-use Rattle.tape_host.specs.declared.turn.Asked.{Asked}
-use Rattle.tape_host.specs.declared.turn.Asked.TheVariants as asked
+use Rattle.tape_host.specs.declared.turn.RequestKind.{RequestKind}
+use Rattle.tape_host.specs.declared.turn.RequestKind.TheVariants as asked
 use Rattle.tape_host.specs.declared.turn.Answered.{Answered}
 use Rattle.tape_host.specs.declared.turn.Answered.TheVariants as answered
 use Rattle.tape_host.specs.declared.turn.Carried.{Carried}
@@ -28,11 +29,11 @@ abbrev pub writes_for : Option Access → Bool
 writes_for None = false
 writes_for (Some access) = writes access
 
--- what was asked: an open says whether its mode lets a client write, and mtio's operation 0 writes marks
-abbrev pub asked_of : PlainRequest → Asked
+-- what was asked: an open says whether its mode lets a client write, and MTWEOF writes marks
+abbrev pub asked_of : PlainRequest → RequestKind
 asked_of (Open device mode) = asked.Open (writes_for (access_of mode))
 asked_of (Write bytes) = asked.Write
-asked_of (Op op count) = if op == 0 then asked.Marks else asked.Other
+asked_of (Op op count) = if op == MTWEOF then asked.Marks else asked.Other
 asked_of request = asked.Other
 
 -- what was answered
@@ -75,23 +76,31 @@ pub record Carries (trouble : Trouble) (old : Hall) (k : ℕ) (s : Side) (reques
   pub served : TroubledServe trouble old.holders k (scene old.shop s.session) request reply (scene shop session) holders
   pub after : new ≡ hall shop holders (with_side_at old.sides k (Some (side reached session)))
 
--- What came of a turn of the live side of connection k, with what is on the way back before and after it. At a fault this
--- is left.
-abbrev pub TurnsSide : Hosted → Trouble → Bool → Hosted → ℕ → Side → List ℕ → Turn → Hosted → List ℕ → Type 0
-TurnsSide left trouble lost old k s back turns.Nothing new back' = GivesNothing s.reached × (new ≡ old) × (back' ≡ back)
-TurnsSide left trouble lost old k s back (turns.Carried carried) new back' =
+-- a host, and what is on the way back on one of its connections
+pub record HostBack : Type 0 where
+  pub hosted : Hosted
+  pub back : List ℕ
+
+abbrev pub with_back : Hosted → List ℕ → HostBack
+with_back h back = record { hosted = h; back = back }
+
+-- What came of a turn of the live side of connection k. At a fault this is left.
+abbrev pub TurnsSide : Hosted → Trouble → Bool → HostBack → ℕ → Side → Turn → HostBack → Type 0
+TurnsSide left trouble lost old k s turns.Nothing new =
+    GivesNothing s.reached × (new.hosted ≡ old.hosted) × (new.back ≡ old.back)
+TurnsSide left trouble lost old k s (turns.Carried carried) new =
     (request : PlainRequest) × (reply : PlainReply)
-    × Carries trouble old.hall k s request reply new.hall × (new.ready ≡ old.ready)
-    × (carried ≡ carried_of request reply) × (back' ≡ sent_back lost back (reply_text reply))
-TurnsSide left trouble lost old k s back (turns.Broken fault) new back' =
-    GivesFault s.reached fault × (new ≡ left) × (back' ≡ back)
+    × Carries trouble old.hosted.hall k s request reply new.hosted.hall × (new.hosted.ready ≡ old.hosted.ready)
+    × (carried ≡ carried_of request reply) × (new.back ≡ sent_back lost old.back (reply_text reply))
+TurnsSide left trouble lost old k s (turns.Broken fault) new =
+    GivesFault s.reached fault × (new.hosted ≡ left) × (new.back ≡ old.back)
 
 -- the same where the side may not be live
-abbrev pub TurnsAt : Hosted → Trouble → Bool → Hosted → ℕ → Option Side → List ℕ → Turn → Hosted → List ℕ → Type 0
-TurnsAt left trouble lost old k None back turn new back' = (turn ≡ turns.Nothing) × (new ≡ old) × (back' ≡ back)
-TurnsAt left trouble lost old k (Some s) back turn new back' = TurnsSide left trouble lost old k s back turn new back'
+abbrev pub TurnsAt : Hosted → Trouble → Bool → HostBack → ℕ → Option Side → Turn → HostBack → Type 0
+TurnsAt left trouble lost old k None turn new = (turn ≡ turns.Nothing) × (new.hosted ≡ old.hosted) × (new.back ≡ old.back)
+TurnsAt left trouble lost old k (Some s) turn new = TurnsSide left trouble lost old k s turn new
 
--- One turn of connection k: a fault ends its side.
+-- One turn of connection k, with what is on the way back before and after it: a fault ends its side.
 abbrev pub ServesAt : Trouble → Bool → Hosted → ℕ → List ℕ → Turn → Hosted → List ℕ → Type 0
 ServesAt trouble lost old k back turn new back' =
-    TurnsAt (hosted (ended old.hall k) old.ready) trouble lost old k (side_at old.hall.sides k) back turn new back'
+    TurnsAt (hosted (ended old.hall k) old.ready) trouble lost (with_back old back) k (side_at old.hall.sides k) turn (with_back new back')

@@ -4,12 +4,13 @@ ghost use Rattle.std.specs.Option.{option_copied, option_map};
 ghost use Rattle.drives.specs.declared.fault.DriveFault.TheVariants.{OutOfMemory};
 ghost use Rattle.drives.specs.Shop.{IsDriveNamed, rack_at, latched_at, slots_in};
 ghost use Rattle.drives.specs.ListShop.{IsShop, shop_of, at_rest, rest_slot, StacksCanFail};
+ghost use Rattle.drives.specs.declared.holds.TheConstants.{DRIVE_LIMIT};
 ghost use Rattle.drives.specs.Arranging.{reel_named, may_arrange};
 ghost use Rattle.rmt_server.specs.Memory.{session_seen};
 ghost use Rattle.rmt_server.specs.Hall.{hall};
-ghost use Rattle.tape_host.specs.Halls.{hosted, side_at, joined, ended, all_ended, restacked, HasRoom, IsPushed, IsHolder, IsHeldOnce};
+ghost use Rattle.tape_host.specs.Halls.{hosted, side_at, joined, ended, all_ended, restacked, HasRoom, IsPiecePushed, IsHolder, IsHeldOnce};
 ghost use Rattle.tape_host.specs.Lying.{AllLie};
-ghost use Rattle.tape_host.specs.Turns.{TurnsAt, ServesAt};
+ghost use Rattle.tape_host.specs.Turns.{TurnsAt, ServesAt, with_back};
 
 use crate::serving::take_turn;
 use crate::side::{Next, Side, find_side, put_side, take_side};
@@ -39,22 +40,22 @@ pub struct Host {
 impl Model for Host {
     ghost use Rattle.std.specs.Prelude.{◌<◌, true, ◌≡◌, vec_len, vec_capacity};
     ghost use Rattle.tape_host.specs.Halls.{Hosted, hosted};
-    ghost use Rattle.tape_host.specs.Hosting.{hall_of, is_whole, IsHosting};
+    ghost use Rattle.tape_host.specs.Hosting.{hall_of, is_whole_side, IsHosting};
 
     ghost Value = { Hosted };
 
-    ghost view = { λ h. hosted (hall_of h.drives h.sides.items) (is_whole h.next) };
+    ghost view = { λ h. hosted (hall_of h.drives h.sides.items) (is_whole_side h.next) };
 
-    ghost invariant = { λ h. IsHosting h.drives h.sides.items h.next × (is_whole h.next ≡ true → vec_len h.sides < vec_capacity h.sides) };
+    ghost invariant = { λ h. IsHosting h.drives h.sides.items h.next × (is_whole_side h.next ≡ true → vec_len h.sides < vec_capacity h.sides) };
 }
 
 impl Host {
-    /// A server with these drives, from 1 to 64, and no connection. No trouble is set in them, and no reel is latched.
+    /// A server with these drives, from 1 to `drives::DRIVE_LIMIT`, and no connection. No trouble is set in them, and no reel is latched.
     ///
     /// It fails only where memory is refused.
     pub fn new(alloc: Global, drives: usize, stacks: ListStacks) -> Result<Host, AllocError>
         requires some { 1 ≤ drives }
-        requires few { drives ≤ 64 }
+        requires few { drives ≤ DRIVE_LIMIT }
         requires all { length stacks.shop.racks ≡ drives }
         requires told { IsShop stacks (shop_of stacks) }
         requires quiet { StacksCanFail stacks → ⊥ }
@@ -132,7 +133,7 @@ impl Host {
     /// Takes as many bytes of what a connection sends as its reader has room for, and answers how many: none where the server's
     /// side is not live.
     pub fn push(&mut self, connection: usize, bytes: &[u8]) -> usize
-        ensures { IsPushed self.old connection bytes.now (side_at self.old.hall.sides connection) result self.new }
+        ensures { IsPiecePushed self.old connection bytes.now (side_at self.old.hall.sides connection) result self.new }
     {
         let Some(mut side) = take_side(&mut self.sides, connection) else {
             return 0;
@@ -168,8 +169,8 @@ impl Host {
     /// One turn of the server's side of a connection, as `serve` takes it; but a fault does not end the side.
     fn turn(&mut self, connection: usize, trouble: Trouble, back: &mut Vec<u8>, lost: bool) -> Turn
         requires room { vec_len back.old + READER_LIMIT ≤ vec_capacity back.old }
-        ensures { TurnsAt self.old trouble lost self.old connection (side_at self.old.hall.sides connection) back.old.items result
-            self.new back.new.items }
+        ensures { TurnsAt self.old trouble lost (with_back self.old back.old.items) connection
+            (side_at self.old.hall.sides connection) result (with_back self.new back.new.items) }
     {
         one_holder::<ListStacks>();
         let Some(mut side) = take_side(&mut self.sides, connection) else {

@@ -11,4 +11,4 @@ mod side;
 mod turn;
 
 pub use host::Host;
-pub use turn::{Answered, Asked, Carried, Turn};
+pub use turn::{Answered, Carried, RequestKind, Turn};

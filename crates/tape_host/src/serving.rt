@@ -1,22 +1,23 @@
 //! One turn of a session: one request of what was pushed, under a trouble.
 ghost use Rattle.std.specs.Prelude.{◌≡◌, ℕ, ◌+◌, ◌≤◌, List, length, vec_len, vec_capacity, false};
 ghost use Rattle.rmt_wire.specs.Lent.{plain_request, plain_reply};
-ghost use Rattle.rmt_wire.specs.Reply.{PlainReply, ReplyHasSpelling, reply_text};
+ghost use Rattle.rmt_wire.specs.Reply.{ReplyHasSpelling, reply_text};
 ghost use Rattle.rmt_wire.specs.RequestReader.{Unread};
-ghost use Rattle.rmt_wire.specs.Limits.{reader_limit};
+ghost use Rattle.rmt_wire.specs.declared.limits.TheConstants.{READER_LIMIT};
 ghost use Rattle.tape.specs.declared.trouble.Trouble.TheVariants.{None as NoTrouble};
 ghost use Rattle.rmt_server.specs.State.{state};
 ghost use Rattle.rmt_server.specs.Replies.{IsSayable};
 ghost use Rattle.rmt_server.specs.Memory.{MemoryState};
 ghost use Rattle.rmt_server.specs.TroubledServe.{with_troubles, set_for};
-ghost use Rattle.tape_host.specs.Turns.{carried_of, sent_back};
-ghost use Rattle.tape_host.specs.Hosting.{IsCalmAt, IsCarried, TurnsSession};
+ghost use Rattle.tape_host.specs.Turns.{sent_back};
+ghost use Rattle.tape_host.specs.Hosting.{IsCalmAt, CarriesBack, TurnsSession, session_back};
 
 use crate::turn::{Carried, Turn};
 use drives::{DriveTable, ListStacks, LocalHolds};
 use rmt_server::{Session, one_scene, troubled_serve, troubles_set};
+use rmt_wire::mtio::MTOFFL;
 use rmt_wire::{Reply, Request, RequestReader, push_reply};
-use tape::{MTOFFL, Trouble};
+use tape::Trouble;
 
 /// Where a request meets a trouble: what is set for the open reel, and whether one is set for the stacks. An open and MTOFFL
 /// meet it at the stacks, a close nowhere, and all others at the open reel.
@@ -82,10 +83,9 @@ fn carry(
 ) -> Carried
     requires calm { IsCalmAt (state drives.old session.old) }
     requires sayable { IsSayable (plain_request request) }
-    requires room { vec_len back.old + reader_limit ≤ vec_capacity back.old }
-    ensures { (reply : PlainReply)
-        × IsCarried trouble (state drives.old session.old) (plain_request request.entry) reply (state drives.new session.new)
-        × (result ≡ carried_of (plain_request request.entry) reply) × (back.new.items ≡ sent_back lost back.old.items (reply_text reply)) }
+    requires room { vec_len back.old + READER_LIMIT ≤ vec_capacity back.old }
+    ensures { CarriesBack trouble lost (state drives.old session.old) back.old.items (plain_request request.entry) result
+        (state drives.new session.new) back.new.items }
 {
     one_scene();
     troubles_set();
@@ -110,9 +110,9 @@ pub(crate) fn take_turn(
 ) -> Turn
     requires calm { IsCalmAt (state drives.old session.old) }
     requires readable { (bytes : List ℕ) × Unread reader.old bytes }
-    requires room { vec_len back.old + reader_limit ≤ vec_capacity back.old }
-    ensures { TurnsSession trouble lost reader.old (state drives.old session.old) back.old.items result
-        reader.new (state drives.new session.new) back.new.items }
+    requires room { vec_len back.old + READER_LIMIT ≤ vec_capacity back.old }
+    ensures { TurnsSession trouble lost (session_back reader.old (state drives.old session.old) back.old.items) result
+        (session_back reader.new (state drives.new session.new) back.new.items) }
 {
     match reader.next() {
         Err(fault) => Turn::Broken(fault),

@@ -3,7 +3,7 @@ ghost use Rattle.std.specs.Prelude.{◌≡◌, ◌≤◌, true, Some, None, Matc
 ghost use Rattle.std.specs.Option.{option_copied};
 ghost use Rattle.drives.specs.Holding.{HoldsJust};
 ghost use Rattle.tape_host.specs.Halls.{side_at, with_side_at};
-ghost use Rattle.tape_host.specs.Hosting.{is_nothing, is_whole, IsIdle, IsFresh, IsMade};
+ghost use Rattle.tape_host.specs.Hosting.{is_nothing, is_whole_side, IsIdle, IsFresh, IsMade};
 
 use drives::{ListStacks, LocalHolds, LocalSeat};
 use rmt_server::Session;
@@ -44,7 +44,7 @@ impl Next {
     pub(crate) fn made(self, alloc: Global) -> (Next, Result<(), AllocError>)
         requires { IsIdle self }
         ensures made { IsMade self result.0 }
-        ensures outcome { MatchResult result.1 (λ _. is_whole result.0 ≡ true) (λ _. result.0 ≡ self) }
+        ensures outcome { MatchResult result.1 (λ _. is_whole_side result.0 ≡ true) (λ _. result.0 ≡ self) }
     {
         match self {
             Next::Nothing => (Next::Nothing, Err(AllocError)),
@@ -58,7 +58,7 @@ impl Next {
 
     /// Whether all of it is there.
     pub(crate) fn is_whole(&self) -> bool
-        ensures { result ≡ is_whole self.now }
+        ensures { result ≡ is_whole_side self.now }
     {
         match self {
             Next::Nothing | Next::Seat(_) => false,

@@ -4,17 +4,18 @@ ghost use Rattle.rmt_wire.specs.Lent.{plain_request, plain_reply};
 ghost use Rattle.rmt_server.specs.Access.{access_of};
 ghost use Rattle.tape_host.specs.Turns.{writes_for, asked_of, answered_of, carried_of};
 
+use rmt_wire::fcntl::{ACCESS_MODES, O_RDWR, O_WRONLY};
+use rmt_wire::mtio::MTWEOF;
 use rmt_wire::{Reply, Request, WireFault};
-use tape::MTWEOF;
 
-/// What a request asked for.
+/// The kind of a request that was carried out.
 #[derive(Clone, Copy, Debug, PartialEq, Eq)]
-pub enum Asked {
-    /// To open a device. Its mode says whether for writing: modulo 4 it is 1, or 2 for both.
+pub enum RequestKind {
+    /// To open a device. Its mode says whether for writing: modulo `ACCESS_MODES` it is `O_WRONLY`, or `O_RDWR` for both.
     Open { writes: bool },
     /// To write a record.
     Write,
-    /// To write marks, which is mtio's operation 0.
+    /// To write marks, which is `MTWEOF`.
     Marks,
     /// Anything else: among these a write of more than a record has, whose data were dropped.
     Other,
@@ -34,7 +35,7 @@ pub enum Answered {
 /// A request that was carried out.
 #[derive(Clone, Copy, Debug, PartialEq, Eq)]
 pub struct Carried {
-    pub asked: Asked,
+    pub asked: RequestKind,
     pub answered: Answered,
 }
 
@@ -49,28 +50,28 @@ pub enum Turn {
     Broken(WireFault),
 }
 
-/// Whether a device that is opened with this mode may be written: modulo 4 it is 1, or 2 for both.
+/// Whether a device that is opened with this mode may be written: modulo `ACCESS_MODES` it is `O_WRONLY`, or `O_RDWR` for both.
 fn opens_to_write(mode: u32) -> bool
     ensures { result ≡ writes_for (access_of mode) }
 {
-    matches!(mode % 4, 1 | 2)
+    matches!(mode % ACCESS_MODES, O_WRONLY | O_RDWR)
 }
 
-impl Asked {
+impl RequestKind {
     /// What this request asks for.
-    fn of(request: &Request<'_>) -> Asked
+    fn of(request: &Request<'_>) -> RequestKind
         ensures { result ≡ asked_of (plain_request request.now) }
     {
         match *request {
-            Request::Open { mode, .. } => Asked::Open {
+            Request::Open { mode, .. } => RequestKind::Open {
                 writes: opens_to_write(mode),
             },
-            Request::Write { .. } => Asked::Write,
-            Request::Op { op, .. } if op == MTWEOF => Asked::Marks,
+            Request::Write { .. } => RequestKind::Write,
+            Request::Op { op, .. } if op == MTWEOF => RequestKind::Marks,
             Request::Op { .. }
             | Request::Close
             | Request::WriteDropped { .. }
-            | Request::Read { .. } => Asked::Other,
+            | Request::Read { .. } => RequestKind::Other,
         }
     }
 }
@@ -94,7 +95,7 @@ impl Carried {
         ensures { result ≡ carried_of (plain_request request.now) (plain_reply reply.now) }
     {
         Carried {
-            asked: Asked::of(request),
+            asked: RequestKind::of(request),
             answered: Answered::of(reply),
         }
     }

@@ -6,10 +6,11 @@ use Rattle.std.proofs.lemmas.List.{take_all, length-drop, length-map, drop-drop}
 use Rattle.std.proofs.lemmas.List.Folds.{list_any-append, flat_map-map}
 use Rattle.std.proofs.lemmas.List.Concat.{flat_map-cons}
 use Rattle.drives.specs.Arranging.{are_distinct}
+use Rattle.drives.specs.declared.holds.TheConstants.{DRIVE_LIMIT}
 use Rattle.drives.proofs.Arranging.{any_lent}
 use Rattle.tape_world.specs.declared.drive_spec.DriveSpec.{DriveSpec}
 use Rattle.tape_events.specs.First.{AreGoodDrives}
-use Rattle.tape_world.specs.Making.{plain_drive, reels_of, reel_again, names_again}
+use Rattle.tape_world.specs.Making.{plain_drive_spec, reels_of, reel_again, names_again}
 
 -- the names of all reels
 abbrev pub all_reels : List DriveSpec → List (List ℕ)
@@ -74,33 +75,33 @@ pub reels_yet : (drives : List DriveSpec) (i : ℕ) (found : Bool) → found ≡
 reels_yet drives i found h t same =
     ap (λ xs. are_distinct (all_reels xs)) (sym (drop-drop 1 i drives)) ∙ sym (once (drop i drives) (sym (h ∙ ap reel_again (tail_is drives i)) ∙ t)) ∙ same
 
-names_same : (drives : List DriveSpec) → map (λ d. d.name) (map plain_drive drives) ≡ map (λ d. d.name.now) drives
+names_same : (drives : List DriveSpec) → map (λ d. d.name) (map plain_drive_spec drives) ≡ map (λ d. d.name.now) drives
 names_same [] = refl
 names_same (d ∷ drives) = ap (λ names. d.name.now ∷ names) (names_same drives)
 
-reels_same : (drives : List DriveSpec) → flat_map (λ d. d.reels) (map plain_drive drives) ≡ all_reels drives
-reels_same drives = flat_map-map (λ d. d.reels) plain_drive drives
+reels_same : (drives : List DriveSpec) → flat_map (λ d. d.reels) (map plain_drive_spec drives) ≡ all_reels drives
+reels_same drives = flat_map-map (λ d. d.reels) plain_drive_spec drives
 
 -- good drives are so many, and of names and reels that differ
-pub good_parts : (drives : List DriveSpec) → AreGoodDrives (map plain_drive drives)
-    → (1 ≤ length drives) × (length drives ≤ 64) × (are_distinct (map (λ d. d.name.now) drives) ≡ true) × (are_distinct (all_reels drives) ≡ true)
+pub good_parts : (drives : List DriveSpec) → AreGoodDrives (map plain_drive_spec drives)
+    → (1 ≤ length drives) × (length drives ≤ DRIVE_LIMIT) × (are_distinct (map (λ d. d.name.now) drives) ≡ true) × (are_distinct (all_reels drives) ≡ true)
 good_parts drives ((some, few), names, reels) = (
-  omega (arith, some, length-map drives plain_drive),
-  omega (arith, few, length-map drives plain_drive),
+  omega (arith, some, length-map drives plain_drive_spec),
+  omega (arith, few, length-map drives plain_drive_spec),
   sym (ap are_distinct (names_same drives)) ∙ names,
   sym (ap are_distinct (reels_same drives)) ∙ reels,
 )
 
-pub are_good : (drives : List DriveSpec) → 1 ≤ length drives → length drives ≤ 64 → are_distinct (map (λ d. d.name.now) drives) ≡ true → (r : Bool)
-    → r ≡ are_distinct (all_reels drives) → (r ≡ true) ↔ AreGoodDrives (map plain_drive drives)
+pub are_good : (drives : List DriveSpec) → 1 ≤ length drives → length drives ≤ DRIVE_LIMIT → are_distinct (map (λ d. d.name.now) drives) ≡ true → (r : Bool)
+    → r ≡ are_distinct (all_reels drives) → (r ≡ true) ↔ AreGoodDrives (map plain_drive_spec drives)
 are_good drives some few names r is = (
   λ yes. (
-    (omega (arith, some, length-map drives plain_drive), omega (arith, few, length-map drives plain_drive)),
+    (omega (arith, some, length-map drives plain_drive_spec), omega (arith, few, length-map drives plain_drive_spec)),
     ap are_distinct (names_same drives) ∙ names,
     ap are_distinct (reels_same drives) ∙ sym is ∙ yes,
   ),
   λ good. is ∙ (good_parts drives good).3,
 )
 
-pub names_alike : (drives : List DriveSpec) (r : Bool) → r ≡ are_distinct (map (λ d. d.name.now) drives) → r ≡ false → (r ≡ true) ↔ AreGoodDrives (map plain_drive drives)
+pub names_alike : (drives : List DriveSpec) (r : Bool) → r ≡ are_distinct (map (λ d. d.name.now) drives) → r ≡ false → (r ≡ true) ↔ AreGoodDrives (map plain_drive_spec drives)
 names_alike drives r is not = (λ yes. (let bad : true ≡ false = sym yes ∙ not in absurd cc), λ good. is ∙ (good_parts drives good).2)

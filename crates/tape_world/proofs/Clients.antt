@@ -18,12 +18,12 @@ use Rattle.dump_client.specs.declared.stage.Answer.TheVariants.{Retry, Abandon}
 use Rattle.dump_client.specs.declared.fault.StartFault.{StartFault}
 use Rattle.tape_events.specs.World.{World, Caller, Entered, numbered}
 use Rattle.tape_events.specs.Changes.{side_of}
-use Rattle.tape_events.specs.Rows.{StandsIn, IsEntered}
+use Rattle.tape_events.specs.Rows.{StandsIn, IsRunEntered}
 use Rattle.tape_events.specs.Steps.{caller, entry_of}
 use Rattle.tape_world.specs.declared.caller.Begun.{Begun as RealBegun}
 use Rattle.tape_world.specs.declared.caller.Caller.{Caller as RealCaller}
 use Rattle.tape_world.specs.Seen.{seen_caller, seen_entered}
-use Rattle.tape_world.specs.Calling.{IsSameRun, Answers}
+use Rattle.tape_world.specs.Calling.{IsSameRun, ClientAnswers}
 use Rattle.tape_world.specs.Holding.{is_in_attempt, IsOwned, IsBegun, IsSound, IsSourced}
 
 -- the client that is there stands so
@@ -99,7 +99,7 @@ pub record IsAnswered (o : Option RealCaller) (answer : Answer) (new : Option Re
   pub at : after.client.at ≡ standing before.client.at.run before.client.at.counts (stage_after answer)
 
 pub answered : (o new : Option RealCaller) (answer : Answer) (x : Caller) → option_map seen_caller o ≡ Some x → state_of x.at.stage ≡ told.Asking
-    → Answers o answer new → IsAnswered o answer new
+    → ClientAnswers o answer new → IsAnswered o answer new
 answered None new answer x is asks a = absurd cc
 answered (Some c) new answer x is asks (d, r, new-is, same, moved) =
     let asks : c.client.at.stage ≡ Asking = ap (λ (y : Caller). y.at.stage) (same_Some (seen_caller c) x is) ∙ told_asking x.at.stage asks in
@@ -141,7 +141,7 @@ sourced_same begun o new c d was is same s x at =
     (b.0, b.1, ap (numbered begun) (sym (ap (λ (y : RealCaller). y.number) e) ∙ same.number) ∙ b.2, sym (ap (λ (y : RealCaller). y.client.source) e) ∙ same.source ∙ b.3)
 
 -- a run's number stands among those that were entered, or does not
-pub is_entered : (w : World) (items : List ℕ) (number : ℕ) → w.entered ≡ map seen_entered items → Contains items number → IsEntered w number
+pub is_entered : (w : World) (items : List ℕ) (number : ℕ) → w.entered ≡ map seen_entered items → Contains items number → IsRunEntered w number
 is_entered w items number is (i, below, at) = (
   seen_entered number,
   subst (λ es. Contains es (seen_entered number)) (sym is)
@@ -149,7 +149,7 @@ is_entered w items number is (i, below, at) = (
   refl,
 )
 
-pub stands_entered : (w : World) (items : List ℕ) (number : ℕ) → w.entered ≡ map seen_entered items → IsEntered w number → Contains items number
+pub stands_entered : (w : World) (items : List ℕ) (number : ℕ) → w.entered ≡ map seen_entered items → IsRunEntered w number → Contains items number
 stands_entered w items number is (e, among, same) =
     let (i, below, at) : Contains (map seen_entered items) e = subst (λ es. Contains es e) is among in
     subst (Contains items) same

@@ -14,13 +14,13 @@ use Rattle.dump_client.specs.declared.fault.AttemptFault.{AttemptFault}
 use Rattle.dump_client.specs.declared.stage.Stage.{Stage}
 use Rattle.dump_client.specs.declared.stage.Stage.TheVariants.{Ready, ToSend, Waiting, Asking, Finished, Abandoned}
 use Rattle.tape_events.specs.World.{World, Link, Dumping, Caller, numbered}
-use Rattle.tape_events.specs.Changes.{link_of, changed, changed_from, over_there, calm, left, given_up, came_to}
+use Rattle.tape_events.specs.Changes.{link_of, changed, changed_from, over_there, calm, other_left, given_up, came_to}
 use Rattle.tape_events.specs.Steps.{caller, forgotten, forgotten_from, SeesEnd}
 use Rattle.tape_world.specs.declared.link.Link.{Link as RealLink}
 use Rattle.tape_world.specs.declared.caller.Begun.{Begun as RealBegun}
 use Rattle.tape_world.specs.declared.caller.Caller.{Caller as RealCaller}
 use Rattle.tape_world.specs.Seen.{seen_caller, seen_link}
-use Rattle.tape_world.specs.Calling.{IsSameRun, SeesEnd as SeesItsEnd, over_own, failure_of}
+use Rattle.tape_world.specs.Calling.{IsSameRun, ClientSeesEnd as SeesItsEnd, over_own, failure_of}
 use Rattle.tape_world.specs.Holding.{is_in_attempt, IsClients, IsOwned, IsSound, IsSourced}
 use Rattle.tape_world.proofs.Sound.{links_after, links_same, length_changed, IsBeside, SameClients, owned_beside, begun_beside}
 use Rattle.tape_world.proofs.Clients.{Rests, not_both, client_sound, same_begun}
@@ -256,7 +256,7 @@ ended_step w u k d o new failure was e is = (
       ∙ came_is w k (caller e.before.number e.after.client.at e.after.client.reader) e.after.client.at e.progress,
 )
 
-pub strangers_step : (w u : World) (k : ℕ) (dump : Option Dumping) → dump ≡ None → u ≡ left (calm w) k → SeesEnd dump w k u
+pub strangers_step : (w u : World) (k : ℕ) (dump : Option Dumping) → dump ≡ None → u ≡ other_left (calm w) k → SeesEnd dump w k u
 strangers_step w u k dump none is = subst (λ o. SeesEnd o w k u) (sym none) is
 
 pub clients_step : (w u : World) (k : ℕ) (dump : Option Dumping) (d : Dumping) → dump ≡ Some d → SeesEnd (Some d) w k u → SeesEnd dump w k u

@@ -18,7 +18,7 @@ use Rattle.drives.proofs.Shops.{bit, named, times_named, sum_by_slots, sum_by_wi
 use Rattle.drives.proofs.Arranging.{names_from}
 use Rattle.tape_events.specs.First.{AreGoodDrives}
 use Rattle.tape_world.specs.declared.drive_spec.DriveSpec.{DriveSpec}
-use Rattle.tape_world.specs.Making.{plain_drive, reels_of, blank_slots, laid_rack, laid_shop, with_laid, with_slots}
+use Rattle.tape_world.specs.Making.{plain_drive_spec, reels_of, blank_slots, laid_rack, laid_shop, with_laid, with_slots}
 use Rattle.tape_world.proofs.Apart.{all_reels, good_parts}
 use Rattle.tape_world.proofs.Made.{laid_after, laid_on}
 
@@ -87,12 +87,12 @@ stacks_blank (d ∷ drives) =
     ∙ ap (λ ns. reels_of d ++ ns) (stacks_blank drives) ∙ sym (flat_map-cons reels_of d drives)
 
 -- no name stands twice among the reels of good drives
-pub good_once : (drives : List DriveSpec) → AreGoodDrives (map plain_drive drives) → EachReelOnce (laid_shop drives)
+pub good_once : (drives : List DriveSpec) → AreGoodDrives (map plain_drive_spec drives) → EachReelOnce (laid_shop drives)
 good_once drives good name =
     let is : names_in (laid_shop drives) ≡ all_reels drives = ap (map (λ x. x.name)) (append-nil (flat_map (λ r. r.stack) (map laid_rack drives))) ∙ stacks_blank drives in
     subst (λ ns. times name ns ≤ 1) (sym is) (distinct_once (all_reels drives) (good_parts drives good).3 name)
 
-pub good_names : (drives : List DriveSpec) → AreGoodDrives (map plain_drive drives) → are_distinct (map (λ d. d.name.now) drives) ≡ true
+pub good_names : (drives : List DriveSpec) → AreGoodDrives (map plain_drive_spec drives) → are_distinct (map (λ d. d.name.now) drives) ≡ true
 good_names drives good = (good_parts drives good).2
 
 names_laid : (drives : List DriveSpec) → map (λ r. r.name) (map laid_rack drives) ≡ map (λ d. d.name.now) drives

@@ -9,6 +9,7 @@ use Rattle.std.proofs.lemmas.Bool.Decides.{nat_tests}
 use Rattle.rmt_wire.specs.Reply.{PlainReply}
 use Rattle.rmt_wire.specs.Reply.PlainReply.{Done, Data, Error}
 use Rattle.rmt_wire.specs.declared.fault.WireFault.{WireFault}
+use Rattle.rmt_wire.specs.declared.errno.TheConstants.{ENOSPC}
 use Rattle.dump_run.specs.Run.{PlainRun}
 use Rattle.dump_run.specs.Label.{label_bytes}
 use Rattle.dump_client.specs.Position.{after_step, at_end_of_reel, after_write, after_op, after_number, after_refusal, after_error, after_noise, after_reply}
@@ -22,7 +23,7 @@ use Rattle.dump_client.specs.declared.stage.Stage.{Stage}
 use Rattle.dump_client.specs.declared.stage.Stage.TheVariants.{Ready, ToSend, Waiting, Asking, Finished, Abandoned}
 use Rattle.dump_client.specs.declared.stage.Progress.{Progress}
 use Rattle.dump_client.specs.declared.stage.Progress.TheVariants as moved
-use Rattle.tape_events.specs.Changes.{reel_of}
+use Rattle.tape_events.specs.Changes.{reel_opened_by}
 use Rattle.tape_world.specs.declared.books.Opening.{Opening as RealOpening}
 use Rattle.tape_world.specs.Seen.{name_at, seen_opening}
 use Rattle.tape_world.specs.Holding.{is_in_attempt}
@@ -130,7 +131,7 @@ op_moves old new run first step n more progress =
 refusal_moves : (old new : Standing) (first : ℕ) (step : Step) (n : ℕ) (more : Bool) (progress : Progress)
     → Becomes old (after_refusal first step n) more progress new → HasMoved old new progress
 refusal_moves old new first step n more progress =
-    either (λ o. Becomes old o more progress new → HasMoved old new progress) (n == 28) _ _ (reel_moves old new first step more progress)
+    either (λ o. Becomes old o more progress new → HasMoved old new progress) (n == ENOSPC) _ _ (reel_moves old new first step more progress)
     (λ h. fails old new _ progress h)
 
 number_moves : (old new : Standing) (run : PlainRun) (first : ℕ) (step : Step) (n : ℕ) (more : Bool) (progress : Progress)
@@ -221,11 +222,11 @@ reel_in names None = []
 reel_in names (Some o) = name_at names o.reel
 
 pub reel_found : (names : List (List ℕ)) (k : ℕ) (opens : List RealOpening)
-    → reel_in names (find (λ o. o.connection == k) opens) ≡ reel_of k (map (seen_opening names) opens)
+    → reel_in names (find (λ o. o.connection == k) opens) ≡ reel_opened_by k (map (seen_opening names) opens)
 reel_found names k [] = refl
 reel_found names k (o ∷ opens) =
     elim (o.connection == k) as (λ b. reel_in names (cond b (Some o) (find (λ o. o.connection == k) opens))
-    ≡ cond b (name_at names o.reel) (reel_of k (map (seen_opening names) opens))) [
+    ≡ cond b (name_at names o.reel) (reel_opened_by k (map (seen_opening names) opens))) [
       | true ↦ refl
       | false ↦ reel_found names k opens
     ]
@@ -235,11 +236,11 @@ past : (xs : List (List ℕ)) (n : ℕ) → n ≡ length xs → get_or xs n [] �
 past xs n is = get_or_past xs n [] (omega (arith, is))
 
 pub reel_none : (names : List (List ℕ)) (n k : ℕ) (opens : List RealOpening) (o : Option RealOpening) → n ≡ length names → o ≡ None
-    → o ≡ find (λ o. o.connection == k) opens → name_at names n ≡ reel_of k (map (seen_opening names) opens)
+    → o ≡ find (λ o. o.connection == k) opens → name_at names n ≡ reel_opened_by k (map (seen_opening names) opens)
 reel_none names n k opens o is none found = past names n is ∙ ap (reel_in names) (sym none ∙ found) ∙ reel_found names k opens
 
 pub reel_some : (names : List (List ℕ)) (k : ℕ) (opens : List RealOpening) (o : Option RealOpening) (x : RealOpening) → o ≡ Some x
-    → o ≡ find (λ o. o.connection == k) opens → name_at names x.reel ≡ reel_of k (map (seen_opening names) opens)
+    → o ≡ find (λ o. o.connection == k) opens → name_at names x.reel ≡ reel_opened_by k (map (seen_opening names) opens)
 reel_some names k opens o x some found = ap (reel_in names) (sym some ∙ found) ∙ reel_found names k opens
 
 same_number : (m k : ℕ) → m ≡ k → (m == k) ≡ true

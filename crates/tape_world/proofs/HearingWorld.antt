@@ -10,12 +10,12 @@ use Rattle.dump_client.specs.declared.stage.Progress.{Progress}
 use Rattle.dump_client.specs.declared.stage.Progress.TheVariants as moved
 use Rattle.dump_client.specs.declared.fault.AttemptFault.{AttemptFault}
 use Rattle.tape_events.specs.World.{World, Link, Dumping, Caller, Count, numbered}
-use Rattle.tape_events.specs.Changes.{calm, changed, changed_from, over_there, reel_of, counts_of, came_to}
+use Rattle.tape_events.specs.Changes.{calm, changed, changed_from, over_there, reel_opened_by, counts_of, came_to}
 use Rattle.tape_events.specs.Steps.{Hears, caller}
 use Rattle.tape_world.specs.declared.link.Link.{Link as RealLink}
 use Rattle.tape_world.specs.declared.caller.Caller.{Caller as RealCaller}
 use Rattle.tape_world.specs.declared.books.Count.{Count as RealCount}
-use Rattle.tape_world.specs.declared.ends.hearing.Heard.{Heard}
+use Rattle.tape_world.specs.declared.ends.hearing.PieceHeard.{PieceHeard}
 use Rattle.tape_world.specs.Seen.{seen_caller, seen_count, seen_link, name_at}
 use Rattle.tape_world.specs.Holding.{is_in_attempt, IsClients, IsOwned, IsSound}
 use Rattle.tape_world.specs.Calling.{failure_of}
@@ -62,12 +62,12 @@ heard_owned false w u k n x clients links own is stage s =
       only = λ j theirs. own ∙ s.only j (same.back j theirs);
     }
 
-pub heard_moves : (w : World) (o new : Option RealCaller) (piece : List ℕ) (k : ℕ) (h : Heard) → w.caller ≡ option_map seen_caller o → IsOwned w → IsClients w k
+pub heard_moves : (w : World) (o new : Option RealCaller) (piece : List ℕ) (k : ℕ) (h : PieceHeard) → w.caller ≡ option_map seen_caller o → IsOwned w → IsClients w k
     → (e : HasHeard o piece h new) → HasMoved e.before.client.at e.after.client.at e.progress
 heard_moves w o new piece k h was s clients e =
     fed_moves e.before.client.at e.after.client.at e.fed piece e.progress (inside o e.before e.was (attempts w o k was s clients)) e.moved
 
-pub heard_sound : (w u : World) (k n : ℕ) (o new : Option RealCaller) (piece : List ℕ) (h : Heard) → IsClients w k → u.hall ≡ w.hall
+pub heard_sound : (w u : World) (k n : ℕ) (o new : Option RealCaller) (piece : List ℕ) (h : PieceHeard) → IsClients w k → u.hall ≡ w.hall
     → u.links ≡ changed (heard_on h.is_over n) w.links k → u.begun ≡ w.begun → u.own ≡ own_after h.is_over w.own → w.caller ≡ option_map seen_caller o
     → u.caller ≡ option_map seen_caller new → HasHeard o piece h new → IsSound w → IsSound u
 heard_sound w u k n o new piece h clients hall links begun own was is e s =
@@ -112,7 +112,7 @@ come_is w k n x counts at moved.Waiting = refl
 come_is w k n x counts at moved.Send = refl
 come_is w k n x counts at moved.Idle = refl
 
-pub heard_step : (w u : World) (k n : ℕ) (dump : Option Dumping) (d : Dumping) (piece : List ℕ) (o new : Option RealCaller) (h : Heard) → dump ≡ Some d
+pub heard_step : (w u : World) (k n : ℕ) (dump : Option Dumping) (d : Dumping) (piece : List ℕ) (o new : Option RealCaller) (h : PieceHeard) → dump ≡ Some d
     → w.caller ≡ option_map seen_caller o → HasHeard o piece h new
     → u ≡ heard_world w k n h.is_over (option_map seen_caller new) (w.counts ++ map (counts_of w h.run k) (option_to_list h.count)) h.failure
     → Hears dump w k n piece u
@@ -146,19 +146,19 @@ pub dropped_step : (w u : World) (k n : ℕ) (dump : Option Dumping) (piece : Li
 dropped_step w u k n dump piece none is = subst (λ y. Hears y w k n piece u) (sym none) is
 
 -- what is seen of the counts that are kept
-count_is : (w : World) (names : List (List ℕ)) (run reel k : ℕ) (c : VolumeCount) → name_at names reel ≡ reel_of k w.opens
+count_is : (w : World) (names : List (List ℕ)) (run reel k : ℕ) (c : VolumeCount) → name_at names reel ≡ reel_opened_by k w.opens
     → seen_count names (count_in run reel k c) ≡ counts_of w run k c
 count_is w names run reel k c is =
     ap (λ name. record { run = run; volume = c.volume; first = c.first; count = c.count; reel = name; connection = k }) is
 
-count_list : (w : World) (names : List (List ℕ)) (run reel k : ℕ) (o : Option VolumeCount) → name_at names reel ≡ reel_of k w.opens
+count_list : (w : World) (names : List (List ℕ)) (run reel k : ℕ) (o : Option VolumeCount) → name_at names reel ≡ reel_opened_by k w.opens
     → map (seen_count names) (map (count_in run reel k) (option_to_list o)) ≡ map (counts_of w run k) (option_to_list o)
 count_list w names run reel k None is = refl
 count_list w names run reel k (Some c) is = ap (λ x. x ∷ []) (count_is w names run reel k c is)
 
 pub counts_kept : (w : World) (names : List (List ℕ)) (run reel k : ℕ) (o : Option VolumeCount) (before items now : List RealCount)
     → w.counts ≡ map (seen_count names) before → items ≡ before → now ≡ items ++ map (count_in run reel k) (option_to_list o)
-    → name_at names reel ≡ reel_of k w.opens → map (seen_count names) now ≡ w.counts ++ map (counts_of w run k) (option_to_list o)
+    → name_at names reel ≡ reel_opened_by k w.opens → map (seen_count names) now ≡ w.counts ++ map (counts_of w run k) (option_to_list o)
 counts_kept w names run reel k o before items now was same is named =
     ap (map (seen_count names)) (is ∙ ap (λ l. l ++ map (count_in run reel k) (option_to_list o)) same)
     ∙ map-append (seen_count names) before (map (count_in run reel k) (option_to_list o))

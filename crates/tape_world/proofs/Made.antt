@@ -19,14 +19,14 @@ use Rattle.tape_events.specs.Changes.{side_of}
 use Rattle.tape_world.specs.Holding.{IsSound}
 use Rattle.tape_host.specs.Halls.{Hosted, hosted}
 use Rattle.tape_host.specs.Lying.{Lie, StacksLie, AllLie}
-use Rattle.tape_events.specs.First.{PlainDrive, blank_rack, first_world}
+use Rattle.tape_events.specs.First.{PlainDriveSpec, blank_rack, first_world}
 use Rattle.tape_world.specs.declared.link.Link.{Link as RealLink}
 use Rattle.tape_world.specs.declared.caller.Begun.{Begun as RealBegun}
 use Rattle.tape_world.specs.declared.books.Books.{Books}
-use Rattle.tape_world.specs.Seen.{seen_link, seen_begun, seen_count, seen_opening, seen_entered, names_in, world_of}
+use Rattle.tape_world.specs.Seen.{seen_link, seen_begun, seen_count, seen_opening, seen_entered, book_names, world_of}
 use Rattle.tape_world.specs.declared.drive_spec.DriveSpec.{DriveSpec}
-use Rattle.tape_world.specs.Serving.{AreKnown, IsStocked}
-use Rattle.tape_world.specs.Making.{plain_drive, reels_of, blank_slots, laid_rack, laid_shop, with_laid, with_slots}
+use Rattle.tape_world.specs.Serving.{AreKnown, IsShopKnown}
+use Rattle.tape_world.specs.Making.{plain_drive_spec, reels_of, blank_slots, laid_rack, laid_shop, with_laid, with_slots}
 
 no_slots : (s : ShopOf TroubledTape) (d : ℕ) → with_slots s d [] ≡ s
 no_slots s d =
@@ -126,13 +126,13 @@ kept_slots : (capacity : ℕ) (names : List (List ℕ)) → map rest_slot (blank
 kept_slots capacity [] = refl
 kept_slots capacity (name ∷ names) = ap (λ slots. slot name (Some (kept_reel [] capacity)) ∷ slots) (kept_slots capacity names)
 
-kept_racks : (drives : List DriveSpec) → map rest_rack (map laid_rack drives) ≡ map blank_rack (map plain_drive drives)
+kept_racks : (drives : List DriveSpec) → map rest_rack (map laid_rack drives) ≡ map blank_rack (map plain_drive_spec drives)
 kept_racks [] = refl
 kept_racks (d ∷ drives) =
     ap (λ slots. rack d.name.now slots ∷ map rest_rack (map laid_rack drives)) (kept_slots d.capacity (reels_of d))
-    ∙ ap (λ racks. blank_rack (plain_drive d) ∷ racks) (kept_racks drives)
+    ∙ ap (λ racks. blank_rack (plain_drive_spec d) ∷ racks) (kept_racks drives)
 
-first_shop : (s : ListShop) (drives : List DriveSpec) → s.shop ≡ laid_shop drives → shop_of s ≡ shop (map blank_rack (map plain_drive drives)) []
+first_shop : (s : ListShop) (drives : List DriveSpec) → s.shop ≡ laid_shop drives → shop_of s ≡ shop (map blank_rack (map plain_drive_spec drives)) []
 first_shop s drives is =
     ap (λ (x : ShopOf TroubledTape). shop (map rest_rack x.racks) (map rest_slot x.bin)) is ∙ ap (λ racks. shop racks []) (kept_racks drives)
 
@@ -140,29 +140,29 @@ slots_lie : (capacity : ℕ) (names : List (List ℕ)) → Lie (map (λ name. sl
 slots_lie capacity [] = tt
 slots_lie capacity (name ∷ names) = (refl, slots_lie capacity names)
 
-racks_lie : (drives : List PlainDrive) → StacksLie (map blank_rack drives)
+racks_lie : (drives : List PlainDriveSpec) → StacksLie (map blank_rack drives)
 racks_lie [] = tt
 racks_lie (d ∷ drives) = (slots_lie d.capacity d.reels, racks_lie drives)
 
 pub none_latched : (s : ListShop) (drives : List DriveSpec) → s.shop ≡ laid_shop drives → AllLie (shop_of s)
-none_latched s drives is = subst (λ (x : Shop). AllLie x) (sym (first_shop s drives is)) (racks_lie (map plain_drive drives), tt)
+none_latched s drives is = subst (λ (x : Shop). AllLie x) (sym (first_shop s drives is)) (racks_lie (map plain_drive_spec drives), tt)
 
 -- where nothing has happened yet
 pub first_hall : (host : Hosted) (s : ListShop) (drives : List DriveSpec) (n : ℕ) → s.shop ≡ laid_shop drives
-    → host ≡ hosted (hall (shop_of s) (replicate n 0) []) false → n ≡ length drives → host.hall ≡ (first_world (map plain_drive drives)).hall
+    → host ≡ hosted (hall (shop_of s) (replicate n 0) []) false → n ≡ length drives → host.hall ≡ (first_world (map plain_drive_spec drives)).hall
 first_hall host s drives n laid is count =
     ap (λ (h : Hosted). h.hall) is ∙ ap (λ x. hall x (replicate n 0) []) (first_shop s drives laid)
-    ∙ ap (λ m. hall (shop (map blank_rack (map plain_drive drives)) []) (replicate m 0) []) (count ∙ sym (length-map drives plain_drive))
+    ∙ ap (λ m. hall (shop (map blank_rack (map plain_drive_spec drives)) []) (replicate m 0) []) (count ∙ sym (length-map drives plain_drive_spec))
 
 pub made_world : (host : Hosted) (drives : List DriveSpec) (links : List RealLink) (begun : List RealBegun) (books : Books) (dates : List DatesEntry)
-    → host.hall ≡ hall (shop (map blank_rack (map plain_drive drives)) []) (replicate (length (map plain_drive drives)) 0) [] → links ≡ [] → begun ≡ []
+    → host.hall ≡ hall (shop (map blank_rack (map plain_drive_spec drives)) []) (replicate (length (map plain_drive_spec drives)) 0) [] → links ≡ [] → begun ≡ []
     → books.counts.items ≡ [] → books.opens.items ≡ [] → books.entered.items ≡ [] → books.failure ≡ None → dates ≡ []
-    → world_of host.hall links begun None None books dates ≡ first_world (map plain_drive drives)
+    → world_of host.hall links begun None None books dates ≡ first_world (map plain_drive_spec drives)
 made_world host drives links begun books dates there no_links no_runs no_counts no_opens no_entered no_failure no_dates =
     let links_none : map seen_link links ≡ [] = ap (map seen_link) no_links in
     let begun_none : map seen_begun begun ≡ [] = ap (map seen_begun) no_runs in
-    let counts_none : map (seen_count (names_in books)) books.counts.items ≡ [] = ap (map (seen_count (names_in books))) no_counts in
-    let opens_none : map (seen_opening (names_in books)) books.opens.items ≡ [] = ap (map (seen_opening (names_in books))) no_opens in
+    let counts_none : map (seen_count (book_names books)) books.counts.items ≡ [] = ap (map (seen_count (book_names books))) no_counts in
+    let opens_none : map (seen_opening (book_names books)) books.opens.items ≡ [] = ap (map (seen_opening (book_names books))) no_opens in
     let entered_none : map seen_entered books.entered.items ≡ [] = ap (map seen_entered) no_entered in cc
 
 -- copies of more names
@@ -193,27 +193,27 @@ reels_known capacity (reel ∷ reels) names among =
     All-cons (λ (s : Slot KeptReel). Contains names s.name) (slot reel (Some (kept_reel [] capacity))) (map (λ name. slot name (Some (kept_reel [] capacity))) reels)
     (among reel (0, omega arith, refl)) (reels_known capacity reels names (λ x at. among x (next_among reel x reels at)))
 
-stacks_known : (drives : List PlainDrive) (names : List (List ℕ)) → ((x : List ℕ) → Contains (flat_map (λ d. d.reels) drives) x → Contains names x) → (d : ℕ)
+stacks_known : (drives : List PlainDriveSpec) (names : List (List ℕ)) → ((x : List ℕ) → Contains (flat_map (λ d. d.reels) drives) x → Contains names x) → (d : ℕ)
     → AreKnown names (slice_index_or (map blank_rack drives) d (rack [] [])).stack
 stacks_known [] names among d = All-nil (λ (s : Slot KeptReel). Contains names s.name)
 stacks_known (drive ∷ drives) names among zero = reels_known drive.capacity drive.reels names
-    (λ x at. among x (subst (λ l. Contains l x) (sym (flat_map-cons (λ (d : PlainDrive). d.reels) drive drives))
-    (Contains-append_left drive.reels (flat_map (λ (d : PlainDrive). d.reels) drives) x at)))
+    (λ x at. among x (subst (λ l. Contains l x) (sym (flat_map-cons (λ (d : PlainDriveSpec). d.reels) drive drives))
+    (Contains-append_left drive.reels (flat_map (λ (d : PlainDriveSpec). d.reels) drives) x at)))
 stacks_known (drive ∷ drives) names among (suc d) = stacks_known drives names
-    (λ x at. among x (subst (λ l. Contains l x) (sym (flat_map-cons (λ (d : PlainDrive). d.reels) drive drives))
-    (Contains-append_right drive.reels (flat_map (λ (d : PlainDrive). d.reels) drives) x at))) d
+    (λ x at. among x (subst (λ l. Contains l x) (sym (flat_map-cons (λ (d : PlainDriveSpec). d.reels) drive drives))
+    (Contains-append_right drive.reels (flat_map (λ (d : PlainDriveSpec). d.reels) drives) x at))) d
 
-plain_reels : (drives : List DriveSpec) → flat_map (λ (d : PlainDrive). d.reels) (map plain_drive drives) ≡ flat_map reels_of drives
+plain_reels : (drives : List DriveSpec) → flat_map (λ (d : PlainDriveSpec). d.reels) (map plain_drive_spec drives) ≡ flat_map reels_of drives
 plain_reels [] = refl
 plain_reels (d ∷ drives) =
-    flat_map-cons (λ (x : PlainDrive). x.reels) (plain_drive d) (map plain_drive drives) ∙ ap (λ l. reels_of d ++ l) (plain_reels drives)
+    flat_map-cons (λ (x : PlainDriveSpec). x.reels) (plain_drive_spec d) (map plain_drive_spec drives) ∙ ap (λ l. reels_of d ++ l) (plain_reels drives)
     ∙ sym (flat_map-cons reels_of d drives)
 
 pub stocked_new : (names : List (List ℕ)) (s : Shop) (drives : List DriveSpec) → names ≡ flat_map reels_of drives
-    → s ≡ shop (map blank_rack (map plain_drive drives)) [] → IsStocked names s
+    → s ≡ shop (map blank_rack (map plain_drive_spec drives)) [] → IsShopKnown names s
 stocked_new names s drives is laid = record {
   stacks = λ d. subst (λ (v : Shop). AreKnown names (rack_at v d).stack) (sym laid)
-      (stacks_known (map plain_drive drives) names (λ x at. subst (λ l. Contains l x) (plain_reels drives ∙ sym is) at) d);
+      (stacks_known (map plain_drive_spec drives) names (λ x at. subst (λ l. Contains l x) (plain_reels drives ∙ sym is) at) d);
   bin = subst (λ (v : Shop). AreKnown names v.bin) (sym laid) (All-nil (λ (x : Slot KeptReel). Contains names x.name));
 }
 
@@ -222,11 +222,11 @@ no_number : {X : Type 0} (k : ℕ) (x : X) → numbered {X = X} [] k ≡ Some x 
 no_number zero x is = cc
 no_number (suc k) x is = cc
 
-no_side : (drives : List PlainDrive) (k : ℕ) (s : Side) → side_of (first_world drives).hall k ≡ Some s → ⊥
+no_side : (drives : List PlainDriveSpec) (k : ℕ) (s : Side) → side_of (first_world drives).hall k ≡ Some s → ⊥
 no_side drives zero s is = cc
 no_side drives (suc k) s is = cc
 
-pub first_sound : (drives : List PlainDrive) → IsSound (first_world drives)
+pub first_sound : (drives : List PlainDriveSpec) → IsSound (first_world drives)
 first_sound drives = record {
   paired = record { links = refl; holders = length-replicate (length drives) 0 ∙ sym (length-map drives blank_rack) };
   readable = λ k s at. absurd (no_side drives k s at);

@@ -4,7 +4,7 @@ use Rattle.std.specs.Prelude.{slice_index_or}
 use Rattle.std.specs.Option.{option_or}
 use Rattle.std.proofs.lemmas.List.{take_all}
 use Rattle.std.proofs.lemmas.Option.{slice_get_within}
-use Rattle.tape_events.specs.Kept.{AreHeld}
+use Rattle.tape_events.specs.Standing.{AreHeld}
 use Rattle.tape.specs.Tape.{Tape}
 use Rattle.drives.specs.Shop.{Shop}
 use Rattle.rmt_server.specs.Session.{PlainSession}

@@ -4,9 +4,9 @@ use Rattle.std.specs.Prelude.{slice_get, slice_set, option_and_then}
 use Rattle.std.proofs.lemmas.List.{length-take, take_all}
 use Rattle.std.proofs.lemmas.Option.{same_Some}
 use Rattle.rmt_wire.specs.RequestReader.{RequestHeld, Unread, taken_of}
-use Rattle.rmt_wire.specs.Limits.{reader_limit}
+use Rattle.rmt_wire.specs.declared.limits.TheConstants.{READER_LIMIT}
 use Rattle.rmt_server.specs.Hall.{Hall, hall, Side, side}
-use Rattle.tape_host.specs.Halls.{Hosted, side_at, with_side_at, HasRoom, IsPushed}
+use Rattle.tape_host.specs.Halls.{Hosted, side_at, with_side_at, HasRoom, IsPiecePushed}
 use Rattle.tape_events.specs.World.{numbered, with_numbered}
 use Rattle.tape_events.specs.Changes.{side_of}
 use Rattle.tape_events.specs.Rows.{HasRoomFor}
@@ -26,14 +26,14 @@ pub put_side : (sides : List (Option Side)) (k : ℕ) (x : Option Side) → with
 put_side sides zero x = refl
 put_side sides (suc i) x = refl
 
-whole : (n taken m pushed : ℕ) (way : List ℕ) → n ≤ length way → m + taken ≡ reader_limit → n ≤ m → pushed ≡ min (length (take n way)) (reader_limit - taken) → pushed ≡ n
+whole : (n taken m pushed : ℕ) (way : List ℕ) → n ≤ length way → m + taken ≡ READER_LIMIT → n ≤ m → pushed ≡ min (length (take n way)) (READER_LIMIT - taken) → pushed ≡ n
 whole n taken m pushed way fits room within is = omega (arith, fits, room, within, is, length-take n way)
 
 again : (n pushed : ℕ) (way : List ℕ) → pushed ≡ n → take pushed (take n way) ≡ take n way
 again n pushed way is = ap (λ p. take p (take n way)) is ∙ take_all n (take n way) (omega (arith, length-take n way))
 
 reaches_at : (old : Hosted) (k n : ℕ) (way : List ℕ) (room pushed : ℕ) (r : Option ℕ) (new : Hosted) (o : Option Side) → side_at old.hall.sides k ≡ o → HasRoom o r
-    → r ≡ Some room → n ≤ length way → n ≤ room → IsPushed old k (take n way) o pushed new → Reaches old.hall k n way new.hall
+    → r ≡ Some room → n ≤ length way → n ≤ room → IsPiecePushed old k (take n way) o pushed new → Reaches old.hall k n way new.hall
 reaches_at old k n way room pushed r new None at has is fits within push = absurd cc
 reaches_at old k n way room pushed r new (Some s) at has is fits within push =
     let same : has.0 ≡ room = same_Some has.0 room (sym has.1 ∙ is) in
@@ -50,7 +50,7 @@ reaches_at old k n way room pushed r new (Some s) at has is fits within push =
     }
 
 pub reaches : (old : Hosted) (k n : ℕ) (way : List ℕ) (room pushed : ℕ) (r : Option ℕ) (new : Hosted) → HasRoom (side_at old.hall.sides k) r
-    → r ≡ Some room → n ≤ length way → n ≤ room → IsPushed old k (take n way) (side_at old.hall.sides k) pushed new → Reaches old.hall k n way new.hall
+    → r ≡ Some room → n ≤ length way → n ≤ room → IsPiecePushed old k (take n way) (side_at old.hall.sides k) pushed new → Reaches old.hall k n way new.hall
 reaches old k n way room pushed r new has is fits within push = reaches_at old k n way room pushed r new (side_at old.hall.sides k) refl has is fits within push
 
 -- the member of a number, after one was put in its place

@@ -4,13 +4,13 @@ use Rattle.std.proofs.Common.{subst}
 use Rattle.tape_events.specs.World.{World}
 use Rattle.tape_events.specs.Events.{PlainEvent}
 use Rattle.tape_events.specs.Steps.{Runs}
-use Rattle.tape_events.specs.First.{PlainDrive, AreGoodDrives, first_world}
+use Rattle.tape_events.specs.First.{PlainDriveSpec, AreGoodDrives, first_world}
 use Rattle.tape_events.specs.Smooth.{AreFaultless, VolumesInOrder}
 use Rattle.tape_world.specs.Running.{LeavesInOrder}
 
 -- the law of a link without faults
 abbrev pub RunsInOrder : Type 0
-RunsInOrder = (drive : PlainDrive) (events : List PlainEvent) (w : World) → AreGoodDrives (drive ∷ []) → AreFaultless events
+RunsInOrder = (drive : PlainDriveSpec) (events : List PlainEvent) (w : World) → AreGoodDrives (drive ∷ []) → AreFaultless events
     → Runs (first_world (drive ∷ [])) events w → VolumesInOrder drive w
 
 -- events before an event are without a fault where all are

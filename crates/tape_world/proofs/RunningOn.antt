@@ -8,11 +8,11 @@ use Rattle.tape_events.specs.Events.{PlainEvent}
 use Rattle.tape_events.specs.Rows.{Possible}
 use Rattle.tape_events.specs.Steps.{Runs, one_more}
 use Rattle.tape_world.specs.declared.event.Event.{Event}
-use Rattle.tape_world.specs.declared.stop.Stop.{Stop}
-use Rattle.tape_world.specs.declared.stop.Stop.TheVariants as stops
+use Rattle.tape_world.specs.declared.stop.EventStop.{EventStop}
+use Rattle.tape_world.specs.declared.stop.EventStop.TheVariants as stops
 use Rattle.tape_world.specs.declared.fault.WorldFault.{WorldFault}
 use Rattle.tape_world.specs.Holding.{IsEvent}
-use Rattle.tape_world.specs.Running.{plain_event, place_of, fault_at, IsStopped, IsRefused}
+use Rattle.tape_world.specs.Running.{plain_event, fault_place, fault_at, IsStopped, IsEventRefused}
 
 -- the event of a place
 pub event_at : (events : List Event) (i : ℕ) (event d : Event) → i < length events → event ≡ slice_index_or events i d
@@ -30,7 +30,7 @@ one_longer events i event inside is =
     ap (λ e. take i events ++ e ∷ []) (same_Some event (slice_index_or events i event) (sym is ∙ slice_get-get_or events i event inside))
     ∙ sym (take_more events i event inside)
 
-pub goes_on : (w u v : World) (events : List PlainEvent) (i : ℕ) (event : PlainEvent) (result : Result Unit Stop) (x : Unit) → i < length events
+pub goes_on : (w u v : World) (events : List PlainEvent) (i : ℕ) (event : PlainEvent) (result : Result Unit EventStop) (x : Unit) → i < length events
     → slice_get events i ≡ Some event → Runs w (take i events) u → result ≡ Ok x → IsEvent u event result v → Runs w (take (i + 1) events) v
 goes_on w u v events i event result x inside is run ok made =
     subst (λ l. Runs w l v) (one_longer events i event inside is) (one_more event run (subst (λ r. IsEvent u event r v) ok made))
@@ -39,23 +39,23 @@ goes_on w u v events i event result x inside is run ok made =
 pub all_made : (w u : World) (events : List Event) (i : ℕ) → length events ≤ i → Runs w (take i (map plain_event events)) u → Runs w (map plain_event events) u
 all_made w u events i all run = subst (λ l. Runs w l u) (take_all i (map plain_event events) (omega (arith, all, length-map events plain_event))) run
 
-stopped_by : (w u v : World) (events : List PlainEvent) (i : ℕ) (event : PlainEvent) (stop : Stop) → i < length events → Runs w (take i events) u
-    → IsEvent u event (Err stop) v → IsStopped w events (place_of (fault_at stop i)) v
+stopped_by : (w u v : World) (events : List PlainEvent) (i : ℕ) (event : PlainEvent) (stop : EventStop) → i < length events → Runs w (take i events) u
+    → IsEvent u event (Err stop) v → IsStopped w events (fault_place (fault_at stop i)) v
 stopped_by w u v events i event stops.NotPossible inside run same = record { inside = inside; made = subst (Runs w (take i events)) (sym same.0) run }
 stopped_by w u v events i event stops.OutOfMemory inside run same = record { inside = inside; made = subst (Runs w (take i events)) (sym same) run }
 
-pub stopped : (w u v : World) (events : List PlainEvent) (i : ℕ) (event : PlainEvent) (result : Result Unit Stop) (stop : Stop) (fault : WorldFault) → i < length events
-    → Runs w (take i events) u → result ≡ Err stop → IsEvent u event result v → fault ≡ fault_at stop i → IsStopped w events (place_of fault) v
+pub stopped : (w u v : World) (events : List PlainEvent) (i : ℕ) (event : PlainEvent) (result : Result Unit EventStop) (stop : EventStop) (fault : WorldFault) → i < length events
+    → Runs w (take i events) u → result ≡ Err stop → IsEvent u event result v → fault ≡ fault_at stop i → IsStopped w events (fault_place fault) v
 stopped w u v events i event result stop fault inside run err made is =
-    subst (λ f. IsStopped w events (place_of f) v) (sym is) (stopped_by w u v events i event stop inside run (subst (λ r. IsEvent u event r v) err made))
+    subst (λ f. IsStopped w events (fault_place f) v) (sym is) (stopped_by w u v events i event stop inside run (subst (λ r. IsEvent u event r v) err made))
 
-refused_by : (u v : World) (events : List PlainEvent) (i : ℕ) (event : PlainEvent) (stop : Stop) → slice_get events i ≡ Some event
-    → IsEvent u event (Err stop) v → IsRefused events v (fault_at stop i)
+refused_by : (u v : World) (events : List PlainEvent) (i : ℕ) (event : PlainEvent) (stop : EventStop) → slice_get events i ≡ Some event
+    → IsEvent u event (Err stop) v → IsEventRefused events v (fault_at stop i)
 refused_by u v events i event stops.NotPossible at made = λ other is possible.
     made.1 (subst (λ e. Possible u e) (same_Some other event (sym is ∙ at)) (subst (λ x. Possible x other) made.0 possible))
 refused_by u v events i event stops.OutOfMemory at made = tt
 
-pub refused : (u v : World) (events : List PlainEvent) (i : ℕ) (event : PlainEvent) (result : Result Unit Stop) (stop : Stop) (fault : WorldFault)
-    → slice_get events i ≡ Some event → result ≡ Err stop → IsEvent u event result v → fault ≡ fault_at stop i → IsRefused events v fault
+pub refused : (u v : World) (events : List PlainEvent) (i : ℕ) (event : PlainEvent) (result : Result Unit EventStop) (stop : EventStop) (fault : WorldFault)
+    → slice_get events i ≡ Some event → result ≡ Err stop → IsEvent u event result v → fault ≡ fault_at stop i → IsEventRefused events v fault
 refused u v events i event result stop fault at err made is =
-    subst (IsRefused events v) (sym is) (refused_by u v events i event stop at (subst (λ r. IsEvent u event r v) err made))
+    subst (IsEventRefused events v) (sym is) (refused_by u v events i event stop at (subst (λ r. IsEvent u event r v) err made))

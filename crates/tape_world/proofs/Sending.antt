@@ -5,7 +5,7 @@ use Rattle.std.specs.Prelude.{IsTrue, slice_get}
 use Rattle.std.proofs.lemmas.Option.{same_Some, slice_get-map}
 use Rattle.std.proofs.lemmas.List.{length-map}
 use Rattle.rmt_wire.specs.Request.{request_text}
-use Rattle.dump_run.specs.Blocks.{Listed, listed}
+use Rattle.dump_run.specs.Blocks.{ListedBlocks, listed}
 use Rattle.dump_client.specs.Script.{request_of}
 use Rattle.dump_client.specs.Standing.{Standing, standing, state_of, checkpoint_of}
 use Rattle.dump_client.specs.Client.{HasFedAt}
@@ -145,7 +145,7 @@ talked_sourced begun o new fails text failure a s x at =
       b.0,
       a.failures,
       ap (numbered begun) (sym (ap (λ (y : RealCaller). y.number) e) ∙ a.number) ∙ b.2,
-      sym (ap (λ (y : RealCaller). y.client.source) e) ∙ a.source ∙ ap (λ (l : Listed). listed l.blocks false a.failures) b.3,
+      sym (ap (λ (y : RealCaller). y.client.source) e) ∙ a.source ∙ ap (λ (l : ListedBlocks). listed l.blocks false a.failures) b.3,
     )
 
 -- the world then
@@ -202,6 +202,6 @@ talked_event w u k begun o new fails text failure own all was s a is =
         a.stage,
         own,
         ap (λ xs. numbered xs a.before.number) all ∙ numbered_map begun a.before.number b.0 b.2,
-        sends_so w u k o new fails text failure b.0.payload.blocks a (ap (λ (l : Listed). l.blocks) b.3) is,
+        sends_so w u k o new fails text failure b.0.payload.blocks a (ap (λ (l : ListedBlocks). l.blocks) b.3) is,
       ),
     )

@@ -13,19 +13,20 @@ use Rattle.rmt_wire.specs.Request.{PlainRequest}
 use Rattle.rmt_wire.specs.Request.PlainRequest.{Open, Close, Write, WriteDropped, Read, Op}
 use Rattle.rmt_wire.specs.Reply.{PlainReply, reply_text}
 use Rattle.rmt_wire.specs.Reply.PlainReply.{Done, Data, Error}
+use Rattle.rmt_wire.specs.declared.mtio.TheConstants.{MTWEOF}
 use Rattle.tape.specs.declared.trouble.Trouble.{Trouble}
 use Rattle.rmt_server.specs.Hall.{Side}
-use Rattle.tape_host.specs.declared.turn.Asked.TheVariants as asked
+use Rattle.tape_host.specs.declared.turn.RequestKind.TheVariants as asked
 use Rattle.tape_host.specs.declared.turn.Turn.{Turn}
 use Rattle.tape_host.specs.declared.turn.Turn.TheVariants as turns
 use Rattle.tape_host.specs.Halls.{Hosted, hosted, side_at, ended}
-use Rattle.tape_host.specs.Turns.{sent_back, GivesNothing, carried_of, asked_of, answered_of, TurnsAt, TurnsSide, ServesAt}
+use Rattle.tape_host.specs.Turns.{sent_back, GivesNothing, carried_of, asked_of, answered_of, TurnsAt, TurnsSide, ServesAt, with_back}
 use Rattle.tape_events.specs.World.{Link, Dumping}
 use Rattle.tape_events.specs.Changes.{changed, sent_on, noted, noted_by, noted_write, noted_marks, answered, over_here, opening}
 use Rattle.tape_world.specs.declared.link.Link.{Link as RealLink}
 use Rattle.tape_world.specs.declared.books.Opening.{Opening as RealOpening}
 use Rattle.tape_world.specs.Seen.{seen_link, seen_opening, name_at}
-use Rattle.tape_world.specs.Serving.{IsKnown, Serves, noted_record, noted_mark, noted_asked, noted_carried, noted_turn}
+use Rattle.tape_world.specs.Serving.{IsKnown, TurnServes, noted_record, noted_mark, noted_asked, noted_carried, noted_turn}
 use Rattle.tape_world.proofs.Linked.{put_link}
 
 -- ---- what is on the way back
@@ -36,14 +37,14 @@ behind start true back text fits = refl
 behind start false back text fits = drop-append-le start back text fits
 
 turned_side : (left : Hosted) (trouble : Trouble) (lost : Bool) (old : Hosted) (k : ℕ) (s : Side) (back : List ℕ) (turn : Turn) (new : Hosted) (back' : List ℕ) (start : ℕ)
-    → start ≤ length back → TurnsSide left trouble lost old k s back turn new back' → TurnsSide left trouble lost old k s (drop start back) turn new (drop start back')
+    → start ≤ length back → TurnsSide left trouble lost (with_back old back) k s turn (with_back new back') → TurnsSide left trouble lost (with_back old (drop start back)) k s turn (with_back new (drop start back'))
 turned_side left trouble lost old k s back turns.Nothing new back' start fits (none, same, is) = (none, same, ap (drop start) is)
 turned_side left trouble lost old k s back (turns.Carried c) new back' start fits (request, reply, carries, ready, told, is) =
     (request, reply, carries, ready, told, ap (drop start) is ∙ behind start lost back (reply_text reply) fits)
 turned_side left trouble lost old k s back (turns.Broken fault) new back' start fits (gives, after, is) = (gives, after, ap (drop start) is)
 
 turned_at : (left : Hosted) (trouble : Trouble) (lost : Bool) (old : Hosted) (k : ℕ) (o : Option Side) (back : List ℕ) (turn : Turn) (new : Hosted) (back' : List ℕ) (start : ℕ)
-    → start ≤ length back → TurnsAt left trouble lost old k o back turn new back' → TurnsAt left trouble lost old k o (drop start back) turn new (drop start back')
+    → start ≤ length back → TurnsAt left trouble lost (with_back old back) k o turn (with_back new back') → TurnsAt left trouble lost (with_back old (drop start back)) k o turn (with_back new (drop start back'))
 turned_at left trouble lost old k None back turn new back' start fits (none, same, is) = (none, same, ap (drop start) is)
 turned_at left trouble lost old k (Some s) back turn new back' start fits t = turned_side left trouble lost old k s back turn new back' start fits t
 
@@ -71,7 +72,7 @@ op_step true d reply = mark_noted d reply
 op_step false d reply = refl
 
 op_noted : (d : Dumping) (op count : ℕ) (reply : PlainReply) → noted_asked d (asked_of (Op op count)) (answered_of reply) ≡ noted_by d (Op op count) reply
-op_noted d op count reply = op_step (op == 0) d reply
+op_noted d op count reply = op_step (op == MTWEOF) d reply
 
 asked_noted : (d : Dumping) (request : PlainRequest) (reply : PlainReply) → noted_asked d (asked_of request) (answered_of reply) ≡ noted_by d request reply
 asked_noted d (Open device mode) reply = refl
@@ -93,8 +94,8 @@ sent_same false back text = refl
 -- ---- the connection after a turn
 
 serves_side : (trouble : Trouble) (old new : Hosted) (k : ℕ) (s : Side) (turn : Turn) (l x : Link) (back : List ℕ) → side_at old.hall.sides k ≡ Some s
-    → TurnsSide (hosted (ended old.hall k) old.ready) trouble l.cut old k s l.back turn new back → x ≡ noted_turn turn (record l { back = back })
-    → Serves trouble old k turn new (λ f. x ≡ f l)
+    → TurnsSide (hosted (ended old.hall k) old.ready) trouble l.cut (with_back old l.back) k s turn (with_back new back) → x ≡ noted_turn turn (record l { back = back })
+    → TurnServes trouble old k turn new (λ f. x ≡ f l)
 serves_side trouble old new k s turns.Nothing l x back live (none, same, is) so =
     (λ y at. subst (λ (z : Side). GivesNothing z.reached) (same_Some s y (sym live ∙ at)) none, same, so ∙ ap (λ b. record l { back = b }) is)
 serves_side trouble old new k s (turns.Carried c) l x back live (request, reply, carries, ready, told, is) so = (
@@ -112,28 +113,28 @@ serves_side trouble old new k s (turns.Broken fault) l x back live (gives, after
     (s, live, gives, after, so ∙ ap (λ b. over_here (record l { back = b })) is)
 
 serves_from : (trouble : Trouble) (old new : Hosted) (k : ℕ) (o : Option Side) (turn : Turn) (l x : Link) (back : List ℕ) → side_at old.hall.sides k ≡ o
-    → TurnsAt (hosted (ended old.hall k) old.ready) trouble l.cut old k o l.back turn new back → x ≡ noted_turn turn (record l { back = back })
-    → Serves trouble old k turn new (λ f. x ≡ f l)
+    → TurnsAt (hosted (ended old.hall k) old.ready) trouble l.cut (with_back old l.back) k o turn (with_back new back) → x ≡ noted_turn turn (record l { back = back })
+    → TurnServes trouble old k turn new (λ f. x ≡ f l)
 serves_from trouble old new k None turn l x back over (none, same, is) so =
-    subst (λ t. Serves trouble old k t new (λ f. x ≡ f l)) (sym none)
+    subst (λ t. TurnServes trouble old k t new (λ f. x ≡ f l)) (sym none)
     (λ y at. (let clash = sym over ∙ at in absurd cc), same, so ∙ ap (λ t. noted_turn t (record l { back = back })) none ∙ ap (λ b. record l { back = b }) is)
 serves_from trouble old new k (Some s) turn l x back live t so = serves_side trouble old new k s turn l x back live t so
 
 pub serves_link : (trouble : Trouble) (old new : Hosted) (k : ℕ) (turn : Turn) (l x : Link) (back : List ℕ) → ServesAt trouble l.cut old k l.back turn new back
-    → x ≡ noted_turn turn (record l { back = back }) → Serves trouble old k turn new (λ f. x ≡ f l)
+    → x ≡ noted_turn turn (record l { back = back }) → TurnServes trouble old k turn new (λ f. x ≡ f l)
 serves_link trouble old new k turn l x back t so = serves_from trouble old new k (side_at old.hall.sides k) turn l x back refl t so
 
 -- the same, of all connections
 pub serves_as : (trouble : Trouble) (old new : Hosted) (k : ℕ) (turn : Turn) (p q : (Link → Link) → Type 0) → ((f : Link → Link) → p f → q f)
-    → Serves trouble old k turn new p → Serves trouble old k turn new q
+    → TurnServes trouble old k turn new p → TurnServes trouble old k turn new q
 serves_as trouble old new k turns.Nothing p q on (none, same, is) = (none, same, on (λ l. l) is)
 serves_as trouble old new k (turns.Carried c) p q on (s, request, reply, live, carries, told, is) =
     (s, request, reply, live, carries, told, on (answered request reply) is)
 serves_as trouble old new k (turns.Broken fault) p q on (s, live, gives, after, is) = (s, live, gives, after, on over_here is)
 
 pub serves_links : {E : Type 0} (trouble : Trouble) (old new : Hosted) (links : List RealLink) (k : ℕ) (x d : RealLink) → 1 ≤ k → k ≤ length links → (r : Result Turn E)
-    → IfOk r (λ turn. Serves trouble old k turn new (λ f. seen_link x ≡ f (seen_link (slice_index_or links (k - 1) d))))
-    → IfOk r (λ turn. Serves trouble old k turn new (λ f. map seen_link (slice_set links (k - 1) x) ≡ changed f (map seen_link links) k))
+    → IfOk r (λ turn. TurnServes trouble old k turn new (λ f. seen_link x ≡ f (seen_link (slice_index_or links (k - 1) d))))
+    → IfOk r (λ turn. TurnServes trouble old k turn new (λ f. map seen_link (slice_set links (k - 1) x) ≡ changed f (map seen_link links) k))
 serves_links {E} trouble old new links k x d first last (Ok turn) t = serves_as trouble old new k turn _ _ (λ f is. put_link f links k x d first last is) t
 serves_links {E} trouble old new links k x d first last (Err e) t = tt
 

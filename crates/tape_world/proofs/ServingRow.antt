@@ -13,6 +13,7 @@ use Rattle.tape.specs.declared.trouble.Trouble.{Trouble}
 use Rattle.drives.specs.declared.fault.DriveFault.{DriveFault}
 use Rattle.drives.specs.Opening.{OpenStep}
 use Rattle.rmt_wire.specs.declared.fault.WireFault.{WireFault}
+use Rattle.rmt_wire.specs.declared.mtio.TheConstants.{MTWEOF}
 use Rattle.drives.specs.Shop.{KeptReel, Slot, Shop, rack_at}
 use Rattle.rmt_server.specs.declared.access.Access.{Access}
 use Rattle.rmt_server.specs.Access.{access_of}
@@ -20,8 +21,8 @@ use Rattle.rmt_server.specs.Session.{PlainReel, PlainSession, Scene, scene, clos
 use Rattle.rmt_server.specs.Session.PlainSession.{Idle, Offline, Online}
 use Rattle.rmt_server.specs.TroubledServe.{TroubledServeStep, TroubledOpens, drive_in, with_holder}
 use Rattle.rmt_server.specs.Hall.{Hall, hall, Side, side}
-use Rattle.tape_host.specs.declared.turn.Asked.{Asked}
-use Rattle.tape_host.specs.declared.turn.Asked.TheVariants as asked
+use Rattle.tape_host.specs.declared.turn.RequestKind.{RequestKind}
+use Rattle.tape_host.specs.declared.turn.RequestKind.TheVariants as asked
 use Rattle.tape_host.specs.declared.turn.Carried.{Carried}
 use Rattle.tape_host.specs.declared.turn.Turn.{Turn}
 use Rattle.tape_host.specs.declared.turn.Turn.TheVariants as turns
@@ -38,7 +39,7 @@ use Rattle.tape_world.specs.declared.link.Link.{Link as RealLink}
 use Rattle.tape_world.specs.declared.books.Opening.{Opening as RealOpening}
 use Rattle.tape_world.specs.Seen.{seen_link, seen_opening}
 use Rattle.tape_world.specs.Holding.{IsSound}
-use Rattle.tape_world.specs.Serving.{Serves, IsKnown, AreKnown, IsOnlineIn, IsOpenedIn, name_online, name_online_at, opened_by, opened_in}
+use Rattle.tape_world.specs.Serving.{TurnServes, IsKnown, AreKnown, IsOnlineIn, IsOpenedIn, name_online, name_online_at, name_opened_by, opened_in}
 use Rattle.tape_world.proofs.Sound.{IsBeside, KeepsOurs, changed_clients, length_changed, links_after}
 use Rattle.tape_world.proofs.Serving.{serves_as}
 use Rattle.tape_world.proofs.Server.{Stays, side_found, sides_with, holders_with, ended_is, ended_stays, hall_sound, stays_here}
@@ -80,7 +81,7 @@ carried_stays trouble h k s request reply new c = subst (Stays h) (sym (c.after 
 -- ---- the world after a turn
 
 pub serves_sound : (trouble : Trouble) (k : ℕ) (w u : World) (old new : Hosted) (turn : Turn) → w.hall ≡ old.hall → u.hall ≡ new.hall
-    → Serves trouble old k turn new (λ f. u.links ≡ changed f w.links k) → IsBeside w u → IsSound w → IsSound u
+    → TurnServes trouble old k turn new (λ f. u.links ≡ changed f w.links k) → IsBeside w u → IsSound w → IsSound u
 serves_sound trouble k w u old new turns.Nothing was now (none, same, is) beside sound =
     hall_sound w u (subst (Stays w.hall) (sym (now ∙ ap (λ h. h.hall) same ∙ sym was)) (stays_here w.hall)) (ap length is ∙ length_changed (λ l. l) w.links k)
     (changed_clients (λ l. l) (λ l o. o, λ l o. o) w u k is) beside sound
@@ -91,7 +92,7 @@ serves_sound trouble k w u old new (turns.Broken fault) was now (s, live, gives,
     hall_sound w u (subst (Stays w.hall) (sym (now ∙ ap (λ h. h.hall) after ∙ ended_is old.hall k ∙ ap (λ h. ended h k) (sym was))) (ended_stays w.hall k))
     (ap length is ∙ length_changed over_here w.links k) (changed_clients over_here (λ l o. o, λ l o. o) w u k is) beside sound
 
-pub serves_keeps : (trouble : Trouble) (k : ℕ) (old new : Hosted) (turn : Turn) (p : (Link → Link) → Type 0) → Serves trouble old k turn new p
+pub serves_keeps : (trouble : Trouble) (k : ℕ) (old new : Hosted) (turn : Turn) (p : (Link → Link) → Type 0) → TurnServes trouble old k turn new p
     → Keeps old.hall.shop new.hall.shop
 serves_keeps trouble k old new turns.Nothing p (none, same, is) = keeps_same old.hall.shop new.hall.shop (ap (λ h. h.hall.shop) same)
 serves_keeps trouble k old new (turns.Carried c) p (s, request, reply, live, carries, told, is) = carried_keeps trouble old.hall k s request reply new.hall carries
@@ -179,17 +180,17 @@ by_access access s (Online d other reel) left =
     ap (λ a. if writes_for a then name_online s (Online d other reel) else None) left.0
 
 opened_when : (b : Bool) (h : Hall) (k : ℕ) (s : Side) → side_at h.sides k ≡ Some s
-    → opened_by (asked.Open b) h k ≡ (if b then name_online h.shop s.session else None)
+    → name_opened_by (asked.Open b) h k ≡ (if b then name_online h.shop s.session else None)
 opened_when true h k s live = ap (name_online_at h.shop) live
 opened_when false h k s live = refl
 
-op_opens : (b : Bool) (h : Hall) (k : ℕ) → opened_by (if b then asked.Marks else asked.Other) h k ≡ None
+op_opens : (b : Bool) (h : Hall) (k : ℕ) → name_opened_by (if b then asked.Marks else asked.Other) h k ≡ None
 op_opens true h k = refl
 op_opens false h k = refl
 
 opened_is : (trouble : Trouble) (holders : List ℕ) (before : Scene) (request : PlainRequest) (reply : PlainReply) (after : Scene) (h : Hall) (k : ℕ) (s : Side)
     → TroubledServeStep trouble holders before request reply after → h.shop ≡ after.shop → s.session ≡ after.session → side_at h.sides k ≡ Some s
-    → opened_by (asked_of request) h k ≡ opened_reel request after.shop after.session
+    → name_opened_by (asked_of request) h k ≡ opened_reel request after.shop after.session
 opened_is trouble holders before (Open device mode) reply after h k s step shop session live =
     opened_when (writes_for (access_of mode)) h k s live
     ∙ ap (λ x. if writes_for (access_of mode) then name_online x s.session else None) shop
@@ -199,7 +200,7 @@ opened_is trouble holders before Close reply after h k s step shop session live 
 opened_is trouble holders before (Write bytes) reply after h k s step shop session live = refl
 opened_is trouble holders before (WriteDropped count) reply after h k s step shop session live = refl
 opened_is trouble holders before (Read count) reply after h k s step shop session live = refl
-opened_is trouble holders before (Op op count) reply after h k s step shop session live = op_opens (op == 0) h k
+opened_is trouble holders before (Op op count) reply after h k s step shop session live = op_opens (op == MTWEOF) h k
 
 -- the drive that was opened is there
 abbrev IsOpenInShop : Shop → PlainSession → Type 0
@@ -220,7 +221,7 @@ open_inside trouble holders before Close reply after step is = absurd cc
 open_inside trouble holders before (Write bytes) reply after step is = absurd cc
 open_inside trouble holders before (WriteDropped count) reply after step is = absurd cc
 open_inside trouble holders before (Read count) reply after step is = absurd cc
-open_inside trouble holders before (Op op count) reply after step is = absurd (op_not_open (op == 0) is)
+open_inside trouble holders before (Op op count) reply after step is = absurd (op_not_open (op == MTWEOF) is)
 
 -- the side that carried a request out
 after_side : (trouble : Trouble) (h : Hall) (k : ℕ) (s : Side) (request : PlainRequest) (reply : PlainReply) (new : Hall) (c : Carries trouble h k s request reply new)
@@ -244,7 +245,7 @@ same_carried c d is = ap (λ t. carried_in t c) is
     carried_in turns.Nothing other = other
     carried_in (turns.Broken fault) other = other
 
-pub serves_opened_in : (trouble : Trouble) (k : ℕ) (old new : Hosted) (turn : Turn) (p : (Link → Link) → Type 0) → Serves trouble old k turn new p
+pub serves_opened_in : (trouble : Trouble) (k : ℕ) (old new : Hosted) (turn : Turn) (p : (Link → Link) → Type 0) → TurnServes trouble old k turn new p
     → IsOpenedIn new.hall k turn
 serves_opened_in trouble k old new turns.Nothing p t c is asks = absurd cc
 serves_opened_in trouble k old new (turns.Carried d) p (s, request, reply, live, carries, told, is) c same asks =
@@ -269,8 +270,8 @@ side_known : (names : List (List ℕ)) (s : Shop) (o : Option Side) (name : List
 side_known names s None name known is = absurd cc
 side_known names s (Some x) name known is = online_known names s x.session name known is
 
-asked_known : (a : Asked) (names : List (List ℕ)) (h : Hall) (k : ℕ) (name : List ℕ) → ((d : ℕ) → AreKnown names (rack_at h.shop d).stack)
-    → opened_by a h k ≡ Some name → IsKnown names name
+asked_known : (a : RequestKind) (names : List (List ℕ)) (h : Hall) (k : ℕ) (name : List ℕ) → ((d : ℕ) → AreKnown names (rack_at h.shop d).stack)
+    → name_opened_by a h k ≡ Some name → IsKnown names name
 asked_known (asked.Open true) names h k name known is = side_known names h.shop (side_at h.sides k) name known is
 asked_known (asked.Open false) names h k name known is = absurd cc
 asked_known asked.Write names h k name known is = absurd cc
@@ -287,7 +288,7 @@ opened_known (turns.Broken fault) names h k name known is = absurd cc
 
 carried_happens : (trouble : Trouble) (k : ℕ) (w : World) (s : Side) (request : PlainRequest) (reply : PlainReply) (new : Hall) (links : List Link) (opens : List Opening)
     → side_at w.hall.sides k ≡ Some s → Carries trouble w.hall k s request reply new → links ≡ changed (answered request reply) w.links k
-    → opens ≡ w.opens ++ option_to_list (option_map (opening k) (opened_by (asked_of request) new k))
+    → opens ≡ w.opens ++ option_to_list (option_map (opening k) (name_opened_by (asked_of request) new k))
     → Happens w (Serve k trouble) (record (calm w) { hall = new; links = links; opens = opens })
 carried_happens trouble k w s request reply new links opens live c is opened =
     let here = sym (side_found w.hall k) ∙ live in
@@ -340,14 +341,14 @@ broken_happens trouble k w s fault new links opens live (bytes, rest, unread, gi
     )
 
 pub serves_happens : (trouble : Trouble) (k : ℕ) (w : World) (old new : Hosted) (turn : Turn) (links : List Link) (opens : List Opening) → w.hall ≡ old.hall
-    → Serves trouble old k turn new (λ f. links ≡ changed f w.links k) → turn ≢ turns.Nothing
+    → TurnServes trouble old k turn new (λ f. links ≡ changed f w.links k) → turn ≢ turns.Nothing
     → opens ≡ w.opens ++ option_to_list (option_map (opening k) (opened_in new.hall k turn))
     → Happens w (Serve k trouble) (record (calm w) { hall = new.hall; links = links; opens = opens })
 serves_happens trouble k w old new turns.Nothing links opens was t some opened = absurd (some refl)
 serves_happens trouble k w old new (turns.Carried c) links opens was (s, request, reply, live, carries, told, is) some opened =
     carried_happens trouble k w s request reply new.hall links opens (ap (λ (h : Hall). side_at h.sides k) was ∙ live)
     (subst (λ h. Carries trouble h k s request reply new.hall) (sym was) carries) is
-    (opened ∙ ap (λ (x : Carried). w.opens ++ option_to_list (option_map (opening k) (opened_by x.asked new.hall k))) told)
+    (opened ∙ ap (λ (x : Carried). w.opens ++ option_to_list (option_map (opening k) (name_opened_by x.asked new.hall k))) told)
 serves_happens trouble k w old new (turns.Broken fault) links opens was (s, live, gives, after, is) some opened =
     broken_happens trouble k w s fault new.hall links opens (ap (λ (h : Hall). side_at h.sides k) was ∙ live) gives
     (ap (λ (h : Hosted). h.hall) after ∙ ap (λ h. host.ended h k) (sym was)) is opened
@@ -355,8 +356,8 @@ serves_happens trouble k w old new (turns.Broken fault) links opens was (s, live
 -- ---- of the vectors in memory
 
 pub serves_world : (trouble : Trouble) (k : ℕ) (old new : Hosted) (turn : Turn) (n : ℕ) (items xs ws : List RealLink) → n ≡ length items → xs ≡ items
-    → Serves trouble old k turn new (λ f. map seen_link ws ≡ changed f (map seen_link xs) k)
-    → Serves trouble old k turn new (λ f. map seen_link (take n (ws ++ drop (length ws) items)) ≡ changed f (map seen_link items) k)
+    → TurnServes trouble old k turn new (λ f. map seen_link ws ≡ changed f (map seen_link xs) k)
+    → TurnServes trouble old k turn new (λ f. map seen_link (take n (ws ++ drop (length ws) items)) ≡ changed f (map seen_link items) k)
 serves_world trouble k old new turn n items xs ws len value t = serves_as trouble old new k turn _ _ (λ f is. links_after f n items xs ws k len value is) t
 
 pub opens_after : (names ns : List (Vec ℕ Global)) (items opens new : List RealOpening) (more : List Opening) → ns ≡ names → opens ≡ items

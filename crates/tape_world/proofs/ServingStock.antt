@@ -24,7 +24,7 @@ use Rattle.rmt_server.specs.Session.PlainSession.{Idle, Offline, Online}
 use Rattle.rmt_server.specs.TroubledServe.{TroubledServeStep, TroubledDoneStep, TroubledOpens, TroubledOpStep, TroubledReelStep, TroubledMoveStep}
 use Rattle.rmt_server.specs.Hall.{Hall, Side}
 use Rattle.tape_host.specs.Halls.{side_at, ended_from, ended, all_ended}
-use Rattle.tape_world.specs.Serving.{AreKnown, IsStocked}
+use Rattle.tape_world.specs.Serving.{AreKnown, IsShopKnown}
 
 -- the names of all reels are among these
 abbrev pub AreNamed : List (List ℕ) → Shop → Type 0
@@ -44,7 +44,7 @@ keeps_on s t u a b = record { racks = b.racks ∙ a.racks; names = λ names h. b
 pub keeps_same : (s new : Shop) → new ≡ s → Keeps s new
 keeps_same s new is = subst (Keeps s) (sym is) (keeps_all s)
 
-pub stocked : (names : List (List ℕ)) (s new : Shop) → Keeps s new → IsStocked names s → IsStocked names new
+pub stocked : (names : List (List ℕ)) (s new : Shop) → Keeps s new → IsShopKnown names s → IsShopKnown names new
 stocked names s new keeps is = let all = keeps.names names (is.stacks, is.bin) in record { stacks = all.0; bin = all.1 }
 
 known_put : (names : List (List ℕ)) (racks : List (Rack KeptReel)) (d e : ℕ) (r : Rack KeptReel) → ((e : ℕ) → AreKnown names (slice_index_or racks e (rack [] [])).stack)
@@ -192,16 +192,16 @@ arranged_keeps s d chosen = record {
 
 -- ---- the invariant's point, of a shop that is another one or the same
 
-pub stocked_same : (names : List (List ℕ)) (s new : Shop) → new ≡ s → IsStocked names s → IsStocked names new
+pub stocked_same : (names : List (List ℕ)) (s new : Shop) → new ≡ s → IsShopKnown names s → IsShopKnown names new
 stocked_same names s new is = stocked names s new (keeps_same s new is)
 
 pub stocked_arranged : (names : List (List ℕ)) (s new : Shop) (d : ℕ) (chosen : List (List ℕ)) → new ≡ arranged s d chosen
-    → IsStocked names s → IsStocked names new
+    → IsShopKnown names s → IsShopKnown names new
 stocked_arranged names s new d chosen is = stocked names s new (subst (Keeps s) (sym is) (arranged_keeps s d chosen))
 
-pub stocked_ended : (names : List (List ℕ)) (h new : Hall) (k : ℕ) → new ≡ ended h k → IsStocked names h.shop → IsStocked names new.shop
+pub stocked_ended : (names : List (List ℕ)) (h new : Hall) (k : ℕ) → new ≡ ended h k → IsShopKnown names h.shop → IsShopKnown names new.shop
 stocked_ended names h new k is = stocked names h.shop new.shop (subst (λ (x : Hall). Keeps h.shop x.shop) (sym is) (ended_keeps h k))
 
-pub stocked_restarted : (names : List (List ℕ)) (h new : Hall) (n : ℕ) → new ≡ all_ended h n → IsStocked names h.shop
-    → IsStocked names new.shop
+pub stocked_restarted : (names : List (List ℕ)) (h new : Hall) (n : ℕ) → new ≡ all_ended h n → IsShopKnown names h.shop
+    → IsShopKnown names new.shop
 stocked_restarted names h new n is = stocked names h.shop new.shop (subst (λ (x : Hall). Keeps h.shop x.shop) (sym is) (all_ended_keeps h n))

@@ -13,8 +13,8 @@ use Rattle.tape_events.specs.Changes.{changed, changed_from, over_here, side_of,
 use Rattle.tape_world.specs.declared.link.Link.{Link as RealLink}
 use Rattle.tape_world.specs.Seen.{seen_link}
 use Rattle.tape_events.specs.Events.{PlainEvent}
-use Rattle.tape_world.specs.declared.stop.Stop.{Stop}
-use Rattle.tape_world.specs.declared.stop.Stop.TheVariants.{OutOfMemory}
+use Rattle.tape_world.specs.declared.stop.EventStop.{EventStop}
+use Rattle.tape_world.specs.declared.stop.EventStop.TheVariants.{OutOfMemory}
 use Rattle.tape_world.specs.Holding.{IsClients, IsOwned, IsBegun, IsSound, IsEvent}
 
 -- the connection at a place, after one was changed, was there before, and the other way round
@@ -169,7 +169,7 @@ pub no_link : (w : World) (k : ℕ) (x : Link) → link_of w k ≡ None → link
 no_link w k x none some = cc
 
 -- memory was refused, and nothing changed
-pub refused_event : (w u : World) (event : PlainEvent) (r : Result Unit Stop) → IsErrAnd r (λ stop. stop ≡ OutOfMemory) → u ≡ w → IsEvent w event r u
+pub refused_event : (w u : World) (event : PlainEvent) (r : Result Unit EventStop) → IsErrAnd r (λ stop. stop ≡ OutOfMemory) → u ≡ w → IsEvent w event r u
 refused_event w u event (Ok x) refused same = absurd refused
 refused_event w u event (Err stop) refused same = subst (λ s. IsEvent w event (Err s) u) (sym refused) same
 

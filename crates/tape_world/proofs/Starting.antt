@@ -20,10 +20,10 @@ use Rattle.rmt_server.specs.Session.PlainSession.{Idle}
 use Rattle.rmt_server.specs.Hall.{side}
 use Rattle.tape_host.specs.Halls.{joined}
 use Rattle.tape_world.specs.Parts.{new_dumping}
-use Rattle.tape_world.specs.declared.stop.Stop.TheVariants.{OutOfMemory}
+use Rattle.tape_world.specs.declared.stop.EventStop.TheVariants.{OutOfMemory}
 use Rattle.tape_events.specs.World.{World, Link, Dumping, Begun, Caller, numbered}
 use Rattle.tape_events.specs.Changes.{side_of, new_link}
-use Rattle.tape_events.specs.Rows.{StandsIn, NoRun, is_done}
+use Rattle.tape_events.specs.Rows.{StandsIn, NoRun, is_run_done}
 use Rattle.tape_events.specs.Steps.{caller, fresh}
 use Rattle.tape_world.specs.declared.caller.Begun.{Begun as RealBegun}
 use Rattle.tape_world.specs.declared.caller.Caller.{Caller as RealCaller}
@@ -42,7 +42,7 @@ numbered_last : {X : Type 0} (xs : List X) (x : X) (n : ℕ) → n ≡ length xs
 numbered_last xs x n is = (let next : n ≡ suc (length xs) = omega (arith, is) in ap (numbered (xs ++ x ∷ [])) next ∙ get_last xs x)
 
 -- no run is under way
-done_rests : (stage : Stage) → IsTrue (is_done stage) → is_in_attempt stage ≡ false
+done_rests : (stage : Stage) → IsTrue (is_run_done stage) → is_in_attempt stage ≡ false
 done_rests Ready done = refl
 done_rests (ToSend step) done = absurd cc
 done_rests (Waiting step) done = absurd cc

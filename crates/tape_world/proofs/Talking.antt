@@ -7,10 +7,11 @@ use Rattle.tape_world.specs.Seen.{seen_link}
 use Rattle.tape_world.proofs.Linked.{put_link}
 use Rattle.std.proofs.lemmas.Fmt.{length-decimal-le}
 use Rattle.std.proofs.lemmas.Option.{same_Some}
-use Rattle.rmt_wire.specs.Limits.{reader_limit}
+use Rattle.rmt_wire.specs.declared.limits.TheConstants.{READER_LIMIT}
 use Rattle.rmt_wire.specs.Request.{PlainRequest, HasSpelling, IsTextOf, SpellsRequest, request_text}
 use Rattle.rmt_wire.specs.Request.PlainRequest.{Open as OpenDevice, Close as CloseDevice, Write, WriteDropped, Read, Op}
-use Rattle.dump_run.specs.Blocks.{Listed, ListedRead, AreBlocksOf, listed}
+use Rattle.rmt_wire.specs.declared.fcntl.TheConstants.{O_RDWR}
+use Rattle.dump_run.specs.Blocks.{ListedBlocks, ListedRead, AreBlocksOf, listed}
 use Rattle.dump_run.specs.Run.{PlainRun}
 use Rattle.dump_run.specs.declared.blocks.SourceFailed.{SourceFailed}
 use Rattle.dump_client.specs.Script.{request_of}
@@ -28,7 +29,7 @@ use Rattle.tape_events.specs.Steps.{is_failing}
 ten_digits : (n : ℕ) → n ≤ 2147483647 → length (decimal n) ≤ 10
 ten_digits n small = length-decimal-le 10 n (omega arith) (omega arith) (omega arith)
 
-within : (request : PlainRequest) → HasSpelling request → length (request_text request) ≤ reader_limit
+within : (request : PlainRequest) → HasSpelling request → length (request_text request) ≤ READER_LIMIT
 within (OpenDevice device mode) h =
     let line = h.0 in
     let short = line.0 in
@@ -46,7 +47,7 @@ within (Op op count) h =
 write_spelled : (text bytes : List ℕ) → SpellsRequest text (Write bytes) → HasSpelling (Write bytes)
 write_spelled text bytes (number, spells, short, is) = short
 
-open_spelled : (text device : List ℕ) → SpellsRequest text (OpenDevice device 2) → HasSpelling (OpenDevice device 2)
+open_spelled : (text device : List ℕ) → SpellsRequest text (OpenDevice device O_RDWR) → HasSpelling (OpenDevice device O_RDWR)
 open_spelled text device (line, isline, mode, is) = (isline, omega arith)
 
 spelled : (run : PlainRun) (blocks : List (List ℕ)) (v f : ℕ) (step : Step) → IsTextOf (request_text (request_of run blocks v f step)) (request_of run blocks v f step)
@@ -60,18 +61,18 @@ spelled run blocks v f (Unload n) is = (omega arith, omega arith)
 spelled run blocks v f Close is = tt
 
 short_text : (run : PlainRun) (blocks : List (List ℕ)) (v f : ℕ) (step : Step) (request : PlainRequest) → request ≡ request_of run blocks v f step
-    → IsTextOf (request_text request) request → length (request_text request) ≤ reader_limit
+    → IsTextOf (request_text request) request → length (request_text request) ≤ READER_LIMIT
 short_text run blocks v f step request is text =
     within request (subst HasSpelling (sym is) (spelled run blocks v f step (subst (λ r. IsTextOf (request_text r) r) is text)))
 
 -- what a request came to
 abbrev pub Came : Bool → Step → Standing → List (List ℕ) → List ℕ → Result Bool AttemptFault → Standing → Type 0
-Came true step at blocks text r new = (r ≡ Err SourceFault) × (length text ≤ reader_limit) × (new ≡ standing at.run at.counts Asking)
+Came true step at blocks text r new = (r ≡ Err SourceFault) × (length text ≤ READER_LIMIT) × (new ≡ standing at.run at.counts Asking)
 Came false step at blocks text r new =
-    (r ≡ Ok true) × (length text ≤ reader_limit) × (new ≡ standing at.run at.counts (Waiting step))
+    (r ≡ Ok true) × (length text ≤ READER_LIMIT) × (new ≡ standing at.run at.counts (Waiting step))
     × (text ≡ request_text (request_of at.run blocks (checkpoint_of at.counts).0 (checkpoint_of at.counts).1 step))
 
-failed_at : (step : Step) (fault : AttemptFault) (capacity : ℕ) → reader_limit ≤ capacity → IsFaultAt step fault capacity 0
+failed_at : (step : Step) (fault : AttemptFault) (capacity : ℕ) → READER_LIMIT ≤ capacity → IsFaultAt step fault capacity 0
     → (fault ≡ SourceFault) × ((n : ℕ) × (step ≡ Block n))
 failed_at Open (Refused k) capacity room h = absurd h
 failed_at Open Botched capacity room h = absurd h
@@ -124,12 +125,12 @@ failed_at Close SourceFault capacity room h = absurd h
 failed_at Close OutOfMemory capacity room h = absurd (omega (arith, room, h))
 
 -- a read without trouble does not fail, and one in trouble does
-read_fails : (old new : Listed) (n : ℕ) (into given : List ℕ) (read : Result Unit SourceFailed) (b : Bool) → ListedRead old n into read new given
+read_fails : (old new : ListedBlocks) (n : ℕ) (into given : List ℕ) (read : Result Unit SourceFailed) (b : Bool) → ListedRead old n into read new given
     → b ≡ has_failed read → old.troubled ≡ b
 read_fails old new n into given (Ok x) b is same = is.0 ∙ sym same
 read_fails old new n into given (Err failed) b is same = is.0 ∙ sym same
 
-ok_fails : (fails : Bool) (step : Step) (size : ℕ) (old new : Listed) (text : List ℕ) → old.troubled ≡ fails
+ok_fails : (fails : Bool) (step : Step) (size : ℕ) (old new : ListedBlocks) (text : List ℕ) → old.troubled ≡ fails
     → ReadBy step size ListedRead old [] (Ok true) new text → is_failing fails step ≡ false
 ok_fails false step size old new text is read = refl
 ok_fails true Open size old new text is read = refl
@@ -140,18 +141,18 @@ ok_fails true (Mark n) size old new text is read = refl
 ok_fails true (Unload n) size old new text is read = refl
 ok_fails true Close size old new text is read = refl
 
-err_fails : (fails : Bool) (n size : ℕ) (old new : Listed) (text : List ℕ) → old.troubled ≡ fails
+err_fails : (fails : Bool) (n size : ℕ) (old new : ListedBlocks) (text : List ℕ) → old.troubled ≡ fails
     → ReadBy {T = Bool} (Block n) size ListedRead old [] (Err SourceFault) new text → is_failing fails (Block n) ≡ true
 err_fails true n size old new text is read = refl
 err_fails false n size old new text is (into, given, r, len, reads, same, gave) = (let clash = sym is ∙ read_fails old new n into given r true reads same in absurd cc)
 
-pub came : (fails : Bool) (step : Step) (at now : Standing) (old new : Listed) (capacity size : ℕ) (text : List ℕ) (r : Result Bool AttemptFault)
-    → reader_limit ≤ capacity → old.troubled ≡ fails → AskedAt (ToSend step) (AreBlocksOf old) at capacity [] r text now
+pub came : (fails : Bool) (step : Step) (at now : Standing) (old new : ListedBlocks) (capacity size : ℕ) (text : List ℕ) (r : Result Bool AttemptFault)
+    → READER_LIMIT ≤ capacity → old.troubled ≡ fails → AskedAt (ToSend step) (AreBlocksOf old) at capacity [] r text now
     → ReadBy step size ListedRead old [] r new text → Came (is_failing fails step) step at old.blocks text r now
 came fails step at now old new capacity size text (Ok true) room is (request, isreq, textof, items, after) read =
     let same = isreq.0 old.blocks refl in
     subst (λ b. Came b step at old.blocks text (Ok true) now) (sym (ok_fails fails step size old new text is read))
-    (refl, subst (λ t. length t ≤ reader_limit) (sym items) (short_text at.run old.blocks (checkpoint_of at.counts).0 (checkpoint_of at.counts).1 step request same textof), after, items ∙ ap request_text same)
+    (refl, subst (λ t. length t ≤ READER_LIMIT) (sym items) (short_text at.run old.blocks (checkpoint_of at.counts).0 (checkpoint_of at.counts).1 step request same textof), after, items ∙ ap request_text same)
 came fails step at now old new capacity size text (Ok false) room is (close, scarce, items, over) read = absurd (omega (arith, room, scarce))
 came fails step at now old new capacity size text (Err fault) room is (other, why, items, after) read =
     let f = failed_at step fault capacity room why in
@@ -159,7 +160,7 @@ came fails step at now old new capacity size text (Err fault) room is (other, wh
     let b : is_failing fails step ≡ true
     = ap (is_failing fails) f.1.1 ∙ err_fails fails f.1.0 size old new text is (subst (λ s. ReadBy {T = Bool} s size ListedRead old [] (Err SourceFault) new text) f.1.1 read2) in
     subst (λ b. Came b step at old.blocks text (Err fault) now) (sym b)
-    (ap Err f.0, subst (λ t. length t ≤ reader_limit) (sym items) (omega arith), after)
+    (ap Err f.0, subst (λ t. length t ≤ READER_LIMIT) (sym items) (omega arith), after)
 
 -- what is told of it
 abbrev pub told_of : ℕ → Result Bool AttemptFault → Option (ℕ × AttemptFault)
@@ -167,7 +168,7 @@ told_of v (Ok b) = None
 told_of v (Err fault) = Some (v, fault)
 
 came_short : (b : Bool) (step : Step) (at new : Standing) (blocks : List (List ℕ)) (text : List ℕ) (r : Result Bool AttemptFault) → Came b step at blocks text r new
-    → length text ≤ reader_limit
+    → length text ≤ READER_LIMIT
 came_short true step at new blocks text r (is, short, after) = short
 came_short false step at new blocks text r (is, short, after, so) = short
 
@@ -178,8 +179,8 @@ of_came : (b : Bool) (x d : RealCaller) (step : Step) (text : List ℕ) (r : Res
 of_came true x d step text r v is (tells, short, at) fed = (ap (told_of v) tells ∙ ap (λ n. Some (n, SourceFault)) is, at)
 of_came false x d step text r v is (tells, short, at, so) fed = (ap (told_of v) tells, at, fed at, so)
 
-pub asks : (o : Option RealCaller) (x d : RealCaller) (c1 c2 : ClientHeld Listed) (fails : Bool) (capacity : ℕ) (out text : List ℕ) (r : Result Bool AttemptFault) (v : ℕ)
-    → IsToSend o → o ≡ Some x → d.number ≡ x.number → reader_limit ≤ capacity → out ≡ [] → c1.source ≡ listed x.client.source.blocks fails x.client.source.failures
+pub asks : (o : Option RealCaller) (x d : RealCaller) (c1 c2 : ClientHeld ListedBlocks) (fails : Bool) (capacity : ℕ) (out text : List ℕ) (r : Result Bool AttemptFault) (v : ℕ)
+    → IsToSend o → o ≡ Some x → d.number ≡ x.number → READER_LIMIT ≤ capacity → out ≡ [] → c1.source ≡ listed x.client.source.blocks fails x.client.source.failures
     → c1.at ≡ x.client.at → AskedAt c1.at.stage (AreBlocksOf c1.source) c1.at capacity out r text c2.at
     → ReadAt c1.at.stage c1.at.run.block_bytes ListedRead c1.source out r c2.source text
     → ((bytes : List ℕ) → HasFed x.client bytes → HasFed d.client bytes) → ((bytes : List ℕ) × HasFed x.client bytes)
@@ -194,8 +195,8 @@ asks o x d c1 c2 fails capacity out text r v (y, step, there, stage) is number r
     let read1 : ReadBy step c1.at.run.block_bytes ListedRead c1.source [] r c2.source text
     = subst (λ s. ReadAt s c1.at.run.block_bytes ListedRead c1.source [] r c2.source text) st1
     (subst (λ l. ReadAt c1.at.stage c1.at.run.block_bytes ListedRead c1.source l r c2.source text) empty read) in
-    let blocks : c1.source.blocks ≡ x.client.source.blocks = ap (λ (s : Listed). s.blocks) source in
-    let found = came fails step c1.at c2.at c1.source c2.source capacity c1.at.run.block_bytes text r room (ap (λ (s : Listed). s.troubled) source) asked1 read1 in
+    let blocks : c1.source.blocks ≡ x.client.source.blocks = ap (λ (s : ListedBlocks). s.blocks) source in
+    let found = came fails step c1.at c2.at c1.source c2.source capacity c1.at.run.block_bytes text r room (ap (λ (s : ListedBlocks). s.troubled) source) asked1 read1 in
     let found2 : Came (is_failing fails step) step x.client.at x.client.source.blocks text r d.client.at
     = subst (λ a. Came (is_failing fails step) step a x.client.source.blocks text r d.client.at) at
     (subst (λ b. Came (is_failing fails step) step c1.at b text r d.client.at) blocks

@@ -4,7 +4,7 @@ use Rattle.std.specs.Prelude.{IsTrue}
 use Rattle.std.specs.Option.{unwrap_or}
 use Rattle.std.proofs.lemmas.Option.{same_Some, slice_get-map}
 use Rattle.rmt_wire.specs.RequestReader.{Unread, taken_of}
-use Rattle.rmt_wire.specs.Limits.{reader_limit}
+use Rattle.rmt_wire.specs.declared.limits.TheConstants.{READER_LIMIT}
 use Rattle.rmt_server.specs.Hall.{Side}
 use Rattle.tape_host.specs.Halls.{HasRoom}
 use Rattle.tape_events.specs.World.{World, Link, Begun, numbered}
@@ -24,7 +24,7 @@ within : (o : Option Side) (r : Option ℕ) (s : Side) (n : ℕ) → o ≡ Some 
 within None r s n at has bytes unread fits = absurd cc
 within (Some x) r s n at has bytes unread fits =
     let same : x ≡ s = same_Some x s at in
-    let left : has.0 + taken_of bytes ≡ reader_limit = has.2 bytes (subst (λ (y : Side). Unread y.reached bytes) (sym same) unread) in
+    let left : has.0 + taken_of bytes ≡ READER_LIMIT = has.2 bytes (subst (λ (y : Side). Unread y.reached bytes) (sym same) unread) in
     let told : unwrap_or r 0 ≡ has.0 = ap (λ q. unwrap_or q 0) has.1 in
     omega (arith, left, told, fits bytes unread)
 
@@ -34,7 +34,7 @@ fitting None r n has some most =
     absurd (omega (arith, none, some, most))
 fitting (Some s) r n has some most =
     let told : unwrap_or r 0 ≡ has.0 = ap (λ q. unwrap_or q 0) has.1 in
-    (s, refl, λ bytes unread. (let left : has.0 + taken_of bytes ≡ reader_limit = has.2 bytes unread in omega (arith, left, told, most)))
+    (s, refl, λ bytes unread. (let left : has.0 + taken_of bytes ≡ READER_LIMIT = has.2 bytes unread in omega (arith, left, told, most)))
 
 -- how many bytes can reach the server
 pub can_arrive : (w : World) (k : ℕ) (l : Link) (r : Option ℕ) (room most : ℕ) (way : List ℕ) → IsReadable w → link_of w k ≡ Some l → HasRoom (side_of w.hall k) r

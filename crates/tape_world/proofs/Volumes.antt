@@ -16,12 +16,12 @@ use Rattle.rmt_server.specs.Session.{PlainSession}
 use Rattle.rmt_server.specs.Session.PlainSession.{Idle, Offline, Online}
 use Rattle.tape_events.specs.World.{World, Begun}
 use Rattle.tape_events.specs.Changes.{side_of, first_name}
-use Rattle.tape_events.specs.Kept.{IsFirstAway, online_in, AreHeld, AreLaid, IsKept}
-use Rattle.tape_events.specs.Standing.{LiesIn, LiesOn, HasInDrive, StandsOn}
-use Rattle.tape_events.specs.Written.{CountedReels, whole_volume}
+use Rattle.tape_events.specs.Standing.{IsFirstAway, online_drive_in, AreHeld, ReelLiesIn, ReelLiesOn, HasInDrive, StandsOn}
+use Rattle.tape_events.specs.Kept.{AreLaid, IsWorldKept}
+use Rattle.tape_events.specs.Headline.{CountedReels, whole_volume}
 use Rattle.tape_events.proofs.Held.{side_there}
 use Rattle.tape_events.proofs.LabelledNames.{stands_one}
-use Rattle.tape_world.specs.Entries.{tape_in, tape_online, first_tape_online, entries_on}
+use Rattle.tape_world.specs.Entries.{named_tape_in, tape_online, first_tape_online, entries_on}
 use Rattle.tape_world.specs.Volumes.{TellsVolumes}
 
 -- one of these has that name, and lies there so, or is away
@@ -80,12 +80,12 @@ shop_named s name o once has =
     is_named (slots_in s) name o (omega (arith, few, all)) has
 
 -- what lies there
-lies_has : (xs : List (Slot KeptReel)) (name : List ℕ) (entries : List PlainEntry) → LiesIn xs name entries → (r : KeptReel) × HasSlot xs name (Some r) × (r.entries ≡ entries)
+lies_has : (xs : List (Slot KeptReel)) (name : List ℕ) (entries : List PlainEntry) → ReelLiesIn xs name entries → (r : KeptReel) × HasSlot xs name (Some r) × (r.entries ≡ entries)
 lies_has [] name entries lies = absurd lies
 lies_has (x ∷ xs) name entries (inl here) = (here.reel, inl (here.named, here.there), here.holds)
 lies_has (x ∷ xs) name entries (inr rest) = let on = lies_has xs name entries rest in (on.0, inr on.1, on.2)
 
-on_has : (s : Shop) (name : List ℕ) (entries : List PlainEntry) → LiesOn s name entries → (r : KeptReel) × HasSlot (slots_in s) name (Some r) × (r.entries ≡ entries)
+on_has : (s : Shop) (name : List ℕ) (entries : List PlainEntry) → ReelLiesOn s name entries → (r : KeptReel) × HasSlot (slots_in s) name (Some r) × (r.entries ≡ entries)
 on_has s name entries (inl (d, lies)) =
     let on = lies_has (rack_at s d).stack name entries lies in
     (on.0, has_before (flat_map (λ r. r.stack) s.racks) s.bin name (Some on.0) (has_stack s.racks d name (Some on.0) on.1), on.2)
@@ -128,7 +128,7 @@ named_in : (b : Bool) (reel t : Tape) → (if b then Some reel else None) ≡ So
 named_in true reel t is = (refl, same_Some reel t is)
 named_in false reel t is = absurd cc
 
-in_drive : (name : List ℕ) (s : Shop) (session : PlainSession) (t : Tape) → tape_in name s session ≡ Some t → HasInDrive s session name (entries_of t)
+in_drive : (name : List ℕ) (s : Shop) (session : PlainSession) (t : Tape) → named_tape_in name s session ≡ Some t → HasInDrive s session name (entries_of t)
 in_drive name s Idle t is = absurd cc
 in_drive name s (Offline drive access) t is = absurd cc
 in_drive name s (Online drive access reel) t is =
@@ -141,10 +141,10 @@ online_stands h name i t None at is = absurd cc
 online_stands h name i t (Some s) at is =
     inr (suc i, s, ap (option_and_then (λ x. x)) (place_side h.sides i s at), in_drive name h.shop s.session t is)
 
-has_tape : (name : List ℕ) (s : Shop) (session : PlainSession) (entries : List PlainEntry) → HasInDrive s session name entries → (t : Tape) × (tape_in name s session ≡ Some t)
+has_tape : (name : List ℕ) (s : Shop) (session : PlainSession) (entries : List PlainEntry) → HasInDrive s session name entries → (t : Tape) × (named_tape_in name s session ≡ Some t)
 has_tape name s session entries (drive, access, reel, online, named, holds) = (
   reel.tape,
-  ap (tape_in name s) online
+  ap (named_tape_in name s) online
       ∙ ap (λ b. if b then Some reel.tape else None) ((bytes_eq-Decides name (first_name (rack_at s drive).stack)).1 (sym named)),
 )
 
@@ -166,12 +166,12 @@ stands_told h name entries a l once (inl lies) =
     ap (λ o. option_or (option_map (λ (r : KeptReel). r.entries) o) (option_map entries_of (first_tape_online name h.shop h.sides))) (shop_named h.shop name (Some on.0) once on.1)
     ∙ ap Some on.2
 stands_told h name entries a l once (inr (k, s, live, has)) =
-    let away = away_has (rack_at h.shop has.0).stack name (l.latched has.0 (k, s, live, ap online_in has.3)) has.4 in
+    let away = away_has (rack_at h.shop has.0).stack name (l.latched has.0 (k, s, live, ap online_drive_in has.3)) has.4 in
     let slot = has_before (flat_map (λ r. r.stack) h.shop.racks) h.shop.bin name None (has_stack h.shop.racks has.0 name None away) in
     ap (λ o. option_or (option_map (λ (r : KeptReel). r.entries) o) (option_map entries_of (first_tape_online name h.shop h.sides))) (shop_named h.shop name None once slot)
     ∙ online_told h k s name entries a l once live has
 
-pub volumes_told : (w : World) → IsKept w → CountedReels w → TellsVolumes w
+pub volumes_told : (w : World) → IsWorldKept w → CountedReels w → TellsVolumes w
 volumes_told w kept counted x b among begun last =
     let on = counted x among in
     let same : on.begun ≡ b = same_Some on.begun b (sym on.begun_as ∙ begun) in

@@ -15,8 +15,8 @@ use Rattle.tape_events.specs.World.{Link, Dumping}
 use Rattle.tape_events.specs.Changes.{changed, over_there}
 use Rattle.rmt_wire.specs.ReplyReader.{reply_held}
 use Rattle.tape_world.specs.Parts.{new_dumping}
-use Rattle.tape_world.specs.declared.stop.Stop.{Stop}
-use Rattle.tape_world.specs.declared.stop.Stop.TheVariants.{OutOfMemory}
+use Rattle.tape_world.specs.declared.stop.EventStop.{EventStop}
+use Rattle.tape_world.specs.declared.stop.EventStop.TheVariants.{OutOfMemory}
 use Rattle.tape_world.specs.declared.caller.Begun.{Begun}
 use Rattle.tape_world.specs.declared.caller.Caller.{Caller}
 
@@ -36,9 +36,9 @@ IsPlaced None n = Unit {0}
 IsPlaced (Some k) n = (1 ≤ k) × (k ≤ n)
 
 -- the operator answers
-abbrev pub Answers : Option Caller → Answer → Option Caller → Type 0
-Answers None answer new = new ≡ None
-Answers (Some c) answer new =
+abbrev pub ClientAnswers : Option Caller → Answer → Option Caller → Type 0
+ClientAnswers None answer new = new ≡ None
+ClientAnswers (Some c) answer new =
     (d : Caller) × (result : Result Unit StartFault) × (new ≡ Some d) × IsSameRun c d
     × AnsweredAt c.client.at.stage c.client.at answer result d.client.at
 
@@ -48,9 +48,9 @@ failure_of at (Failed fault) = Some ((checkpoint_of at.counts).0, fault)
 failure_of at progress = None
 
 -- its connection ended
-abbrev pub SeesEnd : Option Caller → Option (ℕ × AttemptFault) → Option Caller → Type 0
-SeesEnd None failure new = new ≡ None
-SeesEnd (Some c) failure new =
+abbrev pub ClientSeesEnd : Option Caller → Option (ℕ × AttemptFault) → Option Caller → Type 0
+ClientSeesEnd None failure new = new ≡ None
+ClientSeesEnd (Some c) failure new =
     (d : Caller) × (progress : Progress) × (new ≡ Some d) × IsSameRun c d × CutAt c.client.at.stage c.client.at progress d.client.at
     × HasFedAt d.client.at.stage d.client.reader [] × (failure ≡ failure_of d.client.at progress)
 
@@ -64,7 +64,7 @@ abbrev pub IsReady : Option Caller → Type 0
 IsReady o = (c : Caller) × (o ≡ Some c) × (c.client.at.stage ≡ Ready)
 
 -- An attempt starts, of the volume that is next. Where memory is refused nothing has changed.
-abbrev pub Starts : Option Caller → Result Dumping Stop → Option Caller → Type 0
+abbrev pub Starts : Option Caller → Result Dumping EventStop → Option Caller → Type 0
 Starts None result new = ⊥
 Starts (Some c) (Ok dump) new =
     (d : Caller) × (new ≡ Some d) × IsSameRun c d × (d.client.at ≡ standing c.client.at.run c.client.at.counts (ToSend Open))

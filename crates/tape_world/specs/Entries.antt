@@ -17,14 +17,14 @@ abbrev pub AreOpenThere : Hall → Type 0
 AreOpenThere h = (k d : ℕ) (s : Side) → side_of h k ≡ Some s → drive_in s.session ≡ Some d → d < length h.shop.racks
 
 -- the tape that a session has online, if that is of the reel of this name: the first of the drive's stack
-abbrev pub tape_in : List ℕ → Shop → PlainSession → Option Tape
-tape_in name s (Online drive access reel) =
+abbrev pub named_tape_in : List ℕ → Shop → PlainSession → Option Tape
+named_tape_in name s (Online drive access reel) =
     if bytes_eq name (first_name (rack_at s drive).stack) then Some reel.tape else None
-tape_in name s session = None
+named_tape_in name s session = None
 
 abbrev pub tape_online : List ℕ → Shop → Option Side → Option Tape
 tape_online name s None = None
-tape_online name s (Some x) = tape_in name s x.session
+tape_online name s (Some x) = named_tape_in name s x.session
 
 -- the tape that a live side has online under this name: the first of them
 abbrev pub first_tape_online : List ℕ → Shop → List (Option Side) → Option Tape

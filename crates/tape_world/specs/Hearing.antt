@@ -11,7 +11,7 @@ use Rattle.tape_world.specs.Holding.{is_in_attempt}
 use Rattle.tape_world.specs.Calling.{IsSameRun, failure_of}
 use Rattle.tape_world.specs.declared.books.Count.{Count}
 use Rattle.tape_world.specs.declared.caller.Caller.{Caller}
-use Rattle.tape_world.specs.declared.ends.hearing.Heard.{Heard}
+use Rattle.tape_world.specs.declared.ends.hearing.PieceHeard.{PieceHeard}
 
 -- so many of the bytes on the way back arrived
 abbrev pub come_back : ℕ → Link → Link
@@ -37,7 +37,7 @@ abbrev pub IsAttempting : Option Caller → Type 0
 IsAttempting o = (c : Caller) × (o ≡ Some c) × IsTrue (is_in_attempt c.client.at.stage)
 
 -- the client heard these bytes: what came of them is told with the number of its run
-pub record HasHeard (o : Option Caller) (piece : List ℕ) (heard : Heard) (new : Option Caller) : Type 0 where
+pub record HasHeard (o : Option Caller) (piece : List ℕ) (heard : PieceHeard) (new : Option Caller) : Type 0 where
   pub before : Caller
   pub after : Caller
   pub fed : List ℕ

@@ -7,13 +7,13 @@ use Rattle.tape_events.specs.Rows.{Possible}
 use Rattle.tape_events.specs.Steps.{Happens}
 use Rattle.tape_events.specs.First.{IsPaired, IsReadable}
 pub use Rattle.tape_events.specs.Owning.{is_in_attempt, IsClients, IsOwned, IsBegun}
-use Rattle.tape_world.specs.declared.stop.Stop.{Stop}
-use Rattle.tape_world.specs.declared.stop.Stop.TheVariants.{NotPossible, OutOfMemory}
+use Rattle.tape_world.specs.declared.stop.EventStop.{EventStop}
+use Rattle.tape_world.specs.declared.stop.EventStop.TheVariants.{NotPossible, OutOfMemory}
 use Rattle.tape_world.specs.declared.caller.Begun.{Begun as RealBegun}
 use Rattle.tape_world.specs.declared.caller.Caller.{Caller as RealCaller}
 
 -- An event was made; or it is not possible, or memory was refused, and nothing changed.
-abbrev pub IsEvent : World → PlainEvent → Result Unit Stop → World → Type 0
+abbrev pub IsEvent : World → PlainEvent → Result Unit EventStop → World → Type 0
 IsEvent old event (Ok x) new = Happens old event new
 IsEvent old event (Err NotPossible) new = (new ≡ old) × (Possible old event → ⊥)
 IsEvent old event (Err OutOfMemory) new = new ≡ old

@@ -6,14 +6,14 @@ use Rattle.tape.specs.Trouble.{TroubledTape}
 use Rattle.drives.specs.Shop.{Slot, slot, Rack, rack, ShopOf, shop, rack_at, with_rack}
 use Rattle.drives.specs.ListShop.{blank_reel}
 use Rattle.drives.specs.Arranging.{are_distinct}
-use Rattle.tape_events.specs.First.{PlainDrive}
+use Rattle.tape_events.specs.First.{PlainDriveSpec}
 use Rattle.tape_world.specs.declared.drive_spec.DriveSpec.{DriveSpec}
 
 abbrev pub reels_of : DriveSpec → List (List ℕ)
 reels_of d = map (λ n. n.now) d.reels.now
 
-abbrev pub plain_drive : DriveSpec → PlainDrive
-plain_drive d = record { name = d.name.now; capacity = d.capacity; reels = reels_of d }
+abbrev pub plain_drive_spec : DriveSpec → PlainDriveSpec
+plain_drive_spec d = record { name = d.name.now; capacity = d.capacity; reels = reels_of d }
 
 -- a reel of one of the drives has that name
 abbrev pub names_again : List DriveSpec → List ℕ → Bool

@@ -5,12 +5,12 @@ use Rattle.tape_events.specs.Events.{PlainEvent}
 use Rattle.tape_events.specs.Events.PlainEvent.{StartRun, Connect, Send, ToServer, Serve, ToClient, Cut, EndAtServer, EndAtClient, ServerRestart, ClientRestart, Respond, Arrange, Stranger, Says, Enter}
 use Rattle.tape_events.specs.Rows.{Possible}
 use Rattle.tape_events.specs.Steps.{Runs}
-use Rattle.tape_events.specs.First.{PlainDrive, AreGoodDrives, first_world}
+use Rattle.tape_events.specs.First.{PlainDriveSpec, AreGoodDrives, first_world}
 use Rattle.tape_events.specs.Smooth.{AreFaultless, VolumesInOrder}
 use Rattle.tape_world.specs.declared.event.Event.{Event}
 use Rattle.tape_world.specs.declared.event.Event.TheVariants as lent
-use Rattle.tape_world.specs.declared.stop.Stop.{Stop}
-use Rattle.tape_world.specs.declared.stop.Stop.TheVariants as stops
+use Rattle.tape_world.specs.declared.stop.EventStop.{EventStop}
+use Rattle.tape_world.specs.declared.stop.EventStop.TheVariants as stops
 use Rattle.tape_world.specs.declared.fault.WorldFault.{WorldFault}
 use Rattle.tape_world.specs.declared.fault.WorldFault.TheVariants.{NotPossible, OutOfMemory}
 
@@ -34,12 +34,12 @@ plain_event (lent.Says k bytes) = Says k bytes.now
 plain_event lent.Enter = Enter
 
 -- the place of the event that was not made
-abbrev pub place_of : WorldFault → ℕ
-place_of (NotPossible i) = i
-place_of (OutOfMemory i) = i
+abbrev pub fault_place : WorldFault → ℕ
+fault_place (NotPossible i) = i
+fault_place (OutOfMemory i) = i
 
 -- the fault that this stop is, at the event of this place
-abbrev pub fault_at : Stop → ℕ → WorldFault
+abbrev pub fault_at : EventStop → ℕ → WorldFault
 fault_at stops.NotPossible i = NotPossible i
 fault_at stops.OutOfMemory i = OutOfMemory i
 
@@ -49,11 +49,11 @@ pub record IsStopped (old : World) (events : List PlainEvent) (i : ℕ) (new : W
   pub made : Runs old (take i events) new
 
 -- where the fault says so, the event of its place is not possible
-abbrev pub IsRefused : List PlainEvent → World → WorldFault → Type 0
-IsRefused events w (NotPossible i) = (event : PlainEvent) → slice_get events i ≡ Some event → Possible w event → ⊥
-IsRefused events w (OutOfMemory i) = Unit {0}
+abbrev pub IsEventRefused : List PlainEvent → World → WorldFault → Type 0
+IsEventRefused events w (NotPossible i) = (event : PlainEvent) → slice_get events i ≡ Some event → Possible w event → ⊥
+IsEventRefused events w (OutOfMemory i) = Unit {0}
 
 -- From the first world of one good drive on, events without a fault leave the volumes in order.
 abbrev pub LeavesInOrder : World → List PlainEvent → World → Type 0
 LeavesInOrder old events new =
-    (drive : PlainDrive) → AreGoodDrives (drive ∷ []) → old ≡ first_world (drive ∷ []) → AreFaultless events → VolumesInOrder drive new
+    (drive : PlainDriveSpec) → AreGoodDrives (drive ∷ []) → old ≡ first_world (drive ∷ []) → AreFaultless events → VolumesInOrder drive new

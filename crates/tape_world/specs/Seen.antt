@@ -1,5 +1,6 @@
 -- What the parts of a world in memory are seen as. No public contract needs it.
-use Rattle.std.specs.Prelude.{ℕ, List, [], map, get_or, option_map, Option}
+use Rattle.std.specs.Prelude.{ℕ, List, [], map, get_or, option_map, Option, Vec}
+use Rattle.std.specs.Global.{Global}
 use Rattle.dumpdates.specs.Entry.{DatesEntry}
 use Rattle.rmt_server.specs.Hall.{Hall}
 use Rattle.tape_events.specs.World.{Link, Begun, Caller, Count, Opening, Entered, World}
@@ -30,11 +31,15 @@ seen_count names c =
 abbrev pub seen_opening : List (List ℕ) → RealOpening → Opening
 seen_opening names o = record { connection = o.connection; reel = name_at names o.reel }
 
+-- openings, by these names of reels
+abbrev pub seen_openings : List (Vec ℕ Global) → List RealOpening → List Opening
+seen_openings names opens = map (seen_opening (map (λ n. n.items) names)) opens
+
 abbrev pub seen_entered : ℕ → Entered
 seen_entered run = record { run = run }
 
-abbrev pub names_in : Books → List (List ℕ)
-names_in b = map (λ name. name.items) b.names.items
+abbrev pub book_names : Books → List (List ℕ)
+book_names b = map (λ name. name.items) b.names.items
 
 abbrev pub world_of : Hall → List RealLink → List RealBegun → Option RealCaller → Option ℕ → Books → List DatesEntry → World
 world_of h links begun caller own books dates = record {
@@ -43,8 +48,8 @@ world_of h links begun caller own books dates = record {
   begun = map seen_begun begun;
   caller = option_map seen_caller caller;
   own = own;
-  counts = map (seen_count (names_in books)) books.counts.items;
-  opens = map (seen_opening (names_in books)) books.opens.items;
+  counts = map (seen_count (book_names books)) books.counts.items;
+  opens = map (seen_opening (book_names books)) books.opens.items;
   entered = map seen_entered books.entered.items;
   failure = books.failure;
   dates = dates;

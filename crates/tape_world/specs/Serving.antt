@@ -9,8 +9,8 @@ use Rattle.rmt_server.specs.Session.{PlainReel, PlainSession}
 use Rattle.rmt_server.specs.Session.PlainSession.{Online}
 use Rattle.rmt_server.specs.declared.access.Access.{Access}
 use Rattle.rmt_server.specs.Hall.{Hall, Side}
-use Rattle.tape_host.specs.declared.turn.Asked.{Asked}
-use Rattle.tape_host.specs.declared.turn.Asked.TheVariants as asked
+use Rattle.tape_host.specs.declared.turn.RequestKind.{RequestKind}
+use Rattle.tape_host.specs.declared.turn.RequestKind.TheVariants as asked
 use Rattle.tape_host.specs.declared.turn.Answered.{Answered}
 use Rattle.tape_host.specs.declared.turn.Answered.TheVariants as said
 use Rattle.tape_host.specs.declared.turn.Carried.{Carried}
@@ -34,7 +34,7 @@ noted_mark d (said.Number n) = record d { mark = true }
 noted_mark d said.Data = d
 noted_mark d (said.Error n) = noted_error d n
 
-abbrev pub noted_asked : Dumping → Asked → Answered → Dumping
+abbrev pub noted_asked : Dumping → RequestKind → Answered → Dumping
 noted_asked d (asked.Open writes) answer = d
 noted_asked d asked.Write answer = noted_record d answer
 noted_asked d asked.Marks answer = noted_mark d answer
@@ -51,13 +51,13 @@ noted_turn (turns.Carried c) l = record l { dump = option_map (noted_carried c) 
 noted_turn (turns.Broken fault) l = over_here l
 
 -- What a turn of connection k makes of the hall, and of the connection.
-abbrev pub Serves : Trouble → Hosted → ℕ → Turn → Hosted → ((Link → Link) → Type 0) → Type 0
-Serves trouble old k turns.Nothing new becomes =
+abbrev pub TurnServes : Trouble → Hosted → ℕ → Turn → Hosted → ((Link → Link) → Type 0) → Type 0
+TurnServes trouble old k turns.Nothing new becomes =
     ((s : Side) → side_at old.hall.sides k ≡ Some s → GivesNothing s.reached) × (new ≡ old) × becomes (λ l. l)
-Serves trouble old k (turns.Carried carried) new becomes =
+TurnServes trouble old k (turns.Carried carried) new becomes =
     (s : Side) × (request : PlainRequest) × (reply : PlainReply) × (side_at old.hall.sides k ≡ Some s)
     × Carries trouble old.hall k s request reply new.hall × (carried ≡ carried_of request reply) × becomes (answered request reply)
-Serves trouble old k (turns.Broken fault) new becomes =
+TurnServes trouble old k (turns.Broken fault) new becomes =
     (s : Side) × (side_at old.hall.sides k ≡ Some s) × GivesFault s.reached fault
     × (new ≡ hosted (ended old.hall k) old.ready) × becomes over_here
 
@@ -76,13 +76,13 @@ IsOnlineIn h k =
     (s : Side) (drive : ℕ) (access : Access) (reel : PlainReel) → side_at h.sides k ≡ Some s → s.session ≡ Online drive access reel
     → drive < length h.shop.racks
 
-abbrev pub opened_by : Asked → Hall → ℕ → Option (List ℕ)
-opened_by (asked.Open true) h k = name_online_at h.shop (side_at h.sides k)
-opened_by _ h k = None
+abbrev pub name_opened_by : RequestKind → Hall → ℕ → Option (List ℕ)
+name_opened_by (asked.Open true) h k = name_online_at h.shop (side_at h.sides k)
+name_opened_by _ h k = None
 
 -- the name of the reel that a turn opened for writing, if it did
 abbrev pub opened_in : Hall → ℕ → Turn → Option (List ℕ)
-opened_in h k (turns.Carried c) = opened_by c.asked h k
+opened_in h k (turns.Carried c) = name_opened_by c.asked h k
 opened_in h k turn = None
 
 -- where it opened one, the drive is there
@@ -97,6 +97,6 @@ abbrev pub AreKnown : {X : Type 0} → List (List ℕ) → List (Slot X) → Typ
 AreKnown names slots = All (λ x. Contains names x.name) slots
 
 -- the name of each reel is among these
-pub record IsStocked (names : List (List ℕ)) (s : Shop) : Type 0 where
+pub record IsShopKnown (names : List (List ℕ)) (s : Shop) : Type 0 where
   pub stacks : (d : ℕ) → AreKnown names (rack_at s d).stack
   pub bin : AreKnown names s.bin

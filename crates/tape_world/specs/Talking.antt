@@ -1,6 +1,6 @@
 -- What the client's next request makes of it, and of its connection. No public contract needs it.
 use Rattle.std.specs.Prelude.{◌≡◌, ◌≤◌, ℕ, Bool, true, false, List, [], length, Option, Some, None}
-use Rattle.rmt_wire.specs.Limits.{reader_limit}
+use Rattle.rmt_wire.specs.declared.limits.TheConstants.{READER_LIMIT}
 use Rattle.rmt_wire.specs.Request.{request_text}
 use Rattle.dump_run.specs.Blocks.{listed}
 use Rattle.dump_client.specs.Script.{request_of}
@@ -42,7 +42,7 @@ pub record Asks (o : Option Caller) (fails : Bool) (text : List ℕ) (failure : 
   pub is : new ≡ Some after
   pub number : after.number ≡ before.number
   pub source : after.client.source ≡ listed before.client.source.blocks false failures
-  pub short : length text ≤ reader_limit
+  pub short : length text ≤ READER_LIMIT
   pub asked : AskedOf (is_failing fails step) before step text failure after
 
 -- the request is sent on its connection, or that is over there

@@ -2,7 +2,7 @@
 use Rattle.std.specs.Prelude.{◌≡◌, ◌↔◌, ℕ, ◌≤◌, false, List, Option, Some, None}
 use Rattle.rmt_wire.specs.ReplyReader.{ReplyHeld}
 use Rattle.drives.specs.Shop.{KeptReel, Slot, Shop, IsDriveNamed, rack_at}
-use Rattle.dump_run.specs.Blocks.{Listed, listed}
+use Rattle.dump_run.specs.Blocks.{ListedBlocks, listed}
 use Rattle.dump_client.specs.Standing.{Standing}
 use Rattle.dump_client.specs.Client.{ClientHeld}
 use Rattle.tape_events.specs.World.{World, Link, Begun, Caller, Count, numbered}
@@ -45,7 +45,7 @@ TellsStack name s None = IsDriveNamed name s None
 TellsStack name s (Some reels) = (d : ℕ) × IsDriveNamed name s (Some d) × (reels ≡ (rack_at s d).stack)
 
 -- the blocks that the client's run was begun with, without trouble
-pub record TellsPayload (w : World) (source : Listed) : Type 0 where
+pub record TellsPayload (w : World) (source : ListedBlocks) : Type 0 where
   pub client : Caller
   pub run : Begun
   pub failures : ℕ

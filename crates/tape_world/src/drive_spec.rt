@@ -4,7 +4,9 @@ ghost use Rattle.std.specs.List.{flat_map, list_any};
 ghost use Rattle.std.specs.Str.{bytes_eq};
 ghost use Rattle.drives.specs.Arranging.{are_distinct, is_repeated};
 ghost use Rattle.tape_events.specs.First.{AreGoodDrives};
-ghost use Rattle.tape_world.specs.Making.{plain_drive, reels_of, reel_again, names_again};
+ghost use Rattle.tape_world.specs.Making.{plain_drive_spec, reels_of, reel_again, names_again};
+
+use drives::DRIVE_LIMIT;
 
 /// A drive of a new world: its name, how many bytes each of its reels takes, and the names of those, which are empty.
 #[derive(Clone, Copy)]
@@ -14,11 +16,12 @@ pub struct DriveSpec<'a> {
     pub reels: &'a [&'a [u8]],
 }
 
-/// Whether a world can have these drives: there are 1 to 64, no two have one name, and no two of their reels have one.
+/// Whether a world can have these drives: there are 1 to `drives::DRIVE_LIMIT`, no two have one name, and no two of their
+/// reels have one.
 pub fn good_drives(drives: &[DriveSpec<'_>]) -> bool
-    ensures { (result ≡ true) ↔ AreGoodDrives (map plain_drive drives.now) }
+    ensures { (result ≡ true) ↔ AreGoodDrives (map plain_drive_spec drives.now) }
 {
-    if drives.is_empty() || 64 < drives.len() {
+    if drives.is_empty() || DRIVE_LIMIT < drives.len() {
         return false;
     }
     names_differ(drives) && reels_differ(drives)

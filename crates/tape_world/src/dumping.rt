@@ -5,8 +5,9 @@ ghost use Rattle.tape_events.specs.Changes.{noted_sent, accepted, noted_error};
 ghost use Rattle.tape_world.specs.Parts.{new_dumping};
 ghost use Rattle.tape_world.specs.Serving.{noted_record, noted_mark, noted_carried};
 
+use rmt_wire::errno::EIO;
 use std::marker::Model;
-use tape_host::{Answered, Asked, Carried};
+use tape_host::{Answered, Carried, RequestKind};
 
 /// What an attempt of the client came to on its connection: its run's number, volume and first block, how many requests were
 /// sent and how many carried out, and which of its writes were accepted. Counts stay at the greatest `u64`.
@@ -71,9 +72,9 @@ impl Dumping {
         ensures { self.new ≡ noted_carried carried self.old }
     {
         match carried.asked {
-            Asked::Open { .. } | Asked::Other => {}
-            Asked::Write => self.note_write(carried.answered),
-            Asked::Marks => self.note_marks(carried.answered),
+            RequestKind::Open { .. } | RequestKind::Other => {}
+            RequestKind::Write => self.note_write(carried.answered),
+            RequestKind::Marks => self.note_marks(carried.answered),
         }
         self.carried = self.carried.saturating_add(1);
     }
@@ -111,11 +112,11 @@ impl Dumping {
         }
     }
 
-    /// A write or marks of it were refused with this number of an error. Of a device fault it is 5.
+    /// A write or marks of it were refused with this error. Of a device fault it is `EIO`.
     fn note_error(&mut self, number: u32)
         ensures { self.new ≡ noted_error self.old number }
     {
-        if number == 5 {
+        if number == EIO {
             self.fault = true;
         }
     }

@@ -33,14 +33,14 @@ pub(crate) struct Ends {
 
 impl Model for Ends {
     ghost use Rattle.tape_events.specs.World.{World};
-    ghost use Rattle.tape_world.specs.Seen.{names_in, world_of};
+    ghost use Rattle.tape_world.specs.Seen.{book_names, world_of};
     ghost use Rattle.tape_world.specs.Holding.{IsSound, IsSourced};
-    ghost use Rattle.tape_world.specs.Serving.{IsStocked};
+    ghost use Rattle.tape_world.specs.Serving.{IsShopKnown};
 
     ghost Value = { World };
 
     ghost view = { λ w. world_of w.host.hall w.links.items w.begun.items w.caller w.own w.books w.dates };
 
     ghost invariant = { λ w. IsSound (world_of w.host.hall w.links.items w.begun.items w.caller w.own w.books w.dates)
-        × IsSourced w.begun.items w.caller × IsStocked (names_in w.books) w.host.hall.shop };
+        × IsSourced w.begun.items w.caller × IsShopKnown (book_names w.books) w.host.hall.shop };
 }

@@ -1,11 +1,11 @@
 //! Events, one after the other.
 ghost use Rattle.std.specs.Prelude.{◌≡◌, OnOk, IfErr, map};
 ghost use Rattle.tape_events.specs.Steps.{Runs};
-ghost use Rattle.tape_world.specs.Running.{plain_event, place_of, fault_at, IsStopped, IsRefused, LeavesInOrder};
+ghost use Rattle.tape_world.specs.Running.{plain_event, fault_place, fault_at, IsStopped, IsEventRefused, LeavesInOrder};
 
 use crate::event::Event;
 use crate::fault::WorldFault;
-use crate::stop::Stop;
+use crate::stop::EventStop;
 use crate::world::World;
 use tape_events::smooth;
 
@@ -21,8 +21,8 @@ use tape_events::smooth;
 /// reels, in order.
 pub fn run(world: &mut World, events: &[Event<'_>]) -> Result<(), WorldFault>
     ensures made { OnOk result (Runs world.old (map plain_event events.now) world.new) }
-    ensures stopped { IfErr result (λ fault. IsStopped world.old (map plain_event events.now) (place_of fault) world.new) }
-    ensures impossible { IfErr result (λ fault. IsRefused (map plain_event events.now) world.new fault) }
+    ensures stopped { IfErr result (λ fault. IsStopped world.old (map plain_event events.now) (fault_place fault) world.new) }
+    ensures impossible { IfErr result (λ fault. IsEventRefused (map plain_event events.now) world.new fault) }
     ensures in_order { LeavesInOrder world.old (map plain_event events.now) world.new }
 {
     smooth();
@@ -35,11 +35,11 @@ pub fn run(world: &mut World, events: &[Event<'_>]) -> Result<(), WorldFault>
 }
 
 /// The fault that this stop is, at the event of this place.
-fn fault_of(stop: Stop, place: usize) -> WorldFault
+fn fault_of(stop: EventStop, place: usize) -> WorldFault
     ensures { result ≡ fault_at stop place }
 {
     match stop {
-        Stop::NotPossible => WorldFault::NotPossible(place),
-        Stop::OutOfMemory => WorldFault::OutOfMemory(place),
+        EventStop::NotPossible => WorldFault::NotPossible(place),
+        EventStop::OutOfMemory => WorldFault::OutOfMemory(place),
     }
 }

@@ -5,17 +5,19 @@ mod telling;
 
 ghost use Rattle.std.specs.Prelude.{◌≡◌, IfOk, map};
 ghost use Rattle.tape_events.specs.First.{AreGoodDrives, first_world};
-ghost use Rattle.tape_events.specs.Kept.{IsKept, AreHeld, NoTwoHolders, DumpdatesGained, ClientsCounts};
-ghost use Rattle.tape_events.specs.Written.{CountedReels};
+ghost use Rattle.tape_events.specs.Headline.{Headline, CountedReels, NoTwoHolders, DumpdatesGained};
+ghost use Rattle.tape_events.specs.Further.{SentRequests, LatchedReels, LabelledReels, ClientsCounts};
+ghost use Rattle.tape_events.specs.Standing.{AreHeld};
+ghost use Rattle.tape_events.specs.Kept.{IsWorldKept};
 ghost use Rattle.tape_world.specs.Holding.{IsEvent};
-ghost use Rattle.tape_world.specs.Making.{plain_drive};
+ghost use Rattle.tape_world.specs.Making.{plain_drive_spec};
 ghost use Rattle.tape_world.specs.Running.{plain_event};
 ghost use Rattle.tape_world.specs.Volumes.{TellsVolumes};
 
 use crate::drive_spec::DriveSpec;
 use crate::ends::Ends;
 use crate::event::Event;
-use crate::stop::Stop;
+use crate::stop::EventStop;
 use std::alloc::{AllocError, Global};
 use std::marker::Model;
 use tape_events::kept;
@@ -30,13 +32,13 @@ pub struct World {
 
 impl Model for World {
     ghost use Rattle.tape_events.specs.World.{World};
-    ghost use Rattle.tape_events.specs.Kept.{IsKept};
+    ghost use Rattle.tape_events.specs.Kept.{IsWorldKept};
 
     ghost Value = { World };
 
     ghost view = { λ w. w.ends };
 
-    ghost invariant = { λ w. IsKept w.ends };
+    ghost invariant = { λ w. IsWorldKept w.ends };
 }
 
 impl World {
@@ -45,31 +47,39 @@ impl World {
     ///
     /// Fails only where memory is refused.
     pub fn new(alloc: Global, drives: &[DriveSpec<'_>]) -> Result<World, AllocError>
-        requires { AreGoodDrives (map plain_drive drives.now) }
-        ensures { IfOk result (λ w. w ≡ first_world (map plain_drive drives.now)) }
+        requires { AreGoodDrives (map plain_drive_spec drives.now) }
+        ensures { IfOk result (λ w. w ≡ first_world (map plain_drive_spec drives.now)) }
     {
         kept();
         let ends = Ends::new(alloc, drives)?;
         Ok(World { ends })
     }
 
-    /// What holds of each world, whatever happened: who holds the drives, where reels lie, whose openings are last, what each
-    /// attempt wrote, which counts are the client's own, and what dumpdates gained. So the holder of a drive is the connection
-    /// whose live side has it open, and no drive has two; each reel that was counted, and that no session opened for writing
-    /// since, holds exactly its volume's records and one file mark; and dumpdates gained only dumps whose counted volumes are
-    /// all their blocks in order.
+    /// What holds of each world, whatever happened: the headline. Each reel that was counted, and that no session opened for
+    /// writing since, holds exactly its volume's records and one file mark; no drive has two holders; and dumpdates gained only
+    /// dumps whose counted volumes are all their blocks in order. What `entry` tells of such a reel are the entries of its volume.
     ///
-    /// What `entry` tells of such a reel are the entries of its volume. The counts of the client's number are those that the
-    /// client has.
+    /// Beside it: the holder of a drive is the connection whose live side has it open. Of a connection of the client's as many
+    /// requests were carried out as were sent, or one fewer. A latched reel is one session's, and first on the stack of the drive
+    /// that this holds. From the accepted label of an attempt on its reel holds what its accepted writes wrote, until one of them
+    /// meets a device fault or a session opens the reel for writing; until MTOFFL the place of its session is the reel's end. The
+    /// counts of the client's number are those that the client has.
+    ///
+    /// All of it follows from what stays so (`kept`): who holds the drives, where reels lie, whose openings are last, what each
+    /// attempt wrote, which counts are the client's own, and what dumpdates gained.
     ///
     /// It does nothing: its contract is what is told.
     pub fn kept(&self)
-        ensures kept { IsKept self.now }
+        ensures headline { Headline self.now }
+        ensures kept { IsWorldKept self.now }
         ensures holders { AreHeld self.now.hall }
         ensures no_two_holders { NoTwoHolders self.now }
         ensures counted_reels { CountedReels self.now }
         ensures volumes_told { TellsVolumes self.now }
         ensures dumpdates_gained { DumpdatesGained self.now }
+        ensures sent_requests { SentRequests self.now }
+        ensures latched_reels { LatchedReels self.now }
+        ensures labelled_reels { LabelledReels self.now }
         ensures clients_counts { ClientsCounts self.now }
     {
         let _ = &self.ends;
@@ -77,7 +87,7 @@ impl World {
     }
 
     /// Makes one event.
-    pub(crate) fn make(&mut self, event: &Event<'_>) -> Result<(), Stop>
+    pub(crate) fn make(&mut self, event: &Event<'_>) -> Result<(), EventStop>
         ensures { IsEvent self.old (plain_event event.now) result self.new }
     {
         kept();

@@ -1,4 +1,4 @@
-//! Tests with threads, of `hold_table` and `rmt_many`, by their public calls alone. They stand here so that both are proved once.
+//! Tests with threads, of `hold_table` and `rmtd_serve`, by their public calls alone. They stand here so that both are proved once.
 #![tactic(auto)]
 
 #[cfg(test)]

@@ -1,4 +1,4 @@
 //! What each crate has to do, by hand.
 
 mod of_hold_table;
-mod of_rmt_many;
+mod of_rmtd_serve;

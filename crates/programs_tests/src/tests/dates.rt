@@ -1,7 +1,7 @@
 //! A dumpdates file that is asked: what is printed, and the status.
 
 use super::check_row;
-use dump_files::dates;
+use rdump_files::dates;
 use rmt_wire::Counted;
 use std::alloc::Global;
 

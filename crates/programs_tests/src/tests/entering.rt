@@ -1,29 +1,26 @@
 //! What is entered in dumpdates, and a base date.
 
 use super::check_row;
-use super::store::{ENTERED, Kept, OLD};
-use dump_files::{UpdateFault, base_date, update};
+use super::store::{ENTERED, FIRST, Held, Kept, OLD};
 use dumpdates::{DatesFault, Entry};
+use rdump_files::{FileFailed, UpdateFault, base_date, update};
 use rmt_wire::Counted;
 use std::alloc::Global;
 
-/// A file, which cannot be read where there is none, and whether it can be replaced; what comes of a dump that is entered, and
-/// what is put in place of the file.
-type Row = (
-    Option<&'static [u8]>,
-    bool,
-    Result<(), UpdateFault>,
-    &'static [u8],
-);
+/// What a read of the file gives, and whether it can be replaced; what comes of a dump that is entered, and what is put in
+/// place of the file.
+type Row = (Held, bool, Result<(), UpdateFault>, &'static [u8]);
 
-/// A dump that is entered, and so once more; a file that cannot be read, one that cannot be replaced, and a bad one.
-static ROWS: [Row; 5] = [
-    (Some(OLD), true, Ok(()), ENTERED),
-    (Some(ENTERED), true, Ok(()), ENTERED),
-    (None, true, Err(UpdateFault::Unread), b""),
-    (Some(OLD), false, Err(UpdateFault::Unwritten), b""),
+/// A dump that is entered, and so once more; a file that is not there, one that cannot be read, one that cannot be replaced,
+/// and a bad one.
+static ROWS: [Row; 6] = [
+    (Ok(Some(OLD)), true, Ok(()), ENTERED),
+    (Ok(Some(ENTERED)), true, Ok(()), ENTERED),
+    (Ok(None), true, Ok(()), FIRST),
+    (Err(FileFailed), true, Err(UpdateFault::Unread), b""),
+    (Ok(Some(OLD)), false, Err(UpdateFault::Unwritten), b""),
     (
-        Some(b"\n/usr"),
+        Ok(Some(b"\n/usr")),
         true,
         Err(UpdateFault::Dates(DatesFault::BadLine(2))),
         b"",
@@ -32,8 +29,8 @@ static ROWS: [Row; 5] = [
 
 /// Whether that comes of a dump which is entered in such a file.
 fn goes(alloc: Global, entry: Entry<'_>, row: &Row) -> bool {
-    let (text, takes, wanted, put) = *row;
-    let mut store = Kept::new(alloc, text, takes);
+    let (held, takes, wanted, put) = *row;
+    let mut store = Kept::new(alloc, held, takes);
     update(alloc, &mut store, entry) == wanted && store.put.as_slice() == put
 }
 

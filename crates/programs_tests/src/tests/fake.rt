@@ -1,6 +1,6 @@
 //! A peer that gives what it was told to.
 
-use rmt_peer::Peer;
+use rdump_talk::Peer;
 use std::alloc::Global;
 
 /// The replies that a connection gives, one at a time. After the last it ends.

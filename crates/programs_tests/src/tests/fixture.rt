@@ -4,8 +4,8 @@ ghost use Rattle.std.specs.Prelude.{◌≡◌, IfSome};
 
 use super::progress::Seen;
 use dump_client::Client;
-use dump_files::{PayloadFile, Shown, dumper};
-use rmt_programs::DumpLine;
+use rdump_files::{PayloadFile, Shown, dumper};
+use rdump_words::DumpLine;
 use std::alloc::Global;
 use tape::MemoryMedium;
 
@@ -21,11 +21,11 @@ pub(super) type Payload = PayloadFile<MemoryMedium>;
 pub(super) type PayloadDumper = Client<Shown<Payload, Seen>>;
 
 /// The words of a dump of `/usr` at level 1, in blocks of this size.
-fn line(block: u64) -> DumpLine<'static>
+pub(super) fn line(block: u64) -> DumpLine<'static>
     ensures { result.block ≡ block }
 {
     DumpLine {
-        to: "nowhere:1",
+        to: "nowhere",
         device: "/dev/st0",
         fs: "/usr",
         level: 1,

@@ -1,7 +1,7 @@
 //! Stacks of drives in folders.
 
 use drives::Stacks;
-use rmt_serve::{folder_stacks, seat_stacks};
+use rmtd_serve::{folder_stacks, seat_stacks};
 use rmtd_words::DriveWord;
 use std::alloc::AllocError;
 

@@ -4,8 +4,9 @@ use super::check_row;
 use super::fake::{FakePeer, Replies};
 use super::fixture::{PayloadDumper, TWO_BYTES, client};
 use super::store::{ENTERED, Kept, OLD};
-use rmt_peer::print_text;
-use rmt_programs::dump_and_update;
+use dump_client::AttemptFault;
+use rdump_files::dump_and_update;
+use rdump_talk::failure_line;
 use rmt_wire::Counted;
 use std::alloc::Global;
 
@@ -85,7 +86,7 @@ fn prints(
 
 /// Whether a dump of this client goes as the row says.
 fn goes(alloc: Global, client: &mut PayloadDumper, row: &Row) -> bool {
-    let mut store = Kept::new(alloc, Some(OLD), true);
+    let mut store = Kept::new(alloc, Ok(Some(OLD)), true);
     let mut peer = FakePeer::new(alloc, row.connections);
     prints(alloc, client, &mut peer, &mut store, row) && store.put.as_slice() == row.dates
 }
@@ -106,8 +107,7 @@ fn dumps_and_their_lines(rt: HostRuntime) {
 }
 
 #[test]
-fn a_text(rt: HostRuntime) {
-    let mut room = [0; 7];
-    let printed = print_text(&mut Counted::new(room.as_mut_slice()), b"retry?\n");
-    assert!(rt; printed && room == *b"retry?\n");
+fn a_failure(rt: HostRuntime) {
+    let line = failure_line(2, AttemptFault::Refused(16));
+    assert!(rt; line.as_str() == "volume 2 failed: Refused 16\n");
 }

@@ -1,8 +1,8 @@
 //! One drive in memory for a connection, and for a stream after it.
 
-use rmt_serve::{MemoryServer, serve_connections};
 use rmt_server::Served;
 use rmt_wire::Counted;
+use rmtd_serve::{MemoryServer, serve_connections};
 use std::alloc::Global;
 use std::io::{self, Read, Write};
 use std::net::{Shutdown, TcpListener, TcpStream};

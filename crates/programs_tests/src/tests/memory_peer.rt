@@ -4,8 +4,8 @@ ghost use Rattle.std.specs.Prelude.{◌≡◌, ◌≤◌, length};
 
 use super::fixture::{DEVICE, PayloadDumper, client};
 use drives::{DriveTable, ListStacks, LocalHolds, Stacks};
-use rmt_peer::{Peer, dump};
-use rmt_programs::MemoryPeer;
+use rdump_talk::{Peer, dump};
+use rmt_tools::MemoryPeer;
 use rmt_wire::Counted;
 use std::alloc::Global;
 use std::test::Fail;

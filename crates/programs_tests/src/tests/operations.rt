@@ -3,7 +3,7 @@
 use super::check_row;
 use super::fake::{FakePeer, Replies};
 use super::fixture::DEVICE;
-use rmt_peer::mt;
+use rdump_talk::mt;
 use rmt_wire::Counted;
 use std::alloc::Global;
 

@@ -4,7 +4,7 @@ ghost use Rattle.std.specs.Prelude.{◌≡◌, length};
 
 use super::check_row;
 use dump_client::{Blocks, ListBlocks};
-use dump_files::{Clearing, Gauge, ProgressLine, Shown};
+use rdump_files::{Clearing, Gauge, ProgressLine, Shown};
 use std::alloc::Global;
 use std::cell::Cell;
 use std::io::{self, Write};
@@ -15,6 +15,7 @@ use std::time::{Clock, Duration};
 #[derive(Drop)]
 pub(super) struct Seen {
     blocks: u32,
+    volume: Option<(u32, u32)>,
     shows: u32,
     last: Option<(u32, usize)>,
 }
@@ -23,6 +24,7 @@ impl Seen {
     pub(super) fn new() -> Seen {
         Seen {
             blocks: 0,
+            volume: None,
             shows: 0,
             last: None,
         }
@@ -32,6 +34,10 @@ impl Seen {
 impl Gauge for Seen {
     fn begin(&mut self, blocks: u32) {
         self.blocks = blocks;
+    }
+
+    fn begin_volume(&mut self, volume: u32, first: u32) {
+        self.volume = Some((volume, first));
     }
 
     fn show(&mut self, block: u32, bytes: usize) {
@@ -66,10 +72,12 @@ impl Clock for Ticking {
     }
 }
 
-/// Whether three blocks were begun, and the second was shown.
+/// Whether three blocks were begun, volume 2 from the second on, and that was shown.
 fn is_shown(gauge: &Option<Seen>) -> bool {
     match gauge {
-        Some(seen) => (seen.blocks, seen.shows, seen.last) == (3, 1, Some((1, 2))),
+        Some(seen) => {
+            (seen.blocks, seen.volume, seen.shows, seen.last) == (3, Some((2, 1)), 1, Some((1, 2)))
+        }
         None => false,
     }
 }
@@ -84,6 +92,7 @@ fn is_shown_and_read(payload: Vec<u8>) -> bool
         source: ListBlocks::new(payload, 2, 3),
         gauge,
     };
+    source.begin_volume(2, 1);
     let mut block = [0; 2];
     let read = source.read(1, &mut block) == Ok(()) && block == *b"cd" && source.failures() == 0;
     read && is_shown(&source.gauge)
@@ -96,48 +105,65 @@ fn a_block_is_shown_and_read(rt: HostRuntime) -> Result<(), Fail> {
     Ok(())
 }
 
-/// Reads of these blocks of so many bytes, one 50 milliseconds after the other, and what is shown of them.
-type Row = (usize, &'static [u32], &'static [u8]);
+/// A volume, its first block and how many of its blocks are read.
+type Volume = (u32, u32, u32);
 
-/// A line each tenth of a second, in KiB and in MiB; a volume from the block on for which there was no room; and one
-/// that begins anew.
-static ROWS: [Row; 4] = [
+/// Reads of blocks of so many bytes in volumes, one 50 milliseconds after the other, and what is shown of them.
+type Row = (usize, &'static [Volume], &'static [u8]);
+
+/// A line each tenth of a second, in KiB and in MiB; a volume from the block on for which there was no room; one that begins
+/// anew; and a dump that goes on at its second block.
+static ROWS: [Row; 5] = [
     (
         1024,
-        &[0, 1, 2],
+        &[(1, 0, 3)],
         b"\rvolume 1, block 1 of 3, 0 KiB/s\x1b[K\rvolume 1, block 3 of 3, 20 KiB/s\x1b[K",
     ),
     (
         1048576,
-        &[0, 1, 2],
+        &[(1, 0, 3)],
         b"\rvolume 1, block 1 of 3, 0 KiB/s\x1b[K\rvolume 1, block 3 of 3, 20 MiB/s\x1b[K",
     ),
     (
         1024,
-        &[0, 1, 1],
+        &[(1, 0, 2), (2, 1, 1)],
         b"\rvolume 1, block 1 of 3, 0 KiB/s\x1b[K\rvolume 2, block 2 of 3, 0 KiB/s\x1b[K",
     ),
     (
         1024,
-        &[0, 1, 0],
+        &[(1, 0, 2), (1, 0, 1)],
         b"\rvolume 1, block 1 of 3, 0 KiB/s\x1b[K\rvolume 1, block 1 of 3, 0 KiB/s\x1b[K",
+    ),
+    (
+        1024,
+        &[(2, 1, 2)],
+        b"\rvolume 2, block 2 of 3, 0 KiB/s\x1b[K",
     ),
 ];
 
+/// Shows the reads of a volume.
+fn show_volume(gauge: &mut impl Gauge, bytes: usize, volume: &Volume) {
+    let (number, first, count) = *volume;
+    gauge.begin_volume(number, first);
+    for block in 0..count {
+        gauge.show(first.saturating_add(block), bytes);
+    }
+}
+
 /// Shows such reads.
-fn show(gauge: &mut impl Gauge, bytes: usize, reads: &[u32]) {
+fn show(gauge: &mut impl Gauge, bytes: usize, volumes: &[Volume]) {
     gauge.begin(3);
-    for block in reads {
-        gauge.show(*block, bytes);
+    for volume in volumes {
+        show_volume(gauge, bytes, volume);
     }
 }
 
 /// Whether that is shown of such reads.
 fn goes(alloc: Global, row: &Row) -> bool {
-    let (bytes, reads, wanted) = *row;
+    let (bytes, volumes, wanted) = *row;
     let clock = Ticking::new();
     let mut text = Vec::new(alloc);
-    show(&mut ProgressLine::new(&clock, &mut text), bytes, reads);
+    show(&mut ProgressLine::new(&clock, &mut text), bytes, volumes);
     text.as_slice() == wanted
 }
 

@@ -1,6 +1,6 @@
 //! A peer over TCP, on the loopback, in one thread: what is sent waits in the socket.
 
-use rmt_peer::{Peer, SocketPeer};
+use rdump_talk::{Peer, SocketPeer};
 use std::alloc::Global;
 use std::io::{Read, Write};
 use std::net::{TcpListener, TcpStream};

@@ -1,6 +1,6 @@
 //! A dumpdates file in memory, and its texts.
 
-use dump_files::DatesStore;
+use rdump_files::{FileFailed, WholeFile};
 use std::alloc::Global;
 
 pub(super) const OLD: &[u8] = b"/usr                             0 Tue Feb 29 00:00:00 2000
@@ -14,35 +14,51 @@ pub(super) const ENTERED: &[u8] = b"/usr                             0 Tue Feb 2
 /home                            0 Thu Jan  1 00:00:00 1970
 ";
 
+/// That dump alone.
+pub(super) const FIRST: &[u8] = b"/usr                             1 Wed Mar  1 00:00:00 2000\n";
+
+/// What a read of a file in memory gives.
+pub(super) type Held = Result<Option<&'static [u8]>, FileFailed>;
+
 /// A file in memory, which can be told not to be replaced. It keeps what is put in place of it.
 #[derive(Drop)]
 pub(super) struct Kept {
     pub(super) put: Vec<u8>,
-    text: Option<&'static [u8]>,
+    held: Held,
     takes: bool,
 }
 
 impl Kept {
-    /// The file has this text. Without one it cannot be read.
-    pub(super) fn new(alloc: Global, text: Option<&'static [u8]>, takes: bool) -> Kept {
+    /// A read of the file gives this.
+    pub(super) fn new(alloc: Global, held: Held, takes: bool) -> Kept {
         Kept {
             put: Vec::new(alloc),
-            text,
+            held,
             takes,
         }
     }
 }
 
-impl DatesStore for Kept {
+impl WholeFile for Kept {
     ghost gives = { λ _ _ _. Unit {0} };
 
     ghost takes = { λ _ _ _ _. Unit {0} };
 
-    fn read(&mut self, alloc: Global) -> Option<Vec<u8>> {
-        Vec::from_slice(alloc, self.text?).ok()
+    fn read(&mut self, alloc: Global) -> Result<Option<Vec<u8>>, FileFailed> {
+        let Some(text) = self.held? else {
+            return Ok(None);
+        };
+        match Vec::from_slice(alloc, text) {
+            Ok(bytes) => Ok(Some(bytes)),
+            Err(_) => Err(FileFailed),
+        }
     }
 
-    fn replace(&mut self, text: &[u8]) -> bool {
-        self.takes && self.put.extend_from_slice(text).is_ok()
+    fn replace(&mut self, text: &[u8]) -> Result<(), FileFailed> {
+        if self.takes && self.put.extend_from_slice(text).is_ok() {
+            Ok(())
+        } else {
+            Err(FileFailed)
+        }
     }
 }

@@ -3,9 +3,9 @@
 ghost use Rattle.std.specs.Prelude.{◌≡◌, IfOk, length};
 
 use drives::ListStacks;
-use rmt_serve::{TapeServer, run_stdio};
 use rmt_server::Served;
 use rmt_wire::Counted;
+use rmtd_serve::{TapeServer, run_stdio};
 use std::alloc::Global;
 use std::test::Fail;
 

@@ -3,7 +3,7 @@
 use super::check_row;
 use super::fake::{FakePeer, Replies};
 use super::fixture::DEVICE;
-use rmt_peer::{Asked, ReadFault, copy_volume, read_volume};
+use rdump_talk::{ReadFault, VolumeRequest, copy_volume, read_volume};
 use rmt_wire::Counted;
 use std::alloc::Global;
 use std::io::Write;
@@ -46,21 +46,21 @@ static COPIES: [Row; 7] = [
     (
         &[&[b"E6\nDevice not configured\n"]],
         Err(ReadFault::Refused {
-            asked: Asked::Open,
+            asked: VolumeRequest::Open,
             number: 6,
         }),
     ),
     (
         &[&[b"A0\n", b"A1\n", b"A1\na", b"E5\nInput/output error\n"]],
         Err(ReadFault::Refused {
-            asked: Asked::Read,
+            asked: VolumeRequest::Read,
             number: 5,
         }),
     ),
     (
         &[&[b"A0\n", b"A1\n", b"A0\n", b"E9\nBad file descriptor\n"]],
         Err(ReadFault::Refused {
-            asked: Asked::Close,
+            asked: VolumeRequest::Close,
             number: 9,
         }),
     ),
@@ -95,7 +95,7 @@ fn volumes(rt: HostRuntime) {
 #[test]
 fn a_fault_is_told(rt: HostRuntime) {
     let refused = ReadFault::Refused {
-        asked: Asked::Rewind,
+        asked: VolumeRequest::Rewind,
         number: 5,
     };
     let mut room = [0; 22];

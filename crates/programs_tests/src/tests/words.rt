@@ -1,7 +1,7 @@
 //! The words of both programs.
 
-use rmt_words::rdump_words;
-use rmtd_words::{is_device, number_of, server_line, server_words};
+use rdump_words::rdump_words;
+use rmtd_words::{server_line, server_words};
 use std::alloc::Global;
 use std::fmt::Debug;
 
@@ -101,7 +101,5 @@ fn words_and_what_they_say(rt: HostRuntime) {
     let read = server_words(rt.alloc(), &STDIO);
     let wanted =
         "Ok(ServerLine { stdio: true, listen: None, capacity: 1048576, connections: None, bin: None, drives: [] })";
-    assert!(rt;
-        is_shown(rt.alloc(), &read, wanted) && is_device(b"/dev/st0") && number_of("007") == Some(7)
-    );
+    assert!(rt; is_shown(rt.alloc(), &read, wanted));
 }

@@ -2,11 +2,12 @@
 
 mod entries;
 mod faults;
-mod file_medium;
+mod file;
 mod file_reel;
 mod list_reel;
 mod medium_calls;
 mod memory_medium;
+mod plain_medium;
 mod records;
 mod reel_calls;
 mod runs;

@@ -1,6 +1,6 @@
 //! What each request does, over the parts of a session.
 ghost use Rattle.std.specs.Prelude.{◌≡◌, ◌≤◌, ℕ, List, length, IfOk};
-ghost use Rattle.rmt_wire.specs.Limits.{data_limit};
+ghost use Rattle.rmt_wire.specs.declared.limits.TheConstants.{RECORD_LIMIT};
 ghost use Rattle.rmt_wire.specs.Lent.{plain_request};
 ghost use Rattle.drives.specs.Opening.{kinds};
 ghost use Rattle.rmt_server.specs.Session.{is_offline};
@@ -12,7 +12,7 @@ use crate::refusal::Refusal;
 use crate::session::{Desk, moving, opening, serving};
 use drives::{DriveTable, Holds, Stacks};
 use rmt_wire::Request;
-use tape::MTOFFL;
+use rmt_wire::mtio::MTOFFL;
 
 /// What a request gave.
 #[derive(Clone, Copy)]
@@ -50,7 +50,7 @@ pub(crate) fn dispatch<H: Holds, S: Stacks>(
     request: Request<'_>,
 ) -> Result<Given, Refusal>
     requires at { IsAt (kinds H.Holds S.Stacks S.Reel.Reel) (state drives.old desk.old) }
-    requires room { length buffer.old ≡ data_limit }
+    requires room { length buffer.old ≡ RECORD_LIMIT }
     ensures carried { CarriesOut (kinds H.Holds S.Stacks S.Reel.Reel) (state drives.old desk.old) (plain_request request.entry)
         (outcome_reply result buffer.new) (state drives.new desk.new) }
     ensures small { IsSayable (plain_request request.entry) → IsOutcomeSayable result }

@@ -1,6 +1,6 @@
 //! The requests that the open reel serves.
 ghost use Rattle.std.specs.Prelude.{◌≡◌, ℕ, ◌<◌, ◌≤◌, ◌&&◌, Some, None, IfOk, length};
-ghost use Rattle.rmt_wire.specs.Limits.{data_limit};
+ghost use Rattle.rmt_wire.specs.declared.limits.TheConstants.{RECORD_LIMIT};
 ghost use Rattle.rmt_wire.specs.Request.PlainRequest.{Write, WriteDropped, Read, Op};
 ghost use Rattle.rmt_server.specs.Session.{refusal, read_refusal, write_refusal, op_refusal};
 ghost use Rattle.rmt_server.specs.State.{status_at};
@@ -10,13 +10,14 @@ ghost use Rattle.rmt_server.specs.Serving.{ReelServes};
 use crate::access::Access;
 use crate::refusal::Refusal;
 use crate::session::Opened;
-use rmt_wire::DATA_LIMIT;
-use tape::{MTNOP, MTWEOF, Reel, TapeFault, is_record};
+use rmt_wire::RECORD_LIMIT;
+use rmt_wire::mtio::{MTNOP, MTWEOF};
+use tape::{Reel, TapeFault, is_record};
 
 /// Writes one record. It answers how many bytes were written: none where there is no room.
 pub(crate) fn write<R: Reel>(opened: &mut Option<Opened<R>>, bytes: &[u8]) -> Result<u32, Refusal>
     ensures call { ReelServes R.Reel opened.old opened.new (Write bytes.now) (number_reply result) }
-    ensures number { IfOk result (λ n. n ≤ data_limit) }
+    ensures number { IfOk result (λ n. n ≤ RECORD_LIMIT) }
 {
     let Some(device) = opened else {
         return Err(Refusal::BadDescriptor);
@@ -50,7 +51,7 @@ pub(crate) fn read<R: Reel>(
     into: &mut [u8],
     count: u32,
 ) -> Result<usize, Refusal>
-    requires { length into.old ≡ data_limit }
+    requires { length into.old ≡ RECORD_LIMIT }
     ensures call { ReelServes R.Reel opened.old opened.new (Read count) (data_reply result into.new) }
     ensures bound { IfOk result (λ n. n ≤ length into.new) }
 {
@@ -61,7 +62,7 @@ pub(crate) fn read<R: Reel>(
         return Err(Refusal::NotConfigured);
     };
     check_read(device.access, count)?;
-    let most = (count as usize).min(DATA_LIMIT);
+    let most = (count as usize).min(RECORD_LIMIT);
     match reel.read(&mut into[..most]) {
         Ok(n) => Ok(n),
         Err(fault) => Err(Refusal::of_tape(fault)),

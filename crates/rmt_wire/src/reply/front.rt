@@ -8,6 +8,7 @@ ghost use Rattle.rmt_wire.specs.Reply as kinds;
 ghost use Rattle.rmt_wire.specs.ReplyFront as spec;
 
 use crate::fault::WireFault;
+use crate::find::find_byte;
 use crate::limits::LINE_LIMIT;
 use crate::number::{Place, number_front};
 use crate::reply::Reply;
@@ -18,12 +19,7 @@ pub fn text_len(bytes: &[u8]) -> usize
     ensures value { result ≡ spec.text_len bytes.now }
     ensures within { result ≤ length bytes.now }
 {
-    for (len, byte) in bytes.iter().enumerate() {
-        if *byte == b'\n' {
-            return len;
-        }
-    }
-    bytes.len()
+    find_byte(bytes, b'\n').unwrap_or(bytes.len())
 }
 
 /// The error whose text begins these bytes, and how long it is with its first line, which has `len` bytes.

@@ -47,15 +47,15 @@ pub struct ReplyReader {
 impl Model for ReplyReader {
     ghost use Rattle.std.specs.Prelude.{◌≤◌, ◌+◌, length, drop};
     ghost use Rattle.rmt_wire.specs.Lent.{plain_wanted_if_some};
-    ghost use Rattle.rmt_wire.specs.Limits.{reader_limit};
+    ghost use Rattle.rmt_wire.specs.declared.limits.TheConstants.{READER_LIMIT};
     ghost use Rattle.rmt_wire.specs.ReplyReader.{ReplyHeld, reply_held, IsWithinIfSome};
 
     ghost Value = { ReplyHeld };
 
     ghost view = { λ r. reply_held (plain_wanted_if_some r.wanted) (drop r.start r.buffer.items) };
 
-    ghost invariant = { λ r. (r.start ≤ length r.buffer.items) × (length r.buffer.items ≤ reader_limit)
-        × (reader_limit ≤ length r.buffer.items + r.buffer.spare)
+    ghost invariant = { λ r. (r.start ≤ length r.buffer.items) × (length r.buffer.items ≤ READER_LIMIT)
+        × (READER_LIMIT ≤ length r.buffer.items + r.buffer.spare)
         × IsWithinIfSome (plain_wanted_if_some r.wanted) };
 }
 
@@ -96,7 +96,7 @@ impl ReplyReader {
 
     /// Waits for a reply of this kind, which is to begin with the next byte that is pushed.
     ///
-    /// Nothing may be waited for yet: the reply that was, if any, was given by `next`. Data are at most `DATA_LIMIT`
+    /// Nothing may be waited for yet: the reply that was, if any, was given by `next`. Data are at most `RECORD_LIMIT`
     /// bytes.
     ///
     /// No fault is cleared: where bytes were pushed while nothing was waited for, nothing is waited for after the call

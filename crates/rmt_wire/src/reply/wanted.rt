@@ -5,6 +5,6 @@
 pub enum Wanted {
     /// A number, `Reply::Done`: the reply to each request but a read.
     Number,
-    /// The bytes of a read, `Reply::Data`, of which there are at most so many. A reader waits for up to `DATA_LIMIT`.
+    /// The bytes of a read, `Reply::Data`, of which there are at most so many. A reader waits for up to `RECORD_LIMIT`.
     Data(u32),
 }

@@ -15,7 +15,7 @@ use std::alloc::AllocError;
 /// no text. Of a dropped write it appends the line alone.
 ///
 /// The request has a spelling: its device is one line of at most `LINE_LIMIT` bytes, its numbers are at most
-/// `NUMBER_LIMIT`, a write has at most `DATA_LIMIT` bytes, and a dropped write is of more.
+/// `NUMBER_LIMIT`, a write has at most `RECORD_LIMIT` bytes, and a dropped write is of more.
 ///
 /// It fails only where `out` has less spare room than the text has bytes and the memory for more is refused. Then `out`
 /// is as it was.

@@ -5,7 +5,7 @@ ghost use Rattle.rmt_wire.specs.RequestFront as spec;
 ghost use Rattle.rmt_wire.specs.Lent.{lent_front};
 
 use crate::fault::WireFault;
-use crate::limits::DATA_LIMIT;
+use crate::limits::RECORD_LIMIT;
 use crate::request::Request;
 use crate::request::head::{Head, head_of};
 
@@ -20,7 +20,7 @@ fn write_at(bytes: &[u8], count: u32, len: usize) -> Option<(Request<'_>, usize)
     if data.len() < size {
         return None;
     }
-    if size > DATA_LIMIT {
+    if size > RECORD_LIMIT {
         return Some((Request::WriteDropped { count }, len + size));
     }
     let bytes = &data[..size];

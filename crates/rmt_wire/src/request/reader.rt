@@ -2,11 +2,12 @@
 
 ghost use Rattle.std.specs.Prelude.{◌≡◌, ℕ, ◌+◌, ◌-◌, ◌≤◌, ◌<◌, ◌↔◌, List, [], ◌++◌, length, take, drop, min, IfOk, IfSome, IsTrue};
 ghost use Rattle.rmt_wire.specs.RequestReader as spec;
-ghost use Rattle.rmt_wire.specs.RequestReader.{Unread, IsDropped, taken_of, told, IsNext, StaysFaulty};
+ghost use Rattle.rmt_wire.specs.Request.{PlainRequest};
+ghost use Rattle.rmt_wire.specs.RequestReader.{Unread, IsDropped, IsGiven, taken_of, told, IsNext, StaysFaulty};
 
 use crate::fault::WireFault;
 use crate::kept::{append, remove};
-use crate::limits::{DATA_LIMIT, READER_LIMIT};
+use crate::limits::{READER_LIMIT, RECORD_LIMIT};
 use crate::number::{Place, number_front};
 use crate::request::Request;
 use crate::request::front::request_front;
@@ -14,7 +15,7 @@ use bytes::BytesMut;
 use std::alloc::{AllocError, Global};
 use std::marker::Model;
 
-/// The length of the line and the count of a write above `DATA_LIMIT` that the bytes begin with.
+/// The length of the line and the count of a write above `RECORD_LIMIT` that the bytes begin with.
 #[tactic(auto, unfolding(crate::specs::RequestReader::dropped_line))]
 fn dropped_line(bytes: &[u8]) -> Option<(usize, u32)>
     ensures value { result ≡ spec.dropped_line bytes.now }
@@ -24,7 +25,7 @@ fn dropped_line(bytes: &[u8]) -> Option<(usize, u32)>
         return None;
     };
     match number_front(rest, Place::Line) {
-        Ok(Some((count, digits))) if count as usize > DATA_LIMIT => Some((digits + 2, count)),
+        Ok(Some((count, digits))) if count as usize > RECORD_LIMIT => Some((digits + 2, count)),
         _ => None,
     }
 }
@@ -73,14 +74,14 @@ pub struct RequestReader {
 impl Model for RequestReader {
     ghost use Rattle.std.specs.Prelude.{◌≤◌, ◌+◌, ℕ, List, length, drop};
     ghost use Rattle.rmt_wire.specs.RequestReader.{RequestHeld, held, dropped_line, IsDropped};
-    ghost use Rattle.rmt_wire.specs.Limits.{reader_limit};
+    ghost use Rattle.rmt_wire.specs.declared.limits.TheConstants.{READER_LIMIT};
 
     ghost Value = { RequestHeld };
 
     ghost view = { λ r. held (drop r.start r.buffer.items) r.dropped };
 
-    ghost invariant = { λ r. (r.start ≤ length r.buffer.items) × (length r.buffer.items ≤ reader_limit)
-        × (reader_limit ≤ length r.buffer.items + r.buffer.spare)
+    ghost invariant = { λ r. (r.start ≤ length r.buffer.items) × (length r.buffer.items ≤ READER_LIMIT)
+        × (READER_LIMIT ≤ length r.buffer.items + r.buffer.spare)
         × IsDropped (dropped_line (drop r.start r.buffer.items)) r.dropped };
 }
 
@@ -136,6 +137,9 @@ impl RequestReader {
     pub fn push(&mut self, piece: &[u8]) -> usize
         ensures count { (bytes : List ℕ) → Unread self.old bytes → result ≡ min (length piece.now) (READER_LIMIT - taken_of bytes) }
         ensures unread { (bytes : List ℕ) → Unread self.old bytes → Unread self.new (bytes ++ take result piece.now) }
+        ensures given { (pushed : List ℕ) (requests : List PlainRequest) →
+            IsGiven self.old pushed requests → IsGiven self.new (pushed ++ take result piece.now) requests }
+        ensures limit { length self.new.kept ≤ READER_LIMIT }
     {
         self.let_go();
         let start = self.start;

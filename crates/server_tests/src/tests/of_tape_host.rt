@@ -4,7 +4,7 @@ use drives::ListStacks;
 use rmt_wire::{READER_LIMIT, WireFault};
 use std::alloc::Global;
 use tape::Trouble;
-use tape_host::{Answered, Asked, Carried, Host, Turn};
+use tape_host::{Answered, Carried, Host, RequestKind, Turn};
 
 /// Admits the next connection, if there is memory for it.
 fn join(host: &mut Host) {
@@ -61,7 +61,7 @@ static ROWS: [Row<'_>; 9] = [
         Trouble::None,
         false,
         Turn::Carried(Carried {
-            asked: Asked::Open { writes: true },
+            asked: RequestKind::Open { writes: true },
             answered: Answered::Number(0),
         }),
     ),
@@ -70,7 +70,7 @@ static ROWS: [Row<'_>; 9] = [
         Trouble::None,
         false,
         Turn::Carried(Carried {
-            asked: Asked::Write,
+            asked: RequestKind::Write,
             answered: Answered::Number(5),
         }),
     ),
@@ -79,7 +79,7 @@ static ROWS: [Row<'_>; 9] = [
         Trouble::Kept,
         false,
         Turn::Carried(Carried {
-            asked: Asked::Write,
+            asked: RequestKind::Write,
             answered: Answered::Error(5),
         }),
     ),
@@ -88,7 +88,7 @@ static ROWS: [Row<'_>; 9] = [
         Trouble::None,
         true,
         Turn::Carried(Carried {
-            asked: Asked::Marks,
+            asked: RequestKind::Marks,
             answered: Answered::Number(1),
         }),
     ),
@@ -97,7 +97,7 @@ static ROWS: [Row<'_>; 9] = [
         Trouble::Lost,
         false,
         Turn::Carried(Carried {
-            asked: Asked::Other,
+            asked: RequestKind::Other,
             answered: Answered::Number(1),
         }),
     ),
@@ -106,7 +106,7 @@ static ROWS: [Row<'_>; 9] = [
         Trouble::None,
         false,
         Turn::Carried(Carried {
-            asked: Asked::Other,
+            asked: RequestKind::Other,
             answered: Answered::Data,
         }),
     ),

@@ -1,16 +1,17 @@
 //! The image of an entry on a medium: how it is found there, and how it is put there.
 
 ghost use Rattle.std.specs.Prelude.{◌≡◌, ◌+◌, ◌*◌, ◌<◌, ◌≤◌, ◌^◌, IfOk, IfSome, IsErr, length, drop, replicate};
-ghost use Rattle.tape.specs.Tape.{Tape, IsRecord};
+ghost use Rattle.tape.specs.Tape.{IsRecord};
 ghost use Rattle.tape.specs.Tape.PlainEntry.{Record};
-ghost use Rattle.tape.specs.Medium.{MediumStep, medium_kind};
+ghost use Rattle.tape.specs.Medium.{MediumStep};
 ghost use Rattle.tape.specs.Medium.MediumCall.{Append};
-ghost use Rattle.tape.specs.RecordFile.{IsFile, image_of, length_bytes};
-ghost use Rattle.tape.specs.FileSteps.{IsRun, BeginsWith, IsWritten, ahead, first_length, size_by_length};
+ghost use Rattle.tape.specs.RecordFile.{image_of, length_bytes, medium_kind_of};
+ghost use Rattle.tape.specs.FileSteps.{IsMediumRun, LooksAlong, BeginsWith, IsImageWritten, ahead, first_length, size_by_length};
 ghost use Rattle.tape.specs.declared.file_reel.walk.Way.TheVariants.{Forward, Back};
 
 use crate::entry::{MARK_SIZE, RECORD_FRAME};
-use crate::{Medium, MediumFailed, RECORD_LIMIT};
+use crate::{Medium, MediumFailed};
+use rmt_wire::RECORD_LIMIT;
 
 /// No medium that tells its bytes has so many.
 const OFFSET_LIMIT: u64 = 1 << 63;
@@ -41,7 +42,7 @@ fn length_in(bytes: [u8; 4]) -> u32
 
 /// The length that stands from an offset on, where 4 bytes are there.
 fn length_at<M: Medium>(medium: &mut M, at: u64) -> Result<Option<u32>, MediumFailed>
-    ensures { IsRun (medium_kind M.holds M.failures M.can_fail M.spare)
+    ensures { IsMediumRun (medium_kind_of M.Medium)
         (λ old new. (new ≡ old) × IfOk result (BeginsWith (drop at old))) 0 (IsErr result) medium.old medium.new }
 {
     let mut bytes = [0u8; 4];
@@ -55,10 +56,9 @@ fn length_at<M: Medium>(medium: &mut M, at: u64) -> Result<Option<u32>, MediumFa
 /// The length of the entry that stands from an offset on, 0 for a mark. No length where none stands there whole: that
 /// is the end.
 pub(super) fn next_length<M: Medium>(medium: &mut M, at: u64) -> Result<Option<u32>, MediumFailed>
-    ensures run { IsRun (medium_kind M.holds M.failures M.can_fail M.spare)
-        (λ old new. (new ≡ old) × IfOk result (λ length. (t : Tape) → IsFile old at t → length ≡ first_length (ahead Forward t)))
-        0 (IsErr result) medium.old medium.new }
-    ensures limit { IfOk result (λ length. IfSome length (λ n. (n ≤ 65536) × (at < 2 ^ 63))) }
+    ensures run { LooksAlong (medium_kind_of M.Medium) at result
+        (λ bytes t length. length ≡ first_length (ahead Forward t)) medium.old medium.new }
+    ensures limit { IfOk result (λ length. IfSome length (λ n. (n ≤ RECORD_LIMIT) × (at < 2 ^ 63))) }
 {
     if at >= OFFSET_LIMIT {
         return Ok(None);
@@ -83,10 +83,9 @@ pub(super) fn next_length<M: Medium>(medium: &mut M, at: u64) -> Result<Option<u
 
 /// The length of the entry that ends at an offset, 0 for a mark. No length where none does: that is the beginning.
 pub(super) fn last_length<M: Medium>(medium: &mut M, at: u64) -> Result<Option<u32>, MediumFailed>
-    ensures run { IsRun (medium_kind M.holds M.failures M.can_fail M.spare)
-        (λ old new. (new ≡ old) × IfOk result (λ length. (t : Tape) → IsFile old at t → length ≡ first_length (ahead Back t)))
-        0 (IsErr result) medium.old medium.new }
-    ensures limit { IfOk result (λ length. IfSome length (λ n. (n ≤ 65536) × (size_by_length n ≤ at))) }
+    ensures run { LooksAlong (medium_kind_of M.Medium) at result
+        (λ bytes t length. length ≡ first_length (ahead Back t)) medium.old medium.new }
+    ensures limit { IfOk result (λ length. IfSome length (λ n. (n ≤ RECORD_LIMIT) × (size_by_length n ≤ at))) }
 {
     if at < MARK_SIZE {
         return Ok(None);
@@ -103,7 +102,7 @@ pub(super) fn last_length<M: Medium>(medium: &mut M, at: u64) -> Result<Option<u
 /// Adds the image of a record: its length, its bytes, and its length again.
 fn append_record<M: Medium>(medium: &mut M, bytes: &[u8]) -> Result<(), MediumFailed>
     requires { IsRecord bytes.now }
-    ensures { IsRun (medium_kind M.holds M.failures M.can_fail M.spare)
+    ensures { IsMediumRun (medium_kind_of M.Medium)
         (MediumStep (Append (image_of (Record bytes.now)) result)) (length bytes.now + 8) (IsErr result) medium.old medium.new }
 {
     let length = (bytes.len() as u32).to_le_bytes();
@@ -114,7 +113,7 @@ fn append_record<M: Medium>(medium: &mut M, bytes: &[u8]) -> Result<(), MediumFa
 fn append_zeros<M: Medium>(medium: &mut M, row: &[u8], count: u64) -> Result<(), MediumFailed>
     requires zeros { row.now ≡ replicate (length row.now) 0 }
     requires some { 0 < length row.now }
-    ensures { IsRun (medium_kind M.holds M.failures M.can_fail M.spare)
+    ensures { IsMediumRun (medium_kind_of M.Medium)
         (MediumStep (Append (replicate count 0) result)) count (IsErr result) medium.old medium.new }
 {
     let mut done: u64 = 0;
@@ -135,8 +134,8 @@ pub(super) fn put_record<M: Medium>(
     bytes: &[u8],
 ) -> Result<(), MediumFailed>
     requires { IsRecord bytes.now }
-    ensures { IsRun (medium_kind M.holds M.failures M.can_fail M.spare)
-        (IsWritten at (image_of (Record bytes.now)) result) (length bytes.now + 8) (IsErr result) medium.old medium.new }
+    ensures { IsMediumRun (medium_kind_of M.Medium)
+        (IsImageWritten at (image_of (Record bytes.now)) result) (length bytes.now + 8) (IsErr result) medium.old medium.new }
 {
     medium.cut(at)?;
     append_record(medium, bytes)
@@ -146,8 +145,8 @@ pub(super) fn put_record<M: Medium>(
 ///
 /// Answers `MediumFailed`. The bytes are the same then, or from the offset on stand the first bytes of their images.
 pub(super) fn put_marks<M: Medium>(medium: &mut M, at: u64, count: u32) -> Result<(), MediumFailed>
-    ensures { IsRun (medium_kind M.holds M.failures M.can_fail M.spare)
-        (IsWritten at (replicate (4 * count) 0) result) (4 * count) (IsErr result) medium.old medium.new }
+    ensures { IsMediumRun (medium_kind_of M.Medium)
+        (IsImageWritten at (replicate (4 * count) 0) result) (4 * count) (IsErr result) medium.old medium.new }
 {
     medium.cut(at)?;
     append_zeros(medium, &[0; ROW], u64::from(count) * MARK_SIZE)

@@ -1,10 +1,8 @@
 //! A walk along a reel, past marks or records.
 
-ghost use Rattle.std.specs.Prelude.{◌≡◌, ◌<◌, ◌≤◌, IfOk, IfSome, IsErr, MatchOption, MatchResult, []};
-ghost use Rattle.tape.specs.Tape.{Tape, marks_met, records_met, passed_for_marks, passed_for_records};
-ghost use Rattle.tape.specs.Medium.{medium_kind};
-ghost use Rattle.tape.specs.RecordFile.{IsFile};
-ghost use Rattle.tape.specs.FileSteps.{IsRun, IsPassed, IsWalked, ahead, way_left};
+ghost use Rattle.std.specs.Prelude.{◌≡◌, ◌<◌, ◌≤◌, IfOk, IfSome, MatchResult};
+ghost use Rattle.tape.specs.RecordFile.{medium_kind_of};
+ghost use Rattle.tape.specs.FileSteps.{LooksAlong, HasPassed, HasWalkedMarks, HasWalkedRecords, way_left};
 ghost use Rattle.tape.specs.declared.fault.TapeFault.TheVariants.{EndOrMark};
 ghost use Rattle.tape.specs.declared.file_reel.walk.Way.TheVariants.{Forward, Back};
 
@@ -22,7 +20,7 @@ pub(super) enum Way {
 
 /// An entry that was passed.
 #[derive(Drop)]
-struct Passed {
+struct PassedEntry {
     /// The offset on its other side.
     at: u64,
     /// Whether it is a mark.
@@ -51,45 +49,36 @@ impl Walked {
 }
 
 /// Passes the entry behind an offset. None is there at the end.
-fn pass_next<M: Medium>(medium: &mut M, at: u64) -> Result<Option<Passed>, MediumFailed>
-    ensures run { IsRun (medium_kind M.holds M.failures M.can_fail M.spare)
-        (λ old new. (new ≡ old) × IfOk result (λ passed. (t : Tape) → IsFile old at t →
-        MatchOption passed (ahead Forward t ≡ []) (λ p. (u : Tape) × IsFile old p.at u × IsPassed Forward t p.is_mark u)))
-        0 (IsErr result) medium.old medium.new }
+fn pass_next<M: Medium>(medium: &mut M, at: u64) -> Result<Option<PassedEntry>, MediumFailed>
+    ensures run { LooksAlong (medium_kind_of M.Medium) at result (HasPassed Forward) medium.old medium.new }
     ensures nearer { IfOk result (λ passed. IfSome passed (λ p. way_left Forward p.at < way_left Forward at)) }
 {
     let Some(length) = next_length(medium, at)? else {
         return Ok(None);
     };
-    Ok(Some(Passed {
+    Ok(Some(PassedEntry {
         at: at + size_of(length),
         is_mark: length == 0,
     }))
 }
 
 /// Passes the entry before an offset. None is there at the beginning.
-fn pass_last<M: Medium>(medium: &mut M, at: u64) -> Result<Option<Passed>, MediumFailed>
-    ensures run { IsRun (medium_kind M.holds M.failures M.can_fail M.spare)
-        (λ old new. (new ≡ old) × IfOk result (λ passed. (t : Tape) → IsFile old at t →
-        MatchOption passed (ahead Back t ≡ []) (λ p. (u : Tape) × IsFile old p.at u × IsPassed Back t p.is_mark u)))
-        0 (IsErr result) medium.old medium.new }
+fn pass_last<M: Medium>(medium: &mut M, at: u64) -> Result<Option<PassedEntry>, MediumFailed>
+    ensures run { LooksAlong (medium_kind_of M.Medium) at result (HasPassed Back) medium.old medium.new }
     ensures nearer { IfOk result (λ passed. IfSome passed (λ p. way_left Back p.at < way_left Back at)) }
 {
     let Some(length) = last_length(medium, at)? else {
         return Ok(None);
     };
-    Ok(Some(Passed {
+    Ok(Some(PassedEntry {
         at: at - size_of(length),
         is_mark: length == 0,
     }))
 }
 
 /// Passes the entry that is next on the way from an offset. None is there at the end, and at the beginning.
-fn pass<M: Medium>(medium: &mut M, way: Way, at: u64) -> Result<Option<Passed>, MediumFailed>
-    ensures run { IsRun (medium_kind M.holds M.failures M.can_fail M.spare)
-        (λ old new. (new ≡ old) × IfOk result (λ passed. (t : Tape) → IsFile old at t →
-        MatchOption passed (ahead way t ≡ []) (λ p. (u : Tape) × IsFile old p.at u × IsPassed way t p.is_mark u)))
-        0 (IsErr result) medium.old medium.new }
+fn pass<M: Medium>(medium: &mut M, way: Way, at: u64) -> Result<Option<PassedEntry>, MediumFailed>
+    ensures run { LooksAlong (medium_kind_of M.Medium) at result (HasPassed way) medium.old medium.new }
     ensures nearer { IfOk result (λ passed. IfSome passed (λ p. way_left way p.at < way_left way at)) }
 {
     match way {
@@ -107,10 +96,7 @@ pub(super) fn walk_files<M: Medium>(
     offset: u64,
     count: u32,
 ) -> Result<Walked, MediumFailed>
-    ensures run { IsRun (medium_kind M.holds M.failures M.can_fail M.spare)
-        (λ old new. (new ≡ old) × IfOk result (λ walked. (t : Tape) → IsFile old offset t →
-        IsWalked way count (marks_met (ahead way t)) (passed_for_marks count (ahead way t)) old t walked.at walked.left))
-        0 (IsErr result) medium.old medium.new }
+    ensures run { LooksAlong (medium_kind_of M.Medium) offset result (HasWalkedMarks way count) medium.old medium.new }
     ensures within { MatchResult result (λ walked. walked.left ≤ count) (λ _. 0 < count) }
 {
     let mut at = offset;
@@ -136,10 +122,7 @@ pub(super) fn walk_records<M: Medium>(
     offset: u64,
     count: u32,
 ) -> Result<Walked, MediumFailed>
-    ensures run { IsRun (medium_kind M.holds M.failures M.can_fail M.spare)
-        (λ old new. (new ≡ old) × IfOk result (λ walked. (t : Tape) → IsFile old offset t →
-        IsWalked way count (records_met (ahead way t)) (passed_for_records count (ahead way t)) old t walked.at walked.left))
-        0 (IsErr result) medium.old medium.new }
+    ensures run { LooksAlong (medium_kind_of M.Medium) offset result (HasWalkedRecords way count) medium.old medium.new }
     ensures within { MatchResult result (λ walked. walked.left ≤ count) (λ _. 0 < count) }
 {
     let mut at = offset;

@@ -8,7 +8,7 @@ ghost use Rattle.dump_client.specs.declared.stage.Stage.TheVariants.{Ready};
 ghost use Rattle.tape_events.specs.Events.PlainEvent.{StartRun, Connect, Respond, ClientRestart, EndAtClient, Enter};
 ghost use Rattle.tape_events.specs.Rows.{NoRun, StandsIn};
 ghost use Rattle.tape_world.specs.Holding.{IsEvent};
-ghost use Rattle.tape_world.specs.Calling.{Answers, SeesEnd, IsBegunWith, IsReady, Starts, IsPlaced, over_own};
+ghost use Rattle.tape_world.specs.Calling.{ClientAnswers, ClientSeesEnd, IsBegunWith, IsReady, Starts, IsPlaced, over_own};
 ghost use Rattle.tape_world.specs.Seen.{seen_link};
 ghost use Rattle.tape_world.specs.declared.caller.Begun.{Begun as RealBegun};
 
@@ -16,7 +16,7 @@ use super::Ends;
 use crate::caller::{Begun, Caller};
 use crate::dumping::Dumping;
 use crate::link::{self, Link, find};
-use crate::stop::Stop;
+use crate::stop::EventStop;
 use dump_client::{Answer, AttemptFault, Client, ListBlocks, Progress, Run, State};
 use std::alloc::{AllocError, Global};
 
@@ -104,23 +104,23 @@ fn change_caller(caller: &mut Option<Caller>, new: Option<Caller>)
 /// The client, which is ready, starts an attempt. Answers what that has come to.
 ///
 /// Fails where memory is refused. Nothing has changed then.
-fn start_attempt(caller: &mut Option<Caller>) -> Result<Dumping, Stop>
+fn start_attempt(caller: &mut Option<Caller>) -> Result<Dumping, EventStop>
     requires { IsReady caller.old }
     ensures { Starts caller.old result caller.new }
 {
     let Some(caller) = caller else {
-        return Err(Stop::NotPossible);
+        return Err(EventStop::NotPossible);
     };
     let (volume, first) = caller.client.checkpoint();
     if caller.client.start().is_err() {
-        return Err(Stop::OutOfMemory);
+        return Err(EventStop::OutOfMemory);
     }
     Ok(Dumping::new(caller.number, volume, first))
 }
 
 /// The client, if there is one, takes the operator's answer.
 fn give_answer(caller: &mut Option<Caller>, answer: Answer)
-    ensures { Answers caller.old answer caller.new }
+    ensures { ClientAnswers caller.old answer caller.new }
 {
     if let Some(caller) = caller {
         let _ = caller.client.answer(answer);
@@ -139,7 +139,7 @@ fn end_own(links: &mut [Link], own: Option<usize>)
 
 /// The client, if there is one, sees that its connection ended. Answers what that made fail.
 fn end_attempt(caller: &mut Option<Caller>) -> Option<(u32, AttemptFault)>
-    ensures { SeesEnd caller.old result caller.new }
+    ensures { ClientSeesEnd caller.old result caller.new }
 {
     let Some(caller) = caller else {
         return None;
@@ -172,12 +172,12 @@ impl Ends {
     }
 
     /// A run of this payload is begun, and a client for it.
-    pub(crate) fn start_run(&mut self, run: &Run, payload: &[u8]) -> Result<(), Stop>
+    pub(crate) fn start_run(&mut self, run: &Run, payload: &[u8]) -> Result<(), EventStop>
         ensures { IsEvent self.old (StartRun run.now payload.now) result self.new }
     {
         let bytes = run.blocks() as usize * run.block_bytes();
         if !self.has_no_run() || payload.len() != bytes {
-            return Err(Stop::NotPossible);
+            return Err(EventStop::NotPossible);
         }
         let client = begin(self.alloc, &mut self.begun, run, payload)?;
         let caller = Caller {
@@ -190,11 +190,11 @@ impl Ends {
     }
 
     /// The client starts an attempt, on a new connection.
-    pub(crate) fn connect(&mut self) -> Result<(), Stop>
+    pub(crate) fn connect(&mut self) -> Result<(), EventStop>
         ensures { IsEvent self.old Connect result self.new }
     {
         if !self.stands_in(State::Ready) {
-            return Err(Stop::NotPossible);
+            return Err(EventStop::NotPossible);
         }
         self.links.reserve(1)?;
         self.host.prepare()?;
@@ -208,11 +208,11 @@ impl Ends {
     }
 
     /// The operator answers the client, which asks after an attempt failed.
-    pub(crate) fn respond(&mut self, answer: Answer) -> Result<(), Stop>
+    pub(crate) fn respond(&mut self, answer: Answer) -> Result<(), EventStop>
         ensures { IsEvent self.old (Respond answer) result self.new }
     {
         if !self.stands_in(State::Asking) {
-            return Err(Stop::NotPossible);
+            return Err(EventStop::NotPossible);
         }
         give_answer(&mut self.caller, answer);
         self.books.failure = None;
@@ -220,11 +220,11 @@ impl Ends {
     }
 
     /// The client forgets its run. Its own connection, if it has one, is over on its side.
-    pub(crate) fn client_restart(&mut self) -> Result<(), Stop>
+    pub(crate) fn client_restart(&mut self) -> Result<(), EventStop>
         ensures { IsEvent self.old ClientRestart result self.new }
     {
         if self.caller.is_none() {
-            return Err(Stop::NotPossible);
+            return Err(EventStop::NotPossible);
         }
         end_own(&mut self.links, self.own);
         self.own = None;
@@ -234,14 +234,14 @@ impl Ends {
     }
 
     /// The side that is not the server's sees that the connection ended.
-    pub(crate) fn end_at_client(&mut self, connection: usize) -> Result<(), Stop>
+    pub(crate) fn end_at_client(&mut self, connection: usize) -> Result<(), EventStop>
         ensures { IsEvent self.old (EndAtClient connection) result self.new }
     {
         let Some(link) = find(&self.links, connection) else {
-            return Err(Stop::NotPossible);
+            return Err(EventStop::NotPossible);
         };
         if !link.other || !link.cut {
-            return Err(Stop::NotPossible);
+            return Err(EventStop::NotPossible);
         }
         let is_strangers = link.dump.is_none();
         link::end_there(&mut self.links, connection);
@@ -255,21 +255,21 @@ impl Ends {
     }
 
     /// The finished run is entered in dumpdates.
-    pub(crate) fn enter(&mut self) -> Result<(), Stop>
+    pub(crate) fn enter(&mut self) -> Result<(), EventStop>
         ensures { IsEvent self.old Enter result self.new }
     {
         let Some(caller) = &self.caller else {
-            return Err(Stop::NotPossible);
+            return Err(EventStop::NotPossible);
         };
         let Some(entry) = caller.client.finished() else {
-            return Err(Stop::NotPossible);
+            return Err(EventStop::NotPossible);
         };
         if self.books.entered.contains(&caller.number) {
-            return Err(Stop::NotPossible);
+            return Err(EventStop::NotPossible);
         }
         self.books.entered.reserve(1)?;
         if self.dates.enter(entry).is_err() {
-            return Err(Stop::OutOfMemory);
+            return Err(EventStop::OutOfMemory);
         }
         self.books.entered.push_reserved(caller.number);
         self.books.failure = None;

@@ -4,11 +4,11 @@ ghost use Rattle.tape_world.specs.Running.{plain_event};
 
 use super::Ends;
 use crate::event::Event;
-use crate::stop::Stop;
+use crate::stop::EventStop;
 
 impl Ends {
     /// Makes one event.
-    pub(crate) fn make(&mut self, event: &Event<'_>) -> Result<(), Stop>
+    pub(crate) fn make(&mut self, event: &Event<'_>) -> Result<(), EventStop>
         ensures { IsEvent self.old (plain_event event.now) result self.new }
     {
         match *event {

@@ -1,23 +1,23 @@
 //! What the client hears of its server.
 ghost use Rattle.std.specs.Prelude.{◌≡◌, ◌==◌, ◌<◌, ◌≤◌, ◌++◌, length, map, option_to_list, slice_get};
 ghost use Rattle.std.specs.Vec.{vec_capacity, vec_len};
-ghost use Rattle.tape_events.specs.Changes.{changed, reel_of};
+ghost use Rattle.tape_events.specs.Changes.{changed, reel_opened_by};
 ghost use Rattle.tape_events.specs.Events.PlainEvent.{ToClient};
 ghost use Rattle.tape_world.specs.Calling.{failure_of};
 ghost use Rattle.tape_world.specs.Hearing.{HasHeard, IsAttempting, count_in, heard_on, is_over, own_after};
 ghost use Rattle.tape_world.specs.Holding.{IsEvent};
-ghost use Rattle.tape_world.specs.Seen.{name_at, names_in, seen_link, seen_opening};
+ghost use Rattle.tape_world.specs.Seen.{name_at, book_names, seen_link, seen_opening};
 
 use super::Ends;
 use crate::books::{Books, Count, Opening};
 use crate::caller::Caller;
 use crate::link::{self, Link, find};
-use crate::stop::Stop;
+use crate::stop::EventStop;
 use dump_client::{AttemptFault, Client, ListBlocks, Progress, State, VolumeCount};
 
 /// What came of bytes that the client heard.
 #[derive(Clone, Copy)]
-struct Heard {
+struct PieceHeard {
     /// The number of its run.
     run: usize,
     /// The volume that was counted, if one was.
@@ -53,12 +53,12 @@ fn count_at(counts: &[VolumeCount], place: usize) -> Option<VolumeCount>
 }
 
 /// The client, which is in an attempt, hears these bytes.
-fn hear(caller: &mut Option<Caller>, piece: &[u8]) -> Heard
+fn hear(caller: &mut Option<Caller>, piece: &[u8]) -> PieceHeard
     requires { IsAttempting caller.old }
     ensures { HasHeard caller.old piece.now result caller.new }
 {
     let Some(caller) = caller else {
-        return Heard {
+        return PieceHeard {
             run: 0,
             count: None,
             is_over: false,
@@ -69,7 +69,7 @@ fn hear(caller: &mut Option<Caller>, piece: &[u8]) -> Heard
     prove!(matches!(state, State::ToSend | State::Waiting));
     let before = caller.client.counted().len();
     let progress = caller.client.feed(piece);
-    Heard {
+    PieceHeard {
         run: caller.number,
         count: count_at(caller.client.counted(), before),
         is_over: is_over(progress),
@@ -79,8 +79,8 @@ fn hear(caller: &mut Option<Caller>, piece: &[u8]) -> Heard
 
 /// The place of the name of the reel that the connection opened first, or past all names where it opened none.
 fn reel_of(books: &Books, connection: usize) -> usize
-    ensures { name_at (names_in books.now) result
-        ≡ reel_of connection (map (seen_opening (names_in books.now)) books.now.opens.items) }
+    ensures { name_at (book_names books.now) result
+        ≡ reel_opened_by connection (map (seen_opening (book_names books.now)) books.now.opens.items) }
 {
     for opening in &books.opens {
         if opening.connection == connection {
@@ -91,7 +91,7 @@ fn reel_of(books: &Books, connection: usize) -> usize
 }
 
 /// The volume that was counted, if one was, is kept, with its connection and the place of its reel's name.
-fn keep(counts: &mut Vec<Count>, heard: &Heard, reel: usize, connection: usize)
+fn keep(counts: &mut Vec<Count>, heard: &PieceHeard, reel: usize, connection: usize)
     requires { vec_len counts.old < vec_capacity counts.old }
     ensures { counts.new.items ≡ counts.old.items ++ map (count_in heard.now.run reel connection) (option_to_list heard.now.count) }
 {
@@ -130,15 +130,15 @@ fn settle(
 
 impl Ends {
     /// So many of the bytes on the way reach the other side.
-    pub(crate) fn to_client(&mut self, connection: usize, count: usize) -> Result<(), Stop>
+    pub(crate) fn to_client(&mut self, connection: usize, count: usize) -> Result<(), EventStop>
         ensures { IsEvent self.old (ToClient connection count) result self.new }
     {
         let Some(link) = find(&self.links, connection) else {
-            return Err(Stop::NotPossible);
+            return Err(EventStop::NotPossible);
         };
         let way = link.back.bytes();
         if !link.other || count == 0 || way.len() < count {
-            return Err(Stop::NotPossible);
+            return Err(EventStop::NotPossible);
         }
         if link.dump.is_none() {
             link::come_back(&mut self.links, connection, count);

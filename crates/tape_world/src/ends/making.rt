@@ -4,8 +4,8 @@ ghost use Rattle.std.specs.List.{flat_map};
 ghost use Rattle.drives.specs.Shop.{EachReelOnce, IsDriveNamed};
 ghost use Rattle.drives.specs.ListShop.{IsShop, shop_of, StacksCanFail};
 ghost use Rattle.tape_events.specs.First.{AreGoodDrives, first_world};
-ghost use Rattle.tape_world.specs.Making.{plain_drive, reels_of, blank_slots, laid_shop, with_laid, with_slots};
-ghost use Rattle.tape_world.specs.Seen.{names_in};
+ghost use Rattle.tape_world.specs.Making.{plain_drive_spec, reels_of, blank_slots, laid_shop, with_laid, with_slots};
+ghost use Rattle.tape_world.specs.Seen.{book_names};
 
 use super::Ends;
 use crate::books::Books;
@@ -58,7 +58,7 @@ fn add_drive(stacks: &mut ListStacks, drive: &DriveSpec<'_>) -> Result<(), Alloc
 
 /// Stacks of these drives, with their reels, which are empty.
 fn stacks_of(alloc: Global, drives: &[DriveSpec<'_>]) -> Result<ListStacks, AllocError>
-    requires { AreGoodDrives (map plain_drive drives.now) }
+    requires { AreGoodDrives (map plain_drive_spec drives.now) }
     ensures laid { IfOk result (λ s. s.shop ≡ laid_shop drives.now) }
     ensures told { IfOk result (λ s. IsShop s (shop_of s)) }
     ensures quiet { IfOk result (λ s. StacksCanFail s → ⊥) }
@@ -94,7 +94,7 @@ fn push_names(alloc: Global, names: &mut Vec<Vec<u8>>, more: &[&[u8]]) -> Result
 
 /// Books with the names of all reels of these drives, and nothing else.
 fn books_of(alloc: Global, drives: &[DriveSpec<'_>]) -> Result<Books, AllocError>
-    ensures names { IfOk result (λ b. names_in b ≡ flat_map reels_of drives.now) }
+    ensures names { IfOk result (λ b. book_names b ≡ flat_map reels_of drives.now) }
     ensures counts { IfOk result (λ b. b.counts.items ≡ []) }
     ensures opens { IfOk result (λ b. b.opens.items ≡ []) }
     ensures entered { IfOk result (λ b. b.entered.items ≡ []) }
@@ -114,8 +114,8 @@ impl Ends {
     ///
     /// It fails only where memory is refused.
     pub(crate) fn new(alloc: Global, drives: &[DriveSpec<'_>]) -> Result<Ends, AllocError>
-        requires { AreGoodDrives (map plain_drive drives.now) }
-        ensures { IfOk result (λ w. w ≡ first_world (map plain_drive drives.now)) }
+        requires { AreGoodDrives (map plain_drive_spec drives.now) }
+        ensures { IfOk result (λ w. w ≡ first_world (map plain_drive_spec drives.now)) }
     {
         let stacks = stacks_of(alloc, drives)?;
         let host = Host::new(alloc, drives.len(), stacks)?;
@@ -124,8 +124,8 @@ impl Ends {
 
     /// The same, over a host that stands.
     fn with_host(alloc: Global, drives: &[DriveSpec<'_>], host: Host) -> Result<Ends, AllocError>
-        requires { host.hall ≡ (first_world (map plain_drive drives.now)).hall }
-        ensures { IfOk result (λ w. w ≡ first_world (map plain_drive drives.now)) }
+        requires { host.hall ≡ (first_world (map plain_drive_spec drives.now)).hall }
+        ensures { IfOk result (λ w. w ≡ first_world (map plain_drive_spec drives.now)) }
     {
         let books = books_of(alloc, drives)?;
         Ok(Ends {

@@ -4,24 +4,24 @@ ghost use Rattle.tape_events.specs.Events.PlainEvent.{Arrange};
 ghost use Rattle.tape_world.specs.Holding.{IsEvent};
 
 use super::Ends;
-use crate::stop::Stop;
+use crate::stop::EventStop;
 
 impl Ends {
     /// The operator lays these reels on the stack of a drive that nobody has open.
-    pub(crate) fn arrange(&mut self, drive: &[u8], reels: &[&[u8]]) -> Result<(), Stop>
+    pub(crate) fn arrange(&mut self, drive: &[u8], reels: &[&[u8]]) -> Result<(), EventStop>
         ensures { IsEvent self.old (Arrange drive.now (map (λ n. n.now) reels.now)) result self.new }
     {
         let Some(place) = self.host.drive(drive) else {
-            return Err(Stop::NotPossible);
+            return Err(EventStop::NotPossible);
         };
         if self.host.holder(place) != 0 {
-            return Err(Stop::NotPossible);
+            return Err(EventStop::NotPossible);
         }
         if !self.host.can_arrange(place, reels) {
-            return Err(Stop::NotPossible);
+            return Err(EventStop::NotPossible);
         }
         if self.host.arrange(place, reels).is_err() {
-            return Err(Stop::OutOfMemory);
+            return Err(EventStop::OutOfMemory);
         }
         self.books.failure = None;
         Ok(())

@@ -4,22 +4,22 @@ ghost use Rattle.tape_world.specs.Holding.{IsEvent};
 
 use super::Ends;
 use crate::link::{self, find};
-use crate::stop::Stop;
+use crate::stop::EventStop;
 
 impl Ends {
     /// So many of the bytes that are on the way reach the server.
-    pub(crate) fn to_server(&mut self, connection: usize, count: usize) -> Result<(), Stop>
+    pub(crate) fn to_server(&mut self, connection: usize, count: usize) -> Result<(), EventStop>
         ensures { IsEvent self.old (ToServer connection count) result self.new }
     {
         let Some(room) = self.host.room(connection) else {
-            return Err(Stop::NotPossible);
+            return Err(EventStop::NotPossible);
         };
         let Some(link) = find(&self.links, connection) else {
-            return Err(Stop::NotPossible);
+            return Err(EventStop::NotPossible);
         };
         let way = link.toward.bytes();
         if count == 0 || way.len() < count || room < count {
-            return Err(Stop::NotPossible);
+            return Err(EventStop::NotPossible);
         }
         self.host.push(connection, &way[..count]);
         link::arrive(&mut self.links, connection, count);
@@ -28,14 +28,14 @@ impl Ends {
     }
 
     /// The server sees that the connection ended.
-    pub(crate) fn end_at_server(&mut self, connection: usize) -> Result<(), Stop>
+    pub(crate) fn end_at_server(&mut self, connection: usize) -> Result<(), EventStop>
         ensures { IsEvent self.old (EndAtServer connection) result self.new }
     {
         let Some(link) = find(&self.links, connection) else {
-            return Err(Stop::NotPossible);
+            return Err(EventStop::NotPossible);
         };
         if !link.cut || self.host.room(connection).is_none() {
-            return Err(Stop::NotPossible);
+            return Err(EventStop::NotPossible);
         }
         self.host.end(connection);
         link::end_here(&mut self.links, connection);
@@ -44,7 +44,7 @@ impl Ends {
     }
 
     /// The server is started again: the server's sides of all connections are over.
-    pub(crate) fn server_restart(&mut self) -> Result<(), Stop>
+    pub(crate) fn server_restart(&mut self) -> Result<(), EventStop>
         ensures { IsEvent self.old ServerRestart result self.new }
     {
         self.host.restart();

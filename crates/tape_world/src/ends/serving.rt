@@ -8,18 +8,18 @@ ghost use Rattle.tape_host.specs.Halls.{side_at};
 ghost use Rattle.tape_events.specs.Changes.{changed, first_name, opening};
 ghost use Rattle.tape_events.specs.Events.PlainEvent.{Serve};
 ghost use Rattle.tape_world.specs.Holding.{IsEvent};
-ghost use Rattle.tape_world.specs.Seen.{seen_link, seen_opening};
-ghost use Rattle.tape_world.specs.Serving.{IsKnown, IsOnlineIn, IsOpenedIn, Serves, name_online_at, opened_in};
+ghost use Rattle.tape_world.specs.Seen.{seen_link, seen_openings};
+ghost use Rattle.tape_world.specs.Serving.{IsKnown, IsOnlineIn, IsOpenedIn, TurnServes, name_online_at, opened_in};
 
 use super::Ends;
 use crate::books::Opening;
 use crate::link::{Link, find};
-use crate::stop::Stop;
+use crate::stop::EventStop;
 use drives::ListedReel;
 use rmt_wire::READER_LIMIT;
 use std::alloc::AllocError;
 use tape::Trouble;
-use tape_host::{Asked, Host, Turn};
+use tape_host::{Host, RequestKind, Turn};
 
 /// The server's side of a connection takes one turn, and what came of it is noted.
 ///
@@ -30,7 +30,7 @@ fn take_turn(
     connection: usize,
     trouble: Trouble,
 ) -> Result<Turn, AllocError>
-    ensures taken { IfOk result (λ turn. Serves trouble host.old connection turn host.new
+    ensures taken { IfOk result (λ turn. TurnServes trouble host.old connection turn host.new
         (λ f. seen_link link.new ≡ f (seen_link link.old))) }
     ensures refused { OnErr result ((seen_link link.new ≡ seen_link link.old) × (host.new ≡ host.old)) }
 {
@@ -49,7 +49,7 @@ fn take_turn_at(
 ) -> Result<Turn, AllocError>
     requires first { 1 ≤ connection }
     requires last { connection ≤ length links.old }
-    ensures taken { IfOk result (λ turn. Serves trouble host.old connection turn host.new
+    ensures taken { IfOk result (λ turn. TurnServes trouble host.old connection turn host.new
         (λ f. map seen_link links.new ≡ changed f (map seen_link links.old) connection)) }
     ensures refused { OnErr result ((map seen_link links.new ≡ map seen_link links.old) × (host.new ≡ host.old)) }
 {
@@ -84,7 +84,7 @@ fn name_opened(host: &Host, connection: usize, turn: Turn) -> Option<&[u8]>
     let Turn::Carried(carried) = turn else {
         return None;
     };
-    let Asked::Open { writes: true } = carried.asked else {
+    let RequestKind::Open { writes: true } = carried.asked else {
         return None;
     };
     name_online(host, connection)
@@ -114,8 +114,7 @@ fn note_opening(
     requires there { IsOpenedIn host.now.hall connection turn }
     requires known { (name : List ℕ) → opened_in host.now.hall connection turn ≡ Some name
         → IsKnown (map (λ n. n.items) names.now) name }
-    ensures { map (seen_opening (map (λ n. n.items) names.now)) opens.new.items
-        ≡ map (seen_opening (map (λ n. n.items) names.now)) opens.old.items
+    ensures { seen_openings names.now opens.new.items ≡ seen_openings names.now opens.old.items
         ++ option_to_list (option_map (opening connection) (opened_in host.now.hall connection turn)) }
 {
     let Some(name) = name_opened(host, connection, turn) else {
@@ -128,16 +127,16 @@ fn note_opening(
 impl Ends {
     /// The server carries out one request that reached it, whose device call fails so, or finds that what reached it is
     /// none.
-    pub(crate) fn serve(&mut self, connection: usize, trouble: Trouble) -> Result<(), Stop>
+    pub(crate) fn serve(&mut self, connection: usize, trouble: Trouble) -> Result<(), EventStop>
         ensures { IsEvent self.old (Serve connection trouble) result self.new }
     {
         if find(&self.links, connection).is_none() {
-            return Err(Stop::NotPossible);
+            return Err(EventStop::NotPossible);
         }
         self.books.opens.reserve(1)?;
         let turn = take_turn_at(&mut self.host, &mut self.links, connection, trouble)?;
         if let Turn::Nothing = turn {
-            return Err(Stop::NotPossible);
+            return Err(EventStop::NotPossible);
         }
         note_opening(
             &mut self.books.opens,

@@ -1,7 +1,7 @@
 //! What the client says to its server.
 ghost use Rattle.std.specs.Prelude.{◌≡◌, ◌≤◌, List, ℕ, [], IfOk, OnErr, length, map};
 ghost use Rattle.std.specs.Vec.{vec_capacity};
-ghost use Rattle.rmt_wire.specs.Limits.{reader_limit};
+ghost use Rattle.rmt_wire.specs.declared.limits.TheConstants.{READER_LIMIT};
 ghost use Rattle.tape_events.specs.Changes.{changed};
 ghost use Rattle.tape_events.specs.Events.PlainEvent.{Send};
 ghost use Rattle.tape_world.specs.Holding.{IsEvent};
@@ -11,7 +11,7 @@ ghost use Rattle.tape_world.specs.Talking.{Asks, IsToSend, talked};
 use super::Ends;
 use crate::caller::Caller;
 use crate::link::Link;
-use crate::stop::Stop;
+use crate::stop::EventStop;
 use dump_client::{AttemptFault, State};
 use rmt_wire::READER_LIMIT;
 use std::alloc::{AllocError, Global};
@@ -20,7 +20,7 @@ use std::alloc::{AllocError, Global};
 fn ask(caller: &mut Option<Caller>, fails: bool, out: &mut Vec<u8>) -> Option<(u32, AttemptFault)>
     requires sends { IsToSend caller.old }
     requires empty { out.old.items ≡ [] }
-    requires room { reader_limit ≤ vec_capacity out.old }
+    requires room { READER_LIMIT ≤ vec_capacity out.old }
     ensures { Asks caller.old fails out.new.items result caller.new }
 {
     let Some(caller) = caller else {
@@ -85,14 +85,14 @@ fn send_own(
 impl Ends {
     /// The client sends its next request. Where `fails` is true, and the request is a block's write, the read of the block
     /// fails.
-    pub(crate) fn send(&mut self, fails: bool) -> Result<(), Stop>
+    pub(crate) fn send(&mut self, fails: bool) -> Result<(), EventStop>
         ensures { IsEvent self.old (Send fails) result self.new }
     {
         if !self.stands_in(State::ToSend) {
-            return Err(Stop::NotPossible);
+            return Err(EventStop::NotPossible);
         }
         let Some(own) = self.own else {
-            return Err(Stop::NotPossible);
+            return Err(EventStop::NotPossible);
         };
         let failure = send_own(self.alloc, &mut self.links, own, &mut self.caller, fails)?;
         if failure.is_some() {

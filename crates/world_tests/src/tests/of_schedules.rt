@@ -4,4 +4,5 @@ mod bad_lines;
 mod faults;
 mod fixture;
 mod memory;
+mod program;
 mod runs;

@@ -1,7 +1,7 @@
 use Rattle.std.proofs.Common.{Ok, ◌∙◌, ap, sym, subst, arith, ◌++◌, ◌+◌, ◌-◌, drop, length}
 use Rattle.std.proofs.lemmas.List.{append-nil, take_all, take_rest, length-drop, length-take}
 use Rattle.rmt_wire.specs.Reply.Wanted.{Number}
-use Rattle.dump_client.specs.Listening.{IsWaiting}
+use Rattle.dump_client.specs.Listening.{IsReaderWaiting}
 use Rattle.dump_client.proofs.Listening.{push_some, so_far, none_yet, reply_then, reply_last, noise}
 use Rattle.dump_client.proofs.listen.listen.Goals as goal
 
@@ -66,10 +66,10 @@ returns-in-Err c = record {
 }
 
 pub loop-at-init : goal.loop-at-init
-loop-at-init c = (omega arith, c.requires.waiting, λ bytes u. subst (IsWaiting Number c.args.reader.now) (sym (append-nil bytes)) u)
+loop-at-init c = (omega arith, c.requires.waiting, λ bytes u. subst (IsReaderWaiting Number c.args.reader.now) (sym (append-nil bytes)) u)
 
 pub returns : goal.returns
 returns c = record {
   listened = λ bytes u.
-      subst (λ l. IsWaiting Number c.loop-at.reader (bytes ++ l)) (take_all c.loop-at.at c.args.piece.now c.loop-at-test.false) (c.loop-at.invariant.2 bytes u);
+      subst (λ l. IsReaderWaiting Number c.loop-at.reader (bytes ++ l)) (take_all c.loop-at.at c.args.piece.now c.loop-at-test.false) (c.loop-at.invariant.2 bytes u);
 }

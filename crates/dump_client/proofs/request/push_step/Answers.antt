@@ -1,6 +1,7 @@
 use Rattle.std.proofs.Common.{refl, ◌∙◌, ap}
 use Rattle.std.specs.Vec.{vec_capacity}
 use Rattle.rmt_wire.specs.Request.PlainRequest.{Open, Write, Op, Close}
+use Rattle.rmt_wire.specs.declared.mtio.TheConstants.{MTOFFL, MTREW, MTWEOF}
 use Rattle.dump_run.specs.Label as labels
 use Rattle.dump_client.specs.Standing.{checkpoint_of}
 use Rattle.dump_client.specs.declared.step.Step.TheVariants as steps
@@ -16,7 +17,7 @@ returns-in-Open-clause-appended g c =
 -- src/request.rt:27:1
 pub returns-in-Rewind-clause-appended : goal.returns-in-Rewind-clause-appended
 returns-in-Rewind-clause-appended g c =
-    appended_at (g.B.Blocks.holds c.args.source.now) c.args.ledger.now.at c.args.step steps.Rewind (Op 5 1) (vec_capacity c.args.out.now) c.args.out.now.items
+    appended_at (g.B.Blocks.holds c.args.source.now) c.args.ledger.now.at c.args.step steps.Rewind (Op MTREW 1) (vec_capacity c.args.out.now) c.args.out.now.items
     c.push_op.result c.push_op.new.out.items c.in-Rewind.is (λ payload t. refl, refl) c.push_op.ensures
 
 -- src/request.rt:27:1
@@ -24,7 +25,7 @@ pub returns-in-Label-clause-appended : goal.returns-in-Label-clause-appended
 returns-in-Label-clause-appended g c =
     let at = checkpoint_of c.args.ledger.now.at.counts in
     appended_at (g.B.Blocks.holds c.args.source.now) c.args.ledger.now.at c.args.step steps.Label (Write (labels.label c.args.ledger.now.at.run at.0 at.1)) (vec_capacity c.args.out.now)
-    c.args.out.now.items c.push_label.result c.push_label.new.out.items c.in-Label.is (λ payload t. refl, refl) c.push_label.ensures
+    c.args.out.now.items c.push_label.result c.push_label.new.out.items c.in-Label.is (λ payload t. refl, refl) c.push_label.ensures.pushed
 
 -- src/request.rt:27:1
 pub returns-in-Ok-clause-appended : goal.returns-in-Ok-clause-appended
@@ -48,13 +49,13 @@ returns-in-Err-clause-read g c =
 -- src/request.rt:27:1
 pub returns-in-Mark-clause-appended : goal.returns-in-Mark-clause-appended
 returns-in-Mark-clause-appended g c =
-    appended_at (g.B.Blocks.holds c.args.source.now) c.args.ledger.now.at c.args.step (steps.Mark c.in-Mark.field-0) (Op 0 1) (vec_capacity c.args.out.now) c.args.out.now.items
+    appended_at (g.B.Blocks.holds c.args.source.now) c.args.ledger.now.at c.args.step (steps.Mark c.in-Mark.field-0) (Op MTWEOF 1) (vec_capacity c.args.out.now) c.args.out.now.items
     c.push_op-in-Mark.result c.push_op-in-Mark.new.out.items c.in-Mark.is (λ payload t. refl, refl) c.push_op-in-Mark.ensures
 
 -- src/request.rt:27:1
 pub returns-in-Unload-clause-appended : goal.returns-in-Unload-clause-appended
 returns-in-Unload-clause-appended g c =
-    appended_at (g.B.Blocks.holds c.args.source.now) c.args.ledger.now.at c.args.step (steps.Unload c.in-Unload.field-0) (Op 6 1) (vec_capacity c.args.out.now) c.args.out.now.items
+    appended_at (g.B.Blocks.holds c.args.source.now) c.args.ledger.now.at c.args.step (steps.Unload c.in-Unload.field-0) (Op MTOFFL 1) (vec_capacity c.args.out.now) c.args.out.now.items
     c.push_op-in-Unload.result c.push_op-in-Unload.new.out.items c.in-Unload.is (λ payload t. refl, refl) c.push_op-in-Unload.ensures
 
 pub returns-in-Open-clause-counted : goal.returns-in-Open-clause-counted
@@ -69,42 +70,42 @@ returns-in-Open-clause-able g c =
 
 pub returns-in-Rewind-clause-counted : goal.returns-in-Rewind-clause-counted
 returns-in-Rewind-clause-counted g c =
-    pushed_counted (Op 5 1) (vec_capacity c.args.out.now) c.args.out.now.items c.push_op.result c.push_op.new.out.items
+    pushed_counted (Op MTREW 1) (vec_capacity c.args.out.now) c.args.out.now.items c.push_op.result c.push_op.new.out.items
     (g.B.Blocks.failures c.args.source.now) c.push_op.ensures
 
 pub returns-in-Rewind-clause-able : goal.returns-in-Rewind-clause-able
 returns-in-Rewind-clause-able g c =
-    pushed_able (Op 5 1) (vec_capacity c.args.out.now) c.args.out.now.items c.push_op.result c.push_op.new.out.items
+    pushed_able (Op MTREW 1) (vec_capacity c.args.out.now) c.args.out.now.items c.push_op.result c.push_op.new.out.items
     (g.B.Blocks.can_fail c.args.source.now) c.push_op.ensures
 
 pub returns-in-Label-clause-counted : goal.returns-in-Label-clause-counted
 returns-in-Label-clause-counted g c =
-    pushed_counted (Write (labels.label c.args.ledger.now.at.run (checkpoint_of c.args.ledger.now.at.counts).0 (checkpoint_of c.args.ledger.now.at.counts).1)) (vec_capacity c.args.out.now) c.args.out.now.items c.push_label.result c.push_label.new.out.items
-    (g.B.Blocks.failures c.args.source.now) c.push_label.ensures
+    ap g.B.Blocks.failures c.push_label.ensures.same_source ∙ pushed_counted (Write (labels.label c.args.ledger.now.at.run (checkpoint_of c.args.ledger.now.at.counts).0 (checkpoint_of c.args.ledger.now.at.counts).1)) (vec_capacity c.args.out.now) c.args.out.now.items c.push_label.result c.push_label.new.out.items
+    (g.B.Blocks.failures c.args.source.now) c.push_label.ensures.pushed
 
 pub returns-in-Label-clause-able : goal.returns-in-Label-clause-able
 returns-in-Label-clause-able g c =
     pushed_able (Write (labels.label c.args.ledger.now.at.run (checkpoint_of c.args.ledger.now.at.counts).0 (checkpoint_of c.args.ledger.now.at.counts).1)) (vec_capacity c.args.out.now) c.args.out.now.items c.push_label.result c.push_label.new.out.items
-    (g.B.Blocks.can_fail c.args.source.now) c.push_label.ensures
+    (g.B.Blocks.can_fail c.args.source.now) c.push_label.ensures.pushed
 
 pub returns-in-Mark-clause-counted : goal.returns-in-Mark-clause-counted
 returns-in-Mark-clause-counted g c =
-    pushed_counted (Op 0 1) (vec_capacity c.args.out.now) c.args.out.now.items c.push_op-in-Mark.result c.push_op-in-Mark.new.out.items
+    pushed_counted (Op MTWEOF 1) (vec_capacity c.args.out.now) c.args.out.now.items c.push_op-in-Mark.result c.push_op-in-Mark.new.out.items
     (g.B.Blocks.failures c.args.source.now) c.push_op-in-Mark.ensures
 
 pub returns-in-Mark-clause-able : goal.returns-in-Mark-clause-able
 returns-in-Mark-clause-able g c =
-    pushed_able (Op 0 1) (vec_capacity c.args.out.now) c.args.out.now.items c.push_op-in-Mark.result c.push_op-in-Mark.new.out.items
+    pushed_able (Op MTWEOF 1) (vec_capacity c.args.out.now) c.args.out.now.items c.push_op-in-Mark.result c.push_op-in-Mark.new.out.items
     (g.B.Blocks.can_fail c.args.source.now) c.push_op-in-Mark.ensures
 
 pub returns-in-Unload-clause-counted : goal.returns-in-Unload-clause-counted
 returns-in-Unload-clause-counted g c =
-    pushed_counted (Op 6 1) (vec_capacity c.args.out.now) c.args.out.now.items c.push_op-in-Unload.result c.push_op-in-Unload.new.out.items
+    pushed_counted (Op MTOFFL 1) (vec_capacity c.args.out.now) c.args.out.now.items c.push_op-in-Unload.result c.push_op-in-Unload.new.out.items
     (g.B.Blocks.failures c.args.source.now) c.push_op-in-Unload.ensures
 
 pub returns-in-Unload-clause-able : goal.returns-in-Unload-clause-able
 returns-in-Unload-clause-able g c =
-    pushed_able (Op 6 1) (vec_capacity c.args.out.now) c.args.out.now.items c.push_op-in-Unload.result c.push_op-in-Unload.new.out.items
+    pushed_able (Op MTOFFL 1) (vec_capacity c.args.out.now) c.args.out.now.items c.push_op-in-Unload.result c.push_op-in-Unload.new.out.items
     (g.B.Blocks.can_fail c.args.source.now) c.push_op-in-Unload.ensures
 
 pub returns-in-Close-clause-counted : goal.returns-in-Close-clause-counted

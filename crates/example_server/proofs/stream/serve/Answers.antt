@@ -1,109 +1,62 @@
-use Rattle.std.proofs.Common.{◌++◌, [], refl, arith, take, subst, ◌∙◌}
-use Rattle.std.proofs.KnownBytes.{Consumes-nil, Consumes-trans}
-use Rattle.std.proofs.lemmas.List.{length-take}
+use Rattle.std.proofs.Common.{◌++◌, [], ◌∷◌, Ok, refl, ap, subst, ◌∙◌}
+use Rattle.std.proofs.KnownBytes.{Consumes-nil, Consumes-trans, Appends-nil}
+use Rattle.std.proofs.lemmas.Result.{err_from_is_err_and}
 use Rattle.rmt_wire.specs.Counted.{HasRisen}
-use Rattle.rmt_wire.specs.RequestReader.{Unread}
-use Rattle.example_server.proofs.Answering.{answered_none, answered_on, stopped, consumes_kept, consumes_none, risen, spelled_more, pushed}
+use Rattle.rmt_wire.specs.Lent.{plain_request}
+use Rattle.rmt_wire.specs.Reply.{reply_text}
+use Rattle.rmt_wire.proofs.Given.{answered, answer_begun, next_is}
+use Rattle.example_server.specs.Serving.{answer_to}
 use Rattle.example_server.proofs.stream.serve.Goals as goal
 
-pub loop-requests-init : goal.loop-requests-init
-loop-requests-init g c = record {
-  read = [];
-  requests = [];
-  rest = [];
-  consumed = Consumes-nil (g.R.Read.remaining c.args.input.now.inner);
-  answered = answered_none (g.W.Write.contents c.args.output.now.inner) [];
-  unread = c.requires;
-  reads = refl;
-  writes = refl;
-}
+pub loop-fault-init : goal.loop-fault-init
+loop-fault-init g c =
+    record { read = []; requests = []; consumed = Consumes-nil _; given = ([], c.requires, refl); written = Appends-nil _; reads = refl; writes = refl }
 
-pub returns-in_err-answer_all : goal.returns-in_err-answer_all
-returns-in_err-answer_all g c =
-    stopped g.R.Read.remaining g.W.Write.contents c.args.input.now c.loop-requests.input c.args.output.now c.loop-requests.output c.answer_all.new.output
-    c.loop-requests.requests c.answer_all.new.requests c.in_err-answer_all.field-0.0 c.from_residual.result c.from_residual.ensures.1 c.loop-requests.invariant
-    c.in_err-answer_all.ensures
-
-pub returns-in-Err : goal.returns-in-Err
-returns-in-Err g c =
-    let s = c.loop-requests.invariant in
-    let a = c.in_ok-answer_all.ensures s.rest s.unread in
-    let w = answered_on g.W.Write.contents c.args.output.now c.loop-requests.output c.answer_all.new.output c.answer_all.new.requests s.read s.rest s.requests s.answered a in
+pub loop-fault-preserved-in-Continue-1 : goal.loop-fault-preserved-in-Continue-1
+loop-fault-preserved-in-Continue-1 g c =
+    let s = c.loop-fault.invariant in
+    let request = plain_request c.in-Ok-Some.request in
+    let next = next_is _ _ _ _ c.next.follows.holds-at-none (c.in-Ok-Some.is ∙ ap Ok c.in-Ok-Some.field-0-is) in
     record {
       read = s.read;
-      requests = s.requests ++ a.requests;
-      rest = a.rest;
-      consumed = consumes_kept _ _ _ s.read s.consumed c.in-Err.ensures.bytes;
-      spelled = w.spelled;
-      written = w.written;
-      ends = (a.stops.1, a.stops.2);
-      fails = (subst (λ n. HasRisen n c.read.new.self.failures) s.reads (risen _ _ c.in-Err.ensures.failures), a.stops.4 ∙ s.writes);
+      requests = s.requests ++ request ∷ [];
+      consumed = s.consumed;
+      given = next.gives_on s.read s.requests s.given;
+      written = answered (λ r. reply_text (answer_to r)) _ _ _ s.requests request s.written (rw c.answer.ensures.value at c.in_ok-write_reply-in-Ok-Some.ensures.written);
+      reads = s.reads;
+      writes = c.in_ok-write_reply-in-Ok-Some.ensures.steady ∙ s.writes;
     }
 
-pub returns-in-Ok-eq0 : goal.returns-in-Ok-eq0
-returns-in-Ok-eq0 g c =
-    let s = c.loop-requests.invariant in
-    let a = c.in_ok-answer_all.ensures s.rest s.unread in
-    let w = answered_on g.W.Write.contents c.args.output.now c.loop-requests.output c.answer_all.new.output c.answer_all.new.requests s.read s.rest s.requests s.answered a in
-    let room = c.room.ensures a.rest a.stops.0 in
-    let some = a.stops.3 in
-    let most = c.min-most.ensures in
-    let same = c.read.auto.buf in
-    let slice = length-take c.min-most.result c.loop-requests.piece in
-    record {
+pub returns-in_err-write_reply-in-Ok-Some : goal.returns-in_err-write_reply-in-Ok-Some
+returns-in_err-write_reply-in-Ok-Some g c =
+    let s = c.loop-fault.invariant in
+    let request = plain_request c.in-Ok-Some.request in
+    let next = next_is _ _ _ _ c.next.follows.holds-at-none (c.in-Ok-Some.is ∙ ap Ok c.in-Ok-Some.field-0-is) in
+    let given = next.gives_on s.read s.requests s.given in
+    let stop = err_from_is_err_and c.from_residual.result c.from_residual.ensures.1 in
+    rw (stop.1, stop.2) record {
       read = s.read;
-      requests = s.requests ++ a.requests;
-      rest = a.rest;
-      consumed = consumes_none _ _ _ s.read c.read.new.buf _ c.in-Ok-eq0.field-0-test s.consumed c.in-Ok-eq0.ensures.bytes.0;
-      spelled = w.spelled;
-      written = w.written;
-      ends = ((c.is_empty.ensures.value a.rest a.stops.0).0 c.if-is_empty.true, c.in-Ok-eq0.ensures.bytes.1 c.in-Ok-eq0.field-0-test (omega arith));
-      fails = (c.in-Ok-eq0.ensures.failures ∙ s.reads, a.stops.4 ∙ s.writes);
+      requests = s.requests ++ request ∷ [];
+      rest = given.0;
+      consumed = s.consumed;
+      spelled = given.2;
+      written = answer_begun (λ r. reply_text (answer_to r)) _ _ _ s.requests request s.written (rw c.answer.ensures.value at c.in_err-write_reply-in-Ok-Some.ensures.beginning);
+      ends = tt;
+      fails = (s.reads, subst (λ n. HasRisen n c.write_reply.new.out.failures) s.writes c.in_err-write_reply-in-Ok-Some.ensures.fault);
     }
 
-pub returns-in-Ok-eq0-2 : goal.returns-in-Ok-eq0-2
-returns-in-Ok-eq0-2 g c =
-    let s = c.loop-requests.invariant in
-    let a = c.in_ok-answer_all.ensures s.rest s.unread in
-    let w = answered_on g.W.Write.contents c.args.output.now c.loop-requests.output c.answer_all.new.output c.answer_all.new.requests s.read s.rest s.requests s.answered a in
-    let room = c.room.ensures a.rest a.stops.0 in
-    let some = a.stops.3 in
-    let most = c.min-most.ensures in
-    let same = c.read.auto.buf in
-    let slice = length-take c.min-most.result c.loop-requests.piece in
+pub loop-fault-preserved : goal.loop-fault-preserved
+loop-fault-preserved g c =
+    let s = c.loop-fault.invariant in
+    let f = c.in-Ok.ensures.came in
+    let next = next_is _ _ _ _ c.next.follows.holds-at-none (c.in-Ok-None.is ∙ ap Ok c.in-Ok-None.field-0-is) in
+    let given = next.gives_on s.read s.requests s.given in
     record {
-      read = s.read;
-      requests = s.requests ++ a.requests;
-      rest = a.rest;
-      consumed = consumes_none _ _ _ s.read c.read.new.buf _ c.in-Ok-eq0.field-0-test s.consumed c.in-Ok-eq0.ensures.bytes.0;
-      spelled = w.spelled;
-      written = w.written;
-      ends = (
-        λ none. (let full = (c.is_empty.ensures.value a.rest a.stops.0).1 none in let no = c.if-is_empty.false in cc),
-        a.stops.1,
-        a.stops.2,
-        c.in-Ok-eq0.ensures.bytes.1 c.in-Ok-eq0.field-0-test (omega arith),
-      );
-      fails = (c.in-Ok-eq0.ensures.failures ∙ s.reads, a.stops.4 ∙ s.writes);
-    }
-
-pub loop-requests-preserved : goal.loop-requests-preserved
-loop-requests-preserved g c =
-    let s = c.loop-requests.invariant in
-    let a = c.in_ok-answer_all.ensures s.rest s.unread in
-    let w = answered_on g.W.Write.contents c.args.output.now c.loop-requests.output c.answer_all.new.output c.answer_all.new.requests s.read s.rest s.requests s.answered a in
-    let room = c.room.ensures a.rest a.stops.0 in
-    let most = c.min-most.ensures in
-    let same = c.read.auto.buf in
-    let slice = length-take c.min-most.result c.loop-requests.piece in
-    let part = take c.in-Ok.count c.read.new.buf in
-    record {
-      read = s.read ++ part;
-      requests = s.requests ++ a.requests;
-      rest = a.rest ++ part;
-      consumed = Consumes-trans _ _ _ s.read part s.consumed c.in-Ok.ensures.bytes.0;
-      answered = record { spelled = spelled_more s.read a.rest part (s.requests ++ a.requests) w.spelled; written = w.written };
-      unread = subst (λ x. Unread c.push.new.self (a.rest ++ x)) (pushed _ _ c.in-Ok.count c.read.new.buf _ c.in-Ok.ensures.bound.0 (omega arith) (c.push.ensures.count a.rest a.stops.0)) (c.push.ensures.unread a.rest a.stops.0);
-      reads = c.in-Ok.ensures.failures ∙ s.reads;
-      writes = a.stops.4 ∙ s.writes;
+      read = s.read ++ f.came;
+      requests = s.requests;
+      consumed = Consumes-trans _ _ _ s.read f.came s.consumed f.consumed;
+      given = f.given s.read s.requests (given.0, given.1, given.2);
+      written = s.written;
+      reads = c.in-Ok.ensures.steady ∙ s.reads;
+      writes = s.writes;
     }

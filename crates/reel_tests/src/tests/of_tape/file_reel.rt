@@ -1,9 +1,10 @@
 //! Reels on bytes that were written by hand.
 
 use super::reel_calls::{Call, Wanted, answers};
+use rmt_wire::mtio::{MTBSF, MTBSR, MTFSF, MTFSR, MTNOP, MTWEOF};
 use std::alloc::{AllocError, Global};
 use std::test::Fail;
-use tape::{FileReel, MTBSF, MTBSR, MTFSF, MTFSR, MTNOP, MTWEOF, MemoryMedium, TapeFault};
+use tape::{FileReel, MemoryMedium, TapeFault};
 
 /// A record `abc` and a record `de`.
 const TWO: &[u8] = b"\x03\0\0\0abc\x03\0\0\0\x02\0\0\0de\x02\0\0\0";
@@ -102,5 +103,34 @@ fn its_entries_are_what_the_medium_spells(rt: HostRuntime) -> Result<(), Fail> {
     for (bytes, calls, after) in &RUNS {
         assert!(&rt; goes(rt.alloc(), bytes, calls, after)?);
     }
+    Ok(())
+}
+
+/// A record and a mark, on a reel that has none.
+const WRITES: &[Wanted] = &[
+    (Call::Write(b"hello"), Ok(b"")),
+    (Call::Op(MTWEOF, 1), Ok(b"")),
+];
+
+/// The same, from the beginning of the reel.
+const FINDS: &[Wanted] = &[
+    (Call::Read(8), Ok(b"hello")),
+    (Call::Op(MTFSF, 1), Ok(b"")),
+    (Call::Op(MTFSF, 1), Err(TapeFault::EndOrMark)),
+];
+
+/// Whether what is written to a reel is found where its medium is opened again.
+fn is_found_again(mut reel: FileReel<MemoryMedium>) -> bool {
+    if !answers(&mut reel, WRITES) {
+        return false;
+    }
+    let mut again = FileReel::open(reel.into_medium(), 100);
+    answers(&mut again, FINDS)
+}
+
+#[test]
+fn its_medium_is_opened_again(rt: HostRuntime) -> Result<(), Fail> {
+    let reel = reel_on(rt.alloc(), b"")?;
+    assert!(&rt; is_found_again(reel));
     Ok(())
 }

@@ -1,8 +1,9 @@
 //! Reels in memory, by tables of calls, and what they tell of their entries.
 
 use super::reel_calls::{Call, Wanted, answers};
+use rmt_wire::mtio::MTWEOF;
 use std::alloc::Global;
-use tape::{ListReel, MTWEOF, Reel};
+use tape::{ListReel, Reel};
 
 /// Whether a new reel of this capacity answers the calls as is wanted, and tells no failure.
 pub(crate) fn goes(alloc: Global, capacity: u64, calls: &[Wanted]) -> bool {

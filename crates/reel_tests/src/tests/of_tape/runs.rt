@@ -2,8 +2,9 @@
 
 use super::reel_calls::{Call, Wanted};
 use super::{list_reel, troubled_reel};
+use rmt_wire::mtio::{MTBSF, MTBSR, MTFSF, MTFSR, MTNOP, MTREW, MTWEOF};
 use std::alloc::Global;
-use tape::{MTBSF, MTBSR, MTFSF, MTFSR, MTNOP, MTREW, MTWEOF, TapeFault};
+use tape::TapeFault;
 
 /// A capacity, and calls of a new reel of that capacity.
 type Run = (u64, &'static [Wanted]);

@@ -1,11 +1,9 @@
 //! Reels whose next device call fails, by tables of calls.
 
 use super::reel_calls::{Call, Wanted, answers};
+use rmt_wire::mtio::{MTBSF, MTBSR, MTFSF, MTFSR, MTWEOF};
 use std::alloc::Global;
-use tape::{
-    ListReel, MTBSF, MTBSR, MTFSF, MTFSR, MTWEOF, Reel, TapeFault, Trouble, TroubledReel,
-    device_steps,
-};
+use tape::{ListReel, Reel, TapeFault, Trouble, TroubledReel, device_steps};
 
 /// A place on a reel of the records `abc` and `de`, a call there with the trouble that is set for it, and the entries
 /// that stand afterwards; one of no bytes is a mark.

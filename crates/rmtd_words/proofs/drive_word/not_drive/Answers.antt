@@ -1,4 +1,4 @@
-use Rattle.std.proofs.Common.{rules, arith, subst, ◌≡◌, true, false}
+use Rattle.std.proofs.Common.{rules, arith, subst, ◌≡◌, true}
 use Rattle.std.specs.List.{All}
 use Rattle.rmtd_words.specs.Drive.{IsDrive}
 use Rattle.rmtd_words.proofs.Places.{all_said, each_at, each_yet}

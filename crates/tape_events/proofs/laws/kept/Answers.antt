@@ -1,4 +1,4 @@
-use Rattle.tape_events.proofs.Staying.{first_kept, kept_after, runs_kept, kept_names, no_two_holders, reels_labelled, reels_counted, dumpdates_gained, sent_requests, latched_reels, clients_counts}
+use Rattle.tape_events.proofs.Staying.{first_kept, kept_after, runs_kept, kept_names, headline, no_two_holders, reels_labelled, reels_counted, dumpdates_gained, sent_requests, latched_reels, clients_counts}
 use Rattle.tape_events.specs.First.{first_world}
 use Rattle.tape_events.proofs.laws.kept.Goals as goal
 
@@ -27,6 +27,9 @@ returns-clause-runs c = λ drives events w good run. runs_kept record {
 
 pub returns-clause-names : goal.returns-clause-names
 returns-clause-names c = kept_names
+
+pub returns-clause-headline : goal.returns-clause-headline
+returns-clause-headline c = headline
 
 pub returns-clause-holders : goal.returns-clause-holders
 returns-clause-holders c = λ w kept. kept.held

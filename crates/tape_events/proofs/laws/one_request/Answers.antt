@@ -8,8 +8,8 @@ pub returns-clause-carries : goal.returns-clause-carries
 returns-clause-carries c = carries
 
 pub returns-clause-next_request : goal.returns-clause-next_request
-returns-clause-next_request c = λ w u k trouble t l d kept at dump.
-    next_request c.one_reading.ensures.answers c.dropped_writes.ensures w u (carries_serves w u k trouble t) l d kept.told at dump
+returns-clause-next_request c = λ w u k trouble t d kept has.
+    next_request c.one_reading.ensures.answers c.dropped_writes.ensures w u (carries_serves w u k trouble t) has.0 d kept.told has.1 has.2
 
 pub returns-clause-stale_requests : goal.returns-clause-stale_requests
 returns-clause-stale_requests c = λ w u k trouble t kept.
@@ -20,5 +20,5 @@ returns-clause-others_stay c = λ w u k trouble t kept.
     (stale_requests w u k trouble t kept.held (held_after w (Serve k trouble) u (carries_happens w u k trouble t) kept.held)).1
 
 pub returns-clause-whole_at_the_move : goal.returns-clause-whole_at_the_move
-returns-clause-whole_at_the_move c = λ w u k trouble t l d kept at dump done.
-    whole_at_the_move c.one_reading.ensures.answers c.dropped_writes.ensures w u (carries_serves w u k trouble t) l d kept at dump done
+returns-clause-whole_at_the_move c = λ w u k trouble t d kept has done.
+    whole_at_the_move c.one_reading.ensures.answers c.dropped_writes.ensures w u (carries_serves w u k trouble t) has.0 d kept has.1 has.2 done

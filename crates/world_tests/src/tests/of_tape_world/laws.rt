@@ -1,6 +1,8 @@
 //! The laws of the world as plain data, each called once, and what a world tells of itself.
 
-ghost use Rattle.tape_events.specs.Kept.{IsKept};
+ghost use Rattle.tape_events.specs.Headline.{Headline};
+ghost use Rattle.tape_events.specs.Further.{LabelledReels};
+ghost use Rattle.tape_events.specs.Kept.{IsWorldKept};
 
 use super::world::new_world;
 use std::test::Fail;
@@ -15,9 +17,11 @@ fn each_law_is_called(_rt: HostRuntime) {
     smooth();
 }
 
-/// What is kept holds of the world that is asked.
+/// The headline, and what is kept, hold of the world that is asked.
 fn ask(world: &World)
-    ensures { IsKept world.now }
+    ensures headline { Headline world.now }
+    ensures labelled_reels { LabelledReels world.now }
+    ensures kept { IsWorldKept world.now }
 {
     world.kept();
 }

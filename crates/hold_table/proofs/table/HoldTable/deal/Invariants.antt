@@ -1,4 +1,5 @@
 use Rattle.std.proofs.Common.{◌≡◌, ◌+◌, ◌-◌, ◌≤◌}
+use Rattle.hold_table.specs.declared.table.TheConstants.{SEAT_LIMIT}
 use Rattle.drives.specs.Holding.{newcomer}
 use Rattle.hold_table.specs.Rule.{seated}
 use Rattle.hold_table.specs.Seats.{dealt}
@@ -6,10 +7,10 @@ use Rattle.hold_table.proofs.table.HoldTable.deal.Given as goal
 
 abbrev pub invariant-loop-dealt : goal.invariant-loop-dealt
 invariant-loop-dealt l =
-    (l.dealt ≤ 31)
+    (l.dealt ≤ SEAT_LIMIT - 1)
     × (l.seat.table_id ≡ l.self)
-    × (l.seat.me.0 ≡ seated (newcomer (l.dealt + 1)) 0 (31 - l.dealt))
+    × (l.seat.me.0 ≡ seated (newcomer (l.dealt + 1)) 0 (SEAT_LIMIT - 1 - l.dealt))
     × (l.seats.items ≡ dealt l.self l.dealt)
 
 abbrev pub decreases-loop-dealt : goal.decreases-loop-dealt
-decreases-loop-dealt l = 31 - l.dealt
+decreases-loop-dealt l = SEAT_LIMIT - 1 - l.dealt

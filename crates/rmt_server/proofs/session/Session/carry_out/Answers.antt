@@ -2,7 +2,7 @@ use Rattle.std.proofs.Common.{◌≡◌, length, take, refl, Ok, Err, rules, ari
 use Rattle.std.proofs.lemmas.Grind.{common_steps}
 use Rattle.drives.specs.Opening.{kinds}
 use Rattle.rmt_wire.specs.Lent.{plain_request}
-use Rattle.rmt_wire.specs.Limits.{data_limit}
+use Rattle.rmt_wire.specs.declared.limits.TheConstants.{RECORD_LIMIT}
 use Rattle.rmt_wire.specs.Reply.PlainReply.{Data}
 use Rattle.rmt_server.specs.State.{state}
 use Rattle.rmt_server.specs.Carrying.{CarriesOut}
@@ -19,7 +19,7 @@ returns-in-Ok-Bytes g c =
     let new = state c.dispatch-outcome.new.drives c.dispatch-outcome.new.desk in
     let same : c.as_slice.result.now ≡ c.dispatch-outcome.new.buffer = grind (arith, common_steps) in
     let effect : CarriesOut k old (plain_request c.args.request) (Data (take c.in-Ok-Bytes.count c.dispatch-outcome.new.buffer)) new = search rules in
-    let full : length c.dispatch-outcome.new.buffer ≡ data_limit = omega (arith, c.dispatch-outcome.auto.buffer, c.as_mut_slice.ensures.len, c.self.invariant) in
+    let full : length c.dispatch-outcome.new.buffer ≡ RECORD_LIMIT = omega (arith, c.dispatch-outcome.auto.buffer, c.as_mut_slice.ensures.len, c.self.invariant) in
     rw same (
       (refl, λ x. tt, carried k old (plain_request c.args.request) _ new c.requires effect),
       record {
@@ -51,7 +51,7 @@ returns-in-Err g c =
     let new = state c.dispatch-outcome.new.drives c.dispatch-outcome.new.desk in
     let buffer = c.dispatch-outcome.new.buffer in
     let effect : CarriesOut k old (plain_request c.args.request) (refused c.in-Err.refusal) new = search rules in
-    let full : length buffer ≡ data_limit = omega (arith, c.dispatch-outcome.auto.buffer, c.as_mut_slice.ensures.len, c.self.invariant) in
+    let full : length buffer ≡ RECORD_LIMIT = omega (arith, c.dispatch-outcome.auto.buffer, c.as_mut_slice.ensures.len, c.self.invariant) in
     rw c.reply.ensures (
       (refl, λ x. tt, carried k old (plain_request c.args.request) _ new c.requires effect),
       record { rests = tt; spelling = λ s. outcome_spelled (Err c.in-Err.refusal) buffer full tt; short = λ s. outcome_short (Err c.in-Err.refusal) buffer full tt },

@@ -1,12 +1,7 @@
-use Rattle.std.proofs.Common.{arith}
-use Rattle.std.proofs.lemmas.Grind.{common_steps}
+use Rattle.std.proofs.Common.{length, ap, ◌∙◌}
+use Rattle.std.specs.Option.{unwrap_or}
+use Rattle.rmt_wire.proofs.Texts.{found_len}
 use Rattle.rmt_wire.proofs.reply.front.text_len.Goals as goal
 
-pub returns-then-byte-eq10-clause-value : goal.returns-then-byte-eq10-clause-value
-returns-then-byte-eq10-clause-value c = grind (arith, common_steps)
-
-pub loop-len-preserved : goal.loop-len-preserved
-loop-len-preserved c = grind (arith, common_steps)
-
 pub returns-clause-value : goal.returns-clause-value
-returns-clause-value c = grind (arith, common_steps)
+returns-clause-value c = c.unwrap_or.ensures ∙ ap (λ r. unwrap_or r (length c.args.bytes.now)) c.find_byte.ensures.place ∙ found_len c.args.bytes.now

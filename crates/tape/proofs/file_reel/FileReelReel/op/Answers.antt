@@ -2,7 +2,7 @@ use Rattle.std.proofs.Common.{◌≡◌, arith}
 use Rattle.std.proofs.lemmas.Bool.Decides.{nat_tests}
 use Rattle.tape.specs.Tape.{op_request}
 use Rattle.tape.specs.Tape.TapeRequest.{Unknown}
-use Rattle.tape.specs.Medium.{medium_kind}
+use Rattle.tape.specs.RecordFile.{medium_kind_of}
 use Rattle.tape.proofs.ReelCalls.{nothing_call, unknown_call}
 use Rattle.tape.proofs.file_reel.FileReelReel.op.Goals as goal
 
@@ -25,10 +25,10 @@ pub returns-in-5 : goal.returns-in-5
 returns-in-5 g c = rw c.in-5.is c.rewind.ensures
 
 pub returns-in-7 : goal.returns-in-7
-returns-in-7 g c = rw c.in-7.is (nothing_call (medium_kind g.M.Medium.holds g.M.Medium.failures g.M.Medium.can_fail g.M.Medium.spare) c.args.self.now)
+returns-in-7 g c = rw c.in-7.is (nothing_call (medium_kind_of g.M.Medium) c.args.self.now)
 
 pub returns-in_default : goal.returns-in_default
 returns-in_default g c =
     let h = c.in_default in
     let e : op_request c.args.op c.args.count ≡ Unknown = grind (arith, nat_tests) in
-    rw e (unknown_call (medium_kind g.M.Medium.holds g.M.Medium.failures g.M.Medium.can_fail g.M.Medium.spare) c.args.self.now)
+    rw e (unknown_call (medium_kind_of g.M.Medium) c.args.self.now)

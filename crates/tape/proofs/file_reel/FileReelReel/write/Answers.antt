@@ -1,11 +1,11 @@
 use Rattle.std.proofs.Common.{◌+◌, length}
-use Rattle.tape.specs.Medium.{medium_kind}
+use Rattle.tape.specs.RecordFile.{medium_kind_of}
 use Rattle.tape.proofs.ReelCalls.{write_call, full_call, no_room, the_room}
 use Rattle.tape.proofs.file_reel.FileReelReel.write.Goals as goal
 
 pub returns-then-not-has_room : goal.returns-then-not-has_room
 returns-then-not-has_room g c =
-    full_call (medium_kind g.M.Medium.holds g.M.Medium.failures g.M.Medium.can_fail g.M.Medium.spare) c.args.self.now c.args.bytes.now
+    full_call (medium_kind_of g.M.Medium) c.args.self.now c.args.bytes.now
     (no_room (c.args.self.now.offset + (length c.args.bytes.now + 8 + 4)) c.args.self.now.capacity c.has_room.result c.has_room.ensures.answer c.if-not-has_room.true)
 
 pub returns : goal.returns

@@ -1,4 +1,5 @@
 use Rattle.std.proofs.Common.{◌-◌, ◌≤◌, drop, arith, subst, sym, ◌∙◌, refl}
+use Rattle.rmt_wire.specs.declared.limits.TheConstants.{RECORD_LIMIT}
 use Rattle.tape.specs.FileSteps.{BeginsWith, size_by_length}
 use Rattle.tape.proofs.MediumRuns.{run_as, run_none, no_error, no_bytes}
 use Rattle.tape.proofs.Before.{start_none, last_is, last_fits}
@@ -21,7 +22,7 @@ returns-then-length-gt-LENGTH_LIMIT-clause-run g c =
       λ t file.
           let four : 4 ≤ c.args.at = c.if-at-lt-MARK_SIZE.false in
           let fits = last_fits x c.args.at c.in-Some.length t file four (subst (BeginsWith (drop (c.args.at - 4) x)) c.in-Some.is step.1) in
-          let short : c.in-Some.length ≤ 65536 = fits.0 in
+          let short : c.in-Some.length ≤ RECORD_LIMIT = fits.0 in
           let within : size_by_length c.in-Some.length ≤ c.args.at = fits.1 in
           absurd (elim c.then-length-gt-LENGTH_LIMIT.branch [
             | then-length-gt-LENGTH_LIMIT-via-then-length-gt-LENGTH_LIMIT w ↦ omega arith

@@ -1,4 +1,4 @@
-use Rattle.std.proofs.Common.{◌+◌, ◌-◌, ◌==◌, ℕ, arith, subst, sym, ◌∙◌}
+use Rattle.std.proofs.Common.{◌+◌, ◌==◌, ℕ, arith, subst, sym, ◌∙◌}
 use Rattle.tape.specs.Tape.{Tape}
 use Rattle.tape.specs.RecordFile.{IsFile}
 use Rattle.tape.specs.FileSteps.{IsPassed}

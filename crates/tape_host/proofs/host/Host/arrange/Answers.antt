@@ -1,7 +1,7 @@
 use Rattle.std.proofs.Common.{◌≡◌, map, IsTrue, MatchResult, sym, subst}
 use Rattle.drives.specs.Arranging.{may_arrange}
 use Rattle.tape_host.specs.Halls.{Hosted, hosted, restacked, IsHolder}
-use Rattle.tape_host.specs.Hosting.{hall_of, is_whole}
+use Rattle.tape_host.specs.Hosting.{hall_of, is_whole_side}
 use Rattle.tape_host.proofs.Restacked.{restacked_hosting, restacked_seen}
 use Rattle.tape_host.proofs.host.Host.arrange.Goals as goal
 
@@ -24,7 +24,7 @@ pub returns-clause-arranged : goal.returns-clause-arranged
 returns-clause-arranged c =
     let drives = c.self.inside.drives in
     let names = map (λ n. n.now) c.args.names.now in
-    let ready = is_whole c.self.inside.next in
+    let ready = is_whole_side c.self.inside.next in
     let new = hosted (hall_of (record { holds = drives.holds; stacks = c.arrange.new.self }) c.self.inside.sides.items) ready in
     subst (λ (v : Hosted). MatchResult c.arrange.result (λ _. new ≡ hosted (restacked v.hall c.args.drive names) v.ready) (λ _. new ≡ v)) c.self.view_is
     (restacked_seen drives c.arrange.new.self c.self.inside.sides.items ready c.args.drive names c.arrange.result c.arrange.ensures.told_order)

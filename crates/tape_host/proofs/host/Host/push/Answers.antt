@@ -1,6 +1,6 @@
 use Rattle.std.proofs.Common.{Some, None, ◌++◌, take, length, sym, ap, subst, ◌∙◌, arith}
-use Rattle.tape_host.specs.Halls.{Hosted, hosted, side_at, with_side_at, IsPushed}
-use Rattle.tape_host.specs.Hosting.{hall_of, is_whole, IsHosting}
+use Rattle.tape_host.specs.Halls.{Hosted, hosted, side_at, with_side_at, IsPiecePushed}
+use Rattle.tape_host.specs.Hosting.{hall_of, is_whole_side, IsHosting}
 use Rattle.tape_host.proofs.Sides.{length_with}
 use Rattle.tape_host.proofs.Pushed.{with_reader, put_back, pushed_hosting, pushed_seen}
 use Rattle.tape_host.proofs.host.Host.push.Goals as goal
@@ -34,10 +34,10 @@ pub returns : goal.returns
 returns c =
     let drives = c.self.inside.drives in
     let sides = c.self.inside.sides.items in
-    let ready = is_whole c.self.inside.next in
+    let ready = is_whole_side c.self.inside.next in
     let k = c.args.connection in
     let read = with_reader c.in-Some.side c.push-count.new.self in
-    subst (λ (v : Hosted). IsPushed v k c.args.bytes.now (side_at v.hall.sides k) c.push-count.result (hosted (hall_of drives c.put_side.new.sides.items) ready)) c.self.view_is
+    subst (λ (v : Hosted). IsPiecePushed v k c.args.bytes.now (side_at v.hall.sides k) c.push-count.result (hosted (hall_of drives c.put_side.new.sides.items) ready)) c.self.view_is
     (pushed_seen drives sides ready k c.in-Some.side c.args.bytes.now c.push-count.result c.push-count.new.self _
     (sym c.take_side.ensures.taken ∙ c.in-Some.is) (λ unread u. (c.push-count.ensures.count unread u, c.push-count.ensures.unread unread u))
     (ap (λ xs. hosted (hall_of drives xs) ready)

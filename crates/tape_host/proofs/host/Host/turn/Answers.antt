@@ -1,8 +1,8 @@
 use Rattle.std.proofs.Common.{Some, None, length, sym, ap, subst, ◌∙◌, arith}
 use Rattle.tape_host.specs.declared.side.Side.{Side as RealSide}
 use Rattle.tape_host.specs.Halls.{Hosted, hosted, side_at, with_side_at}
-use Rattle.tape_host.specs.Turns.{TurnsAt}
-use Rattle.tape_host.specs.Hosting.{hall_of, is_whole, IsHosting}
+use Rattle.tape_host.specs.Turns.{TurnsAt, with_back}
+use Rattle.tape_host.specs.Hosting.{hall_of, is_whole_side, IsHosting}
 use Rattle.tape_host.proofs.Sides.{length_with}
 use Rattle.tape_host.proofs.Pushed.{put_back}
 use Rattle.tape_host.proofs.Turned.{turned_hosting, turned_seen}
@@ -36,13 +36,13 @@ pub returns : goal.returns
 returns c =
     let drives = c.self.inside.drives in
     let sides = c.self.inside.sides.items in
-    let ready = is_whole c.self.inside.next in
+    let ready = is_whole_side c.self.inside.next in
     let k = c.args.connection in
     let back = c.args.back.now.items in
     let is = sym c.take_side.ensures.taken ∙ c.in-Some.is in
     let after : RealSide = record { reader = c.take_turn-turn.new.reader; session = c.take_turn-turn.new.session } in
     let new = hosted (hall_of c.take_turn-turn.new.drives c.put_side.new.sides.items) ready in
-    subst (λ (v : Hosted). TurnsAt v c.args.trouble c.args.lost v k (side_at v.hall.sides k) back c.take_turn-turn.result new c.take_turn-turn.new.back.items) c.self.view_is
+    subst (λ (v : Hosted). TurnsAt v c.args.trouble c.args.lost (with_back v back) k (side_at v.hall.sides k) c.take_turn-turn.result (with_back new c.take_turn-turn.new.back.items)) c.self.view_is
     (turned_seen c.one_holder.ensures.others c.take_turn-turn.new.drives c.self.invariant.0 k c.in-Some.side after is c.args.trouble c.args.lost
     back c.take_turn-turn.new.back.items c.take_turn-turn.result ready new c.take_turn-turn.ensures
     (ap (λ xs. hosted (hall_of c.take_turn-turn.new.drives xs) ready)

@@ -1,5 +1,5 @@
 use Rattle.std.proofs.Common.{rules, map, refl, sym, subst, ap, ◌∙◌, ◌≡◌}
-use Rattle.tape_world.specs.Seen.{names_in}
+use Rattle.tape_world.specs.Seen.{book_names}
 use Rattle.tape_world.proofs.ServingStock.{stocked_arranged, stocked_same}
 use Rattle.tape_events.specs.World.{World}
 use Rattle.tape_events.specs.Rows.{MayArrange}
@@ -22,7 +22,7 @@ invariant_of-self-2 c =
     = if_ok c.arrange.result _ _ c.arrange.ensures.arranged (sym c.is_err.ensures.value ∙ c.if-is_err.false) in (
       search rules,
       c.self.invariant.1,
-      stocked_arranged (names_in c.self.inside.books) c.self.inside.host.hall.shop c.arrange.new.self.hall.shop c.in-Some.place
+      stocked_arranged (book_names c.self.inside.books) c.self.inside.host.hall.shop c.arrange.new.self.hall.shop c.in-Some.place
           (map (λ n. n.now) c.args.reels.now) (ap (λ h. h.hall.shop) is) c.self.invariant.2,
     )
 

@@ -11,7 +11,7 @@ use Rattle.tape_events.specs.World.{World, Caller}
 use Rattle.tape_events.specs.Changes.{calm, new_link}
 use Rattle.tape_events.specs.Events.PlainEvent.{Connect}
 use Rattle.tape_events.specs.Rows.{StandsIn}
-use Rattle.tape_events.specs.Steps.{caller, connected, fresh}
+use Rattle.tape_events.specs.Steps.{caller, client_connected, fresh}
 use Rattle.tape_world.specs.contracts.ends.Ends.{the_view}
 use Rattle.tape_world.specs.Seen.{seen_caller, seen_link, world_of}
 use Rattle.tape_world.proofs.Clients.{sourced_same}
@@ -63,7 +63,7 @@ returns c =
             (started_caller c.self.inside.caller c.start_attempt.new.caller c.in_ok-dumping.dumping i)
             ∙ ap (λ n. record (calm V) { hall = joined V.hall; links = before ++ new_link (Some (fresh (seen_caller i.before))) ∷ []; caller = Some x; own = Some n })
             (number ∙ ap (λ n. n + 1) (sym (length-map c.self.inside.links.items seen_link)))
-            ∙ ap (λ (w : World). connected w (seen_caller i.before)) c.self.view_is,
+            ∙ ap (λ (w : World). client_connected w (seen_caller i.before)) c.self.view_is,
       ),
     )
 

@@ -1,7 +1,7 @@
 use Rattle.std.proofs.Common.{rules, refl, sym, ap, ◌∙◌, ◌≡◌, None, Some, option_map}
 use Rattle.std.specs.Option.{option_copied}
 use Rattle.tape_events.specs.World.{World, Dumping}
-use Rattle.tape_events.specs.Changes.{calm, left, over_there}
+use Rattle.tape_events.specs.Changes.{calm, other_left, over_there}
 use Rattle.tape_world.specs.Holding.{IsClients}
 use Rattle.tape_world.specs.contracts.ends.Ends.{the_view}
 use Rattle.tape_world.specs.Seen.{seen_link, seen_caller}
@@ -38,7 +38,7 @@ returns-then-is_strangers c =
             (ap (λ ls. record (calm (the_view c.self.inside)) { links = ls })
             (links_after over_there c.self.inside.links.len c.self.inside.links.items c.deref_mut.result.now c.end_there.new.links c.args.connection
             c.self.inside.links.ok.0 c.deref_mut.ensures.value c.end_there.ensures)
-            ∙ ap (λ (w : World). left (calm w) c.args.connection) c.self.view_is),
+            ∙ ap (λ (w : World). other_left (calm w) c.args.connection) c.self.view_is),
       ),
     )
 

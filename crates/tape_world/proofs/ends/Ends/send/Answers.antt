@@ -6,9 +6,9 @@ use Rattle.tape_events.specs.World.{World}
 use Rattle.tape_events.specs.Events.PlainEvent.{Send}
 use Rattle.tape_events.specs.Rows.{Possible}
 use Rattle.tape_world.specs.contracts.ends.Ends.{the_view}
-use Rattle.tape_world.specs.Serving.{IsStocked}
+use Rattle.tape_world.specs.Serving.{IsShopKnown}
 use Rattle.tape_world.specs.Holding.{IsSourced}
-use Rattle.tape_world.specs.Seen.{names_in, seen_begun, seen_caller, seen_link, world_of}
+use Rattle.tape_world.specs.Seen.{book_names, seen_begun, seen_caller, seen_link, world_of}
 use Rattle.tape_world.specs.Talking.{talked}
 use Rattle.tape_world.proofs.Sound.{links_after}
 use Rattle.tape_world.proofs.Sending.{to_send, has_own, own_within, own_after, own_gone, own_stays, talked_sound, talked_sourced, talked_event, talked_world}
@@ -58,7 +58,7 @@ invariant_of-self-2 c =
           (ap (λ v. map seen_begun v.begun.items) now) (ap (λ v. v.own) now) refl (ap (λ v. option_map seen_caller v.caller) now) asks c.self.invariant.0,
       subst (λ v. IsSourced v.begun.items v.caller) (sym now)
           (talked_sourced c.self.inside.begun.items c.self.inside.caller c.send_own.new.caller c.args.fails text c.in_ok-failure.failure asks c.self.invariant.1),
-      subst (λ v. IsStocked (names_in v.books) v.host.hall.shop) (sym now) c.self.invariant.2,
+      subst (λ v. IsShopKnown (book_names v.books) v.host.hall.shop) (sym now) c.self.invariant.2,
     )
 
 pub returns : goal.returns

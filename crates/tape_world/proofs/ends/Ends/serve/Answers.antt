@@ -6,8 +6,8 @@ use Rattle.tape_events.specs.Changes.{calm, changed, opening}
 use Rattle.tape_events.specs.Events.PlainEvent.{Serve}
 use Rattle.tape_events.specs.Steps.{Happens}
 use Rattle.tape_world.specs.contracts.ends.Ends.{the_view}
-use Rattle.tape_world.specs.Seen.{seen_link, seen_opening, names_in}
-use Rattle.tape_world.specs.Serving.{Serves, opened_in}
+use Rattle.tape_world.specs.Seen.{seen_link, seen_opening, book_names}
+use Rattle.tape_world.specs.Serving.{TurnServes, opened_in}
 use Rattle.tape_world.proofs.ServingStock.{stocked, stocked_same}
 use Rattle.tape_world.proofs.ServingRow.{serves_sound, serves_keeps, serves_opened_in, serves_happens, serves_world, nothing_there, same_links, opened_known, opens_after, known_in}
 use Rattle.tape_world.proofs.Refused.{sound_same}
@@ -24,15 +24,15 @@ invariant_of-self-in-Nothing c =
       serves_sound c.args.trouble c.args.connection w _ c.self.inside.host c.take_turn_at.new.host c.in_ok-turn.turn refl refl t
           record { begun = refl; caller = refl; own = refl } c.self.invariant.0,
       c.self.invariant.1,
-      stocked (names_in c.self.inside.books) w.hall.shop c.take_turn_at.new.host.hall.shop
+      stocked (book_names c.self.inside.books) w.hall.shop c.take_turn_at.new.host.hall.shop
           (serves_keeps c.args.trouble c.args.connection c.self.inside.host c.take_turn_at.new.host c.in_ok-turn.turn _ c.in_ok-turn.ensures.taken) c.self.invariant.2,
     )
 
 pub returns-in-Nothing : goal.returns-in-Nothing
 returns-in-Nothing c =
     let w = the_view c.self.inside in
-    let names = names_in c.self.inside.books in
-    let t = subst (λ turn. Serves c.args.trouble c.self.inside.host c.args.connection turn c.take_turn_at.new.host (λ f. map seen_link (take c.self.inside.links.len (c.take_turn_at.new.links ++ drop (length c.take_turn_at.new.links) c.self.inside.links.items)) ≡ changed f w.links c.args.connection))
+    let names = book_names c.self.inside.books in
+    let t = subst (λ turn. TurnServes c.args.trouble c.self.inside.host c.args.connection turn c.take_turn_at.new.host (λ f. map seen_link (take c.self.inside.links.len (c.take_turn_at.new.links ++ drop (length c.take_turn_at.new.links) c.self.inside.links.items)) ≡ changed f w.links c.args.connection))
     c.in-Nothing.is
     (serves_world c.args.trouble c.args.connection c.self.inside.host c.take_turn_at.new.host c.in_ok-turn.turn c.self.inside.links.len c.self.inside.links.items
     c.deref_mut.result.now c.take_turn_at.new.links c.self.inside.links.ok.0 c.deref_mut.ensures.value c.in_ok-turn.ensures.taken) in (
@@ -45,13 +45,13 @@ returns-in-Nothing c =
 
 pub note_opening-requires : goal.note_opening-requires
 note_opening-requires c =
-    let stock = stocked (names_in c.self.inside.books) c.self.inside.host.hall.shop c.take_turn_at.new.host.hall.shop
+    let stock = stocked (book_names c.self.inside.books) c.self.inside.host.hall.shop c.take_turn_at.new.host.hall.shop
     (serves_keeps c.args.trouble c.args.connection c.self.inside.host c.take_turn_at.new.host c.in_ok-turn.turn _ c.in_ok-turn.ensures.taken) c.self.invariant.2 in
     record {
       room = search rules;
       there = serves_opened_in c.args.trouble c.args.connection c.self.inside.host c.take_turn_at.new.host c.in_ok-turn.turn _ c.in_ok-turn.ensures.taken;
       known = λ name is. known_in c.self.inside.books.names.items c.deref-2.result.now name c.deref-2.ensures.value
-          (opened_known c.in_ok-turn.turn (names_in c.self.inside.books) c.take_turn_at.new.host.hall c.args.connection name stock.stacks is);
+          (opened_known c.in_ok-turn.turn (book_names c.self.inside.books) c.take_turn_at.new.host.hall c.args.connection name stock.stacks is);
     }
 
 pub invariant_of-self-2 : goal.invariant_of-self-2
@@ -62,7 +62,7 @@ invariant_of-self-2 c =
       serves_sound c.args.trouble c.args.connection w _ c.self.inside.host c.take_turn_at.new.host c.in_ok-turn.turn refl refl t
           record { begun = refl; caller = refl; own = refl } c.self.invariant.0,
       c.self.invariant.1,
-      stocked (names_in c.self.inside.books) w.hall.shop c.take_turn_at.new.host.hall.shop
+      stocked (book_names c.self.inside.books) w.hall.shop c.take_turn_at.new.host.hall.shop
           (serves_keeps c.args.trouble c.args.connection c.self.inside.host c.take_turn_at.new.host c.in_ok-turn.turn _ c.in_ok-turn.ensures.taken) c.self.invariant.2,
     )
 
@@ -70,7 +70,7 @@ pub returns : goal.returns
 returns c =
     let w = the_view c.self.inside in
     let links = map seen_link (take c.self.inside.links.len (c.take_turn_at.new.links ++ drop (length c.take_turn_at.new.links) c.self.inside.links.items)) in
-    let opens = map (seen_opening (names_in c.self.inside.books)) c.note_opening.new.opens.items in
+    let opens = map (seen_opening (book_names c.self.inside.books)) c.note_opening.new.opens.items in
     let t = serves_world c.args.trouble c.args.connection c.self.inside.host c.take_turn_at.new.host c.in_ok-turn.turn c.self.inside.links.len c.self.inside.links.items
     c.deref_mut.result.now c.take_turn_at.new.links c.self.inside.links.ok.0 c.deref_mut.ensures.value c.in_ok-turn.ensures.taken in
     subst (λ (v : World). Happens v (Serve c.args.connection c.args.trouble) (record (calm w) { hall = c.take_turn_at.new.host.hall; links = links; opens = opens })) c.self.view_is
@@ -81,7 +81,7 @@ returns c =
 
 pub invariant_of-self : goal.invariant_of-self
 invariant_of-self c = (
-  sound_same (the_view c.self.inside) _ (ap (λ items. record (the_view c.self.inside) { opens = map (seen_opening (names_in c.self.inside.books)) items }) c.in_err-reserve.ensures.items) c.self.invariant.0,
+  sound_same (the_view c.self.inside) _ (ap (λ items. record (the_view c.self.inside) { opens = map (seen_opening (book_names c.self.inside.books)) items }) c.in_err-reserve.ensures.items) c.self.invariant.0,
   c.self.invariant.1,
   c.self.invariant.2,
 )
@@ -89,7 +89,7 @@ invariant_of-self c = (
 pub returns-in_err-reserve : goal.returns-in_err-reserve
 returns-in_err-reserve c =
     refused_event c.args.self.now _ (Serve c.args.connection c.args.trouble) c.from_residual.result c.from_residual.ensures.1
-    (ap (λ items. record (the_view c.self.inside) { opens = map (seen_opening (names_in c.self.inside.books)) items }) c.in_err-reserve.ensures.items ∙ c.self.view_is)
+    (ap (λ items. record (the_view c.self.inside) { opens = map (seen_opening (book_names c.self.inside.books)) items }) c.in_err-reserve.ensures.items ∙ c.self.view_is)
 
 pub take_turn_at-requires-clause-first : goal.take_turn_at-requires-clause-first
 take_turn_at-requires-clause-first c =
@@ -104,12 +104,12 @@ take_turn_at-requires-clause-last c =
 
 pub invariant_of-self-in_err-turn : goal.invariant_of-self-in_err-turn
 invariant_of-self-in_err-turn c = (
-  sound_same (the_view c.self.inside) _ (ap (λ ls. record (the_view c.self.inside) { hall = c.take_turn_at.new.host.hall; links = ls; opens = map (seen_opening (names_in c.self.inside.books)) c.reserve.new.self.items })
+  sound_same (the_view c.self.inside) _ (ap (λ ls. record (the_view c.self.inside) { hall = c.take_turn_at.new.host.hall; links = ls; opens = map (seen_opening (book_names c.self.inside.books)) c.reserve.new.self.items })
       (links_same c.self.inside.links.len c.self.inside.links.items c.deref_mut.result.now c.take_turn_at.new.links c.self.inside.links.ok.0 c.deref_mut.ensures.value
       c.in_err-turn.ensures.refused.0)
-      ∙ ap (λ h. record (the_view c.self.inside) { hall = h.hall; opens = map (seen_opening (names_in c.self.inside.books)) c.reserve.new.self.items })
+      ∙ ap (λ h. record (the_view c.self.inside) { hall = h.hall; opens = map (seen_opening (book_names c.self.inside.books)) c.reserve.new.self.items })
       c.in_err-turn.ensures.refused.1
-      ∙ ap (λ items. record (the_view c.self.inside) { opens = map (seen_opening (names_in c.self.inside.books)) items }) c.in_ok-reserve.ensures.items) c.self.invariant.0,
+      ∙ ap (λ items. record (the_view c.self.inside) { opens = map (seen_opening (book_names c.self.inside.books)) items }) c.in_ok-reserve.ensures.items) c.self.invariant.0,
   c.self.invariant.1,
   stocked_same _ c.self.inside.host.hall.shop c.take_turn_at.new.host.hall.shop (ap (λ h. h.hall.shop) c.in_err-turn.ensures.refused.1) c.self.invariant.2,
 )
@@ -117,9 +117,9 @@ invariant_of-self-in_err-turn c = (
 pub returns-in_err-turn : goal.returns-in_err-turn
 returns-in_err-turn c =
     refused_event c.args.self.now _ (Serve c.args.connection c.args.trouble) c.from_residual-in_err-turn.result c.from_residual-in_err-turn.ensures.1
-    (ap (λ ls. record (the_view c.self.inside) { hall = c.take_turn_at.new.host.hall; links = ls; opens = map (seen_opening (names_in c.self.inside.books)) c.reserve.new.self.items })
+    (ap (λ ls. record (the_view c.self.inside) { hall = c.take_turn_at.new.host.hall; links = ls; opens = map (seen_opening (book_names c.self.inside.books)) c.reserve.new.self.items })
     (links_same c.self.inside.links.len c.self.inside.links.items c.deref_mut.result.now c.take_turn_at.new.links c.self.inside.links.ok.0 c.deref_mut.ensures.value
     c.in_err-turn.ensures.refused.0)
-    ∙ ap (λ h. record (the_view c.self.inside) { hall = h.hall; opens = map (seen_opening (names_in c.self.inside.books)) c.reserve.new.self.items })
+    ∙ ap (λ h. record (the_view c.self.inside) { hall = h.hall; opens = map (seen_opening (book_names c.self.inside.books)) c.reserve.new.self.items })
     c.in_err-turn.ensures.refused.1
-    ∙ ap (λ items. record (the_view c.self.inside) { opens = map (seen_opening (names_in c.self.inside.books)) items }) c.in_ok-reserve.ensures.items ∙ c.self.view_is)
+    ∙ ap (λ items. record (the_view c.self.inside) { opens = map (seen_opening (book_names c.self.inside.books)) items }) c.in_ok-reserve.ensures.items ∙ c.self.view_is)

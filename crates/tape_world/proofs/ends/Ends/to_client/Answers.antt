@@ -8,7 +8,7 @@ use Rattle.tape_events.specs.Steps.{Happens}
 use Rattle.tape_world.specs.contracts.ends.Ends.{the_view}
 use Rattle.tape_world.specs.Hearing.{come_back, heard_on, HasHeard}
 use Rattle.tape_world.specs.Holding.{IsClients}
-use Rattle.tape_world.specs.Seen.{names_in, seen_caller, seen_count, seen_link}
+use Rattle.tape_world.specs.Seen.{book_names, seen_caller, seen_count, seen_link}
 use Rattle.tape_world.proofs.Clients.{sourced_same, not_both}
 use Rattle.tape_world.proofs.HearingWorld.{attempts, counts_kept, dropped_step, heard_sound, heard_step, heard_world, link_within}
 use Rattle.tape_world.proofs.Sound.{link_is, link_sound, links_after, refused_event, same_link}
@@ -91,7 +91,7 @@ returns c =
     c.find.ensures (ap option_copied c.in-Some.is) in
     let heard = c.hear-heard.result in
     let caller = option_map seen_caller c.hear-heard.new.caller in
-    let names = names_in c.self.inside.books in
+    let names = book_names c.self.inside.books in
     let kept = map (seen_count names) c.keep.new.counts.items in
     let ls = map seen_link (take c.self.inside.links.len (c.settle.new.links ++ drop (length c.settle.new.links) c.self.inside.links.items)) in
     let u = record w { links = ls; own = c.settle.new.own; caller = caller; counts = kept; failure = heard.failure } in
@@ -141,7 +141,7 @@ come_back-requires-clause-last c =
 
 pub invariant_of-self-in_err-reserve : goal.invariant_of-self-in_err-reserve
 invariant_of-self-in_err-reserve c = (
-  sound_same (the_view c.self.inside) _ (ap (λ items. record (the_view c.self.inside) { counts = map (seen_count (names_in c.self.inside.books)) items }) c.in_err-reserve.ensures.items) c.self.invariant.0,
+  sound_same (the_view c.self.inside) _ (ap (λ items. record (the_view c.self.inside) { counts = map (seen_count (book_names c.self.inside.books)) items }) c.in_err-reserve.ensures.items) c.self.invariant.0,
   c.self.invariant.1,
   c.self.invariant.2,
 )
@@ -149,7 +149,7 @@ invariant_of-self-in_err-reserve c = (
 pub returns-in_err-reserve : goal.returns-in_err-reserve
 returns-in_err-reserve c =
     refused_event c.args.self.now _ (ToClient c.args.connection c.args.count) c.from_residual.result c.from_residual.ensures.1
-    (ap (λ items. record (the_view c.self.inside) { counts = map (seen_count (names_in c.self.inside.books)) items }) c.in_err-reserve.ensures.items ∙ c.self.view_is)
+    (ap (λ items. record (the_view c.self.inside) { counts = map (seen_count (book_names c.self.inside.books)) items }) c.in_err-reserve.ensures.items ∙ c.self.view_is)
 
 pub returns-then-not-link : goal.returns-then-not-link
 returns-then-not-link c =

@@ -1,0 +1,21 @@
+"""What the benchmarks send: the greatest record, and the operations of mtio with a count of 1. Each benchmark takes them from here."""
+
+from __future__ import annotations
+
+GREATEST_RECORD = 65_536
+
+MARK = b"I0\n1\n"
+REWIND = b"I5\n1\n"
+OFFLINE = b"I6\n1\n"
+NO_OPERATION = b"I7\n1\n"
+CLOSE = b"C\n"
+
+
+def write(data: bytes) -> bytes:
+    """A write of these bytes as one record."""
+    return b"W%d\n" % len(data) + data
+
+
+def read(count: int = GREATEST_RECORD) -> bytes:
+    """A read of a record."""
+    return b"R%d\n" % count

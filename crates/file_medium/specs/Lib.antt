@@ -1,0 +1,2 @@
+-- One file: Files.
+pub mod Files

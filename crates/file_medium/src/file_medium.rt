@@ -1,0 +1,280 @@
+//! A medium that is a file of the system.
+
+ghost use Rattle.std.specs.Prelude.{◌≡◌, ◌++◌, ◌≤◌, IfOk, Ok, OnErr, OnOk, length};
+ghost use Rattle.tape.specs.Failures.{raised};
+ghost use Rattle.tape.specs.Medium.{IsMediumCall};
+ghost use Rattle.tape.specs.Medium.MediumCall.{Len, ReadAt, Append, Cut};
+ghost use Rattle.file_medium.specs.Files.{file_kind};
+
+mod window;
+
+use std::fs::File;
+use std::io::{self, ErrorKind, IoSlice};
+use std::marker::Model;
+use std::os::unix::fs::FileExt;
+use tape::{Medium, MediumFailed};
+use window::{LENGTH_SIZE, WINDOW_SIZE, Window};
+
+/// A medium that is a file of the system. It tells nothing of its bytes, and any call of it can fail.
+///
+/// The file has to be open for what is asked of it, and nothing else may write to it or cut it meanwhile: what was asked of
+/// the system once is kept. That is the length, until a call fails that changes it; and the last few bytes that were read
+/// where a length was asked for, until a call changes the file or fails.
+#[derive(Drop)]
+pub struct FileMedium {
+    file: File,
+    len: Option<u64>,
+    window: Option<Window>,
+    failures: u64,
+}
+
+impl Model for FileMedium {
+    ghost use Rattle.file_medium.specs.Files.{FileCount};
+
+    ghost Value = { FileCount };
+
+    ghost view = { λ m. record { failures = m.failures } };
+}
+
+impl FileMedium {
+    /// The medium that is this file. It makes no call of the system.
+    ///
+    /// A file that is added to has to be open to append (`OpenOptions::append`): its bytes are written where it ends.
+    pub fn new(file: File) -> FileMedium
+        ensures { result.failures ≡ 0 }
+    {
+        FileMedium {
+            file,
+            len: None,
+            window: None,
+            failures: 0,
+        }
+    }
+
+    /// The file, for what a medium has no call for: its metadata, and a lock on it.
+    pub fn file(&self) -> &File {
+        &self.file
+    }
+
+    /// Writes to the device what the system keeps of the file. A failure is not counted here.
+    ///
+    /// Answers the system's error.
+    pub fn sync(&self) -> io::Result<()> {
+        self.file.sync_all()
+    }
+
+    /// Counts a failure.
+    fn count<T: Drop>(&mut self, found: io::Result<T>) -> Result<T, MediumFailed>
+        ensures same { OnOk result (self.new ≡ self.old) }
+        ensures failed { OnErr result (self.new ≡ record self.old { failures = raised self.old.failures }) }
+        ensures value { IfOk result (λ x. found ≡ Ok x) }
+    {
+        match found {
+            Ok(value) => Ok(value),
+            Err(_) => {
+                self.window = None;
+                self.failures = self.failures.saturating_add(1);
+                Err(MediumFailed)
+            }
+        }
+    }
+
+    /// Forgets what the system was asked for, before a call changes it.
+    fn forget(&mut self)
+        ensures { self.new ≡ self.old }
+    {
+        self.len = None;
+        self.window = None;
+    }
+
+    /// Adds the frame, the bytes and the frame at the end, which is at this offset.
+    fn write_at_end(&mut self, end: u64, frame: &[u8], bytes: &[u8]) -> Result<(), MediumFailed>
+        ensures same { OnOk result (self.new ≡ self.old) }
+        ensures failed { OnErr result (self.new ≡ record self.old { failures = raised self.old.failures }) }
+    {
+        self.forget();
+        let written = write_framed(&self.file, frame, bytes);
+        self.count(written)?;
+        self.len = offset_behind(end, frame, bytes);
+        Ok(())
+    }
+
+    /// Reads a length, and keeps it with the bytes behind it.
+    fn read_length(&mut self, at: u64, into: &mut [u8]) -> io::Result<usize>
+        ensures same { length into.new ≡ length into.old }
+        ensures bound { IfOk result (λ n. n ≤ length into.new) }
+        ensures kept { self.new ≡ self.old }
+    {
+        let mut bytes = [0; WINDOW_SIZE];
+        let filled = fill(&self.file, at, &mut bytes, into.len())?;
+        if filled == WINDOW_SIZE {
+            self.window = Some(Window { at, bytes });
+        }
+        let count = filled.min(into.len());
+        into[..count].copy_from_slice(&bytes[..count]);
+        Ok(count)
+    }
+
+    /// Copies bytes from this offset on out of the window, where all that `into` takes are there.
+    fn read_window(&self, at: u64, into: &mut [u8]) -> bool
+        ensures { length into.new ≡ length into.old }
+    {
+        let Some(window) = &self.window else {
+            return false;
+        };
+        let Some(found) = window.find(at, into.len()) else {
+            return false;
+        };
+        into.copy_from_slice(found);
+        true
+    }
+
+    /// Cuts the file to this length, which is less than it has.
+    fn shorten(&mut self, len: u64) -> Result<(), MediumFailed>
+        ensures same { OnOk result (self.new ≡ self.old) }
+        ensures failed { OnErr result (self.new ≡ record self.old { failures = raised self.old.failures }) }
+    {
+        self.forget();
+        let cut = self.file.set_len(len);
+        self.count(cut)?;
+        self.len = Some(len);
+        Ok(())
+    }
+}
+
+impl Medium for FileMedium {
+    ghost holds = { λ _ _. ⊥ };
+
+    ghost failures = { λ m. m.failures };
+
+    ghost can_fail = { λ _. Unit {0} };
+
+    ghost spare = { λ _. 0 };
+
+    fn len(&mut self) -> Result<u64, MediumFailed>
+        ensures call { IsMediumCall file_kind self.old (Len result) self.new }
+        ensures same { OnOk result (self.new ≡ self.old) }
+        ensures failed { OnErr result (self.new ≡ record self.old { failures = raised self.old.failures }) }
+    {
+        if let Some(len) = self.len {
+            return Ok(len);
+        }
+        let found = length_of(&self.file);
+        let len = self.count(found)?;
+        self.len = Some(len);
+        Ok(len)
+    }
+
+    fn read_at(&mut self, at: u64, into: &mut [u8]) -> Result<usize, MediumFailed>
+        ensures call { IsMediumCall file_kind self.old (ReadAt at into.new result) self.new }
+        ensures same { length into.new ≡ length into.old }
+        ensures failed { OnErr result (self.new ≡ record self.old { failures = raised self.old.failures }) }
+    {
+        if self.read_window(at, into) {
+            return Ok(into.len());
+        }
+        let found = if into.len() == LENGTH_SIZE {
+            self.read_length(at, into)
+        } else {
+            fill(&self.file, at, into, into.len())
+        };
+        self.count(found)
+    }
+
+    fn append(&mut self, bytes: &[u8]) -> Result<(), MediumFailed>
+        ensures call { IsMediumCall file_kind self.old (Append bytes.now result) self.new }
+        ensures failed { OnErr result (self.new ≡ record self.old { failures = raised self.old.failures }) }
+    {
+        let end = self.len()?;
+        self.write_at_end(end, &[], bytes)
+    }
+
+    /// It is one call of the system, where the system takes all of it at once.
+    fn append_framed(&mut self, frame: &[u8], bytes: &[u8]) -> Result<(), MediumFailed>
+        ensures call { IsMediumCall file_kind self.old (Append (frame.now ++ (bytes.now ++ frame.now)) result) self.new }
+        ensures failed { OnErr result (self.new ≡ record self.old { failures = raised self.old.failures }) }
+    {
+        let end = self.len()?;
+        self.write_at_end(end, frame, bytes)
+    }
+
+    fn cut(&mut self, len: u64) -> Result<(), MediumFailed>
+        ensures call { IsMediumCall file_kind self.old (Cut len result) self.new }
+        ensures failed { OnErr result (self.new ≡ record self.old { failures = raised self.old.failures }) }
+    {
+        if self.len()? <= len {
+            return Ok(());
+        }
+        self.shorten(len)
+    }
+
+    fn failures(&self) -> u64 {
+        self.failures
+    }
+
+    ghost single = { λ _ _ _ told _. absurd told };
+
+    ghost bounded = { λ _ _ told. absurd told };
+}
+
+/// How many bytes the file has.
+fn length_of(file: &File) -> io::Result<u64> {
+    Ok(file.metadata()?.len())
+}
+
+/// The offset behind the frame, the bytes and the frame from this one on, where a `u64` counts it.
+fn offset_behind(at: u64, frame: &[u8], bytes: &[u8]) -> Option<u64> {
+    let within = at.checked_add(frame.len() as u64)?;
+    let behind = within.checked_add(bytes.len() as u64)?;
+    behind.checked_add(frame.len() as u64)
+}
+
+/// Writes the frame, the bytes and the frame at the end of a file that is open to append: by one call of the system where it
+/// takes them all.
+///
+/// Answers the system's error, or `WriteZero` where it takes nothing. A call that was interrupted is made again.
+fn write_framed(file: &File, frame: &[u8], bytes: &[u8]) -> io::Result<()> {
+    let frame = IoSlice::new(frame);
+    let mut parts = [frame, IoSlice::new(bytes), frame];
+    let mut rest = parts.as_mut_slice();
+    // Parts that have no bytes are done.
+    IoSlice::advance_slices(&mut rest, 0);
+    for _ in 0..u64::MAX {
+        if rest.is_empty() {
+            return Ok(());
+        }
+        match file.write_vectored(rest) {
+            Ok(0) => return Err(io::Error::from(ErrorKind::WriteZero)),
+            Ok(count) => IoSlice::advance_slices(&mut rest, count),
+            Err(error) if error.kind() == ErrorKind::Interrupted => {}
+            Err(error) => return Err(error),
+        }
+    }
+    Err(io::Error::from(ErrorKind::Interrupted))
+}
+
+/// Reads from this offset on, until so many bytes are there, the buffer is full or the file ends. Answers how many bytes it
+/// read.
+///
+/// Answers the system's error. A call that was interrupted is made again.
+fn fill(file: &File, at: u64, into: &mut [u8], least: usize) -> io::Result<usize>
+    ensures bound { IfOk result (λ n. n ≤ length into.new) }
+    ensures same { length into.new ≡ length into.old }
+{
+    let mut filled = 0;
+    for _ in 0..u64::MAX {
+        if filled >= least || filled >= into.len() {
+            return Ok(filled);
+        }
+        let Some(next) = at.checked_add(filled as u64) else {
+            return Ok(filled);
+        };
+        match file.read_at(&mut into[filled..], next) {
+            Ok(0) => return Ok(filled),
+            Ok(count) => filled += count,
+            Err(error) if error.kind() == ErrorKind::Interrupted => {}
+            Err(error) => return Err(error),
+        }
+    }
+    Err(io::Error::from(ErrorKind::Interrupted))
+}

@@ -1,0 +1,106 @@
+//! The commands of `rdump`, at the system that runs the tests: their statuses. No server is there.
+
+use super::check_row;
+use super::fixture::{TWO_BYTES, client, line};
+use super::store::OLD;
+use rdump_commands::{rdump, run_client, run_dates, run_dump, run_mt, run_read, run_words};
+use rdump_words::{MtLine, ReadLine};
+use std::fs;
+use std::io::Stderr;
+use std::test::Fail;
+
+/// No terminal, on which progress would be shown.
+const NO_TERMINAL: Option<Stderr> = None;
+
+/// Where no server is: it has no port.
+const NOWHERE: &str = "nowhere";
+
+/// Words, and the status that `rdump` ends with.
+type Row = (&'static [&'static str], u8);
+
+/// Help, the version, words that are wrong, a file that is not there, and a server that is not.
+static ROWS: [Row; 5] = [
+    (&["rdump", "--help"], 0),
+    (&["rdump", "--version"], 0),
+    (&["rdump", "tape"], 1),
+    (&["rdump", "dates", "--file", "none"], 1),
+    (
+        &[
+            "rdump", "mt", "--to", NOWHERE, "--device", "d", "rewind", "1",
+        ],
+        3,
+    ),
+];
+
+/// Whether these words end with that status.
+fn ends_so(rt: &HostRuntime, row: &Row) -> bool {
+    matches!(run_words(rt, row.0, NO_TERMINAL), Ok(status) if status == row.1)
+}
+
+#[test]
+fn statuses_of_words(rt: HostRuntime) {
+    for (at, row) in ROWS.iter().enumerate() {
+        check_row(&rt, at, ends_so(&rt, row));
+    }
+}
+
+/// The words of the process that runs the tests are none of `rdump`.
+#[test]
+fn words_of_another_program(rt: HostRuntime) -> Result<(), Fail> {
+    assert!(rt; rdump(&rt, NO_TERMINAL)? == 1);
+    Ok(())
+}
+
+#[test]
+fn a_dates_file(rt: HostRuntime) -> Result<(), Fail> {
+    fs::write(&rt, "asked", OLD)?;
+    let status = run_dates(&rt, "asked", Some(("/usr", 2)));
+    fs::remove_file(&rt, "asked")?;
+    assert!(rt; status? == 0);
+    Ok(())
+}
+
+#[test]
+fn a_payload_that_is_not_there(rt: HostRuntime) -> Result<(), Fail> {
+    assert!(rt; run_dump(&rt, &line(TWO_BYTES), NO_TERMINAL)? == 1);
+    Ok(())
+}
+
+/// Whether a dump ends with 3, since there is no server, and the operator says nothing.
+fn is_abandoned(rt: &HostRuntime) -> Result<bool, Fail> {
+    match client(rt.alloc(), TWO_BYTES) {
+        Some(mut client) => Ok(run_client(rt, &line(TWO_BYTES), &mut client, NO_TERMINAL)? == 3),
+        None => Ok(false),
+    }
+}
+
+#[test]
+fn a_dump_to_no_server(rt: HostRuntime) -> Result<(), Fail> {
+    assert!(rt; is_abandoned(&rt)?);
+    Ok(())
+}
+
+#[test]
+fn a_volume_of_no_server(rt: HostRuntime) -> Result<(), Fail> {
+    let line = ReadLine {
+        to: NOWHERE,
+        device: "d",
+        out: "volume",
+    };
+    let status = run_read(&rt, line);
+    fs::remove_file(&rt, "volume")?;
+    assert!(rt; status? == 3);
+    Ok(())
+}
+
+#[test]
+fn an_operation_at_no_server(rt: HostRuntime) -> Result<(), Fail> {
+    let line = MtLine {
+        to: NOWHERE,
+        device: "d",
+        op: 5,
+        count: 1,
+    };
+    assert!(rt; run_mt(&rt, line)? == 3);
+    Ok(())
+}

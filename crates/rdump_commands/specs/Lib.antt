@@ -1,0 +1,2 @@
+-- The exit statuses of rdump: Status.
+pub mod Status

@@ -1,0 +1,121 @@
+//! `rdump dump`, up to the client of the dump.
+ghost use Rattle.std.specs.Prelude.{◌≡◌, IfOk};
+ghost use Rattle.rdump_commands.specs.Status.{IsStatus};
+
+use crate::fault::{refuse_run, say, tell};
+use crate::{System, run_client};
+use file_medium::FileMedium;
+use rdump_files::{
+    DumperFault, PayloadFile, ProgressLine, base_date, dumper, read_or_empty, read_steady,
+    seconds_now,
+};
+use rdump_words::DumpLine;
+use rmt_wire::Counted;
+use std::fs::File;
+use std::io::{self, Write};
+use tape::{Medium, MediumFailed, MemoryMedium};
+
+/// Dumps a payload, as `rdump dump` does, and enters the dump in the dumpdates file where the words ask for it. `terminal` is
+/// standard error, where that is a terminal: it shows the progress.
+///
+/// A payload that is a plain file is read block by block while it is dumped. Any other file, as a pipe, and one that says that it
+/// has no bytes is read whole before that. What is at fault is found in this order: the payload, the dumpdates file, the clock, and
+/// the limits of a run.
+///
+/// Answers the exit status: 0 where the dump is complete, all was printed, and the dump is entered if it was to be; 1 where it
+/// could not begin; and else 3. It fails where what is at fault could not be told.
+pub fn run_dump<R: System, T: Write + Copy + Drop>(
+    rt: &R,
+    line: &DumpLine<'_>,
+    terminal: Option<T>,
+) -> io::Result<u8>
+    ensures { IfOk result IsStatus }
+{
+    let file = match File::open(rt, line.payload) {
+        Ok(file) => file,
+        Err(error) => return tell(rt, line.payload, error),
+    };
+    let found = match file.metadata() {
+        Ok(found) => found,
+        Err(error) => return tell(rt, line.payload, error),
+    };
+    if found.is_file() && found.len() > 0 {
+        return dump_medium(rt, line, FileMedium::new(file), terminal);
+    }
+    match read_steady(rt.alloc(), file) {
+        Ok(Some(bytes)) => dump_medium(rt, line, MemoryMedium::from_bytes(bytes), terminal),
+        Ok(None) => say(rt, line.payload, "its length changed while it was read"),
+        Err(error) => tell(rt, line.payload, error),
+    }
+}
+
+/// Reads the dumpdates file, dumps the payload that lies on this medium, and answers the status.
+fn dump_medium<R: System, M: Medium + Drop, T: Write + Copy + Drop>(
+    rt: &R,
+    line: &DumpLine<'_>,
+    medium: M,
+    terminal: Option<T>,
+) -> io::Result<u8>
+    ensures { IfOk result IsStatus }
+{
+    let payload = match PayloadFile::open(medium, line.block) {
+        Ok(payload) => payload,
+        Err(MediumFailed) => return say(rt, line.payload, "its length could not be read"),
+    };
+    let file = match read_or_empty(rt, rt.alloc(), line.dumpdates) {
+        Ok(file) => file,
+        Err(error) => return tell(rt, line.dumpdates, error),
+    };
+    let level = u8::try_from(line.level).unwrap_or(u8::MAX);
+    let mut out = Counted::new(io::writer(rt));
+    match base_date(rt.alloc(), &file, line.fs, level, &mut out) {
+        Some(since) => dump_since(rt, line, payload, since, terminal),
+        None => say(rt, line.dumpdates, "it is no dumpdates file"),
+    }
+}
+
+/// Dumps a payload that builds on a dump of the date `since`, and answers the status.
+fn dump_since<R: System, M: Medium + Drop, T: Write + Copy + Drop>(
+    rt: &R,
+    line: &DumpLine<'_>,
+    payload: PayloadFile<M>,
+    since: u64,
+    terminal: Option<T>,
+) -> io::Result<u8>
+    requires { payload.size ≡ line.now.block }
+    ensures { IfOk result IsStatus }
+{
+    match line.date.or(seconds_now(rt)) {
+        Some(date) => dump_at(rt, line, payload, since, date, terminal),
+        None => say(rt, "the clock", "it tells no date"),
+    }
+}
+
+/// Dumps a payload at this date, and answers the status.
+fn dump_at<R: System, M: Medium + Drop, T: Write + Copy + Drop>(
+    rt: &R,
+    line: &DumpLine<'_>,
+    payload: PayloadFile<M>,
+    since: u64,
+    date: u64,
+    terminal: Option<T>,
+) -> io::Result<u8>
+    requires { payload.size ≡ line.now.block }
+    ensures { IfOk result IsStatus }
+{
+    let gauge = terminal.map(|it| ProgressLine::new(rt, it));
+    match dumper(rt.alloc(), line, date, since, payload, gauge) {
+        Ok(mut client) => run_client(rt, line, &mut client, terminal),
+        Err(fault) => refuse_dumper(rt, fault),
+    }
+}
+
+/// Tells why there is no client for a dump, and answers the status.
+fn refuse_dumper<R: System>(rt: &R, fault: DumperFault) -> io::Result<u8>
+    ensures { IfOk result (λ status. status ≡ 1) }
+{
+    match fault {
+        DumperFault::Run(fault) => refuse_run(rt, fault),
+        DumperFault::OutOfMemory => tell(rt, "", io::ErrorKind::OutOfMemory.into()),
+    }
+}

@@ -1,0 +1,23 @@
+//! What `rdump` does: reads its words, and dumps a payload, reads a volume back, does one operation at a drive, or asks a
+//! dumpdates file. Each answers the exit status; what is at fault is told on the way.
+//!
+//! `rdump` is all of it, and `run_words` the same for words that are given. Each command is a call of its own: `run_dump`,
+//! `run_read`, `run_mt` and `run_dates`. `run_client` is a dump from its client on. What they use of the runtime is `System`.
+#![tactic(auto)]
+
+mod dates_command;
+mod dump_command;
+mod dumping;
+mod fault;
+mod mt_command;
+mod program;
+mod read_command;
+mod system;
+
+pub use dates_command::run_dates;
+pub use dump_command::run_dump;
+pub use dumping::run_client;
+pub use mt_command::run_mt;
+pub use program::{rdump, run_words};
+pub use read_command::run_read;
+pub use system::System;

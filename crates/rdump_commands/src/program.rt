@@ -1,0 +1,64 @@
+//! The program: its words, and the command that they name.
+ghost use Rattle.std.specs.Prelude.{IfOk};
+ghost use Rattle.rdump_commands.specs.Status.{IsHelpStatus, IsStatus};
+
+use crate::fault::{FAILED, tell, unwritten};
+use crate::{System, run_dates, run_dump, run_mt, run_read};
+use clap::error::ErrorKind;
+use rdump_words::{RdumpLine, rdump_words};
+use std::convert::AsStr;
+use std::env;
+use std::io::{self, Write};
+
+/// Does what the words of the process ask, and answers the exit status of `rdump`. `terminal` is standard error, where that is
+/// a terminal: it shows the progress of a dump.
+///
+/// The status is 0 where all was done, 1 where it could not begin, as where the words are wrong or a file can't be read, and 3
+/// where it ended before it was done. Help and the version end with 0. What is at fault is told on standard error, and refused
+/// memory on standard output.
+///
+/// It fails where that could not be told.
+pub fn rdump<R: System, T: Write + Copy + Drop>(rt: &R, terminal: Option<T>) -> io::Result<u8>
+    ensures { IfOk result IsStatus }
+{
+    match words(rt) {
+        Ok(words) => run_words(rt, words.as_slice(), terminal),
+        Err(error) => tell(rt, "the words could not be read", error),
+    }
+}
+
+/// The words of the process, its own name first.
+fn words<R: System>(rt: &R) -> io::Result<Vec<String>> {
+    Ok(env::args(rt)?.collect(rt.alloc())?)
+}
+
+/// Does what these words ask, of which the first is the name of the program itself, and answers the status, both as `rdump`
+/// does.
+pub fn run_words<R: System, S: AsStr, T: Write + Copy + Drop>(
+    rt: &R,
+    words: &[S],
+    terminal: Option<T>,
+) -> io::Result<u8>
+    ensures { IfOk result IsStatus }
+{
+    match rdump_words(rt.alloc(), words) {
+        Ok(RdumpLine::Dump(line)) => run_dump(rt, &line, terminal),
+        Ok(RdumpLine::Read(line)) => run_read(rt, line),
+        Ok(RdumpLine::Mt(line)) => run_mt(rt, line),
+        Ok(RdumpLine::Dates { file, asked }) => run_dates(rt, file, asked),
+        Err(error) => refuse(rt, error),
+    }
+}
+
+/// Tells why words gave nothing to do, and answers the status. Help and the version go to standard output.
+fn refuse<R: System>(rt: &R, error: clap::Error) -> io::Result<u8>
+    ensures { IfOk result IsHelpStatus }
+{
+    if error.kind() == ErrorKind::OutOfMemory {
+        return tell(rt, "", io::ErrorKind::OutOfMemory.into());
+    }
+    if error.print(rt).is_err() {
+        return unwritten(rt, FAILED);
+    }
+    Ok(if error.use_stderr() { FAILED } else { 0 })
+}

@@ -1,0 +1,7 @@
+-- In reading order, each by itself: Payload (what is dumped); Dates (the dumpdates file); WholeFile, Updating (a dump that is entered in it);
+-- Entering (once it is complete).
+pub mod Dates
+pub mod Entering
+pub mod Payload
+pub mod Updating
+pub mod WholeFile

@@ -1,0 +1,31 @@
+-- A dump that is entered in a dumpdates file. Public contracts cite it.
+use Rattle.std.specs.Prelude.{◌≡◌, ◌⊎◌, ℕ, List, [], Option, unwrap_or, Result, Ok, Err}
+use Rattle.dumpdates.specs.Dates.{entered}
+use Rattle.dumpdates.specs.Entry.{DatesEntry}
+use Rattle.dumpdates.specs.Lines.{HasDatesFault, SpellsDates}
+use Rattle.dumpdates.specs.Text.{written}
+use Rattle.dumpdates.specs.declared.fault.DatesFault.TheVariants.{OutOfMemory}
+use Rattle.rdump_files.specs.WholeFile.{WholeFileKind}
+use Rattle.rdump_files.specs.declared.whole_file.FileFailed.{FileFailed}
+use Rattle.rdump_files.specs.declared.dates_update.UpdateFault.{UpdateFault}
+use Rattle.rdump_files.specs.declared.dates_update.UpdateFault.TheVariants.{Unread, Dates, Unwritten}
+
+-- the text of these bytes with the entry is put in place of the file, or could not be
+abbrev pub PutsEntry : {F : Type 0} → WholeFileKind F → DatesEntry → List ℕ → F → F → Result Unit FileFailed → Type 0
+PutsEntry k entry bytes old new done =
+    (entries : List DatesEntry) × SpellsDates bytes entries × k.takes old (written (entered entries entry)) done new
+
+-- What became of an entry for what was read: the text with the entry was put in place of the file, or could not be; a file that is not
+-- there is empty. Or the file is no dumpdates file, or memory was refused, or it could not be read, and it is left alone.
+abbrev pub PutsInto : {F : Type 0} → WholeFileKind F → DatesEntry → Result (Option (List ℕ)) FileFailed → F → F
+    → Result Unit UpdateFault → Type 0
+PutsInto k entry (Ok bytes) old new (Ok x) = PutsEntry k entry (unwrap_or bytes []) old new (Ok x)
+PutsInto {F} k entry (Ok bytes) old new (Err Unwritten) = (failed : FileFailed) × PutsEntry k entry (unwrap_or bytes []) old new (Err failed)
+PutsInto k entry (Ok bytes) old new (Err (Dates fault)) = (new ≡ old) × (HasDatesFault (unwrap_or bytes []) fault ⊎ (fault ≡ OutOfMemory))
+PutsInto k entry (Err failed) old new (Err Unread) = new ≡ old
+PutsInto k entry read old new result = ⊥
+
+-- the file is read, and then the entry is put into what it held
+abbrev pub IsUpdated : {F : Type 0} → WholeFileKind F → DatesEntry → F → F → Result Unit UpdateFault → Type 0
+IsUpdated {F} k entry old new result =
+    (read : Result (Option (List ℕ)) FileFailed) × (between : F) × k.gives old read between × PutsInto k entry read between new result

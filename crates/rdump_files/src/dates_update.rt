@@ -1,0 +1,63 @@
+//! A dump that is entered in a dumpdates file.
+ghost use Rattle.std.specs.Prelude.{◌≡◌, ◌⊎◌, List, IfErr, IfOk};
+ghost use Rattle.dumpdates.specs.Dates.{entered};
+ghost use Rattle.dumpdates.specs.Entry.{DatesEntry};
+ghost use Rattle.dumpdates.specs.Lines.{HasDatesFault, SpellsDates};
+ghost use Rattle.dumpdates.specs.Stored.{plain_entry};
+ghost use Rattle.dumpdates.specs.Text.{written};
+ghost use Rattle.dumpdates.specs.declared.fault.DatesFault.TheVariants.{OutOfMemory};
+ghost use Rattle.rdump_files.specs.Updating.{IsUpdated};
+ghost use Rattle.rdump_files.specs.WholeFile.{whole_file};
+
+use crate::whole_file::or_empty;
+use crate::{FileFailed, WholeFile};
+use dumpdates::{Dates, DatesFault, Entry};
+use std::alloc::Global;
+
+/// Why a dump was not entered.
+#[derive(Clone, Copy, Debug, PartialEq, Eq)]
+pub enum UpdateFault {
+    /// The file could not be read.
+    Unread,
+    /// The file is no dumpdates file, or memory was refused.
+    Dates(DatesFault),
+    /// The text with the dump could not be put in place of the file.
+    Unwritten,
+}
+
+/// Enters a dump in a dumpdates file: reads the file anew, and puts its text with the dump in place of it. A file that is
+/// not there is empty.
+///
+/// Answers `Unread` and `Unwritten` where the file failed, and `Dates` where it is no dumpdates file or memory is refused.
+/// It is replaced in no case but the last step's.
+pub fn update<F: WholeFile>(
+    alloc: Global,
+    file: &mut F,
+    entry: Entry<'_>,
+) -> Result<(), UpdateFault>
+    ensures { IsUpdated (whole_file F.gives F.takes) (plain_entry entry.entry) file.old file.new result }
+{
+    let Ok(bytes) = file.read(alloc) else {
+        return Err(UpdateFault::Unread);
+    };
+    let bytes = or_empty(alloc, bytes);
+    let text = match text_with(alloc, &bytes, entry) {
+        Ok(text) => text,
+        Err(fault) => return Err(UpdateFault::Dates(fault)),
+    };
+    match file.replace(&text) {
+        Ok(()) => Ok(()),
+        Err(FileFailed) => Err(UpdateFault::Unwritten),
+    }
+}
+
+/// The text of a dumpdates file with this dump.
+fn text_with(alloc: Global, file: &[u8], entry: Entry<'_>) -> Result<Vec<u8>, DatesFault>
+    ensures text { IfOk result (λ text. (entries : List DatesEntry) × SpellsDates file.now entries
+        × (text.items ≡ written (entered entries (plain_entry entry.entry)))) }
+    ensures fault { IfErr result (λ fault. HasDatesFault file.now fault ⊎ (fault ≡ OutOfMemory)) }
+{
+    let mut dates = Dates::read(alloc, file)?;
+    dates.enter(entry)?;
+    dates.text()
+}

@@ -1,0 +1,56 @@
+//! A dump that is entered in a dumpdates file once it is complete.
+ghost use Rattle.rdump_files.specs.Entering.{IsDumpEntered, IsUpdateTold, sinks};
+ghost use Rattle.rdump_files.specs.WholeFile.{whole_file};
+
+use crate::{UpdateFault, WholeFile, update};
+use dump_client::{Blocks, Client};
+use rdump_talk::{Peer, dump};
+use rmt_wire::{Counted, print_text};
+use std::alloc::Global;
+use std::io::{Read, Write};
+
+/// The status of a dump that is complete.
+const COMPLETE: u8 = 0;
+
+/// The status of a dump that was abandoned, could not be told of, or could not be entered.
+const ABNORMAL: u8 = 3;
+
+/// Has a client write its run over a peer, as `dump` does, and enters it in a dumpdates file once it is complete and
+/// `dump complete` is printed. Where it can't be entered it prints `dumpdates not updated`.
+///
+/// Answers the exit status: 0 where the run is finished, all was printed and the run is entered, and else 3. The file is
+/// read and replaced in no other run than one that is finished and told of.
+pub fn dump_and_update<B: Blocks, P: Peer, R: Read, W: Write, F: WholeFile>(
+    alloc: Global,
+    client: &mut Client<B>,
+    peer: &mut P,
+    operator: &mut R,
+    out: &mut Counted<W>,
+    file: &mut F,
+) -> u8
+    ensures { IsDumpEntered W.contents (whole_file F.gives F.takes) client.old.at.counts client.new.at
+        (sinks out.old file.old) (sinks out.new file.new) result }
+{
+    let status = dump(alloc, client, peer, operator, out);
+    if status != COMPLETE {
+        return status;
+    }
+    let Some(entry) = client.finished() else {
+        return ABNORMAL;
+    };
+    let updated = update(alloc, file, entry);
+    tell(updated, out)
+}
+
+/// Tells of a dump that is complete and was not entered, and answers the status.
+fn tell<W: Write>(updated: Result<(), UpdateFault>, out: &mut Counted<W>) -> u8
+    ensures { IsUpdateTold W.contents updated out.old out.new result }
+{
+    match updated {
+        Ok(()) => COMPLETE,
+        Err(_) => {
+            print_text(out, b"dumpdates not updated\n");
+            ABNORMAL
+        }
+    }
+}

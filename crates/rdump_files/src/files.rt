@@ -1,0 +1,55 @@
+//! The files that a dump reads, and the clock.
+
+use crate::whole_file::or_empty;
+use std::alloc::Global;
+use std::fs::File;
+use std::io::{self, ErrorKind, Read};
+use std::rt::Files;
+use std::time::{Clock, SystemTime, UNIX_EPOCH};
+
+/// Reads a file whole, from where it stands. None where it is a plain file and is no longer as long as it was when the
+/// reading began.
+pub fn read_steady(alloc: Global, mut file: File) -> io::Result<Option<Vec<u8>>> {
+    let before = file.metadata()?;
+    let bytes = read_rest(alloc, &mut file)?;
+    let len = bytes.len() as u64;
+    let after = file.metadata()?;
+    let steady = !before.is_file() || (before.len() == after.len() && before.len() == len);
+    Ok(steady.then_some(bytes))
+}
+
+/// The bytes of a file from where it stands.
+fn read_rest(alloc: Global, file: &mut File) -> io::Result<Vec<u8>> {
+    let mut bytes = Vec::new(alloc);
+    file.read_to_end(&mut bytes)?;
+    Ok(bytes)
+}
+
+/// Reads a file whole. None where it is not there.
+pub(crate) fn read_if_there<R: Files<File = File>>(
+    rt: &R,
+    alloc: Global,
+    path: &str,
+) -> io::Result<Option<Vec<u8>>> {
+    match File::open(rt, path) {
+        Ok(mut file) => Ok(Some(read_rest(alloc, &mut file)?)),
+        Err(error) if error.kind() == ErrorKind::NotFound => Ok(None),
+        Err(error) => Err(error),
+    }
+}
+
+/// Reads a file whole. A file that is not there is empty.
+pub fn read_or_empty<R: Files<File = File>>(
+    rt: &R,
+    alloc: Global,
+    path: &str,
+) -> io::Result<Vec<u8>> {
+    let bytes = read_if_there(rt, alloc, path)?;
+    Ok(or_empty(alloc, bytes))
+}
+
+/// The clock's seconds since 1970 began, UTC. None where it stands before that, or can't be read.
+pub fn seconds_now<R: Clock>(rt: &R) -> Option<u64> {
+    let now = SystemTime::now(rt).ok()?;
+    Some(now.duration_since(UNIX_EPOCH).ok()?.as_secs())
+}

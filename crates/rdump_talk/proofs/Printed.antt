@@ -1,0 +1,112 @@
+-- Texts that are printed one after the other, and the lines of a dump.
+use Rattle.std.proofs.Common.{◌≡◌, ◌≢◌, ◌+◌, ℕ, List, [], ◌++◌, Bool, true, false, if◌then◌else◌, inl, inr, Option, Some, None, refl, sym, ap, subst, ◌∙◌, min, take, drop, length, append-nil, append_assoc, arith}
+use Rattle.std.specs.Io.KnownBytes.{Appends}
+use Rattle.std.proofs.KnownBytes.{Appends-nil, Appends-trans}
+use Rattle.std.proofs.Math.Seq.{take-append-add}
+use Rattle.std.proofs.lemmas.List.{take-append-le, take_min}
+use Rattle.rmt_wire.specs.Counted.{Counting, HasRisen}
+use Rattle.dump_client.specs.declared.count.VolumeCount.{VolumeCount}
+use Rattle.dump_client.specs.Standing.{Standing, checkpoint_of, state_of}
+use Rattle.dump_client.specs.declared.fault.AttemptFault.{AttemptFault}
+use Rattle.dump_client.specs.declared.stage.Stage.{Stage}
+use Rattle.dump_client.specs.declared.stage.Stage.TheVariants.{Ready, ToSend, Waiting, Asking, Finished, Abandoned}
+use Rattle.dump_client.specs.declared.stage.State.{State}
+use Rattle.dump_client.specs.declared.stage.State.TheVariants as told
+use Rattle.rmt_wire.specs.Print.{IsPrinted}
+use Rattle.rdump_talk.specs.Lines.{DumpLines, IsDumped, IsFinish, IsLast, IsRound, abandoned_line, complete_line, count_lines, failure_lines}
+use Rattle.rdump_talk.specs.Lines.DumpLines.{none, counted, failed}
+
+module _ {W : Type 0} (contents : W → Option (List ℕ)) where
+  pub nothing_printed : (out : Counting W) → IsPrinted contents [] out out true
+  nothing_printed out = (Appends-nil (contents out.inner), refl)
+
+  -- one text, and then another
+  pub printed_both : (one two : List ℕ) (a b c : Counting W) (whole : Bool) → IsPrinted contents one a b true → IsPrinted contents two b c whole
+      → IsPrinted contents (one ++ two) a c whole
+  printed_both one two a b c true h k = (Appends-trans _ _ _ one two h.0 k.0, k.1 ∙ h.1)
+  printed_both one two a b c false h k = (
+    (
+      length one + k.0.0,
+      subst (Appends (contents a.inner) (contents c.inner)) (sym (take-append-add one two k.0.0)) (Appends-trans _ _ _ one (take k.0.0 two) h.0 k.0.1),
+    ),
+    subst (λ n. HasRisen n c.failures) h.1 k.1,
+  )
+
+  -- a beginning of a text is one of it with more after it
+  pub printed_less : (one two : List ℕ) (a b : Counting W) → IsPrinted contents one a b false → IsPrinted contents (one ++ two) a b false
+  printed_less one two a b h = (
+    (
+      min h.0.0 (length one),
+      subst (Appends (contents a.inner) (contents b.inner)) (sym (take-append-le (min h.0.0 (length one)) one two (omega arith) ∙ take_min h.0.0 one)) h.0.1,
+    ),
+    h.1,
+  )
+
+-- lines, and then further lines
+pub lines_both : (a b : List VolumeCount) (one : List ℕ) → DumpLines a b one → (c : List VolumeCount) (two : List ℕ) → DumpLines b c two → DumpLines a c (one ++ two)
+lines_both a b one h c two none = subst (DumpLines a b) (sym (append-nil one)) h
+lines_both a b one h c two (counted {counts = counts} {text = text} new k) =
+    subst (DumpLines a c) (append_assoc one text (count_lines (drop (length counts) c))) (counted c (lines_both a b one h counts text k))
+lines_both a b one h c two (failed {text = text} fault k) =
+    subst (DumpLines a c) (append_assoc one text (failure_lines (checkpoint_of c).0 fault)) (failed fault (lines_both a b one h c text k))
+
+-- the lines of what was counted since
+pub lines_since : (old new : List VolumeCount) (n : ℕ) → n ≡ length old → DumpLines old new (count_lines (drop n new))
+lines_since old new n e = subst (λ m. DumpLines old new (count_lines (drop m new))) (sym e) (counted new none)
+
+pub lines_failed : (counts : List VolumeCount) (fault : AttemptFault) → DumpLines counts counts (failure_lines (checkpoint_of counts).0 fault)
+lines_failed counts fault = failed fault none
+
+pub lines_same : (old new : List VolumeCount) → new ≡ old → DumpLines old new []
+lines_same old new e = subst (λ n. DumpLines old n []) (sym e) none
+
+-- the state that is told is that of the stage
+pub finished_stage : (stage : Stage) (state : State) → state ≡ state_of stage → state ≡ told.Finished → stage ≡ Finished
+finished_stage Ready state e h = cc
+finished_stage (ToSend step) state e h = cc
+finished_stage (Waiting step) state e h = cc
+finished_stage Asking state e h = cc
+finished_stage Finished state e h = refl
+finished_stage Abandoned state e h = cc
+
+pub not_finished : (stage : Stage) (state : State) → state ≡ state_of stage → ¬ (state ≡ told.Finished) → stage ≢ Finished
+not_finished stage state e h same = h (e ∙ ap state_of same)
+
+pub last_complete : (whole : Bool) (at : Standing) (status : ℕ) → at.stage ≡ Finished → status ≡ (if whole then 0 else 3) → IsLast whole at (complete_line at.counts) status
+last_complete true at status h e = inl (h, refl, e)
+last_complete false at status h e = e
+
+pub last_abandoned : (whole : Bool) (at : Standing) (status : ℕ) → at.stage ≢ Finished → status ≡ (if whole then 3 else 3) → IsLast whole at abandoned_line status
+last_abandoned true at status h e = inr (h, refl, e)
+last_abandoned false at status h e = e
+
+module _ {W : Type 0} (contents : W → Option (List ℕ)) where
+  -- a part that was cut short
+  pub cut_short : (first : List VolumeCount) (at : Standing) (out out' : Counting W) (text : List ℕ) → DumpLines first at.counts text
+      → IsPrinted contents text out out' false → IsDumped contents first at out out' 3
+  cut_short first at out out' text lines printed = record {
+    text = text;
+    last = [];
+    whole = false;
+    lines = lines;
+    printed = subst (λ t. IsPrinted contents t out out' false) (sym (append-nil text)) printed;
+    ends = refl;
+  }
+
+  -- the last line alone
+  pub last_alone : (at : Standing) (out out' : Counting W) (status : ℕ) → IsFinish contents at out out' status → IsDumped contents at.counts at out out' status
+  last_alone at out out' status h = record { text = []; last = h.0; whole = h.1; lines = none; printed = h.2; ends = h.3 }
+
+  -- a part, and then another
+  pub round_after : (first : List VolumeCount) (counts : List VolumeCount) (at : Standing) (a b c : Counting W) (text : List ℕ) (result : Option ℕ)
+      → DumpLines first counts text → IsPrinted contents text a b true → IsRound contents counts at b c result → IsRound contents first at a c result
+  round_after first counts at a b c text None lines printed h =
+      (text ++ h.0, lines_both first counts text lines at.counts h.0 h.1, printed_both contents text h.0 a b c true printed h.2)
+  round_after first counts at a b c text (Some status) lines printed h = record {
+    text = text ++ h.text;
+    last = h.last;
+    whole = h.whole;
+    lines = lines_both first counts text lines at.counts h.text h.lines;
+    printed = subst (λ t. IsPrinted contents t a c h.whole) (sym (append_assoc text h.text h.last)) (printed_both contents text (h.text ++ h.last) a b c h.whole printed h.printed);
+    ends = h.ends;
+  }

@@ -1,0 +1,442 @@
+-- A volume that is read over a peer, put together.
+use Rattle.std.proofs.Common.{◌≡◌, ◌≢◌, inl, inr, ℕ, ◌+◌, ◌-◌, ◌^◌, ◌≤◌, List, [], ◌∷◌, ◌++◌, length, Bool, true, false, Option, Some, None, Result, Ok, Err, Vec, Global, refl, sym, ap, subst, ◌∙◌, if◌then◌else◌, append-nil, append_assoc, length-append, nat_eq, arith}
+use Rattle.std.proofs.lemmas.Bool.Decides.{nat_tests}
+use Rattle.std.specs.List.{concat}
+use Rattle.std.proofs.lemmas.List.Folds.{concat-append}
+use Rattle.rmt_wire.specs.Counted.{Counting}
+use Rattle.rmt_wire.specs.declared.mtio.TheConstants.{MTREW}
+use Rattle.rmt_wire.specs.declared.limits.TheConstants.{RECORD_LIMIT}
+use Rattle.rmt_wire.specs.Reply.{PlainReply}
+use Rattle.rmt_wire.specs.Reply.PlainReply.{Done, Data, Error}
+use Rattle.rmt_wire.specs.Reply.Wanted.{Number}
+use Rattle.rmt_wire.specs.Request.{PlainRequest}
+use Rattle.rmt_wire.specs.Request.PlainRequest.{Close, Read, Op}
+use Rattle.rdump_talk.specs.KeptReply.{told_reply}
+use Rattle.rdump_talk.specs.Call.{wanted_by, IsPeerCall, IsCalled, Brings}
+use Rattle.rdump_talk.specs.Calls.{is_done, CallsFollow, Stops, Extends}
+use Rattle.rmt_wire.specs.Print.{IsPrinted}
+use Rattle.rdump_talk.specs.Ends.{copy_ends, copy_kind, stream_ends, stream_kind}
+use Rattle.rdump_talk.specs.Reading.{next_of, next_read, records_of, text_of, label_text, file_bytes, IsNamed, ReadFails, is_whole, read_fault, AreRecords, IsVolumeReading, Breaks, CallSteps, IsBegun, IsDone, IsDoneBy, IsRecordRead, Reads, AreRecordsWritten, IsCopied, IsThrough}
+use Rattle.rdump_talk.specs.declared.kept_reply.KeptReply.{KeptReply}
+use Rattle.rdump_talk.specs.declared.kept_reply.KeptReply.TheVariants as kept
+use Rattle.rdump_talk.specs.declared.fault.VolumeRequest.{VolumeRequest}
+use Rattle.rdump_talk.specs.declared.fault.CallFault.{CallFault}
+use Rattle.rdump_talk.specs.declared.fault.CallFault.TheVariants as call
+use Rattle.rdump_talk.specs.declared.fault.ReadFault.{ReadFault}
+use Rattle.rdump_talk.specs.declared.fault.ReadFault.TheVariants.{Refused, Botched, OutputFailed}
+use Rattle.rdump_talk.specs.declared.peer.Passed.{Passed}
+use Rattle.rdump_talk.proofs.Calls.{logs_both, call_extends, call_finishes, extends_both}
+use Rattle.rdump_talk.proofs.Printed.{nothing_printed, printed_both}
+use Rattle.rdump_talk.proofs.Talking.{alone}
+
+-- the records of replies, and of more
+pub records_more : (a b : List PlainReply) → records_of (a ++ b) ≡ records_of a ++ records_of b
+records_more [] b = refl
+records_more (Data bytes ∷ a) b = ap (λ l. bytes ∷ l) (records_more a b)
+records_more (Done n ∷ a) b = records_more a b
+records_more (Error n text ∷ a) b = records_more a b
+
+records_same : (a b : List PlainReply) → records_of b ≡ [] → records_of (a ++ b) ≡ records_of a
+records_same a b none = records_more a b ∙ ap (λ l. records_of a ++ l) none ∙ append-nil (records_of a)
+
+-- what is asked after records
+read_again : (reads : List PlainReply) → AreRecords reads → next_read reads ≡ Some (Read RECORD_LIMIT)
+read_again [] h = refl
+read_again (Data [] ∷ reads) h = absurd h
+read_again (Data (b ∷ bytes) ∷ reads) h = read_again reads h
+read_again (Done n ∷ reads) h = absurd h
+read_again (Error n text ∷ reads) h = absurd h
+
+close_after : (reads : List PlainReply) → AreRecords reads → next_read (reads ++ Data [] ∷ []) ≡ Some Close
+close_after [] h = refl
+close_after (Data [] ∷ reads) h = absurd h
+close_after (Data (b ∷ bytes) ∷ reads) h = close_after reads h
+close_after (Done n ∷ reads) h = absurd h
+close_after (Error n text ∷ reads) h = absurd h
+
+one_record : (bytes : List ℕ) → bytes ≢ [] → AreRecords (Data bytes ∷ [])
+one_record [] some = absurd (some refl)
+one_record (b ∷ bytes) some = tt
+
+record_after : (reads : List PlainReply) (bytes : List ℕ) → AreRecords reads → bytes ≢ [] → AreRecords (reads ++ Data bytes ∷ [])
+record_after [] bytes h some = one_record bytes some
+record_after (Data [] ∷ reads) bytes h some = absurd h
+record_after (Data (b ∷ more) ∷ reads) bytes h some = record_after reads bytes h some
+record_after (Done n ∷ reads) bytes h some = absurd h
+record_after (Error n text ∷ reads) bytes h some = absurd h
+
+pub reading_next : (device : List ℕ) (replies : List PlainReply) → IsVolumeReading replies → next_of device replies ≡ Some (Read RECORD_LIMIT)
+reading_next device replies (opened, rewound, reads, e, met, h) =
+    ap (next_of device) e ∙ ap (λ b. if b then next_read reads else None) met ∙ read_again reads h
+
+pub reading_mark : (device : List ℕ) (replies : List PlainReply) → IsVolumeReading replies → next_of device (replies ++ Data [] ∷ []) ≡ Some Close
+reading_mark device replies (opened, rewound, reads, e, met, h) =
+    ap (λ l. next_of device (l ++ Data [] ∷ [])) e ∙ ap (λ b. if b then next_read (reads ++ Data [] ∷ []) else None) met ∙ close_after reads h
+
+pub reading_more : (replies : List PlainReply) (bytes : List ℕ) → IsVolumeReading replies → bytes ≢ [] → IsVolumeReading (replies ++ Data bytes ∷ [])
+reading_more replies bytes (opened, rewound, reads, e, met, h) some =
+    (opened, rewound, reads ++ Data bytes ∷ [], ap (λ l. l ++ Data bytes ∷ []) e, met, record_after reads bytes h some)
+
+-- no reply is of the wrong kind
+data_answers_no_number : (request : PlainRequest) (bytes : List ℕ) (passed : List Passed) → wanted_by request ≡ Number → IsPeerCall request (Ok (Data bytes)) passed → ⊥
+data_answers_no_number request bytes passed w (inl (more, brings, rest)) = (subst (λ k. Brings k (Ok (Data bytes)) more) w brings).1
+data_answers_no_number request bytes passed w (inr (inl (unlike, sent))) = absurd (cc)
+data_answers_no_number request bytes passed w (inr (inr (unlike, nothing))) = absurd (cc)
+
+number_answers_no_read : (n count : ℕ) (passed : List Passed) → IsPeerCall (Read count) (Ok (Done n)) passed → ⊥
+number_answers_no_read n count passed (inl (more, brings, rest)) = brings.1
+number_answers_no_read n count passed (inr (inl (unlike, sent))) = absurd (cc)
+number_answers_no_read n count passed (inr (inr (unlike, nothing))) = absurd (cc)
+
+module _ {P : Type 0} (tells : P → List Passed → Type 0) where
+  pub no_data : (p q : P) (request : PlainRequest) (result : Result KeptReply CallFault) (bytes : Vec ℕ Global) → wanted_by request ≡ Number → result ≡ Ok (kept.Data bytes)
+      → IsCalled tells request (told_reply result) p q → ⊥
+  no_data p q request result bytes w is h =
+      let called = subst (λ r. IsCalled tells request (told_reply r) p q) is h in
+      data_answers_no_number request bytes.items called.0 w called.1
+
+  pub no_number : (p q : P) (count : ℕ) (result : Result KeptReply CallFault) (n : ℕ) → result ≡ Ok (kept.Done n) → IsCalled tells (Read count) (told_reply result) p q → ⊥
+  no_number p q count result n is h =
+      let called = subst (λ r. IsCalled tells (Read count) (told_reply r) p q) is h in
+      number_answers_no_read n count called.0 called.1
+
+module _ {P : Type 0} (next : List PlainReply → Option PlainRequest) (tells : P → List Passed → Type 0) where
+  -- further calls, and then one that fails
+  pub breaks_after : (p q r : P) (a b c : List PlainReply) (fault : ReadFault) → Extends next tells p q a b → Breaks next tells q r b fault c → Breaks next tells p r a fault c
+  breaks_after p q r a b c fault x y = record {
+    more = x.more ++ y.more;
+    logs = logs_both tells p q r x.more y.more x.logs y.logs;
+    fails = λ passed f. subst (λ l. ReadFails next c l fault) (append_assoc passed x.more y.more) (y.fails (passed ++ x.more) (x.follows passed f));
+  }
+
+  pub extends_none : (p : P) (a : List PlainReply) → Extends next tells p p a a
+  extends_none p a = record { more = []; logs = alone tells p; follows = λ passed f. subst (CallsFollow next a) (sym (append-nil passed)) f }
+
+  -- a call is done
+  pub step_done : (p q : P) (replies : List PlainReply) (request : PlainRequest) (result : Result KeptReply CallFault) (n : ℕ) → next replies ≡ Some request → result ≡ Ok (kept.Done n)
+      → IsCalled tells request (told_reply result) p q → IsDone next tells p q replies (Ok tt)
+  step_done p q replies request result n e is h = (Done n, refl, refl, call_extends next tells p q replies request result (kept.Done n) e is h)
+
+  -- it is refused
+  pub step_refused : (p q : P) (replies : List PlainReply) (request : PlainRequest) (result : Result KeptReply CallFault) (asked : VolumeRequest) (n : ℕ) (text : Vec ℕ Global) → next replies ≡ Some request
+      → result ≡ Ok (kept.Error n text) → IsNamed asked request → IsCalled tells request (told_reply result) p q → CallSteps next tells p q replies (Err (Refused asked n))
+  step_refused p q replies request result asked n text e is named h =
+      let x = call_extends next tells p q replies request result (kept.Error n text) e is h in (
+        replies ++ Error n text.items ∷ [],
+        record { more = x.more; logs = x.logs; fails = λ passed f. (x.follows passed f, (replies, text.items, request, refl, e, named)) },
+        records_same replies (Error n text.items ∷ []) refl,
+        refl,
+      )
+
+  -- it has no reply
+  failed_so : (fault : CallFault) (replies : List PlainReply) (passed : List Passed) → Stops next (Some fault) replies passed → ReadFails next replies passed (read_fault fault)
+  failed_so call.ConnectionEnded replies passed h = h
+  failed_so call.Botched replies passed h = inl h
+  failed_so call.OutOfMemory replies passed h = h
+
+  whole_so : (fault : CallFault) → is_whole (Err (read_fault fault)) ≡ true
+  whole_so call.ConnectionEnded = refl
+  whole_so call.Botched = refl
+  whole_so call.OutOfMemory = refl
+
+  pub step_failed : (p q : P) (replies : List PlainReply) (request : PlainRequest) (result : Result KeptReply CallFault) (fault : CallFault) (told : ReadFault) → next replies ≡ Some request → result ≡ Err fault
+      → told ≡ read_fault fault → IsCalled tells request (told_reply result) p q → CallSteps next tells p q replies (Err told)
+  step_failed p q replies request result fault told e is same h =
+      let x = call_finishes next tells p q replies request result fault e is h in
+      subst (λ f. CallSteps next tells p q replies (Err f)) (sym same) (
+        replies,
+        record { more = x.more; logs = x.logs; fails = λ passed f. failed_so fault replies (passed ++ x.more) (x.stops passed f) },
+        refl,
+        whole_so fault,
+      )
+
+-- the records that were written so far
+pub record WrittenTo {P F : Type 0} (tells : P → List Passed → Type 0) (filed : F → Option (List ℕ)) (device : List ℕ) (replies : List PlainReply)
+    (p q : P) (file file' : Counting F) (turn : ℕ) : Type 0 where
+  pub later : List PlainReply
+  pub more : List (List ℕ)
+  pub reading : IsVolumeReading later
+  pub extends : Extends (next_of device) tells p q replies later
+  pub adds : records_of later ≡ records_of replies ++ more
+  pub turns : turn ≤ length later
+  pub written : IsPrinted filed (concat more) file file' true
+
+concat_one : (more : List (List ℕ)) (bytes : List ℕ) → concat (more ++ bytes ∷ []) ≡ concat more ++ bytes
+concat_one more bytes = concat-append more (bytes ∷ []) ∙ ap (λ l. concat more ++ l) (append-nil bytes)
+
+module _ {P F : Type 0} (tells : P → List Passed → Type 0) (filed : F → Option (List ℕ)) (device : List ℕ) (replies : List PlainReply) where
+  pub written_none : (p : P) (file : Counting F) → IsVolumeReading replies → WrittenTo tells filed device replies p p file file 0
+  written_none p file reading = record {
+    later = replies;
+    more = [];
+    reading = reading;
+    extends = extends_none (next_of device) tells p replies;
+    adds = sym (append-nil (records_of replies));
+    turns = omega arith;
+    written = nothing_printed filed file;
+  }
+
+  adds_one : (later : List PlainReply) (more : List (List ℕ)) (bytes : List ℕ) → records_of later ≡ records_of replies ++ more → records_of (later ++ Data bytes ∷ []) ≡ records_of replies ++ (more ++ bytes ∷ [])
+  adds_one later more bytes e = records_more later (Data bytes ∷ []) ∙ ap (λ l. l ++ bytes ∷ []) e ∙ append_assoc (records_of replies) more (bytes ∷ [])
+
+  -- the next record, of which some bytes are written
+  pub written_one : (p q r : P) (f g h : Counting F) (turn : ℕ) (bytes text : List ℕ) (w : WrittenTo tells filed device replies p q f g turn) → Extends (next_of device) tells q r w.later (w.later ++ Data bytes ∷ [])
+      → bytes ≢ [] → text ≡ bytes → IsPrinted filed text g h true → WrittenTo tells filed device replies p r f h (turn + 1)
+  written_one p q r f g h turn bytes text w x some same printed = record {
+    later = w.later ++ Data bytes ∷ [];
+    more = w.more ++ bytes ∷ [];
+    reading = reading_more w.later bytes w.reading some;
+    extends = extends_both (next_of device) tells p q r replies w.later (w.later ++ Data bytes ∷ []) w.extends x;
+    adds = adds_one w.later w.more bytes w.adds;
+    turns = let long = length-append w.later (Data bytes ∷ []) in omega (arith, w.turns, long);
+    written = subst (λ t. IsPrinted filed t f h true) (ap (λ t. concat w.more ++ t) same ∙ sym (concat_one w.more bytes)) (printed_both filed (concat w.more) text f g h true w.written printed);
+  }
+
+  -- the mark
+  pub written_all : (p q r : P) (f g : Counting F) (turn : ℕ) (bytes : List ℕ) (w : WrittenTo tells filed device replies p q f g turn) → Extends (next_of device) tells q r w.later (w.later ++ Data bytes ∷ [])
+      → bytes ≡ [] → AreRecordsWritten (next_of device) (stream_kind tells filed) replies (stream_ends p f) (stream_ends r g) (Ok tt)
+  written_all p q r f g turn bytes w x none =
+      let y : Extends (next_of device) tells q r w.later (w.later ++ Data [] ∷ []) = subst (λ b. Extends (next_of device) tells q r w.later (w.later ++ Data b ∷ [])) none x in
+      record {
+        later = w.later ++ Data [] ∷ [];
+        more = w.more ++ [] ∷ [];
+        adds = adds_one w.later w.more [] w.adds;
+        written = subst (λ t. IsPrinted filed t f g true) (sym (append-nil (concat w.more)) ∙ sym (concat_one w.more [])) w.written;
+        reads = (extends_both (next_of device) tells p q r replies w.later (w.later ++ Data [] ∷ []) w.extends y, reading_mark device w.later w.reading);
+      }
+
+  -- a write that fails
+  pub written_in_part : (p q r : P) (f g h : Counting F) (turn : ℕ) (bytes text : List ℕ) (w : WrittenTo tells filed device replies p q f g turn) → Extends (next_of device) tells q r w.later (w.later ++ Data bytes ∷ [])
+      → text ≡ bytes → IsPrinted filed text g h false → AreRecordsWritten (next_of device) (stream_kind tells filed) replies (stream_ends p f) (stream_ends r h) (Err OutputFailed)
+  written_in_part p q r f g h turn bytes text w x same printed =
+      let all = extends_both (next_of device) tells p q r replies w.later (w.later ++ Data bytes ∷ []) w.extends x in
+      record {
+        later = w.later ++ Data bytes ∷ [];
+        more = w.more ++ bytes ∷ [];
+        adds = adds_one w.later w.more bytes w.adds;
+        written = subst (λ t. IsPrinted filed t f h false) (ap (λ t. concat w.more ++ t) same ∙ sym (concat_one w.more bytes)) (printed_both filed (concat w.more) text f g h false w.written printed);
+        reads = record { more = all.more; logs = all.logs; fails = all.follows };
+      }
+
+  -- a record that does not come
+  pub written_so_far : (p q r : P) (f g : Counting F) (turn : ℕ) (fault : ReadFault) (w : WrittenTo tells filed device replies p q f g turn) → CallSteps (next_of device) tells q r w.later (Err fault)
+      → AreRecordsWritten (next_of device) (stream_kind tells filed) replies (stream_ends p f) (stream_ends r g) (Err fault)
+  written_so_far p q r f g turn fault w x = record {
+    later = x.0;
+    more = w.more;
+    adds = x.2 ∙ w.adds;
+    written = subst (IsPrinted filed (concat w.more) f g) (sym x.3) w.written;
+    reads = breaks_after (next_of device) tells p q r replies w.later x.0 fault w.extends x.1;
+  }
+
+  -- no mark
+  pub written_for_good : (p q : P) (f g : Counting F) (turn : ℕ) (w : WrittenTo tells filed device replies p q f g turn) → 2 ^ 64 - 1 ≤ turn → AreRecordsWritten (next_of device) (stream_kind tells filed) replies (stream_ends p f) (stream_ends q g) (Err Botched)
+  written_for_good p q f g turn w many = record {
+    later = w.later;
+    more = w.more;
+    adds = w.adds;
+    written = w.written;
+    reads = record { more = w.extends.more; logs = w.extends.logs; fails = λ passed k. inr (w.extends.follows passed k, omega (arith, w.turns, many)) };
+  }
+
+module _ {P F W : Type 0} (tells : P → List Passed → Type 0) (filed : F → Option (List ℕ)) (contents : W → Option (List ℕ)) (device : List ℕ) (replies : List PlainReply) where
+  -- the label does not come
+  pub copied_none : (p q : P) (f : Counting F) (o : Counting W) (fault : ReadFault) → records_of replies ≡ [] → CallSteps (next_of device) tells p q replies (Err fault)
+      → IsCopied (next_of device) (copy_kind tells filed contents) replies (copy_ends p f o) (copy_ends q f o) (Err fault)
+  copied_none p q f o fault none x = record {
+    later = x.0;
+    named = true;
+    filled = true;
+    label = subst (λ l. IsPrinted contents (label_text l) o o true) (sym (x.2 ∙ none)) (nothing_printed contents o);
+    records = subst (λ l. IsPrinted filed (file_bytes l) f f true) (sym (x.2 ∙ none)) (nothing_printed filed f);
+    whole = sym x.3;
+    reads = x.1;
+  }
+
+  -- what the first record is
+  first_record : (bytes : List ℕ) → records_of replies ≡ [] → records_of (replies ++ Data bytes ∷ []) ≡ bytes ∷ []
+  first_record bytes none = records_more replies (Data bytes ∷ []) ∙ ap (λ l. l ++ bytes ∷ []) none
+
+  -- a mark comes in its place
+  pub copied_mark : (p q : P) (f : Counting F) (o : Counting W) (bytes : List ℕ) → IsVolumeReading replies → records_of replies ≡ [] → Extends (next_of device) tells p q replies (replies ++ Data bytes ∷ []) → bytes ≡ []
+      → IsCopied (next_of device) (copy_kind tells filed contents) replies (copy_ends p f o) (copy_ends q f o) (Ok tt)
+  copied_mark p q f o bytes reading none x e =
+      let y : Extends (next_of device) tells p q replies (replies ++ Data [] ∷ []) = subst (λ b. Extends (next_of device) tells p q replies (replies ++ Data b ∷ [])) e x in
+      record {
+        later = replies ++ Data [] ∷ [];
+        named = true;
+        filled = true;
+        label = subst (λ l. IsPrinted contents (label_text l) o o true) (sym (first_record [] none)) (nothing_printed contents o);
+        records = subst (λ l. IsPrinted filed (file_bytes l) f f true) (sym (first_record [] none)) (nothing_printed filed f);
+        whole = refl;
+        reads = (y, reading_mark device replies reading);
+      }
+
+  -- the label is not printed
+  pub copied_unnamed : (p q : P) (f : Counting F) (o o' : Counting W) (bytes text : List ℕ) → records_of replies ≡ [] → Extends (next_of device) tells p q replies (replies ++ Data bytes ∷ [])
+      → text ≡ text_of bytes → IsPrinted contents text o o' false → IsCopied (next_of device) (copy_kind tells filed contents) replies (copy_ends p f o) (copy_ends q f o') (Err OutputFailed)
+  copied_unnamed p q f o o' bytes text none x same printed = record {
+    later = replies ++ Data bytes ∷ [];
+    named = false;
+    filled = true;
+    label = subst (λ l. IsPrinted contents (label_text l) o o' false) (sym (first_record bytes none)) (subst (λ t. IsPrinted contents t o o' false) same printed);
+    records = subst (λ l. IsPrinted filed (file_bytes l) f f true) (sym (first_record bytes none)) (nothing_printed filed f);
+    whole = refl;
+    reads = record { more = x.more; logs = x.logs; fails = x.follows };
+  }
+
+  after_label : (result : Result Unit ReadFault) (p q r : P) (bytes : List ℕ) (later : List PlainReply) → Extends (next_of device) tells p q replies (replies ++ Data bytes ∷ [])
+      → Reads (next_of device) tells q r (replies ++ Data bytes ∷ []) result later → Reads (next_of device) tells p r replies result later
+  after_label (Ok u) p q r bytes later x y = (extends_both (next_of device) tells p q r replies (replies ++ Data bytes ∷ []) later x y.0, y.1)
+  after_label (Err fault) p q r bytes later x y = breaks_after (next_of device) tells p q r replies (replies ++ Data bytes ∷ []) later fault x y
+
+  -- it is, and the records are written
+  pub copied_all : (p q r : P) (f f' : Counting F) (o o' : Counting W) (bytes text : List ℕ) (result : Result Unit ReadFault) → records_of replies ≡ [] → Extends (next_of device) tells p q replies (replies ++ Data bytes ∷ [])
+      → text ≡ text_of bytes → IsPrinted contents text o o' true → AreRecordsWritten (next_of device) (stream_kind tells filed) (replies ++ Data bytes ∷ []) (stream_ends q f) (stream_ends r f') result
+      → IsCopied (next_of device) (copy_kind tells filed contents) replies (copy_ends p f o) (copy_ends r f' o') result
+  copied_all p q r f f' o o' bytes text result none x same printed w =
+      let all : records_of w.later ≡ bytes ∷ w.more = w.adds ∙ ap (λ l. l ++ w.more) (first_record bytes none) in
+      record {
+        later = w.later;
+        named = true;
+        filled = is_whole result;
+        label = subst (λ l. IsPrinted contents (label_text l) o o' true) (sym all) (subst (λ t. IsPrinted contents t o o' true) same printed);
+        records = subst (λ l. IsPrinted filed (file_bytes l) f f' (is_whole result)) (sym all) w.written;
+        whole = refl;
+        reads = after_label result p q r bytes w.later x w.reads;
+      }
+
+module _ {P F W : Type 0} (tells : P → List Passed → Type 0) (filed : F → Option (List ℕ)) (contents : W → Option (List ℕ)) (device : List ℕ) where
+  -- a call before the records fails
+  pub through_none : (p q r : P) (f : Counting F) (o : Counting W) (replies : List PlainReply) (fault : ReadFault) → records_of replies ≡ [] → Extends (next_of device) tells p q [] replies
+      → CallSteps (next_of device) tells q r replies (Err fault) → IsThrough (copy_kind tells filed contents) device (copy_ends p f o) (copy_ends r f o) (Err fault)
+  through_none p q r f o replies fault none x y =
+      let all = breaks_after (next_of device) tells p q r [] replies y.0 fault x y.1 in
+      record {
+        replies = y.0;
+        more = all.more;
+        named = true;
+        filled = true;
+        logs = all.logs;
+        label = subst (λ l. IsPrinted contents (label_text l) o o true) (sym (y.2 ∙ none)) (nothing_printed contents o);
+        records = subst (λ l. IsPrinted filed (file_bytes l) f f true) (sym (y.2 ∙ none)) (nothing_printed filed f);
+        whole = sym y.3;
+        ends = all.fails;
+      }
+
+  -- the records fail
+  pub through_part : (p q r : P) (f f' : Counting F) (o o' : Counting W) (replies : List PlainReply) (fault : ReadFault) → Extends (next_of device) tells p q [] replies
+      → IsCopied (next_of device) (copy_kind tells filed contents) replies (copy_ends q f o) (copy_ends r f' o') (Err fault) → IsThrough (copy_kind tells filed contents) device (copy_ends p f o) (copy_ends r f' o') (Err fault)
+  through_part p q r f f' o o' replies fault x y =
+      let all = breaks_after (next_of device) tells p q r [] replies y.later fault x y.reads in
+      record {
+        replies = y.later;
+        more = all.more;
+        named = y.named;
+        filled = y.filled;
+        logs = all.logs;
+        label = y.label;
+        records = y.records;
+        whole = y.whole;
+        ends = all.fails;
+      }
+
+  -- the close
+  pub through_all : (p q r s : P) (f f' : Counting F) (o o' : Counting W) (replies : List PlainReply) (result : Result Unit ReadFault) → Extends (next_of device) tells p q [] replies
+      → IsCopied (next_of device) (copy_kind tells filed contents) replies (copy_ends q f o) (copy_ends r f' o') (Ok tt)
+      → ((next : List PlainReply → Option PlainRequest) (later : List PlainReply) → next later ≡ Some Close → IsDone next tells r s later result)
+      → IsThrough (copy_kind tells filed contents) device (copy_ends p f o) (copy_ends s f' o') result
+  through_all p q r s f f' o o' replies (Ok u) x y last =
+      let z = last (next_of device) y.later y.reads.1 in
+      let all = extends_both (next_of device) tells p q s [] replies (y.later ++ z.0 ∷ []) x (extends_both (next_of device) tells q r s replies y.later (y.later ++ z.0 ∷ []) y.reads.0 z.3) in
+      let same = sym (records_same y.later (z.0 ∷ []) z.2) in
+      record {
+        replies = y.later ++ z.0 ∷ [];
+        more = all.more;
+        named = y.named;
+        filled = y.filled;
+        logs = all.logs;
+        label = subst (λ l. IsPrinted contents (label_text l) o o' y.named) same y.label;
+        records = subst (λ l. IsPrinted filed (file_bytes l) f f' y.filled) same y.records;
+        whole = y.whole;
+        ends = λ passed k. (all.follows passed k, (y.later, z.0, refl, y.reads.1, z.1));
+      }
+  through_all p q r s f f' o o' replies (Err fault) x y last =
+      let z = last (next_of device) y.later y.reads.1 in
+      let all = breaks_after (next_of device) tells p q s [] replies z.0 fault x (breaks_after (next_of device) tells q r s replies y.later z.0 fault y.reads.0 z.1) in
+      record {
+        replies = z.0;
+        more = all.more;
+        named = y.named;
+        filled = y.filled;
+        logs = all.logs;
+        label = subst (λ l. IsPrinted contents (label_text l) o o' y.named) (sym z.2) y.label;
+        records = subst (λ l. IsPrinted filed (file_bytes l) f f' y.filled) (sym z.2) y.records;
+        whole = y.whole ∙ sym z.3;
+        ends = all.fails;
+      }
+
+-- what is known of a record that came, or did not
+pub record_came : {P : Type 0} (next : List PlainReply → Option PlainRequest) (tells : P → List Passed → Type 0) (p q : P) (replies : List PlainReply) (result : Result (Vec ℕ Global) ReadFault) (bytes : Vec ℕ Global)
+    → result ≡ Ok bytes → IsRecordRead next tells p q replies result → Extends next tells p q replies (replies ++ Data bytes.items ∷ [])
+record_came next tells p q replies result bytes is h = subst (IsRecordRead next tells p q replies) is h
+
+pub record_failed : {P : Type 0} (next : List PlainReply → Option PlainRequest) (tells : P → List Passed → Type 0) (p q : P) (replies : List PlainReply) (result : Result (Vec ℕ Global) ReadFault) (fault : ReadFault)
+    → result ≡ Err fault → IsRecordRead next tells p q replies result → CallSteps next tells p q replies (Err fault)
+record_failed next tells p q replies result fault is h = subst (IsRecordRead next tells p q replies) is h
+
+-- what is known of a write
+pub write_made : {W : Type 0} (contents : W → Option (List ℕ)) (text : List ℕ) (o o' : Counting W) (result : Result Unit ReadFault) (u : Unit) → result ≡ Ok u → IsPrinted contents text o o' (is_whole result)
+    → IsPrinted contents text o o' true
+write_made contents text o o' result u is h = subst (λ r. IsPrinted contents text o o' (is_whole r)) is h
+
+pub write_failed : {W : Type 0} (contents : W → Option (List ℕ)) (text : List ℕ) (o o' : Counting W) (result : Result Unit ReadFault) (fault : ReadFault) → result ≡ Err fault → fault ≡ OutputFailed
+    → IsPrinted contents text o o' (is_whole result) → IsPrinted contents text o o' false
+write_failed contents text o o' result fault is cause h = subst (λ r. IsPrinted contents text o o' (is_whole r)) (is ∙ ap Err cause) h
+
+-- what is known of a call that is to be done
+pub done_so : {P : Type 0} (next : List PlainReply → Option PlainRequest) (tells : P → List Passed → Type 0) (p q : P) (replies : List PlainReply) (result : Result Unit ReadFault) (u : Unit) → result ≡ Ok u
+    → IsDone next tells p q replies result → (reply : PlainReply) × (is_done reply ≡ true) × (records_of (reply ∷ []) ≡ []) × Extends next tells p q replies (replies ++ reply ∷ [])
+done_so next tells p q replies result u is h = subst (IsDone next tells p q replies) is h
+
+pub done_failed : {P : Type 0} (next : List PlainReply → Option PlainRequest) (tells : P → List Passed → Type 0) (p q : P) (replies : List PlainReply) (result : Result Unit ReadFault) (fault : ReadFault) → result ≡ Err fault
+    → IsDone next tells p q replies result → CallSteps next tells p q replies (Err fault)
+done_failed next tells p q replies result fault is h = subst (IsDone next tells p q replies) is h
+
+pub rewind_next : (device : List ℕ) (opened : PlainReply) → is_done opened ≡ true → next_of device (opened ∷ []) ≡ Some (Op MTREW 1)
+rewind_next device opened met = ap (λ b. if b then Some (Op MTREW 1) else None) met
+
+pub reading_begins : (opened rewound : PlainReply) → is_done rewound ≡ true → IsVolumeReading (opened ∷ rewound ∷ [])
+reading_begins opened rewound met = (opened, rewound, [], refl, met, tt)
+
+pub no_records : (opened rewound : PlainReply) → records_of (opened ∷ []) ≡ [] → records_of (rewound ∷ []) ≡ [] → records_of (opened ∷ rewound ∷ []) ≡ []
+no_records opened rewound a b = records_same (opened ∷ []) (rewound ∷ []) b ∙ a
+
+-- what a test for no bytes says
+pub none_there : (items : List ℕ) (len : ℕ) (test : Bool) → len ≡ length items → test ≡ nat_eq len 0 → test ≡ true → items ≡ []
+none_there [] len test e h k = refl
+none_there (b ∷ items) len test e h k = absurd (grind (arith, nat_tests))
+
+pub some_there : (items : List ℕ) (len : ℕ) (test : Bool) → len ≡ length items → test ≡ nat_eq len 0 → test ≡ false → items ≢ []
+some_there [] len test e h k = λ same. grind (arith, nat_tests)
+some_there (b ∷ items) len test e h k = λ same. cc
+
+pub copied_as : {P F W : Type 0} (next : List PlainReply → Option PlainRequest) (tells : P → List Passed → Type 0) (filed : F → Option (List ℕ)) (contents : W → Option (List ℕ)) (replies : List PlainReply) (p q : P)
+    (f f' : Counting F) (o o' : Counting W) (result is : Result Unit ReadFault) → result ≡ is → IsCopied next (copy_kind tells filed contents) replies (copy_ends p f o) (copy_ends q f' o') result → IsCopied next (copy_kind tells filed contents) replies (copy_ends p f o) (copy_ends q f' o') is
+copied_as next tells filed contents replies p q f f' o o' result is e h = subst (IsCopied next (copy_kind tells filed contents) replies (copy_ends p f o) (copy_ends q f' o')) e h
+
+-- after the open the rewind, or why it was not done
+pub begun_both : {P : Type 0} (tells : P → List Passed → Type 0) (device : List ℕ) (p q r : P) (opened : PlainReply) (result : Result Unit ReadFault) → records_of (opened ∷ []) ≡ []
+    → Extends (next_of device) tells p q [] (opened ∷ []) → IsDone (next_of device) tells q r (opened ∷ []) result → IsBegun tells device p r result
+begun_both tells device p q r opened (Ok u) none x y =
+    (opened, y.0, y.1, no_records opened y.0 none y.2, extends_both (next_of device) tells p q r [] (opened ∷ []) (opened ∷ y.0 ∷ []) x y.3)
+begun_both tells device p q r opened (Err fault) none x y =
+    (y.0, breaks_after (next_of device) tells p q r [] (opened ∷ []) y.0 fault x y.1, y.2 ∙ none, y.3)
+
+pub step_answered : {P : Type 0} (next : List PlainReply → Option PlainRequest) (tells : P → List Passed → Type 0) (p q : P) (replies : List PlainReply) (request : PlainRequest) (called : Result KeptReply CallFault)
+    (answer : KeptReply) (named : VolumeRequest) (result : Result Unit ReadFault) → next replies ≡ Some request → called ≡ Ok answer → wanted_by request ≡ Number → IsNamed named request → IsCalled tells request (told_reply called) p q
+    → IsDoneBy answer named result → IsDone next tells p q replies result
+step_answered next tells p q replies request called answer named (Ok u) e is w n h d = step_done next tells p q replies request called d.0 e (is ∙ ap Ok d.1) h
+step_answered next tells p q replies request called answer named (Err fault) e is w n h (inl d) =
+    subst (λ f. CallSteps next tells p q replies (Err f)) (sym d.3) (step_refused next tells p q replies request called named d.0 d.1 e (is ∙ ap Ok d.2) n h)
+step_answered next tells p q replies request called answer named (Err fault) e is w n h (inr d) = absurd (no_data tells p q request called d.0 w (is ∙ ap Ok d.1) h)

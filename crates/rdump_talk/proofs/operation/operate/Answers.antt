@@ -1,0 +1,12 @@
+use Rattle.rdump_talk.proofs.Operating.{untold, told_then_closed}
+use Rattle.rdump_talk.proofs.Printed.{nothing_printed}
+use Rattle.rdump_talk.proofs.operation.operate.Goals as goal
+
+pub returns-in_default : goal.returns-in_default
+returns-in_default g c =
+    untold g.P.Peer.tells c.args.device.now c.args.op c.args.count g.W.Write.contents c.args.peer.now c.ask.new.peer c.args.out.now c.ask.result c.in_default.field-0 c.in_default.is c.ask.ensures (nothing_printed g.W.Write.contents c.args.out.now)
+
+pub returns : goal.returns
+returns g c =
+    told_then_closed g.P.Peer.tells c.args.device.now c.args.op c.args.count g.W.Write.contents c.args.peer.now c.ask.new.peer c.call.new.peer c.args.out.now c.tell-status.new.out c.tell-status.result c.ask.result c.call.result c.in-Ok.answer c.in-Ok.is
+    c.ask.ensures c.tell-status.ensures c.call.ensures

@@ -1,0 +1,10 @@
+use Rattle.std.proofs.Common.{ℕ, List}
+use Rattle.rmt_wire.specs.Reply.{PlainReply}
+use Rattle.rdump_talk.specs.Reading.{IsVolumeReading}
+use Rattle.rdump_talk.proofs.Reading.{WrittenTo}
+use Rattle.rdump_talk.proofs.volume.write_records.Given as goal
+
+abbrev pub invariant-loop-turn : goal.invariant-loop-turn
+invariant-loop-turn g l =
+    (device : List ℕ) (replies : List PlainReply) → IsVolumeReading replies
+    → WrittenTo g.P.Peer.tells g.F.Write.contents device replies l.fn.peer l.peer l.fn.file l.file l.turn

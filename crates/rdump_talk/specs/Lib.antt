@@ -1,0 +1,10 @@
+-- In reading order: Peer, Talk, Lines (a dump); KeptReply, Call, Calls (requests); Ends; Operation (mtio); Reading (a volume).
+pub mod Peer
+pub mod Talk
+pub mod Lines
+pub mod KeptReply
+pub mod Call
+pub mod Calls
+pub mod Ends
+pub mod Operation
+pub mod Reading

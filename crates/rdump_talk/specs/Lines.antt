@@ -1,0 +1,82 @@
+-- The lines that a dump prints. Public contracts cite it.
+use Rattle.std.specs.Prelude.{◌≡◌, ◌≢◌, ◌⊎◌, ℕ, Bool, true, false, List, [], ◌++◌, length, drop, codes, decimal, Option, Some, None}
+use Rattle.std.specs.List.{flat_map}
+use Rattle.rmt_wire.specs.Counted.{Counting}
+use Rattle.dump_client.specs.Standing.{Standing, checkpoint_of}
+use Rattle.dump_client.specs.declared.count.VolumeCount.{VolumeCount}
+use Rattle.dump_client.specs.declared.fault.AttemptFault.{AttemptFault}
+use Rattle.dump_client.specs.declared.fault.AttemptFault.TheVariants.{Refused, Botched, ConnectionEnded, ShortWrite, ReelTooSmall, SourceFault, OutOfMemory}
+use Rattle.dump_client.specs.declared.stage.Stage.TheVariants.{Finished}
+use Rattle.rmt_wire.specs.Print.{IsPrinted}
+
+-- a volume that is counted: its number, how many blocks it has, and the first
+abbrev pub count_line : VolumeCount → List ℕ
+count_line c =
+    codes "volume " ++ decimal c.volume ++ codes ": " ++ decimal c.count ++ codes " blocks from " ++ decimal c.first ++ codes "\n"
+
+abbrev pub count_lines : List VolumeCount → List ℕ
+count_lines counts = flat_map count_line counts
+
+-- a fault by its name; with a refusal alone goes its number
+abbrev pub fault_text : AttemptFault → List ℕ
+fault_text (Refused number) = codes "Refused " ++ decimal number
+fault_text Botched = codes "Botched"
+fault_text ConnectionEnded = codes "ConnectionEnded"
+fault_text ShortWrite = codes "ShortWrite"
+fault_text ReelTooSmall = codes "ReelTooSmall"
+fault_text SourceFault = codes "SourceFault"
+fault_text OutOfMemory = codes "OutOfMemory"
+
+-- an attempt that failed: its volume, and the fault
+abbrev pub failure_line : ℕ → AttemptFault → List ℕ
+failure_line volume fault = codes "volume " ++ decimal volume ++ codes " failed: " ++ fault_text fault ++ codes "\n"
+
+-- what failed, and the question to the operator
+abbrev pub failure_lines : ℕ → AttemptFault → List ℕ
+failure_lines volume fault = failure_line volume fault ++ codes "retry?\n"
+
+abbrev pub complete_text : ℕ → ℕ → List ℕ
+complete_text volumes blocks = codes "dump complete: " ++ decimal volumes ++ codes " volumes, " ++ decimal blocks ++ codes " blocks\n"
+
+abbrev pub complete_line : List VolumeCount → List ℕ
+complete_line counts = complete_text (length counts) (checkpoint_of counts).1
+
+abbrev pub abandoned_line : List ℕ
+abandoned_line = codes "dump abandoned\n"
+
+-- The lines of a dump from these counts on, up to those that the client has: after each attempt one line for each volume that it has
+-- counted since, in order, and after each that failed that failure, with the volume that is next.
+pub data DumpLines (first : List VolumeCount) : List VolumeCount → List ℕ → Type 0 where
+  none : DumpLines first first []
+  counted : {counts : List VolumeCount} {text : List ℕ} (new : List VolumeCount)
+      → DumpLines first counts text → DumpLines first new (text ++ count_lines (drop (length counts) new))
+  failed : {counts : List VolumeCount} {text : List ℕ} (fault : AttemptFault)
+      → DumpLines first counts text → DumpLines first counts (text ++ failure_lines (checkpoint_of counts).0 fault)
+
+-- The last line, and the status: the dump is complete, with 0, where the run is finished, and abandoned, with 3, where it is not. Where
+-- printing failed it is 3.
+abbrev pub IsLast : Bool → Standing → List ℕ → ℕ → Type 0
+IsLast true at last status =
+    ((at.stage ≡ Finished) × (last ≡ complete_line at.counts) × (status ≡ 0))
+    ⊎ ((at.stage ≢ Finished) × (last ≡ abandoned_line) × (status ≡ 3))
+IsLast false at last status = status ≡ 3
+
+-- what a dump prints, from these counts on up to where the client stands, and its status
+pub record IsDumped {W : Type 0} (contents : W → Option (List ℕ)) (first : List VolumeCount) (at : Standing)
+    (out out' : Counting W) (status : ℕ) : Type 0 where
+  pub text : List ℕ
+  pub last : List ℕ
+  pub whole : Bool
+  pub lines : DumpLines first at.counts text
+  pub printed : IsPrinted contents (text ++ last) out out' whole
+  pub ends : IsLast whole at last status
+
+-- a part of a dump that does not end it, or its last
+abbrev pub IsRound : {W : Type 0} → (W → Option (List ℕ)) → List VolumeCount → Standing → Counting W → Counting W → Option ℕ → Type 0
+IsRound contents first at out out' None = (text : List ℕ) × DumpLines first at.counts text × IsPrinted contents text out out' true
+IsRound contents first at out out' (Some status) = IsDumped contents first at out out' status
+
+-- the last line, and the status
+abbrev pub IsFinish : {W : Type 0} → (W → Option (List ℕ)) → Standing → Counting W → Counting W → ℕ → Type 0
+IsFinish contents at out out' status =
+    (last : List ℕ) × (whole : Bool) × IsPrinted contents last out out' whole × IsLast whole at last status

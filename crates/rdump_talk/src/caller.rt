@@ -1,0 +1,135 @@
+//! One request that is sent to a peer, and its reply read whole.
+ghost use Rattle.std.specs.Prelude.{◌≡◌, ℕ, List, ◌++◌, Some};
+ghost use Rattle.rmt_wire.specs.Lent.{plain_request, plain_wanted};
+ghost use Rattle.rmt_wire.specs.Reply as kinds;
+ghost use Rattle.rmt_wire.specs.Request.{HasSpelling};
+ghost use Rattle.rmt_wire.specs.ReplyReader.{IsWithin, ReplyUnread};
+ghost use Rattle.rdump_talk.specs.KeptReply.{told_reply};
+ghost use Rattle.rdump_talk.specs.Call.{wanted_by, IsReplyAwaited, IsFront, IsTaken, IsReplyHeard, IsCalled};
+
+use crate::Peer;
+use crate::fault::CallFault;
+use crate::kept_reply::{KeptReply, keep};
+use rmt_wire::{ReplyReader, Request, Wanted, push_request};
+use std::alloc::{AllocError, Global};
+
+/// How many bytes are taken from a peer at once.
+const PIECE: usize = 16384;
+
+/// What makes calls over a peer: the room for a request and for its reply.
+#[derive(Drop)]
+pub(crate) struct PeerCaller {
+    alloc: Global,
+    reader: ReplyReader,
+    text: Vec<u8>,
+}
+
+impl PeerCaller {
+    /// It reserves `rmt_wire::READER_LIMIT` bytes for replies, and fails only where these are refused.
+    pub(crate) fn new(alloc: Global) -> Result<PeerCaller, AllocError> {
+        Ok(PeerCaller {
+            alloc,
+            reader: ReplyReader::new(alloc)?,
+            text: Vec::new(alloc),
+        })
+    }
+
+    /// Sends a request, and waits for its reply, whole. Bytes that follow a reply make it none.
+    pub(crate) fn call<P: Peer>(
+        &mut self,
+        peer: &mut P,
+        request: &Request<'_>,
+    ) -> Result<KeptReply, CallFault>
+        requires spelling { HasSpelling (plain_request request.now) }
+        requires within { IsWithin (wanted_by (plain_request request.now)) }
+        ensures { IsCalled P.tells (plain_request request.now) (told_reply result) peer.old peer.new }
+    {
+        self.text.clear();
+        let Ok(()) = push_request(&mut self.text, request) else {
+            return Err(CallFault::OutOfMemory);
+        };
+        if !peer.send(self.text.as_slice()) {
+            return Err(CallFault::ConnectionEnded);
+        }
+        hear(self.alloc, peer, &mut self.reader, wanted_of(request))
+    }
+}
+
+/// The kind of reply that answers a request: data answer a read, and a number all others.
+fn wanted_of(request: &Request<'_>) -> Wanted
+    ensures { plain_wanted result ≡ wanted_by (plain_request request.now) }
+{
+    match *request {
+        Request::Read { count } => Wanted::Data(count),
+        _ => Wanted::Number,
+    }
+}
+
+/// Waits for a reply of this kind, which is to begin with the next byte that the peer gives.
+fn hear<P: Peer>(
+    alloc: Global,
+    peer: &mut P,
+    reader: &mut ReplyReader,
+    wanted: Wanted,
+) -> Result<KeptReply, CallFault>
+    requires { IsWithin (plain_wanted wanted) }
+    ensures { IsReplyHeard P.tells (plain_wanted wanted) (told_reply result) peer.old peer.new }
+{
+    reader.clear();
+    reader.expect(wanted);
+    let mut piece = [0; PIECE];
+    for turn in 0..u64::MAX {
+        let count = peer.receive(&mut piece);
+        if count == 0 {
+            return Err(CallFault::ConnectionEnded);
+        }
+        match take(alloc, reader, &piece[..count]) {
+            Ok(None) => {}
+            Ok(Some(answer)) => return Ok(answer),
+            Err(fault) => return Err(fault),
+        }
+    }
+    Err(CallFault::Botched)
+}
+
+/// Takes a piece of what came to where a reply is waited for. None where all that came is a beginning of one.
+fn take(
+    alloc: Global,
+    reader: &mut ReplyReader,
+    piece: &[u8],
+) -> Result<Option<KeptReply>, CallFault>
+    requires { (wanted : kinds.Wanted) × (bytes : List ℕ) × IsReplyAwaited wanted reader.old bytes }
+    ensures { (wanted : kinds.Wanted) (bytes : List ℕ) → IsReplyAwaited wanted reader.old bytes →
+        IsTaken wanted (bytes ++ piece.now) result reader.new }
+{
+    let mut at = 0;
+    while at < piece.len() {
+        at += reader.push(&piece[at..]);
+        match front(alloc, reader) {
+            Ok(None) => {}
+            Ok(Some(answer)) => {
+                if at < piece.len() || !reader.is_empty() {
+                    return Err(CallFault::Botched);
+                }
+                return Ok(Some(answer));
+            }
+            Err(fault) => return Err(fault),
+        }
+    }
+    Ok(None)
+}
+
+/// Keeps the reply that the reader gives of the bytes that it holds, if it gives one.
+fn front(alloc: Global, reader: &mut ReplyReader) -> Result<Option<KeptReply>, CallFault>
+    ensures { (wanted : kinds.Wanted) (bytes : List ℕ) → ReplyUnread reader.old (Some wanted) bytes →
+        IsFront wanted bytes result reader.new }
+{
+    match reader.next() {
+        Ok(None) => Ok(None),
+        Ok(Some(reply)) => match keep(alloc, reply) {
+            Ok(answer) => Ok(Some(answer)),
+            Err(_) => Err(CallFault::OutOfMemory),
+        },
+        Err(_) => Err(CallFault::Botched),
+    }
+}

@@ -1,0 +1,27 @@
+//! A dump over a connection: the far end of a connection, and a client's attempts over it, from the first request to
+//! the lines that an operator reads.
+//!
+//! `Peer` is the far end: `SocketPeer` is one over TCP. `dump` has a client write its volumes over a peer, asks an
+//! operator after a failure, and prints what is counted. `copy_volume` reads a volume back, and `mt` does one operation,
+//! each over a connection of its own.
+#![tactic(auto)]
+
+mod attempt;
+mod caller;
+mod fault;
+mod kept_reply;
+mod lines;
+mod operation;
+mod operator;
+mod peer;
+mod rounds;
+mod socket;
+mod volume;
+
+pub use fault::{ReadFault, VolumeRequest};
+pub use lines::{LINE_ROOM, failure_line};
+pub use operation::mt;
+pub use peer::{Passed, Peer};
+pub use rounds::dump;
+pub use socket::SocketPeer;
+pub use volume::{copy_volume, read_volume};

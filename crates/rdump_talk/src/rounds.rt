@@ -1,0 +1,219 @@
+//! A whole dump: attempt after attempt, the lines that tell of them, and what an operator answers.
+ghost use Rattle.std.specs.Prelude.{◌≡◌, length, drop, if◌then◌else◌};
+ghost use Rattle.dump_client.specs.Standing.{checkpoint_of};
+ghost use Rattle.rdump_talk.specs.Lines.{IsDumped, IsFinish, IsRound, complete_line, count_lines, failure_lines};
+ghost use Rattle.rmt_wire.specs.Print.{IsPrinted};
+ghost use Rattle.rdump_talk.specs.Talk.{TalksAlone, TalksOver};
+
+use crate::Peer;
+use crate::attempt::{Attempted, attempt};
+use crate::lines::{LINE_ROOM, complete_text, failure_text, print_counts};
+use crate::operator::says_yes;
+use arrayvec::ArrayString;
+use dump_client::{Answer, AttemptFault, Blocks, Client, State, VolumeCount};
+use rmt_wire::{Counted, print_text};
+use std::alloc::Global;
+use std::io::{Read, Write};
+
+/// The status of a dump that is complete.
+const COMPLETE: u8 = 0;
+
+/// The status of a dump that was abandoned, or could not be told of.
+const ABNORMAL: u8 = 3;
+
+/// Has a client write its run over a peer, each volume over a connection of its own, and prints what comes of it.
+///
+/// It prints `volume 1: 2 blocks from 0` for each volume that is counted, and `dump complete: 2 volumes, 3 blocks` at
+/// the end. Where an attempt fails it prints `volume 1 failed: Refused 16`, with the fault's name, and `retry?`, and takes
+/// one line from the operator: after `yes` the volume is tried again, and after all else it prints `dump abandoned`.
+///
+/// Answers the exit status of `rdump dump`: 0 where the run is finished and all was printed, and else 3. After a write that
+/// failed it does nothing more.
+pub fn dump<B: Blocks, P: Peer, R: Read, W: Write>(
+    alloc: Global,
+    client: &mut Client<B>,
+    peer: &mut P,
+    operator: &mut R,
+    out: &mut Counted<W>,
+) -> u8
+    ensures talks { TalksOver B.holds P.tells client.old client.new peer.old peer.new }
+    ensures printed { IsDumped W.contents client.old.at.counts client.new.at out.old out.new result }
+{
+    let mut text = Vec::new(alloc);
+    for _ in 0..u64::MAX {
+        if let Some(status) = round(client, peer, operator, out, &mut text) {
+            return status;
+        }
+    }
+    finish(client, out)
+}
+
+/// Does what the client waits for. Answers the status at the end of the dump.
+fn round<B: Blocks, P: Peer, R: Read, W: Write>(
+    client: &mut Client<B>,
+    peer: &mut P,
+    operator: &mut R,
+    out: &mut Counted<W>,
+    text: &mut Vec<u8>,
+) -> Option<u8>
+    ensures talks { TalksOver B.holds P.tells client.old client.new peer.old peer.new }
+    ensures printed { IsRound W.contents client.old.at.counts client.new.at out.old out.new result }
+{
+    match client.state() {
+        State::Ready | State::ToSend | State::Waiting => {
+            try_volume(client, peer, operator, out, text)
+        }
+        State::Asking => {
+            ask(client, operator);
+            None
+        }
+        State::Finished | State::Abandoned => Some(finish(client, out)),
+    }
+}
+
+/// Has the client try its next volume, and prints what came of it. Answers the status at the end of the dump.
+fn try_volume<B: Blocks, P: Peer, R: Read, W: Write>(
+    client: &mut Client<B>,
+    peer: &mut P,
+    operator: &mut R,
+    out: &mut Counted<W>,
+    text: &mut Vec<u8>,
+) -> Option<u8>
+    ensures talks { TalksOver B.holds P.tells client.old client.new peer.old peer.new }
+    ensures printed { IsRound W.contents client.old.at.counts client.new.at out.old out.new result }
+{
+    let before = volumes(client);
+    let attempted = attempt(client, peer, text);
+    if !print_since(client, before, out) {
+        return Some(ABNORMAL);
+    }
+    report(client, attempted, operator, out)
+}
+
+/// Prints that an attempt failed, if it did. Where it could not start, the operator is asked here. Answers the status at
+/// the end of the dump: where printing failed, and where the operator gives up.
+fn report<B: Blocks, R: Read, W: Write>(
+    client: &Client<B>,
+    attempted: Attempted,
+    operator: &mut R,
+    out: &mut Counted<W>,
+) -> Option<u8>
+    ensures { IsRound W.contents client.now.at.counts client.now.at out.old out.new result }
+{
+    match attempted {
+        Attempted::Over => None,
+        Attempted::Failed(fault) => tell(client, fault, out),
+        Attempted::NotStarted => ask_here(client, operator, out),
+    }
+}
+
+/// Prints that an attempt failed. Answers the status of the dump where printing failed.
+fn tell<B: Blocks, W: Write>(
+    client: &Client<B>,
+    fault: AttemptFault,
+    out: &mut Counted<W>,
+) -> Option<u8>
+    ensures { IsRound W.contents client.now.at.counts client.now.at out.old out.new result }
+{
+    if print_failure(client, fault, out) {
+        None
+    } else {
+        Some(ABNORMAL)
+    }
+}
+
+/// Prints that an attempt could not start, and asks the operator. Answers the status at the end of the dump.
+fn ask_here<B: Blocks, R: Read, W: Write>(
+    client: &Client<B>,
+    operator: &mut R,
+    out: &mut Counted<W>,
+) -> Option<u8>
+    ensures { IsRound W.contents client.now.at.counts client.now.at out.old out.new result }
+{
+    if !print_failure(client, AttemptFault::OutOfMemory, out) {
+        return Some(ABNORMAL);
+    }
+    if says_yes(operator) {
+        return None;
+    }
+    Some(finish(client, out))
+}
+
+/// How many volumes are counted.
+fn volumes<B: Blocks>(client: &Client<B>) -> usize
+    ensures { result ≡ length client.now.at.counts }
+{
+    client.counted().len()
+}
+
+/// Prints the volumes that were counted after the first so many. Answers whether that was printed.
+fn print_since<B: Blocks, W: Write>(client: &Client<B>, before: usize, out: &mut Counted<W>) -> bool
+    ensures { IsPrinted W.contents (count_lines (drop before client.now.at.counts)) out.old out.new result }
+{
+    print_counts(counts_from(client, before), out)
+}
+
+/// The volumes that were counted after the first so many.
+#[tactic(auto, using(std::proofs::lemmas::List::drop_min))]
+fn counts_from<B: Blocks>(client: &Client<B>, before: usize) -> &[VolumeCount]
+    ensures { result.now ≡ drop before client.now.at.counts }
+{
+    let counts = client.counted();
+    &counts[before.min(counts.len())..]
+}
+
+/// Prints that the next volume failed, and asks the operator. Answers whether that was printed.
+fn print_failure<B: Blocks, W: Write>(
+    client: &Client<B>,
+    fault: AttemptFault,
+    out: &mut Counted<W>,
+) -> bool
+    ensures { IsPrinted W.contents (failure_lines (checkpoint_of client.now.at.counts).0 fault) out.old out.new result }
+{
+    let (volume, _) = client.checkpoint();
+    print_text(out, failure_text(volume, fault).as_bytes())
+}
+
+/// Takes the operator's answer, and gives it to the client.
+fn ask<B: Blocks, R: Read>(client: &mut Client<B>, operator: &mut R)
+    ensures same { client.new.at.counts ≡ client.old.at.counts }
+    ensures alone { TalksAlone B.holds client.old client.new }
+{
+    let answer = if says_yes(operator) {
+        Answer::Retry
+    } else {
+        Answer::Abandon
+    };
+    let _ = client.answer(answer);
+}
+
+/// Prints how the dump ended, and answers its status.
+fn finish<B: Blocks, W: Write>(client: &Client<B>, out: &mut Counted<W>) -> u8
+    ensures { IsFinish W.contents client.now.at out.old out.new result }
+{
+    match client.state() {
+        State::Finished => {
+            let printed = print_text(out, last_line(client).as_bytes());
+            status_of(printed, COMPLETE)
+        }
+        _ => {
+            let printed = print_text(out, b"dump abandoned\n");
+            status_of(printed, ABNORMAL)
+        }
+    }
+}
+
+/// The status of a dump that ended with this one, where that was printed.
+fn status_of(printed: bool, status: u8) -> u8
+    ensures { result ≡ (if printed then status else 3) }
+{
+    if printed { status } else { ABNORMAL }
+}
+
+/// The last line of a dump that is complete.
+fn last_line<B: Blocks>(client: &Client<B>) -> ArrayString<LINE_ROOM>
+    ensures { result.bytes ≡ complete_line client.now.at.counts }
+{
+    let (_, blocks) = client.checkpoint();
+    complete_text(volumes(client), blocks)
+}

@@ -1,0 +1,35 @@
+-- What the words of `rdump` may ask. Public contracts cite it.
+use Rattle.std.specs.Prelude.{ℕ, ◌≤◌, List, Option, None, Some, IfSome, ⊤}
+use Rattle.std.specs.Borrow.{Bor}
+use Rattle.dumpdates.specs.Entry.{IsName}
+use Rattle.dump_run.specs.Run.{IsDevice}
+use Rattle.rmt_wire.specs.declared.argument.TheConstants.{ARGUMENT_LIMIT}
+use Rattle.rmt_wire.specs.declared.limits.TheConstants.{NUMBER_LIMIT}
+use Rattle.rmt_wire.specs.declared.mtio.TheConstants.{MTNOP}
+use Rattle.rdump_words.specs.declared.rdump_line.RdumpLine.{RdumpLine}
+use Rattle.rdump_words.specs.declared.rdump_line.RdumpLine.TheVariants.{Dump, Read, Mt, Dates}
+use Rattle.rdump_words.specs.declared.run_line.DumpLine.{DumpLine}
+use Rattle.rdump_words.specs.declared.tape_line.ReadLine.{ReadLine}
+use Rattle.rdump_words.specs.declared.tape_line.MtLine.{MtLine}
+
+-- a name and a level that are asked for are those of an entry
+abbrev pub IsDatesAsked : Option (Bor (List ℕ) × ℕ) → Type 0
+IsDatesAsked None = ⊤
+IsDatesAsked (Some (name, level)) = IsName name.now × (level ≤ 9)
+
+-- the numbers of a run are within what words can say
+abbrev pub IsDumpLine : DumpLine → Type 0
+IsDumpLine line = (line.level ≤ ARGUMENT_LIMIT) × (line.block ≤ ARGUMENT_LIMIT) × IfSome line.date (λ n. n ≤ ARGUMENT_LIMIT)
+
+abbrev pub IsReadLine : ReadLine → Type 0
+IsReadLine line = IsDevice line.device.now
+
+-- a device, and an operation with a count that a request can name
+abbrev pub IsMtLine : MtLine → Type 0
+IsMtLine line = IsDevice line.device.now × (line.op ≤ MTNOP) × (line.count ≤ NUMBER_LIMIT)
+
+abbrev pub IsRdumpLine : RdumpLine → Type 0
+IsRdumpLine (Dump line) = IsDumpLine line
+IsRdumpLine (Read line) = IsReadLine line
+IsRdumpLine (Mt line) = IsMtLine line
+IsRdumpLine (Dates file asked) = IsDatesAsked asked

@@ -1,0 +1,153 @@
+//! The words of `rdump`.
+
+ghost use Rattle.std.specs.Prelude.{IfOk};
+ghost use Rattle.rdump_words.specs.Rdump.{IsRdumpLine};
+
+use crate::dates_line::{DATES_WORDS, dates_in};
+use crate::fault::WordFault;
+use crate::run_line::{DUMP_WORDS, DumpLine, dump_in};
+use crate::tape_line::{MT_WORDS, MtLine, READ_WORDS, ReadLine, mt_in, read_in};
+use crate::word::{Word, check_given, push_command};
+use clap::{ArgMatches, Command, Error};
+use std::alloc::{AllocError, Global};
+use std::convert::AsStr;
+
+/// What the words ask of `rdump`.
+#[derive(Clone, Copy, Debug)]
+pub enum RdumpLine<'a> {
+    /// To dump a payload.
+    Dump(DumpLine<'a>),
+    /// To read a volume back.
+    Read(ReadLine<'a>),
+    /// To do one operation at a drive.
+    Mt(MtLine<'a>),
+    /// To ask a dumpdates file.
+    Dates {
+        /// Where the file is.
+        file: &'a str,
+        /// The name and the level whose base date is asked for, and None where the text is. The name is one of an
+        /// entry, 1 to 255 bytes of printable ASCII without a space, and the level is 0 to 9.
+        asked: Option<(&'a str, u8)>,
+    },
+}
+
+/// Reads the words of `rdump`, of which the first is the name of the program itself. They are those of one of its
+/// commands:
+///
+/// `dump --to ADDRESS --device D --fs NAME --level L --payload FILE --block BYTES --dumpdates FILE [--date SECONDS]
+/// [--update]`, `read --to ADDRESS --device D --out FILE`, `mt --to ADDRESS --device D OP COUNT`, and
+/// `dates --file FILE [--name NAME --level LEVEL]`.
+///
+/// Answers an error where the words are bad, or ask for help or the version, or memory is refused; its kind tells which,
+/// and its text is meant for the user.
+pub fn rdump_words<'a, S: AsStr>(alloc: Global, words: &'a [S]) -> Result<RdumpLine<'a>, Error>
+    ensures { IfOk result IsRdumpLine }
+{
+    match rdump_command(alloc) {
+        Ok(mut rdump) => line_of(&mut rdump, words),
+        Err(refused) => Err(refused.into()),
+    }
+}
+
+/// The line that the words say to the command.
+fn line_of<'a, S: AsStr>(rdump: &mut Command<'a>, words: &'a [S]) -> Result<RdumpLine<'a>, Error>
+    ensures { IfOk result IsRdumpLine }
+{
+    match rdump.try_get_matches_from_mut(words) {
+        Ok(matches) => matched(rdump, &matches),
+        Err(error) => Err(error),
+    }
+}
+
+/// The line that clap's matches say to the command.
+fn matched<'a>(rdump: &mut Command<'a>, matches: &ArgMatches<'a>) -> Result<RdumpLine<'a>, Error>
+    ensures { IfOk result IsRdumpLine }
+{
+    match line_in(matches) {
+        Ok(line) => Ok(line),
+        Err(fault) => Err(rdump.error(fault.kind(), fault.text())?),
+    }
+}
+
+/// The line that clap's matches say.
+fn line_in<'a>(matches: &ArgMatches<'a>) -> Result<RdumpLine<'a>, WordFault>
+    ensures { IfOk result IsRdumpLine }
+{
+    match matches.subcommand() {
+        Some((name, given)) => match check_given(given, words_of(name)) {
+            Ok(()) => named_in(name, given),
+            Err(fault) => Err(fault),
+        },
+        None => Err(WordFault::NoCommand),
+    }
+}
+
+/// The line that clap's matches of the words of this command say, of which those that are required are given.
+fn named_in<'a>(name: &str, matches: &ArgMatches<'a>) -> Result<RdumpLine<'a>, WordFault>
+    ensures { IfOk result IsRdumpLine }
+{
+    match name {
+        "dump" => dump_in(matches).map(RdumpLine::Dump),
+        "read" => read_in(matches).map(RdumpLine::Read),
+        "mt" => mt_in(matches).map(RdumpLine::Mt),
+        "dates" => dates_in(matches),
+        _ => Err(WordFault::NoCommand),
+    }
+}
+
+/// The command `rdump` with all of its words.
+fn rdump_command<'a>(alloc: Global) -> Result<Command<'a>, AllocError> {
+    match commands(alloc) {
+        Ok(commands) => named(alloc).subcommands(commands),
+        Err(refused) => Err(refused),
+    }
+}
+
+/// The command `rdump` without its words.
+fn named<'a>(alloc: Global) -> Command<'a> {
+    Command::new(alloc, "rdump")
+        .about("Dump client for the remote magtape protocol of rmt(8)")
+        .version("0.1.0")
+        .subcommand_required(true)
+        .arg_required_else_help(true)
+}
+
+/// Its commands, in the order of the help.
+fn commands<'a>(alloc: Global) -> Result<Vec<Command<'a>>, AllocError> {
+    let mut commands = Vec::new(alloc);
+    for said in &COMMANDS {
+        push_command(alloc, *said, words_of(said.0), &mut commands)?;
+    }
+    Ok(commands)
+}
+
+/// The names of its commands, with what the help says of each.
+static COMMANDS: [(&str, &str); 4] = [
+    (
+        "dump",
+        "Dump a payload to a remote tape, and ask after each failure whether to retry",
+    ),
+    (
+        "read",
+        "Read a volume of a remote tape: print its label, and write its blocks to a file",
+    ),
+    (
+        "mt",
+        "Do one operation of mt(1) at a remote tape, and print its answer",
+    ),
+    (
+        "dates",
+        "Print a dumpdates file anew, or the base date of a dump in seconds since 1970",
+    ),
+];
+
+/// The words of the command of this name.
+fn words_of(name: &str) -> &'static [Word] {
+    match name {
+        "dump" => &DUMP_WORDS,
+        "read" => &READ_WORDS,
+        "mt" => &MT_WORDS,
+        "dates" => &DATES_WORDS,
+        _ => &[],
+    }
+}

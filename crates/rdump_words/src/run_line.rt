@@ -1,0 +1,155 @@
+//! The words of `rdump dump`.
+ghost use Rattle.std.specs.Prelude.{◌≤◌, IfOk, IfSome};
+ghost use Rattle.rdump_words.specs.Rdump.{IsDumpLine};
+ghost use Rattle.rmt_wire.specs.declared.argument.TheConstants.{ARGUMENT_LIMIT};
+
+use crate::fault::WordFault;
+use crate::word::{Form, Word, value_in};
+use clap::ArgMatches;
+use rmt_wire::argument::number_of;
+
+/// What the words ask of `rdump dump`. The device, the name and the numbers may be none that a run can have: numbers are 0
+/// to 9223372036854775807.
+#[derive(Clone, Copy, Debug)]
+pub struct DumpLine<'a> {
+    /// Where the server listens: a host and a port.
+    pub to: &'a str,
+    /// The drive at the server.
+    pub device: &'a str,
+    /// The name of the file system.
+    pub fs: &'a str,
+    /// The level of the dump.
+    pub level: u64,
+    /// Where the payload is.
+    pub payload: &'a str,
+    /// The bytes of a block.
+    pub block: u64,
+    /// Where the dumpdates file is.
+    pub dumpdates: &'a str,
+    /// The date of the dump, in seconds since 1970 began, UTC, and None where it is that of the clock.
+    pub date: Option<u64>,
+    /// Whether the dump is entered in the dumpdates file once it is complete.
+    pub update: bool,
+}
+
+/// What is said of a level that is no number.
+const BAD_LEVEL: &str =
+    "invalid value for '--level <LEVEL>': a number is 0 to 9223372036854775807 in digits";
+
+/// What is said of a block size that is no number.
+const BAD_BLOCK: &str =
+    "invalid value for '--block <BYTES>': a number is 0 to 9223372036854775807 in digits";
+
+/// What is said of a date that is no number.
+const BAD_DATE: &str =
+    "invalid value for '--date <SECONDS>': a number is 0 to 9223372036854775807 in digits";
+
+/// What clap's matches ask of `rdump dump`.
+pub(crate) fn dump_in<'a>(matches: &ArgMatches<'a>) -> Result<DumpLine<'a>, WordFault>
+    ensures { IfOk result IsDumpLine }
+{
+    match numbers_in(
+        value_in(matches, "level"),
+        value_in(matches, "block"),
+        matches.get_str("date"),
+    ) {
+        Ok((level, block, date)) => Ok(DumpLine {
+            to: value_in(matches, "to"),
+            device: value_in(matches, "device"),
+            fs: value_in(matches, "fs"),
+            level,
+            payload: value_in(matches, "payload"),
+            block,
+            dumpdates: value_in(matches, "dumpdates"),
+            date,
+            update: matches.get_str("update") == Some("true"),
+        }),
+        Err(fault) => Err(fault),
+    }
+}
+
+/// The numbers that these texts say: the level, the bytes of a block, and the date if one is given.
+fn numbers_in(
+    level: &str,
+    block: &str,
+    date: Option<&str>,
+) -> Result<(u64, u64, Option<u64>), WordFault>
+    ensures { IfOk result (λ found. (found.0 ≤ ARGUMENT_LIMIT) × (found.1 ≤ ARGUMENT_LIMIT)
+        × IfSome found.2 (λ n. n ≤ ARGUMENT_LIMIT)) }
+{
+    let Some(level) = number_of(level) else {
+        return Err(WordFault::Value(BAD_LEVEL));
+    };
+    let Some(block) = number_of(block) else {
+        return Err(WordFault::Value(BAD_BLOCK));
+    };
+    match date_in(date) {
+        Some(date) => Ok((level, block, date)),
+        None => Err(WordFault::Value(BAD_DATE)),
+    }
+}
+
+/// The date that a text says, if one is given, and None where it says none.
+fn date_in(text: Option<&str>) -> Option<Option<u64>>
+    ensures { IfSome result (λ date. IfSome date (λ n. n ≤ ARGUMENT_LIMIT)) }
+{
+    match text {
+        Some(text) => Some(Some(number_of(text)?)),
+        None => Some(None),
+    }
+}
+
+/// The words of `rdump dump`.
+pub(crate) static DUMP_WORDS: [Word; 9] = [
+    Word::TO,
+    Word::DEVICE,
+    Word {
+        name: "fs",
+        value: "NAME",
+        help: "The name of the file system",
+        form: Form::Required,
+        missing: "--fs is required",
+    },
+    Word {
+        name: "level",
+        value: "LEVEL",
+        help: "The level of the dump, 0 to 9",
+        form: Form::Required,
+        missing: "--level is required",
+    },
+    Word {
+        name: "payload",
+        value: "FILE",
+        help: "What is dumped",
+        form: Form::Required,
+        missing: "--payload is required",
+    },
+    Word {
+        name: "block",
+        value: "BYTES",
+        help: "The size of a block, 1 to 65536",
+        form: Form::Required,
+        missing: "--block is required",
+    },
+    Word {
+        name: "dumpdates",
+        value: "FILE",
+        help: "The dumpdates file; a missing one is empty",
+        form: Form::Required,
+        missing: "--dumpdates is required",
+    },
+    Word {
+        name: "date",
+        value: "SECONDS",
+        help: "The date of the dump in seconds since 1970 [default: the clock's]",
+        form: Form::Optional,
+        missing: "",
+    },
+    Word {
+        name: "update",
+        value: "",
+        help: "Enter the dump in the dumpdates file once it is complete",
+        form: Form::Flag,
+        missing: "",
+    },
+];

@@ -1,5 +1,0 @@
-use Rattle.std.proofs.Common.{rules}
-use Rattle.reel_files.proofs.file_medium.FileMedium.new.Goals as goal
-
-pub returns : goal.returns
-returns c = search rules

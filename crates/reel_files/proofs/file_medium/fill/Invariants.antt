@@ -1,5 +1,0 @@
-use Rattle.std.proofs.Common.{◌≤◌, length}
-use Rattle.reel_files.proofs.file_medium.fill.Given as goal
-
-abbrev pub invariant-loop : goal.invariant-loop
-invariant-loop l = l.filled ≤ length l.into

@@ -1,4 +1,0 @@
-use Rattle.rmt_many.proofs.connections.ConnectionsIncoming.next.Given as goal
-
-abbrev pub decreases-loop-left : goal.decreases-loop-left
-decreases-loop-left l = l.self.left

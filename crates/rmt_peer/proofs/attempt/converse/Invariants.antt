@@ -1,5 +1,0 @@
-use Rattle.rmt_peer.specs.Talk.{TalksOver}
-use Rattle.rmt_peer.proofs.attempt.converse.Given as goal
-
-abbrev pub invariant-loop : goal.invariant-loop
-invariant-loop g l = TalksOver g.B.Blocks.holds g.P.Peer.tells l.fn.client l.client l.fn.peer l.peer

@@ -1,5 +1,0 @@
-use Rattle.rmt_peer.proofs.Talking.{nothing_said}
-use Rattle.rmt_peer.proofs.attempt.exchange.Goals as goal
-
-pub returns-in_default : goal.returns-in_default
-returns-in_default g c = nothing_said g.B.Blocks.holds g.P.Peer.tells c.args.client.now c.args.peer.now

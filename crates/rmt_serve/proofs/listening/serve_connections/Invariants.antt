@@ -1,5 +1,0 @@
-use Rattle.rmt_serve.specs.Serving.{ServedInTurn}
-use Rattle.rmt_serve.proofs.listening.serve_connections.Given as goal
-
-abbrev pub invariant-loop : goal.invariant-loop
-invariant-loop l = ServedInTurn l.fn.server l.server

@@ -1,0 +1,79 @@
+-- Laws of sessions, each by a name of its own. Public contracts cite it.
+use Rattle.std.specs.Prelude.{◌≡◌, ◌≢◌, ℕ, ◌≤◌, Bool, true, List, Option, Some}
+use Rattle.tape.specs.Trouble.{TroubledTape}
+use Rattle.tape.specs.declared.trouble.Trouble.{Trouble}
+use Rattle.tape.specs.declared.trouble.Trouble.TheVariants.{None as NoTrouble}
+use Rattle.drives.specs.declared.table.DriveTable.{DriveTable}
+use Rattle.drives.specs.declared.view.View.{View}
+use Rattle.drives.specs.ListShop.{ListShop, is_set}
+use Rattle.drives.specs.Local.{Holders, holders, IsHeldBy}
+use Rattle.drives.specs.Stacking.{HasLatched}
+use Rattle.drives.specs.Opening.{Kinds}
+use Rattle.rmt_wire.specs.Request.{PlainRequest}
+use Rattle.rmt_wire.specs.Reply.{PlainReply}
+use Rattle.rmt_server.specs.declared.session.desk.Desk.{Desk}
+use Rattle.rmt_server.specs.Session.{Scene, ServeStep}
+use Rattle.rmt_server.specs.State.{state, IsAt, Tells, KeepsDrives, drive_of, online_drive}
+use Rattle.rmt_server.specs.Opening.{IsClosed}
+use Rattle.rmt_server.specs.Carrying.{IsCarriedOut}
+use Rattle.rmt_server.specs.Memory.{MemoryState, in_memory}
+use Rattle.rmt_server.specs.TroubledServe.{TroubledServe, IsTroubled, IsSetFor, IsServedUnder, IsEnded}
+
+-- no drive is open in two sessions of two seats
+abbrev pub NoDriveIsOpenTwice : {S R : Type 0} → Kinds Holders View S R → Type 0
+NoDriveIsOpenTwice {S} {R} k = (drives : DriveTable Holders S View R) (one other : Desk View R) (d : ℕ) → IsAt k (state drives one) → IsAt k (state drives other) →
+    one.seat.number ≢ other.seat.number → drive_of one.opened ≡ Some d → drive_of other.opened ≡ Some d → ⊥
+
+-- what a session does leaves the drives those of each session of another seat
+abbrev pub OthersStayAt : {S R : Type 0} → Kinds Holders View S R → Type 0
+OthersStayAt {S} {R} k = (old new : DriveTable Holders S View R) (one after other : Desk View R) → IsAt k (state old one) → IsAt k (state old other) →
+    other.seat.number ≢ one.seat.number → IsAt k (state new after) → KeepsDrives k (state old one) (state new after) → IsAt k (state new other)
+
+-- a drive that is open is held by the session's seat
+abbrev pub OpenIsHeld : {S R : Type 0} → Kinds Holders View S R → Type 0
+OpenIsHeld {S} {R} k = (drives : DriveTable Holders S View R) (desk : Desk View R) (d : ℕ) →
+    IsAt k (state drives desk) → drive_of desk.opened ≡ Some d → IsHeldBy drives.holds d desk.seat.number
+
+-- a drive that no seat holds is open in no session
+abbrev pub FreeIsClosed : {S R : Type 0} → Kinds Holders View S R → Type 0
+FreeIsClosed {S} {R} k = (drives : DriveTable Holders S View R) (desk : Desk View R) (d : ℕ) →
+    IsAt k (state drives desk) → IsHeldBy drives.holds d 0 → drive_of desk.opened ≢ Some d
+
+-- the drives are still those of a session where its seat belongs to them, their counts are as before, and its open reel stays latched
+abbrev pub StaysAt : {H S Seat R : Type 0} → Kinds H Seat S R → Type 0
+StaysAt {H} {S} {Seat} {R} k = (old new : DriveTable H S Seat R) (desk : Desk Seat R) → IsAt k (state old desk) →
+    k.holds.belongs new.holds desk.seat → k.holds.drives new.holds ≡ k.holds.drives old.holds → k.stacks.drives new.stacks ≡ k.stacks.drives old.stacks →
+    ((d : ℕ) → online_drive desk.opened ≡ Some d → HasLatched k.stacks.holds old.stacks d → HasLatched k.stacks.holds new.stacks d) → IsAt k (state new desk)
+
+-- the same where reels stay latched at all drives but one that the session does not have open
+abbrev pub StaysAtElsewhere : {H S Seat R : Type 0} → Kinds H Seat S R → Type 0
+StaysAtElsewhere {H} {S} {Seat} {R} k = (old new : DriveTable H S Seat R) (desk : Desk Seat R) (d : ℕ) → IsAt k (state old desk) → drive_of desk.opened ≢ Some d →
+    k.holds.belongs new.holds desk.seat → k.holds.drives new.holds ≡ k.holds.drives old.holds → k.stacks.drives new.stacks ≡ k.stacks.drives old.stacks →
+    ((e : ℕ) → e ≢ d → HasLatched k.stacks.holds old.stacks e → HasLatched k.stacks.holds new.stacks e) → IsAt k (state new desk)
+
+-- the drives of one thread are still those of a session after more seats were given
+abbrev pub StaysAtWithMoreSeats : {S R : Type 0} → Kinds Holders View S R → Type 0
+StaysAtWithMoreSeats {S} {R} k = (old : DriveTable Holders S View R) (desk : Desk View R) (last : ℕ) →
+    IsAt k (state old desk) → old.holds.last ≤ last → IsAt k (state (record old { holds = holders old.holds.numbers last }) desk)
+
+-- drives in memory are still those of a session after a trouble of the stacks was set or taken back
+abbrev pub StaysAtUnderTrouble : {H Seat : Type 0} → Kinds H Seat ListShop TroubledTape → Type 0
+StaysAtUnderTrouble {H} {Seat} k = (old : DriveTable H ListShop Seat TroubledTape) (desk : Desk Seat TroubledTape) (on : Bool) →
+    IsAt k (state old desk) → IsAt k (state (record old { stacks = record old.stacks { trouble = on } }) desk)
+
+-- one request over drives in memory, a trouble of its device call being set: what is seen of it afterwards is what `IsServedUnder` says
+abbrev pub TroublesAreServed : Type 0
+TroublesAreServed = (trouble : Trouble) (old new : MemoryState) (before : Scene) (request : PlainRequest) (reply : PlainReply) →
+    IsAt in_memory old → Tells in_memory old before → IsSetFor trouble request old → IsCarriedOut in_memory old request reply new →
+    IsServedUnder trouble old before request reply new
+
+-- one request under a trouble is a serve step
+abbrev pub TroubledIsServed : Type 0
+TroubledIsServed = (trouble : Trouble) (holders holders' : List ℕ) (k : ℕ) (before after : Scene) (request : PlainRequest) (reply : PlainReply) →
+    TroubledServe trouble holders k before request reply after holders' →
+    (asked : Option ℕ) × (found : ℕ) × ServeStep (is_set trouble) true asked found before request reply after
+
+-- the end of a session whose open reel has no trouble leaves what `IsEnded` says
+abbrev pub EndsUntroubled : Type 0
+EndsUntroubled = (stacks : Bool) (old new : MemoryState) (before : Scene) →
+    IsAt in_memory old → Tells in_memory old before → IsTroubled NoTrouble stacks old → IsClosed in_memory old new → IsEnded old before new

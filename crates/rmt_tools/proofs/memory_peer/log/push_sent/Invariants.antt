@@ -1,0 +1,9 @@
+use Rattle.std.proofs.Common.{◌≡◌, ◌++◌, ◌+◌, ◌≤◌, length, map, take}
+use Rattle.std.specs.Vec.{vec_capacity, vec_len}
+use Rattle.rdump_talk.specs.declared.peer.Passed.TheVariants.{Sent}
+use Rattle.rmt_tools.proofs.memory_peer.log.push_sent.Given as goal
+
+abbrev pub invariant-loop-byte : goal.invariant-loop-byte
+invariant-loop-byte l =
+    (l.passed.items ≡ l.initial.passed.items ++ map Sent (take l.byte-index l.bytes))
+    × (vec_len l.passed + length l.bytes ≤ vec_capacity l.passed + l.byte-index)

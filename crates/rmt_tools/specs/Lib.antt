@@ -1,0 +1,2 @@
+-- A peer in memory: Telling.
+pub mod Telling

@@ -1,0 +1,58 @@
+-- A peer in memory, and the log that it keeps of what passed. Public contracts cite it.
+use Rattle.std.specs.Prelude.{◌≡◌, ℕ, ◌-◌, ◌^◌, min, Bool, true, false, List, [], ◌++◌, replicate, None}
+use Rattle.tape.specs.Trouble.{TroubledTape}
+use Rattle.drives.specs.declared.table.DriveTable.{DriveTable}
+use Rattle.drives.specs.declared.view.View.{View}
+use Rattle.drives.specs.ListShop.{ListShop}
+use Rattle.drives.specs.Local.{Holders}
+use Rattle.rmt_server.specs.declared.session.desk.Desk.{Desk}
+use Rattle.rmt_server.specs.Memory.{MemoryState, in_memory}
+use Rattle.rmt_server.specs.Opening.{IsClosed}
+use Rattle.rmt_server.specs.State.{state}
+use Rattle.rdump_talk.specs.declared.peer.Passed.{Passed}
+use Rattle.rdump_talk.specs.declared.peer.Passed.TheVariants.{Ended}
+
+-- what passed, and how many ends stand behind that
+pub record KeptLog : Type 0 where
+  pub passed : List Passed
+  pub ends : ℕ
+
+abbrev pub kept_log : List Passed → ℕ → KeptLog
+kept_log passed ends = record { passed = passed; ends = ends }
+
+-- this passed: the ends are counted up to the greatest u64
+abbrev pub IsLogOf : KeptLog → List Passed → Type 0
+IsLogOf kept log = (n : ℕ) × (log ≡ kept.passed ++ replicate n Ended) × (kept.ends ≡ min n (2 ^ 64 - 1))
+
+-- this passed, or nothing
+abbrev pub where_so : Bool → List Passed → List Passed
+where_so true passed = passed
+where_so false passed = []
+
+abbrev pub Drives : Type 0
+Drives = DriveTable Holders ListShop View TroubledTape
+
+abbrev pub Seated : Type 0
+Seated = Desk View TroubledTape
+
+-- the log, the drives, and the session at them
+pub record MemoryPeerHeld : Type 0 where
+  pub log : KeptLog
+  pub drives : Drives
+  pub session : Seated
+
+-- a session with nothing open, at drives with the same reels and holders
+abbrev pub IsMadeWith : Drives → Drives → Seated → Type 0
+IsMadeWith given drives session = (drives.stacks ≡ given.stacks) × (drives.holds.numbers ≡ given.holds.numbers) × (session.opened ≡ None)
+
+-- the same of a peer
+abbrev pub IsMadeOf : Drives → MemoryPeerHeld → Type 0
+IsMadeOf given p = IsMadeWith given p.drives p.session
+
+-- the drives, once what is open was closed
+abbrev pub IsAfterEnd : Drives → Seated → Drives → Type 0
+IsAfterEnd drives session left = (after : MemoryState) × IsClosed in_memory (state drives session) after × (left ≡ after.drives)
+
+-- the same of a peer
+abbrev pub IsTakenApart : MemoryPeerHeld → Drives → Type 0
+IsTakenApart p left = IsAfterEnd p.drives p.session left

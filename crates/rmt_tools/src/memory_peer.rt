@@ -1,0 +1,177 @@
+//! A peer in memory, which tells what passed.
+ghost use Rattle.std.specs.Prelude.{◌≡◌, ◌≤◌, ◌∷◌, [], IfSome, drop, length, min, take};
+ghost use Rattle.rdump_talk.specs.Peer.{Logs};
+ghost use Rattle.rdump_talk.specs.declared.peer.Passed.TheVariants.{Connected, Ended};
+ghost use Rattle.rmt_tools.specs.Telling.{IsLogOf, IsMadeOf, IsTakenApart, where_so};
+
+mod far_end;
+mod log;
+
+use drives::{DriveTable, ListStacks, LocalHolds};
+use far_end::FarEnd;
+use log::Log;
+use rdump_talk::Peer;
+use std::alloc::Global;
+use std::marker::Model;
+
+/// A peer in memory: drives with their reels, and a session of its own for each connection. It tells what passed.
+///
+/// Each request that it is sent whole is carried out at once, and the replies wait until they are received. Where none
+/// waits, a receive finds the connection ended: nothing would come without a further request. Bytes that are no request
+/// end the session; the replies to what came before can still be received.
+///
+/// It keeps a log of what passed, and takes memory for it and for the replies. Where that is refused, the connection is
+/// found ended.
+///
+/// Contracts see the log, the drives and the session.
+#[derive(Drop)]
+pub struct MemoryPeer {
+    far: FarEnd,
+    back: Vec<u8>,
+    log: Log,
+    is_open: bool,
+}
+
+impl Model for MemoryPeer {
+    ghost use Rattle.rmt_tools.specs.Telling.{MemoryPeerHeld};
+
+    ghost Value = { MemoryPeerHeld };
+
+    ghost view = { λ p. record { log = p.log; drives = p.far.drives; session = p.far.session } };
+}
+
+impl MemoryPeer {
+    /// A peer of these drives, with no connection. The stacks have no more drives than the holds.
+    ///
+    /// None where memory was refused, or no number is left for a session.
+    pub fn new(alloc: Global, drives: DriveTable<LocalHolds, ListStacks>) -> Option<MemoryPeer>
+        requires { length drives.stacks.shop.racks ≤ length drives.holds.numbers }
+        ensures tells { IfSome result (λ p. IsLogOf p.log []) }
+        ensures made { IfSome result (λ p. IsMadeOf drives p) }
+    {
+        let far = FarEnd::new(alloc, drives)?;
+        Some(MemoryPeer {
+            far,
+            back: Vec::new(alloc),
+            log: Log::new(alloc),
+            is_open: false,
+        })
+    }
+
+    /// The reels. Of one that a session has open the name alone is there.
+    pub fn stacks(&self) -> &ListStacks
+        ensures { result.now ≡ self.now.drives.stacks }
+    {
+        &self.far.drives.stacks
+    }
+
+    /// The drives, once the session has ended. Another peer can be made of them.
+    pub fn into_drives(self) -> DriveTable<LocalHolds, ListStacks>
+        ensures apart { IsTakenApart self result }
+        ensures enough { length result.stacks.shop.racks ≤ length result.holds.numbers }
+    {
+        let MemoryPeer { far, .. } = self;
+        far.into_drives()
+    }
+
+    /// Ends the session, and drops what is on the way back.
+    fn close(&mut self)
+        ensures { self.new.log ≡ self.old.log }
+    {
+        self.far.end();
+        self.back.clear();
+        self.is_open = false;
+    }
+
+    /// The caller finds the connection ended.
+    fn cut(&mut self)
+        ensures { Logs IsLogOf self.old.log self.new.log (Ended ∷ []) }
+    {
+        self.close();
+        self.log.end();
+    }
+
+    /// Makes a connection with a session of its own, in place of any that there is, and logs it.
+    fn open(&mut self) -> bool
+        ensures { Logs IsLogOf self.old.log self.new.log (where_so result (Connected ∷ [])) }
+    {
+        self.close();
+        if self.far.renew().is_none() {
+            return false;
+        }
+        self.is_open = self.log.connect();
+        self.is_open
+    }
+}
+
+/// Takes as many bytes from the front as there is room for, and answers how many.
+fn take_front(bytes: &mut Vec<u8>, into: &mut [u8]) -> usize
+    ensures count { result ≡ min (length bytes.old.items) (length into.old) }
+    ensures within { result ≤ length into.new }
+    ensures room { length into.new ≡ length into.old }
+    ensures taken { take result into.new ≡ take result bytes.old.items }
+    ensures rest { bytes.new.items ≡ drop result bytes.old.items }
+{
+    let len = bytes.len();
+    let count = len.min(into.len());
+    into[..count].copy_from_slice(&bytes.as_slice()[..count]);
+    bytes.as_mut_slice().copy_within(count.., 0);
+    bytes.truncate(len - count);
+    count
+}
+
+impl Peer for MemoryPeer {
+    ghost use Rattle.rmt_tools.specs.Telling.{IsLogOf};
+
+    ghost tells = { λ p. IsLogOf p.log };
+
+    /// It takes memory for a session and for the log, and answers false where that is refused, or no number is left for
+    /// a session.
+    fn connect(&mut self) -> bool {
+        if self.open() {
+            return true;
+        }
+        self.cut();
+        false
+    }
+
+    /// Answers false where there is no connection or it was ended by bytes that are no request, and where memory for the
+    /// log or for a reply is refused.
+    fn send(&mut self, bytes: &[u8]) -> bool {
+        if !self.is_open {
+            self.cut();
+            return false;
+        }
+        if !self.log.send(bytes) {
+            self.cut();
+            return false;
+        }
+        let Ok(goes_on) = self.far.serve(bytes, &mut self.back) else {
+            self.cut();
+            return false;
+        };
+        self.is_open = goes_on;
+        true
+    }
+
+    /// It gives what waits, and the end where nothing does, or where memory for the log is refused.
+    fn receive(&mut self, into: &mut [u8]) -> usize {
+        if into.is_empty() {
+            return 0;
+        }
+        let count = take_front(&mut self.back, into);
+        if count == 0 {
+            self.cut();
+            return 0;
+        }
+        if !self.log.give(&into[..count]) {
+            self.cut();
+            return 0;
+        }
+        count
+    }
+
+    fn hang_up(&mut self) {
+        self.close();
+    }
+}

@@ -1,0 +1,159 @@
+//! The server's side of a connection in memory.
+ghost use Rattle.std.specs.Prelude.{◌≤◌, IfSome, IsTrue, length};
+ghost use Rattle.rmt_wire.specs.Lent.{plain_request};
+ghost use Rattle.rmt_server.specs.Memory.{in_memory};
+ghost use Rattle.rmt_server.specs.Opening.{IsClosed};
+ghost use Rattle.rmt_server.specs.State.{state, IsAt};
+ghost use Rattle.rmt_server.specs.Replies.{IsSayable};
+ghost use Rattle.rmt_tools.specs.Telling.{IsAfterEnd, IsMadeWith};
+
+use drives::{DriveTable, ListStacks, LocalHolds};
+use rmt_server::{Session, more_seats};
+use rmt_wire::{NUMBER_LIMIT, Request, RequestReader, push_reply};
+use std::alloc::{AllocError, Global};
+
+type Drives = DriveTable<LocalHolds, ListStacks>;
+
+type Server = Session<LocalHolds, ListStacks>;
+
+/// Drives with a session, and the reader of its requests.
+#[derive(Drop)]
+pub(super) struct FarEnd {
+    alloc: Global,
+    pub(super) drives: Drives,
+    wire: RequestReader,
+    session: Server,
+    ghost at: { IsAt in_memory (state drives session) },
+}
+
+impl FarEnd {
+    /// A session with nothing open at these drives. None where memory was refused, or no number is left for a session.
+    pub(super) fn new(alloc: Global, mut drives: Drives) -> Option<FarEnd>
+        requires { length drives.stacks.shop.racks ≤ length drives.holds.numbers }
+        ensures { IfSome result (λ far. IsMadeWith drives far.drives far.session) }
+    {
+        let seat = drives.holds.seat()?;
+        let session = Session::new(alloc, seat).ok()?;
+        let wire = RequestReader::new(alloc).ok()?;
+        Some(FarEnd {
+            alloc,
+            drives,
+            wire,
+            session,
+        })
+    }
+
+    /// Ends the session, and makes another, with an empty reader. None as `new` has it.
+    pub(super) fn renew(&mut self) -> Option<()> {
+        more_seats::<ListStacks>();
+        self.end();
+        self.wire = RequestReader::new(self.alloc).ok()?;
+        let seat = self.drives.holds.seat()?;
+        self.session = Session::new(self.alloc, seat).ok()?;
+        Some(())
+    }
+
+    /// Takes bytes in, has each request that is whole then carried out, and appends the replies to `back`. Bytes that
+    /// are no request end the session. Answers whether it goes on.
+    ///
+    /// It fails where memory for a reply was refused.
+    pub(super) fn serve(&mut self, bytes: &[u8], back: &mut Vec<u8>) -> Result<bool, AllocError> {
+        let goes_on = take_in(
+            bytes,
+            &mut self.wire,
+            &mut self.session,
+            &mut self.drives,
+            back,
+        )?;
+        if !goes_on {
+            self.end();
+        }
+        Ok(goes_on)
+    }
+
+    /// Ends the session: what is open is closed.
+    pub(super) fn end(&mut self)
+        ensures { IsClosed in_memory (state self.old.drives self.old.session) (state self.new.drives self.new.session) }
+    {
+        self.session.end(&mut self.drives);
+    }
+
+    /// The drives, once the session has ended.
+    pub(super) fn into_drives(mut self) -> Drives
+        ensures apart { IsAfterEnd self.drives self.session result }
+        ensures enough { length result.stacks.shop.racks ≤ length result.holds.numbers }
+    {
+        self.end();
+        let FarEnd { drives, .. } = self;
+        drives
+    }
+}
+
+/// Takes bytes in, and has each request that is whole then carried out. Answers whether more can come: none can where the
+/// bytes are no request.
+fn take_in(
+    bytes: &[u8],
+    wire: &mut RequestReader,
+    session: &mut Server,
+    drives: &mut Drives,
+    back: &mut Vec<u8>,
+) -> Result<bool, AllocError>
+    requires { IsAt in_memory (state drives.old session.old) }
+    ensures { IsAt in_memory (state drives.new session.new) }
+{
+    let mut rest = bytes;
+    while !rest.is_empty() {
+        let count = wire.push(rest).min(rest.len());
+        if count == 0 || !carry_all(wire, session, drives, back)? {
+            return Ok(false);
+        }
+        rest = &rest[count..];
+    }
+    Ok(true)
+}
+
+/// Has each whole request that the reader holds carried out. Answers whether more can come.
+fn carry_all(
+    wire: &mut RequestReader,
+    session: &mut Server,
+    drives: &mut Drives,
+    back: &mut Vec<u8>,
+) -> Result<bool, AllocError>
+    requires { IsAt in_memory (state drives.old session.old) }
+    ensures { IsAt in_memory (state drives.new session.new) }
+{
+    loop {
+        match wire.next() {
+            Err(_) => return Ok(false),
+            Ok(None) => return Ok(true),
+            Ok(Some(request)) => carry(request, session, drives, back)?,
+        }
+    }
+}
+
+/// Has a request carried out, and appends the reply.
+fn carry(
+    request: Request<'_>,
+    session: &mut Server,
+    drives: &mut Drives,
+    back: &mut Vec<u8>,
+) -> Result<(), AllocError>
+    requires { IsAt in_memory (state drives.old session.old) }
+    ensures { IsAt in_memory (state drives.new session.new) }
+{
+    if !is_sayable(&request) {
+        return Err(AllocError);
+    }
+    let reply = session.carry_out(drives, request);
+    push_reply(back, &reply)
+}
+
+/// Whether a reply can say the count of the request's operation.
+fn is_sayable(request: &Request<'_>) -> bool
+    ensures { IsTrue result → IsSayable (plain_request request.now) }
+{
+    match request {
+        Request::Op { count, .. } => *count <= NUMBER_LIMIT,
+        _ => true,
+    }
+}

@@ -1,0 +1,122 @@
+//! What passed between a caller and a peer in memory.
+ghost use Rattle.std.specs.Prelude.{◌≡◌, ◌∷◌, ◌++◌, [], IsTrue, map, replicate};
+ghost use Rattle.rdump_talk.specs.Peer.{Logs};
+ghost use Rattle.rdump_talk.specs.declared.peer.Passed.TheVariants.{Connected, Sent, Given, Ended};
+ghost use Rattle.rmt_tools.specs.Telling.{IsLogOf, where_so};
+
+use rdump_talk::Passed;
+use std::alloc::Global;
+use std::marker::Model;
+
+/// What passed, in order, and how often the connection was found ended behind that, up to the greatest `u64`.
+///
+/// An end takes no memory, so it can always be logged. All else can be while `ends` is below its greatest value, and memory
+/// is had.
+#[derive(Drop)]
+pub(super) struct Log {
+    passed: Vec<Passed>,
+    ends: u64,
+}
+
+impl Model for Log {
+    ghost use Rattle.rmt_tools.specs.Telling.{KeptLog, kept_log};
+
+    ghost Value = { KeptLog };
+
+    ghost view = { λ l. kept_log l.passed.items l.ends };
+}
+
+impl Log {
+    /// Nothing passed.
+    pub(super) fn new(alloc: Global) -> Log
+        ensures { IsLogOf result [] }
+    {
+        Log {
+            passed: Vec::new(alloc),
+            ends: 0,
+        }
+    }
+
+    /// The connection was found ended.
+    pub(super) fn end(&mut self)
+        ensures { Logs IsLogOf self.old self.new (Ended ∷ []) }
+    {
+        self.ends = self.ends.saturating_add(1);
+    }
+
+    /// A connection was made. Answers whether that could be logged.
+    pub(super) fn connect(&mut self) -> bool
+        ensures { Logs IsLogOf self.old self.new (where_so result (Connected ∷ [])) }
+    {
+        self.settle() && push_connected(&mut self.passed)
+    }
+
+    /// These bytes were sent. Answers whether that could be logged.
+    pub(super) fn send(&mut self, bytes: &[u8]) -> bool
+        ensures { Logs IsLogOf self.old self.new (where_so result (map Sent bytes.now)) }
+    {
+        self.settle() && push_sent(&mut self.passed, bytes)
+    }
+
+    /// These bytes were given. Answers whether that could be logged.
+    pub(super) fn give(&mut self, bytes: &[u8]) -> bool
+        ensures { Logs IsLogOf self.old self.new (where_so result (map Given bytes.now)) }
+    {
+        self.settle() && push_given(&mut self.passed, bytes)
+    }
+
+    /// Puts the ends behind what passed before them. Answers whether more can be logged.
+    fn settle(&mut self) -> bool
+        ensures same { Logs IsLogOf self.old self.new [] }
+        ensures settled { IsTrue result → self.new.ends ≡ 0 }
+    {
+        if self.ends == u64::MAX || !push_ends(&mut self.passed, self.ends) {
+            return false;
+        }
+        self.ends = 0;
+        true
+    }
+}
+
+/// Appends so many ends. Answers whether memory was had.
+fn push_ends(passed: &mut Vec<Passed>, ends: u64) -> bool
+    ensures { passed.new.items ≡ passed.old.items ++ where_so result (replicate ends Ended) }
+{
+    let Some(all) = passed.len().checked_add(ends as usize) else {
+        return false;
+    };
+    passed.resize(all, Passed::Ended).is_ok()
+}
+
+/// Appends that a connection was made. Answers whether memory was had.
+fn push_connected(passed: &mut Vec<Passed>) -> bool
+    ensures { passed.new.items ≡ passed.old.items ++ where_so result (Connected ∷ []) }
+{
+    passed.push(Passed::Connected).is_ok()
+}
+
+/// Appends that these bytes were sent. Answers whether memory was had.
+fn push_sent(passed: &mut Vec<Passed>, bytes: &[u8]) -> bool
+    ensures { passed.new.items ≡ passed.old.items ++ where_so result (map Sent bytes.now) }
+{
+    if passed.reserve(bytes.len()).is_err() {
+        return false;
+    }
+    for byte in bytes {
+        passed.push_reserved(Passed::Sent(*byte));
+    }
+    true
+}
+
+/// Appends that these bytes were given. Answers whether memory was had.
+fn push_given(passed: &mut Vec<Passed>, bytes: &[u8]) -> bool
+    ensures { passed.new.items ≡ passed.old.items ++ where_so result (map Given bytes.now) }
+{
+    if passed.reserve(bytes.len()).is_err() {
+        return false;
+    }
+    for byte in bytes {
+        passed.push_reserved(Passed::Given(*byte));
+    }
+    true
+}

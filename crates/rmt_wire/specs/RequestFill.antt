@@ -1,0 +1,16 @@
+-- What one read of a stream leaves in a reader of requests. Public contracts cite it.
+use Rattle.std.specs.Prelude.{◌≡◌, ℕ, List, ◌++◌, length, Option}
+use Rattle.std.specs.Io.KnownBytes.{Consumes, Keeps}
+use Rattle.rmt_wire.specs.Request.{PlainRequest}
+use Rattle.rmt_wire.specs.RequestReader.{RequestHeld, IsGiven}
+
+-- the bytes came from the stream, so many of them, and the reader takes them for more of what was pushed to it
+pub record IsFilled (left left' : Option (List ℕ)) (old new : RequestHeld) (count : ℕ) : Type 0 where
+  pub came : List ℕ
+  pub long : length came ≡ count
+  pub consumed : Consumes left left' came
+  pub given : (pushed : List ℕ) (requests : List PlainRequest) → IsGiven old pushed requests → IsGiven new (pushed ++ came) requests
+
+-- nothing came, and the reader is exactly as it was
+abbrev pub IsNotFilled : Option (List ℕ) → Option (List ℕ) → RequestHeld → RequestHeld → Type 0
+IsNotFilled left left' old new = Keeps left left' × (new ≡ old)

@@ -1,0 +1,28 @@
+//! The errors that a server answers with, by errno's numbers. Each crate takes them from here.
+
+/// No such file or directory: no drive has the name.
+pub const ENOENT: u32 = 2;
+
+/// Input/output error: the device failed, or the tape came to a mark or to its end before the count was done.
+pub const EIO: u32 = 5;
+
+/// Device not configured: the drive has no reel.
+pub const ENXIO: u32 = 6;
+
+/// Bad file descriptor: nothing is open, or it is open for something else.
+pub const EBADF: u32 = 9;
+
+/// Cannot allocate memory.
+pub const ENOMEM: u32 = 12;
+
+/// Permission denied: the device is not open for this.
+pub const EACCES: u32 = 13;
+
+/// Device busy: another session holds the drive.
+pub const EBUSY: u32 = 16;
+
+/// Invalid argument.
+pub const EINVAL: u32 = 22;
+
+/// No space left on device: the reel is full.
+pub const ENOSPC: u32 = 28;

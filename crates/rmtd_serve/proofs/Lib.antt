@@ -1,0 +1,5 @@
+pub mod Endings
+pub mod Resting
+pub mod Afresh
+mod Seats
+mod Hands

@@ -1,0 +1,78 @@
+-- What a seat keeps while a session works at it, and how it comes back.
+use Rattle.std.proofs.Common.{◌≡◌, ℕ, ◌≤◌, List, Option, None, OnOk, Result, refl, sym, subst, ◌∙◌}
+use Rattle.std.specs.Result.{result_ok}
+use Rattle.rmt_wire.specs.Counted.{Counting}
+use Rattle.drives.specs.declared.table.DriveTable.{DriveTable}
+use Rattle.drives.specs.Holding.{HoldsJust}
+use Rattle.drives.specs.Opening.{Kinds}
+use Rattle.rmt_server.specs.declared.session.desk.Desk.{Desk}
+use Rattle.rmt_server.specs.declared.stream.Served.{Served}
+use Rattle.rmt_server.specs.declared.stream.ServeFault.{ServeFault}
+use Rattle.rmt_server.specs.State.{State, state, seated_at, IsAt, KeepsDrives}
+use Rattle.rmt_server.specs.Stream.{streams, streams_kind, Exchange, CarryRun, IsServedAs, NoneFailed}
+use Rattle.rmt_server.specs.Stream.CarryRun.{none, one_more}
+use Rattle.rmtd_serve.specs.Seating.{IsServedAfresh, KeepsSeats, ServesStreams}
+use Rattle.rmtd_serve.specs.Seating.ServesStreams.{untouched, served}
+
+keeps_nothing : {H S Seat R : Type 0} (k : Kinds H Seat S R) (x : State H S Seat R) → KeepsSeats k x x
+keeps_nothing k x = record { number = refl; others = λ other apart own. own; same_holds = refl; same_stacks = refl }
+
+keeps_on : {H S Seat R : Type 0} (k : Kinds H Seat S R) (x y : State H S Seat R) {z : State H S Seat R}
+    → KeepsSeats k x y → KeepsDrives k y z → KeepsSeats k x z
+keeps_on k x y a b = record {
+  number = b.number ∙ a.number;
+  others = λ other apart own. b.others other (λ same. apart (same ∙ a.number)) (a.others other apart own);
+  same_holds = b.same_holds ∙ a.same_holds;
+  same_stacks = b.same_stacks ∙ a.same_stacks;
+}
+
+keeps_run : {H S Seat R : Type 0} (k : Kinds H Seat S R) (start : State H S Seat R) {done : List Exchange} {last : State H S Seat R}
+    → CarryRun k start done last → KeepsSeats k start last
+keeps_run k start none = keeps_nothing k start
+keeps_run k start (one_more request reply run step spelled) = keeps_on k start _ (keeps_run k start run) step.kept
+
+-- a seat that holds no drive, while nothing is open
+pub idle_at : {H S Seat R : Type 0} (k : Kinds H Seat S R) (drives : DriveTable H S Seat R) (seat : Seat)
+    → k.holds.belongs drives.holds seat → HoldsJust (k.holds.shows seat) None → k.stacks.drives drives.stacks ≤ k.holds.drives drives.holds
+    → IsAt k (seated_at drives seat None)
+idle_at k drives seat own idle enough = record {
+  own = own;
+  enough = enough;
+  held = idle;
+  below = λ d x. absurd cc;
+  latched = λ d x. absurd cc;
+}
+
+-- neither stream is touched
+pub untouched_back : {H S Seat R In Out : Type 0} (k : Kinds H Seat S R) (remaining : In → Option (List ℕ)) (contents : Out → Option (List ℕ))
+    (drives : DriveTable H S Seat R) (seat back : Seat) (input : Counting In) (output : Counting Out)
+    → k.holds.belongs drives.holds seat → HoldsJust (k.holds.shows seat) None → k.stacks.drives drives.stacks ≤ k.holds.drives drives.holds
+    → back ≡ seat → IsServedAfresh k (streams_kind remaining contents) (seated_at drives seat None) (streams input output) (streams input output) drives back None
+untouched_back k remaining contents drives seat back input output own idle enough same = record {
+  finish = seated_at drives seat None;
+  serves = untouched refl refl;
+  drives_back = refl;
+  seat_back = same;
+  nothing = refl;
+  at = idle_at k drives seat own idle enough;
+  kept = keeps_nothing k (seated_at drives seat None);
+}
+
+-- a session with nothing open is served, and its seat comes back
+pub served_back : {H S Seat R In Out : Type 0} (k : Kinds H Seat S R) (remaining : In → Option (List ℕ)) (contents : Out → Option (List ℕ))
+    (drives drives' : DriveTable H S Seat R) (seat : Seat) (desk desk' : Desk Seat R) (input input' : Counting In) (output output' : Counting Out)
+    (result : Result Served ServeFault) (back : Seat) (ending : Option Served) → desk ≡ record { seat = seat; opened = None }
+    → IsServedAs k (streams_kind remaining contents) result (streams input output) (streams input' output') (state drives desk) (state drives' desk')
+    → OnOk result (NoneFailed (streams input output) (streams input' output')) → desk'.opened ≡ None → back ≡ desk'.seat → ending ≡ result_ok result
+    → IsServedAfresh k (streams_kind remaining contents) (seated_at drives seat None) (streams input output) (streams input' output') drives' back ending
+served_back k remaining contents drives drives' seat desk desk' input input' output output' result back ending new is steady nothing same e =
+    subst (λ d. IsServedAfresh k (streams_kind remaining contents) (state drives d) (streams input output) (streams input' output') drives' back ending) new record {
+      finish = state drives' desk';
+      serves = subst (λ o. ServesStreams k (streams_kind remaining contents) (state drives desk) (streams input output) (streams input' output') o (state drives' desk')) (sym e)
+          (served (state drives' desk') result is steady);
+      drives_back = refl;
+      seat_back = same;
+      nothing = nothing;
+      at = is.ended.at;
+      kept = keeps_on k (state drives desk) is.last (keeps_run k (state drives desk) is.run) is.ended.kept;
+    }

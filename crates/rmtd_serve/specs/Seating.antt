@@ -1,0 +1,44 @@
+-- What becomes of a pair of streams that is served at a seat, and of the seat.
+use Rattle.std.specs.Prelude.{◌≡◌, ◌≢◌, Option, None, OnOk, Result}
+use Rattle.std.specs.Result.{result_ok}
+use Rattle.drives.specs.declared.table.DriveTable.{DriveTable}
+use Rattle.drives.specs.Opening.{Kinds}
+use Rattle.rmt_server.specs.declared.stream.Served.{Served}
+use Rattle.rmt_server.specs.declared.stream.ServeFault.{ServeFault}
+use Rattle.rmt_server.specs.State.{State, IsAt}
+use Rattle.rmt_server.specs.Stream.{Streams, StreamsKind, IsServedAs, NoneFailed}
+
+-- The streams are served by a session, and this is how they ended: there is no ending where one failed, and one that failed ends as
+-- failed. Where memory was refused before the first request was read, neither is touched, and nothing is done.
+pub data ServesStreams {H S Seat R In Out : Type 0} (k : Kinds H Seat S R) (kind : StreamsKind In Out) (start : State H S Seat R)
+    (old new : Streams In Out) : Option Served → State H S Seat R → Type 0 where
+  untouched : new.input ≡ old.input → new.output ≡ old.output → ServesStreams k kind start old new None start
+  served : (finish : State H S Seat R) (result : Result Served ServeFault)
+      → IsServedAs k kind result old new start finish → OnOk result (NoneFailed old new)
+      → ServesStreams k kind start old new (result_ok result) finish
+
+-- The seat keeps its number, other seats hold what they held, and no drive comes or goes.
+pub record KeepsSeats {H S Seat R : Type 0} (k : Kinds H Seat S R) (old new : State H S Seat R) : Type 0 where
+  pub number : (k.holds.shows new.seat).number ≡ (k.holds.shows old.seat).number
+  pub others : (other : Seat) → (k.holds.shows other).number ≢ (k.holds.shows old.seat).number
+      → k.holds.belongs old.drives.holds other → k.holds.belongs new.drives.holds other
+  pub same_holds : k.holds.drives new.drives.holds ≡ k.holds.drives old.drives.holds
+  pub same_stacks : k.stacks.drives new.drives.stacks ≡ k.stacks.drives old.drives.stacks
+
+-- The drives and the seat come back from a session that has nothing open, so the seat holds no drive.
+pub record IsServedAfresh {H S Seat R In Out : Type 0} (k : Kinds H Seat S R) (kind : StreamsKind In Out) (start : State H S Seat R)
+    (old new : Streams In Out) (drives : DriveTable H S Seat R) (seat : Seat) (ending : Option Served) : Type 0 where
+  pub finish : State H S Seat R
+  pub serves : ServesStreams k kind start old new ending finish
+  pub drives_back : drives ≡ finish.drives
+  pub seat_back : seat ≡ finish.seat
+  pub nothing : finish.opened ≡ None
+  pub at : IsAt k finish
+  pub kept : KeepsSeats k start finish
+
+-- the same with the stacks alone, however the streams ended
+abbrev pub ComesBack : {H S Seat R In Out : Type 0} → Kinds H Seat S R → StreamsKind In Out → State H S Seat R
+    → Streams In Out → Streams In Out → Seat → S → Type 0
+ComesBack {H} {S} {Seat} {R} k kind start old new seat stacks =
+    (ending : Option Served) × (drives : DriveTable H S Seat R)
+    × IsServedAfresh k kind start old new drives seat ending × (stacks ≡ drives.stacks)

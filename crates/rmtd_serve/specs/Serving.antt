@@ -1,0 +1,44 @@
+-- What a drive in memory serves, one stream after the other. Public contracts cite it.
+use Rattle.std.specs.Prelude.{◌≡◌, ℕ, ◌<◌, ◌≤◌, false, true, List, length, slice_index, Option}
+use Rattle.tape.specs.Trouble.{TroubledTape}
+use Rattle.drives.specs.declared.table.DriveTable.{DriveTable}
+use Rattle.drives.specs.declared.view.View.{View}
+use Rattle.drives.specs.Shop.{Shop}
+use Rattle.drives.specs.ListShop.{ListShop, IsShop, shop_of, StacksCanFail}
+use Rattle.drives.specs.Local.{Holders}
+use Rattle.rmt_server.specs.declared.stream.Served.{Served}
+use Rattle.rmt_server.specs.Session.{Scene, scene, closed, ServeRun}
+use Rattle.rmt_server.specs.Session.PlainSession.{Idle}
+use Rattle.rmt_server.specs.Stream.{Exchange, Streams, StreamsKind, AreRead}
+use Rattle.rmtd_serve.specs.Stdio.{EndsWith}
+
+-- no seat holds a drive
+abbrev pub AllFree : Holders → Type 0
+AllFree holds = (d : ℕ) → d < length holds.numbers → slice_index holds.numbers d ≡ 0
+
+-- No session holds a drive, each reel stands once, and no device can fail.
+pub record IsAtRest (drives : DriveTable Holders ListShop View TroubledTape) : Type 0 where
+  pub free : AllFree drives.holds
+  pub enough : length drives.stacks.shop.racks ≤ length drives.holds.numbers
+  pub told : IsShop drives.stacks (shop_of drives.stacks)
+  pub quiet : StacksCanFail drives.stacks → ⊥
+
+-- One stream served: from the reels as they lay, the requests read with the replies are a run of serve steps in which no device
+-- fails and no drive is busy, and what is open at its end is closed. Where memory was refused nothing is read.
+pub record IsServedNext {In Out : Type 0} (kind : StreamsKind In Out) (before after : Shop) (old new : Streams In Out)
+    (ending : Option Served) : Type 0 where
+  pub read : List ℕ
+  pub done : List Exchange
+  pub rest : List ℕ
+  pub finish : Scene
+  pub consumed : AreRead kind old new read
+  pub ends : EndsWith kind ending old new read done rest
+  pub run : ServeRun false false true (scene before Idle) done finish
+  pub left : after ≡ (closed finish).shop
+
+-- streams served one after the other: the reels go from each to the next
+pub data ServedInTurn (first : Shop) : Shop → Type 0 where
+  none : ServedInTurn first first
+  one_more : {before : Shop} (done : List Exchange) (finish : Scene)
+      → ServedInTurn first before → ServeRun false false true (scene before Idle) done finish
+      → ServedInTurn first (closed finish).shop

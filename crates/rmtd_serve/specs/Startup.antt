@@ -1,0 +1,62 @@
+-- What `rmtd` has done once it has begun, and what is left to do. Public contracts cite it.
+use Rattle.std.specs.Prelude.{◌≡◌, ℕ, ◌<◌, List, [], length, Option, Some, None, IsSome, All, option_map, unwrap_or}
+use Rattle.std.specs.declared.clone.Clone.{Ghosts as ClonePromise}
+use Rattle.std.specs.declared.io.traits.Read.{Ghosts as ReadPromise}
+use Rattle.clap.specs.Words.{Text}
+use Rattle.rmt_server.specs.declared.stream.Served.{Served}
+use Rattle.rmt_server.specs.Stream.{Streams, StreamsKind}
+use Rattle.reel_files.specs.Folders.{FolderShop}
+use Rattle.rmtd_words.specs.declared.rmtd_line.ServerLine.{ServerLine}
+use Rattle.rmtd_words.specs.Rmtd.{AskToBeShown, IsLineOf}
+use Rattle.rmtd_serve.specs.declared.startup.Begun.{Begun}
+use Rattle.rmtd_serve.specs.declared.startup.Begun.TheVariants.{End, Serve}
+use Rattle.rmtd_serve.specs.Stdio.{IsStdio, exit_status}
+use Rattle.rmtd_serve.specs.Folders.{stacks_of}
+
+-- neither stream was touched
+abbrev pub AreUntouched : {In Out : Type 0} → Streams In Out → Streams In Out → Type 0
+AreUntouched old new = (new.input ≡ old.input) × (new.output ≡ old.output)
+
+-- What a line asked was done, with this status: the streams were served, with a drive in memory or with drives in folders;
+-- connections were served one after the other; or it could not start.
+pub data EndsLine {In Out : Type 0} (kind : StreamsKind In Out) (line : ServerLine) (old new : Streams In Out) (status : ℕ) : Type 0 where
+  in_memory : line.listen ≡ None → line.drives.items ≡ []
+      → IsStdio kind line.capacity old new status
+      → EndsLine kind line old new status
+  in_folders : (ending : Option Served) → line.listen ≡ None → 0 < length line.drives.items → status ≡ exit_status ending
+      → EndsLine kind line old new status
+  listened : IsSome line.listen → line.drives.items ≡ [] → AreUntouched old new → status ≡ 0
+      → EndsLine kind line old new status
+  not_started : AreUntouched old new → status ≡ 1 → EndsLine kind line old new status
+
+-- At once so many connections are served with these drives, of which each seat of the table has stacks: those of the line.
+pub record IsSiteOf (line : ServerLine) (left drives : ℕ) (stacks : List FolderShop) : Type 0 where
+  pub some : 0 < length line.drives.items
+  pub bin : List ℕ
+  pub same_bin : option_map (λ s. s.now) line.bin ≡ Some bin
+  pub same_left : left ≡ unwrap_or line.connections 18446744073709551615
+  pub same_drives : drives ≡ length line.drives.items
+  pub same_stacks : All (λ s. s ≡ stacks_of line.drives.items bin line.capacity) stacks
+
+-- what was done of a line, and what is left
+abbrev pub IsDone : {In Out R Dir : Type 0} {reads : ReadPromise Dir} {clones : ClonePromise R} → StreamsKind In Out
+    → ServerLine → Streams In Out → Streams In Out → Begun R Dir reads clones → Type 0
+IsDone kind line old new (End status) = EndsLine kind line old new status
+IsDone kind line old new (Serve site) =
+    AreUntouched old new × IsSome line.listen × IsSiteOf line site.left site.table.words site.stacks.items
+
+-- What was done of words, and what is left: what their line asks; or clap's help or version was told, and the status is 0; or
+-- the words are wrong, or memory was refused, and it is 1.
+pub data IsBegun {In Out R Dir : Type 0} {reads : ReadPromise Dir} {clones : ClonePromise R} (kind : StreamsKind In Out)
+    (words : List Text) (old new : Streams In Out) (begun : Begun R Dir reads clones) : Type 0 where
+  followed : (line : ServerLine) → IsLineOf words line → IsDone kind line old new begun
+      → IsBegun kind words old new begun
+  shown : AskToBeShown words → AreUntouched old new → begun ≡ End 0
+      → IsBegun kind words old new begun
+  refused : AreUntouched old new → begun ≡ End 1
+      → IsBegun kind words old new begun
+
+-- the same of some words: no clause says which those of the program are
+abbrev pub IsStarted : {In Out R Dir : Type 0} {reads : ReadPromise Dir} {clones : ClonePromise R} → StreamsKind In Out
+    → Streams In Out → Streams In Out → Begun R Dir reads clones → Type 0
+IsStarted kind old new begun = (words : List Text) × IsBegun kind words old new begun

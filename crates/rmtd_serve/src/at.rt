@@ -1,0 +1,65 @@
+//! Serving one pair of streams at a seat, by a session of its own.
+ghost use Rattle.std.specs.Prelude.{◌≤◌, None};
+ghost use Rattle.drives.specs.Holding.{HoldsJust};
+ghost use Rattle.drives.specs.Opening.{kinds};
+ghost use Rattle.rmt_server.specs.State.{seated_at};
+ghost use Rattle.rmt_server.specs.Stream.{streams, streams_kind};
+ghost use Rattle.rmtd_serve.specs.Seating.{ComesBack, IsServedAfresh};
+
+use drives::{DriveTable, Holds, Stacks};
+use rmt_server::{Served, Session, serve};
+use rmt_wire::{Counted, RequestReader};
+use std::alloc::Global;
+use std::io::{Read, Write};
+
+/// Serves one pair of streams by a session at this seat, and gives back the seat with the stacks. The seat holds no drive,
+/// before and after, however the streams end.
+///
+/// The session has nothing open at first, and what it opens is closed at its end. Where memory is refused before the first
+/// request was read, nothing is read or written.
+pub fn serve_at<H: Holds + Drop, S: Stacks + Drop, I: Read, O: Write>(
+    alloc: Global,
+    drives: DriveTable<H, S>,
+    seat: H::Seat,
+    input: &mut Counted<I>,
+    output: &mut Counted<O>,
+) -> (H::Seat, S)
+    requires own { H.belongs drives.holds seat }
+    requires idle { HoldsJust (H.shows seat) None }
+    requires enough { S.drives drives.stacks ≤ H.drives drives.holds }
+    ensures { ComesBack (kinds H.Holds S.Stacks S.Reel.Reel) (streams_kind I.remaining O.contents) (seated_at drives seat None)
+        (streams input.old output.old) (streams input.new output.new) result.0 result.1 }
+{
+    let mut drives = drives;
+    let (seat, _) = serve_afresh(alloc, &mut drives, seat, input, output);
+    (seat, drives.stacks)
+}
+
+/// Serves one pair of streams by a session at this seat, and gives back the seat with how the stream ended. The seat holds no
+/// drive, before and after, however the streams end.
+///
+/// The session has nothing open at first, and what it opens is closed at its end. There is no ending where a stream failed, and
+/// where memory was refused before the first request was read: then nothing is read or written.
+pub(crate) fn serve_afresh<H: Holds, S: Stacks, I: Read, O: Write>(
+    alloc: Global,
+    drives: &mut DriveTable<H, S>,
+    seat: H::Seat,
+    input: &mut Counted<I>,
+    output: &mut Counted<O>,
+) -> (H::Seat, Option<Served>)
+    requires own { H.belongs drives.old.holds seat }
+    requires idle { HoldsJust (H.shows seat) None }
+    requires enough { S.drives drives.old.stacks ≤ H.drives drives.old.holds }
+    ensures { IsServedAfresh (kinds H.Holds S.Stacks S.Reel.Reel) (streams_kind I.remaining O.contents) (seated_at drives.old seat None)
+        (streams input.old output.old) (streams input.new output.new) drives.new result.0 result.1 }
+{
+    let Ok(mut wire) = RequestReader::new(alloc) else {
+        return (seat, None);
+    };
+    let mut session = match Session::new(alloc, seat) {
+        Ok(session) => session,
+        Err((seat, _)) => return (seat, None),
+    };
+    let ending = serve(input, output, &mut wire, &mut session, drives).ok();
+    (session.into_seat(), ending)
+}

@@ -1,0 +1,65 @@
+//! A seat with its stacks.
+ghost use Rattle.std.specs.Prelude.{◌≡◌, ◌≤◌, None};
+ghost use Rattle.std.proofs.Props.{props};
+ghost use Rattle.drives.specs.Holding.{HoldsJust};
+ghost use Rattle.hold_table.specs.Seats.{IsSeatAt};
+ghost use Rattle.hold_table.specs.declared.table.TheConstants.{SEAT_LIMIT};
+
+use crate::at::serve_at;
+use drives::{DriveTable, Stacks};
+use hold_table::{HoldSeat, HoldTable, TableHand};
+use rmt_wire::Counted;
+use std::alloc::Global;
+use std::io::{Read, Write};
+
+/// A seat of a table that holds no drive, and the stacks that sessions there work on.
+#[derive(Drop)]
+pub(crate) struct Bench<'t, S: Stacks + Drop> {
+    table: &'t HoldTable,
+    seat: HoldSeat,
+    stacks: S,
+    ghost same: { seat.table ≡ table.now },
+    ghost numbered: { 1 ≤ seat.view.number },
+    ghost dealt: { seat.view.number ≤ SEAT_LIMIT },
+    ghost idle: { HoldsJust seat.view None } by { Prim.hlevel props },
+    ghost enough: { S.drives stacks ≤ table.now.words },
+}
+
+impl<'t, S: Stacks + Drop> Bench<'t, S> {
+    /// A seat of this table that holds no drive, and stacks of as many drives as the table has, or fewer.
+    pub(crate) fn new(table: &'t HoldTable, seat: HoldSeat, stacks: S) -> Self
+        requires seat { IsSeatAt table.now seat }
+        requires idle { HoldsJust seat.view None }
+        requires enough { S.drives stacks ≤ table.now.words }
+    {
+        Bench {
+            table,
+            seat,
+            stacks,
+        }
+    }
+
+    /// Serves one pair of streams by a session here, and lets them go.
+    pub(crate) fn serve<I: Read + Drop, O: Write + Drop>(
+        self,
+        alloc: Global,
+        input: I,
+        output: O,
+    ) -> Self {
+        let Bench {
+            table,
+            seat,
+            stacks,
+        } = self;
+        let holds = TableHand { table };
+        let drives = DriveTable { holds, stacks };
+        let mut input = Counted::new(input);
+        let mut output = Counted::new(output);
+        let (seat, stacks) = serve_at(alloc, drives, seat, &mut input, &mut output);
+        Bench {
+            table,
+            seat,
+            stacks,
+        }
+    }
+}

@@ -1,0 +1,31 @@
+//! What `rmtd` does: its start by its words, and what it serves streams at. That is a drive in memory, or drives in folders, for one
+//! stream after the other or for 32 at once, each in a thread of its own.
+#![tactic(auto)]
+
+mod at;
+mod bench;
+mod connections;
+mod folders;
+mod fresh;
+mod incoming;
+mod listening;
+mod many;
+mod memory_server;
+mod pool;
+mod ready;
+mod site;
+mod startup;
+mod stdio;
+mod tape_server;
+
+pub use at::serve_at;
+pub use connections::Connections;
+pub use folders::{folder_stacks, seat_stacks};
+pub use incoming::Incoming;
+pub use listening::serve_connections;
+pub use many::serve_many;
+pub use memory_server::MemoryServer;
+pub use site::Site;
+pub use startup::{Begun, System, begin, start};
+pub use stdio::{exit_status, run_stdio};
+pub use tape_server::TapeServer;

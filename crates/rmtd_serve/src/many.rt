@@ -1,0 +1,101 @@
+//! A thread for each pair of streams.
+ghost use Rattle.std.specs.Prelude.{◌≡◌, ◌≤◌, None, All, length};
+ghost use Rattle.std.specs.Thread.{IsSync, IsSend};
+ghost use Rattle.drives.specs.Holding.{HoldsJust};
+ghost use Rattle.hold_table.specs.Seats.{IsSeatAt};
+
+use crate::fresh::Fresh;
+use crate::incoming::Incoming;
+use crate::pool::Pool;
+use drives::Stacks;
+use hold_table::{HoldSeat, HoldTable, SEAT_LIMIT};
+use std::alloc::Global;
+use std::io::{Read, Write};
+use std::sync::{Mutex, Wait};
+use std::thread::{self, Threads};
+
+/// What a thread does: it serves its pair at a bench that was promised, and puts the bench back.
+fn work<W: Wait, I: Read + Drop, O: Write + Drop, S: Stacks + Drop>(
+    rt: &W,
+    alloc: Global,
+    pool: &Mutex<Pool<'_, S>>,
+    input: I,
+    output: O,
+) {
+    let Some(bench) = pool.lock(rt).take() else {
+        return;
+    };
+    let bench = bench.serve(alloc, input, output);
+    pool.lock(rt).put(bench);
+}
+
+/// Starts a thread for each pair that comes while a bench is free, and waits for all.
+fn serve_all<R: Threads + Wait + Sync, I: Incoming + Drop, S: Stacks + Drop + Send>(
+    rt: &R,
+    alloc: Global,
+    incoming: I,
+    pool: &Mutex<Pool<'_, S>>,
+) -> I
+where
+    S::Reel: Send,
+    ensures { I.is_over result }
+{
+    thread::scope(
+        thread::scope_env(),
+        rt,
+        move |scope| -> I
+            requires { IsSync R.row × IsSend S.row × IsSend S.Reel.row × IsSend I.In.row × IsSend I.Out.row }
+            ensures { I.is_over result }
+        {
+            let mut incoming = incoming;
+            for _ in rt.forever() {
+                let Some((input, output)) = incoming.next() else {
+                    return incoming;
+                };
+                if pool.lock(rt).reserve()
+                    && scope
+                        .spawn(move || work(rt, alloc, pool, input, output))
+                        .is_err()
+                {
+                    pool.lock(rt).release();
+                }
+            }
+            unreachable!()
+        },
+    )
+}
+
+/// A pool of these, all of them free. None is free where memory is refused.
+fn pool<S: Stacks + Drop>(alloc: Global, fresh: Fresh<'_, S>) -> Pool<'_, S> {
+    match Vec::with_capacity(alloc, SEAT_LIMIT) {
+        Ok(benches) => Pool::new(fresh, benches, SEAT_LIMIT),
+        Err(_) => Pool::new(fresh, Vec::new(alloc), 0),
+    }
+}
+
+/// Serves each pair of streams by a session in a thread of its own, at most `SEAT_LIMIT` at once. It returns once the last pair was given
+/// and each thread has ended, and gives back what the pairs came from.
+///
+/// Each session has one of the seats and one of the stacks. The seats are those of the table, and hold no drive, before
+/// and after each session; the stacks have no more drives than the table. A session that ended serves a later pair with its seat
+/// and stacks.
+///
+/// A pair that comes while so many are served is let go, and so is one for which memory or a thread is refused: nothing is read of
+/// it or written to it. It waits for pairs and for threads.
+pub fn serve_many<R: Threads + Wait + Sync, I: Incoming + Drop, S: Stacks + Drop + Send>(
+    rt: &R,
+    alloc: Global,
+    incoming: I,
+    table: &HoldTable,
+    seats: Vec<HoldSeat>,
+    stacks: Vec<S>,
+) -> I
+where
+    S::Reel: Send,
+    requires seats { (length seats.items ≡ SEAT_LIMIT) × All (λ s. IsSeatAt table.now s × HoldsJust s.view None) seats.items }
+    requires stacks { (length stacks.items ≡ SEAT_LIMIT) × All (λ s. S.drives s ≤ table.now.words) stacks.items }
+    ensures { I.is_over result }
+{
+    let pool = Mutex::new(pool(alloc, Fresh::new(table, seats, stacks)));
+    serve_all(rt, alloc, incoming, &pool)
+}

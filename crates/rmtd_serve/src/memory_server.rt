@@ -1,0 +1,82 @@
+//! A drive in memory that serves one stream after the other.
+ghost use Rattle.std.specs.Prelude.{◌≡◌, IfSome, length};
+ghost use Rattle.drives.specs.ListShop.{IsShop, StacksCanFail};
+ghost use Rattle.rmt_server.specs.Stream.{streams, streams_kind};
+ghost use Rattle.rmtd_serve.specs.Stdio.{blank_scene};
+ghost use Rattle.rmtd_serve.specs.Serving.{IsServedNext};
+
+use crate::at::serve_afresh;
+use drives::{DriveTable, ListStacks, LocalHolds};
+use rmt_server::Served;
+use rmt_wire::Counted;
+use std::alloc::Global;
+use std::io::{Read, Write};
+use std::marker::Model;
+
+/// The name of the drive.
+const DEVICE: &[u8] = b"/dev/st0";
+
+/// The name of the reel.
+const REEL: &[u8] = b"reel";
+
+/// A drive `/dev/st0` with a reel in memory, which serves one stream after the other.
+///
+/// Contracts see the reels: those on the stack and those in the bin. Between two streams no session holds the drive.
+#[derive(Drop)]
+pub struct MemoryServer {
+    alloc: Global,
+    drives: DriveTable<LocalHolds, ListStacks>,
+}
+
+impl Model for MemoryServer {
+    ghost use Rattle.drives.specs.Shop.{Shop};
+    ghost use Rattle.drives.specs.ListShop.{shop_of};
+    ghost use Rattle.rmtd_serve.specs.Serving.{IsAtRest};
+
+    ghost Value = { Shop };
+
+    ghost view = { λ s. shop_of s.drives.stacks };
+
+    ghost invariant = { λ s. IsAtRest s.drives };
+}
+
+impl MemoryServer {
+    /// The drive with one reel `reel`, which is empty and of this capacity in bytes. None where memory was refused.
+    pub fn new(alloc: Global, capacity: u64) -> Option<MemoryServer>
+        ensures { IfSome result (λ s. s ≡ (blank_scene capacity).shop) }
+    {
+        let holds = LocalHolds::new(alloc, 1).ok()?;
+        let stacks = one_reel(alloc, capacity)?;
+        let drives = DriveTable { holds, stacks };
+        Some(MemoryServer { alloc, drives })
+    }
+
+    /// Serves one stream by a session of its own, which gives the drive back at its end.
+    ///
+    /// None where a stream failed, where memory was refused before the first request was read, or where no number is
+    /// left for a session.
+    pub fn serve<R: Read, W: Write>(
+        &mut self,
+        input: &mut Counted<R>,
+        output: &mut Counted<W>,
+    ) -> Option<Served>
+        ensures { IsServedNext (streams_kind R.remaining W.contents) self.old self.new
+            (streams input.old output.old) (streams input.new output.new) result }
+    {
+        let seat = self.drives.holds.seat()?;
+        let (_, ending) = serve_afresh(self.alloc, &mut self.drives, seat, input, output);
+        ending
+    }
+}
+
+/// The drive with its one reel, which is empty. None where memory was refused.
+fn one_reel(alloc: Global, capacity: u64) -> Option<ListStacks>
+    ensures shop { IfSome result (λ stacks. IsShop stacks (blank_scene capacity).shop) }
+    ensures quiet { IfSome result (λ stacks. StacksCanFail stacks → ⊥) }
+    ensures drives { IfSome result (λ stacks. length stacks.shop.racks ≡ 1) }
+{
+    let mut stacks = ListStacks::new(alloc);
+    let drive = stacks.add_drive(DEVICE).ok()?;
+    stacks.add_reel(drive, REEL, capacity).ok()?;
+    Some(stacks)
+}

@@ -1,0 +1,37 @@
+//! Making ready for connections that are served at once.
+ghost use Rattle.std.specs.Prelude.{◌≡◌, ◌≤◌, Some, IfOk, length, map, option_map};
+ghost use Rattle.rmtd_words.specs.Drive.{KeepsDriveRules, plain_drive};
+ghost use Rattle.rmtd_serve.specs.Startup.{IsSiteOf};
+
+use crate::folders::seat_stacks;
+use crate::site::Site;
+use hold_table::HoldTable;
+use rmtd_words::ServerLine;
+use std::fs::File;
+use std::io;
+use std::net::TcpListener;
+use std::rt::Files;
+
+/// What the line has connections served at, which come from this listener. It fails only where memory is refused.
+pub(crate) fn site_of<R: Files<File = File> + AllocGlobal + Clone + Drop>(
+    rt: &R,
+    listener: TcpListener,
+    line: &ServerLine<'_>,
+    bin: &str,
+) -> io::Result<Site<R>>
+    requires some { 1 ≤ length line.now.drives.items }
+    requires same { option_map (λ s. s.now) line.now.bin ≡ Some bin.now }
+    requires rules { KeepsDriveRules (Some bin.now) (map plain_drive line.now.drives.items) }
+    ensures { IfOk result (λ site. IsSiteOf line.now site.left site.table.words site.stacks.items) }
+{
+    let drives = line.drives.as_slice();
+    let (table, seats) = HoldTable::new(rt.alloc(), drives.len())?;
+    let stacks = seat_stacks(rt.clone()?, drives, bin, line.capacity)?;
+    Ok(Site {
+        listener,
+        left: line.connections.unwrap_or(u64::MAX),
+        table,
+        seats,
+        stacks,
+    })
+}

@@ -1,0 +1,236 @@
+//! The start of `rmtd`: its words are read, and what they ask is done, until connections are served at once.
+ghost use Rattle.std.specs.Prelude.{◌≡◌, ◌⊎◌, ◌≤◌, Some, IfOk, OnErr, length, map, option_map};
+ghost use Rattle.clap.specs.Words.{kind_of};
+ghost use Rattle.rmtd_words.specs.Drive.{KeepsDriveRules, plain_drive};
+ghost use Rattle.rmtd_words.specs.Rmtd.{IsShown};
+ghost use Rattle.rmt_server.specs.Stream.{streams, streams_kind};
+ghost use Rattle.rmtd_serve.specs.Startup.{AreUntouched, IsDone, IsBegun, IsStarted};
+
+use crate::ready::site_of;
+use crate::site::Site;
+use crate::{MemoryServer, TapeServer, exit_status, folder_stacks, run_stdio, serve_connections};
+use clap::Error;
+use clap::error::ErrorKind;
+use rmt_wire::Counted;
+use rmtd_words::{ServerLine, server_line};
+use std::env;
+use std::fs::File;
+use std::io::{self, Read, Write};
+use std::net::{Net, TcpListener, TcpStream};
+use std::rt::{Env, Files};
+
+/// What the program ends with where its words are wrong, or it can't start.
+const FAILED: u8 = 1;
+
+/// What `rmtd` asks of the system beside its words, its standard streams and its threads.
+pub trait System: Files<File = File>
+    + Net<Listener = TcpListener, Stream = TcpStream>
+    + Print
+    + Eprint
+    + AllocGlobal
+    + Clone
+    + Drop {}
+
+impl<R> System for R
+where
+    R: Files<File = File>
+        + Net<Listener = TcpListener, Stream = TcpStream>
+        + Print
+        + Eprint
+        + AllocGlobal
+        + Clone
+        + Drop,
+{}
+
+/// What is left to do once the words were followed.
+#[derive(Drop)]
+pub enum Begun<R: Files<File = File> + AllocGlobal + Clone + Drop> {
+    /// To end with this status.
+    End(u8),
+    /// To serve the connections of a listener at once.
+    Serve(Site<R>),
+}
+
+/// Reads the words that the program was called with, and does what they ask until connections are served at once.
+///
+/// Where the words could not be read, or memory was refused at the start, that is told on standard error, and the status is 1.
+/// It fails only where standard error could not be written.
+pub fn start<R: System + Env, I: Read, O: Write>(
+    rt: &R,
+    input: &mut Counted<I>,
+    output: &mut Counted<O>,
+) -> io::Result<Begun<R>>
+    ensures started { IfOk result (IsStarted (streams_kind I.remaining O.contents)
+        (streams input.old output.old) (streams input.new output.new)) }
+    ensures failed { OnErr result (AreUntouched (streams input.old output.old) (streams input.new output.new)) }
+{
+    match begin_by_args(rt, input, output) {
+        Ok(begun) => Ok(begun),
+        Err(error) => tell(rt, "it did not start", error),
+    }
+}
+
+/// Reads the words of the program, and does what they ask until connections are served at once.
+fn begin_by_args<R: System + Env, I: Read, O: Write>(
+    rt: &R,
+    input: &mut Counted<I>,
+    output: &mut Counted<O>,
+) -> io::Result<Begun<R>>
+    ensures started { IfOk result (IsStarted (streams_kind I.remaining O.contents)
+        (streams input.old output.old) (streams input.new output.new)) }
+    ensures failed { OnErr result (AreUntouched (streams input.old output.old) (streams input.new output.new)) }
+{
+    match words(rt) {
+        Ok(words) => begin_with(rt, words.as_slice(), input, output),
+        Err(error) => tell(rt, "the words could not be read", error),
+    }
+}
+
+/// The words that the program was called with, its own name first.
+fn words<R: Env + AllocGlobal>(rt: &R) -> io::Result<Vec<String>> {
+    Ok(env::args(rt)?.collect(rt.alloc())?)
+}
+
+/// Does what these words ask until connections are served at once.
+fn begin_with<R: System, I: Read, O: Write>(
+    rt: &R,
+    words: &[String],
+    input: &mut Counted<I>,
+    output: &mut Counted<O>,
+) -> io::Result<Begun<R>>
+    ensures started { IfOk result (IsStarted (streams_kind I.remaining O.contents)
+        (streams input.old output.old) (streams input.new output.new)) }
+    ensures failed { OnErr result (AreUntouched (streams input.old output.old) (streams input.new output.new)) }
+{
+    let lent = words.iter().map(|word| word.as_str());
+    let lent: Vec<&str> = lent.collect(rt.alloc())?;
+    begin(rt, lent.as_slice(), input, output)
+}
+
+/// Does what the words of `rmtd` ask, of which the first is the name of the program itself, until connections are served at
+/// once. The standard streams are `input` and `output`, and what is told goes to those of the system.
+///
+/// With `--stdio` the streams are served, and the status is that of how they ended (`exit_status`). With `--listen` and a drive
+/// in memory connections are served one after the other, and the status is 0. With `--listen` and drives in folders what is
+/// left is to serve them at once. Help and the version go to standard output, with the status 0.
+///
+/// The status is 1, and what is at fault is told on standard error, where the words are wrong, a folder can't be used, or the
+/// address can't be listened at. It fails where memory is refused or standard error could not be written. In all of these
+/// neither stream is touched.
+pub fn begin<R: System, I: Read, O: Write>(
+    rt: &R,
+    words: &[&str],
+    input: &mut Counted<I>,
+    output: &mut Counted<O>,
+) -> io::Result<Begun<R>>
+    ensures begun { IfOk result
+        (IsBegun (streams_kind I.remaining O.contents) (map (λ s. s.now) words.now)
+        (streams input.old output.old) (streams input.new output.new)) }
+    ensures failed { OnErr result (AreUntouched (streams input.old output.old) (streams input.new output.new)) }
+{
+    match server_line(rt.alloc(), words) {
+        Ok(line) => follow(rt, &line, input, output),
+        Err(error) => refuse(rt, error),
+    }
+}
+
+/// Serves as the line says, but for connections at drives in folders: it tells what is left to do.
+fn follow<R: System, I: Read, O: Write>(
+    rt: &R,
+    line: &ServerLine<'_>,
+    input: &mut Counted<I>,
+    output: &mut Counted<O>,
+) -> io::Result<Begun<R>>
+    requires { KeepsDriveRules (option_map (λ s. s.now) line.now.bin) (map plain_drive line.now.drives.items) }
+    ensures done { IfOk result (IsDone (streams_kind I.remaining O.contents) line.now
+        (streams input.old output.old) (streams input.new output.new)) }
+    ensures failed { OnErr result (AreUntouched (streams input.old output.old) (streams input.new output.new)) }
+{
+    if let Some(bin) = line.bin
+        && !line.drives.is_empty()
+    {
+        return follow_in_folders(rt, line, bin, input, output);
+    }
+    let Some(address) = line.listen else {
+        let status = run_stdio(rt.alloc(), input, output, line.capacity);
+        return Ok(Begun::End(status));
+    };
+    match listen(rt, address, line) {
+        Ok(status) => Ok(Begun::End(status)),
+        Err(error) => tell(rt, address, error),
+    }
+}
+
+/// Serves the streams at drives whose reels are files in folders, or makes ready for connections. A folder that cannot be used
+/// is told before anything is read.
+fn follow_in_folders<R: System, I: Read, O: Write>(
+    rt: &R,
+    line: &ServerLine<'_>,
+    bin: &str,
+    input: &mut Counted<I>,
+    output: &mut Counted<O>,
+) -> io::Result<Begun<R>>
+    requires some { 1 ≤ length line.now.drives.items }
+    requires same { option_map (λ s. s.now) line.now.bin ≡ Some bin.now }
+    requires rules { KeepsDriveRules (Some bin.now) (map plain_drive line.now.drives.items) }
+    ensures done { IfOk result (IsDone (streams_kind I.remaining O.contents) line.now
+        (streams input.old output.old) (streams input.new output.new)) }
+    ensures failed { OnErr result (AreUntouched (streams input.old output.old) (streams input.new output.new)) }
+{
+    let drives = line.drives.as_slice();
+    let stacks = folder_stacks(rt.clone()?, drives, bin, line.capacity)?;
+    if let Some(fault) = stacks.find_fault() {
+        return tell(rt, fault.folder, fault.reason);
+    }
+    let Some(address) = line.listen else {
+        let Some(mut server) = TapeServer::new(rt.alloc(), drives.len(), stacks) else {
+            return Err(io::ErrorKind::OutOfMemory.into());
+        };
+        return Ok(Begun::End(exit_status(server.serve(input, output))));
+    };
+    match bind(rt, address) {
+        Ok(listener) => Ok(Begun::Serve(site_of(rt, listener, line, bin)?)),
+        Err(error) => tell(rt, address, error),
+    }
+}
+
+/// Tells on standard error what is at fault and why; what is left is to end.
+fn tell<R: System>(rt: &R, what: &str, why: io::Error) -> io::Result<Begun<R>>
+    ensures { IfOk result (λ begun. begun ≡ Begun.End 1) }
+{
+    eprintln!(rt; "rmtd: {what}: {why}")?;
+    Ok(Begun::End(FAILED))
+}
+
+/// Listens at this address, and serves as many connections as the line says with a drive in memory. Answers the status.
+fn listen<R: System>(rt: &R, address: &str, line: &ServerLine<'_>) -> io::Result<u8>
+    ensures { IfOk result (λ status. status ≡ 0) }
+{
+    let Some(mut server) = MemoryServer::new(rt.alloc(), line.capacity) else {
+        return Err(io::ErrorKind::OutOfMemory.into());
+    };
+    let listener = bind(rt, address)?;
+    serve_connections(&mut server, &listener, line.connections);
+    Ok(0)
+}
+
+/// A listener at this address, which is told on standard output.
+fn bind<R: System>(rt: &R, address: &str) -> io::Result<TcpListener> {
+    let listener = TcpListener::bind(rt, address)?;
+    let place = listener.local_addr()?;
+    println!(rt; "listening on {place}")?;
+    Ok(listener)
+}
+
+/// Tells why words gave nothing to do; what is left is to end. Help and the version go to standard output.
+fn refuse<R: System>(rt: &R, error: Error) -> io::Result<Begun<R>>
+    ensures { IfOk result (λ begun. (begun ≡ Begun.End 1) ⊎ ((begun ≡ Begun.End 0) × IsShown (kind_of error))) }
+{
+    if error.kind() == ErrorKind::OutOfMemory {
+        return tell(rt, "the words", io::ErrorKind::OutOfMemory.into());
+    }
+    if let Err(why) = error.print(rt) {
+        return tell(rt, "standard output", why);
+    }
+    Ok(Begun::End(if error.use_stderr() { FAILED } else { 0 }))
+}

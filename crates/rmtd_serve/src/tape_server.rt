@@ -1,0 +1,66 @@
+//! Drives of any kind that serve one stream after the other.
+ghost use Rattle.std.specs.Prelude.{◌≡◌, ◌≤◌, IfSome, length};
+ghost use Rattle.drives.specs.contracts.local.LocalHoldsHolds.TheImpl.{ghosts as of_holds};
+ghost use Rattle.drives.specs.Opening.{kinds};
+ghost use Rattle.rmt_server.specs.Stream.{streams, streams_kind};
+ghost use Rattle.rmtd_serve.specs.Generic.{IsServedAt};
+
+use crate::at::serve_afresh;
+use drives::{DriveTable, LocalHolds, Stacks};
+use rmt_server::Served;
+use rmt_wire::Counted;
+use std::alloc::Global;
+use std::io::{Read, Write};
+use std::marker::Model;
+
+/// Drives with their stacks, which serve one stream after the other.
+///
+/// Contracts see the stacks.
+#[derive(Drop)]
+pub struct TapeServer<S: Stacks + Drop> {
+    alloc: Global,
+    drives: DriveTable<LocalHolds, S>,
+}
+
+impl<S: Stacks + Drop> Model for TapeServer<S> {
+    ghost use Rattle.std.specs.Prelude.{◌≤◌, length};
+
+    ghost Value = { S };
+
+    ghost coded = { S.code };
+
+    ghost view = { λ s. s.drives.stacks };
+
+    ghost invariant = { λ s. S.drives s.drives.stacks ≤ length s.drives.holds.numbers };
+}
+
+impl<S: Stacks + Drop> TapeServer<S> {
+    /// These stacks, of which there are so many drives, from 1 to 64. None where memory was refused.
+    pub fn new(alloc: Global, drives: usize, stacks: S) -> Option<TapeServer<S>>
+        requires some { 1 ≤ drives }
+        requires few { drives ≤ 64 }
+        requires enough { S.drives stacks ≤ drives }
+        ensures { IfSome result (λ s. s ≡ stacks) }
+    {
+        let holds = LocalHolds::new(alloc, drives).ok()?;
+        let drives = DriveTable { holds, stacks };
+        Some(TapeServer { alloc, drives })
+    }
+
+    /// Serves one stream by a session of its own, which gives the drive back at its end.
+    ///
+    /// None where a stream failed, where memory was refused before the first request was read, or where no number is
+    /// left for a session.
+    pub fn serve<R: Read, W: Write>(
+        &mut self,
+        input: &mut Counted<R>,
+        output: &mut Counted<W>,
+    ) -> Option<Served>
+        ensures { IsServedAt (kinds of_holds S.Stacks S.Reel.Reel) (streams_kind R.remaining W.contents) self.old self.new
+            (streams input.old output.old) (streams input.new output.new) result }
+    {
+        let seat = self.drives.holds.seat()?;
+        let (_, ending) = serve_afresh(self.alloc, &mut self.drives, seat, input, output);
+        ending
+    }
+}

@@ -1,0 +1,40 @@
+-- What is told of each world beside the headline. Public contracts cite it.
+use Rattle.std.specs.Prelude.{◌≡◌, ◌⊎◌, ℕ, ◌+◌, ◌<◌, true, List, [], length, slice_get, Some}
+use Rattle.drives.specs.Shop.{rack_at}
+use Rattle.rmt_server.specs.Hall.{Side}
+use Rattle.rmt_server.specs.Session.{PlainReel}
+use Rattle.tape_events.specs.World.{World, Dumping, Begun, Caller, numbered}
+use Rattle.tape_events.specs.Changes.{side_of, HasDump, first_name}
+use Rattle.tape_events.specs.Books.{counts_in}
+use Rattle.tape_events.specs.Standing.{ReelHoldsJust, IsFirstAway, IsOnlineWith, online_drive_in}
+use Rattle.tape_events.specs.Written.{attempt_written, IsQuiet, IsBeforeOffline}
+
+-- As many requests were carried out of a client's connection as were sent there, or one fewer.
+abbrev pub SentRequests : World → Type 0
+SentRequests w = (k : ℕ) (d : Dumping) → HasDump w k d → (d.sent ≡ d.carried) ⊎ (d.sent ≡ d.carried + 1)
+
+-- A latched reel is first on the stack of the drive that its session holds, and no other session has it.
+pub record LatchedReels (w : World) : Type 0 where
+  pub first : (k d : ℕ) (s : Side) → side_of w.hall k ≡ Some s → online_drive_in s.session ≡ Some d
+      → IsFirstAway (rack_at w.hall.shop d).stack × (slice_get w.hall.holders d ≡ Some k)
+  pub once : (j k d e : ℕ) (s t : Side) → side_of w.hall j ≡ Some s → online_drive_in s.session ≡ Some d → side_of w.hall k ≡ Some t
+      → online_drive_in t.session ≡ Some e → first_name (rack_at w.hall.shop d).stack ≡ first_name (rack_at w.hall.shop e).stack → j ≡ k
+
+-- What the attempt wrote stands on the reel, and nothing else. While its session has that reel in its drive and was not asked for
+-- MTOFFL, its place is the end.
+pub record IsOnReel (w : World) (k : ℕ) (d : Dumping) (reel : List ℕ) : Type 0 where
+  pub begun : Begun
+  pub begun_as : numbered w.begun d.run ≡ Some begun
+  pub holds : ReelHoldsJust w.hall reel (attempt_written begun.run begun.payload d)
+  pub at_end : (s : Side) (r : PlainReel) → side_of w.hall k ≡ Some s → IsOnlineWith s.session r → IsBeforeOffline begun.run d
+      → r.tape.after ≡ []
+
+-- each attempt whose label was accepted, while no write of it met a device fault and no session opened its reel since
+abbrev pub LabelledReels : World → Type 0
+LabelledReels w =
+    (k : ℕ) (d : Dumping) (reel : List ℕ) → HasDump w k d → d.label ≡ true → IsQuiet w.opens k d reel → IsOnReel w k d reel
+
+-- The counts of the client's number, in order, are those that the client has. No number above those of the runs begun has counts.
+pub record ClientsCounts (w : World) : Type 0 where
+  pub listed : (c : Caller) → w.caller ≡ Some c → counts_in w.counts c.number ≡ c.at.counts
+  pub none : (run : ℕ) → length w.begun < run → counts_in w.counts run ≡ []

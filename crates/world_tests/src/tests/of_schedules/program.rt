@@ -1,0 +1,46 @@
+//! What `rsim` does with its words.
+
+use rmt_wire::Counted;
+use schedules::rsim;
+use std::test::Fail;
+use std::{fs, process};
+
+/// A reel that is online, and a line that is not possible.
+const TEXT: &str = "drive /dev/st0 3100 r1\nretry\n";
+
+const PRINTED: &[u8] = b"line 2: not possible\n";
+
+/// The path of a file that no other test has.
+fn new_path(rt: &HostRuntime) -> Result<String, Fail> {
+    let id = process::id(rt.process());
+    Ok(format!(in rt.alloc(); "schedule_{id}")?)
+}
+
+/// What is printed, and the status, where this file is the word of `rsim`.
+fn ended_on(rt: &HostRuntime, path: &str) -> Result<(Vec<u8>, u8), Fail> {
+    let mut words = Vec::new(rt.alloc());
+    words.push(String::from_str(rt.alloc(), "rsim")?)?;
+    words.push(String::from_str(rt.alloc(), path)?)?;
+    let mut printed = Vec::new(rt.alloc());
+    let mut out = Counted::new(&mut printed);
+    let status = rsim(rt, &words, &mut out)?;
+    Ok((printed, status))
+}
+
+#[test]
+fn runs_the_schedule_of_a_file(rt: HostRuntime) -> Result<(), Fail> {
+    let path = new_path(&rt)?;
+    fs::write(&rt, path.as_str(), TEXT)?;
+    let (printed, status) = ended_on(&rt, path.as_str())?;
+    assert!(&rt; status == 1 && printed.as_slice() == PRINTED);
+    fs::remove_file(&rt, path.as_str())?;
+    Ok(())
+}
+
+#[test]
+fn runs_no_schedule_of_a_missing_file(rt: HostRuntime) -> Result<(), Fail> {
+    let path = new_path(&rt)?;
+    let (printed, status) = ended_on(&rt, path.as_str())?;
+    assert!(rt; status == 1 && printed.is_empty());
+    Ok(())
+}
