@@ -13,6 +13,7 @@ mod operations;
 mod payload;
 mod progress;
 mod socket;
+mod startup;
 mod store;
 mod streams;
 mod volumes;
