@@ -3,7 +3,8 @@
 
     outside.py [--minutes FILE] RMTD RDUMP RSIM
 
-It prints what a script said once that has ended, and adds a line to FILE that says how long it took. It ends with 0 where each did.
+It prints what a script said once that has ended, and adds a line to FILE that says how long it took. What the scripts named as skipped it
+says again at the very end, there or in FILE, so that nobody overlooks what was not tried. It ends with 0 where each script did.
 """
 
 from __future__ import annotations
@@ -40,6 +41,10 @@ class Ran(NamedTuple):
     said: str
     minutes: float
 
+    def skipped(self) -> list[str]:
+        """The lines that name what could not be tried on this machine."""
+        return [f"tests/{self.script}: {line}" for line in self.said.splitlines() if line.startswith("skipped: ")]
+
 
 def run(script: str, programs: list[str]) -> Ran:
     began = time.monotonic()
@@ -48,22 +53,32 @@ def run(script: str, programs: list[str]) -> Ran:
     return Ran(script, ran.returncode, ran.stdout, (time.monotonic() - began) / 60)
 
 
+def tell(file: Path | None, lines: list[str]) -> None:
+    """Adds lines to a file, or prints them where there is none."""
+    if file is None:
+        print(*lines, sep="\n", end="\n" if lines else "", flush=True)
+        return
+    with file.open("a") as written:
+        written.writelines(f"{line}\n" for line in lines)
+
+
 def main() -> int:
     parser = argparse.ArgumentParser(description="Checks the built programs from outside.")
     parser.add_argument("--minutes", type=Path, help="the file that the minutes are added to")
     for name in ("rmtd", "rdump", "rsim"):
         parser.add_argument(name, help=f"the built {name}")
     asked = parser.parse_args()
-    failed = []
+    failed: list[str] = []
+    skipped: list[str] = []
     with ThreadPoolExecutor(len(os.sched_getaffinity(0))) as pool:
         runs = [pool.submit(run, script, [getattr(asked, it) for it in programs]) for script, programs in CHECKS.items()]
         for it in as_completed(runs):
             ran = it.result()
             print(f"== tests/{ran.script}: ended with {ran.status} after {ran.minutes:.1f} minutes\n{ran.said}", end="", flush=True)
             failed += [ran.script] if ran.status else []
-            if asked.minutes:
-                with asked.minutes.open("a") as lines:
-                    lines.write(f"tests/{ran.script}: {ran.minutes:.1f} minutes\n")
+            skipped += ran.skipped()
+            tell(asked.minutes, [f"tests/{ran.script}: {ran.minutes:.1f} minutes"] if asked.minutes else [])
+    tell(asked.minutes, skipped)
     if failed:
         print(f"not as expected: {', '.join(failed)}")
     return 1 if failed else 0
