@@ -1,4 +1,4 @@
--- In reading order: Access, Refusals, Session (what each request does); State, Replies, Opening, Moving, Serving, Carrying (a session);
+-- In reading order: Access, Refusals, Session (what each request does); State, Replies, Opening, Moving, Serving, Carrying, Lending (a session);
 -- Stream; Memory, Troubling, TroubledServe (in memory); Hall (all connections); Laws.
 pub mod Access
 pub mod Refusals
@@ -9,6 +9,7 @@ pub mod Opening
 pub mod Moving
 pub mod Serving
 pub mod Carrying
+pub mod Lending
 pub mod Stream
 pub mod Troubling
 pub mod Memory

@@ -2,6 +2,8 @@
 use Rattle.std.specs.Prelude.{◌≡◌, ◌≢◌, ℕ, ◌<◌, Bool, List, [], ◌∷◌, ◌++◌, map, take, Option, Some, None, Result, Ok, Err}
 use Rattle.std.specs.List.{flat_map}
 use Rattle.std.specs.Io.KnownBytes.{Appends, Consumes, IsAtEnd}
+use Rattle.std.specs.declared.io.traits.Read.{Ghosts as ReadPromise}
+use Rattle.std.specs.declared.io.traits.Write.{Ghosts as WritePromise}
 use Rattle.rmt_wire.specs.Request.{PlainRequest}
 use Rattle.rmt_wire.specs.Reply.{PlainReply, ReplyHasSpelling, reply_text}
 use Rattle.rmt_wire.specs.RequestParts.{IsOpen, HasNoSpelling, Spelled, HasFault}
@@ -10,13 +12,15 @@ use Rattle.rmt_wire.specs.RequestReader.{RequestHeld, Unread, taken_of}
 use Rattle.rmt_wire.specs.declared.limits.TheConstants.{READER_LIMIT}
 use Rattle.rmt_wire.specs.declared.fault.WireFault.{WireFault}
 use Rattle.rmt_wire.specs.declared.reply.writer.OutputFault.{OutputFault}
+use Rattle.drives.specs.declared.table.DriveTable.{DriveTable}
 use Rattle.drives.specs.Opening.{Kinds}
 use Rattle.rmt_server.specs.declared.stream.Served.{Served}
 use Rattle.rmt_server.specs.declared.stream.Served.TheVariants.{End, Truncated, Broken}
 use Rattle.rmt_server.specs.declared.stream.ServeFault.{ServeFault}
 use Rattle.rmt_server.specs.declared.stream.ServeFault.TheVariants.{Input, Output}
+use Rattle.rmt_server.specs.declared.session.desk.Desk.{Desk}
 use Rattle.rmt_server.specs.Session.{Scene, closed, ServeRun}
-use Rattle.rmt_server.specs.State.{State, Tells}
+use Rattle.rmt_server.specs.State.{State, state, Tells}
 use Rattle.rmt_server.specs.Opening.{IsClosed}
 use Rattle.rmt_server.specs.Carrying.{IsCarriedOut, MayFail, MayShare}
 
@@ -131,21 +135,44 @@ EndsAs kind (Err Output) old new read done rest =
 abbrev pub NoneFailed : {In Out : Type 0} → Streams In Out → Streams In Out → Type 0
 NoneFailed old new = (new.input.failures ≡ old.input.failures) × (new.output.failures ≡ old.output.failures)
 
--- whatever bytes the reader holds, requests were carried out, with this outcome for the bytes
-abbrev pub AnswersUnread : {H S Seat R : Type 0} → RequestHeld → Kinds H Seat S R → State H S Seat R → State H S Seat R
-    → (List ℕ → List Exchange → List ℕ → Type 0) → Type 0
-AnswersUnread wire k old new Outcome = (bytes : List ℕ) → Unread wire bytes → Advances k old new (Outcome bytes)
+-- A session that is serving, at one moment: what its requests come from, what its replies go to, and its state.
+pub record Serving (From Out H S Seat R : Type 0) : Type 0 where
+  pub requests : From
+  pub replies : Counting Out
+  pub state : State H S Seat R
+
+-- the same by its parts
+abbrev pub serving : {From Out H S Seat R : Type 0} → From → Counting Out → DriveTable H S Seat R → Desk Seat R → Serving From Out H S Seat R
+serving requests replies drives desk = record { requests = requests; replies = replies; state = state drives desk }
+
+-- requests of these bytes were carried out, with what became of the bytes that the reader holds afterwards
+abbrev pub AnswersFrom : {Out H S Seat R : Type 0} → Kinds H Seat S R → WritePromise Out → Result (Option WireFault) OutputFault
+    → Serving RequestHeld Out H S Seat R → Serving RequestHeld Out H S Seat R → List ℕ → Type 0
+AnswersFrom k output result old new bytes =
+    Advances k old.state new.state (AnswersAs output.contents result old.replies new.replies new.requests bytes)
+
+-- the same of whatever bytes the reader held
+abbrev pub AnswersUnread : {Out H S Seat R : Type 0} → Kinds H Seat S R → WritePromise Out → Result (Option WireFault) OutputFault
+    → Serving RequestHeld Out H S Seat R → Serving RequestHeld Out H S Seat R → Type 0
+AnswersUnread k output result old new = (bytes : List ℕ) → Unread old.requests bytes → AnswersFrom k output result old new bytes
 
 -- the same of a reader that is settled, and of its bytes with a piece more
-abbrev pub AnswersPiece : {H S Seat R : Type 0} → RequestHeld → List ℕ → Kinds H Seat S R → State H S Seat R → State H S Seat R
-    → (List ℕ → List Exchange → List ℕ → Type 0) → Type 0
-AnswersPiece wire piece k old new Outcome = (bytes : List ℕ) → IsSettled wire bytes → Advances k old new (Outcome (bytes ++ piece))
+abbrev pub AnswersPiece : {Out H S Seat R : Type 0} → Kinds H Seat S R → WritePromise Out → List ℕ → Result (Option WireFault) OutputFault
+    → Serving RequestHeld Out H S Seat R → Serving RequestHeld Out H S Seat R → Type 0
+AnswersPiece k output piece result old new =
+    (bytes : List ℕ) → IsSettled old.requests bytes → AnswersFrom k output result old new (bytes ++ piece)
+
+-- the two streams of a session that is serving
+abbrev pub streams_of : {In Out H S Seat R : Type 0} → Serving (Counting In) Out H S Seat R → Streams In Out
+streams_of x = streams x.requests x.replies
 
 -- bytes were read, and requests were carried out, up to this end
-abbrev pub ConversesAs : {H S Seat R In Out : Type 0} → Kinds H Seat S R → StreamsKind In Out → Result Served ServeFault
-    → Streams In Out → Streams In Out → State H S Seat R → State H S Seat R → Type 0
-ConversesAs k kind result old_streams new_streams old new =
-    (read : List ℕ) × AreRead kind old_streams new_streams read × Advances k old new (EndsAs kind result old_streams new_streams read)
+abbrev pub ConversesAs : {In Out H S Seat R : Type 0} → Kinds H Seat S R → ReadPromise In → WritePromise Out → Result Served ServeFault
+    → Serving (Counting In) Out H S Seat R → Serving (Counting In) Out H S Seat R → Type 0
+ConversesAs k input output result old new =
+    let kind = streams_kind input.remaining output.contents in
+    (read : List ℕ) × AreRead kind (streams_of old) (streams_of new) read
+    × Advances k old.state new.state (EndsAs kind result (streams_of old) (streams_of new) read)
 
 -- What was served: the bytes read, the requests carried out with their replies, and what follows them of the bytes.
 -- Then what was open was closed. Where stacks and reel tell, the requests and replies are a run of serve steps.
@@ -164,3 +191,9 @@ pub record IsServedAs {H S Seat R In Out : Type 0} (k : Kinds H Seat S R) (kind 
   pub same_seats : k.holds.seated new.drives.holds ≡ k.holds.seated old.drives.holds
   pub steps : (fails shared : Bool) → MayFail k old fails → MayShare k old shared → (start : Scene) → Tells k old start
       → (finish : Scene) × ServeRun fails shared k.reels.GROWS start done finish × k.stacks.holds new.drives.stacks (closed finish).shop
+
+-- the same of a session that is serving
+abbrev pub ServesAs : {In Out H S Seat R : Type 0} → Kinds H Seat S R → ReadPromise In → WritePromise Out → Result Served ServeFault
+    → Serving (Counting In) Out H S Seat R → Serving (Counting In) Out H S Seat R → Type 0
+ServesAs k input output result old new =
+    IsServedAs k (streams_kind input.remaining output.contents) result (streams_of old) (streams_of new) old.state new.state

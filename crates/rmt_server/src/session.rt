@@ -43,14 +43,12 @@ impl<H: Holds, S: Stacks> Model for Session<H, S> {
 impl<H: Holds, S: Stacks> Session<H, S> {
     ghost use Rattle.std.specs.Prelude.{MatchResult, MatchOption, None};
     ghost use Rattle.std.specs.Borrow.{sem};
-    ghost use Rattle.std.specs.Io.BufRead.{Rests};
-    ghost use Rattle.rmt_server.specs.contracts.session.Session.{the_row};
     ghost use Rattle.drives.specs.Holding.{HoldsJust};
     ghost use Rattle.drives.specs.Opening.{kinds};
     ghost use Rattle.rmt_server.specs.State.{state, IsAt, FitsItsDrives, IsOnline, online_drive};
     ghost use Rattle.rmt_server.specs.Replies.{IsSayable};
     ghost use Rattle.rmt_server.specs.Opening.{IsClosed};
-    ghost use Rattle.rmt_server.specs.Carrying.{IsCarriedOut};
+    ghost use Rattle.rmt_server.specs.Lending.{LendsReply};
 
     /// A session with nothing open. The seat holds no drive.
     ///
@@ -88,9 +86,8 @@ impl<H: Holds, S: Stacks> Session<H, S> {
     /// The drives are those of the seat and of what is open, and the stacks have no more of them than the holds.
     pub fn carry_out(&mut self, drives: &mut DriveTable<H, S>, request: Request<'_>) -> Reply<'_>
         requires { IsAt (kinds H.Holds S.Stacks S.Reel.Reel) (state drives.old self.old) }
-        ensures* rests { sem 𝓛 (Rests (the_row H.row S.row H.Seat.row S.Reel.row H.Holds S.Stacks S.Reel.Reel) self.entry (λ new.
-            IsCarriedOut (kinds H.Holds S.Stacks S.Reel.Reel) (state drives.old self.old) (plain_request request.entry)
-            (plain_reply result) (state drives.new new))) }
+        ensures* rests { sem 𝓛 (LendsReply H.row S.row H.Seat.row S.Reel.row H.Holds S.Stacks S.Reel.Reel self.entry
+            drives.old drives.new request.entry result) }
         ensures spelling { IsSayable (plain_request request.entry) → ReplyHasSpelling (plain_reply result) }
         ensures short { IsSayable (plain_request request.entry) → length (reply_text (plain_reply result)) ≤ READER_LIMIT }
     {

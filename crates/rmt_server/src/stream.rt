@@ -3,8 +3,7 @@ ghost use Rattle.std.specs.Prelude.{◌≡◌, ◌<◌, ◌≤◌, ℕ, List, []
 ghost use Rattle.rmt_wire.specs.RequestReader.{Unread};
 ghost use Rattle.drives.specs.Opening.{kinds};
 ghost use Rattle.rmt_server.specs.State.{state, IsAt};
-ghost use Rattle.rmt_server.specs.Stream.{streams, streams_kind, AnswersAs, AnswersPiece, AnswersUnread, ConversesAs, IsServedAs};
-ghost use Rattle.rmt_server.specs.Stream.{IsSettled, NoneFailed};
+ghost use Rattle.rmt_server.specs.Stream.{serving, streams, AnswersPiece, AnswersUnread, ConversesAs, ServesAs, IsSettled, NoneFailed};
 
 use crate::session::Session;
 use drives::{DriveTable, Holds, Stacks};
@@ -58,8 +57,8 @@ fn answer_all<W: Write, H: Holds, S: Stacks>(
     requires at { IsAt (kinds H.Holds S.Stacks S.Reel.Reel) (state drives.old session.old) }
     requires held { (bytes : List ℕ) × Unread wire.old bytes }
     ensures at { IsAt (kinds H.Holds S.Stacks S.Reel.Reel) (state drives.new session.new) }
-    ensures answers { AnswersUnread wire.old (kinds H.Holds S.Stacks S.Reel.Reel) (state drives.old session.old)
-        (state drives.new session.new) (AnswersAs W.contents result output.old output.new wire.new) }
+    ensures answers { AnswersUnread (kinds H.Holds S.Stacks S.Reel.Reel) W.Write result
+        (serving wire.old output.old drives.old session.old) (serving wire.new output.new drives.new session.new) }
     ensures counted { output.old.failures ≤ output.new.failures }
     ensures steady { OnOk result (output.new.failures ≡ output.old.failures) }
 {
@@ -86,8 +85,8 @@ fn take_in<W: Write, H: Holds, S: Stacks>(
     requires at { IsAt (kinds H.Holds S.Stacks S.Reel.Reel) (state drives.old session.old) }
     requires settled { (bytes : List ℕ) × IsSettled wire.old bytes }
     ensures at { IsAt (kinds H.Holds S.Stacks S.Reel.Reel) (state drives.new session.new) }
-    ensures answers { AnswersPiece wire.old piece.now (kinds H.Holds S.Stacks S.Reel.Reel) (state drives.old session.old)
-        (state drives.new session.new) (AnswersAs W.contents result output.old output.new wire.new) }
+    ensures answers { AnswersPiece (kinds H.Holds S.Stacks S.Reel.Reel) W.Write piece.now result
+        (serving wire.old output.old drives.old session.old) (serving wire.new output.new drives.new session.new) }
     ensures counted { output.old.failures ≤ output.new.failures }
     ensures steady { OnOk result (output.new.failures ≡ output.old.failures) }
 {
@@ -112,8 +111,8 @@ fn converse<R: Read, W: Write, H: Holds, S: Stacks>(
     requires at { IsAt (kinds H.Holds S.Stacks S.Reel.Reel) (state drives.old session.old) }
     requires empty { Unread wire.old [] }
     ensures at { IsAt (kinds H.Holds S.Stacks S.Reel.Reel) (state drives.new session.new) }
-    ensures converses { ConversesAs (kinds H.Holds S.Stacks S.Reel.Reel) (streams_kind R.remaining W.contents) result
-        (streams input.old output.old) (streams input.new output.new) (state drives.old session.old) (state drives.new session.new) }
+    ensures converses { ConversesAs (kinds H.Holds S.Stacks S.Reel.Reel) R.Read W.Write result
+        (serving input.old output.old drives.old session.old) (serving input.new output.new drives.new session.new) }
     ensures steady { OnOk result (NoneFailed (streams input.old output.old) (streams input.new output.new)) }
 {
     let mut piece = [0; PIECE];
@@ -148,8 +147,8 @@ pub fn serve<R: Read, W: Write, H: Holds, S: Stacks>(
     requires at { IsAt (kinds H.Holds S.Stacks S.Reel.Reel) (state drives.old session.old) }
     // the reader has given all that was pushed
     requires empty { Unread wire.old [] }
-    ensures served { IsServedAs (kinds H.Holds S.Stacks S.Reel.Reel) (streams_kind R.remaining W.contents) result
-        (streams input.old output.old) (streams input.new output.new) (state drives.old session.old) (state drives.new session.new) }
+    ensures served { ServesAs (kinds H.Holds S.Stacks S.Reel.Reel) R.Read W.Write result
+        (serving input.old output.old drives.old session.old) (serving input.new output.new drives.new session.new) }
     // a stream that failed ends as failed
     ensures steady { OnOk result (NoneFailed (streams input.old output.old) (streams input.new output.new)) }
     ensures nothing { session.new.opened ≡ None }

@@ -1,12 +1,15 @@
 -- What becomes of a pair of streams that is served at a seat, and of the seat.
 use Rattle.std.specs.Prelude.{◌≡◌, ◌≢◌, Option, None, OnOk, Result}
 use Rattle.std.specs.Result.{result_ok}
+use Rattle.std.specs.declared.io.traits.Read.{Ghosts as ReadPromise}
+use Rattle.std.specs.declared.io.traits.Write.{Ghosts as WritePromise}
+use Rattle.rmt_wire.specs.Counted.{Counting}
 use Rattle.drives.specs.declared.table.DriveTable.{DriveTable}
 use Rattle.drives.specs.Opening.{Kinds}
 use Rattle.rmt_server.specs.declared.stream.Served.{Served}
 use Rattle.rmt_server.specs.declared.stream.ServeFault.{ServeFault}
-use Rattle.rmt_server.specs.State.{State, IsAt}
-use Rattle.rmt_server.specs.Stream.{Streams, StreamsKind, IsServedAs, NoneFailed}
+use Rattle.rmt_server.specs.State.{State, seated_at, IsAt}
+use Rattle.rmt_server.specs.Stream.{Streams, streams_kind, StreamsKind, Serving, streams_of, IsServedAs, NoneFailed}
 
 -- The streams are served by a session, and this is how they ended: there is no ending where one failed, and one that failed ends as
 -- failed. Where memory was refused before the first request was read, neither is touched, and nothing is done.
@@ -42,3 +45,19 @@ abbrev pub ComesBack : {H S Seat R In Out : Type 0} → Kinds H Seat S R → Str
 ComesBack {H} {S} {Seat} {R} k kind start old new seat stacks =
     (ending : Option Served) × (drives : DriveTable H S Seat R)
     × IsServedAfresh k kind start old new drives seat ending × (stacks ≡ drives.stacks)
+
+-- a pair of streams, and a seat at these drives that has nothing open
+abbrev pub idle : {In Out H S Seat R : Type 0} → Counting In → Counting Out → DriveTable H S Seat R → Seat → Serving (Counting In) Out H S Seat R
+idle input output drives seat = record { requests = input; replies = output; state = seated_at drives seat None }
+
+-- the streams are served by a session of its own, which ended so and gives back the seat
+abbrev pub ServesAfresh : {In Out H S Seat R : Type 0} → Kinds H Seat S R → ReadPromise In → WritePromise Out
+    → Serving (Counting In) Out H S Seat R → Serving (Counting In) Out H S Seat R → Option Served → Type 0
+ServesAfresh k input output old new ending =
+    IsServedAfresh k (streams_kind input.remaining output.contents) old.state (streams_of old) (streams_of new) new.state.drives new.state.seat ending
+
+-- the same with the seat and the stacks alone, however the streams ended
+abbrev pub GivesBack : {In Out H S Seat R : Type 0} → Kinds H Seat S R → ReadPromise In → WritePromise Out
+    → Serving (Counting In) Out H S Seat R → Streams In Out → Seat × S → Type 0
+GivesBack k input output old new back =
+    ComesBack k (streams_kind input.remaining output.contents) old.state (streams_of old) new back.0 back.1

@@ -2,9 +2,8 @@
 ghost use Rattle.std.specs.Prelude.{◌≤◌, None};
 ghost use Rattle.drives.specs.Holding.{HoldsJust};
 ghost use Rattle.drives.specs.Opening.{kinds};
-ghost use Rattle.rmt_server.specs.State.{seated_at};
-ghost use Rattle.rmt_server.specs.Stream.{streams, streams_kind};
-ghost use Rattle.rmtd_serve.specs.Seating.{ComesBack, IsServedAfresh};
+ghost use Rattle.rmt_server.specs.Stream.{streams};
+ghost use Rattle.rmtd_serve.specs.Seating.{idle, GivesBack, ServesAfresh};
 
 use drives::{DriveTable, Holds, Stacks};
 use rmt_server::{Served, Session, serve};
@@ -27,8 +26,8 @@ pub fn serve_at<H: Holds + Drop, S: Stacks + Drop, I: Read, O: Write>(
     requires own { H.belongs drives.holds seat }
     requires idle { HoldsJust (H.shows seat) None }
     requires enough { S.drives drives.stacks ≤ H.drives drives.holds }
-    ensures { ComesBack (kinds H.Holds S.Stacks S.Reel.Reel) (streams_kind I.remaining O.contents) (seated_at drives seat None)
-        (streams input.old output.old) (streams input.new output.new) result.0 result.1 }
+    ensures { GivesBack (kinds H.Holds S.Stacks S.Reel.Reel) I.Read O.Write (idle input.old output.old drives seat)
+        (streams input.new output.new) result }
 {
     let mut drives = drives;
     let (seat, _) = serve_afresh(alloc, &mut drives, seat, input, output);
@@ -50,8 +49,8 @@ pub(crate) fn serve_afresh<H: Holds, S: Stacks, I: Read, O: Write>(
     requires own { H.belongs drives.old.holds seat }
     requires idle { HoldsJust (H.shows seat) None }
     requires enough { S.drives drives.old.stacks ≤ H.drives drives.old.holds }
-    ensures { IsServedAfresh (kinds H.Holds S.Stacks S.Reel.Reel) (streams_kind I.remaining O.contents) (seated_at drives.old seat None)
-        (streams input.old output.old) (streams input.new output.new) drives.new result.0 result.1 }
+    ensures { ServesAfresh (kinds H.Holds S.Stacks S.Reel.Reel) I.Read O.Write (idle input.old output.old drives.old seat)
+        (idle input.new output.new drives.new result.0) result.1 }
 {
     let Ok(mut wire) = RequestReader::new(alloc) else {
         return (seat, None);
