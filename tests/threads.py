@@ -43,7 +43,7 @@ RACES = 50
 SPARE_MEMORY = 512 << 10
 SEED = 20261124
 
-BLOCK = 512
+BLOCK = 1024
 DAY = 951_782_400
 CLOSE, REWIND, MARK, OFFLINE, NOTHING = b"C\n", b"I5\n1\n", b"I0\n1\n", b"I6\n1\n", b"I7\n1\n"
 READ = b"R65536\n"
@@ -289,14 +289,13 @@ def told_of(counts: list[int]) -> str:
 
 def busy(rmtd: str, rdump: str) -> None:
     """A dump of two reels: who opens the drive in mid volume is told that it is busy, and the dump is whole."""
-    counts = [40, 20]
-    capacity = 1032 + counts[0] * (BLOCK + 8) + 4
-    with serving(rmtd, capacity=capacity) as server, tempfile.TemporaryDirectory() as folder:
+    counts = [2, 1]
+    with serving(rmtd, capacity=3_100) as server, tempfile.TemporaryDirectory() as folder:
         for name in ("r1", "r2"):
             server.reel(name)
         payload = Path(folder) / "usr"
         payload.write_bytes(random.Random(1).randbytes(sum(counts) * BLOCK))
-        gate = Gate(server, most=1024 + 10 * BLOCK)
+        gate = Gate(server, most=1024 + BLOCK)
         words = dump_words(rdump, gate.address, payload)
         with subprocess.Popen(words, stdin=subprocess.DEVNULL, stdout=subprocess.PIPE, text=True) as client:
             check("busy: the dump comes to mid volume", gate.is_full.wait(GUARD_SECONDS))

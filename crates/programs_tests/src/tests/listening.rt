@@ -7,19 +7,23 @@ use std::alloc::Global;
 use std::io::{self, Read, Write};
 use std::net::{Shutdown, TcpListener, TcpStream};
 
-/// Whether a record was sent on a connection, and a second one up to its middle, where the stream ends.
+/// Whether a record and a mark are written on a connection and read back, and all of it sent before an answer.
 fn sends(stream: &mut TcpStream) -> bool {
-    stream.write_all(b"O/dev/st0\n2\nW5\nhelloW5\nhel").is_ok()
+    stream.write_all(b"O/dev/st0\n2\nW5\nhelloI0\n1\nI5\n1\nR10\nR10\nC\n").is_ok()
         && stream.shutdown(Shutdown::Write).is_ok()
 }
 
-/// Whether the answers come on a connection.
+/// What the answers are, and no more.
+const HEARD: &[u8] = b"A0\nA5\nA1\nA1\nA5\nhelloA0\nA0\n";
+
+/// Whether the answers come on a connection, and then its end.
 fn hears(stream: &mut TcpStream) -> bool {
-    let mut bytes = [0; 6];
-    stream.read_exact(&mut bytes).is_ok() && bytes == *b"A0\nA5\n"
+    let mut bytes = [0; 26];
+    let is_heard = stream.read_exact(&mut bytes).is_ok() && bytes.as_slice() == HEARD;
+    is_heard && matches!(stream.read(&mut [0; 1]), Ok(0))
 }
 
-/// Whether a drive serves the next connection, and then a stream that reads back the one record of it.
+/// Whether a drive serves the next connection, and then a stream that reads the one record of it.
 fn serves_both(alloc: Global, listener: &TcpListener) -> bool {
     let Some(mut server) = MemoryServer::new(alloc, 1024) else {
         return false;
