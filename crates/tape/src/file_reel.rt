@@ -1,6 +1,6 @@
 //! A reel whose entries lie on a medium.
 
-ghost use Rattle.std.specs.Prelude.{◌≡◌, ◌+◌, ◌*◌, ◌^◌, ◌<◌, ◌≤◌, ◌↔◌, List, ℕ, IfErr, IsErr, IsTrue, MatchResult, [], ◌∷◌, length, replicate, false};
+ghost use Rattle.std.specs.Prelude.{◌≡◌, ◌+◌, ◌*◌, ◌^◌, ◌<◌, ◌≤◌, ◌↔◌, List, ℕ, IfErr, IsErr, OnErr, IsTrue, MatchResult, [], ◌∷◌, length, replicate, false};
 ghost use Rattle.tape.specs.Tape.{PlainEntry, IsRecord, tape, done_answer};
 ghost use Rattle.tape.specs.Tape.PlainEntry.{Record, Mark};
 ghost use Rattle.tape.specs.Tape.TapeRequest.{WriteMarks};
@@ -173,6 +173,7 @@ impl FileReel<MemoryMedium> {
     /// Answers `OutOfMemory`, and nothing changed then.
     pub(crate) fn reserve(&mut self, count: u64) -> Result<(), TapeFault>
         ensures room { MatchResult result (λ _. count ≤ self.new.medium.spare) (λ fault. (fault ≡ OutOfMemory) × (self.new ≡ self.old)) }
+        ensures asked { OnErr result (self.old.medium.spare < count) }
         ensures bytes { self.new.medium.bytes ≡ self.old.medium.bytes }
         ensures offset { self.new.offset ≡ self.old.offset }
         ensures capacity { self.new.capacity ≡ self.old.capacity }
