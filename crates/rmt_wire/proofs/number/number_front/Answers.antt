@@ -1,9 +1,11 @@
-use Rattle.std.proofs.Common.{arith}
+use Rattle.std.proofs.Common.{◌+◌, ◌≤◌, arith}
 use Rattle.std.proofs.lemmas.Grind.{common_steps}
 use Rattle.rmt_wire.proofs.number.number_front.Goals as goal
 
 pub loop-len-preserved : goal.loop-len-preserved
-loop-len-preserved c = grind (arith, common_steps)
+loop-len-preserved c =
+    let few : c.loop-len.len + 1 ≤ 10 = omega arith in
+    (grind (arith, common_steps), omega arith, few)
 
 pub returns-then-ends_number-clause-value : goal.returns-then-ends_number-clause-value
 returns-then-ends_number-clause-value c = grind (arith, common_steps)
