@@ -1,7 +1,9 @@
 //! What programs over the wire call beside it.
 
+use super::fake::Fake;
 use rmt_wire::argument::{is_device, number_of};
 use rmt_wire::{Counted, find_byte, print_text};
+use std::io::ErrorKind;
 
 #[test]
 fn a_text_is_printed_whole(rt: HostRuntime) {
@@ -9,6 +11,16 @@ fn a_text_is_printed_whole(rt: HostRuntime) {
     let mut out = Counted::new(room.as_mut_slice());
     assert!(rt; print_text(&mut out, b"retry?\n") && out.failures() == 0);
     assert!(rt; room == *b"retry?\n");
+}
+
+/// Two bytes go out, the next write fails, and no further one is made, though it would not fail.
+#[test]
+fn no_text_is_printed_after_a_failed_write(rt: HostRuntime) {
+    let trouble = Some(ErrorKind::BrokenPipe);
+    let mut out = Counted::new(Fake::new(rt.alloc(), 2, 1, 1, trouble));
+    assert!(rt; !print_text(&mut out, b"retry?\n") && out.failures() == 1);
+    let fake = out.into_inner();
+    assert!(rt; *fake.taken == *b"re".as_slice() && fake.calls == 2);
 }
 
 #[test]
