@@ -9,7 +9,9 @@ use std::net::{Shutdown, TcpListener, TcpStream};
 
 /// Whether a record and a mark are written on a connection and read back, and all of it sent before an answer.
 fn sends(stream: &mut TcpStream) -> bool {
-    stream.write_all(b"O/dev/st0\n2\nW5\nhelloI0\n1\nI5\n1\nR10\nR10\nC\n").is_ok()
+    stream
+        .write_all(b"O/dev/st0\n2\nW5\nhelloI0\n1\nI5\n1\nR10\nR10\nC\n")
+        .is_ok()
         && stream.shutdown(Shutdown::Write).is_ok()
 }
 
