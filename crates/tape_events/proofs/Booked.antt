@@ -301,6 +301,18 @@ among_at (y ∷ xs) (suc zero) x at = (0, omega arith, same_Some y x at)
 among_at (y ∷ xs) (suc (suc i)) x at =
     let c = among_at xs (suc i) x at in (suc c.0, (let within = c.1 in omega (arith, within)), c.2)
 
+-- and one of the list has a number
+pub place_of : {X : Type 0} (xs : List X) (x : X) → Contains xs x → (i : ℕ) × (numbered xs i ≡ Some x)
+place_of [] x (i, within, is) = absurd (omega (arith, within))
+place_of (y ∷ xs) x (zero, within, is) = (1, ap Some is)
+place_of (y ∷ xs) x (suc i, within, is) =
+    let on = place_of xs x (i, omega (arith, within), is) in
+    next_place y xs x on.0 on.1
+  where
+    next_place : {X : Type 0} (y : X) (xs : List X) (x : X) (i : ℕ) → numbered xs i ≡ Some x → (j : ℕ) × (numbered (y ∷ xs) j ≡ Some x)
+    next_place y xs x zero at = absurd cc
+    next_place y xs x (suc i) at = (suc (suc i), at)
+
 -- a run is begun
 started_booked : (w u : World) (run : PlainRun) (b : Begun) (reader : ReplyHeld) → u.begun ≡ w.begun ++ b ∷ [] → b.run ≡ run
     → u.caller ≡ Some (caller (length w.begun + 1) (standing run [] Ready) reader) → u.counts ≡ w.counts → u.entered ≡ w.entered → u.dates ≡ w.dates

@@ -36,6 +36,7 @@ use Rattle.tape_events.proofs.SentServe.{noted_same}
 use Rattle.tape_events.proofs.SentLeads.{on_by_one, label_accepted, block_accepted}
 use Rattle.tape_events.proofs.LabelledEvents.{Serves}
 use Rattle.tape_events.proofs.SentWire.{OneReading, DroppedWrites}
+use Rattle.tape_events.proofs.LabelledSingle.{one_reel}
 use Rattle.tape_events.proofs.LabelledServes.{IsServed, served_dump, served_step}
 use Rattle.tape_events.proofs.LabelledOthers.{others_labelled}
 use Rattle.tape_events.proofs.LabelledNames.{stands_one}
@@ -81,7 +82,7 @@ its_name : (w u : World) (v : Serves w u) (l : Link) (d : Dumping) → Own w u v
 its_name w u v l d o drive reel name online last =
     let first = first_name (rack_at w.hall.shop drive).stack in
     let mine = o.opened.last v.k v.s first v.live (ap (written_reel w.hall.shop) online) in
-    o.single.one (opening v.k first) (opening v.k name) (among_at w.opens mine.0 (opening v.k first) mine.1) (among_at w.opens last.0 (opening v.k name) last.1) refl refl
+    one_reel w.opens v.k d o.single (opening v.k first) (opening v.k name) (among_at w.opens mine.0 (opening v.k first) mine.1) (among_at w.opens last.0 (opening v.k name) last.1) refl refl
 
 -- what was written stands on the tape of the session
 now_written : (w u : World) (v : Serves w u) (l : Link) (d e : Dumping) → Own w u v l d → (b : Begun) (drive : ℕ) (reel : PlainReel) (name : List ℕ) (t : Tape)

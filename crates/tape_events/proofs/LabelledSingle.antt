@@ -1,5 +1,8 @@
--- All openings of a connection of the client's are of one reel, whatever happens.
-use Rattle.std.proofs.Common.{◌≡◌, ◌≢◌, ◌⊎◌, ℕ, ◌+◌, ◌^◌, ◌<◌, Bool, true, false, List, Option, Some, None, Contains, refl, sym, ap, subst, ◌∙◌, inl, inr, arith}
+-- A connection of the client's has one opening at most, whatever happens.
+use Rattle.std.proofs.Common.{◌≡◌, ◌≢◌, ◌⊎◌, ℕ, ◌+◌, ◌^◌, ◌<◌, suc, Bool, true, false, List, ◌++◌, length, Option, Some, None, Contains, refl, sym, ap, subst, ◌∙◌, inl, inr, arith}
+use Rattle.std.specs.Prelude.{option_to_list}
+use Rattle.std.specs.Option.{option_map}
+use Rattle.std.proofs.lemmas.List.{append-nil}
 use Rattle.std.proofs.lemmas.Option.{same_Some}
 use Rattle.rmt_wire.specs.Counted.{raised}
 use Rattle.rmt_wire.specs.Request.{PlainRequest}
@@ -9,12 +12,13 @@ use Rattle.rmt_server.specs.Hall.{Side}
 use Rattle.rmt_server.specs.Session.{PlainSession}
 use Rattle.dump_client.specs.declared.step.Step.{Step}
 use Rattle.dump_client.specs.declared.step.Step.TheVariants.{Open, Rewind, Label, Block, Mark, Unload, Close}
-use Rattle.tape_events.specs.World.{World, Link, Dumping, Begun, Opening}
+use Rattle.tape_events.specs.World.{World, Link, Dumping, Begun, Opening, numbered}
 use Rattle.tape_events.specs.Changes.{opening, opened_reel, written_reel, first_name, noted}
 use Rattle.tape_events.specs.Naming.{AreOpened}
 use Rattle.tape_events.specs.Sending.{HasDone, StandsFor, request_in, AreTold}
 use Rattle.tape_events.specs.Attempts.{IsSingle, AreSingle}
-use Rattle.tape_events.proofs.Booked.{among_at}
+use Rattle.tape_events.proofs.Booked.{among_at, place_of}
+use Rattle.tape_events.proofs.Numbers.{pushed_is}
 use Rattle.tape_events.proofs.Named.{opening_is}
 use Rattle.tape_events.proofs.Sent.{raised_one}
 use Rattle.tape_events.proofs.SentWire.{OneReading, DroppedWrites}
@@ -41,7 +45,7 @@ quiet_single w u q opened single k l d at dump = elim (q.links.at k l at) [
   | inr (new, fresh) ↦
       let f = subst IsFresh dump fresh in
       subst (λ os. IsSingle os k d) (sym q.opens) record {
-        one = λ o p among other mine its. (let few = (opened.there o among).1 in absurd (omega (arith, few, new, mine)));
+        one = λ i j o p at other mine its. (let few = (opened.there o (among_at w.opens i o at)).1 in absurd (omega (arith, few, new, mine)));
         none = λ nothing o among mine. (let few = (opened.there o among).1 in omega (arith, few, new, mine));
         some = λ labelled. (let clash = sym f.0 ∙ labelled in absurd cc);
       }
@@ -92,41 +96,76 @@ was_opened : (w u : World) (v : Serves w u) (o : Opening) → Contains u.opens o
     → Contains w.opens o ⊎ ((reel : List ℕ) × (opened_reel v.request v.shop v.session ≡ Some reel) × (o ≡ opening v.k reel))
 was_opened w u v o among = opening_is w.opens v.k (opened_reel v.request v.shop v.session) o (subst (λ (x : World). Contains x.opens o) v.is among)
 
+-- the same by its place
+placed : (all : List Opening) (k : ℕ) (opened : Option (List ℕ)) (i : ℕ) (o : Opening) → numbered (all ++ option_to_list (option_map (opening k) opened)) i ≡ Some o
+    → (numbered all i ≡ Some o) ⊎ ((i ≡ suc (length all)) × ((reel : List ℕ) × (opened ≡ Some reel) × (o ≡ opening k reel)))
+placed all k None i o at = inl (subst (λ l. numbered l i ≡ Some o) (append-nil all) at)
+placed all k (Some reel) i o at = elim (pushed_is all (opening k reel) i o at) [
+  | inl before ↦ inl before
+  | inr (last, new) ↦ inr (last, (reel, refl, new))
+]
+
+was_placed_new : (w u : World) (v : Serves w u) (i : ℕ) (o : Opening) → numbered u.opens i ≡ Some o
+    → (numbered w.opens i ≡ Some o)
+    ⊎ ((i ≡ suc (length w.opens)) × ((reel : List ℕ) × (opened_reel v.request v.shop v.session ≡ Some reel) × (o ≡ opening v.k reel)))
+was_placed_new w u v i o at =
+    placed w.opens v.k (opened_reel v.request v.shop v.session) i o (subst (λ (x : World). numbered x.opens i ≡ Some o) v.is at)
+
+was_placed : (w u : World) (v : Serves w u) (i : ℕ) (o : Opening) → numbered u.opens i ≡ Some o
+    → (numbered w.opens i ≡ Some o) ⊎ ((i ≡ suc (length w.opens)) × ((reel : List ℕ) × (opened_reel v.request v.shop v.session ≡ Some reel)))
+was_placed w u v i o at = elim (was_placed_new w u v i o at) [
+  | inl before ↦ inl before
+  | inr (last, (reel, is, new)) ↦ inr (last, (reel, is))
+]
+
 own_single : (w u : World) (v : Serves w u) (l : Link) (d : Dumping) → IsServed w u v l d → AreOpened w → IsSingle w.opens v.k d → IsSingle u.opens v.k (noted v.request v.reply d)
 own_single w u v l d p opened single = record {
-  one = λ o q among other mine its. both o q (was_opened w u v o among) (was_opened w u v q other) mine its;
+  one = λ i j o q at other mine its. both i j o q (was_placed w u v i o at) (was_placed w u v j q other) mine its;
   none = λ nothing. (let more = carried_more d v.request v.reply p.few in absurd (omega (arith, more, nothing)));
   some = λ labelled. (let s = label_some w u v l d p d.label refl opened single labelled in (s.0, opens_after w u v (opening v.k s.0) s.1));
 }
   where
-    New : Opening → Type 0
-    New o = (reel : List ℕ) × (opened_reel v.request v.shop v.session ≡ Some reel) × (o ≡ opening v.k reel)
+    New : ℕ → Type 0
+    New i = (i ≡ suc (length w.opens)) × ((reel : List ℕ) × (opened_reel v.request v.shop v.session ≡ Some reel))
 
     nothing : (reel : List ℕ) → opened_reel v.request v.shop v.session ≡ Some reel → d.carried ≡ 0
     nothing reel is =
         let first = open_step p.b d p.step v.shop v.session reel (subst (λ r. opened_reel r v.shop v.session ≡ Some reel) p.asks is) in
         (subst (HasDone p.b.run (Some v.s) d) first p.done).carried
 
-    both : (o q : Opening) → Contains w.opens o ⊎ New o → Contains w.opens q ⊎ New q → o.connection ≡ v.k → q.connection ≡ v.k → o.reel ≡ q.reel
-    both o q (inl before) (inl was) mine its = single.one o q before was mine its
-    both o q (inl before) (inr (reel, is, new)) mine its = absurd (single.none (nothing reel is) o before mine)
-    both o q (inr (reel, is, new)) (inl was) mine its = absurd (single.none (nothing reel is) q was its)
-    both o q (inr (reel, is, new)) (inr (other, at, same)) mine its =
-        ap (λ (z : Opening). z.reel) new ∙ same_Some reel other (sym is ∙ at) ∙ sym (ap (λ (z : Opening). z.reel) same)
+    both : (i j : ℕ) (o q : Opening) → (numbered w.opens i ≡ Some o) ⊎ New i → (numbered w.opens j ≡ Some q) ⊎ New j → o.connection ≡ v.k → q.connection ≡ v.k → i ≡ j
+    both i j o q (inl before) (inl was) mine its = single.one i j o q before was mine its
+    both i j o q (inl before) (inr (last, (reel, is))) mine its = absurd (single.none (nothing reel is) o (among_at w.opens i o before) mine)
+    both i j o q (inr (last, (reel, is))) (inl was) mine its = absurd (single.none (nothing reel is) q (among_at w.opens j q was) its)
+    both i j o q (inr (last, one)) (inr (past, other)) mine its = last ∙ sym past
 
 -- another's openings are those before
 other_single : (w u : World) (v : Serves w u) (j : ℕ) (d : Dumping) → j ≢ v.k → IsSingle w.opens j d → IsSingle u.opens j d
 other_single w u v j d other single = record {
-  one = λ o p among its mine same. single.one o p (before o among mine) (before p its same) mine same;
+  one = λ a b o p at its mine same. single.one a b o p (placed_before a o at mine) (placed_before b p its same) mine same;
   none = λ nothing o among mine. single.none nothing o (before o among mine) mine;
   some = λ labelled. (let s = single.some labelled in (s.0, opens_after w u v (opening j s.0) s.1));
 }
   where
+    placed_before : (i : ℕ) (o : Opening) → numbered u.opens i ≡ Some o → o.connection ≡ j → numbered w.opens i ≡ Some o
+    placed_before i o at mine = elim (was_placed_new w u v i o at) [
+      | inl was ↦ was
+      | inr (last, (reel, is, new)) ↦ absurd (other (sym mine ∙ ap (λ (z : Opening). z.connection) new))
+    ]
+
     before : (o : Opening) → Contains u.opens o → o.connection ≡ j → Contains w.opens o
     before o among mine = elim (was_opened w u v o among) [
       | inl was ↦ was
       | inr (reel, is, new) ↦ absurd (other (sym mine ∙ ap (λ (z : Opening). z.connection) new))
     ]
+
+-- a connection's openings are of one reel
+pub one_reel : (opens : List Opening) (k : ℕ) (d : Dumping) → IsSingle opens k d → (o p : Opening) → Contains opens o → Contains opens p → o.connection ≡ k → p.connection ≡ k
+    → o.reel ≡ p.reel
+one_reel opens k d single o p among other mine its =
+    let i = place_of opens o among in
+    let j = place_of opens p other in
+    ap (λ (z : Opening). z.reel) (same_Some o p (sym i.1 ∙ ap (numbered opens) (single.one i.0 j.0 o p i.1 j.1 mine its) ∙ j.1))
 
 pub served_single : OneReading → DroppedWrites → (w u : World) (v : Serves w u) → AreTold w → AreOpened w → AreSingle w → AreSingle u
 served_single g h w u v told opened single j l d at dump = elim (served_dump w u v j l d at dump) [

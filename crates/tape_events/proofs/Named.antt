@@ -106,8 +106,8 @@ all_ended_names h (suc n) a name = ended_names (all_ended h n) (suc n) (all_ende
 pub makes_names : (w u : World) → Makes w u → AreHeld w.hall → SameNames w.hall.shop u.hall.shop
 makes_names w u (leaves same) a name = ap (λ (h : Hall). times name (names_in h.shop)) same.hall
 makes_names w u (joins is made links) a name = ap (λ (h : Hall). times name (names_in h.shop)) is
-makes_names w u (reads k s x live session is made links) a name = ap (λ (h : Hall). times name (names_in h.shop)) is
-makes_names w u (serves k s x shop holders opened live comes is made links) a name =
+makes_names w u (reads k s x live session unread is made links) a name = ap (λ (h : Hall). times name (names_in h.shop)) is
+makes_names w u (serves k s x shop holders opened live unread comes is made links) a name =
     ap (λ (h : Hall). times name (names_in h.shop)) is ∙ comes_names w.hall k s (scene shop x.session) opened live a comes name
 makes_names w u (ends k is made links) a name = ap (λ (h : Hall). times name (names_in h.shop)) is ∙ ended_names w.hall k a name
 makes_names w u (restarts is made links) a name = ap (λ (h : Hall). times name (names_in h.shop)) is ∙ all_ended_names w.hall (length w.hall.sides) a name
@@ -191,8 +191,8 @@ turned_side h u k s x live sides =
 makes_named : (w u : World) → Makes w u → SameNames w.hall.shop u.hall.shop → AreHeld u.hall → AreLaid u.hall → AreNamed w → AreNamed u
 makes_named w u (leaves alike) same a l n = same_named w u same alike.opens n
 makes_named w u (joins is made links) same a l n = same_named w u same made n
-makes_named w u (reads k s x live session is made links) same a l n = same_named w u same made n
-makes_named w u (serves k s x shop holders opened live comes is made links) same a l n =
+makes_named w u (reads k s x live session unread is made links) same a l n = same_named w u same made n
+makes_named w u (serves k s x shop holders opened live unread comes is made links) same a l n =
     served_named w u k opened same made
     (λ reel new. opened_is_reel u.hall k x reel (turned_side w.hall u.hall k s x live (ap (λ (h : Hall). h.sides) is)) a l
     (ap (λ (h : Hall). written_reel h.shop x.session) is ∙ comes_reel _ (scene shop x.session) opened comes reel new)) n

@@ -1,9 +1,10 @@
 -- What each event makes of the hall, the openings and the number of connections.
-use Rattle.std.proofs.Common.{◌≡◌, ℕ, ◌+◌, ◌<◌, Bool, true, false, List, [], ◌∷◌, ◌++◌, length, drop, Option, Some, None, Result, Ok, Err, refl, sym, ap, subst, ◌∙◌}
+use Rattle.std.proofs.Common.{◌≡◌, ℕ, ◌+◌, ◌<◌, Bool, true, false, List, [], ◌∷◌, ◌++◌, length, take, drop, Option, Some, None, Result, Ok, Err, refl, sym, ap, subst, ◌∙◌}
 use Rattle.std.specs.Prelude.{slice_index_or, option_to_list}
 use Rattle.std.specs.Option.{option_map}
 use Rattle.std.proofs.lemmas.List.{length-map, length-append}
 use Rattle.rmt_wire.specs.Request.{PlainRequest}
+use Rattle.rmt_wire.specs.RequestReader.{Unread}
 use Rattle.rmt_wire.specs.declared.fault.WireFault.{WireFault}
 use Rattle.tape.specs.declared.trouble.Trouble.{Trouble}
 use Rattle.drives.specs.Shop.{Shop}
@@ -29,14 +30,18 @@ pub record Alike (w u : World) : Type 0 where
   pub opens : u.opens ≡ w.opens
   pub links : length u.links ≡ length w.links
 
+-- something is unread by the side, if only no bytes
+abbrev pub HasUnread : Side → Type 0
+HasUnread x = (bytes : List ℕ) × Unread x.reached bytes
+
 -- What an event makes of them: it leaves them; or there is one more connection; or a side has read more; or it served a request;
 -- or it is over; or all are; or the stack of a free drive is arranged.
 pub data Makes (w u : World) : Type 0 where
   leaves : Alike w u → Makes w u
   joins : u.hall ≡ with_side w.hall → u.opens ≡ w.opens → length u.links ≡ length w.links + 1 → Makes w u
-  reads : (k : ℕ) (s x : Side) → side_of w.hall k ≡ Some s → x.session ≡ s.session
+  reads : (k : ℕ) (s x : Side) → side_of w.hall k ≡ Some s → x.session ≡ s.session → HasUnread x
       → u.hall ≡ hall w.hall.shop w.hall.holders (with_numbered w.hall.sides k (Some x)) → u.opens ≡ w.opens → length u.links ≡ length w.links → Makes w u
-  serves : (k : ℕ) (s x : Side) (shop : Shop) (holders : List ℕ) (opened : Option (List ℕ)) → side_of w.hall k ≡ Some s
+  serves : (k : ℕ) (s x : Side) (shop : Shop) (holders : List ℕ) (opened : Option (List ℕ)) → side_of w.hall k ≡ Some s → HasUnread x
       → Comes (scene w.hall.shop s.session) (scene shop x.session) opened → u.hall ≡ hall shop holders (with_numbered w.hall.sides k (Some x))
       → u.opens ≡ w.opens ++ option_to_list (option_map (opening k) opened) → length u.links ≡ length w.links → Makes w u
   ends : (k : ℕ) → u.hall ≡ ended w.hall k → u.opens ≡ w.opens → length u.links ≡ length w.links → Makes w u
@@ -76,7 +81,7 @@ finds_makes : (w : World) (k : ℕ) (trouble : Trouble) (s : Side) (found : Resu
     → side_of w.hall k ≡ Some s → Finds w k trouble s found rest u → Makes w u
 finds_makes w k trouble s (Ok None) rest u live finds = absurd finds
 finds_makes w k trouble s (Ok (Some request)) rest u live (reply, reached, shop, session, holders, unread, served, is) =
-    serves k s (side reached session) shop holders _ live
+    serves k s (side reached session) shop holders _ live (rest, unread)
     (step_comes trouble w.hall.holders (scene w.hall.shop s.session) request reply (scene shop session) served.step)
     (ap (λ (x : World). x.hall) is) (ap (λ (x : World). x.opens) is) (ap (λ (x : World). length x.links) is ∙ length_changed _ w.links k)
 finds_makes w k trouble s (Err fault) rest u live is =
@@ -94,7 +99,7 @@ event_makes w (StartRun run payload) u (may, (reader, is)) = leaves_as w u _ is 
 event_makes w Connect u (may, (c, there, ready, is)) = joins_as w u _ (ap (λ (x : World). x.hall) is) (ap (λ (x : World). x.opens) is) (ap (λ (x : World). x.links) is)
 event_makes w (Send fails) u (may, (c, step, k, b, there, stage, own, begun, sends)) = sends_makes _ w k c b.payload step u sends
 event_makes w (ToServer k n) u (may, (s, l, reached, live, at, grows, is)) =
-    reads k s (side reached s.session) live refl (ap (λ (x : World). x.hall) is) (ap (λ (x : World). x.opens) is) (ap (λ (x : World). length x.links) is ∙ length_changed _ w.links k)
+    reads k s (side reached s.session) live refl (grows.0.0 ++ take n l.toward, grows.1 grows.0.0 grows.0.1) (ap (λ (x : World). x.hall) is) (ap (λ (x : World). x.opens) is) (ap (λ (x : World). length x.links) is ∙ length_changed _ w.links k)
 event_makes w (Serve k trouble) u (may, (s, found, bytes, rest, live, unread, gives, finds)) = finds_makes w k trouble s found rest u live finds
 event_makes w (ToClient k n) u (may, (l, at, hears)) = hears_makes l.dump w k n _ u hears
 event_makes w (Cut k) u (may, is) = leaves_as w u _ is (changed_alike w _ (λ l. record l { cut = true }) k refl refl refl)

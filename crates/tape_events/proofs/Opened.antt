@@ -250,9 +250,9 @@ makes_opened w u (leaves same) t a b l once n =
     same_opened w u same.opens (as_many w u same.links) (subst (λ (h : Hall). AreLast h w.opens) (sym same.hall) n.last) n
 makes_opened w u (joins is made links) t a b l once n =
     same_opened w u made (omega (arith, links)) (subst (λ (h : Hall). AreLast h w.opens) (sym is) (joined_last w.hall w.opens n.last)) n
-makes_opened w u (reads k s x live session is made links) t a b l once n =
+makes_opened w u (reads k s x live session unread is made links) t a b l once n =
     same_opened w u made (as_many w u links) (read_last w.hall u.hall k s x w.opens live session is n.last) n
-makes_opened w u (serves k s x shop holders opened live comes is made links) t a b l once n = record {
+makes_opened w u (serves k s x shop holders opened live unread comes is made links) t a b l once n = record {
   there = served_there w u k s opened live made links t n;
   last = subst (AreLast u.hall) (sym made) (served_last w.hall u.hall k s x w.opens opened record { was = live; sides = ap (λ (h : Hall). h.sides) is }
       (subst (λ (h : Hall). Comes (scene w.hall.shop s.session) (scene h.shop x.session) opened) (sym is) comes) a b l once n.last);

@@ -34,6 +34,7 @@ use Rattle.tape_events.proofs.Numbers.{changed_is}
 use Rattle.tape_events.proofs.Booked.{Goings, drop_front}
 use Rattle.tape_events.proofs.SentWire.{OneReply, one_heard, reply_whole, reply_no_fault}
 use Rattle.tape_events.proofs.ToldHears.{open_attempt, unlike_close, some_way}
+use Rattle.tape_events.proofs.LabelledSingle.{one_reel}
 use Rattle.tape_events.proofs.SmoothLists.{next_of, length_push, reel_is}
 use Rattle.tape_events.proofs.SmoothCarried.{changed_here, own_told}
 
@@ -157,7 +158,7 @@ counts_now drive w k n c l d b s step at reader kept sm own attempt other stage 
     let one : drop (length c.at.counts) at.counts ≡ v ∷ [] = ap (drop (length c.at.counts)) counted ∙ drop_front c.at.counts (v ∷ []) in
     let all : w.counts ++ map (counts_of w c.number k) (drop (length c.at.counts) at.counts) ≡ w.counts ++ x ∷ []
     = ap (λ cs. w.counts ++ map (counts_of w c.number k) cs) one in
-    let reel : reel_opened_by k w.opens ≡ q.name = reel_is k w.opens q.name q.opened ((kept.single k l d own.there own.dump).one) in
+    let reel : reel_opened_by k w.opens ≡ q.name = reel_is k w.opens q.name q.opened (one_reel w.opens k d (kept.single k l d own.there own.dump)) in
     let below = next_of drive.reels (length w.counts) q.name q.others q.next in
     let size = length_push w.counts x in
     let its : numbered w.begun c.number ≡ Some b = ap (numbered w.begun) (sym attempt.number) ∙ own.begun in

@@ -26,6 +26,7 @@ use Rattle.tape_events.proofs.Laid.{laid_after, online_drive, drive_within}
 use Rattle.tape_events.proofs.Booked.{Goings, booked_after}
 use Rattle.tape_events.proofs.Named.{names_after, named_after, first_named}
 use Rattle.tape_events.proofs.Opened.{opened_after, first_opened, names_differ}
+use Rattle.tape_events.proofs.Readable.{readable_after}
 
 no_number : {X : Type 0} (k : ℕ) (x : X) → numbered {X = X} [] k ≡ Some x → ⊥
 no_number zero x is = cc
@@ -81,6 +82,7 @@ first_kept drives good = record {
   };
   once = first_named drives good;
   opened = first_opened drives;
+  readable = λ k s at. absurd (no_number k (Some s) (side_there (first_world drives).hall k s at));
 }
 
 -- What other crates say of a client, and of requests and replies.
@@ -110,6 +112,7 @@ kept_after g w u event k happens =
       booked = booked_after g.goings w event u k.lawful happens k.booked;
       once = named;
       opened = opened_after w event u happens k.tidy k.held held laid named.once k.opened;
+      readable = readable_after w event u happens k.readable;
     }
 
 -- after every list of events

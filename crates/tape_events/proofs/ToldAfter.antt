@@ -46,7 +46,7 @@ told_after g w (Send fails) u lawful owned tidy booked (may, (c, step, k, b, the
     sends_told g.requests g.labels (is_failing fails step) w k c b step u tidy (lawful c there) own there stage mine sends t
 told_after g w (ToServer k n) u lawful owned tidy booked (may, (s, l, reached, live, at, grows, is)) t =
     subst AreTold (sym is) (reached_told w _ k n s reached live
-    (λ x here bytes unread. subst (λ (z : Link). Unread reached (bytes ++ take n z.toward)) (same_Some l x (sym at ∙ here)) (grows bytes unread))
+    (λ x here bytes unread. subst (λ (z : Link). Unread reached (bytes ++ take n z.toward)) (same_Some l x (sym at ∙ here)) (grows.1 bytes unread))
     refl refl refl refl refl t)
 told_after g w (Serve k trouble) u lawful owned tidy booked (may, (s, found, bytes, rest, live, unread, gives, finds)) t =
     finds_told g.replies g.reading g.dropped w k trouble s found bytes rest u live unread gives finds t

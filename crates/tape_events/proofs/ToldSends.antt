@@ -150,7 +150,7 @@ abbrev pub ShortLabels : Type 0
 ShortLabels = (s : Standing) → IsLawful s → length (label s.run (checkpoint_of s.counts).0 (checkpoint_of s.counts).1) ≤ RECORD_LIMIT
 
 -- the request of a step at the checkpoint is that of the attempt
-same_request : (run : PlainRun) (payload : List (List ℕ)) (counts : List VolumeCount) (step : Step)
+pub same_request : (run : PlainRun) (payload : List (List ℕ)) (counts : List VolumeCount) (step : Step)
     → request_of run payload (checkpoint_of counts).0 (checkpoint_of counts).1 step ≡ request_of run payload (attempt_at step counts).0 (attempt_at step counts).1 step
 same_request run payload counts Open = refl
 same_request run payload counts Rewind = refl

@@ -28,10 +28,10 @@ IsLabelled w k d =
 abbrev pub AreLabelled : World → Type 0
 AreLabelled w = (k : ℕ) (l : Link) (d : Dumping) → link_of w k ≡ Some l → l.dump ≡ Some d → IsLabelled w k d
 
--- All openings of a connection of the client's are of one reel. Before its first request was carried out there is none, and
--- once its label was accepted there is one.
+-- A connection of the client's has one opening at most, by its place in the list. Before its first request was carried out there is
+-- none, and once its label was accepted there is one.
 pub record IsSingle (opens : List Opening) (k : ℕ) (d : Dumping) : Type 0 where
-  pub one : (o p : Opening) → Contains opens o → Contains opens p → o.connection ≡ k → p.connection ≡ k → o.reel ≡ p.reel
+  pub one : (i j : ℕ) (o p : Opening) → numbered opens i ≡ Some o → numbered opens j ≡ Some p → o.connection ≡ k → p.connection ≡ k → i ≡ j
   pub none : d.carried ≡ 0 → (o : Opening) → Contains opens o → o.connection ≡ k → ⊥
   pub some : d.label ≡ true → (reel : List ℕ) × Contains opens (opening k reel)
 

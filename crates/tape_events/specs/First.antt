@@ -1,4 +1,4 @@
--- The world before any event. Public contracts cite it.
+-- The world before any event, and those that events make of it. Public contracts cite it.
 use Rattle.std.specs.Prelude.{◌≡◌, ℕ, IsTrue, List, [], length, map, flat_map, replicate, Some, None}
 use Rattle.std.specs.Int.{IsInRange}
 use Rattle.drives.specs.Shop.{KeptReel, kept_reel, slot, Rack, rack, shop}
@@ -7,7 +7,9 @@ use Rattle.drives.specs.declared.holds.TheConstants.{DRIVE_LIMIT}
 use Rattle.rmt_wire.specs.RequestReader.{Unread}
 use Rattle.rmt_server.specs.Hall.{hall, Side}
 use Rattle.tape_events.specs.World.{World}
+use Rattle.tape_events.specs.Events.{PlainEvent}
 use Rattle.tape_events.specs.Changes.{side_of}
+use Rattle.tape_events.specs.Steps.{Runs}
 
 -- a drive of the first world: its name, how many bytes each of its reels takes, and their names
 pub record PlainDriveSpec : Type 0 where
@@ -38,6 +40,10 @@ first_world drives = record {
   failure = None;
   dates = [];
 }
+
+-- some events made this world of the first world of some drives
+abbrev pub IsReached : World → Type 0
+IsReached w = (drives : List PlainDriveSpec) × (events : List PlainEvent) × AreGoodDrives drives × Runs (first_world drives) events w
 
 -- each connection has a server's side, live or over, and each drive a holder, or 0
 pub record IsPaired (w : World) : Type 0 where

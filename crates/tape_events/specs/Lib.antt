@@ -1,4 +1,4 @@
--- In reading order: World, Events, Changes, Rows, Steps, First; Books, Standing, Headline; Written, Further; Serving, Smooth. How it is
+-- In reading order: World, Events, Changes, Rows, Steps, First; Books, Standing, Headline; Written, Further; Serving, Talk, Smooth. How it is
 -- proved: Owning, Naming, Sending, Attempts, Kept.
 pub mod World
 pub mod Events
@@ -17,4 +17,5 @@ pub mod Owning
 pub mod Sending
 pub mod Attempts
 pub mod Serving
+pub mod Talk
 pub mod Smooth

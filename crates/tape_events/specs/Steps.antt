@@ -95,6 +95,11 @@ Sends true w k c payload step u = (reader : ReplyHeld) × (u ≡ failed_read w k
 Sends false w k c payload step u =
     (reader : ReplyHeld) × HasFedAt (Waiting step) reader [] × (u ≡ asked w k c payload step reader)
 
+-- Something was unread by a reader, if only no bytes; and whatever it was, that piece follows it.
+abbrev pub IsPushed : RequestHeld → List ℕ → RequestHeld → Type 0
+IsPushed before piece after =
+    ((bytes : List ℕ) × Unread before bytes) × ((bytes : List ℕ) → Unread before bytes → Unread after (bytes ++ piece))
+
 -- so many bytes are pushed
 abbrev pub reached_by : World → ℕ → ℕ → Side → RequestHeld → World
 reached_by w k n s reached = record (calm w) {
@@ -170,7 +175,7 @@ WorldStep w (Send fails) u =
     × (numbered w.begun c.number ≡ Some b) × Sends (is_failing fails step) w k c b.payload step u
 WorldStep w (ToServer k n) u =
     (s : Side) × (l : Link) × (reached : RequestHeld) × (side_of w.hall k ≡ Some s) × (link_of w k ≡ Some l)
-    × ((bytes : List ℕ) → Unread s.reached bytes → Unread reached (bytes ++ take n l.toward)) × (u ≡ reached_by w k n s reached)
+    × IsPushed s.reached (take n l.toward) reached × (u ≡ reached_by w k n s reached)
 WorldStep w (Serve k trouble) u =
     (s : Side) × (found : Result (Option PlainRequest) WireFault) × (bytes : List ℕ) × (rest : List ℕ) × (side_of w.hall k ≡ Some s)
     × Unread s.reached bytes × Gives bytes found rest × Finds w k trouble s found rest u

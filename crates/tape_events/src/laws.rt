@@ -1,18 +1,20 @@
 //! What stays so whatever happens, and what one request comes to: laws, each the contract of a call that does nothing.
 
 ghost use Rattle.std.specs.Prelude.{◌≡◌, ◌⊎◌, ℕ, List, ◌++◌};
+ghost use Rattle.rmt_wire.specs.Request.{PlainRequest};
 ghost use Rattle.tape.specs.declared.trouble.Trouble.{Trouble};
 ghost use Rattle.tape_events.specs.World.{World, Dumping};
 ghost use Rattle.tape_events.specs.Changes.{HasDump, calm, ended_at};
 ghost use Rattle.tape_events.specs.Events.{PlainEvent};
 ghost use Rattle.tape_events.specs.Events.PlainEvent.{Serve};
 ghost use Rattle.tape_events.specs.Steps.{Runs, Happens};
-ghost use Rattle.tape_events.specs.First.{PlainDriveSpec, AreGoodDrives, first_world};
+ghost use Rattle.tape_events.specs.First.{PlainDriveSpec, AreGoodDrives, first_world, IsReached};
 ghost use Rattle.tape_events.specs.Headline.{Headline, CountedReels, NoTwoHolders, DumpdatesGained};
 ghost use Rattle.tape_events.specs.Further.{SentRequests, LatchedReels, LabelledReels, ClientsCounts};
 ghost use Rattle.tape_events.specs.Standing.{AreHeld};
 ghost use Rattle.tape_events.specs.Kept.{IsWorldKept};
 ghost use Rattle.tape_events.specs.Naming.{SameNames};
+ghost use Rattle.tape_events.specs.Talk.{Talks, IsBeginning};
 ghost use Rattle.tape_events.specs.Serving.{ServerTurn, IsNextSent, Meets, OthersStay, IsMoveDone, IsWholeInBin};
 
 use dump_client::same_run;
@@ -36,7 +38,8 @@ pub fn one_run()
 /// nothing else, while no session opened that reel for writing since. While its session has the reel in its drive and was not
 /// asked for MTOFFL, the place is the reel's end.
 ///
-/// As many requests were carried out of a client's connection as were sent there, or one fewer; a latched reel is one
+/// As many requests were carried out of a client's connection as were sent there, or one fewer: of all that its client sent,
+/// in order, those that its session carried out are a beginning, and at most the last is not among them. A latched reel is one
 /// session's, and first on the stack of the drive that this holds; and the counts of the client's number are its own.
 ///
 /// It does nothing: its contract is a law of the definitions.
@@ -45,6 +48,7 @@ pub fn kept()
     ensures after { (w u : World) (event : PlainEvent) → IsWorldKept w → Happens w event u → IsWorldKept u }
     ensures runs { (drives : List PlainDriveSpec) (events : List PlainEvent) (w : World) → AreGoodDrives drives →
         Runs (first_world drives) events w → IsWorldKept w }
+    ensures reached { (w : World) → IsReached w → IsWorldKept w }
     ensures names { (w u : World) (event : PlainEvent) → IsWorldKept w → Happens w event u → SameNames w.hall.shop u.hall.shop }
     ensures headline { (w : World) → IsWorldKept w → Headline w }
     ensures holders { (w : World) → IsWorldKept w → AreHeld w.hall }
@@ -53,6 +57,10 @@ pub fn kept()
     ensures counted_reels { (w : World) → IsWorldKept w → CountedReels w }
     ensures dumpdates_gained { (w : World) → IsWorldKept w → DumpdatesGained w }
     ensures sent_requests { (w : World) → IsWorldKept w → SentRequests w }
+    ensures requests { (drives : List PlainDriveSpec) (events : List PlainEvent) (w : World) (k : ℕ) (sent carried : List PlainRequest) →
+        AreGoodDrives drives → Talks k (first_world drives) events w sent carried → IsBeginning w k sent carried }
+    ensures talks { (first w : World) (events : List PlainEvent) (k : ℕ) → Runs first events w →
+        (sent : List PlainRequest) × (carried : List PlainRequest) × Talks k first events w sent carried }
     ensures latched_reels { (w : World) → IsWorldKept w → LatchedReels w }
     ensures clients_counts { (w : World) → IsWorldKept w → ClientsCounts w }
 {

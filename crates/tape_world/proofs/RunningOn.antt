@@ -5,6 +5,7 @@ use Rattle.std.proofs.lemmas.List.{take_more, take_all, length-map}
 use Rattle.std.proofs.lemmas.Option.{same_Some, slice_get-map, slice_get-get_or}
 use Rattle.tape_events.specs.World.{World}
 use Rattle.tape_events.specs.Events.{PlainEvent}
+use Rattle.tape_events.specs.First.{IsReached}
 use Rattle.tape_events.specs.Rows.{Possible}
 use Rattle.tape_events.specs.Steps.{Runs, one_more}
 use Rattle.tape_world.specs.declared.event.Event.{Event}
@@ -13,6 +14,12 @@ use Rattle.tape_world.specs.declared.stop.EventStop.TheVariants as stops
 use Rattle.tape_world.specs.declared.fault.WorldFault.{WorldFault}
 use Rattle.tape_world.specs.Holding.{IsEvent}
 use Rattle.tape_world.specs.Running.{plain_event, fault_place, fault_at, IsStopped, IsEventRefused}
+
+-- a world that is reached stays so
+pub reached_on : (w u : World) (event : PlainEvent) (result : Result Unit EventStop) → IsReached w → IsEvent w event result u → IsReached u
+reached_on w u event (Ok x) (drives, events, good, run) happens = (drives, events ++ event ∷ [], good, one_more event run happens)
+reached_on w u event (Err stops.NotPossible) reached same = subst IsReached (sym same.0) reached
+reached_on w u event (Err stops.OutOfMemory) reached same = subst IsReached (sym same) reached
 
 -- the event of a place
 pub event_at : (events : List Event) (i : ℕ) (event d : Event) → i < length events → event ≡ slice_index_or events i d

@@ -4,7 +4,7 @@ mod reels;
 mod telling;
 
 ghost use Rattle.std.specs.Prelude.{◌≡◌, IfOk, map};
-ghost use Rattle.tape_events.specs.First.{AreGoodDrives, first_world};
+ghost use Rattle.tape_events.specs.First.{AreGoodDrives, first_world, IsReached};
 ghost use Rattle.tape_events.specs.Headline.{Headline, CountedReels, NoTwoHolders, DumpdatesGained};
 ghost use Rattle.tape_events.specs.Further.{SentRequests, LatchedReels, LabelledReels, ClientsCounts};
 ghost use Rattle.tape_events.specs.Standing.{AreHeld};
@@ -24,7 +24,8 @@ use tape_events::kept;
 
 /// A server with its drives, all connections that were ever made, and a client.
 ///
-/// Contracts see all of it as plain data, and what stays so whatever happens.
+/// Contracts see all of it as plain data. It is what some events made of the first world of some drives, so that each law of
+/// what stays so whatever happens speaks of it.
 #[derive(Drop)]
 pub struct World {
     ends: Ends,
@@ -32,13 +33,13 @@ pub struct World {
 
 impl Model for World {
     ghost use Rattle.tape_events.specs.World.{World};
-    ghost use Rattle.tape_events.specs.Kept.{IsWorldKept};
+    ghost use Rattle.tape_events.specs.First.{IsReached};
 
     ghost Value = { World };
 
     ghost view = { λ w. w.ends };
 
-    ghost invariant = { λ w. IsWorldKept w.ends };
+    ghost invariant = { λ w. IsReached w.ends };
 }
 
 impl World {
@@ -50,7 +51,6 @@ impl World {
         requires { AreGoodDrives (map plain_drive_spec drives.now) }
         ensures { IfOk result (λ w. w ≡ first_world (map plain_drive_spec drives.now)) }
     {
-        kept();
         let ends = Ends::new(alloc, drives)?;
         Ok(World { ends })
     }
@@ -65,12 +65,13 @@ impl World {
     /// meets a device fault or a session opens the reel for writing; until MTOFFL the place of its session is the reel's end. The
     /// counts of the client's number are those that the client has.
     ///
-    /// All of it follows from what stays so (`kept`): who holds the drives, where reels lie, whose openings are last, what each
+    /// Some events made it of the first world of some drives (`reached`), and all of it follows from what stays so (`kept`): who holds the drives, where reels lie, whose openings are last, what each
     /// attempt wrote, which counts are the client's own, and what dumpdates gained.
     ///
     /// It does nothing: its contract is what is told.
     pub fn kept(&self)
         ensures headline { Headline self.now }
+        ensures reached { IsReached self.now }
         ensures kept { IsWorldKept self.now }
         ensures holders { AreHeld self.now.hall }
         ensures no_two_holders { NoTwoHolders self.now }
@@ -90,7 +91,6 @@ impl World {
     pub(crate) fn make(&mut self, event: &Event<'_>) -> Result<(), EventStop>
         ensures { IsEvent self.old (plain_event event.now) result self.new }
     {
-        kept();
         self.ends.make(event)
     }
 }

@@ -11,6 +11,7 @@ ghost use Rattle.tape_world.specs.Entries.{AreOpenThere, entry_on, tape_online, 
 use super::World;
 use drives::ListedReel;
 use tape::TroubledReel;
+use tape_events::kept;
 use tape_host::Host;
 
 /// Whether the first reel of a stack has that name. No reel has the name of none.
@@ -61,6 +62,7 @@ impl World {
         ensures told { result ≡ told_length (entry_on self.now reel.now i) }
         ensures copied { into.new ≡ with_front (told_bytes (entry_on self.now reel.now i)) into.old }
     {
+        kept();
         if let Some(lying) = self.ends.host.reel(reel) {
             return lying.entry(i, into);
         }

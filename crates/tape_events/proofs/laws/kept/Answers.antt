@@ -1,4 +1,5 @@
 use Rattle.tape_events.proofs.Staying.{first_kept, kept_after, runs_kept, kept_names, headline, no_two_holders, reels_labelled, reels_counted, dumpdates_gained, sent_requests, latched_reels, clients_counts}
+use Rattle.tape_events.proofs.Talked.{requests, talks}
 use Rattle.tape_events.specs.First.{first_world}
 use Rattle.tape_events.proofs.laws.kept.Goals as goal
 
@@ -17,6 +18,16 @@ returns-clause-after c = kept_after record {
 
 pub returns-clause-runs : goal.returns-clause-runs
 returns-clause-runs c = λ drives events w good run. runs_kept record {
+  goings = (c.same_run.ensures.fed, c.same_run.ensures.cut);
+  lawfully = (c.same_run.ensures.fed_lawful, c.same_run.ensures.cut_lawful);
+  standings = (c.same_run.ensures.fed_stands, c.same_run.ensures.cut_stands);
+  reading = c.one_reading.ensures.answers;
+  dropped = c.dropped_writes.ensures;
+  reply = c.one_reply.ensures;
+} (first_world drives) w events (first_kept drives good) run
+
+pub returns-clause-reached : goal.returns-clause-reached
+returns-clause-reached c = λ w (drives, events, good, run). runs_kept record {
   goings = (c.same_run.ensures.fed, c.same_run.ensures.cut);
   lawfully = (c.same_run.ensures.fed_lawful, c.same_run.ensures.cut_lawful);
   standings = (c.same_run.ensures.fed_stands, c.same_run.ensures.cut_stands);
@@ -48,6 +59,19 @@ returns-clause-dumpdates_gained c = dumpdates_gained
 
 pub returns-clause-sent_requests : goal.returns-clause-sent_requests
 returns-clause-sent_requests c = sent_requests
+
+pub returns-clause-requests : goal.returns-clause-requests
+returns-clause-requests c = λ drives events w k sent carried good told. requests record {
+  goings = (c.same_run.ensures.fed, c.same_run.ensures.cut);
+  lawfully = (c.same_run.ensures.fed_lawful, c.same_run.ensures.cut_lawful);
+  standings = (c.same_run.ensures.fed_stands, c.same_run.ensures.cut_stands);
+  reading = c.one_reading.ensures.answers;
+  dropped = c.dropped_writes.ensures;
+  reply = c.one_reply.ensures;
+} k drives w events sent carried good told
+
+pub returns-clause-talks : goal.returns-clause-talks
+returns-clause-talks c = λ first w events k run. talks k first w events run
 
 pub returns-clause-latched_reels : goal.returns-clause-latched_reels
 returns-clause-latched_reels c = latched_reels

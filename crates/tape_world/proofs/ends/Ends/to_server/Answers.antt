@@ -58,7 +58,7 @@ returns c =
         push.reached,
         push.live,
         there,
-        (λ bytes unread. subst (λ b. Unread push.reached (bytes ++ take c.args.count b)) c.bytes-way.ensures (push.unread bytes unread)),
+        (c.self.invariant.0.readable c.args.connection push.side_is push.live, λ bytes unread. subst (λ b. Unread push.reached (bytes ++ take c.args.count b)) c.bytes-way.ensures (push.unread bytes unread)),
         ap (λ ls. record (calm w) { hall = c.push.new.self.hall; links = ls }) links
             ∙ ap (λ h. record (calm w) { hall = h; links = changed (arrived c.args.count) w.links c.args.connection }) push.hall_is,
       ),

@@ -1,7 +1,8 @@
-use Rattle.std.proofs.Common.{sym, subst, map}
-use Rattle.tape_events.specs.Kept.{IsWorldKept}
+use Rattle.std.proofs.Common.{[], sym, subst, map}
+use Rattle.tape_events.specs.First.{IsReached}
+use Rattle.tape_events.specs.Steps.{none}
 use Rattle.tape_world.specs.Making.{plain_drive_spec}
 use Rattle.tape_world.proofs.world.World.new.Goals as goal
 
 pub invariant_of-result : goal.invariant_of-result
-invariant_of-result c = subst IsWorldKept (sym c.in_ok-ends.ensures) (c.kept.ensures.first (map plain_drive_spec c.args.drives.now) c.requires)
+invariant_of-result c = subst IsReached (sym c.in_ok-ends.ensures) (map plain_drive_spec c.args.drives.now, [], c.requires, none)
