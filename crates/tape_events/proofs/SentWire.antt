@@ -192,7 +192,7 @@ letter_no_more letter bytes false is =
     let size = ap (λ b. length (if b then letter ∷ kept_behind (number_front places.Line bytes) bytes else letter ∷ bytes)) is in
     omega (arith, size)
 
-no_more_kept : (bytes : List ℕ) → length (kept_of bytes) ≤ length bytes
+pub no_more_kept : (bytes : List ℕ) → length (kept_of bytes) ≤ length bytes
 unfolding kept_of
 no_more_kept [] = omega arith
 no_more_kept (letter ∷ bytes) = letter_no_more letter bytes (letter == 69) refl

@@ -353,13 +353,13 @@ finds_talked g h w u k j trouble s (Err fault) bytes rest sent carried more done
     still_talked w u k sent carried more done on (dumped_as k w u _ is (changed_dumped k w.links w.links over_here j (λ x. refl) (same_dumped k w.links))) nothing some t
 finds_talked g h w u k j trouble s (Ok (Some request)) bytes rest sent carried more done kept on live unread gives (reply, reached, shop, session, holders, left, served, is) nothing
     some t = elim (eqb_tells j k) [
-  | inr (unequal, other) ↦
-      still_talked w u k sent carried more done on (dumped_as k w u _ is (other_dumped k w.links _ j other)) nothing (some ∙ ap (λ e. one_if_here e request) unequal) t
-  | inl (equal, same) ↦
-      subst (λ m. IsTalked u k m (carried ++ done)) (sym (ap (λ m. sent ++ m) nothing ∙ append-nil sent))
-      (subst (λ m. IsTalked u k sent (carried ++ m)) (sym (some ∙ ap (λ e. one_if_here e request) equal))
-      (subst (λ i. IsTalked u i sent (carried ++ request ∷ [])) same (serves_talked g h w u v sent carried kept on (subst (λ i. IsTalked w i sent carried) (sym same) t))))
-]
+      | inr (unequal, other) ↦
+          still_talked w u k sent carried more done on (dumped_as k w u _ is (other_dumped k w.links _ j other)) nothing (some ∙ ap (λ e. one_if_here e request) unequal) t
+      | inl (equal, same) ↦
+          subst (λ m. IsTalked u k m (carried ++ done)) (sym (ap (λ m. sent ++ m) nothing ∙ append-nil sent))
+          (subst (λ m. IsTalked u k sent (carried ++ m)) (sym (some ∙ ap (λ e. one_if_here e request) equal))
+          (subst (λ i. IsTalked u i sent (carried ++ request ∷ [])) same (serves_talked g h w u v sent carried kept on (subst (λ i. IsTalked w i sent carried) (sym same) t))))
+    ]
   where
     v : Serves w u
     v = record {

@@ -31,8 +31,8 @@ Sent k w (Send fails) requests =
     (c : Caller) × (step : Step) × (j : ℕ) × (b : Begun) × (w.caller ≡ Some c) × (c.at.stage ≡ ToSend step) × (w.own ≡ Some j)
     × (numbered w.begun c.number ≡ Some b)
     × (requests
-        ≡ sent_here (is_failing fails step) (j == k)
-            (request_of c.at.run b.payload (checkpoint_of c.at.counts).0 (checkpoint_of c.at.counts).1 step))
+    ≡ sent_here (is_failing fails step) (j == k)
+    (request_of c.at.run b.payload (checkpoint_of c.at.counts).0 (checkpoint_of c.at.counts).1 step))
 Sent k w event requests = requests ≡ []
 
 -- a request that was found is carried out; a fault is not

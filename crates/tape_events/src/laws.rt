@@ -7,6 +7,7 @@ ghost use Rattle.tape_events.specs.World.{World, Dumping};
 ghost use Rattle.tape_events.specs.Changes.{HasDump, calm, ended_at};
 ghost use Rattle.tape_events.specs.Events.{PlainEvent};
 ghost use Rattle.tape_events.specs.Events.PlainEvent.{Serve};
+ghost use Rattle.tape_events.specs.Rows.{Possible};
 ghost use Rattle.tape_events.specs.Steps.{Runs, Happens};
 ghost use Rattle.tape_events.specs.First.{PlainDriveSpec, AreGoodDrives, first_world, IsReached};
 ghost use Rattle.tape_events.specs.Headline.{Headline, CountedReels, NoTwoHolders, DumpdatesGained};
@@ -18,7 +19,7 @@ ghost use Rattle.tape_events.specs.Talk.{Talks, IsBeginning};
 ghost use Rattle.tape_events.specs.Serving.{ServerTurn, IsNextSent, Meets, OthersStay, IsMoveDone, IsWholeInBin};
 
 use dump_client::same_run;
-use rmt_wire::{dropped_writes, one_reading, one_reply};
+use rmt_wire::{dropped_writes, one_reading, one_reply, one_reply_reading};
 
 /// Two lists of events that follow each other are one list of events.
 ///
@@ -30,7 +31,7 @@ pub fn one_run()
 {}
 
 /// What stays so whatever happens: the first world of good drives has it, each event leaves it, and so it holds after every
-/// list of events. No event takes a reel away, or brings one. So the holder of a drive is the connection whose live side has
+/// list of events. Each event that is possible has a world after it (`steps`). No event takes a reel away, or brings one. So the holder of a drive is the connection whose live side has
 /// it open, and no drive has two; each reel that was counted, and that no session opened for writing since, holds exactly its
 /// volume; and dumpdates gained only dumps whose counted volumes are all their blocks in order.
 ///
@@ -49,6 +50,7 @@ pub fn kept()
     ensures runs { (drives : List PlainDriveSpec) (events : List PlainEvent) (w : World) → AreGoodDrives drives →
         Runs (first_world drives) events w → IsWorldKept w }
     ensures reached { (w : World) → IsReached w → IsWorldKept w }
+    ensures steps { (w : World) (event : PlainEvent) → IsWorldKept w → Possible w event → (u : World) × Happens w event u }
     ensures names { (w u : World) (event : PlainEvent) → IsWorldKept w → Happens w event u → SameNames w.hall.shop u.hall.shop }
     ensures headline { (w : World) → IsWorldKept w → Headline w }
     ensures holders { (w : World) → IsWorldKept w → AreHeld w.hall }
@@ -68,6 +70,7 @@ pub fn kept()
     one_reading();
     dropped_writes();
     one_reply();
+    one_reply_reading();
 }
 
 /// What one request comes to that the server carries out, in a world where all is kept.

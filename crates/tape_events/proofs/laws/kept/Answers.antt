@@ -1,4 +1,5 @@
 use Rattle.tape_events.proofs.Staying.{first_kept, kept_after, runs_kept, kept_names, headline, no_two_holders, reels_labelled, reels_counted, dumpdates_gained, sent_requests, latched_reels, clients_counts}
+use Rattle.tape_events.proofs.Steppable.{steps}
 use Rattle.tape_events.proofs.Talked.{requests, talks}
 use Rattle.tape_events.specs.First.{first_world}
 use Rattle.tape_events.proofs.laws.kept.Goals as goal
@@ -35,6 +36,9 @@ returns-clause-reached c = λ w (drives, events, good, run). runs_kept record {
   dropped = c.dropped_writes.ensures;
   reply = c.one_reply.ensures;
 } (first_world drives) w events (first_kept drives good) run
+
+pub returns-clause-steps : goal.returns-clause-steps
+returns-clause-steps c = steps c.one_reply_reading.ensures.some_answer c.dropped_writes.ensures
 
 pub returns-clause-names : goal.returns-clause-names
 returns-clause-names c = kept_names
