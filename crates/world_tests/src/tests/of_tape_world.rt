@@ -3,6 +3,7 @@
 mod dump;
 mod laws;
 mod line;
+mod many;
 mod moments;
 mod place;
 mod reels;

@@ -3,7 +3,7 @@
 use super::fixture::{Case, check_cases};
 use std::test::Fail;
 
-static RUNS: [Case; 8] = [
+static RUNS: [Case; 10] = [
     // The answer to MTOFFL is lost: the first reel has a whole volume and is not counted.
     Case {
         text: b"drive /dev/st0 3100 r1 r2 r3\n\
@@ -100,6 +100,42 @@ static RUNS: [Case; 8] = [
     stack /dev/st0 r1\n\
     bin\n\
     dumpdates\n",
+        status: 0,
+    },
+    // More entries than any number of 32 bits tells were to be written before a fault: all are.
+    Case {
+        text: b"drive /dev/st0 3100 r1\n\
+    run /dev/st0 /usr 0 951782400 0 1024 1\n\
+    connect\n\
+    pump 1 2\n\
+    send\n\
+    to-server 1 all\n\
+    serve 1 written 4294967296\n",
+        printed: b"reel r1 R1024\n\
+    stack /dev/st0 r1\n\
+    bin\n\
+    dumpdates\n",
+        status: 0,
+    },
+    // A run is abandoned, and the next one is begun.
+    Case {
+        text: b"drive /dev/st0 3100 r1\n\
+    run /dev/st0 /usr 0 951782400 0 1024 1\n\
+    connect\n\
+    cut 1\n\
+    end-client 1\n\
+    abandon\n\
+    run /dev/st0 /home 0 951782400 0 1024 1\n\
+    connect\n\
+    pump 2 9\n\
+    enter\n",
+        printed: b"volume 1 failed: ConnectionEnded\n\
+    reel r1 R1024 R1024 M\n\
+    stack /dev/st0\n\
+    bin r1\n\
+    counted 2 1 0 1 r1\n\
+    dumpdates\n\
+    /home                            0 Tue Feb 29 00:00:00 2000\n",
         status: 0,
     },
     // A stranger opens the drive, and sends a part of a write.
