@@ -28,6 +28,7 @@ CHECKS = {
     "recipes.py": ("rmtd", "rdump", "rsim"),
     "dump.py": ("rmtd", "rdump"),
     "clients.py": ("rmtd",),
+    "cuts.py": ("rsim",),
     "rows.py": ("rmtd",),
     "dates.py": ("rdump",),
 }
