@@ -27,6 +27,7 @@ CHECKS = {
     "schedules.py": ("rsim",),
     "recipes.py": ("rmtd", "rdump", "rsim"),
     "dump.py": ("rmtd", "rdump"),
+    "relay.py": ("rmtd", "rdump"),
     "clients.py": ("rmtd",),
     "cuts.py": ("rsim",),
     "rows.py": ("rmtd",),
