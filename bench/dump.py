@@ -40,7 +40,7 @@ DONE_ONE = b"A1\n"
 def listening(rmtd: str) -> Iterator[tuple[str, subprocess.Popen[bytes]]]:
     """A server that listens, and its address."""
     words = (rmtd, "--listen", "127.0.0.1:0", "--capacity", str(ROOM))
-    with subprocess.Popen(words, stdout=subprocess.PIPE) as server:
+    with subprocess.Popen(words, stdout=subprocess.PIPE, stderr=subprocess.DEVNULL) as server:
         try:
             found = re.search(r"listening on (.+)\n", server.stdout.readline().decode())
             yield found[1], server

@@ -74,7 +74,7 @@ class Server:
             it.mkdir()
         words = [program, "--listen", "127.0.0.1:0", "--capacity", str(capacity), "--bin", str(self.bin)]
         words += [f"/dev/st{number}={it}" for number, it in enumerate(self.stacks)]
-        self.process = subprocess.Popen(words, stdout=subprocess.PIPE)
+        self.process = subprocess.Popen(words, stdout=subprocess.PIPE, stderr=subprocess.DEVNULL)
         found = re.search(r"listening on (.+):(\d+)\n", self.process.stdout.readline().decode())
         self.address = (found[1], int(found[2]))
 

@@ -21,9 +21,12 @@ import subprocess
 import sys
 import tempfile
 import threading
+import time
+from collections import Counter
 from contextlib import contextmanager
+from functools import cache
 from pathlib import Path
-from typing import Any, Callable, Iterator
+from typing import IO, Any, Callable, Iterator
 
 from checks import check, ended
 from model_rmtd import Entry, entries_of, images
@@ -34,11 +37,21 @@ FAILED = 1
 
 # What takes longer is killed, so that the checks end.
 GUARD_SECONDS = 60
+
+# A move waits for the bin's lock for a second by the clock, on a busy machine for more.
+LOCK_GUARD_SECONDS = 15
+
+# For so long a call of the system is held up.
+DELAY_SECONDS = 3
+
+# A folder on another file system than that of the others.
+MEMORY = "/dev/shm"
 CLOSE, REWIND, OFFLINE, NOTHING = b"C\n", b"I5\n1\n", b"I6\n1\n", b"I7\n1\n"
 DONE, DONE_ONE = b"A0\n", b"A1\n"
 IO_ERROR = b"E5\nInput/output error\n"
 NO_REEL = b"E6\nDevice not configured\n"
 BAD_DESCRIPTOR = b"E9\nBad file descriptor\n"
+NO_SPACE = b"E28\nNo space left on device\n"
 
 
 def opened(mode: int = 2, device: str = DEVICE) -> bytes:
@@ -291,6 +304,10 @@ class Talk:
             self.process.stdin.write(request)
         except BrokenPipeError:
             return b""
+        return self.replied(request)
+
+    def replied(self, request: bytes) -> bytes:
+        """The whole reply to a request that was sent."""
         reply = self.process.stdout.readline()
         if reply.startswith(b"E"):
             return reply + self.process.stdout.readline()
@@ -305,6 +322,12 @@ class Talk:
         for number, (request, reply) in enumerate(exchanges, 1):
             got = self.ask(request)
             check(f"{title}: request {number}", got == reply, request[:40], got[:40], reply[:40])
+
+    def server(self) -> int | None:
+        """The process of the server, where it was started through another program; None where that has not started it yet."""
+        own = self.process.pid
+        below = Path(f"/proc/{own}/task/{own}/children").read_text().split()
+        return int(below[0]) if below else None
 
     def end(self) -> int:
         """Ends the input, and answers the status."""
@@ -360,13 +383,109 @@ def two_movers(shop: Site) -> None:
     try:
         with talking(shop) as talk:
             fcntl.flock(bin, fcntl.LOCK_EX)
-            talk.asks("a bin that is locked", (opened(), DONE), (b"I3\n1\n", DONE_ONE), (OFFLINE, IO_ERROR), (b"R9\n", b"A5\nfirst"))
+            talk.asks("a bin that is locked", (opened(), DONE), (b"I3\n1\n", DONE_ONE))
+            began, used = time.monotonic(), processor_seconds(talk.process.pid)
+            talk.asks("a bin that is locked, a move", (OFFLINE, IO_ERROR))
+            took, used = time.monotonic() - began, processor_seconds(talk.process.pid) - used
+            check("a bin that is locked: a move waits for about a second", 0.9 < took < LOCK_GUARD_SECONDS, took)
+            check("a bin that is locked: a move that waits sleeps", used < 0.3, used)
+            talk.asks("a bin that is locked, afterwards", (b"R9\n", b"A5\nfirst"))
             check("a bin that is locked: nothing is moved", not [*shop.bin.iterdir()])
             fcntl.flock(bin, fcntl.LOCK_UN)
             talk.asks("a bin that is locked no more", (OFFLINE, DONE_ONE), (NOTHING, NO_REEL))
             check("a bin that is locked no more: the reel is moved", [it.name for it in shop.bin.iterdir()] == ["r1"])
     finally:
         os.close(bin)
+
+
+def processor_seconds(process: int) -> float:
+    """The processor time that a process has used."""
+    parts = Path(f"/proc/{process}/stat").read_text().rpartition(")")[2].split()
+    return (int(parts[11]) + int(parts[12])) / os.sysconf("SC_CLK_TCK")
+
+
+def others_files(program: str) -> None:
+    """A reel's file that others have renamed, moved or replaced, as an operator and another server do."""
+    while_renamed(program)
+    replaced(program)
+    moved_meanwhile(program)
+
+
+# Gives a file one name after the other, some thousand a second, until its input ends.
+RENAMES = """import os, sys, threading, time
+threading.Thread(target=lambda: (sys.stdin.read(), os._exit(0)), daemon=True).start()
+print(flush=True)
+while True:
+    for old, new in (("r1", "r2"), ("r2", "r0"), ("r0", "r1")):
+        os.rename(old, new)
+        time.sleep(0.0002)
+"""
+
+
+def while_renamed(program: str) -> None:
+    """An operator who gives the files of a stack other names while a drive is opened again and again meets no error of the device."""
+    opens = 3_000
+    with site(program) as shop:
+        for name in ("r1", "r5"):
+            shop.reel(name, name.encode())
+        how = {"stdin": subprocess.PIPE, "stdout": subprocess.PIPE}
+        with subprocess.Popen([sys.executable, "-c", RENAMES], cwd=shop.stack, **how) as operator:
+            operator.stdout.readline()
+            got = run(shop.words, shop.folder, input=(opened(0) + CLOSE) * opens)
+            operator.stdin.close()
+        replies = Counter(got.stdout.splitlines(keepends=True))
+        check("a stack whose files are renamed", (got.returncode, replies) == (0, {DONE: 2 * opens}), replies)
+
+
+def replaced(program: str) -> None:
+    """A file that has taken a latched reel's name is not moved in its place."""
+    with site(program) as shop, talking(shop) as talk:
+        reel = shop.reel("r1", b"latched")
+        talk.asks("a reel that is renamed", (opened(), DONE), (b"R9\n", b"A7\nlatched"))
+        reel.rename(shop.stack / "r2")
+        talk.asks("a reel that is renamed, a move", (OFFLINE, IO_ERROR))
+        shop.reel("r1", b"other")
+        talk.asks("a reel whose name another file has", (OFFLINE, IO_ERROR), (b"R9\n", b"A7\nlatched"), (CLOSE, DONE))
+        check("a reel whose name another file has: nothing is moved", not [*shop.bin.iterdir()])
+        check("a reel whose name another file has: both stand", {it.name for it in shop.stack.iterdir()} == {"r1", "r2"})
+
+
+def moved_meanwhile(program: str) -> None:
+    """A reel that another server moves to the bin, after its file was opened here and before it is locked, is not latched."""
+    if not traced():
+        return
+    slowly = ("strace", "-f", "-o", os.devnull, "-e", f"inject=flock:delay_enter={DELAY_SECONDS}000000:when=1")
+    with site(program) as shop:
+        reel = shop.reel("r1")
+        with talking(shop) as first, talking(shop, slowly) as second:
+            first.asks("a reel that is moved meanwhile, the first server", (opened(), DONE), (write(b"first"), b"A5\n"))
+            second.process.stdin.write(opened())
+            check("a reel that is moved meanwhile: the second has its file open", comes_true(lambda: has_open(second.server(), reel)))
+            first.asks("a reel that is moved meanwhile, by the first server", (OFFLINE, DONE_ONE))
+            check("a reel that is moved meanwhile: it is not latched", second.replied(opened()) == NO_REEL)
+            second.asks("a reel that is moved meanwhile, the second server", (write(b"second"), BAD_DESCRIPTOR))
+            check("a reel that is moved meanwhile: it stands", data_of(shop.bin / "r1") == images([b"first"]))
+
+
+def has_open(process: int | None, path: Path) -> bool:
+    """Whether a process has the file open."""
+    if process is None:
+        return False
+    handles = Path(f"/proc/{process}/fd")
+    return any(os.readlink(it) == str(path) for it in handles.iterdir())
+
+
+def comes_true(holds: Callable[[], bool]) -> bool:
+    """Whether it holds before long."""
+    ends = time.monotonic() + GUARD_SECONDS
+    while time.monotonic() < ends:
+        try:
+            if holds():
+                return True
+        except OSError:
+            pass
+        time.sleep(0.01)
+    return False
 
 
 def names(program: str) -> None:
@@ -395,6 +514,14 @@ def names(program: str) -> None:
         Path(os.fsdecode(os.fsencode(shop.stack) + b"/r\xff")).touch()
         with talking(shop) as talk:
             talk.asks("a name that is no text", (opened(), IO_ERROR))
+    with site(program) as shop:
+        hidden = shop.reel(".r1.swp", b"hidden")
+        Path(os.fsdecode(os.fsencode(shop.stack) + b"/.\xff")).touch()
+        with talking(shop) as talk:
+            talk.asks("names with a dot before them are no reels", (opened(), NO_REEL))
+            shop.reel("r1", b"plain")
+            talk.asks("a plain file among them is one", (opened(), DONE), (b"R9\n", b"A5\nplain"), (OFFLINE, DONE_ONE), (opened(), NO_REEL))
+        check("names with a dot before them: they stand", hidden.read_bytes() == images([b"hidden"]))
     taken(program)
 
 
@@ -440,14 +567,16 @@ SYNCS = "fsync,fdatasync"
 MOVES = "rename,renameat,renameat2"
 
 
+@cache
 def traced() -> bool:
     """Whether calls of the system can be told here, and made to fail."""
-    if absent("strace"):
+    if not shutil.which("strace"):
+        print("skipped: what the system is asked for: strace is not on this machine")
         return False
     words = ["strace", "-f", "-y", "-o", os.devnull, "-e", f"inject={SYNCS}:error=EIO:when=1", "true"]
     if subprocess.run(words, capture_output=True, check=False).returncode == 0:
         return True
-    print("skipped: strace may not be used")
+    print("skipped: what the system is asked for: strace may not be used")
     return False
 
 
@@ -464,7 +593,8 @@ def on_the_disk(program: str) -> None:
             talk.end()
         calls = list(steps(log.read_text(errors="replace")))
         wanted = ["sync r1", "move", "sync bin", "sync st0", "reply"]
-        check("a move that is traced: the order", [*calls[:2], *sorted(calls[2:4]), *calls[4:]] == wanted, calls, wanted)
+        check("a move that is traced: the order", calls == wanted, calls, wanted)
+    synced_at_a_close(program)
     for title, fault, fails in (
         ("the sync of the reel", f"{SYNCS}:error=EIO:when=1", True),
         ("the sync of one folder", f"{SYNCS}:error=EIO:when=2", False),
@@ -482,6 +612,32 @@ def on_the_disk(program: str) -> None:
                 talk.asks(f"{title} fails, then", (OFFLINE, DONE_ONE), (NOTHING, NO_REEL), (CLOSE, DONE), (opened(), NO_REEL))
                 check(f"{title} fails: the reel is moved then", data_of(shop.bin / "r1") == data and not [*shop.stack.iterdir()])
                 talk.end()
+
+
+def synced_at_a_close(program: str) -> None:
+    """A close, or the end of a session, syncs a reel that was written to, and no other; a sync that fails changes no answer."""
+    reads, end = (b"R9\n", b"A4\ndata"), (b"R9\n", DONE)
+    for title, exchanges, wanted in (
+        ("a record is written", ((write(b"data"), b"A4\n"), (CLOSE, DONE)), ["sync r1"]),
+        ("a record is written anew", ((write(b"DATA"), b"A4\n"), (CLOSE, DONE)), ["sync r1"]),
+        ("marks are written", ((b"I3\n1\n", DONE_ONE), (b"I0\n2\n", b"A2\n"), (CLOSE, DONE)), ["sync r1"]),
+        ("a record is written, and there is no close", ((write(b"data"), b"A4\n"),), ["sync r1"]),
+        ("it is read", (reads, end, (CLOSE, DONE)), []),
+        ("no marks are written", ((b"I0\n0\n", DONE), (CLOSE, DONE)), []),
+        ("it is read, after a close that synced", ((write(b"data"), b"A4\n"), (CLOSE, DONE), (opened(), DONE), reads, (CLOSE, DONE)), ["sync r1"]),
+    ):
+        with site(program) as shop:
+            reel, log = shop.reel("r1", b"data"), shop.folder / "calls"
+            with talking(shop, ("strace", "-f", "-y", "-o", str(log), "-e", f"trace={SYNCS},{MOVES}")) as talk:
+                talk.asks(f"a close where {title}", (opened(), DONE), *exchanges)
+                check(f"a close where {title}: it ends well", talk.end() == 0)
+            calls = [*steps(log.read_text(errors="replace"))]
+            check(f"a close where {title}: the syncs", calls == wanted, calls, wanted)
+    with site(program) as shop:
+        reel = shop.reel("r1")
+        with talking(shop, ("strace", "-f", "-o", os.devnull, "-e", f"inject={SYNCS}:error=EIO:when=1+")) as talk:
+            talk.asks("a close whose sync fails", (opened(), DONE), (write(b"data"), b"A4\n"), (CLOSE, DONE), (opened(), DONE), reads)
+            check("a close whose sync fails: it ends well", talk.end() == 0)
 
 
 def steps(log: str) -> Iterator[str]:
@@ -537,7 +693,7 @@ def faults(program: str) -> None:
         ("a stack that can't be listed", lambda shop: access(shop.stack, 0o300)),
         ("a stack that is gone", lambda shop: away(shop.stack)),
         ("a reel that can't be read", lambda shop: access(shop.stack / "r1", 0o200)),
-        ("a reel that can't be written", lambda shop: access(shop.stack / "r1", 0o400)),
+        ("a reel that can't be opened", lambda shop: access(shop.stack / "r1", 0o000)),
     )
     for title, change in changes:
         with site(program) as shop:
@@ -546,11 +702,43 @@ def faults(program: str) -> None:
                 talk.asks(f"{title}, before", (opened(), DONE), (write(b"before"), b"A6\n"), (b"I0\n1\n", DONE_ONE), (CLOSE, DONE))
                 with change(shop):
                     replies = talk.ask(opened()), talk.ask(write(b"x"))
-                check(f"{title}: an error of the device", replies in ((IO_ERROR, BAD_DESCRIPTOR), (DONE, IO_ERROR)), replies)
+                check(f"{title}: an error of the device", replies == (IO_ERROR, BAD_DESCRIPTOR), replies)
                 check(f"{title}: the reel stands", reel.read_bytes() == data)
                 talk.asks(f"{title}, afterwards", (opened(), DONE), (b"R9\n", b"A6\nbefore"), (write(b"x"), DONE_ONE), (CLOSE, DONE))
                 check(f"{title}: it ends well", talk.end() == 0)
+    protected(program)
     failing_moves(program)
+
+
+def protected(program: str) -> None:
+    """A reel whose file may only be read is opened in any mode and read, and what would change it is an error of the device."""
+    entries = (b"before", None)
+    changes = (write(b"x"), IO_ERROR), (b"I0\n1\n", IO_ERROR)
+    reads = (b"R9\n", b"A6\nbefore"), (b"R9\n", DONE)
+    with site(program, capacity=100) as shop:
+        reel = shop.reel("r1", *entries)
+        with access(reel, 0o400), talking(shop, **as_nobody(shop)) as talk, reel.open("rb") as other:
+            talk.asks("a protected reel, to read", (opened(0), DONE), *reads, (write(b"x"), BAD_DESCRIPTOR), (CLOSE, DONE))
+            talk.asks("a protected reel, to write", (opened(1), DONE), *changes, (b"R9\n", BAD_DESCRIPTOR), (CLOSE, DONE))
+            talk.asks("a protected reel", (opened(), DONE), *changes, *reads, *changes, (REWIND, DONE_ONE), *reads)
+            talk.asks("a protected reel, what changes nothing", (b"I0\n0\n", DONE), (write(b"w" * 200), DONE), (b"I0\n90\n", NO_SPACE))
+            check("a protected reel: it is locked", not locks(other))
+            talk.asks("a protected reel is closed", (CLOSE, DONE))
+            check("a protected reel is closed: it is locked no more", locks(other))
+            fcntl.flock(other, fcntl.LOCK_UN)
+            check("a protected reel: it stands", reel.read_bytes() == images([*entries]))
+            talk.asks("a protected reel is moved", (opened(0), DONE), (OFFLINE, DONE_ONE), (NOTHING, NO_REEL))
+            shop.bin.joinpath("r1").rename(reel)
+            check("a protected reel: it ends well", talk.end() == 0)
+
+
+def locks(file: IO[bytes]) -> bool:
+    """Whether the file's advisory lock can be had, which is kept then."""
+    try:
+        fcntl.flock(file, fcntl.LOCK_EX | fcntl.LOCK_NB)
+    except BlockingIOError:
+        return False
+    return True
 
 
 def failing_moves(program: str) -> None:
@@ -628,6 +816,33 @@ def starts(program: str) -> None:
     with site(program, drives=2) as shop:
         got = subprocess.run(shop.words, input=opened(), capture_output=True, check=False, timeout=GUARD_SECONDS, **as_nobody(shop))
         check("all folders are there", (got.returncode, got.stdout, got.stderr) == (0, NO_REEL, b""), got)
+    clashes(program)
+
+
+def clashes(program: str) -> None:
+    """Folders that do not go together are told before anything is read: one line, with a folder and what is wrong with it."""
+    memory = MEMORY if os.access(MEMORY, os.W_OK) else None
+    with site(program, drives=2) as shop, tempfile.TemporaryDirectory(dir=memory) as elsewhere:
+        link = shop.folder / "link"
+        link.symlink_to(shop.stack)
+        one, other, bin = (str(it) for it in (*shop.stacks, shop.bin))
+        apart = os.stat(elsewhere).st_dev != os.stat(one).st_dev
+        if not apart:
+            print(f"skipped: a bin on another file system: {MEMORY} is none")
+        for folders, in_bin, at_fault, wrong in (
+            ((one, one), bin, one, "an earlier drive has this folder too"),
+            ((one, str(link)), bin, str(link), "an earlier drive has this folder too"),
+            ((one, f"{one}/../st0/"), bin, f"{one}/../st0/", "an earlier drive has this folder too"),
+            ((one, other), other, other, "the bin is this folder too"),
+            ((one, other), str(link), one, "the bin is this folder too"),
+            *(((one, other), elsewhere, one, "the bin is on another file system") for _ in range(apart)),
+            *(((one, elsewhere), bin, elsewhere, "the bin is on another file system") for _ in range(apart)),
+        ):
+            for way in (("--stdio",), ("--listen", "127.0.0.1:0", "--connections", "0")):
+                words = [shop.words[0], *way, "--bin", in_bin, *(f"/dev/st{drive}={it}" for drive, it in enumerate(folders))]
+                got = subprocess.run(words, input=opened(), capture_output=True, check=False, timeout=GUARD_SECONDS)
+                told = (got.returncode, got.stdout, got.stderr.decode())
+                check(f"{way[0]} where {wrong}", told == (FAILED, b"", f"rmtd: {at_fault}: {wrong}\n"), told)
 
 
 @contextmanager
@@ -661,7 +876,7 @@ def main() -> int:
     parser = argparse.ArgumentParser(description="Checks the built server over folders with those who use it.")
     parser.add_argument("rmtd", nargs="?", default=str(CRATES / "rmtd/out/rmtd"))
     program = os.path.abspath(parser.parse_args().rmtd)
-    for part in (tar, volumes, cpio, dump, two_servers, names, on_the_disk, faults, full, starts):
+    for part in (tar, volumes, cpio, dump, two_servers, names, others_files, on_the_disk, faults, full, starts):
         try:
             part(program)
         except (OSError, ValueError) as fault:

@@ -83,7 +83,7 @@ class Served:
         """Starts it where it does not run."""
         if self.process and self.process.poll() is None:
             return
-        self.process = subprocess.Popen(self.words, stdout=subprocess.PIPE)
+        self.process = subprocess.Popen(self.words, stdout=subprocess.PIPE, stderr=subprocess.DEVNULL)
         line = self.process.stdout.readline().decode()
         host, port = re.fullmatch(r"listening on (.+):(\d+)\n", line).groups()
         self.address = (host, int(port))

@@ -24,6 +24,7 @@ CHECKS = {
     "reels.py": ("rmtd", "rdump"),
     "kills.py": ("rmtd", "rdump"),
     "threads.py": ("rmtd", "rdump"),
+    "log.py": ("rmtd",),
     "schedules.py": ("rsim",),
     "recipes.py": ("rmtd", "rdump", "rsim"),
     "dump.py": ("rmtd", "rdump"),

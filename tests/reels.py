@@ -121,6 +121,10 @@ def bad_words(program: str) -> None:
     with tempfile.TemporaryDirectory() as folder:
         shop = Shop(Path(folder), {})
         drive, bin = f"{DEVICE}={shop.stack}", ("--bin", str(shop.bin))
+        stacks = [Path(folder) / f"stack {number}" for number in range(65)]
+        for it in stacks:
+            it.mkdir()
+        many = [f"/dev/st{number}={it}" for number, it in enumerate(stacks)]
         for title, words in (
             ("no bin", (drive,)),
             ("a bin without a folder", (drive, "--bin")),
@@ -129,13 +133,13 @@ def bad_words(program: str) -> None:
             ("a drive without a folder", (*bin, DEVICE)),
             ("a drive with a folder of no name", (*bin, f"{DEVICE}=")),
             ("a drive of no name", (*bin, f"={shop.stack}")),
-            ("a drive named twice", (*bin, drive, drive)),
-            ("65 drives", (*bin, *(f"/dev/st{number}={shop.stack}" for number in range(65)))),
+            ("a drive named twice", (*bin, drive, f"{DEVICE}={stacks[0]}")),
+            ("65 drives", (*bin, *many)),
         ):
             for way in (("--stdio",), ("--listen", "127.0.0.1:0", "--connections", "0")):
                 got = subprocess.run((program, *way, *words), input=b"I7\n1\n", capture_output=True, check=False, timeout=GUARD_SECONDS)
                 check(f"{way[0]} with {title}", (got.returncode, got.stdout, bool(got.stderr)) == (1, b"", True), got)
-        words = (program, "--stdio", *bin, *(f"/dev/st{number}={shop.stack}" for number in range(64)))
+        words = (program, "--stdio", *bin, *many[:64])
         got = subprocess.run(words, input=b"O/dev/st63\n2\n", capture_output=True, check=False, timeout=GUARD_SECONDS)
         check("64 drives", (got.returncode, got.stdout) == (0, b"E6\nDevice not configured\n"), got)
 
@@ -157,7 +161,7 @@ def dumped(program: str, client: str) -> None:
         path = Path(folder) / "payload"
         path.write_bytes(payload)
         words = shop.words(program, "--capacity", "3100", way=("--listen", "127.0.0.1:0"))
-        with subprocess.Popen(words, stdout=subprocess.PIPE) as server:
+        with subprocess.Popen(words, stdout=subprocess.PIPE, stderr=subprocess.DEVNULL) as server:
             try:
                 address = re.fullmatch(r"listening on (.+)\n", server.stdout.readline().decode())[1]
                 asked = (client, "dump", "--to", address, "--device", DEVICE, "--fs", "/usr", "--level", "0", "--payload", str(path))

@@ -9,10 +9,13 @@ The seed is that of the connections that are cut. It is printed where a check fa
 from __future__ import annotations
 
 import argparse
+import ctypes
 import os
 import random
 import re
 import resource
+import select
+import shutil
 import socket
 import struct
 import subprocess
@@ -30,7 +33,7 @@ from model_rmtd import Entry, images
 CRATES = Path(__file__).resolve().parent.parent / "crates"
 GUARD_SECONDS = 60
 # After a client has seen the end of its connection, the server may take so long to have room for another one.
-SOON_SECONDS = 5
+SOON_SECONDS = 30
 # What a server does of itself, as to end too early, it has done after this time.
 PAUSE_SECONDS = 0.5
 
@@ -82,7 +85,9 @@ class Server:
             it.mkdir()
         words = [program, "--listen", "127.0.0.1:0", "--capacity", str(capacity), "--bin", str(self.bin), *more]
         words += [f"{device(number)}={it}" for number, it in enumerate(self.stacks)]
-        self.process = subprocess.Popen(words, stdout=subprocess.PIPE)
+        self.log = folder / "log"
+        with self.log.open("wb") as log:
+            self.process = subprocess.Popen(words, stdout=subprocess.PIPE, stderr=log)
         line = self.process.stdout.readline().decode()
         found = re.fullmatch(r"listening on (.+):(\d+)\n", line)
         self.address = (found[1], int(found[2]))
@@ -194,6 +199,22 @@ def talking(server: Server) -> Iterator[Talk]:
         yield talk
     finally:
         talk.end()
+
+
+def served(server: Server, stack: ExitStack) -> Talk | None:
+    """A connection that is served, as soon as there is a place for one. It ends with the stack."""
+    found: list[Talk] = []
+
+    def comes() -> bool:
+        talk = Talk(server.address)
+        if talk.ask(NOTHING) != NOTHING_OPEN:
+            talk.end()
+            return False
+        stack.callback(talk.end)
+        found.append(talk)
+        return True
+
+    return found[0] if soon(comes) else None
 
 
 def is_served(server: Server) -> bool:
@@ -382,8 +403,9 @@ def one_too_many(rmtd: str, rdump: str) -> None:
         check("one too many: what a client tells", got == (3, ""), got)
         talks[5].asks("one too many: those before are served", (write(b"x"), DONE_ONE))
         talks[7].end()
-        check("one too many: there is room again", soon(lambda: is_served(server)))
-        with talking(server) as other:
+        # The place is free a moment after the end, so the connection that gets it is the one that goes on.
+        other = served(server, stack)
+        if check("one too many: there is room again", other is not None):
             other.asks("one too many: its drive is free", (opened(7), DONE), (NOTHING, DONE_ONE))
             with talking(server) as another:
                 check("one too many: then there is none", another.is_closed())
@@ -493,6 +515,100 @@ def counted(rmtd: str) -> None:
         check("counted: none", server.ends_well(), server.process.returncode)
 
 
+# The call pidfd_getfd(2), which Python has not.
+PIDFD_GETFD = 438
+
+
+def sockets_of(process: int) -> list[socket.socket]:
+    """The sockets of a process, as sockets of this one too. It fails where the system does not let them be had."""
+    found = []
+    handle = os.pidfd_open(process)
+    call = ctypes.CDLL(None, use_errno=True).syscall
+    for name in os.listdir(f"/proc/{process}/fd"):
+        if os.readlink(f"/proc/{process}/fd/{name}").startswith("socket:"):
+            own = call(PIDFD_GETFD, handle, int(name), 0)
+            if own < 0:
+                raise OSError(ctypes.get_errno(), "pidfd_getfd")
+            found.append(socket.socket(fileno=own))
+    os.close(handle)
+    return found
+
+
+def sends_at_once(rmtd: str) -> None:
+    """The server's side of a connection waits with no reply for more of them (`TCP_NODELAY`), at drives in folders and in memory."""
+    words = [rmtd, "--listen", "127.0.0.1:0"]
+    with serving(rmtd) as server, subprocess.Popen(words, stdout=subprocess.PIPE, stderr=subprocess.DEVNULL) as process:
+        place = ("127.0.0.1", int(process.stdout.readline().split(b":")[1]))
+        for title, pid, address in (("folders", server.process.pid, server.address), ("memory", process.pid, place)):
+            talk = Talk(address)
+            check(f"sends at once, {title}: it is served", talk.ask(NOTHING) == NOTHING_OPEN)
+            try:
+                sockets = sockets_of(pid)
+            except OSError as refused:
+                print(f"skipped: sends at once, {title}: {refused}")
+            else:
+                served = [it for it in sockets if it.getsockname()[1] == address[1] and not it.getsockopt(socket.SOL_SOCKET, socket.SO_ACCEPTCONN)]
+                good = [bool(it.getsockopt(socket.IPPROTO_TCP, socket.TCP_NODELAY)) for it in served]
+                check(f"sends at once, {title}", good and all(good), good)
+                for it in sockets:
+                    it.close()
+            talk.end()
+        process.kill()
+
+
+@contextmanager
+def traced(server: Server, *words: str) -> Iterator[None]:
+    """With strace at the server and its threads, once it is there at all of them."""
+    tasks = Path(f"/proc/{server.process.pid}/task")
+
+    def is_at_all() -> bool:
+        return not any("TracerPid:\t0\n" in it.joinpath("status").read_text() for it in tasks.iterdir())
+
+    process = subprocess.Popen(("strace", "-f", "-o", "/dev/null", "-p", str(server.process.pid), *words), stderr=subprocess.DEVNULL)
+    try:
+        check("strace comes to the server", soon(is_at_all))
+        yield
+    finally:
+        process.terminate()
+        process.wait()
+
+
+def can_trace() -> bool:
+    """Whether strace is there, and may trace a process that runs."""
+    if not shutil.which("strace"):
+        return False
+    with subprocess.Popen(("sleep", "60")) as process:
+        words = ("strace", "-o", "/dev/null", "-p", str(process.pid))
+        tracer = subprocess.Popen(words, stderr=subprocess.PIPE, text=True)
+        good = "attached" in tracer.stderr.readline()
+        process.kill()
+        tracer.wait()
+        tracer.stderr.close()
+    return good
+
+
+def laid_back_first(rmtd: str) -> None:
+    """A drive is busy until the reel of the one who closes it is laid back. Here that takes a second, and who asks for the drive meanwhile is
+    told that it is busy, and never that the reel's file is locked."""
+    if not can_trace():
+        print("skipped: a reel is laid back before its drive is free: it takes strace(1)")
+        return
+    with serving(rmtd) as server:
+        reel = server.reel("r1")
+        with talking(server) as first, talking(server) as second:
+            first.asks("laid back first: it is opened", (opened(), DONE), (write(b"x"), DONE_ONE))
+            check("laid back first: another is served", second.ask(NOTHING) == NOTHING_OPEN)
+            with traced(server, "-P", str(reel), "-e", "trace=close", "-e", "inject=close:delay_enter=1000000"):
+                first.stream.sendall(CLOSE)
+                answers = [second.ask(opened())]
+                while answers[-1] != DONE and not select.select([first.stream], [], [], 0)[0]:
+                    answers.append(second.ask(opened()))
+                check("laid back first: it is busy until then", set(answers[:-1]) | {BUSY} == {BUSY}, set(answers))
+                check("laid back first: it was asked for before", answers[0] == BUSY and answers[-1] in (BUSY, DONE), answers[0], answers[-1])
+                check("laid back first: the close", first.reply() == DONE)
+            second.asks("laid back first: then it is free", (opened(), DONE))
+
+
 def is_not_served(server: Server) -> bool:
     """Whether a new connection is not had, or not answered for some time."""
     with suppress(ConnectionError):
@@ -505,13 +621,14 @@ def is_not_served(server: Server) -> bool:
 
 
 def no_thread(rmtd: str) -> None:
-    """A connection for which no thread can be had is closed without an answer, and the server goes on."""
+    """Connections for which no thread can be had, more than are served at once, are closed without an answer. The server goes on, and none
+    of them keeps a place."""
     with serving(rmtd) as server:
         server.reel("r1")
         server.may_take(SPARE_MEMORY)
-        for title in ("one", "another one"):
+        for number in range(CONNECTIONS + 1):
             with talking(server) as talk:
-                check(f"no thread: {title} is closed without an answer", talk.is_closed())
+                check(f"no thread: connection {number + 1} is closed without an answer", talk.is_closed())
         server.may_take(None)
         check("no thread: the server is there", server.is_there())
         with talking(server) as talk:
@@ -527,7 +644,7 @@ def cut_connections(rmtd: str, rdump: str, seed: int) -> None:
     with serving(rmtd, drives=CUT_DRIVES) as server, tempfile.TemporaryDirectory() as folder:
         reels = [server.reel(f"r{number}", number) for number in range(CUT_DRIVES)]
         is_served(server)
-        time.sleep(PAUSE_SECONDS)
+        check("cut connections: the first has ended", soon(lambda: server.held()[1] == 1))
         before = server.held()
         for _ in range(CUTS):
             number, record = source.randrange(CUT_DRIVES), source.randbytes(source.randrange(1, 3_000))
@@ -572,7 +689,7 @@ def main() -> int:
     rmtd, rdump = os.path.abspath(words.rmtd), os.path.abspath(words.rdump)
     busy(rmtd, rdump)
     one_too_many(rmtd, rdump)
-    for part in (all_at_once, interleaved, one_has_it, silent, counted, no_thread):
+    for part in (all_at_once, interleaved, one_has_it, silent, counted, no_thread, sends_at_once, laid_back_first):
         part(rmtd)
     cut_connections(rmtd, rdump, words.seed)
     if COUNT[1]:

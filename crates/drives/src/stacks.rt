@@ -66,6 +66,9 @@ pub trait Stacks {
     fn failures(&self) -> u64
         ensures { result ≡ failures self.now };
 
+    /// Notes a line in the log that these stacks keep, if they keep one. It promises nothing.
+    fn note(&self, _line: &str) {}
+
     /// They tell one shop at most.
     ghost single: { (stacks : Self) (s t : Shop) → holds stacks s → holds stacks t → s ≡ t };
 

@@ -8,6 +8,7 @@ mod fixture;
 mod folders;
 mod lines;
 mod listening;
+mod log_lines;
 mod memory_peer;
 mod operations;
 mod payload;

@@ -1,27 +1,31 @@
 //! Drives whose reels are files in folders.
 
-ghost use Rattle.std.specs.Prelude.{◌≡◌, ◌≤◌, ◌<◌, ◌↔◌, false, IfOk, IfSome, IsErr, IsErrAnd, None, map, length};
+ghost use Rattle.std.specs.Prelude.{◌≡◌, ◌≤◌, ◌<◌, ◌↔◌, false, IfOk, IfSome, IsSome, IsErr, IsErrAnd, MatchResult, None, map, length};
 ghost use Rattle.std.specs.IoError.{error_kind, raw_os_error};
 ghost use Rattle.drives.specs.declared.fault.DriveFault.TheVariants.{Device, OutOfMemory};
 ghost use Rattle.drives.specs.Shop.{Shop, IsDriveNamed};
 ghost use Rattle.drives.specs.declared.holds.TheConstants.{DRIVE_LIMIT};
-ghost use Rattle.reel_files.specs.Folders.{folder_shop, folder_row, after_fault, IsFolderOf, IsRowNamed, IsFolderRefused, IsFolderMove};
+ghost use Rattle.reel_files.specs.Folders.{folder_shop, folder_row, after_fault, row_at, IsFolderOf, IsRowNamed, IsFolderRefused, IsFolderMove};
 
+mod known;
+mod line;
 mod listing;
+mod lock;
 mod look;
 mod moving;
 mod rack;
+mod refusal;
 
-use crate::FileMedium;
+use crate::{FileMedium, FolderSystem, Log, NoLog};
 use drives::{DriveFault, Stacks};
-use look::look_at;
+use known::FileId;
+use look::{clash_of, look_at, look_at_next};
 use moving::Moved;
-use rack::FolderRack;
+use rack::{FolderRack, Found};
+use refusal::Refusal;
 use std::alloc::{AllocError, Global};
-use std::fs::File;
 use std::io::{self, ErrorKind};
 use std::marker::Model;
-use std::rt::Files;
 use tape::FileReel;
 
 /// The name of a drive, and the folder of its stack.
@@ -48,15 +52,16 @@ pub struct FolderFault<'a> {
 /// The folder is listed anew at each latch. The file of a latched reel has the system's advisory lock. All folders have to
 /// lie on one file system, since a move is one rename. They tell nothing of what lies in the folders.
 #[derive(Drop)]
-pub struct FolderStacks<R: Files<File = File> + AllocGlobal + Clone + Drop> {
+pub struct FolderStacks<R: FolderSystem, L: Log + Drop> {
     rt: R,
+    log: L,
     racks: Vec<FolderRack>,
     bin: String,
     capacity: u64,
     failures: u64,
 }
 
-impl<R: Files<File = File> + AllocGlobal + Clone + Drop> Model for FolderStacks<R> {
+impl<R: FolderSystem, L: Log + Drop> Model for FolderStacks<R, L> {
     ghost use Rattle.std.specs.Prelude.{string_bytes};
     ghost use Rattle.reel_files.specs.Folders.{FolderShop, folder_shop};
 
@@ -65,7 +70,7 @@ impl<R: Files<File = File> + AllocGlobal + Clone + Drop> Model for FolderStacks<
     ghost view = { λ s. folder_shop s.racks.items (string_bytes s.bin) s.capacity s.failures };
 }
 
-impl<R: Files<File = File> + AllocGlobal + Clone + Drop> FolderStacks<R> {
+impl<R: FolderSystem> FolderStacks<R, NoLog> {
     /// These drives, from 1 to `DRIVE_LIMIT` of them with a name each, and the folder of the bin. Each reel takes so many
     /// bytes. It reads no folder. It fails only where memory is refused. Of drives with one name the first is found.
     pub fn open(
@@ -73,7 +78,26 @@ impl<R: Files<File = File> + AllocGlobal + Clone + Drop> FolderStacks<R> {
         drives: &[FolderDrive<'_>],
         bin: &str,
         capacity: u64,
-    ) -> Result<FolderStacks<R>, AllocError>
+    ) -> Result<FolderStacks<R, NoLog>, AllocError>
+        requires some { 1 ≤ length drives.now }
+        requires few { length drives.now ≤ DRIVE_LIMIT }
+        ensures drives { IfOk result (λ opened. opened
+            ≡ folder_shop (map (λ d. folder_row d.name.now d.folder.now false) drives.now) bin.now capacity 0) }
+        ensures count { IfOk result (λ opened. length opened.rows ≡ length drives.now) }
+    {
+        FolderStacks::with_log(rt, drives, bin, capacity, NoLog)
+    }
+}
+
+impl<R: FolderSystem, L: Log + Drop> FolderStacks<R, L> {
+    /// Drives as `open` makes them, that note in this log what they do.
+    pub fn with_log(
+        rt: R,
+        drives: &[FolderDrive<'_>],
+        bin: &str,
+        capacity: u64,
+        log: L,
+    ) -> Result<FolderStacks<R, L>, AllocError>
         requires some { 1 ≤ length drives.now }
         requires few { length drives.now ≤ DRIVE_LIMIT }
         ensures drives { IfOk result (λ opened. opened
@@ -84,6 +108,7 @@ impl<R: Files<File = File> + AllocGlobal + Clone + Drop> FolderStacks<R> {
         let bin = String::from_str(rt.alloc(), bin)?;
         Ok(FolderStacks {
             rt,
+            log,
             racks,
             bin,
             capacity,
@@ -92,36 +117,72 @@ impl<R: Files<File = File> + AllocGlobal + Clone + Drop> FolderStacks<R> {
     }
 
     /// Looks at the folders, and names the first that is missing, is no folder, may not be read, or in which nobody may
-    /// write by its permissions: those of the stacks in the drives' order, and then the bin's. It changes nothing there.
+    /// write by its permissions: those of the stacks in the drives' order, and then the bin's. Then it names the first drive's folder
+    /// that is the bin's too, lies on another file system than the bin's, or is the folder of a drive before it, whatever the paths
+    /// are. It changes nothing there.
     ///
     /// The reason has the kind `OutOfMemory` and no code of the system where memory is refused.
     pub fn find_fault(&self) -> Option<FolderFault<'_>>
         ensures { IfSome result (λ fault. IsFolderOf self.now fault.folder.now) }
     {
+        let mut seen = Vec::new(self.rt.alloc());
         for rack in &self.racks {
             let folder = rack.folder();
-            if let Err(reason) = look_at(&self.rt, folder) {
+            if let Err(reason) = look_at_next(&self.rt, folder, &mut seen) {
                 return Some(FolderFault { folder, reason });
             }
         }
         let folder = self.bin.as_str();
         match look_at(&self.rt, folder) {
-            Ok(()) => None,
+            Ok(bin) => self.find_clash(&seen, bin),
             Err(reason) => Some(FolderFault { folder, reason }),
         }
     }
 
+    /// The first drive's folder that does not go with the bin's, or with those of the drives before it.
+    fn find_clash(&self, seen: &[FileId], bin: FileId) -> Option<FolderFault<'_>>
+        ensures { IfSome result (λ fault. IsFolderOf self.now fault.folder.now) }
+    {
+        for (drive, rack) in self.racks.iter().enumerate() {
+            if let Some(reason) = clash_of(seen, drive, bin) {
+                return Some(FolderFault {
+                    folder: rack.folder(),
+                    reason,
+                });
+            }
+        }
+        None
+    }
+
+    /// Opens and locks the file of the reel that a latch takes, as `FolderRack::find` does, and notes what came of it.
+    fn find(&self, drive: usize) -> io::Result<Option<Found>>
+        requires { drive < length self.now.rows }
+        ensures free { MatchResult result (λ found. IsSome found → (row_at self.now drive).latched ≡ false) (λ _. (row_at self.now drive).latched ≡ false) }
+    {
+        let rack = &self.racks[drive];
+        match rack.find(&self.rt, self.bin.as_str()) {
+            Ok(Some(found)) => {
+                self.log.note(rack.found_line(&found).as_str());
+                Ok(Some(found))
+            }
+            Ok(None) => Ok(None),
+            Err(refusal) => {
+                self.log.note(rack.refused_line(&refusal).as_str());
+                Err(refusal.reason)
+            }
+        }
+    }
+
     /// Moves the file of the latched reel to the bin, as `Stacks::offline` does, where it could be synced.
-    fn move_first(&mut self, drive: usize, synced: io::Result<()>) -> Result<(), DriveFault>
+    fn move_first(&mut self, drive: usize, synced: Result<(), Refusal>) -> Result<(), DriveFault>
         requires { drive < length self.old.rows }
         ensures moved { IsFolderMove self.old drive result self.new }
         ensures unsynced { IsErr synced → IsErrAnd result (λ fault. fault ≡ Device) }
     {
-        if synced.is_err() {
-            return Err(self.fail());
-        }
         let rack = &mut self.racks[drive];
-        match rack.move_to(&self.rt, self.bin.as_str()) {
+        let moved = rack.move_to(&self.rt, self.bin.as_str(), synced);
+        self.log.note(rack.moved_line(&moved).as_str());
+        match moved {
             Ok(Moved::Done) => {
                 rack.note(None);
                 Ok(())
@@ -153,7 +214,7 @@ impl<R: Files<File = File> + AllocGlobal + Clone + Drop> FolderStacks<R> {
     }
 }
 
-impl<R: Files<File = File> + AllocGlobal + Clone + Drop> Stacks for FolderStacks<R> {
+impl<R: FolderSystem, L: Log + Drop> Stacks for FolderStacks<R, L> {
     ghost use Rattle.reel_files.specs.Folders.{IsFolderCall};
 
     type Reel = FileReel<FileMedium>;
@@ -176,40 +237,45 @@ impl<R: Files<File = File> + AllocGlobal + Clone + Drop> Stacks for FolderStacks
         self.racks.iter().position(|rack| rack.is_named(name))
     }
 
-    /// Lists the folder of the stack, and opens and locks its first plain file, to read and to append.
+    /// Lists the folder of the stack, and opens and locks its first plain file, to read and to append; where it may only be read,
+    /// to read alone. Names that begin with a dot are no reels.
     ///
-    /// Answers `Device` also where a name in the folder is not UTF-8, where another handle has the file's lock, and where
-    /// the path leads to another file than was listed.
+    /// Answers `Device` also where another name in the folder is not UTF-8, where another handle has the file's lock, and where
+    /// at each of 100 listings the path led to another file than was listed.
     fn latch(&mut self, drive: usize) -> Result<FileReel<FileMedium>, DriveFault> {
-        let rack = &self.racks[drive];
-        match rack.find(&self.rt, self.bin.as_str()) {
-            Ok(Some((file, latched))) => {
+        match self.find(drive) {
+            Ok(Some(found)) => {
                 let rack = &mut self.racks[drive];
-                rack.note(Some(latched));
-                Ok(FileReel::open(FileMedium::new(file), self.capacity))
+                rack.note(Some(found.latched));
+                Ok(FileReel::open(FileMedium::new(found.file), self.capacity))
             }
             Ok(None) => Err(DriveFault::NoReel),
             Err(error) => Err(self.refuse(error)),
         }
     }
 
-    /// Lets the file go, with its lock. Where none is latched it does nothing else.
+    /// Syncs the file where it was written to since the latch, and lets it go, with its lock. A sync that fails is noted, and
+    /// counted nowhere. Where none is latched it does nothing else.
     fn unlatch(&mut self, drive: usize, reel: FileReel<FileMedium>) {
+        let line = self.racks[drive].close(reel.medium());
         drop(reel);
         self.racks[drive].note(None);
+        if let Some(line) = line {
+            self.log.note(line.as_str());
+        }
     }
 
-    /// Syncs the file, renames it under the lock of the bin's folder, and syncs both folders: only then is it done. What
-    /// fails after the rename changes nothing of that. It takes no memory, and never answers `OutOfMemory`.
+    /// Syncs the file, renames it under the lock of the bin's folder, and syncs the bin's folder and then the stack's: only then is
+    /// it done. What fails after the rename changes nothing of that. It takes no memory, and never answers `OutOfMemory`.
     ///
-    /// Answers `Device` also where none is latched, where others have the lock of the bin's folder at 1,000 turns, and where
+    /// Answers `Device` also where none is latched, where others have the lock of the bin's folder for about a second, and where
     /// another file than was latched has its name.
     fn offline(
         &mut self,
         drive: usize,
         reel: FileReel<FileMedium>,
     ) -> Result<(), (FileReel<FileMedium>, DriveFault)> {
-        let synced = reel.medium().sync();
+        let synced = self.racks[drive].sync(reel.medium());
         match self.move_first(drive, synced) {
             Ok(()) => Ok(()),
             Err(fault) => Err((reel, fault)),
@@ -218,6 +284,10 @@ impl<R: Files<File = File> + AllocGlobal + Clone + Drop> Stacks for FolderStacks
 
     fn failures(&self) -> u64 {
         self.failures
+    }
+
+    fn note(&self, line: &str) {
+        self.log.note(line);
     }
 
     ghost single = { λ _ _ _ told _. absurd told };

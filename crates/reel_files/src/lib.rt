@@ -5,6 +5,10 @@
 #![tactic(auto)]
 
 mod folder;
+mod log;
+mod system;
 
 pub use file_medium::FileMedium;
 pub use folder::{FolderDrive, FolderFault, FolderStacks};
+pub use log::{Log, NoLog};
+pub use system::FolderSystem;

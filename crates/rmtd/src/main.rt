@@ -2,7 +2,7 @@
 #![tactic(auto)]
 
 use rmt_wire::Counted;
-use rmtd_serve::{Begun, Connections, Site, serve_many, start};
+use rmtd_serve::{Begun, Connections, ErrorLog, Site, serve_many, start};
 use std::io;
 use std::process::ExitCode;
 
@@ -23,10 +23,11 @@ fn main(rt: HostRuntime) -> io::Result<ExitCode> {
         seats,
         stacks,
     } = site;
-    let connections = Connections {
-        listener: &listener,
-        left,
+    let log = ErrorLog {
+        rt: &rt,
+        seat: None,
     };
+    let connections = Connections::new(&listener, left, log);
     serve_many(&rt, rt.alloc(), connections, &table, seats, stacks);
     Ok(ExitCode::from(0))
 }

@@ -5,6 +5,8 @@ ghost use Rattle.drives.specs.Opening.{kinds};
 ghost use Rattle.rmt_server.specs.Stream.{streams};
 ghost use Rattle.rmtd_serve.specs.Seating.{idle, GivesBack, ServesAfresh};
 
+use crate::ended::Ended;
+use crate::error_log::text_of;
 use drives::{DriveTable, Holds, Stacks};
 use rmt_server::{Served, Session, serve};
 use rmt_wire::{Counted, RequestReader};
@@ -16,10 +18,13 @@ use std::io::{Read, Write};
 ///
 /// The session has nothing open at first, and what it opens is closed at its end. Where memory is refused before the first
 /// request was read, nothing is read or written.
+///
+/// The stacks note where it begins and how it ended, by the pair's number.
 pub fn serve_at<H: Holds + Drop, S: Stacks + Drop, I: Read, O: Write>(
     alloc: Global,
     drives: DriveTable<H, S>,
     seat: H::Seat,
+    number: u64,
     input: &mut Counted<I>,
     output: &mut Counted<O>,
 ) -> (H::Seat, S)
@@ -30,7 +35,11 @@ pub fn serve_at<H: Holds + Drop, S: Stacks + Drop, I: Read, O: Write>(
         (streams input.new output.new) result }
 {
     let mut drives = drives;
-    let (seat, _) = serve_afresh(alloc, &mut drives, seat, input, output);
+    let begun = text_of(format_args!("connection {number}: served"));
+    drives.stacks.note(begun.as_str());
+    let (seat, ending) = serve_afresh(alloc, &mut drives, seat, input, output);
+    let ended = Ended::of(number, ending, input, output);
+    drives.stacks.note(text_of(ended).as_str());
     (seat, drives.stacks)
 }
 

@@ -39,10 +39,11 @@ impl<'t, S: Stacks + Drop> Bench<'t, S> {
         }
     }
 
-    /// Serves one pair of streams by a session here, and lets them go.
+    /// Serves the pair of streams of that number by a session here, and lets them go.
     pub(crate) fn serve<I: Read + Drop, O: Write + Drop>(
         self,
         alloc: Global,
+        number: u64,
         input: I,
         output: O,
     ) -> Self {
@@ -55,7 +56,7 @@ impl<'t, S: Stacks + Drop> Bench<'t, S> {
         let drives = DriveTable { holds, stacks };
         let mut input = Counted::new(input);
         let mut output = Counted::new(output);
-        let (seat, stacks) = serve_at(alloc, drives, seat, &mut input, &mut output);
+        let (seat, stacks) = serve_at(alloc, drives, seat, number, &mut input, &mut output);
         Bench {
             table,
             seat,

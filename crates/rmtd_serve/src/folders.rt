@@ -5,30 +5,45 @@ ghost use Rattle.reel_files.specs.Folders.{folder_row};
 ghost use Rattle.rmtd_words.specs.Drive.{plain_drive};
 ghost use Rattle.rmtd_serve.specs.Folders.{stacks_of};
 
+use crate::error_log::ErrorLog;
 use hold_table::SEAT_LIMIT;
-use reel_files::{FolderDrive, FolderStacks};
+use reel_files::{FolderDrive, FolderStacks, FolderSystem, Log, NoLog};
 use rmtd_words::DriveWord;
 use std::alloc::{AllocError, Global};
-use std::fs::File;
-use std::rt::Files;
 
 /// The stacks of these drives and the bin, in their folders. Each reel takes so many bytes. It reads no folder, and fails only
-/// where memory is refused.
+/// where memory is refused. They keep no log.
 ///
 /// There are from 1 to `DRIVE_LIMIT` of them.
-pub fn folder_stacks<R: Files<File = File> + AllocGlobal + Clone + Drop>(
+pub fn folder_stacks<R: FolderSystem>(
     rt: R,
     words: &[DriveWord<'_>],
     bin: &str,
     capacity: u64,
-) -> Result<FolderStacks<R>, AllocError>
+) -> Result<FolderStacks<R, NoLog>, AllocError>
+    requires some { 1 ≤ length words.now }
+    requires few { length words.now ≤ DRIVE_LIMIT }
+    ensures named { IfOk result (λ s. s ≡ stacks_of words.now bin.now capacity) }
+    ensures count { IfOk result (λ s. length s.rows ≡ length words.now) }
+{
+    logged_stacks(rt, words, bin, capacity, NoLog)
+}
+
+/// The same with a log of what they do.
+fn logged_stacks<R: FolderSystem, L: Log + Drop>(
+    rt: R,
+    words: &[DriveWord<'_>],
+    bin: &str,
+    capacity: u64,
+    log: L,
+) -> Result<FolderStacks<R, L>, AllocError>
     requires some { 1 ≤ length words.now }
     requires few { length words.now ≤ DRIVE_LIMIT }
     ensures named { IfOk result (λ s. s ≡ stacks_of words.now bin.now capacity) }
     ensures count { IfOk result (λ s. length s.rows ≡ length words.now) }
 {
     let drives = folder_drives(rt.alloc(), words)?;
-    FolderStacks::open(rt, &drives, bin, capacity)
+    FolderStacks::with_log(rt, &drives, bin, capacity, log)
 }
 
 /// The drives of these words, by name and folder.
@@ -50,16 +65,16 @@ fn folder_drives<'a>(
     Ok(drives)
 }
 
-/// Stacks of these drives for each of the seats of a table: each looks at the same folders, by itself. It reads no folder,
-/// and fails only where memory is refused.
+/// Stacks of these drives for each of the seats of a table, in the order of their numbers: each looks at the same folders, by itself,
+/// and says on standard error what it does, with the seat's number. It reads no folder, and fails only where memory is refused.
 ///
 /// There are from 1 to `DRIVE_LIMIT` drives.
-pub fn seat_stacks<R: Files<File = File> + AllocGlobal + Clone + Drop>(
+pub fn seat_stacks<R: FolderSystem + Eprint>(
     rt: R,
     words: &[DriveWord<'_>],
     bin: &str,
     capacity: u64,
-) -> Result<Vec<FolderStacks<R>>, AllocError>
+) -> Result<Vec<FolderStacks<R, ErrorLog<R>>>, AllocError>
     requires some { 1 ≤ length words.now }
     requires few { length words.now ≤ DRIVE_LIMIT }
     ensures count { IfOk result (λ all. length all.items ≡ SEAT_LIMIT) }
@@ -68,22 +83,28 @@ pub fn seat_stacks<R: Files<File = File> + AllocGlobal + Clone + Drop>(
 {
     let mut all = Vec::with_capacity(rt.alloc(), SEAT_LIMIT)?;
     while all.len() < SEAT_LIMIT {
-        all.push(stacks_at(&rt, words, bin, capacity)?)?;
+        let seat = all.len() + 1;
+        all.push(stacks_at(&rt, words, bin, capacity, seat)?)?;
     }
     Ok(all)
 }
 
-/// The stacks of one seat.
-fn stacks_at<R: Files<File = File> + AllocGlobal + Clone + Drop>(
+/// The stacks of the seat of that number.
+fn stacks_at<R: FolderSystem + Eprint>(
     rt: &R,
     words: &[DriveWord<'_>],
     bin: &str,
     capacity: u64,
-) -> Result<FolderStacks<R>, AllocError>
+    seat: usize,
+) -> Result<FolderStacks<R, ErrorLog<R>>, AllocError>
     requires some { 1 ≤ length words.now }
     requires few { length words.now ≤ DRIVE_LIMIT }
     ensures named { IfOk result (λ s. s ≡ stacks_of words.now bin.now capacity) }
     ensures count { IfOk result (λ s. length s.rows ≡ length words.now) }
 {
-    folder_stacks(rt.clone()?, words, bin, capacity)
+    let log = ErrorLog {
+        rt: rt.clone()?,
+        seat: Some(seat),
+    };
+    logged_stacks(rt.clone()?, words, bin, capacity, log)
 }

@@ -5,12 +5,15 @@
 mod at;
 mod bench;
 mod connections;
+mod ended;
+mod error_log;
 mod folders;
 mod fresh;
 mod incoming;
 mod listening;
 mod many;
 mod memory_server;
+mod places;
 mod pool;
 mod ready;
 mod site;
@@ -20,6 +23,7 @@ mod tape_server;
 
 pub use at::serve_at;
 pub use connections::Connections;
+pub use error_log::ErrorLog;
 pub use folders::{folder_stacks, seat_stacks};
 pub use incoming::Incoming;
 pub use listening::serve_connections;

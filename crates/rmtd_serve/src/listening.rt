@@ -2,41 +2,35 @@
 ghost use Rattle.rmtd_serve.specs.Serving.{ServedInTurn};
 
 use crate::MemoryServer;
-use rmt_server::Served;
+use crate::connections::Connections;
+use crate::ended::Ended;
+use crate::error_log::text_of;
+use reel_files::Log;
 use rmt_wire::Counted;
-use std::io;
-use std::net::{TcpListener, TcpStream};
+use std::net::TcpStream;
 
-/// Serves the connections of a listener, one after the other, up to so many, or with None on and on. The reels go from each
-/// connection to the next.
+/// Serves connections one after the other. The reels go from each to the next.
 ///
-/// A connection that could not be accepted counts as one, and so does one that ended in mid request or failed.
-pub fn serve_connections(
-    server: &mut MemoryServer,
-    listener: &TcpListener,
-    connections: Option<u64>,
-)
+/// A connection that could not be accepted counts as one, and so does one that ended in mid request or failed. The log of the
+/// connections has a line for the end of each.
+pub fn serve_connections<L: Log + Drop>(server: &mut MemoryServer, connections: Connections<'_, L>)
     ensures { ServedInTurn server.old server.new }
 {
-    for _ in 0..connections.unwrap_or(u64::MAX) {
-        if let Ok(stream) = accepted(listener) {
-            serve_stream(server, &stream);
+    let mut connections = connections;
+    for _ in 0..connections.left {
+        if let Some(stream) = connections.accept() {
+            let ended = serve_stream(server, &stream, connections.number);
+            connections.log.note(text_of(ended).as_str());
         }
     }
 }
 
-/// The next connection, which sends its bytes at once.
-fn accepted(listener: &TcpListener) -> io::Result<TcpStream> {
-    let (stream, _) = listener.accept()?;
-    stream.set_nodelay(true)?;
-    Ok(stream)
-}
-
-/// Serves one connection.
-fn serve_stream(server: &mut MemoryServer, stream: &TcpStream) -> Option<Served>
+/// Serves the connection of that number, and answers how it ended.
+fn serve_stream(server: &mut MemoryServer, stream: &TcpStream, number: u64) -> Ended
     ensures { ServedInTurn server.old server.new }
 {
     let mut input = Counted::new(stream);
     let mut output = Counted::new(stream);
-    server.serve(&mut input, &mut output)
+    let ending = server.serve(&mut input, &mut output);
+    Ended::of(number, ending, &input, &output)
 }

@@ -14,20 +14,27 @@ use std::io::{Read, Write};
 use std::sync::{Mutex, Wait};
 use std::thread::{self, Threads};
 
-/// What a thread does: it serves its pair at a bench that was promised, and puts the bench back.
+/// What a thread does: it serves the pair of that number at a bench that was promised, and puts the bench back.
 fn work<W: Wait, I: Read + Drop, O: Write + Drop, S: Stacks + Drop>(
     rt: &W,
     alloc: Global,
     pool: &Mutex<Pool<'_, S>>,
+    number: u64,
     input: I,
     output: O,
 ) {
     let Some(bench) = pool.lock(rt).take() else {
         return;
     };
-    let bench = bench.serve(alloc, input, output);
+    let bench = bench.serve(alloc, number, input, output);
     pool.lock(rt).put(bench);
 }
+
+/// Why a pair is let go: each seat has one, or there was no memory for a place to put them.
+const NO_SEAT: &str = "no seat is free";
+
+/// Why a pair is let go for which the system has no thread.
+const NO_THREAD: &str = "no thread";
 
 /// Starts a thread for each pair that comes while a bench is free, and waits for all.
 fn serve_all<R: Threads + Wait + Sync, I: Incoming + Drop, S: Stacks + Drop + Send>(
@@ -52,12 +59,16 @@ where
                 let Some((input, output)) = incoming.next() else {
                     return incoming;
                 };
-                if pool.lock(rt).reserve()
-                    && scope
-                        .spawn(move || work(rt, alloc, pool, input, output))
-                        .is_err()
-                {
+                let number = incoming.number();
+                let is_promised = pool.lock(rt).reserve();
+                if !is_promised {
+                    incoming.let_go(NO_SEAT);
+                    continue;
+                }
+                let started = scope.spawn(move || work(rt, alloc, pool, number, input, output));
+                if started.is_err() {
                     pool.lock(rt).release();
+                    incoming.let_go(NO_THREAD);
                 }
             }
             unreachable!()
@@ -82,6 +93,9 @@ fn pool<S: Stacks + Drop>(alloc: Global, fresh: Fresh<'_, S>) -> Pool<'_, S> {
 ///
 /// A pair that comes while so many are served is let go, and so is one for which memory or a thread is refused: nothing is read of
 /// it or written to it. It waits for pairs and for threads.
+///
+/// The stacks of its seat note where a pair begins to be served and how it ended, by the pair's number; what the pairs come from is
+/// told of one that is let go.
 pub fn serve_many<R: Threads + Wait + Sync, I: Incoming + Drop, S: Stacks + Drop + Send>(
     rt: &R,
     alloc: Global,

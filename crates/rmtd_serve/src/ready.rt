@@ -6,14 +6,13 @@ ghost use Rattle.rmtd_serve.specs.Startup.{IsSiteOf};
 use crate::folders::seat_stacks;
 use crate::site::Site;
 use hold_table::HoldTable;
+use reel_files::FolderSystem;
 use rmtd_words::ServerLine;
-use std::fs::File;
 use std::io;
 use std::net::TcpListener;
-use std::rt::Files;
 
 /// What the line has connections served at, which come from this listener. It fails only where memory is refused.
-pub(crate) fn site_of<R: Files<File = File> + AllocGlobal + Clone + Drop>(
+pub(crate) fn site_of<R: FolderSystem + Eprint>(
     rt: &R,
     listener: TcpListener,
     line: &ServerLine<'_>,

@@ -5,16 +5,15 @@ ghost use Rattle.drives.specs.Holding.{HoldsJust};
 ghost use Rattle.hold_table.specs.Seats.{IsSeatAt};
 ghost use Rattle.hold_table.specs.declared.table.TheConstants.{SEAT_LIMIT};
 
+use crate::error_log::ErrorLog;
 use hold_table::{HoldSeat, HoldTable};
-use reel_files::FolderStacks;
-use std::fs::File;
+use reel_files::{FolderStacks, FolderSystem};
 use std::net::TcpListener;
-use std::rt::Files;
 
 /// A listener, and what its connections are served at: drives in folders, with a table of who holds them, its seats, and stacks
 /// for each seat.
 #[derive(Drop)]
-pub struct Site<R: Files<File = File> + AllocGlobal + Clone + Drop> {
+pub struct Site<R: FolderSystem + Eprint> {
     /// Where the connections come from.
     pub listener: TcpListener,
     /// How many of them are served, at most.
@@ -24,7 +23,7 @@ pub struct Site<R: Files<File = File> + AllocGlobal + Clone + Drop> {
     /// The table's seats. None holds a drive.
     pub seats: Vec<HoldSeat>,
     /// Each with the drives of the table.
-    pub stacks: Vec<FolderStacks<R>>,
+    pub stacks: Vec<FolderStacks<R, ErrorLog<R>>>,
     ghost seated: { (length seats.items ≡ SEAT_LIMIT) × All (λ s. IsSeatAt table s × HoldsJust s.view None) seats.items } by { Prim.hlevel props },
     ghost stacked: { (length stacks.items ≡ SEAT_LIMIT) × All (λ s. length s.rows ≤ table.words) stacks.items } by { Prim.hlevel props },
 }

@@ -6,45 +6,36 @@ ghost use Rattle.rmtd_words.specs.Rmtd.{IsShown};
 ghost use Rattle.rmt_server.specs.Stream.{streams, streams_kind};
 ghost use Rattle.rmtd_serve.specs.Startup.{AreUntouched, IsDone, IsBegun, IsStarted};
 
+use crate::connections::Connections;
+use crate::error_log::ErrorLog;
+use crate::places::take_places;
 use crate::ready::site_of;
 use crate::site::Site;
 use crate::{MemoryServer, TapeServer, exit_status, folder_stacks, run_stdio, serve_connections};
 use clap::Error;
 use clap::error::ErrorKind;
+use reel_files::{FolderSystem, Log};
 use rmt_wire::Counted;
 use rmtd_words::{ServerLine, server_line};
 use std::env;
-use std::fs::File;
 use std::io::{self, Read, Write};
 use std::net::{Net, TcpListener, TcpStream};
-use std::rt::{Env, Files};
+use std::rt::Env;
 
 /// What the program ends with where its words are wrong, or it can't start.
 const FAILED: u8 = 1;
 
 /// What `rmtd` asks of the system beside its words, its standard streams and its threads.
-pub trait System: Files<File = File>
-    + Net<Listener = TcpListener, Stream = TcpStream>
-    + Print
-    + Eprint
-    + AllocGlobal
-    + Clone
-    + Drop {}
+pub trait System: FolderSystem + Net<Listener = TcpListener, Stream = TcpStream> + Print + Eprint {}
 
 impl<R> System for R
 where
-    R: Files<File = File>
-        + Net<Listener = TcpListener, Stream = TcpStream>
-        + Print
-        + Eprint
-        + AllocGlobal
-        + Clone
-        + Drop,
+    R: FolderSystem + Net<Listener = TcpListener, Stream = TcpStream> + Print + Eprint,
 {}
 
 /// What is left to do once the words were followed.
 #[derive(Drop)]
-pub enum Begun<R: Files<File = File> + AllocGlobal + Clone + Drop> {
+pub enum Begun<R: FolderSystem + Eprint> {
     /// To end with this status.
     End(u8),
     /// To serve the connections of a listener at once.
@@ -202,7 +193,11 @@ fn tell<R: System>(rt: &R, what: &str, why: io::Error) -> io::Result<Begun<R>>
     Ok(Begun::End(FAILED))
 }
 
-/// Listens at this address, and serves as many connections as the line says with a drive in memory. Answers the status.
+/// What is told of a reel in memory to which others come.
+const IN_MEMORY: &str = "the reel of /dev/st0 is in memory, and is gone when the server ends";
+
+/// Listens at this address, and serves as many connections as the line says with a drive in memory, which is told on standard error.
+/// Answers the status.
 fn listen<R: System>(rt: &R, address: &str, line: &ServerLine<'_>) -> io::Result<u8>
     ensures { IfOk result (λ status. status ≡ 0) }
 {
@@ -210,12 +205,17 @@ fn listen<R: System>(rt: &R, address: &str, line: &ServerLine<'_>) -> io::Result
         return Err(io::ErrorKind::OutOfMemory.into());
     };
     let listener = bind(rt, address)?;
-    serve_connections(&mut server, &listener, line.connections);
+    let log = ErrorLog { rt, seat: None };
+    log.note(IN_MEMORY);
+    let left = line.connections.unwrap_or(u64::MAX);
+    serve_connections(&mut server, Connections::new(&listener, left, log));
     Ok(0)
 }
 
-/// A listener at this address, which is told on standard output.
+/// A listener at this address, which is told on standard output. Neither it nor what is opened later has the place of a standard
+/// stream.
 fn bind<R: System>(rt: &R, address: &str) -> io::Result<TcpListener> {
+    take_places(rt);
     let listener = TcpListener::bind(rt, address)?;
     let place = listener.local_addr()?;
     println!(rt; "listening on {place}")?;

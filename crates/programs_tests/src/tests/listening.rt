@@ -1,8 +1,9 @@
 //! One drive in memory for a connection, and for a stream after it.
 
+use reel_files::NoLog;
 use rmt_server::Served;
 use rmt_wire::Counted;
-use rmtd_serve::{MemoryServer, serve_connections};
+use rmtd_serve::{Connections, MemoryServer, serve_connections};
 use std::alloc::Global;
 use std::io::{self, Read, Write};
 use std::net::{Shutdown, TcpListener, TcpStream};
@@ -30,7 +31,7 @@ fn serves_both(alloc: Global, listener: &TcpListener) -> bool {
     let Some(mut server) = MemoryServer::new(alloc, 1024) else {
         return false;
     };
-    serve_connections(&mut server, listener, Some(1));
+    serve_connections(&mut server, Connections::new(listener, 1, NoLog));
     let mut taken = Vec::new(alloc);
     let mut input = Counted::new(b"O/dev/st0\n0\nR10\nR10\n".as_slice());
     let mut output = Counted::new(&mut taken);

@@ -1,65 +1,174 @@
-//! The first plain file of a folder.
+//! The first reel of a folder.
 
+use super::known::{FileId, Written};
+use super::lock::take_lock;
+use super::refusal::{Refusal, at};
+use crate::FolderSystem;
+use std::alloc::Global;
 use std::fs::{self, File, Metadata, OpenOptions};
-use std::io::{self, ErrorKind};
-use std::os::unix::fs::MetadataExt;
-use std::rt::Files;
+use std::io::{self, BufRead, BufReader, ErrorKind, Split};
+
+/// How often a folder is listed for one latch, where the first reel went away each time before it was opened.
+const LIST_TURNS: u32 = 100;
 
 /// A plain file as it was listed.
 #[derive(Drop)]
-pub(super) struct Listed {
-    /// The name in the folder.
-    pub(super) name: String,
-    /// What the system knew of it.
-    pub(super) metadata: Metadata,
+struct Listed {
+    name: String,
+    path: String,
+    id: FileId,
 }
 
-/// The first plain file of the folder, in the order of the names' bytes. A folder or a link is none, and no link is followed.
-///
-/// Answers an error also where a name in the folder is not UTF-8.
-pub(super) fn first_file<R: Files<File = File> + AllocGlobal + Clone + Drop>(
-    rt: &R,
-    folder: &str,
-) -> io::Result<Option<Listed>> {
-    let mut first: Option<Listed> = None;
-    for entry in fs::read_dir(rt, folder)? {
-        let entry = entry?;
-        let name = entry.file_name();
-        if let Some(best) = &first {
-            if best.name.as_bytes() <= name.as_bytes() {
-                continue;
-            }
+/// A reel whose file is open and locked.
+#[derive(Drop)]
+pub(super) struct Opened {
+    /// The handle, to which the lock belongs.
+    pub(super) file: File,
+    /// It may only be read.
+    pub(super) reads_only: bool,
+    /// Its name.
+    pub(super) name: String,
+    /// Its path in the folder.
+    pub(super) path: String,
+    /// Which file it is.
+    pub(super) id: FileId,
+    /// What it was when it was locked.
+    pub(super) written: Written,
+}
+
+/// The names in the folder, as bytes.
+fn names_in<R: FolderSystem>(rt: &R, folder: &str) -> io::Result<Split<BufReader<R::Dir>, Global>> {
+    let path = format!(in rt.alloc(); "{folder}/")?;
+    let names = BufReader::new(rt.alloc(), rt.open_dir(path.as_str())?)?;
+    Ok(names.split(rt.alloc(), 0))
+}
+
+/// The name as text.
+fn text_of(name: Vec<u8>) -> io::Result<String> {
+    match String::from_utf8(name) {
+        Ok(text) => Ok(text),
+        Err(_) => Err(io::Error::from(ErrorKind::InvalidFilename)),
+    }
+}
+
+/// Whether the name comes before that one.
+fn is_before(name: &str, first: &Option<Listed>) -> bool {
+    match first {
+        Some(first) => name.as_bytes() < first.name.as_bytes(),
+        None => true,
+    }
+}
+
+/// What is known of the path, and none where nothing has it.
+fn known_of<R: FolderSystem>(rt: &R, path: &str) -> io::Result<Option<Metadata>> {
+    match fs::symlink_metadata(rt, path) {
+        Ok(known) => Ok(Some(known)),
+        Err(error) if error.kind() == ErrorKind::NotFound => Ok(None),
+        Err(error) => Err(error),
+    }
+}
+
+/// The plain file of that name. None where it is none, and where nothing has the name now.
+fn look_up<R: FolderSystem>(rt: &R, folder: &str, name: String) -> Result<Option<Listed>, Refusal> {
+    let path = format!(in rt.alloc(); "{folder}/{name}")?;
+    match at(path.as_str(), "stat", known_of(rt, path.as_str()))? {
+        Some(known) if known.is_file() => {
+            let id = FileId::of(&known);
+            Ok(Some(Listed { name, path, id }))
         }
-        let metadata = entry.metadata()?;
-        if metadata.is_file() {
-            let name = String::from_str(rt.alloc(), name)?;
-            first = Some(Listed { name, metadata });
+        _ => Ok(None),
+    }
+}
+
+/// The first plain file of the folder, in the order of the names' bytes. A folder or a link is none, and no link is followed. Names
+/// that begin with a dot are passed over.
+///
+/// It is refused also where another name is not UTF-8.
+fn first_file<R: FolderSystem>(rt: &R, folder: &str) -> Result<Option<Listed>, Refusal> {
+    let mut first: Option<Listed> = None;
+    for name in at(folder, "open", names_in(rt, folder))? {
+        let name = at(folder, "list", name)?;
+        if name.starts_with(b".") {
+            continue;
+        }
+        let name = at(folder, "list", text_of(name))?;
+        if !is_before(name.as_str(), &first) {
+            continue;
+        }
+        if let Some(listed) = look_up(rt, folder, name)? {
+            first = Some(listed);
         }
     }
     Ok(first)
 }
 
-/// Whether both are the same plain file of the system.
-pub(super) fn is_same(one: &Metadata, other: &Metadata) -> bool {
-    one.is_file() && other.is_file() && one.dev() == other.dev() && one.ino() == other.ino()
+/// Opens a file to read and to append; where it may only be read, to read. Answers also whether it may only be read.
+fn open_file<R: FolderSystem>(rt: &R, path: &str) -> io::Result<(File, bool)> {
+    let error = match OpenOptions::new().read(true).append(true).open(rt, path) {
+        Ok(file) => return Ok((file, false)),
+        Err(error) => error,
+    };
+    match error.kind() {
+        ErrorKind::PermissionDenied | ErrorKind::ReadOnlyFilesystem => {
+            Ok((File::open(rt, path)?, true))
+        }
+        _ => Err(error),
+    }
 }
 
-/// Opens the file that was listed, to read and to append, and takes its advisory lock, which goes with the handle.
-///
-/// Answers an error also where another handle has the lock, and where the path leads to another file than was listed: when
-/// it was opened, or now that it is locked.
-pub(super) fn open_listed<R: Files<File = File>>(
-    rt: &R,
-    path: &str,
-    listed: &Metadata,
-) -> io::Result<File> {
-    let file = OpenOptions::new().read(true).append(true).open(rt, path)?;
-    let opened = file.metadata()?;
-    file.try_lock()?;
-    let locked = fs::symlink_metadata(rt, path)?;
-    if is_same(listed, &opened) && is_same(listed, &locked) {
-        Ok(file)
-    } else {
-        Err(io::Error::from(ErrorKind::StaleNetworkFileHandle))
+/// The handle as `open_file` answers it, and none where nothing has the path now.
+fn open_there<R: FolderSystem>(rt: &R, path: &str) -> io::Result<Option<(File, bool)>> {
+    match open_file(rt, path) {
+        Ok(opened) => Ok(Some(opened)),
+        Err(error) if error.kind() == ErrorKind::NotFound => Ok(None),
+        Err(error) => Err(error),
     }
+}
+
+/// Opens the file that was listed and takes its advisory lock, which goes with the handle. None where the path does not lead to the
+/// file that was listed: when it was opened, or now that it is locked.
+///
+/// It is refused also where another handle has the lock.
+fn open_listed<R: FolderSystem>(rt: &R, listed: Listed) -> Result<Option<Opened>, Refusal> {
+    let Listed { name, path, id } = listed;
+    let place = path.as_str();
+    let Some((file, reads_only)) = at(place, "open", open_there(rt, place))? else {
+        return Ok(None);
+    };
+    let opened = at(place, "stat", file.metadata())?;
+    if !id.is_plain(&opened) {
+        return Ok(None);
+    }
+    at(place, "lock", take_lock(&file))?;
+    match at(place, "stat", known_of(rt, place))? {
+        Some(locked) if id.is_plain(&locked) => {
+            let written = Written::of(&locked);
+            Ok(Some(Opened {
+                file,
+                reads_only,
+                name,
+                path,
+                id,
+                written,
+            }))
+        }
+        _ => Ok(None),
+    }
+}
+
+/// Opens and locks the first reel of the folder: to read and to append, or to read alone where it may only be read. None where it has
+/// none.
+///
+/// Where the file that was listed first has another name now, or is another, the folder is listed again: 100 times at most.
+pub(super) fn open_first<R: FolderSystem>(rt: &R, folder: &str) -> Result<Option<Opened>, Refusal> {
+    for _ in 0..LIST_TURNS {
+        let Some(listed) = first_file(rt, folder)? else {
+            return Ok(None);
+        };
+        if let Some(opened) = open_listed(rt, listed)? {
+            return Ok(Some(opened));
+        }
+    }
+    let changed = io::Error::from(ErrorKind::StaleNetworkFileHandle);
+    Err(Refusal::new(folder, "list", changed))
 }

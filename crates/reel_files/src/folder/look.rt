@@ -1,12 +1,13 @@
-//! A look at a folder, before it is used.
+//! A look at folders, before they are used.
 
-use std::fs::{self, File, Metadata};
+use super::known::FileId;
+use crate::FolderSystem;
+use std::fs::{self, Metadata};
 use std::io::{self, ErrorKind};
 use std::os::unix::fs::MetadataExt;
-use std::rt::Files;
 
 /// The user that runs the program: the owner of the program's own entry in `/proc`. None where there is no such entry.
-fn user<R: Files<File = File> + AllocGlobal + Clone + Drop>(rt: &R) -> Option<u32> {
+fn user<R: FolderSystem>(rt: &R) -> Option<u32> {
     let own = fs::metadata(rt, "/proc/self").ok()?;
     Some(own.uid())
 }
@@ -21,17 +22,41 @@ fn may_write(found: &Metadata, user: Option<u32>) -> bool {
     }
 }
 
-/// Whether the folder can be used, as far as can be seen without a change: it can be read, what lies in it can be reached,
-/// and by its permissions the program's user may write in it, or its group.
-pub(super) fn look_at<R: Files<File = File> + AllocGlobal + Clone + Drop>(
-    rt: &R,
-    folder: &str,
-) -> io::Result<()> {
+/// Which folder it is, where it can be used, as far as can be seen without a change: it can be read, what lies in it can be
+/// reached, and by its permissions the program's user may write in it, or its group.
+pub(super) fn look_at<R: FolderSystem>(rt: &R, folder: &str) -> io::Result<FileId> {
     fs::read_dir(rt, folder)?;
     let inside = format!(in rt.alloc(); "{folder}/.")?;
     let found = fs::metadata(rt, inside.as_str())?;
     if !may_write(&found, user(rt)) {
         return Err(io::Error::from(ErrorKind::PermissionDenied));
     }
+    Ok(FileId::of(&found))
+}
+
+/// The same of the folder of a further drive, which is noted after those of the drives before it.
+pub(super) fn look_at_next<R: FolderSystem>(
+    rt: &R,
+    folder: &str,
+    seen: &mut Vec<FileId>,
+) -> io::Result<()> {
+    seen.push(look_at(rt, folder)?)?;
     Ok(())
+}
+
+/// Why the folder of the drive of this number does not go with the bin's, or with those of the drives before it.
+pub(super) fn clash_of(seen: &[FileId], drive: usize, bin: FileId) -> Option<io::Error> {
+    let own = *seen.get(drive)?;
+    if own == bin {
+        let words = "the bin is this folder too";
+        Some(io::Error::new(ErrorKind::InvalidInput, words))
+    } else if !own.is_beside(bin) {
+        let words = "the bin is on another file system";
+        Some(io::Error::new(ErrorKind::CrossesDevices, words))
+    } else if seen.iter().take(drive).any(|other| *other == own) {
+        let words = "an earlier drive has this folder too";
+        Some(io::Error::new(ErrorKind::InvalidInput, words))
+    } else {
+        None
+    }
 }

@@ -1,23 +1,25 @@
 //! The move of a reel's file from its stack to the bin.
 
-use super::listing::is_same;
-use std::fs::{self, File, Metadata, TryLockError};
+use super::known::{FileId, Written};
+use super::lock::wait_for_lock;
+use super::refusal::{Refusal, at};
+use crate::FolderSystem;
+use std::fs::{self, File};
 use std::io::{self, ErrorKind};
-use std::rt::Files;
-use std::thread;
-
-/// How often the lock of the bin's folder is asked for: about a second long, while a rename under it takes some milliseconds.
-const LOCK_TURNS: u32 = 1_000_000;
 
 /// The file of a latched reel. Both paths are made at the latch, so that the move takes no memory.
 #[derive(Drop)]
 pub(super) struct ReelFile {
+    /// The reel's name.
+    pub(super) name: String,
     /// Its path in the stack's folder.
     pub(super) from: String,
     /// Its path in the bin's folder.
     pub(super) to: String,
-    /// What the system knew of it when it was listed.
-    pub(super) listed: Metadata,
+    /// Which file it is.
+    pub(super) id: FileId,
+    /// What it was at the latch.
+    pub(super) written: Written,
 }
 
 /// What came of a move.
@@ -29,46 +31,48 @@ pub(super) enum Moved {
     NameTaken,
 }
 
-/// Takes the advisory lock of a folder, which goes with the handle.
-///
-/// Answers an error also where others have it at each of 1,000,000 turns.
-fn lock(folder: &File) -> io::Result<()> {
-    for _ in 0..LOCK_TURNS {
-        match folder.try_lock() {
-            Ok(()) => return Ok(()),
-            Err(TryLockError::WouldBlock) => thread::yield_now(),
-            Err(TryLockError::Error(error)) => return Err(error),
-        }
+/// Whether nothing has this path.
+fn is_free<R: FolderSystem>(rt: &R, path: &str) -> io::Result<bool> {
+    match fs::symlink_metadata(rt, path) {
+        Ok(_) => Ok(false),
+        Err(error) if error.kind() == ErrorKind::NotFound => Ok(true),
+        Err(error) => Err(error),
     }
-    Err(io::Error::from(ErrorKind::WouldBlock))
+}
+
+/// Fails where the path does not lead to the file that was latched.
+fn look_again<R: FolderSystem>(rt: &R, file: &ReelFile) -> io::Result<()> {
+    let found = fs::symlink_metadata(rt, file.from.as_str())?;
+    if file.id.is_plain(&found) {
+        Ok(())
+    } else {
+        Err(io::Error::from(ErrorKind::StaleNetworkFileHandle))
+    }
 }
 
 /// Moves the file to the bin by one rename, under the lock of the bin's folder, where no name in the bin is its name. It
 /// makes nothing else there, and takes no memory.
 ///
-/// After an error nothing changed. Both folders are synced after the rename, and what fails then changes nothing.
-pub(super) fn move_file<R: Files<File = File>>(
+/// After a refusal nothing changed. The bin's folder is synced after the rename, and then the stack's, and what fails then
+/// changes nothing.
+pub(super) fn move_file<R: FolderSystem>(
     rt: &R,
     file: &ReelFile,
     stack: &str,
     bin: &str,
-) -> io::Result<Moved> {
-    let stack = File::open(rt, stack)?;
-    let bin = File::open(rt, bin)?;
-    lock(&bin)?;
-    match fs::symlink_metadata(rt, file.to.as_str()) {
-        Ok(_) => return Ok(Moved::NameTaken),
-        Err(error) if error.kind() == ErrorKind::NotFound => {}
-        Err(error) => return Err(error),
+) -> Result<Moved, Refusal> {
+    let (from, to) = (file.from.as_str(), file.to.as_str());
+    let left = at(stack, "open", File::open(rt, stack))?;
+    let entered = at(bin, "open", File::open(rt, bin))?;
+    at(bin, "lock", wait_for_lock(rt, &entered))?;
+    if !at(to, "stat", is_free(rt, to))? {
+        return Ok(Moved::NameTaken);
     }
-    let found = fs::symlink_metadata(rt, file.from.as_str())?;
-    if !is_same(&file.listed, &found) {
-        return Err(io::Error::from(ErrorKind::StaleNetworkFileHandle));
-    }
-    fs::rename(rt, file.from.as_str(), file.to.as_str())?;
-    // Others need not wait for the syncs.
-    let _ = bin.unlock();
-    let _ = stack.sync_all();
-    let _ = bin.sync_all();
+    at(from, "stat", look_again(rt, file))?;
+    at(from, "rename", fs::rename(rt, from, to))?;
+    // Others need not wait for the syncs. The bin's comes first, so that the name stands in one of them at least.
+    let _ = entered.unlock();
+    let _ = entered.sync_all();
+    let _ = left.sync_all();
     Ok(Moved::Done)
 }

@@ -1,21 +1,25 @@
 //! One drive whose stack is a folder.
 
-ghost use Rattle.std.specs.Prelude.{◌≡◌, ◌≢◌, false, true, IfOk, IsSome, is_some, MatchBool, MatchResult};
+ghost use Rattle.std.specs.Prelude.{◌≡◌, ◌≢◌, false, true, IfOk, IsErr, IsSome, is_some, MatchBool, MatchResult};
 ghost use Rattle.reel_files.specs.Folders.{folder_row};
 
 use super::FolderDrive;
-use super::listing::{first_file, open_listed};
+use super::known::Written;
+use super::line::Line;
+use super::listing::{Opened, open_first};
 use super::moving::{Moved, ReelFile, move_file};
+use super::refusal::{Refusal, at};
+use crate::{FileMedium, FolderSystem};
 use std::alloc::{AllocError, Global};
+use std::fmt::Write;
 use std::fs::File;
 use std::io::{self, ErrorKind};
 use std::marker::Model;
-use std::rt::Files;
 
 /// A drive of a `FolderStacks`: its name, the folder of its stack, and the file of the reel that is latched.
 #[derive(Drop)]
 pub(super) struct FolderRack {
-    name: Vec<u8>,
+    name: String,
     folder: String,
     latched: Option<ReelFile>,
 }
@@ -26,7 +30,7 @@ impl Model for FolderRack {
 
     ghost Value = { FolderRow };
 
-    ghost view = { λ r. folder_row r.name.items (string_bytes r.folder) (is_some r.latched) };
+    ghost view = { λ r. folder_row (string_bytes r.name) (string_bytes r.folder) (is_some r.latched) };
 }
 
 impl FolderRack {
@@ -35,7 +39,7 @@ impl FolderRack {
         ensures { IfOk result (λ made. made ≡ folder_row drive.now.name.now drive.now.folder.now false) }
     {
         Ok(FolderRack {
-            name: Vec::from_slice(alloc, drive.name.as_bytes())?,
+            name: String::from_str(alloc, drive.name)?,
             folder: String::from_str(alloc, drive.folder)?,
             latched: None,
         })
@@ -45,7 +49,7 @@ impl FolderRack {
     pub(super) fn is_named(&self, name: &[u8]) -> bool
         ensures { MatchBool result (self.now.name ≡ name.now) (self.now.name ≢ name.now) }
     {
-        self.name.as_slice() == name
+        self.name.as_bytes() == name
     }
 
     /// The folder of the stack.
@@ -64,36 +68,159 @@ impl FolderRack {
 
     /// Opens and locks the file of the reel that a latch takes. None where one is latched already, and where no plain file
     /// lies in the folder.
-    pub(super) fn find<R: Files<File = File> + AllocGlobal + Clone + Drop>(
-        &self,
-        rt: &R,
-        bin: &str,
-    ) -> io::Result<Option<(File, ReelFile)>>
+    pub(super) fn find<R: FolderSystem>(&self, rt: &R, bin: &str) -> Result<Option<Found>, Refusal>
         ensures free { MatchResult result (λ found. IsSome found → self.now.latched ≡ false) (λ _. self.now.latched ≡ false) }
     {
         if self.latched.is_some() {
             return Ok(None);
         }
-        let Some(first) = first_file(rt, self.folder.as_str())? else {
+        let Some(opened) = open_first(rt, self.folder.as_str())? else {
             return Ok(None);
         };
-        let name = first.name.as_str();
-        let from = format!(in rt.alloc(); "{}/{name}", self.folder)?;
-        let to = format!(in rt.alloc(); "{bin}/{name}")?;
-        let listed = first.metadata;
-        let file = open_listed(rt, from.as_str(), &listed)?;
-        Ok(Some((file, ReelFile { from, to, listed })))
+        Ok(Some(found_of(rt.alloc(), opened, bin)?))
     }
 
-    /// Moves the file of the latched reel to the bin. It takes no memory.
-    ///
-    /// Answers an error also where none is latched. Nothing changed then.
-    pub(super) fn move_to<R: Files<File = File>>(&self, rt: &R, bin: &str) -> io::Result<Moved>
-        ensures latched { IfOk result (λ _. self.now.latched ≡ true) }
-    {
+    /// The line of a latch that was refused.
+    pub(super) fn refused_line(&self, refusal: &Refusal) -> Line {
+        let mut line = Line::new();
+        let (place, reason) = (refusal.place(), refusal.reason);
+        let _ = write!(line, "{}: open refused: {place}{reason}", self.name);
+        line
+    }
+
+    /// The line of a latch.
+    pub(super) fn found_line(&self, found: &Found) -> Line {
+        let mut line = Line::new();
+        let access = if found.reads_only {
+            ", to read only"
+        } else {
+            ""
+        };
+        let _ = write!(line, "{}: {} opened{access}", self.name, found.latched.name);
+        line
+    }
+
+    /// Syncs the file of the latched reel, where it was written to since the latch. Answers the line of its close, none where none is
+    /// latched. It takes no memory.
+    pub(super) fn close(&self, medium: &FileMedium) -> Option<Line> {
         let Some(file) = &self.latched else {
-            return Err(io::Error::from(ErrorKind::NotFound));
+            return None;
+        };
+        let mut line = Line::new();
+        let _ = write!(line, "{}: {} closed", self.name, file.name);
+        if was_written(file, medium) {
+            match medium.sync() {
+                Ok(()) => {
+                    let _ = write!(line, ", synced");
+                }
+                Err(reason) => {
+                    let _ = write!(line, ", sync failed: {reason}");
+                }
+            }
+        }
+        Some(line)
+    }
+
+    /// Syncs the file of the latched reel. It takes no memory.
+    pub(super) fn sync(&self, medium: &FileMedium) -> Result<(), Refusal> {
+        let path = self.latched_path();
+        at(path, "sync", medium.sync())
+    }
+
+    /// The path of the latched reel, or the folder's.
+    fn latched_path(&self) -> &str {
+        match &self.latched {
+            Some(file) => file.from.as_str(),
+            None => self.folder.as_str(),
+        }
+    }
+
+    /// Moves the file of the latched reel to the bin, where it could be synced. It takes no memory.
+    ///
+    /// It is refused also where none is latched. Nothing changed then.
+    pub(super) fn move_to<R: FolderSystem>(
+        &self,
+        rt: &R,
+        bin: &str,
+        synced: Result<(), Refusal>,
+    ) -> Result<Moved, Refusal>
+        ensures latched { IfOk result (λ _. self.now.latched ≡ true) }
+        ensures unsynced { IsErr synced → IsErr result }
+    {
+        synced?;
+        let Some(file) = &self.latched else {
+            let none = io::Error::from(ErrorKind::NotFound);
+            return Err(Refusal::new(self.folder.as_str(), "move", none));
         };
         move_file(rt, file, self.folder.as_str(), bin)
+    }
+
+    /// The line of a move. It takes no memory.
+    pub(super) fn moved_line(&self, moved: &Result<Moved, Refusal>) -> Line {
+        let mut line = Line::new();
+        let (drive, reel) = (self.name.as_str(), self.latched_name());
+        let _ = match moved {
+            Ok(Moved::Done) => write!(line, "{drive}: {reel} moved to the bin"),
+            Ok(Moved::NameTaken) => {
+                write!(line, "{drive}: move refused: {reel}: the bin has the name")
+            }
+            Err(refusal) => {
+                let (place, reason) = (refusal.place(), refusal.reason);
+                write!(line, "{drive}: move refused: {place}{reason}")
+            }
+        };
+        line
+    }
+
+    /// The name of the latched reel, empty where none is latched.
+    fn latched_name(&self) -> &str {
+        match &self.latched {
+            Some(file) => file.name.as_str(),
+            None => "",
+        }
+    }
+}
+
+/// A file that was opened and locked, and what a drive keeps of it.
+#[derive(Drop)]
+pub(super) struct Found {
+    /// The handle.
+    pub(super) file: File,
+    /// It may only be read.
+    reads_only: bool,
+    /// What the drive keeps.
+    pub(super) latched: ReelFile,
+}
+
+/// The reel with its path in the bin.
+fn found_of(alloc: Global, opened: Opened, bin: &str) -> Result<Found, AllocError> {
+    let Opened {
+        file,
+        reads_only,
+        name,
+        path,
+        id,
+        written,
+    } = opened;
+    let to = format!(in alloc; "{bin}/{name}")?;
+    let latched = ReelFile {
+        name,
+        from: path,
+        to,
+        id,
+        written,
+    };
+    Ok(Found {
+        file,
+        reads_only,
+        latched,
+    })
+}
+
+/// Whether the file was written to since the latch, as far as its length and time show. Where they cannot be told it may have been.
+fn was_written(file: &ReelFile, medium: &FileMedium) -> bool {
+    match medium.file().metadata() {
+        Ok(known) => Written::of(&known) != file.written,
+        Err(_) => true,
     }
 }

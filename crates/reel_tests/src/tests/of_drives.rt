@@ -1,6 +1,7 @@
 //! Holds, stacks and their table, one call after another.
 
 mod faults;
+mod folder_log;
 mod folders;
 mod reels;
 mod rounds;

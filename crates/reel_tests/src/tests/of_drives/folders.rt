@@ -3,12 +3,12 @@
 ghost use Rattle.std.specs.Prelude.{◌≡◌, length};
 
 use drives::{DriveFault, Stacks};
-use reel_files::{FolderDrive, FolderStacks};
+use reel_files::{FolderDrive, FolderStacks, NoLog};
 use std::fs;
 use std::io::{self, ErrorKind};
 use tape::Reel;
 
-type Folders = FolderStacks<HostRuntime>;
+type Folders = FolderStacks<HostRuntime, NoLog>;
 
 /// The stacks and the bin, all in one folder.
 static FOLDERS: [&str; 4] = ["folders", "folders/st0", "folders/st1", "folders/bin"];

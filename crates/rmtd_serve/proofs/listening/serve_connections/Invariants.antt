@@ -2,4 +2,4 @@ use Rattle.rmtd_serve.specs.Serving.{ServedInTurn}
 use Rattle.rmtd_serve.proofs.listening.serve_connections.Given as goal
 
 abbrev pub invariant-loop : goal.invariant-loop
-invariant-loop l = ServedInTurn l.fn.server l.server
+invariant-loop g l = ServedInTurn l.fn.server l.server

@@ -5,5 +5,5 @@ use Rattle.rmtd_serve.proofs.listening.serve_stream.Goals as goal
 
 pub returns : goal.returns
 returns c =
-    let served = c.serve.ensures in
+    let served = c.serve-ending.ensures in
     subst (ServedInTurn c.args.server.now) (sym served.left) (one_more served.done served.finish none served.run)

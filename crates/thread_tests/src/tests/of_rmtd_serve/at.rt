@@ -23,7 +23,7 @@ fn served(alloc: Global, table: &HoldTable, seat: HoldSeat, stacks: ListStacks) 
     let drives = DriveTable { holds, stacks };
     let mut input = Counted::new(b"O/dev/st0\n2\nW3\nabcI5\n1\nR9\n".as_slice());
     let mut output = Counted::new(Vec::new(alloc));
-    serve_at(alloc, drives, seat, &mut input, &mut output);
+    serve_at(alloc, drives, seat, 1, &mut input, &mut output);
     output.into_inner()
 }
 

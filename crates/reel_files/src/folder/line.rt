@@ -1,0 +1,39 @@
+//! A line of a log, made without memory.
+
+use arrayvec::ArrayString;
+use std::fmt::{self, Write};
+
+/// A line has so many bytes at most.
+const LINE_ROOM: usize = 1_000;
+
+/// A text of one line. Control characters stand in it as question marks, and what has no room is left out.
+#[derive(Clone, Copy)]
+pub(super) struct Line {
+    text: ArrayString<LINE_ROOM>,
+}
+
+impl Line {
+    /// A line without text.
+    pub(super) fn new() -> Line {
+        Line {
+            text: ArrayString::new(),
+        }
+    }
+
+    /// What stands in it.
+    pub(super) fn as_str(&self) -> &str {
+        self.text.as_str()
+    }
+}
+
+impl Write for Line {
+    fn write_str(&mut self, text: &str) -> fmt::Result {
+        for letter in text.chars() {
+            let shown = if letter.is_control() { '?' } else { letter };
+            if self.text.try_push(shown).is_err() {
+                return Err(fmt::Error);
+            }
+        }
+        Ok(())
+    }
+}

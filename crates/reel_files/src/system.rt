@@ -1,0 +1,9 @@
+//! What drives in folders use of the system.
+
+use std::fs::File;
+use std::rt::{Clock, Files};
+
+/// A runtime with files, a clock and an allocator.
+pub trait FolderSystem: Files<File = File> + Clock + AllocGlobal + Clone + Drop {}
+
+impl<R: Files<File = File> + Clock + AllocGlobal + Clone + Drop> FolderSystem for R {}

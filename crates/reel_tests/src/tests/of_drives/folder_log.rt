@@ -1,0 +1,136 @@
+//! The lines that drives in folders note.
+
+ghost use Rattle.std.specs.Prelude.{◌≡◌, length};
+
+use drives::{DriveFault, Stacks};
+use reel_files::{FolderDrive, FolderStacks, Log};
+use std::cell::Cell;
+use std::{fs, io};
+use tape::Reel;
+
+/// A log that compares each line with the next one that is wanted.
+#[derive(Clone, Copy)]
+struct Compared<'a> {
+    /// How many lines were as is wanted; none after one that was not.
+    right: &'a Cell<Option<usize>>,
+}
+
+impl Log for Compared<'_> {
+    fn note(&self, line: &str) {
+        let number = self.right.get().unwrap_or(WANTED.len());
+        let is_right = WANTED.get(number) == Some(&line);
+        self.right.set(if is_right {
+            number.checked_add(1)
+        } else {
+            None
+        });
+    }
+}
+
+type Logged<'a> = FolderStacks<HostRuntime, Compared<'a>>;
+
+static WANTED: [&str; 9] = [
+    "/dev/st0: r1 opened",
+    "/dev/st1: open refused: logged/st0/r1: lock: another has the lock",
+    "/dev/st0: r1 closed, synced",
+    "/dev/st0: r1 opened",
+    "/dev/st0: move refused: r1: the bin has the name",
+    "/dev/st0: r1 closed",
+    "/dev/st1: r1 opened",
+    "/dev/st1: r1 moved to the bin",
+    "a line of another",
+];
+
+/// The stack of both drives, and the bin, all in one folder.
+static FOLDERS: [&str; 3] = ["logged", "logged/st0", "logged/bin"];
+
+static DRIVES: [FolderDrive; 2] = [
+    FolderDrive {
+        name: "/dev/st0",
+        folder: "logged/st0",
+    },
+    FolderDrive {
+        name: "/dev/st1",
+        folder: "logged/st0",
+    },
+];
+
+/// Makes the folders and the reel, and something in the bin that has its name.
+fn make_all(rt: &HostRuntime) -> io::Result<()> {
+    for path in &FOLDERS {
+        fs::create_dir(rt, *path)?;
+    }
+    fs::write(rt, "logged/st0/r1", "")?;
+    fs::write(rt, "logged/bin/r1", "")
+}
+
+/// Whether the first drive's reel takes a record, while the second cannot open it.
+fn is_written(stacks: &mut Logged<'_>) -> bool
+    requires { length stacks.old.rows ≡ 2 }
+    ensures { length stacks.new.rows ≡ 2 }
+{
+    let Ok(mut reel) = stacks.latch(0) else {
+        return false;
+    };
+    let other = matches!(stacks.latch(1), Err(DriveFault::Device));
+    let written = reel.write(b"hello").is_ok();
+    stacks.unlatch(0, reel);
+    other && written
+}
+
+/// Whether the first drive's reel is not moved, since the bin has its name.
+fn is_refused(stacks: &mut Logged<'_>) -> bool
+    requires { length stacks.old.rows ≡ 2 }
+    ensures { length stacks.new.rows ≡ 2 }
+{
+    let Ok(reel) = stacks.latch(0) else {
+        return false;
+    };
+    match stacks.offline(0, reel) {
+        Ok(()) => false,
+        Err((reel, fault)) => {
+            stacks.unlatch(0, reel);
+            fault == DriveFault::NameTaken
+        }
+    }
+}
+
+/// Whether the second drive's reel is moved to the bin.
+fn is_moved(stacks: &mut Logged<'_>) -> bool
+    requires { length stacks.old.rows ≡ 2 }
+{
+    let Ok(reel) = stacks.latch(1) else {
+        return false;
+    };
+    stacks.offline(1, reel).is_ok()
+}
+
+/// Whether the reel is written to, is not moved while the bin has its name, and is moved then.
+fn go_round(rt: &HostRuntime, stacks: &mut Logged<'_>) -> io::Result<bool>
+    requires { length stacks.old.rows ≡ 2 }
+{
+    let refused = is_written(stacks) && is_refused(stacks);
+    fs::remove_file(rt, "logged/bin/r1")?;
+    let moved = is_moved(stacks);
+    stacks.note("a line of another");
+    Ok(refused && moved)
+}
+
+/// The same of new folders, which are removed then.
+fn go_round_anew(rt: HostRuntime, right: &Cell<Option<usize>>) -> io::Result<bool> {
+    let _ = fs::remove_dir_all(&rt, "logged");
+    make_all(&rt)?;
+    let log = Compared { right };
+    let mut stacks = FolderStacks::with_log(rt.clone()?, &DRIVES, "logged/bin", 100, log)?;
+    let round = go_round(&rt, &mut stacks)?;
+    fs::remove_dir_all(&rt, "logged")?;
+    Ok(round)
+}
+
+#[test]
+fn what_is_done_is_noted(rt: HostRuntime) -> io::Result<()> {
+    let right = Cell::new(Some(0));
+    let round = go_round_anew(rt.clone()?, &right)?;
+    assert!(rt; round && right.get() == Some(WANTED.len()));
+    Ok(())
+}

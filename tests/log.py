@@ -1,0 +1,320 @@
+#!/usr/bin/env python3
+"""Checks what the built server writes on standard error while it listens: which lines, of what, and that they stop nobody.
+
+    log.py [RMTD]
+
+docs/OPERATING.md has the lines in a table.
+"""
+
+from __future__ import annotations
+
+import argparse
+import fcntl
+import os
+import re
+import resource
+import subprocess
+import sys
+import tempfile
+import threading
+from contextlib import contextmanager
+from pathlib import Path
+from typing import Iterator
+
+from checks import check, ended
+from model_rmtd import images
+from threads import (
+    CLOSE,
+    CONNECTIONS,
+    DONE,
+    DONE_ONE,
+    IO_ERROR,
+    NOTHING,
+    NOTHING_OPEN,
+    OFFLINE,
+    SPARE_MEMORY,
+    Server,
+    Talk,
+    is_served,
+    opened,
+    reset,
+    run_all,
+    serving,
+    soon,
+    talking,
+    write,
+)
+
+CRATES = Path(__file__).resolve().parent.parent / "crates"
+ADDRESS = r"127\.0\.0\.1:\d+"
+# What a line is, without `rmtd: ` before it.
+FORMS = (
+    rf"connection (?P<came>\d+): accepted from {ADDRESS}",
+    r"connection \d+: closed: .+",
+    r"accept failed: .+ \(os error \d+\)",
+    r"seat (?P<begun>\d+): connection (?P<served>\d+): served",
+    r"seat (?P<left>\d+): connection (?P<ended>\d+): ended: (end|truncated|UnknownCommand|BadNumber|LineTooLong|stream failed)",
+    r"seat \d+: /dev/st\d+: .+",
+)
+SMALLEST_PIPE = 4096
+
+
+def lines_of(server: Server) -> list[str]:
+    """The whole lines of the log so far, without `rmtd: `, which each begins with."""
+    *lines, rest = server.log.read_text().split("\n")
+    check("the log: each line begins with the program's name", all(it.startswith("rmtd: ") for it in lines), lines)
+    return [it.removeprefix("rmtd: ") for it in lines]
+
+
+def has(server: Server, pattern: str) -> bool:
+    """Whether the log has such a line, or soon has."""
+    return soon(lambda: any(re.fullmatch(pattern, it) for it in lines_of(server)))
+
+
+def count(server: Server, pattern: str) -> int:
+    return sum(re.fullmatch(pattern, it) is not None for it in lines_of(server))
+
+
+def endings(rmtd: str) -> None:
+    """Each way in which a connection ends: it is accepted, served at a seat, and ended there."""
+    ways = (
+        ("end", NOTHING, False),
+        ("end", b"", False),
+        ("truncated", b"W3\nab", False),
+        ("UnknownCommand", b"GET / HTTP/1.1\r\n", False),
+        ("BadNumber", b"I7x\n", False),
+        ("LineTooLong", b"O" + b"x" * 256, False),
+        ("stream failed", NOTHING, True),
+    )
+    with serving(rmtd) as server:
+        for number, (way, sent, is_reset) in enumerate(ways, 1):
+            talk = Talk(server.address)
+            talk.stream.sendall(sent)
+            if sent == NOTHING:
+                check(f"ended, {way}: it is served", talk.reply() == NOTHING_OPEN)
+            port = talk.stream.getsockname()[1]
+            if is_reset:
+                reset(talk.stream)
+                talk.close()
+            else:
+                talk.end()
+            title = f"connection {number}, {way}"
+            check(f"{title}: accepted", has(server, rf"connection {number}: accepted from 127\.0\.0\.1:{port}"))
+            check(f"{title}: served", has(server, rf"seat \d+: connection {number}: served"))
+            check(f"{title}: ended", has(server, rf"seat \d+: connection {number}: ended: {way}"), lines_of(server))
+
+
+def reels(rmtd: str) -> None:
+    """A drive that is opened and closed, a reel that is moved, and an open and a move that are refused, each with the seat of its connection."""
+    with serving(rmtd) as server:
+        reel = server.reel("r1")
+        server.reel("r2")
+        (server.bin / "r2").touch()
+        with talking(server) as talk:
+            talk.asks("reels", (opened(), DONE), (write(b"x"), DONE_ONE), (CLOSE, DONE))
+            with reel.open("rb") as held:
+                fcntl.flock(held, fcntl.LOCK_EX)
+                talk.asks("reels, locked", (opened(), IO_ERROR))
+            talk.asks("reels, moved", (opened(), DONE), (OFFLINE, DONE_ONE), (CLOSE, DONE))
+            talk.asks("reels, the name is taken", (opened(), DONE), (OFFLINE, IO_ERROR), (CLOSE, DONE))
+        check("reels: the connection is served", has(server, r"seat \d+: connection 1: ended: end"))
+        seat = next(it for it in lines_of(server) if it.endswith("connection 1: served")).split(":")[0]
+        mine = [it.removeprefix(f"{seat}: /dev/st0: ") for it in lines_of(server) if it.startswith(f"{seat}: /dev/st0: ")]
+        wanted = (
+            "r1 opened",
+            "r1 closed.*",
+            rf"open refused: {re.escape(str(reel))}: lock: another has the lock",
+            "r1 opened",
+            "r1 moved to the bin",
+            "r2 opened",
+            "move refused: .*r2.*",
+            "r2 closed.*",
+        )
+        good = len(mine) == len(wanted) and all(re.fullmatch(form, it) for form, it in zip(wanted, mine))
+        check("reels: the lines of its seat", good, mine, wanted)
+
+
+def too_many(rmtd: str) -> None:
+    """A connection above the most, and one for which no thread is had, are told as closed, and why."""
+    with serving(rmtd) as server:
+        talks = [Talk(server.address) for _ in range(CONNECTIONS)]
+        check("too many: all are served", all([it.ask(NOTHING) == NOTHING_OPEN for it in talks]))
+        with talking(server) as other:
+            check("too many: one more is closed", other.is_closed())
+        check("too many: it is told", has(server, rf"connection {CONNECTIONS + 1}: closed: no seat is free"), lines_of(server)[-3:])
+        for it in talks:
+            it.end()
+    with serving(rmtd) as server:
+        server.may_take(SPARE_MEMORY)
+        with talking(server) as talk:
+            check("no thread: it is closed", talk.is_closed())
+        check("no thread: it is told", has(server, "connection 1: closed: no thread"), lines_of(server))
+
+
+def failed_accepts(rmtd: str) -> None:
+    """Accepts that fail are told once, while they fail. Connections are served when they fail no more. One for which the system had waited
+    before is accepted, and closed since its second file is refused."""
+    with serving(rmtd) as server:
+        files = len(os.listdir(f"/proc/{server.process.pid}/fd"))
+        _, most = resource.prlimit(server.process.pid, resource.RLIMIT_NOFILE)
+        for title in ("once", "and once again"):
+            resource.prlimit(server.process.pid, resource.RLIMIT_NOFILE, (files, most))
+            talk = Talk(server.address)
+            wanted = 1 if title == "once" else 2
+            failed = r"accept failed: .+ \(os error 24\)"
+            check(f"accept failed, {title}", soon(lambda: count(server, failed) == wanted), lines_of(server)[-3:])
+            resource.prlimit(server.process.pid, resource.RLIMIT_NOFILE, (most, most))
+            check(f"accept failed, {title}: connections are served then", is_served(server))
+            check(f"accept failed, {title}: there is one line", count(server, failed) == wanted, lines_of(server)[-3:])
+            talk.end()
+            check("accept failed: its files are closed", soon(lambda: len(os.listdir(f"/proc/{server.process.pid}/fd")) == files))
+        check("accept failed: one is closed", has(server, r"connection \d+: closed: .+ \(os error 24\)"), lines_of(server))
+
+
+def at_once(rmtd: str) -> None:
+    """The lines of many connections at once: each is whole, each connection has its three, and a seat serves one after the other."""
+    with serving(rmtd, drives=CONNECTIONS) as server:
+        for number in range(CONNECTIONS):
+            server.reel(f"r{number}", number)
+
+        def converse(number: int) -> None:
+            for _ in range(4):
+                talk = Talk(server.address)
+                if talk.ask(opened(number)) == DONE:
+                    talk.ask(write(b"x"))
+                talk.end()
+
+        run_all([threading.Thread(target=converse, args=(number,)) for number in range(CONNECTIONS)])
+        check("at once: all have ended", soon(lambda: server.held()[1] == 1))
+        lines = lines_of(server)
+        found = [next(filter(None, (re.fullmatch(form, it) for form in FORMS)), None) for it in lines]
+        check("at once: each line has a form", all(found), [line for line, it in zip(lines, found) if not it][:3])
+        told: list[tuple[str, str]] = []
+        seats: dict[str, str] = {}
+        for it in (it.groupdict() for it in found if it):
+            told += [(word, it[word]) for word in ("came", "served", "ended") if it.get(word)]
+            if it.get("begun"):
+                check("at once: the seat is free", it["begun"] not in seats, it, seats)
+                seats[it["begun"]] = it["served"]
+            if it.get("left"):
+                check("at once: it ends at its seat", seats.pop(it["left"], None) == it["ended"], it)
+        served = {number for word, number in told if word == "served"}
+        for number in served:
+            words = [word for word, its in told if its == number]
+            check("at once: accepted, served, ended", words == ["came", "served", "ended"], number, words)
+        check("at once: most are served", len(served) > CONNECTIONS, len(served))
+
+
+@contextmanager
+def listening(words: list[str], **how: object) -> Iterator[tuple[subprocess.Popen[bytes], tuple[str, int]]]:
+    """A server with these words, and its address."""
+    process = subprocess.Popen(words, stdout=subprocess.PIPE, **how)
+    try:
+        host, port = re.fullmatch(r"listening on (.+):(\d+)\n", process.stdout.readline().decode()).groups()
+        yield process, (host, int(port))
+    finally:
+        process.kill()
+        process.wait()
+        process.stdout.close()
+
+
+def folder_words(rmtd: str, folder: Path) -> list[str]:
+    """The words of a server with a drive in a folder that has a reel."""
+    for name in ("st0", "bin"):
+        (folder / name).mkdir()
+    (folder / "st0/r1").touch()
+    return [rmtd, "--listen", "127.0.0.1:0", "--bin", str(folder / "bin"), f"/dev/st0={folder / 'st0'}"]
+
+
+def converses(address: tuple[str, int]) -> bool:
+    """Whether a connection is served: it opens the drive, writes, and closes it."""
+    talk = Talk(address)
+    good = [talk.ask(it) for it in (opened(), write(b"x"), CLOSE)] == [DONE, DONE_ONE, DONE]
+    talk.end()
+    return good
+
+
+def unwritable(rmtd: str) -> None:
+    """Standard error that is not there, is full, or is a pipe that nobody has open: the lines are dropped, and neither a reel nor a
+    connection gets them."""
+    closed = ["/bin/sh", "-c", 'exec "$@" 0<&- 2>&-', "sh"]
+    to_full = ["/bin/sh", "-c", 'exec "$@" 2>/dev/full', "sh"]
+    for title, before in (("closed", closed), ("full", to_full)):
+        with tempfile.TemporaryDirectory() as folder:
+            words = [*before, *folder_words(rmtd, Path(folder))]
+            with listening(words, stdin=subprocess.DEVNULL) as (process, address):
+                good = [converses(address) for _ in range(3)]
+                check(f"standard error is {title}: connections are served", all(good) and process.poll() is None, good)
+            reel = Path(folder, "st0/r1").read_bytes()
+            check(f"standard error is {title}: the reel", reel == images([b"x"]), reel)
+    with tempfile.TemporaryDirectory() as folder:
+        with listening(folder_words(rmtd, Path(folder)), stderr=subprocess.PIPE) as (process, address):
+            process.stderr.close()
+            good = [converses(address) for _ in range(3)]
+            check("nobody reads standard error: connections are served", all(good) and process.poll() is None, good)
+
+
+def unread(rmtd: str) -> None:
+    """A pipe that is full has the server wait, and it goes on once somebody reads."""
+    with tempfile.TemporaryDirectory() as folder:
+        reader, writer = os.pipe()
+        fcntl.fcntl(writer, fcntl.F_SETPIPE_SZ, SMALLEST_PIPE)
+        with listening(folder_words(rmtd, Path(folder)), stderr=writer) as (process, address):
+            filled = os.write(writer, b"\n" * (SMALLEST_PIPE - 10))
+            os.close(writer)
+            talk = Talk(address)
+            talk.stream.sendall(opened())
+            state = Path(f"/proc/{process.pid}/wchan")
+            check("a full pipe: the server waits", soon(lambda: "pipe" in state.read_text() or not state.read_text().strip("0")))
+            got = b""
+
+            def read() -> None:
+                nonlocal got
+                while piece := os.read(reader, 1 << 16):
+                    got += piece
+
+            thread = threading.Thread(target=read, daemon=True)
+            thread.start()
+            check("a full pipe: the server goes on", talk.reply() == DONE and talk.ask(CLOSE) == DONE)
+            talk.end()
+            check("a full pipe: others are served", converses(address))
+        thread.join()
+        os.close(reader)
+        lines = got[filled:].decode().splitlines()
+        check("a full pipe: no line is lost", [it for it in lines if "accepted" in it] and all(it.startswith("rmtd: ") for it in lines), lines)
+
+
+def in_memory(rmtd: str) -> None:
+    """A reel in memory is told of once at the start, and connections have their lines."""
+    for more in ([], ["--bin", "/"]):
+        with tempfile.TemporaryFile() as log, listening([rmtd, "--listen", "127.0.0.1:0", "--connections", "2", *more], stderr=log) as (process, address):
+            check("in memory: it is served", converses(address) and converses(address))
+            check("in memory: it ends", process.wait(60) == 0)
+            log.seek(0)
+            lines = log.read().decode().splitlines()
+        ways = [rf"connection {number}: {what}" for number in (1, 2) for what in (f"accepted from {ADDRESS}", "ended: end")]
+        wanted = [f"rmtd: {it}" for it in ("the reel of /dev/st0 is in memory, and is gone when the server ends", *ways)]
+        check("in memory: the lines", len(lines) == 5 and all(map(re.fullmatch, wanted, lines)), lines)
+
+
+def with_stdio(rmtd: str) -> None:
+    """On standard input and output nothing is told, whatever is asked."""
+    asked = opened() + write(b"x") + OFFLINE + CLOSE + opened() + b"?"
+    with tempfile.TemporaryDirectory() as folder:
+        words = [it if it != "--listen" else "--stdio" for it in folder_words(rmtd, Path(folder)) if it != "127.0.0.1:0"]
+        for title, given in (("folders", words), ("memory", [rmtd, "--stdio"])):
+            got = subprocess.run(given, input=asked, capture_output=True, check=False)
+            check(f"stdio, {title}: nothing is told", (got.returncode, got.stderr) == (3, b""), got)
+
+
+def main() -> int:
+    parser = argparse.ArgumentParser(description="Checks what the built server writes on standard error.")
+    parser.add_argument("rmtd", nargs="?", default=str(CRATES / "rmtd/out/rmtd"))
+    rmtd = os.path.abspath(parser.parse_args().rmtd)
+    for part in (endings, reels, too_many, failed_accepts, at_once, unwritable, unread, in_memory, with_stdio):
+        part(rmtd)
+    return ended()
+
+
+if __name__ == "__main__":
+    sys.exit(main())
