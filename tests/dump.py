@@ -424,7 +424,8 @@ def progress(p: Programs) -> None:
         check(f"{title}: the dump", (ended.output, ended.status) == ("" if both else TWO_VOLUMES, DONE), ended)
         lines = [CLEAR + it if both else CLEAR for it in TWO_VOLUMES.replace("\n", "\r\n").splitlines(keepends=True)]
         later = r"(\rvolume [12], block [123] of 3, \d+ [KM]iB/s\x1b\[K)*"
-        wanted = re.escape("\rvolume 1, block 1 of 3, 0 KiB/s\x1b[K") + later + later.join(re.escape(it) for it in lines)
+        since = "since the epoch: every block counts as new\r\n"
+        wanted = re.escape(f"{since}\rvolume 1, block 1 of 3, 0 KiB/s\x1b[K") + later + later.join(re.escape(it) for it in lines)
         check(f"{title}: what it shows", re.fullmatch(wanted, shown) is not None, shown, wanted)
     model = Model(Reel("r1", 3100), Reel("r2", 3100))
     ends("no terminal, nothing shown", p.dump(model.address), TWO_VOLUMES, DONE)
@@ -481,16 +482,16 @@ def retries(p: Programs) -> None:
         ("yes without a line feed", "yes", first + again + "dump abandoned\n"),
     ):
         with p.listening("--capacity", "3100") as (address, _):
-            ends(f"answered by {title}", p.dump(address, "--update", said=said), want, ABNORMAL)
+            ends(f"answered by {title}", p.dump(address, "--update", said=said), want, ABNORMAL, "Refused 6")
     check("no dump is entered", p.text("dumpdates") == OLDER)
-    for title, model, fault in (
-        ("a lost reply to the move", Model(Reel("r1", 3100), Reel("r2", 3100), Reel("r3", 3100), lost=(8,)), "ConnectionEnded"),
+    for title, model, fault, *faults in (
+        ("a lost reply to the move", Model(Reel("r1", 3100), Reel("r2", 3100), Reel("r3", 3100), lost=(8,)), "ConnectionEnded", "ended"),
         ("a wrong number", Model(Reel("r1", 3100), Reel("r2", 3100), said={3: b"A1023\n"}), "ShortWrite"),
         ("no reply by the grammar", Model(Reel("r1", 3100), Reel("r2", 3100), said={2: b"X\n"}), "Botched"),
-        ("an error", Model(Reel("r1", 3100), Reel("r2", 3100), said={2: b"E5\nbroken\n"}), "Refused 5"),
+        ("an error", Model(Reel("r1", 3100), Reel("r2", 3100), said={2: b"E5\nbroken\n"}), "Refused 5", "Refused 5"),
     ):
         want = f"volume 1 failed: {fault}\nretry?\n" + TWO_VOLUMES
-        ends(title, p.dump(model.address, said="yes\n"), want, DONE)
+        ends(title, p.dump(model.address, said="yes\n"), want, DONE, *faults)
         check(f"{title}: the volumes", [len(it.entries) for it in model.bin[-2:]] == [4, 3])
         model.stop()
     killed(p)
@@ -510,7 +511,7 @@ def killed(p: Programs) -> None:
                 gate.forward(again)
                 rest, told = client.communicate(b"yes\n", timeout=GUARD_SECONDS)
             want = "volume 1: 128 blocks from 0\ndump complete: 1 volumes, 128 blocks\n"
-            check("killed: complete", (rest.decode(), client.returncode, told) == (want, DONE, b""), rest, client.returncode, told)
+            check("killed: complete", (rest.decode(), client.returncode) == (want, DONE) and gate.address in told.decode(), rest, client.returncode, told)
 
 
 class Gate:
@@ -585,8 +586,9 @@ def startup(p: Programs) -> None:
         fails(f"--{name} {value[:9]!r}", p.dump(nowhere, **{name: value}), fault)
     first = p.dump(nowhere, device="", fs="", level="10", date="253402300800", block="0")
     fails("the first limit that is broken", first, "device")
-    ends("no server", p.dump(nowhere), "volume 1 failed: ConnectionEnded\nretry?\ndump abandoned\n", ABNORMAL)
-    ends("no such host", p.dump("no.such.host.invalid:1"), "volume 1 failed: ConnectionEnded\nretry?\ndump abandoned\n", ABNORMAL)
+    lost = "volume 1 failed: ConnectionEnded\nretry?\ndump abandoned\n"
+    ends("no server", p.dump(nowhere), lost, ABNORMAL, nowhere)
+    ends("no such host", p.dump("no.such.host.invalid:1"), lost, ABNORMAL, "no.such.host.invalid:1")
     check("nothing is entered", p.text("dumpdates") == OLDER)
 
 
@@ -676,7 +678,7 @@ def reads(p: Programs) -> None:
             write_volume(address, [label(1, 0), *records, None])
             for turn in ("first", "second"):
                 got = p.run("read", "--to", address, "--device", DEVICE, "--out", "read")
-                ends(f"a volume of {title}, read the {turn} time", got, text, DONE)
+                ends(f"a volume of {title}, read the {turn} time", got, text, DONE, f"{len(records)} blocks")
                 check(f"a volume of {title}: the bytes", p.folder.joinpath("read").read_bytes() == b"".join(records))
     with p.listening() as (address, _):
         words = ("read", "--to", address, "--device", DEVICE)

@@ -28,6 +28,8 @@ CHECKS = {
     "schedules.py": ("rsim",),
     "recipes.py": ("rmtd", "rdump", "rsim"),
     "dump.py": ("rmtd", "rdump"),
+    "told.py": ("rmtd", "rdump"),
+    "updates.py": ("rdump",),
     "relay.py": ("rmtd", "rdump"),
     "clients.py": ("rmtd",),
     "cuts.py": ("rsim",),

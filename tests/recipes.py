@@ -116,6 +116,8 @@ UNSHOWN = {
     "rmtd: it did not start: out of memory": "memory is refused between the words and the first request only by chance",
     "its length could not be read": "it takes a disk that fails between two calls",
     "rdump: the clock: it tells no date": "it takes a clock before 1970, and all processes of a machine have one clock",
+    "rdump: FILE: its .new was locked for ten seconds": "tests/updates.py shows it, and waits for it beside other checks",
+    "rdump: FILE: its .new is no plain file": "tests/updates.py shows it, and a recipe of its own would take a dump more",
 }
 
 

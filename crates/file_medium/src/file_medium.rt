@@ -9,7 +9,7 @@ ghost use Rattle.file_medium.specs.Files.{file_kind};
 mod window;
 
 use std::fs::File;
-use std::io::{self, ErrorKind, IoSlice};
+use std::io::{self, ErrorKind, IoSlice, Seek, SeekFrom};
 use std::marker::Model;
 use std::os::unix::fs::FileExt;
 use tape::{Medium, MediumFailed};
@@ -217,9 +217,13 @@ impl Medium for FileMedium {
     ghost bounded = { λ _ _ told. absurd told };
 }
 
-/// How many bytes the file has.
-fn length_of(file: &File) -> io::Result<u64> {
-    Ok(file.metadata()?.len())
+/// How many bytes the file has. What is no plain file, as a block device, tells it by where it ends.
+fn length_of(mut file: &File) -> io::Result<u64> {
+    let found = file.metadata()?;
+    if found.is_file() {
+        return Ok(found.len());
+    }
+    file.seek(SeekFrom::End(0))
 }
 
 /// The offset behind the frame, the bytes and the frame from this one on, where a `u64` counts it.

@@ -15,6 +15,10 @@ IsHelpStatus status = (status ≡ 0) ⊎ (status ≡ 1)
 abbrev pub IsDatesStatus : ℕ → Type 0
 IsDatesStatus status = (status ≡ 0) ⊎ (status ≡ 1)
 
+-- of `rdump read`, once its file is open
+abbrev pub IsReadStatus : ℕ → Type 0
+IsReadStatus status = (status ≡ 0) ⊎ (status ≡ 3)
+
 -- of `rdump mt`
 abbrev pub IsMtStatus : ℕ → Type 0
 IsMtStatus status = (status ≡ 0) ⊎ (status ≡ 3)

@@ -1,5 +1,4 @@
 //! `rdump dates`.
-ghost use Rattle.std.specs.Prelude.{IfOk};
 ghost use Rattle.rdump_commands.specs.Status.{IsDatesStatus};
 
 use crate::System;
@@ -12,9 +11,9 @@ use std::{fs, io};
 /// and level that are asked.
 ///
 /// Answers the exit status: 0 where the answer was printed, and 1 where the file can't be read or is none, memory was refused,
-/// or a write failed. It fails where what is at fault could not be told.
-pub fn run_dates<R: System>(rt: &R, file: &str, asked: Option<(&str, u8)>) -> io::Result<u8>
-    ensures { IfOk result IsDatesStatus }
+/// or a write failed.
+pub fn run_dates<R: System>(rt: &R, file: &str, asked: Option<(&str, u8)>) -> u8
+    ensures { IsDatesStatus result }
 {
     let bytes = match fs::read(rt, file) {
         Ok(bytes) => bytes,

@@ -1,35 +1,37 @@
 //! `rdump dump`, up to the client of the dump.
-ghost use Rattle.std.specs.Prelude.{◌≡◌, IfOk};
+ghost use Rattle.std.specs.Prelude.{◌≡◌};
 ghost use Rattle.rdump_commands.specs.Status.{IsStatus};
 
-use crate::fault::{refuse_run, say, tell};
+use crate::fault::{FAILED, refuse_run, say, tell, tell_no_memory};
 use crate::{System, run_client};
+use dumpdates::DatesFault;
 use file_medium::FileMedium;
 use rdump_files::{
-    DumperFault, PayloadFile, ProgressLine, base_date, dumper, read_or_empty, read_steady,
-    seconds_now,
+    DumperFault, PayloadFile, ProgressLine, base_date, date_text, dumper, read_or_empty,
+    read_steady, seconds_now,
 };
 use rdump_words::DumpLine;
 use rmt_wire::Counted;
-use std::fs::File;
+use std::fs::{File, Metadata};
 use std::io::{self, Write};
+use std::os::unix::fs::FileTypeExt;
 use tape::{Medium, MediumFailed, MemoryMedium};
 
 /// Dumps a payload, as `rdump dump` does, and enters the dump in the dumpdates file where the words ask for it. `terminal` is
-/// standard error, where that is a terminal: it shows the progress.
+/// standard error, where that is a terminal: it shows the base date and the progress.
 ///
-/// A payload that is a plain file is read block by block while it is dumped. Any other file, as a pipe, and one that says that it
-/// has no bytes is read whole before that. What is at fault is found in this order: the payload, the dumpdates file, the clock, and
+/// A payload that is a plain file or a block device is read block by block while it is dumped. Any other file, as a pipe, and a
+/// plain one that says that it has no bytes is read whole before that. What is at fault is found in this order: the payload, the dumpdates file, the clock, and
 /// the limits of a run.
 ///
 /// Answers the exit status: 0 where the dump is complete, all was printed, and the dump is entered if it was to be; 1 where it
-/// could not begin; and else 3. It fails where what is at fault could not be told.
+/// could not begin; and else 3.
 pub fn run_dump<R: System, T: Write + Copy + Drop>(
     rt: &R,
     line: &DumpLine<'_>,
     terminal: Option<T>,
-) -> io::Result<u8>
-    ensures { IfOk result IsStatus }
+) -> u8
+    ensures { IsStatus result }
 {
     let file = match File::open(rt, line.payload) {
         Ok(file) => file,
@@ -39,7 +41,7 @@ pub fn run_dump<R: System, T: Write + Copy + Drop>(
         Ok(found) => found,
         Err(error) => return tell(rt, line.payload, error),
     };
-    if found.is_file() && found.len() > 0 {
+    if is_lasting(&found) {
         return dump_medium(rt, line, FileMedium::new(file), terminal);
     }
     match read_steady(rt.alloc(), file) {
@@ -49,14 +51,19 @@ pub fn run_dump<R: System, T: Write + Copy + Drop>(
     }
 }
 
+/// Whether a file has a length, and stays there to be read at any place.
+fn is_lasting(found: &Metadata) -> bool {
+    found.file_type().is_block_device() || (found.is_file() && found.len() > 0)
+}
+
 /// Reads the dumpdates file, dumps the payload that lies on this medium, and answers the status.
 fn dump_medium<R: System, M: Medium + Drop, T: Write + Copy + Drop>(
     rt: &R,
     line: &DumpLine<'_>,
     medium: M,
     terminal: Option<T>,
-) -> io::Result<u8>
-    ensures { IfOk result IsStatus }
+) -> u8
+    ensures { IsStatus result }
 {
     let payload = match PayloadFile::open(medium, line.block) {
         Ok(payload) => payload,
@@ -69,8 +76,10 @@ fn dump_medium<R: System, M: Medium + Drop, T: Write + Copy + Drop>(
     let level = u8::try_from(line.level).unwrap_or(u8::MAX);
     let mut out = Counted::new(io::writer(rt));
     match base_date(rt.alloc(), &file, line.fs, level, &mut out) {
-        Some(since) => dump_since(rt, line, payload, since, terminal),
-        None => say(rt, line.dumpdates, "it is no dumpdates file"),
+        Ok(since) => dump_since(rt, line, payload, since, terminal),
+        // That memory was refused is printed by then.
+        Err(DatesFault::OutOfMemory) => FAILED,
+        Err(_) => say(rt, line.dumpdates, "it is no dumpdates file"),
     }
 }
 
@@ -81,9 +90,9 @@ fn dump_since<R: System, M: Medium + Drop, T: Write + Copy + Drop>(
     payload: PayloadFile<M>,
     since: u64,
     terminal: Option<T>,
-) -> io::Result<u8>
+) -> u8
     requires { payload.size ≡ line.now.block }
-    ensures { IfOk result IsStatus }
+    ensures { IsStatus result }
 {
     match line.date.or(seconds_now(rt)) {
         Some(date) => dump_at(rt, line, payload, since, date, terminal),
@@ -99,23 +108,30 @@ fn dump_at<R: System, M: Medium + Drop, T: Write + Copy + Drop>(
     since: u64,
     date: u64,
     terminal: Option<T>,
-) -> io::Result<u8>
+) -> u8
     requires { payload.size ≡ line.now.block }
-    ensures { IfOk result IsStatus }
+    ensures { IsStatus result }
 {
     let gauge = terminal.map(|it| ProgressLine::new(rt, it));
     match dumper(rt.alloc(), line, date, since, payload, gauge) {
-        Ok(mut client) => run_client(rt, line, &mut client, terminal),
-        Err(fault) => refuse_dumper(rt, fault),
+        Ok(mut client) => {
+            if terminal.is_some() {
+                tell_since(rt, since);
+            }
+            run_client(rt, line, &mut client, terminal)
+        }
+        Err(DumperFault::Run(fault)) => refuse_run(rt, line, date, fault),
+        Err(DumperFault::OutOfMemory) => tell_no_memory(rt),
     }
 }
 
-/// Tells why there is no client for a dump, and answers the status.
-fn refuse_dumper<R: System>(rt: &R, fault: DumperFault) -> io::Result<u8>
-    ensures { IfOk result (λ status. status ≡ 1) }
-{
-    match fault {
-        DumperFault::Run(fault) => refuse_run(rt, fault),
-        DumperFault::OutOfMemory => tell(rt, "", io::ErrorKind::OutOfMemory.into()),
+/// Tells from which date on a block counts as new.
+fn tell_since<R: System>(rt: &R, since: u64) {
+    if since == 0 {
+        let _ = eprintln!(rt; "since the epoch: every block counts as new");
+        return;
+    }
+    if let Some(date) = date_text(rt.alloc(), since) {
+        let _ = eprintln!(rt; "since {date}");
     }
 }

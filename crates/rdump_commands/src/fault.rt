@@ -1,7 +1,10 @@
-//! Telling what is at fault.
-ghost use Rattle.std.specs.Prelude.{◌≡◌, IfOk};
+//! Telling what is at fault. Where it can't be told, the status is the same.
+ghost use Rattle.std.specs.Prelude.{◌≡◌};
 
+use crate::System;
 use dump_client::RunFault;
+use rdump_words::{DumpLine, dump_error};
+use std::alloc::{AllocError, Global};
 use std::io;
 
 /// The status where words are wrong, a file can't be read, or memory is refused.
@@ -11,69 +14,105 @@ pub(crate) const FAILED: u8 = 1;
 pub(crate) const ABNORMAL: u8 = 3;
 
 /// Tells on standard error what is at fault and why, and answers the status.
-pub(crate) fn say<R: Eprint>(rt: &R, what: &str, why: &str) -> io::Result<u8>
-    ensures { IfOk result (λ status. status ≡ 1) }
+pub(crate) fn say<R: Eprint>(rt: &R, what: &str, why: &str) -> u8
+    ensures { result ≡ 1 }
 {
-    eprintln!(rt; "rdump: {what}: {why}")?;
-    Ok(FAILED)
+    let _ = eprintln!(rt; "rdump: {what}: {why}");
+    FAILED
 }
 
 /// Tells of an error on standard error, or of refused memory on standard output, and answers the status.
-pub(crate) fn tell<R: Eprint + Print>(rt: &R, what: &str, error: io::Error) -> io::Result<u8>
-    ensures { IfOk result (λ status. status ≡ 1) }
+pub(crate) fn tell<R: Eprint + Print>(rt: &R, what: &str, error: io::Error) -> u8
+    ensures { result ≡ 1 }
 {
     if error.kind() == io::ErrorKind::OutOfMemory {
-        println!(rt; "out of memory")?;
+        let _ = println!(rt; "out of memory");
     } else {
-        eprintln!(rt; "rdump: {what}: {error}")?;
+        let _ = eprintln!(rt; "rdump: {what}: {error}");
     }
-    Ok(FAILED)
+    FAILED
+}
+
+/// Tells that memory was refused, and answers the status.
+pub(crate) fn tell_no_memory<R: Eprint + Print>(rt: &R) -> u8
+    ensures { result ≡ 1 }
+{
+    tell(rt, "", io::ErrorKind::OutOfMemory.into())
 }
 
 /// Tells that standard output could not be written, and answers this status.
-pub(crate) fn unwritten<R: Eprint>(rt: &R, status: u8) -> io::Result<u8>
-    ensures { IfOk result (λ told. told ≡ status) }
+pub(crate) fn unwritten<R: Eprint>(rt: &R, status: u8) -> u8
+    ensures { result ≡ status }
 {
-    eprintln!(rt; "rdump: standard output could not be written")?;
-    Ok(status)
+    let _ = eprintln!(rt; "rdump: standard output could not be written");
+    status
 }
 
 /// Tells where standard output could not be written, and answers this status.
-pub(crate) fn ended<R: Eprint>(rt: &R, failures: u64, status: u8) -> io::Result<u8>
-    ensures { IfOk result (λ told. told ≡ status) }
+pub(crate) fn ended<R: Eprint>(rt: &R, failures: u64, status: u8) -> u8
+    ensures { result ≡ status }
 {
     if failures > 0 {
         return unwritten(rt, status);
     }
-    Ok(status)
+    status
 }
 
-/// Tells why a file could not be read or written, and answers this status.
-pub(crate) fn tell_unread<R: Eprint>(
-    rt: &R,
-    file: &str,
-    error: &io::Error,
-    status: u8,
-) -> io::Result<u8>
-    ensures { IfOk result (λ told. told ≡ status) }
+/// Tells why a file or a connection failed, and answers this status.
+pub(crate) fn tell_failed<R: Eprint>(rt: &R, what: &str, error: &io::Error, status: u8) -> u8
+    ensures { result ≡ status }
 {
-    eprintln!(rt; "rdump: {file}: {error}")?;
-    Ok(status)
+    let _ = eprintln!(rt; "rdump: {what}: {error}");
+    status
 }
 
-/// Tells which limit of a run its words break, and answers the status.
-pub(crate) fn refuse_run<R: Eprint>(rt: &R, fault: RunFault) -> io::Result<u8>
-    ensures { IfOk result (λ status. status ≡ 1) }
+/// Tells which limit of a run the words break, where the dump is of this date, and answers the status.
+pub(crate) fn refuse_run<R: System>(rt: &R, line: &DumpLine<'_>, date: u64, fault: RunFault) -> u8
+    ensures { result ≡ 1 }
 {
-    let what = match fault {
-        RunFault::BadDevice => "--device <DEVICE>: a device is 1 to 255 bytes of one line",
-        RunFault::BadName =>
-            "--fs <NAME>: a name is 1 to 255 bytes of printable ASCII without a space",
-        RunFault::BadLevel => "--level <LEVEL>: a level is 0 to 9",
-        RunFault::BadDate => "--date <SECONDS>: a date is 0 to 253402300799",
-        RunFault::BadBlockSize => "--block <BYTES>: a block is 1 to 65536 bytes",
-        RunFault::TooManyBlocks => "--block <BYTES>: a dump has at most 2147483647 blocks",
+    let Ok(error) = error_of(rt.alloc(), line, date, fault) else {
+        return tell_no_memory(rt);
     };
-    eprintln!(rt; "rdump: {fault}: {what}")?;
-    Ok(FAILED)
+    let _ = error.print(rt);
+    FAILED
+}
+
+/// What is told of a limit that is broken, with the usage of the command.
+fn error_of(
+    alloc: Global,
+    line: &DumpLine<'_>,
+    date: u64,
+    fault: RunFault,
+) -> Result<clap::Error, AllocError> {
+    let limit = limit_of(alloc, line, date, fault)?;
+    let text = format!(in alloc; "{fault}: {limit}")?;
+    dump_error(alloc, text.as_str())
+}
+
+/// The word that breaks a limit, and the limit.
+fn limit_of(
+    alloc: Global,
+    line: &DumpLine<'_>,
+    date: u64,
+    fault: RunFault,
+) -> Result<String, AllocError> {
+    let (level, block) = (line.level, line.block);
+    match fault {
+        RunFault::BadDevice => {
+            String::from_str(
+                alloc,
+                "--device <DEVICE>: a device is 1 to 255 bytes of one line",
+            )
+        }
+        RunFault::BadName => String::from_str(
+            alloc,
+            "--fs <NAME>: a name is 1 to 255 bytes of printable ASCII without a space",
+        ),
+        RunFault::BadLevel => format!(in alloc; "--level {level}: a level is 0 to 9"),
+        RunFault::BadDate => format!(in alloc; "--date {date}: a date is 0 to 253402300799"),
+        RunFault::BadBlockSize => format!(in alloc; "--block {block}: a block is 1 to 65536 bytes"),
+        RunFault::TooManyBlocks => {
+            format!(in alloc; "--block {block}: a dump has at most 2147483647 blocks")
+        }
+    }
 }

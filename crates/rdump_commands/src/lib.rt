@@ -5,14 +5,18 @@
 //! `run_read`, `run_mt` and `run_dates`. `run_client` is a dump from its client on. What they use of the runtime is `System`.
 #![tactic(auto)]
 
+mod asking;
 mod dates_command;
 mod dump_command;
 mod dumping;
 mod fault;
+mod label_text;
 mod mt_command;
+mod out_file;
 mod program;
 mod read_command;
 mod system;
+mod told_peer;
 
 pub use dates_command::run_dates;
 pub use dump_command::run_dump;

@@ -1,8 +1,7 @@
 //! The program: its words, and the command that they name.
-ghost use Rattle.std.specs.Prelude.{IfOk};
 ghost use Rattle.rdump_commands.specs.Status.{IsHelpStatus, IsStatus};
 
-use crate::fault::{FAILED, tell, unwritten};
+use crate::fault::{FAILED, tell, tell_no_memory, unwritten};
 use crate::{System, run_dates, run_dump, run_mt, run_read};
 use clap::error::ErrorKind;
 use rdump_words::{RdumpLine, rdump_words};
@@ -16,10 +15,8 @@ use std::io::{self, Write};
 /// The status is 0 where all was done, 1 where it could not begin, as where the words are wrong or a file can't be read, and 3
 /// where it ended before it was done. Help and the version end with 0. What is at fault is told on standard error, and refused
 /// memory on standard output.
-///
-/// It fails where that could not be told.
-pub fn rdump<R: System, T: Write + Copy + Drop>(rt: &R, terminal: Option<T>) -> io::Result<u8>
-    ensures { IfOk result IsStatus }
+pub fn rdump<R: System, T: Write + Copy + Drop>(rt: &R, terminal: Option<T>) -> u8
+    ensures { IsStatus result }
 {
     match words(rt) {
         Ok(words) => run_words(rt, words.as_slice(), terminal),
@@ -38,8 +35,8 @@ pub fn run_words<R: System, S: AsStr, T: Write + Copy + Drop>(
     rt: &R,
     words: &[S],
     terminal: Option<T>,
-) -> io::Result<u8>
-    ensures { IfOk result IsStatus }
+) -> u8
+    ensures { IsStatus result }
 {
     match rdump_words(rt.alloc(), words) {
         Ok(RdumpLine::Dump(line)) => run_dump(rt, &line, terminal),
@@ -51,14 +48,14 @@ pub fn run_words<R: System, S: AsStr, T: Write + Copy + Drop>(
 }
 
 /// Tells why words gave nothing to do, and answers the status. Help and the version go to standard output.
-fn refuse<R: System>(rt: &R, error: clap::Error) -> io::Result<u8>
-    ensures { IfOk result IsHelpStatus }
+fn refuse<R: System>(rt: &R, error: clap::Error) -> u8
+    ensures { IsHelpStatus result }
 {
     if error.kind() == ErrorKind::OutOfMemory {
-        return tell(rt, "", io::ErrorKind::OutOfMemory.into());
+        return tell_no_memory(rt);
     }
     if error.print(rt).is_err() {
         return unwritten(rt, FAILED);
     }
-    Ok(if error.use_stderr() { FAILED } else { 0 })
+    if error.use_stderr() { FAILED } else { 0 }
 }

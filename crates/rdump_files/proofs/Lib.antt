@@ -1,3 +1,4 @@
 pub mod Entering
 pub mod Reached
 pub mod Payloads
+pub mod Ctimes

@@ -1,5 +1,5 @@
 -- What dumpdates is asked by `rdump dates`, what is printed, and the status that it ends with. Public contracts cite it.
-use Rattle.std.specs.Prelude.{◌≡◌, ◌⊎◌, ℕ, true, false, List, [], ◌∷◌, ◌++◌, Option, Some, None, codes, decimal, option_map}
+use Rattle.std.specs.Prelude.{◌≡◌, ◌⊎◌, ℕ, true, false, List, [], ◌∷◌, ◌++◌, Option, Some, None, Result, Ok, Err, codes, decimal, option_map}
 use Rattle.std.specs.Borrow.{Bor}
 use Rattle.dumpdates.specs.Dates.{base_of}
 use Rattle.dumpdates.specs.Entry.{DatesEntry}
@@ -51,8 +51,8 @@ IsDates contents file asked out out' status =
     (text : List ℕ) × (wanted : ℕ) × IsAnswer file asked text wanted × IsStatusPrinted contents text wanted out out' status
 
 -- The base date of a name at a level, with nothing printed; or the file is none, and its fault was printed.
-abbrev pub IsBaseDate : {W : Type 0} → (W → Option (List ℕ)) → List ℕ → AskedDump → Counting W → Counting W → Option ℕ → Type 0
-IsBaseDate contents file asked out out' (Some base) =
+abbrev pub IsBaseDate : {W : Type 0} → (W → Option (List ℕ)) → List ℕ → AskedDump → Counting W → Counting W → Result ℕ DatesFault → Type 0
+IsBaseDate contents file asked out out' (Ok base) =
     ((entries : List DatesEntry) × SpellsDates file entries × (base ≡ base_of entries asked.name asked.level)) × (out' ≡ out)
-IsBaseDate contents file asked out out' None =
-    (fault : DatesFault) × HasDatesFault file fault × ((status : ℕ) × IsStatusPrinted contents (dates_fault_text fault) 1 out out' status)
+IsBaseDate contents file asked out out' (Err fault) =
+    HasDatesFault file fault × ((status : ℕ) × IsStatusPrinted contents (dates_fault_text fault) 1 out out' status)

@@ -49,21 +49,21 @@ pub fn dates<W: Write>(
 }
 
 /// The base date of a dump of this name and level in a dumpdates file, whose bytes are given, in seconds since 1970 began,
-/// UTC. None where the file is none; its fault is printed then as `dates` prints it.
+/// UTC. Where the file is none, or memory is refused, its fault is printed as `dates` prints it.
 pub fn base_date<W: Write>(
     alloc: Global,
     file: &[u8],
     name: &str,
     level: u8,
     out: &mut Counted<W>,
-) -> Option<u64>
+) -> Result<u64, DatesFault>
     ensures { IsBaseDate W.contents file.now (asked_dump name.now level) out.old out.new result }
 {
     match Dates::read(alloc, file) {
-        Ok(dates) => Some(dates.base(name, level)),
+        Ok(dates) => Ok(dates.base(name, level)),
         Err(fault) => {
             print_fault(out, fault);
-            None
+            Err(fault)
         }
     }
 }

@@ -13,7 +13,7 @@ const BETWEEN_MILLIS: u128 = 100;
 const LINE_ROOM: usize = 128;
 
 /// Clears a terminal's line, where what was shown stands (ECMA-48, EL).
-const CLEAR: &[u8] = b"\r\x1b[K";
+pub const CLEAR: &[u8] = b"\r\x1b[K";
 
 const KIB: u64 = 1024;
 

@@ -18,7 +18,8 @@ pub(crate) enum Attempted {
     NotStarted,
 }
 
-/// Has a client write its next volume over a new connection, which is ended then. `text` is room for requests.
+/// Has a client write its next volume over a new connection, which is ended then. `text` is room for requests. The peer is
+/// told where the attempt failed.
 ///
 /// An attempt that is under way goes on over the connection that there is. Where there is none, that is its end.
 pub(crate) fn attempt<B: Blocks, P: Peer>(
@@ -34,7 +35,10 @@ pub(crate) fn attempt<B: Blocks, P: Peer>(
     let progress = talk(client, peer, text, begun);
     peer.hang_up();
     match progress {
-        Progress::Failed(fault) => Attempted::Failed(fault),
+        Progress::Failed(fault) => {
+            peer.attempt_failed(fault);
+            Attempted::Failed(fault)
+        }
         _ => Attempted::Over,
     }
 }

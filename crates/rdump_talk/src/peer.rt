@@ -3,6 +3,8 @@ ghost use Rattle.std.specs.Prelude.{◌≤◌, List, [], length, take};
 ghost use Rattle.rdump_talk.specs.Peer.{AreBytesSent, Logs, connected, given};
 ghost use Rattle.rdump_talk.specs.declared.peer.Passed.{Passed};
 
+use dump_client::AttemptFault;
+
 /// What passes between a caller and a peer.
 #[derive(Clone, Copy, Debug, PartialEq, Eq)]
 pub enum Passed {
@@ -46,4 +48,12 @@ pub trait Peer {
     /// Ends the connection, if there is one. That is the caller's end, and is not told.
     fn hang_up(&mut self)
         ensures { Logs tells self.old self.new [] };
+
+    /// Is told that an attempt over this peer failed, and why. The connection is ended then, and nothing passes. A peer may
+    /// show it.
+    fn attempt_failed(&mut self, fault: AttemptFault)
+        ensures { Logs tells self.old self.new [] }
+    {
+        let _ = fault;
+    }
 }

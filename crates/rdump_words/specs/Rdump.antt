@@ -1,5 +1,7 @@
 -- What the words of `rdump` may ask. Public contracts cite it.
-use Rattle.std.specs.Prelude.{ℕ, ◌≤◌, List, Option, None, Some, IfSome, ⊤}
+use Rattle.std.specs.Prelude.{ℕ, ◌≤◌, ◌<◌, ◌^◌, List, Option, None, Some, IfSome, ⊤, drop}
+use Rattle.std.specs.Str.Parse.{digits_value}
+use Rattle.rmt_wire.specs.Argument.{IsNumber}
 use Rattle.std.specs.Borrow.{Bor}
 use Rattle.dumpdates.specs.Entry.{IsName}
 use Rattle.dump_run.specs.Run.{IsDevice}
@@ -17,6 +19,14 @@ abbrev pub IsDatesAsked : Option (Bor (List ℕ) × ℕ) → Type 0
 IsDatesAsked None = ⊤
 IsDatesAsked (Some (name, level)) = IsName name.now × (level ≤ 9)
 
+-- a number of 16 bits, in digits alone
+abbrev pub IsPort : List ℕ → Type 0
+IsPort text = IsNumber text × (digits_value 10 text < 2 ^ 16)
+
+-- an address ends with a port
+abbrev pub HasPort : List ℕ → Type 0
+HasPort address = (n : ℕ) × IsPort (drop n address)
+
 -- the numbers of a run are within what words can say
 abbrev pub IsDumpLine : DumpLine → Type 0
 IsDumpLine line = (line.level ≤ ARGUMENT_LIMIT) × (line.block ≤ ARGUMENT_LIMIT) × IfSome line.date (λ n. n ≤ ARGUMENT_LIMIT)
@@ -29,7 +39,7 @@ abbrev pub IsMtLine : MtLine → Type 0
 IsMtLine line = IsDevice line.device.now × (line.op ≤ MTNOP) × (line.count ≤ NUMBER_LIMIT)
 
 abbrev pub IsRdumpLine : RdumpLine → Type 0
-IsRdumpLine (Dump line) = IsDumpLine line
-IsRdumpLine (Read line) = IsReadLine line
-IsRdumpLine (Mt line) = IsMtLine line
+IsRdumpLine (Dump line) = IsDumpLine line × HasPort line.to.now
+IsRdumpLine (Read line) = IsReadLine line × HasPort line.to.now
+IsRdumpLine (Mt line) = IsMtLine line × HasPort line.to.now
 IsRdumpLine (Dates file asked) = IsDatesAsked asked

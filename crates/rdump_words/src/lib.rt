@@ -1,6 +1,8 @@
-//! The words of `rdump`, read by clap: what they ask of it (`rdump_words`).
+//! The words of `rdump`, read by clap: what they ask of it (`rdump_words`), and what is told of a value that is past a limit
+//! (`dump_error`).
 #![tactic(auto)]
 
+mod address;
 mod dates_line;
 mod fault;
 mod rdump_line;
@@ -8,6 +10,6 @@ mod run_line;
 mod tape_line;
 mod word;
 
-pub use rdump_line::{RdumpLine, rdump_words};
+pub use rdump_line::{RdumpLine, dump_error, rdump_words};
 pub use run_line::DumpLine;
 pub use tape_line::{MtLine, ReadLine};

@@ -1,13 +1,16 @@
 //! The words of `rdump`.
 
-ghost use Rattle.std.specs.Prelude.{IfOk};
+ghost use Rattle.std.specs.Prelude.{◌≡◌, IfOk};
+ghost use Rattle.clap.specs.Values.{kind_of};
+ghost use Rattle.clap.specs.declared.error.kind.ErrorKind.TheVariants.{ValueValidation};
 ghost use Rattle.rdump_words.specs.Rdump.{IsRdumpLine};
 
 use crate::dates_line::{DATES_WORDS, dates_in};
 use crate::fault::WordFault;
 use crate::run_line::{DUMP_WORDS, DumpLine, dump_in};
 use crate::tape_line::{MT_WORDS, MtLine, READ_WORDS, ReadLine, mt_in, read_in};
-use crate::word::{Word, check_given, push_command};
+use crate::word::{Word, args_of, check_given, push_command};
+use clap::error::ErrorKind;
 use clap::{ArgMatches, Command, Error};
 use std::alloc::{AllocError, Global};
 use std::convert::AsStr;
@@ -44,28 +47,69 @@ pub fn rdump_words<'a, S: AsStr>(alloc: Global, words: &'a [S]) -> Result<RdumpL
     ensures { IfOk result IsRdumpLine }
 {
     match rdump_command(alloc) {
-        Ok(mut rdump) => line_of(&mut rdump, words),
+        Ok(mut rdump) => line_of(alloc, &mut rdump, words),
         Err(refused) => Err(refused.into()),
     }
 }
 
 /// The line that the words say to the command.
-fn line_of<'a, S: AsStr>(rdump: &mut Command<'a>, words: &'a [S]) -> Result<RdumpLine<'a>, Error>
+fn line_of<'a, S: AsStr>(
+    alloc: Global,
+    rdump: &mut Command<'a>,
+    words: &'a [S],
+) -> Result<RdumpLine<'a>, Error>
     ensures { IfOk result IsRdumpLine }
 {
     match rdump.try_get_matches_from_mut(words) {
-        Ok(matches) => matched(rdump, &matches),
+        Ok(matches) => matched(alloc, &matches),
         Err(error) => Err(error),
     }
 }
 
-/// The line that clap's matches say to the command.
-fn matched<'a>(rdump: &mut Command<'a>, matches: &ArgMatches<'a>) -> Result<RdumpLine<'a>, Error>
+/// The line that clap's matches say.
+fn matched<'a>(alloc: Global, matches: &ArgMatches<'a>) -> Result<RdumpLine<'a>, Error>
     ensures { IfOk result IsRdumpLine }
 {
     match line_in(matches) {
         Ok(line) => Ok(line),
-        Err(fault) => Err(rdump.error(fault.kind(), fault.text())?),
+        Err(fault) => Err(error_of(alloc, name_in(matches), fault.kind(), fault.text())?),
+    }
+}
+
+/// The name of the command that clap's matches say, which is empty where they say none.
+fn name_in<'a>(matches: &ArgMatches<'a>) -> &'a str {
+    match matches.subcommand() {
+        Some((name, _)) => name,
+        None => "",
+    }
+}
+
+/// What is told where a value of `rdump dump` is past a limit that no word has: this text, and the usage of the command.
+///
+/// The error's kind is `ValueValidation`. It fails where memory is refused.
+pub fn dump_error(alloc: Global, text: &str) -> Result<Error, AllocError>
+    ensures { IfOk result (λ error. kind_of error ≡ ValueValidation) }
+{
+    error_of(alloc, "dump", ErrorKind::ValueValidation, text)
+}
+
+/// An error of this kind in the words of the command of this name: this text, and the usage of the command.
+fn error_of(alloc: Global, name: &str, kind: ErrorKind, text: &str) -> Result<Error, AllocError>
+    ensures { IfOk result (λ error. kind_of error ≡ kind) }
+{
+    let args = args_of(alloc, words_of(name))?;
+    let mut command = Command::new(alloc, whole_name(name)).args(args)?;
+    command.error(kind, text)
+}
+
+/// What the usage calls the command of this name.
+fn whole_name(name: &str) -> &'static str {
+    match name {
+        "dump" => "rdump dump",
+        "read" => "rdump read",
+        "mt" => "rdump mt",
+        "dates" => "rdump dates",
+        _ => "rdump",
     }
 }
 

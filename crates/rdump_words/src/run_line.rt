@@ -1,8 +1,9 @@
 //! The words of `rdump dump`.
 ghost use Rattle.std.specs.Prelude.{◌≤◌, IfOk, IfSome};
-ghost use Rattle.rdump_words.specs.Rdump.{IsDumpLine};
+ghost use Rattle.rdump_words.specs.Rdump.{HasPort, IsDumpLine};
 ghost use Rattle.rmt_wire.specs.declared.argument.TheConstants.{ARGUMENT_LIMIT};
 
+use crate::address::address_in;
 use crate::fault::WordFault;
 use crate::word::{Form, Word, value_in};
 use clap::ArgMatches;
@@ -33,28 +34,28 @@ pub struct DumpLine<'a> {
 }
 
 /// What is said of a level that is no number.
-const BAD_LEVEL: &str =
-    "invalid value for '--level <LEVEL>': a number is 0 to 9223372036854775807 in digits";
+const BAD_LEVEL: &str = "invalid value for '--level <LEVEL>': a level is 0 to 9, in digits";
 
 /// What is said of a block size that is no number.
 const BAD_BLOCK: &str =
-    "invalid value for '--block <BYTES>': a number is 0 to 9223372036854775807 in digits";
+    "invalid value for '--block <BYTES>': a block is 1 to 65536 bytes, in digits";
 
 /// What is said of a date that is no number.
 const BAD_DATE: &str =
-    "invalid value for '--date <SECONDS>': a number is 0 to 9223372036854775807 in digits";
+    "invalid value for '--date <SECONDS>': a date is 0 to 253402300799, in digits";
 
 /// What clap's matches ask of `rdump dump`.
 pub(crate) fn dump_in<'a>(matches: &ArgMatches<'a>) -> Result<DumpLine<'a>, WordFault>
-    ensures { IfOk result IsDumpLine }
+    ensures { IfOk result (λ line. IsDumpLine line × HasPort line.to.now) }
 {
+    let to = address_in(matches)?;
     match numbers_in(
         value_in(matches, "level"),
         value_in(matches, "block"),
         matches.get_str("date"),
     ) {
         Ok((level, block, date)) => Ok(DumpLine {
-            to: value_in(matches, "to"),
+            to,
             device: value_in(matches, "device"),
             fs: value_in(matches, "fs"),
             level,

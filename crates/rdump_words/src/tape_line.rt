@@ -1,8 +1,9 @@
 //! The words of `rdump read` and `rdump mt`.
 ghost use Rattle.std.specs.Prelude.{◌≤◌, IfOk, IfSome};
 ghost use Rattle.dump_run.specs.Run.{IsDevice};
-ghost use Rattle.rdump_words.specs.Rdump.{IsMtLine, IsReadLine};
+ghost use Rattle.rdump_words.specs.Rdump.{HasPort, IsMtLine, IsReadLine};
 
+use crate::address::address_in;
 use crate::fault::WordFault;
 use crate::word::{Form, Word, value_in};
 use clap::ArgMatches;
@@ -47,11 +48,12 @@ const BAD_COUNT: &str = "invalid value for '<COUNT>': a count is 0 to 2147483647
 
 /// What clap's matches ask of `rdump read`.
 pub(crate) fn read_in<'a>(matches: &ArgMatches<'a>) -> Result<ReadLine<'a>, WordFault>
-    ensures { IfOk result IsReadLine }
+    ensures { IfOk result (λ line. IsReadLine line × HasPort line.to.now) }
 {
+    let to = address_in(matches)?;
     match device_in(matches) {
         Ok(device) => Ok(ReadLine {
-            to: value_in(matches, "to"),
+            to,
             device,
             out: value_in(matches, "out"),
         }),
@@ -61,12 +63,13 @@ pub(crate) fn read_in<'a>(matches: &ArgMatches<'a>) -> Result<ReadLine<'a>, Word
 
 /// What clap's matches ask of `rdump mt`.
 pub(crate) fn mt_in<'a>(matches: &ArgMatches<'a>) -> Result<MtLine<'a>, WordFault>
-    ensures { IfOk result IsMtLine }
+    ensures { IfOk result (λ line. IsMtLine line × HasPort line.to.now) }
 {
+    let to = address_in(matches)?;
     let device = device_in(matches)?;
     match operation_of(value_in(matches, "op"), value_in(matches, "count")) {
         Ok((op, count)) => Ok(MtLine {
-            to: value_in(matches, "to"),
+            to,
             device,
             op,
             count,

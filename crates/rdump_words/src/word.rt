@@ -75,7 +75,7 @@ pub(crate) fn push_command<'a>(
 }
 
 /// What clap knows of these words, in order.
-fn args_of<'a>(alloc: Global, words: &[Word]) -> Result<Vec<Arg<'a>>, AllocError> {
+pub(crate) fn args_of<'a>(alloc: Global, words: &[Word]) -> Result<Vec<Arg<'a>>, AllocError> {
     let mut args = Vec::new(alloc);
     for word in words {
         push_arg(alloc, word, &mut args)?;

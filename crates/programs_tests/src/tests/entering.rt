@@ -3,9 +3,10 @@
 use super::check_row;
 use super::store::{ENTERED, FIRST, Held, Kept, OLD};
 use dumpdates::{DatesFault, Entry};
-use rdump_files::{FileFailed, UpdateFault, base_date, update};
+use rdump_files::{FileFailed, ReplacedFile, UpdateFault, base_date, date_text, update};
 use rmt_wire::Counted;
 use std::alloc::Global;
+use std::fs;
 
 /// What a read of the file gives, and whether it can be replaced; what comes of a dump that is entered, and what is put in
 /// place of the file.
@@ -53,5 +54,22 @@ fn dumps_that_are_entered_or_not(rt: HostRuntime) {
 fn a_base_date(rt: HostRuntime) {
     let mut room = [0; 1];
     let mut out = Counted::new(room.as_mut_slice());
-    assert!(rt; base_date(rt.alloc(), OLD, "/usr", 2, &mut out) == Some(951782400));
+    assert!(rt; base_date(rt.alloc(), OLD, "/usr", 2, &mut out) == Ok(951782400));
+}
+
+#[test]
+fn a_date_as_text(rt: HostRuntime) {
+    let Some(text) = date_text(rt.alloc(), 951782400) else {
+        panic!(rt; "no text");
+    };
+    assert!(rt; text.as_str() == "Tue Feb 29 00:00:00 2000");
+}
+
+#[test]
+fn a_file_that_can_be_replaced_or_not(rt: HostRuntime) {
+    let file = ReplacedFile::new(&rt, rt.alloc(), "dumpdates");
+    assert!(rt; file.find_fault().is_none());
+    assert!(rt; !fs::exists(&rt, "dumpdates.new").unwrap_or(true));
+    let file = ReplacedFile::new(&rt, rt.alloc(), "none/dumpdates");
+    assert!(rt; file.find_fault().is_some());
 }

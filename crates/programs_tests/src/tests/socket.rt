@@ -55,3 +55,11 @@ fn one_connection(rt: HostRuntime) -> Result<(), Fail> {
     assert!(rt; reaches(&rt, &listener)?);
     Ok(())
 }
+
+/// Where no server is the system says why.
+#[test]
+fn no_connection(rt: HostRuntime) {
+    let mut peer = SocketPeer::new(&rt, "127.0.0.1:1");
+    assert!(rt; !peer.connect());
+    assert!(rt; peer.failure().is_some());
+}

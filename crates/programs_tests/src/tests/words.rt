@@ -1,6 +1,6 @@
 //! The words of both programs.
 
-use rdump_words::rdump_words;
+use rdump_words::{dump_error, rdump_words};
 use rmtd_words::{server_line, server_words};
 use std::alloc::Global;
 use std::fmt::Debug;
@@ -72,6 +72,30 @@ fn words_of_the_client(rt: HostRuntime) {
         let read = rdump_words(rt.alloc(), words);
         assert!(rt; is_shown(rt.alloc(), &read, wanted));
     }
+}
+
+/// Addresses that have no host or no port.
+static ADDRESSES: [&str; 6] = ["h", "h:", ":1", "h:65536", "h:+1", "h:1:x"];
+
+/// Whether the words of a read at this address are refused.
+fn is_refused(alloc: Global, address: &str) -> bool {
+    let words = [
+        "rdump", "read", "--to", address, "--device", "d", "--out", "o",
+    ];
+    rdump_words(alloc, &words).is_err()
+}
+
+#[test]
+fn addresses_have_a_port(rt: HostRuntime) {
+    for address in &ADDRESSES {
+        assert!(rt; is_refused(rt.alloc(), address));
+    }
+}
+
+#[test]
+fn a_value_past_a_limit(rt: HostRuntime) {
+    let told = dump_error(rt.alloc(), "--level 10: a level is 0 to 9");
+    assert!(rt; matches!(told, Ok(error) if error.use_stderr()));
 }
 
 /// Words of `rmtd` with a drive.

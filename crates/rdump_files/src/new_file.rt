@@ -1,0 +1,197 @@
+//! A new file beside the one that it is to replace.
+
+use crate::named::named_file;
+use std::alloc::Global;
+use std::fs::{self, File, Metadata, OpenOptions, TryLockError};
+use std::io::{self, ErrorKind, Write};
+use std::os::fd::AsFd;
+use std::os::unix::fs::{MetadataExt, fchown};
+use std::path::{Path, PathBuf};
+use std::rt::Files;
+use std::thread;
+use std::time::{Clock, Duration, Instant};
+
+/// How long a run waits for another that has the new file, in seconds.
+const WAIT_SECONDS: u64 = 10;
+
+/// How long it sleeps between two tries, in milliseconds.
+const BETWEEN_MILLIS: u64 = 5;
+
+/// A new file that is to replace another: it has that one's name with `.new` after it, and lies in the same folder.
+///
+/// This run made it, and has its advisory lock: no other run has one of that name meanwhile. It is gone where this is dropped before
+/// it was put in place.
+pub(crate) struct NewFile<'a, R: Files<File = File>> {
+    rt: &'a R,
+    named: PathBuf,
+    path: String,
+    file: File,
+    placed: bool,
+}
+
+impl<R: Files<File = File>> Drop for NewFile<'_, R> {
+    fn drop(self) {
+        let NewFile {
+            rt,
+            named: _,
+            path,
+            file: _file,
+            placed,
+        } = self;
+        if !placed {
+            let _ = fs::remove_file(rt, path.as_str());
+        }
+    }
+}
+
+impl<'a, R: Files<File = File> + Clock> NewFile<'a, R> {
+    /// Makes the new file of the one that this path names. It is tried every few milliseconds, for ten seconds, while another
+    /// run has one.
+    pub(crate) fn make(rt: &'a R, alloc: Global, path: &str) -> io::Result<Self> {
+        let began = Instant::now(rt)?;
+        for _ in 0..u64::MAX {
+            if let Some(new) = NewFile::try_make(rt, alloc, path)? {
+                return Ok(new);
+            }
+            if began.elapsed(rt)?.as_secs() >= WAIT_SECONDS {
+                break;
+            }
+            thread::sleep(rt, Duration::from_millis(BETWEEN_MILLIS));
+        }
+        let error = "its .new was locked for ten seconds";
+        Err(io::Error::new(ErrorKind::TimedOut, error))
+    }
+
+    /// Makes it, where no other run has one. What a run left that was killed is taken away: the next try makes it then.
+    pub(crate) fn try_make(rt: &'a R, alloc: Global, path: &str) -> io::Result<Option<Self>> {
+        let named = named_file(rt, alloc, path)?;
+        let old = named.as_path().as_str();
+        let path = format!(in alloc; "{old}.new")?;
+        match File::create_new(rt, path.as_str()) {
+            Ok(file) => NewFile::locked(rt, named, path, file),
+            Err(error) if error.kind() == ErrorKind::AlreadyExists => {
+                take_away(rt, path.as_str())?;
+                Ok(None)
+            }
+            Err(error) => Err(error),
+        }
+    }
+
+    /// Locks the file that was made. None where another run was between.
+    fn locked(rt: &'a R, named: PathBuf, path: String, file: File) -> io::Result<Option<Self>> {
+        match lock(rt, path.as_str(), &file) {
+            Ok(true) => Ok(Some(NewFile {
+                rt,
+                named,
+                path,
+                file,
+                placed: false,
+            })),
+            Ok(false) => Ok(None),
+            Err(error) => {
+                let _ = fs::remove_file(rt, path.as_str());
+                Err(error)
+            }
+        }
+    }
+}
+
+impl<R: Files<File = File>> NewFile<'_, R> {
+    /// The path of the file that is to be replaced.
+    pub(crate) fn named(&self) -> &str {
+        self.named.as_path().as_str()
+    }
+
+    /// Writes the text, syncs it, and puts the new file in place of the other, with the other's mode and owner where the system lets
+    /// it.
+    ///
+    /// Once it has the other's name this is done, whatever comes of the folder's sync.
+    pub(crate) fn put(mut self, text: &[u8]) -> io::Result<()> {
+        self.take_rights();
+        self.file.write_all(text)?;
+        self.file.sync_all()?;
+        fs::rename(self.rt, self.path.as_str(), &self.named)?;
+        self.placed = true;
+        // Others need not wait for the folder.
+        let _ = self.file.unlock();
+        let _ = self.sync_folder();
+        Ok(())
+    }
+
+    /// Gives the new file the owner and the mode of the other, where that is there and the system lets it.
+    fn take_rights(&self) {
+        let Ok(found) = fs::metadata(self.rt, &self.named) else {
+            return;
+        };
+        let (owner, group) = (found.uid(), found.gid());
+        if fchown(self.file.as_fd(), Some(owner), Some(group)).is_err() {
+            let _ = fchown(self.file.as_fd(), None, Some(group));
+        }
+        let _ = self.file.set_permissions(found.permissions());
+    }
+
+    /// Has the folder remember the new name.
+    fn sync_folder(&self) -> io::Result<()> {
+        let folder = match self.named.as_path().parent() {
+            Some(folder) if !folder.as_str().is_empty() => folder,
+            _ => Path::new("."),
+        };
+        File::open(self.rt, folder)?.sync_all()
+    }
+}
+
+/// Takes away what a run that was killed left at this path. Where a run has its lock it stays.
+///
+/// It fails where no run can have left it, as it is a link or a folder.
+fn take_away<R: Files<File = File>>(rt: &R, path: &str) -> io::Result<()> {
+    let Some(found) = found_at(rt, path)? else {
+        return Ok(());
+    };
+    if !found.is_file() {
+        return Err(io::Error::new(ErrorKind::AlreadyExists, "its .new is no plain file"));
+    }
+    let Some(file) = open_left(rt, path)? else {
+        return Ok(());
+    };
+    if lock(rt, path, &file)? {
+        fs::remove_file(rt, path)?;
+    }
+    Ok(())
+}
+
+/// Opens what a run left, so that it can be locked: to write where it may be, since a lock over a network asks for that. None where it went away.
+fn open_left<R: Files<File = File>>(rt: &R, path: &str) -> io::Result<Option<File>> {
+    let opened = match OpenOptions::new().read(true).write(true).open(rt, path) {
+        Err(error) if error.kind() == ErrorKind::PermissionDenied => File::open(rt, path),
+        opened => opened,
+    };
+    match opened {
+        Ok(file) => Ok(Some(file)),
+        Err(error) if error.kind() == ErrorKind::NotFound => Ok(None),
+        Err(error) => Err(error),
+    }
+}
+
+/// Takes the advisory lock of a file, which goes with the handle, and looks whether the file still has its name. False where
+/// another has the lock, or the name is another file's or nobody's.
+fn lock<R: Files<File = File>>(rt: &R, path: &str, file: &File) -> io::Result<bool> {
+    match file.try_lock() {
+        Ok(()) => {}
+        Err(TryLockError::WouldBlock) => return Ok(false),
+        Err(TryLockError::Error(error)) => return Err(error),
+    }
+    let locked = file.metadata()?;
+    match found_at(rt, path)? {
+        Some(found) => Ok(found.dev() == locked.dev() && found.ino() == locked.ino()),
+        None => Ok(false),
+    }
+}
+
+/// What has this name, no link followed. None where nothing has it.
+fn found_at<R: Files<File = File>>(rt: &R, path: &str) -> io::Result<Option<Metadata>> {
+    match fs::symlink_metadata(rt, path) {
+        Ok(found) => Ok(Some(found)),
+        Err(error) if error.kind() == ErrorKind::NotFound => Ok(None),
+        Err(error) => Err(error),
+    }
+}

@@ -1,0 +1,413 @@
+#!/usr/bin/env python3
+"""Checks what the built `rdump` tells on standard error, and what becomes of the file that a volume is read back into.
+
+    told.py [RMTD [RDUMP]]
+
+What stands on standard output and the status are compared too. A server of this file answers with what it is told to, and sees when a
+client ends the connection. A payload on a block device takes root and a loop device; where they are not to be had, that check is named as
+skipped.
+"""
+
+from __future__ import annotations
+
+import argparse
+import os
+import pty
+import re
+import socket
+import subprocess
+import sys
+import tempfile
+import threading
+import time
+from contextlib import contextmanager
+from pathlib import Path
+from typing import Iterator
+
+import dump
+from dump import ABNORMAL, BLOCKS, COUNT, DAY, DEVICE, DONE, FAILED, GUARD_SECONDS, PAYLOAD, TWO_VOLUMES
+from dump import Ended, Model, Programs, Received, Reel, check, label, write_volume
+
+NOWHERE = "127.0.0.1:1"
+REFUSED = f"rdump: {NOWHERE}: Connection refused (os error 111)\n"
+ENDED = "the connection ended"
+ASKED = "retry?\ndump abandoned\n"
+ANSWERS = "(yes, or anything else to abandon)"
+LABEL = label(1, 0).rstrip(b"\0").decode()
+OLD = b"what the file held before, which is longer than some volumes" * 100
+
+
+class Said:
+    """A server that answers each request with the next of these replies, over any number of connections. After the last it ends a
+    connection at the next request, or leaves it open. It notes how many connections came, and when a client ended one."""
+
+    def __init__(self, *replies: bytes, stays: bool = False) -> None:
+        self.replies = list(replies)
+        self.stays = stays
+        self.connections = 0
+        self.left = threading.Event()
+        self.listener = socket.create_server(("127.0.0.1", 0))
+        self.address = "127.0.0.1:%d" % self.listener.getsockname()[1]
+        threading.Thread(target=self.serve, daemon=True).start()
+
+    def serve(self) -> None:
+        while True:
+            try:
+                stream, _ = self.listener.accept()
+            except OSError:
+                return
+            self.connections += 1
+            with stream:
+                self.converse(stream)
+
+    def converse(self, stream: socket.socket) -> None:
+        """One connection. Where it stays, the end that the client makes is waited for."""
+        received = Received(stream)
+        while self.replies and received.request():
+            stream.sendall(self.replies.pop(0))
+        if not received.request() and self.stays:
+            self.left.set()
+
+    def stop(self) -> None:
+        self.listener.shutdown(socket.SHUT_RDWR)
+        self.listener.close()
+
+
+def told(name: str, got: Ended, output: str, status: int, words: str) -> None:
+    """The output, the status and all that is told are these."""
+    check(name, got == Ended(output, words, status), got, (output, words, status))
+
+
+def record(data: bytes) -> bytes:
+    """The reply to a read."""
+    return b"A%d\n" % len(data) + data
+
+
+def read(p: Programs, address: str, out: str = "volume", **streams: int) -> Ended:
+    return p.run("read", "--to", address, "--device", DEVICE, "--out", out, **streams)
+
+
+# What was read.
+
+
+def volumes(p: Programs) -> None:
+    """What is told of a volume that is read back."""
+    foreign = "not a volume of rdump\n"
+    words = LABEL.splitlines(keepends=True)
+    for title, first, blocks, tells in (
+        ("three blocks", label(1, 0), BLOCKS, "3 blocks of 1024 bytes\n"),
+        ("no block", label(1, 0), [], "0 blocks\n"),
+        ("one block", label(1, 0), BLOCKS[:1], "1 block of 1024 bytes\n"),
+        ("several lengths", label(1, 0), [b"x", BLOCKS[0], b"yy"], "3 blocks of 1 to 1024 bytes, 1027 bytes in all\n"),
+        ("a reel of another", b"hello", [b"world"], "1 block of 5 bytes\n" + foreign),
+        ("a label with a word less", "".join(words[:-1]).encode() + bytes(64), [], "0 blocks\n" + foreign),
+        ("a label with a word more", LABEL.encode() + b"more 1\n" + bytes(64), [], "0 blocks\n" + foreign),
+        ("a label without a number", LABEL.replace("level 0", "level ").encode(), [], "0 blocks\n" + foreign),
+        ("words in another order", "".join(reversed(words)).encode(), [], "0 blocks\n" + foreign),
+    ):
+        with p.listening("--capacity", str(1 << 16)) as (address, _):
+            write_volume(address, [first, *blocks, None])
+            told(title, read(p, address), first.split(b"\0")[0].decode(), DONE, tells)
+        check(f"{title}: the file", p.folder.joinpath("volume").read_bytes() == b"".join(blocks))
+    with p.listening() as (address, _):
+        write_volume(address, [label(1, 0), *BLOCKS])
+        told("a volume without its mark", read(p, address), LABEL, DONE, "3 blocks of 1024 bytes\n")
+
+
+def torn(p: Programs) -> None:
+    """Volumes whose reading is cut off."""
+    opened = (b"A0\n", b"A1\n", record(label(1, 0)), record(BLOCKS[0]))
+    for title, replies, output, tells in (
+        ("cut off before the label", opened[:2], "", f"{ENDED}\n"),
+        ("cut off after the label", opened[:3], LABEL, f"{ENDED}\n"),
+        ("cut off after a block", opened, LABEL, f"{ENDED}\n"),
+        ("refused after a block", (*opened, b"E5\nbroken\n"), LABEL, "read refused with E5\n"),
+        ("no reply", (*opened, b"X\n"), LABEL, "no reply by the protocol\n"),
+    ):
+        server = Said(*replies)
+        count = ["", "0 blocks\n", "1 block of 1024 bytes\n"][max(0, min(len(replies), 4) - 2)]
+        told(title, read(p, server.address), output, ABNORMAL, f"{count}rdump: {server.address}: {tells}")
+        server.stop()
+
+
+# The file.
+
+
+def kept(p: Programs, name: str, address: str, status: int, *words: str) -> None:
+    """A file that is there holds what it held, and one that is not is not there afterwards."""
+    p.file("held", OLD)
+    for out in ("held", "made"):
+        got = read(p, address, out)
+        check(f"{name}: {out}", got.status == status and all(it in got.told for it in words), got)
+    check(f"{name}: kept", p.folder.joinpath("held").read_bytes() == OLD)
+    check(f"{name}: removed", not p.folder.joinpath("made").exists())
+
+
+def files(p: Programs) -> None:
+    """When the file is emptied, made and removed."""
+    kept(p, "no server", NOWHERE, ABNORMAL, REFUSED)
+    with p.listening() as (address, _):
+        kept(p, "an empty reel", address, DONE, "not a volume of rdump")
+    refuses = Said(b"E6\nno reel\n", b"E6\nno reel\n")
+    kept(p, "a refused open", refuses.address, ABNORMAL, "open refused with E6")
+    refuses.stop()
+    for title, blocks in (("blocks", BLOCKS), ("no blocks", [])):
+        with p.listening() as (address, _):
+            write_volume(address, [label(1, 0), *blocks, None])
+            for out in ("held", "made"):
+                p.file("held", OLD)
+                check(f"{title} into {out}", read(p, address, out).status == DONE)
+                check(f"{title} into {out}: the bytes", p.folder.joinpath(out).read_bytes() == b"".join(blocks))
+    server = Said(b"A0\n", b"A1\n", record(label(1, 0)))
+    p.file("held", OLD)
+    read(p, server.address, "held")
+    check("a label and no more", p.folder.joinpath("held").read_bytes() == b"")
+    server.stop()
+    unread = Said()
+    got = read(p, unread.address, "none/volume")
+    told("a file that can't be made", got, "", FAILED, "rdump: none/volume: No such file or directory (os error 2)\n")
+    check("a file that can't be made: nothing is sent", unread.connections == 0)
+    unread.stop()
+    with p.listening() as (address, _):
+        write_volume(address, [label(1, 0), *BLOCKS, None])
+        full = "rdump: /dev/full: No space left on device (os error 28)\n"
+        told("a full file", read(p, address, "/dev/full"), LABEL, ABNORMAL, "0 blocks\n" + full)
+        told("a file that keeps nothing", read(p, address, "/dev/null"), LABEL, DONE, "3 blocks of 1024 bytes\n")
+        with open("/dev/full", "wb") as full_output:
+            got = read(p, address, stdout=full_output.fileno())
+        told("a full output", got, "", ABNORMAL, "0 blocks\nrdump: standard output could not be written\n")
+
+
+# Why a connection failed.
+
+
+def reasons(p: Programs) -> None:
+    """The address and the system's reason."""
+    p.file("payload", PAYLOAD)
+    lost = f"volume 1 failed: ConnectionEnded\n{ASKED}"
+    told("a dump to no server", p.dump(NOWHERE), lost, ABNORMAL, REFUSED)
+    told("a read from no server", read(p, NOWHERE), "", ABNORMAL, REFUSED)
+    told("an operation at no server", p.run("mt", "--to", NOWHERE, "--device", DEVICE, "nop", "1"), "", ABNORMAL, REFUSED)
+    got = p.dump("no.such.host.invalid:1")
+    reason = got.told.startswith("rdump: no.such.host.invalid:1: ") and "lookup" in got.told
+    check("a dump to no host", got._replace(told="") == Ended(lost, "", ABNORMAL) and reason, got)
+    server = Said(b"A0\n")
+    told("a server that is gone", p.dump(server.address), lost, ABNORMAL, f"rdump: {server.address}: {ENDED}\n")
+    server.stop()
+    resets = Said()
+    resets.converse = reset
+    got = p.dump(resets.address)
+    check("a connection that is reset", got.output == lost and "Connection reset by peer (os error 104)" in got.told, got)
+    resets.stop()
+    for number, text in ((2, "No such file or directory"), (16, "Device or resource busy")):
+        server = Said(b"E%d\nno\n" % number)
+        words = f"rdump: {server.address}: Refused {number}: {text} (os error {number})\n"
+        told(f"a refusal with {number}", p.dump(server.address), f"volume 1 failed: Refused {number}\n{ASKED}", ABNORMAL, words)
+        server.stop()
+
+
+def reset(stream: socket.socket) -> None:
+    """Takes a byte, and ends a connection by a reset, which comes where bytes are unread."""
+    stream.recv(1)
+    stream.setsockopt(socket.SOL_SOCKET, socket.SO_LINGER, b"\1\0\0\0\0\0\0\0")
+
+
+def pauses(p: Programs) -> None:
+    """How long an attempt waits after one that came to no server."""
+    p.file("payload", PAYLOAD)
+    silent = Said()
+    for title, address in (("no server", NOWHERE), ("a server that says nothing", silent.address)):
+        began = time.monotonic()
+        got = p.dump(address, said="yes\n" * 3)
+        check(f"{title}: three seconds for four attempts", 3 <= time.monotonic() - began < 20, time.monotonic() - began)
+        check(f"{title}: four attempts", got.output.count("failed: ConnectionEnded") == 4, got)
+    silent.stop()
+    model = Model(Reel("r1", 3100), Reel("r2", 3100), said={it: b"E5\nbroken\n" for it in range(1, 31)})
+    began = time.monotonic()
+    check("a server that answers", p.dump(model.address, said="yes\n" * 30).output.endswith(TWO_VOLUMES))
+    check("a server that answers: no wait", time.monotonic() - began < 15, time.monotonic() - began)
+    model.stop()
+
+
+# Words.
+
+
+def words(p: Programs) -> None:
+    """Words that are wrong, and values that are past a limit."""
+    p.file("payload", PAYLOAD)
+    for to in ("localhost", "localhost:", ":4711", "localhost:65536", "localhost:+1", "localhost:x", ""):
+        for title, got in (
+            ("dump", p.dump(to, payload="missing")),
+            ("read", read(p, to)),
+            ("mt", p.run("mt", "--to", to, "--device", DEVICE, "nop", "1")),
+        ):
+            tells = got.told.startswith("error: invalid value for '--to <ADDRESS>': ") and f"Usage: rdump {title} " in got.told
+            check(f"{title} --to {to!r}", (got.output, got.status) == ("", FAILED) and tells, got)
+    check("no file is made", not p.folder.joinpath("volume").exists())
+    for name, value, limit in (
+        ("level", "10", "--level 10: a level is 0 to 9"),
+        ("level", "x", "'--level <LEVEL>': a level is 0 to 9"),
+        ("block", "0", "--block 0: a block is 1 to 65536 bytes"),
+        ("block", "65537", "--block 65537: a block is 1 to 65536 bytes"),
+        ("block", "1k", "'--block <BYTES>': a block is 1 to 65536 bytes"),
+        ("date", "253402300800", "--date 253402300800: a date is 0 to 253402300799"),
+        ("date", "x", "'--date <SECONDS>': a date is 0 to 253402300799"),
+    ):
+        got = p.dump(NOWHERE, **{name: value})
+        tells = limit in got.told and "Usage: rdump dump " in got.told and "9223372036854775807" not in got.told
+        check(f"--{name} {value}", (got.output, got.status) == ("", FAILED) and tells, got)
+    missing = p.dump(NOWHERE, level="10", payload="missing")
+    told("the payload before the level", missing, "", FAILED, "rdump: missing: No such file or directory (os error 2)\n")
+
+
+# Outputs that take nothing.
+
+
+def unprinted(p: Programs) -> None:
+    """The status where neither output can be written: 3 once something was sent."""
+    p.file("payload", PAYLOAD)
+    with open("/dev/full", "wb") as full:
+        streams = {"stdout": full.fileno(), "stderr": full.fileno()}
+        model = Model(Reel("r1", 4200))
+        check("a dump", p.dump(model.address, **streams).status == ABNORMAL)
+        model.stop()
+        check("a dump to no server", p.dump(NOWHERE, **streams).status == ABNORMAL)
+        check("a dump that does not start", p.dump(NOWHERE, payload="missing", **streams).status == FAILED)
+        with p.listening() as (address, _):
+            write_volume(address, [label(1, 0), *BLOCKS, None])
+            check("a read", read(p, address, **streams).status == ABNORMAL)
+            check("a read into no folder", read(p, address, "none/volume", **streams).status == FAILED)
+            for title, to in (("an operation", address), ("an operation at no server", NOWHERE)):
+                got = p.run("mt", "--to", to, "--device", DEVICE, "nop", "1", **streams)
+                check(title, got.status == ABNORMAL, got)
+        check("wrong words", p.run("tape", **streams).status == FAILED)
+    got = read(p, NOWHERE, stderr=os.open("/dev/full", os.O_WRONLY))
+    check("a read that can't be told of", got.status == ABNORMAL, got)
+
+
+# A terminal.
+
+
+def terminal(p: Programs) -> None:
+    """What a terminal tells of a dump that is asked about."""
+    p.file("payload", PAYLOAD)
+    near, far = pty.openpty()
+    server = Said(b"E2\nno\n", b"E2\nno\n")
+    got = p.dump(server.address, said="yes\nno\n", stdout=far, stderr=far)
+    os.close(far)
+    shown = dump.all_of(near).decode().replace(dump.CLEAR, "").replace("\r\n", "\n")
+    os.close(near)
+    server.stop()
+    reason = f"rdump: {server.address}: Refused 2: No such file or directory (os error 2)\n"
+    failed = f"{reason}volume 1 failed: Refused 2\nretry?\n{ANSWERS}\n"
+    check("what a terminal tells", got.status == ABNORMAL and shown.endswith(failed * 2 + "dump abandoned\n"), shown, failed)
+
+
+def based(p: Programs) -> None:
+    """The date that a dump builds on, at a terminal alone, and a dumpdates file that can't be written, wherever standard error goes."""
+    p.file("payload", b"")
+    p.file("dumpdates", dump.ENTRY.encode())
+    whole = "volume 1: 0 blocks from 0\ndump complete: 1 volumes, 0 blocks\n"
+    for level, since in (("1", "since Tue Feb 29 00:00:00 2000"), ("0", "since the epoch: every block counts as new")):
+        model = Model(Reel("r1", 4096), Reel("r2", 4096))
+        near, far = pty.openpty()
+        got = p.dump(model.address, level=level, stderr=far)
+        os.close(far)
+        shown = dump.all_of(near).decode()
+        os.close(near)
+        check(f"a level {level}", (got.output, got.status) == (whole, DONE) and shown.startswith(f"{since}\r\n"), got, shown)
+        told(f"a level {level}, and no terminal", p.dump(model.address, level=level), whole, DONE, "")
+        model.stop()
+    p.folder.joinpath("dumpdates.new").mkdir()
+    for more, output, status, lines in ((("--update",), "dumpdates not updated\n", ABNORMAL, 2), ((), "", DONE, 0)):
+        model = Model(Reel("r1", 4096))
+        got = p.dump(model.address, *more)
+        warned = re.match(r"rdump: dumpdates: .+: the dump can't be entered\n", got.told) is not None
+        check(f"dumpdates can't be written {more}", (got.output, got.status) == (whole + output, status), got)
+        check(f"dumpdates can't be written {more}: a warning", warned == bool(more) and len(got.told.splitlines()) == lines, got)
+        model.stop()
+
+
+def hangs_up(p: Programs) -> None:
+    """After an attempt that failed the server sees the end of its connection, while the operator is asked."""
+    p.file("payload", PAYLOAD)
+    server = Said(b"E5\nbroken\n", stays=True)
+    listed = ["--to", server.address, "--device", DEVICE, "--fs", "/usr", "--level", "0", "--payload", "payload"]
+    listed += ["--block", "1024", "--dumpdates", "dumpdates", "--date", str(DAY)]
+    pipes = {"stdin": subprocess.PIPE, "stdout": subprocess.PIPE, "stderr": subprocess.PIPE}
+    with subprocess.Popen((p.rdump, "dump", *listed), cwd=p.folder, **pipes) as client:
+        lines = [client.stdout.readline().decode() for _ in range(2)]
+        check("asked", lines == ["volume 1 failed: Refused 5\n", "retry?\n"], lines)
+        check("the server sees the end", server.left.wait(10) and client.poll() is None)
+        rest, _ = client.communicate(b"no\n", timeout=GUARD_SECONDS)
+        check("abandoned", (rest, client.returncode) == (b"dump abandoned\n", ABNORMAL), rest, client.returncode)
+    server.stop()
+
+
+# A block device.
+
+
+@contextmanager
+def looped(path: Path) -> Iterator[str | None]:
+    """A block device that is this file; None where there is none to be had."""
+    try:
+        ran = subprocess.run(("losetup", "--find", "--show", str(path)), capture_output=True, text=True, timeout=GUARD_SECONDS)
+    except OSError:
+        yield None
+        return
+    device = ran.stdout.strip()
+    if ran.returncode or not device:
+        yield None
+        return
+    try:
+        yield device
+    finally:
+        subprocess.run(("losetup", "--detach", device), check=False)
+
+
+def block_device(p: Programs) -> str | None:
+    """A payload that is a block device is read block by block. Answers what was skipped."""
+    path = p.folder / "disk"
+    path.write_bytes(os.urandom(64 << 20))
+    with looped(path) as device:
+        if device is None:
+            return "a payload on a block device: no loop device"
+        blocks, seen = 1024, []
+        model = Model(Reel("r1", (64 << 20) + 8 * blocks + 65536))
+
+        def look() -> None:
+            text = Path(f"/proc/{client.pid}/status").read_text()
+            seen.append(int(re.search(r"VmHWM:\s+(\d+) kB", text)[1]))
+
+        # An open, a rewind, the label and the blocks are followed by the mark, the move to the bin and the close.
+        model.acts[blocks + 6] = look
+        listed = ["--to", model.address, "--device", DEVICE, "--fs", "/usr", "--level", "0", "--payload", device, "--block", "65536"]
+        with subprocess.Popen((p.rdump, "dump", *listed, "--dumpdates", "none"), cwd=p.folder, stdin=subprocess.DEVNULL, stdout=subprocess.PIPE) as client:
+            client.communicate(timeout=GUARD_SECONDS)
+        check("a block device: the dump", client.returncode == DONE)
+        check("a block device: the volume", b"".join(model.bin[0].entries[1:-1]) == path.read_bytes())
+        check("a block device: it is not kept in memory", bool(seen) and seen[0] < 32 << 10, seen)
+        model.stop()
+    return None
+
+
+PARTS = (volumes, torn, files, reasons, pauses, words, unprinted, terminal, based, hangs_up, block_device)
+
+
+def main() -> int:
+    parser = argparse.ArgumentParser(description="Checks what the built rdump tells.")
+    parser.add_argument("rmtd", nargs="?", default=str(dump.CRATES / "rmtd/out/rmtd"))
+    parser.add_argument("rdump", nargs="?", default=str(dump.CRATES / "rdump/out/rdump"))
+    asked = parser.parse_args()
+    skipped = []
+    for part in PARTS:
+        with tempfile.TemporaryDirectory() as folder:
+            skipped.append(part(Programs(os.path.abspath(asked.rmtd), os.path.abspath(asked.rdump), Path(folder))))
+    print(f"{COUNT[0]} passed, {COUNT[1]} failed")
+    for it in filter(None, skipped):
+        print(f"skipped: {it}")
+    return 1 if COUNT[1] else 0
+
+
+if __name__ == "__main__":
+    sys.exit(main())
