@@ -423,7 +423,8 @@ while True:
 
 
 def while_renamed(program: str) -> None:
-    """An operator who gives the files of a stack other names while a drive is opened again and again meets no error of the device."""
+    """An operator who gives the first file of a stack other names while a drive is opened again and again meets no error of the device, and
+    the drive has that file each time: no other was first at any moment."""
     opens = 3_000
     with site(program) as shop:
         for name in ("r1", "r5"):
@@ -431,10 +432,11 @@ def while_renamed(program: str) -> None:
         how = {"stdin": subprocess.PIPE, "stdout": subprocess.PIPE}
         with subprocess.Popen([sys.executable, "-c", RENAMES], cwd=shop.stack, **how) as operator:
             operator.stdout.readline()
-            got = run(shop.words, shop.folder, input=(opened(0) + CLOSE) * opens)
+            got = run(shop.words, shop.folder, input=(opened(0) + b"R9\n" + CLOSE) * opens)
             operator.stdin.close()
         replies = Counter(got.stdout.splitlines(keepends=True))
-        check("a stack whose files are renamed", (got.returncode, replies) == (0, {DONE: 2 * opens}), replies)
+        wanted = {DONE: opens, b"A2\n": opens, b"r1" + DONE: opens}
+        check("a stack whose files are renamed", (got.returncode, replies) == (0, wanted), replies)
 
 
 def replaced(program: str) -> None:

@@ -241,7 +241,7 @@ impl<R: FolderSystem, L: Log + Drop> Stacks for FolderStacks<R, L> {
     /// to read alone. Names that begin with a dot are no reels.
     ///
     /// Answers `Device` also where another name in the folder is not UTF-8, where another handle has the file's lock, and where
-    /// at each of 100 listings the path led to another file than was listed.
+    /// at each of 100 listings a name was gone, or the path led to another file than was listed.
     fn latch(&mut self, drive: usize) -> Result<FileReel<FileMedium>, DriveFault> {
         match self.find(drive) {
             Ok(Some(found)) => {

@@ -8,7 +8,7 @@ use std::alloc::Global;
 use std::fs::{self, File, Metadata, OpenOptions};
 use std::io::{self, BufRead, BufReader, ErrorKind, Split};
 
-/// How often a folder is listed for one latch, where the first reel went away each time before it was opened.
+/// How often a folder is listed for one latch, where a name or the first reel went away each time before it was opened.
 const LIST_TURNS: u32 = 100;
 
 /// A plain file as it was listed.
@@ -17,6 +17,17 @@ struct Listed {
     name: String,
     path: String,
     id: FileId,
+}
+
+/// What a name, or all names of a folder, led to.
+#[derive(Drop)]
+enum Seen {
+    /// A plain file; of a folder, its first.
+    File(Listed),
+    /// No plain file.
+    NoFile,
+    /// Nothing: a name that was listed is gone, so another may have come before all that were listed.
+    Gone,
 }
 
 /// A reel whose file is open and locked.
@@ -51,11 +62,11 @@ fn text_of(name: Vec<u8>) -> io::Result<String> {
     }
 }
 
-/// Whether the name comes before that one.
-fn is_before(name: &str, first: &Option<Listed>) -> bool {
+/// Whether the name comes before that of the file.
+fn is_before(name: &str, first: &Seen) -> bool {
     match first {
-        Some(first) => name.as_bytes() < first.name.as_bytes(),
-        None => true,
+        Seen::File(first) => name.as_bytes() < first.name.as_bytes(),
+        _ => true,
     }
 }
 
@@ -68,24 +79,25 @@ fn known_of<R: FolderSystem>(rt: &R, path: &str) -> io::Result<Option<Metadata>>
     }
 }
 
-/// The plain file of that name. None where it is none, and where nothing has the name now.
-fn look_up<R: FolderSystem>(rt: &R, folder: &str, name: String) -> Result<Option<Listed>, Refusal> {
+/// What the name leads to. No link is followed.
+fn look_up<R: FolderSystem>(rt: &R, folder: &str, name: String) -> Result<Seen, Refusal> {
     let path = format!(in rt.alloc(); "{folder}/{name}")?;
     match at(path.as_str(), "stat", known_of(rt, path.as_str()))? {
         Some(known) if known.is_file() => {
             let id = FileId::of(&known);
-            Ok(Some(Listed { name, path, id }))
+            Ok(Seen::File(Listed { name, path, id }))
         }
-        _ => Ok(None),
+        Some(_) => Ok(Seen::NoFile),
+        None => Ok(Seen::Gone),
     }
 }
 
-/// The first plain file of the folder, in the order of the names' bytes. A folder or a link is none, and no link is followed. Names
-/// that begin with a dot are passed over.
+/// The first plain file of the folder, in the order of the names' bytes. A folder or a link is none. Names that begin with a dot are
+/// passed over. It is gone where a name is gone when it is looked at: its file may have the first name now.
 ///
 /// It is refused also where another name is not UTF-8.
-fn first_file<R: FolderSystem>(rt: &R, folder: &str) -> Result<Option<Listed>, Refusal> {
-    let mut first: Option<Listed> = None;
+fn first_file<R: FolderSystem>(rt: &R, folder: &str) -> Result<Seen, Refusal> {
+    let mut first = Seen::NoFile;
     for name in at(folder, "open", names_in(rt, folder))? {
         let name = at(folder, "list", name)?;
         if name.starts_with(b".") {
@@ -95,8 +107,10 @@ fn first_file<R: FolderSystem>(rt: &R, folder: &str) -> Result<Option<Listed>, R
         if !is_before(name.as_str(), &first) {
             continue;
         }
-        if let Some(listed) = look_up(rt, folder, name)? {
-            first = Some(listed);
+        match look_up(rt, folder, name)? {
+            Seen::File(listed) => first = Seen::File(listed),
+            Seen::NoFile => {}
+            Seen::Gone => return Ok(Seen::Gone),
         }
     }
     Ok(first)
@@ -159,11 +173,14 @@ fn open_listed<R: FolderSystem>(rt: &R, listed: Listed) -> Result<Option<Opened>
 /// Opens and locks the first reel of the folder: to read and to append, or to read alone where it may only be read. None where it has
 /// none.
 ///
-/// Where the file that was listed first has another name now, or is another, the folder is listed again: 100 times at most.
+/// Where a name that was listed is gone, or the file that was listed first has another name now, or is another, the folder is listed
+/// again: 100 times at most.
 pub(super) fn open_first<R: FolderSystem>(rt: &R, folder: &str) -> Result<Option<Opened>, Refusal> {
     for _ in 0..LIST_TURNS {
-        let Some(listed) = first_file(rt, folder)? else {
-            return Ok(None);
+        let listed = match first_file(rt, folder)? {
+            Seen::File(listed) => listed,
+            Seen::NoFile => return Ok(None),
+            Seen::Gone => continue,
         };
         if let Some(opened) = open_listed(rt, listed)? {
             return Ok(Some(opened));
