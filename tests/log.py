@@ -226,6 +226,11 @@ def folder_words(rmtd: str, folder: Path) -> list[str]:
     return [rmtd, "--listen", "127.0.0.1:0", "--bin", str(folder / "bin"), f"/dev/st0={folder / 'st0'}"]
 
 
+def stdio_words(rmtd: str, folder: Path) -> list[str]:
+    """The words of such a server on standard input and output."""
+    return [it if it != "--listen" else "--stdio" for it in folder_words(rmtd, folder) if it != "127.0.0.1:0"]
+
+
 def converses(address: tuple[str, int]) -> bool:
     """Whether a connection is served: it opens the drive, writes, and closes it."""
     talk = Talk(address)
@@ -301,17 +306,29 @@ def with_stdio(rmtd: str) -> None:
     """On standard input and output nothing is told, whatever is asked."""
     asked = opened() + write(b"x") + OFFLINE + CLOSE + opened() + b"?"
     with tempfile.TemporaryDirectory() as folder:
-        words = [it if it != "--listen" else "--stdio" for it in folder_words(rmtd, Path(folder)) if it != "127.0.0.1:0"]
+        words = stdio_words(rmtd, Path(folder))
         for title, given in (("folders", words), ("memory", [rmtd, "--stdio"])):
             got = subprocess.run(given, input=asked, capture_output=True, check=False)
             check(f"stdio, {title}: nothing is told", (got.returncode, got.stderr) == (3, b""), got)
+
+
+def without_streams(rmtd: str) -> None:
+    """On standard input with standard output or error closed: the reel is no other stream, so it gets what is asked, and neither replies nor lines."""
+    asked = opened() + write(b"hello") + write(b"world") + CLOSE + b"?"
+    answered = DONE + b"A5\n" * 2 + DONE
+    for closed, wanted in ((">&-", (1, b"", images([]))), ("2>&-", (3, answered, images([b"hello", b"world"])))):
+        with tempfile.TemporaryDirectory() as folder:
+            words = stdio_words(rmtd, Path(folder))
+            got = subprocess.run(["/bin/sh", "-c", f'exec "$@" {closed}', "sh", *words], input=asked, capture_output=True, check=False)
+            reel = Path(folder, "st0/r1").read_bytes()
+            check(f"stdio, {closed}: the reel", (got.returncode, got.stdout, reel) == wanted, got, reel)
 
 
 def main() -> int:
     parser = argparse.ArgumentParser(description="Checks what the built server writes on standard error.")
     parser.add_argument("rmtd", nargs="?", default=str(CRATES / "rmtd/out/rmtd"))
     rmtd = os.path.abspath(parser.parse_args().rmtd)
-    for part in (endings, reels, too_many, failed_accepts, at_once, unwritable, unread, in_memory, with_stdio):
+    for part in (endings, reels, too_many, failed_accepts, at_once, unwritable, unread, in_memory, with_stdio, without_streams):
         part(rmtd)
     return ended()
 

@@ -7,8 +7,8 @@ use std::rt::Files;
 /// How many standard streams there are.
 const PLACES: i32 = 3;
 
-/// Takes the place of each standard stream that the program was started without, so that no reel and no connection gets it: the log
-/// would be written into that. What has the place is the folder `/`, to which nothing can be written.
+/// Takes the place of each standard stream that the program was started without, so that no reel and no connection gets it: replies
+/// or the log would be written into that. What has the place is the folder `/`, to which nothing can be written.
 pub(crate) fn take_places<R: Files<File = File>>(rt: &R) {
     for _ in 0..PLACES {
         match fs::open(rt, "/") {

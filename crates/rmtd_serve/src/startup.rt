@@ -108,6 +108,8 @@ fn begin_with<R: System, I: Read, O: Write>(
 /// The status is 1, and what is at fault is told on standard error, where the words are wrong, a folder can't be used, or the
 /// address can't be listened at. It fails where memory is refused or standard error could not be written. In all of these
 /// neither stream is touched.
+///
+/// Nothing that is opened here or later has the place of a standard stream.
 pub fn begin<R: System, I: Read, O: Write>(
     rt: &R,
     words: &[&str],
@@ -119,6 +121,7 @@ pub fn begin<R: System, I: Read, O: Write>(
         (streams input.old output.old) (streams input.new output.new)) }
     ensures failed { OnErr result (AreUntouched (streams input.old output.old) (streams input.new output.new)) }
 {
+    take_places(rt);
     match server_line(rt.alloc(), words) {
         Ok(line) => follow(rt, &line, input, output),
         Err(error) => refuse(rt, error),
@@ -212,10 +215,8 @@ fn listen<R: System>(rt: &R, address: &str, line: &ServerLine<'_>) -> io::Result
     Ok(0)
 }
 
-/// A listener at this address, which is told on standard output. Neither it nor what is opened later has the place of a standard
-/// stream.
+/// A listener at this address, which is told on standard output.
 fn bind<R: System>(rt: &R, address: &str) -> io::Result<TcpListener> {
-    take_places(rt);
     let listener = TcpListener::bind(rt, address)?;
     let place = listener.local_addr()?;
     println!(rt; "listening on {place}")?;
