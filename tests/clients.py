@@ -602,7 +602,8 @@ def on_the_disk(program: str) -> None:
         ("the sync of one folder", f"{SYNCS}:error=EIO:when=2", False),
         ("the sync of the other folder", f"{SYNCS}:error=EIO:when=3", False),
         ("the syncs of both folders", f"{SYNCS}:error=EIO:when=2+", False),
-        ("the move", f"{MOVES}:error=EIO:when=1", True),
+        # The first rename is that of the look at the start.
+        ("the move", f"{MOVES}:error=EIO:when=2", True),
     ):
         with site(program) as shop:
             reel = shop.reel("r1")
@@ -819,6 +820,7 @@ def starts(program: str) -> None:
         got = subprocess.run(shop.words, input=opened(), capture_output=True, check=False, timeout=GUARD_SECONDS, **as_nobody(shop))
         check("all folders are there", (got.returncode, got.stdout, got.stderr) == (0, NO_REEL, b""), got)
     clashes(program)
+    other_mounts(program)
 
 
 def clashes(program: str) -> None:
@@ -845,6 +847,37 @@ def clashes(program: str) -> None:
                 got = subprocess.run(words, input=opened(), capture_output=True, check=False, timeout=GUARD_SECONDS)
                 told = (got.returncode, got.stdout, got.stderr.decode())
                 check(f"{way[0]} where {wrong}", told == (FAILED, b"", f"rmtd: {at_fault}: {wrong}\n"), told)
+
+
+# With a folder mounted over itself, to write or only to read, in a view of the mounts of its own that ends with it.
+MOUNTED = """mount --bind "$1" "$1" && mount -o "remount,bind,$2" "$1" || exit 77
+cd / && shift 2 && exec "$@"
+"""
+NOT_MOUNTED = 77
+
+
+def other_mounts(program: str) -> None:
+    """A bin, and a stack, on another mount of the same file system, and both on one that takes no writes, are told before anything is read."""
+    apart, unwritable = b"the bin is on another mount\n", b"(os error 30)\n"
+    for title, name, how, told in (
+        ("the bin on another mount", "bin", "rw", apart),
+        ("the stack on another mount", "st0", "rw", apart),
+        ("the bin on a mount that takes no writes", "bin", "ro", apart),
+        ("all on a mount that takes no writes", ".", "ro", unwritable),
+        ("all on one mount", ".", "rw", None),
+    ):
+        with site(program) as shop:
+            shop.reel("r1")
+            words = ["unshare", "--mount", "/bin/sh", "-c", MOUNTED, "sh", str(shop.folder / name), how, *shop.words]
+            got = run(words, shop.folder, input=opened() + OFFLINE) if os.geteuid() == 0 and shutil.which("unshare") else None
+            if got is None or got.returncode == NOT_MOUNTED or got.stderr.startswith(b"unshare:"):
+                print(f"skipped: {title}: mount(8) may not be used")
+            elif told is None:
+                check(title, (got.returncode, got.stdout, got.stderr) == (0, DONE + DONE_ONE, b""), got)
+            else:
+                at_fault = got.stderr.startswith(b"rmtd: %s: " % os.fsencode(shop.stack)) and got.stderr.endswith(told)
+                check(title, (got.returncode, got.stdout, at_fault) == (FAILED, b"", True), got)
+                check(f"{title}: the reel stands", [it.name for it in shop.stack.iterdir()] == ["r1"] and not [*shop.bin.iterdir()])
 
 
 @contextmanager

@@ -19,7 +19,7 @@ mod refusal;
 use crate::{FileMedium, FolderSystem, Log, NoLog};
 use drives::{DriveFault, Stacks};
 use known::FileId;
-use look::{clash_of, look_at, look_at_next};
+use look::{clash_of, look_at, look_at_next, look_between};
 use moving::Moved;
 use rack::{FolderRack, Found};
 use refusal::Refusal;
@@ -118,8 +118,8 @@ impl<R: FolderSystem, L: Log + Drop> FolderStacks<R, L> {
 
     /// Looks at the folders, and names the first that is missing, is no folder, may not be read, or in which nobody may
     /// write by its permissions: those of the stacks in the drives' order, and then the bin's. Then it names the first drive's folder
-    /// that is the bin's too, lies on another file system than the bin's, or is the folder of a drive before it, whatever the paths
-    /// are. It changes nothing there.
+    /// that is the bin's too, lies on another file system than the bin's, is the folder of a drive before it, whatever the paths are,
+    /// or lies on another mount than the bin's or with it on one that takes no writes. It changes nothing there.
     ///
     /// The reason has the kind `OutOfMemory` and no code of the system where memory is refused.
     pub fn find_fault(&self) -> Option<FolderFault<'_>>
@@ -144,7 +144,11 @@ impl<R: FolderSystem, L: Log + Drop> FolderStacks<R, L> {
         ensures { IfSome result (λ fault. IsFolderOf self.now fault.folder.now) }
     {
         for (drive, rack) in self.racks.iter().enumerate() {
-            if let Some(reason) = clash_of(seen, drive, bin) {
+            let clash = match clash_of(seen, drive, bin) {
+                None => look_between(&self.rt, rack.folder(), self.bin.as_str()).err(),
+                clash => clash,
+            };
+            if let Some(reason) = clash {
                 return Some(FolderFault {
                     folder: rack.folder(),
                     reason,

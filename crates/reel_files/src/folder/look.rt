@@ -2,6 +2,7 @@
 
 use super::known::FileId;
 use crate::FolderSystem;
+use std::alloc::AllocError;
 use std::fs::{self, Metadata};
 use std::io::{self, ErrorKind};
 use std::os::unix::fs::MetadataExt;
@@ -42,6 +43,26 @@ pub(super) fn look_at_next<R: FolderSystem>(
 ) -> io::Result<()> {
     seen.push(look_at(rt, folder)?)?;
     Ok(())
+}
+
+/// A name in this folder that no file has, since it is longer than a file system takes.
+fn too_long<R: FolderSystem>(rt: &R, folder: &str) -> Result<String, AllocError> {
+    format!(in rt.alloc(); "{folder}/.{:0255}", 0)
+}
+
+/// Fails where the system makes no rename from the folder to the bin's: where they are on different mounts, or take no writes. It
+/// tells that before it looks at a name, so a name that is too long is asked for, which changes nothing.
+pub(super) fn look_between<R: FolderSystem>(rt: &R, folder: &str, bin: &str) -> io::Result<()> {
+    let from = too_long(rt, folder)?;
+    let to = too_long(rt, bin)?;
+    match fs::rename(rt, from.as_str(), to.as_str()) {
+        Err(error) if error.kind() == ErrorKind::CrossesDevices => {
+            let words = "the bin is on another mount";
+            Err(io::Error::new(ErrorKind::CrossesDevices, words))
+        }
+        Err(error) if error.kind() == ErrorKind::ReadOnlyFilesystem => Err(error),
+        _ => Ok(()),
+    }
 }
 
 /// Why the folder of the drive of this number does not go with the bin's, or with those of the drives before it.
