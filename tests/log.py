@@ -35,6 +35,7 @@ from threads import (
     SPARE_MEMORY,
     Server,
     Talk,
+    can_trace,
     is_served,
     opened,
     reset,
@@ -42,6 +43,7 @@ from threads import (
     serving,
     soon,
     talking,
+    traced,
     write,
 )
 
@@ -132,6 +134,44 @@ def reels(rmtd: str) -> None:
         )
         good = len(mine) == len(wanted) and all(re.fullmatch(form, it) for form, it in zip(wanted, mine))
         check("reels: the lines of its seat", good, mine, wanted)
+
+
+def far_away(rmtd: str) -> None:
+    """After a path of more bytes than a line has the reason stands, and after a name that is no text too."""
+    with tempfile.TemporaryDirectory() as top:
+        folder = Path(top, *("f" * 200 for _ in range(5)))
+        folder.mkdir(parents=True)
+        server = Server(rmtd, folder, 1, 1 << 20, ())
+        try:
+            with talking(server) as talk, server.reel("r1").open("rb") as held:
+                fcntl.flock(held, fcntl.LOCK_EX)
+                talk.asks("a long path", (opened(), IO_ERROR))
+            refused = rf"seat \d+: /dev/st0: open refused: {re.escape(top)}/f.*\.\.: lock: another has the lock"
+            check("a long path: the reason is told", has(server, refused), lines_of(server))
+        finally:
+            server.stop()
+    with serving(rmtd) as server:
+        Path(os.fsdecode(os.fsencode(server.stacks[0]) + b"/r\xff1")).touch()
+        with talking(server) as talk:
+            talk.asks("a name that is no text", (opened(), IO_ERROR))
+        refused = rf"seat \d+: /dev/st0: open refused: {re.escape(str(server.stacks[0]))}/r\?1: list: .+"
+        check("a name that is no text is told", has(server, refused), lines_of(server))
+
+
+def unsynced(rmtd: str) -> None:
+    """A move after which a folder could not be synced is done, and told as such; and one after which both could."""
+    if not can_trace():
+        print("skipped: the sync of a folder fails: it takes strace(1)")
+        return
+    for number, told in ((2, r", folder sync failed: .+ \(os error 5\)"), (3, r", folder sync failed: .+ \(os error 5\)"), (4, "")):
+        with serving(rmtd) as server:
+            server.reel("r1")
+            with talking(server) as talk:
+                talk.asks(f"sync {number} fails", (opened(), DONE))
+                with traced(server, "-e", "trace=fsync,fdatasync", "-e", f"inject=fsync,fdatasync:error=EIO:when={number}"):
+                    talk.asks(f"sync {number} fails: a move", (OFFLINE, DONE_ONE))
+            check(f"sync {number} fails: it is told", has(server, rf"seat \d+: /dev/st0: r1 moved to the bin{told}"), lines_of(server))
+            check(f"sync {number} fails: the reel is moved", (server.bin / "r1").is_file())
 
 
 def too_many(rmtd: str) -> None:
@@ -328,7 +368,7 @@ def main() -> int:
     parser = argparse.ArgumentParser(description="Checks what the built server writes on standard error.")
     parser.add_argument("rmtd", nargs="?", default=str(CRATES / "rmtd/out/rmtd"))
     rmtd = os.path.abspath(parser.parse_args().rmtd)
-    for part in (endings, reels, too_many, failed_accepts, at_once, unwritable, unread, in_memory, with_stdio, without_streams):
+    for part in (endings, reels, far_away, unsynced, too_many, failed_accepts, at_once, unwritable, unread, in_memory, with_stdio, without_streams):
         part(rmtd)
     return ended()
 

@@ -187,7 +187,7 @@ impl<R: FolderSystem, L: Log + Drop> FolderStacks<R, L> {
         let moved = rack.move_to(&self.rt, self.bin.as_str(), synced);
         self.log.note(rack.moved_line(&moved).as_str());
         match moved {
-            Ok(Moved::Done) => {
+            Ok(Moved::Done(_)) => {
                 rack.note(None);
                 Ok(())
             }

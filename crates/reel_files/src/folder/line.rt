@@ -20,6 +20,17 @@ impl Line {
         }
     }
 
+    /// Adds a text, until the line has that many bytes, or with its last letter some more. It fails where a part is left out.
+    pub(super) fn add(&mut self, text: &str, room: usize) -> fmt::Result {
+        for letter in text.chars() {
+            let shown = if letter.is_control() { '?' } else { letter };
+            if self.text.len() >= room || self.text.try_push(shown).is_err() {
+                return Err(fmt::Error);
+            }
+        }
+        Ok(())
+    }
+
     /// What stands in it.
     pub(super) fn as_str(&self) -> &str {
         self.text.as_str()
@@ -28,12 +39,6 @@ impl Line {
 
 impl Write for Line {
     fn write_str(&mut self, text: &str) -> fmt::Result {
-        for letter in text.chars() {
-            let shown = if letter.is_control() { '?' } else { letter };
-            if self.text.try_push(shown).is_err() {
-                return Err(fmt::Error);
-            }
-        }
-        Ok(())
+        self.add(text, LINE_ROOM)
     }
 }

@@ -55,10 +55,10 @@ fn names_in<R: FolderSystem>(rt: &R, folder: &str) -> io::Result<Split<BufReader
 }
 
 /// The name as text.
-fn text_of(name: Vec<u8>) -> io::Result<String> {
+fn text_of(folder: &str, name: Vec<u8>) -> Result<String, Refusal> {
     match String::from_utf8(name) {
         Ok(text) => Ok(text),
-        Err(_) => Err(io::Error::from(ErrorKind::InvalidFilename)),
+        Err(error) => Err(Refusal::of_name(folder, error.as_bytes())),
     }
 }
 
@@ -103,7 +103,7 @@ fn first_file<R: FolderSystem>(rt: &R, folder: &str) -> Result<Seen, Refusal> {
         if name.starts_with(b".") {
             continue;
         }
-        let name = at(folder, "list", text_of(name))?;
+        let name = text_of(folder, name)?;
         if !is_before(name.as_str(), &first) {
             continue;
         }

@@ -25,8 +25,8 @@ pub(super) struct ReelFile {
 /// What came of a move.
 #[derive(Clone, Copy)]
 pub(super) enum Moved {
-    /// The file lies in the bin, and no longer in the stack.
-    Done,
+    /// The file lies in the bin, and no longer in the stack. With a reason one of the folders could not be synced then.
+    Done(Option<io::Error>),
     /// Something in the bin has its name. Nothing changed.
     NameTaken,
 }
@@ -54,7 +54,7 @@ fn look_again<R: FolderSystem>(rt: &R, file: &ReelFile) -> io::Result<()> {
 /// makes nothing else there, and takes no memory.
 ///
 /// After a refusal nothing changed. The bin's folder is synced after the rename, and then the stack's, and what fails then
-/// changes nothing.
+/// is told, and changes nothing.
 pub(super) fn move_file<R: FolderSystem>(
     rt: &R,
     file: &ReelFile,
@@ -72,7 +72,7 @@ pub(super) fn move_file<R: FolderSystem>(
     at(from, "rename", fs::rename(rt, from, to))?;
     // Others need not wait for the syncs. The bin's comes first, so that the name stands in one of them at least.
     let _ = entered.unlock();
-    let _ = entered.sync_all();
-    let _ = left.sync_all();
-    Ok(Moved::Done)
+    let bin_synced = entered.sync_all();
+    let stack_synced = left.sync_all();
+    Ok(Moved::Done(bin_synced.and(stack_synced).err()))
 }

@@ -160,7 +160,11 @@ impl FolderRack {
         let mut line = Line::new();
         let (drive, reel) = (self.name.as_str(), self.latched_name());
         let _ = match moved {
-            Ok(Moved::Done) => write!(line, "{drive}: {reel} moved to the bin"),
+            Ok(Moved::Done(None)) => write!(line, "{drive}: {reel} moved to the bin"),
+            Ok(Moved::Done(Some(reason))) => write!(
+                line,
+                "{drive}: {reel} moved to the bin, folder sync failed: {reason}"
+            ),
             Ok(Moved::NameTaken) => {
                 write!(line, "{drive}: move refused: {reel}: the bin has the name")
             }

@@ -3,7 +3,11 @@
 use super::line::Line;
 use std::alloc::AllocError;
 use std::fmt::Write;
-use std::io;
+use std::io::{self, ErrorKind};
+
+/// A place has about so many bytes of a path, and two points for the rest. So a line has room for the name of a drive, of up to 255
+/// bytes, and for the reason.
+const PATH_ROOM: usize = 600;
 
 /// A call that was refused.
 #[derive(Clone, Copy)]
@@ -18,8 +22,24 @@ impl Refusal {
     /// The refusal of this call for this path.
     pub(super) fn new(path: &str, call: &str, reason: io::Error) -> Refusal {
         let mut place = Line::new();
-        let _ = write!(place, "{path}: {call}: ");
+        let rest = match place.add(path, PATH_ROOM) {
+            Ok(()) => "",
+            Err(_) => "..",
+        };
+        let _ = write!(place, "{rest}: {call}: ");
         Refusal { place, reason }
+    }
+
+    /// The refusal of a name in this folder that is not UTF-8. What is no text in it stands as a question mark.
+    pub(super) fn of_name(folder: &str, name: &[u8]) -> Refusal {
+        let mut path = Line::new();
+        let _ = write!(path, "{folder}/");
+        for chunk in name.utf8_chunks() {
+            let mark = if chunk.invalid().is_empty() { "" } else { "?" };
+            let _ = write!(path, "{}{mark}", chunk.valid());
+        }
+        let reason = io::Error::from(ErrorKind::InvalidFilename);
+        Refusal::new(path.as_str(), "list", reason)
     }
 
     /// The path and the call, to stand before the reason.
