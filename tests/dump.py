@@ -608,7 +608,7 @@ def servers(p: Programs) -> None:
     ):
         fails(f"rmtd {' '.join(words)}", p.run(*words, program=p.rmtd), fault)
     fails("no address", p.run("--listen", "nowhere", program=p.rmtd), "nowhere")
-    ends("no connections", p.run("--listen", "127.0.0.1:0", "--connections", "0", program=p.rmtd)._replace(output=""), "", DONE)
+    ends("no connections", p.run("--listen", "127.0.0.1:0", "--connections", "0", program=p.rmtd)._replace(output=""), "", DONE, "in memory")
     with p.listening("--connections", "2") as (address, server):
         for name in ("the first connection", "the second connection"):
             ends(name, p.run("mt", "--to", address, "--device", DEVICE, "nop", "1"), "A1\n", DONE)
