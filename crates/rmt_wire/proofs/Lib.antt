@@ -8,6 +8,7 @@ pub mod Giving
 pub mod Dropped
 pub mod Given
 pub mod Nexts
+pub mod Streams
 pub mod Reading
 pub mod Replies
 pub mod Splitting

@@ -1,9 +1,10 @@
 //! The wire of the remote magtape protocol (rmt(8)): requests and replies, their grammar, readers that lend both from a
 //! fixed buffer, and writers of both.
 //!
-//! The server's half: `RequestReader` splits a stream into requests, however it is cut; `write_reply` writes a reply;
-//! `Counted` counts the failures of the streams of both. The client's half: `push_request` appends a request, and
-//! `ReplyReader` gives the reply that is waited for. `push_reply` appends a reply.
+//! The server's half: `RequestReader` splits a stream into requests, however it is cut, and its `read_next` reads a
+//! stream up to the next request; `write_reply` writes a reply; `Counted` counts the failures of the streams of both. The
+//! client's half: `push_request` appends a request, and `ReplyReader` gives the reply that is waited for. `push_reply`
+//! appends a reply.
 //!
 //! For the programs over it: `print_text` prints a text whole, `find_byte` finds a byte, and `argument` reads the devices
 //! and numbers of their words.
@@ -37,4 +38,4 @@ pub use laws::{
 pub use limits::{LINE_LIMIT, NUMBER_LIMIT, READER_LIMIT, RECORD_LIMIT};
 pub use print::print_text;
 pub use reply::{OutputFault, Reply, ReplyReader, Wanted, push_reply, write_reply};
-pub use request::{Request, RequestReader, push_request};
+pub use request::{Request, RequestReader, StreamFault, push_request};

@@ -8,7 +8,7 @@ mod line;
 mod reader;
 
 pub use append::push_request;
-pub use reader::RequestReader;
+pub use reader::{RequestReader, StreamFault};
 
 /// A request to a tape server (rmt(8)). The device of an open and the data of a write are lent by the reader.
 ///

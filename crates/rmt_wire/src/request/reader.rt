@@ -15,6 +15,10 @@ use bytes::BytesMut;
 use std::alloc::{AllocError, Global};
 use std::marker::Model;
 
+mod stream;
+
+pub use stream::StreamFault;
+
 /// The length of the line and the count of a write above `RECORD_LIMIT` that the bytes begin with.
 #[tactic(auto, unfolding(crate::specs::RequestReader::dropped_line))]
 fn dropped_line(bytes: &[u8]) -> Option<(usize, u32)>

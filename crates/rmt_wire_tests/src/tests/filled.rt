@@ -34,3 +34,18 @@ fn an_end_fills_a_reader_with_nothing(rt: HostRuntime) -> Result<(), Fail> {
     assert!(rt; reader.is_empty() && stream.failures() == 0);
     Ok(())
 }
+
+#[test]
+fn a_stream_is_read_request_by_request(rt: HostRuntime) -> Result<(), Fail> {
+    let mut reader = RequestReader::new(rt.alloc())?;
+    let mut stream = Counted::new(b"C\nR1\n".as_slice());
+    assert!(rt; matches!(reader.read_next(&mut stream), Ok(Some(Request::Close))));
+    assert!(rt;
+        matches!(
+            reader.read_next(&mut stream),
+            Ok(Some(Request::Read { count: 1 }))
+        )
+    );
+    assert!(rt; matches!(reader.read_next(&mut stream), Ok(None)));
+    Ok(())
+}

@@ -1,8 +1,8 @@
 //! The printed names of faults, and the laws of the grammar.
 
 use rmt_wire::{
-    OutputFault, WireFault, dropped_writes, long_texts, one_reading, one_reply, one_reply_reading,
-    short_replies,
+    OutputFault, StreamFault, WireFault, dropped_writes, long_texts, one_reading, one_reply,
+    one_reply_reading, short_replies,
 };
 use std::alloc::{AllocError, Global};
 use std::fmt::Display;
@@ -27,6 +27,8 @@ fn faults_print_their_names(rt: HostRuntime) -> Result<(), Fail> {
         assert!(rt; prints(rt.alloc(), fault, name)?);
     }
     assert!(rt; prints(rt.alloc(), &OutputFault, "Output")?);
+    let broken = StreamFault::Broken(WireFault::BadNumber);
+    assert!(rt; prints(rt.alloc(), &broken, "Broken: BadNumber")?);
     Ok(())
 }
 

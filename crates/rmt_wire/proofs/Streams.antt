@@ -1,0 +1,146 @@
+-- Reading a stream up to its next request.
+use Rattle.std.proofs.Common.{◌≡◌, ℕ, ◌+◌, ◌≤◌, List, [], ◌∷◌, ◌++◌, length, Option, Some, None, Result, Ok, Err, refl, sym, subst, append_assoc, append-nil, arith}
+use Rattle.std.specs.Io.KnownBytes.{Consumes}
+use Rattle.std.proofs.KnownBytes.{Consumes-nil, Consumes-trans, Consumes-kept}
+use Rattle.rmt_wire.specs.Request.{PlainRequest}
+use Rattle.rmt_wire.specs.RequestParts.{IsOpen, HasNoSpelling}
+use Rattle.rmt_wire.specs.RequestReader.{RequestHeld, Unread, IsGiven, IsNext, told}
+use Rattle.rmt_wire.specs.RequestFill.{IsFilled, IsNotFilled}
+use Rattle.rmt_wire.specs.RequestStream.{IsReadNext, CountsNext, EndsAs, IsGivenWhole, GivesNext, IsSpelledIfSome, FallsIfSome, HasAnswered, GoesOn, most_left, told_next}
+use Rattle.rmt_wire.specs.declared.limits.TheConstants.{READER_LIMIT}
+use Rattle.rmt_wire.specs.declared.request.Request.{Request}
+use Rattle.rmt_wire.specs.declared.fault.WireFault.{WireFault}
+use Rattle.rmt_wire.specs.declared.request.reader.stream.StreamFault.{StreamFault}
+use Rattle.rmt_wire.specs.declared.request.reader.stream.StreamFault.TheVariants.{Broken}
+use Rattle.rmt_wire.proofs.Giving.{never_open}
+use Rattle.rmt_wire.proofs.Given.{answered, answer_begun}
+
+-- bytes with a fault are no beginning of a request
+pub no_wait : (old new : RequestHeld) (fault : WireFault) (bytes : List ℕ) → IsNext old (Err fault) new → Unread old bytes → IsOpen bytes → ⊥
+no_wait old new fault bytes n u o = never_open bytes fault (n.continues bytes u).2.0 [] (subst IsOpen (sym (append-nil bytes)) o)
+
+-- by what is given of all that was pushed, a conversation goes on
+goes_on : (left left' : Option (List ℕ)) (old new : RequestHeld) (came : List ℕ) (result : Result (Option PlainRequest) StreamFault) → Consumes left left' came
+    → ((pushed : List ℕ) (requests : List PlainRequest) → IsGiven old pushed requests → GivesNext result left' new (pushed ++ came) requests)
+    → (answer : PlainRequest → List ℕ) (first output output' : Option (List ℕ)) → HasAnswered answer first left old output output' → GoesOn result answer first left' new output output'
+goes_on left left' old new came (Ok (Some request)) consumed gives answer first output output' a = (
+  λ output'' w. record {
+    read = a.read ++ came;
+    requests = a.requests ++ request ∷ [];
+    consumed = Consumes-trans _ _ _ a.read came a.consumed consumed;
+    given = gives a.read a.requests a.given;
+    written = answered answer output output' output'' a.requests request a.written w;
+  },
+  λ output'' w. record {
+    read = a.read ++ came;
+    requests = a.requests ++ request ∷ [];
+    consumed = Consumes-trans _ _ _ a.read came a.consumed consumed;
+    given = gives a.read a.requests a.given;
+    written = answer_begun answer output output' output'' a.requests request a.written w;
+  },
+)
+goes_on left left' old new came (Ok None) consumed gives answer first output output' a = record {
+  read = a.read ++ came;
+  requests = a.requests;
+  consumed = Consumes-trans _ _ _ a.read came a.consumed consumed;
+  given = gives a.read a.requests a.given;
+  written = a.written;
+}
+goes_on left left' old new came (Err fault) consumed gives answer first output output' a = record {
+  read = a.read ++ came;
+  requests = a.requests;
+  consumed = Consumes-trans _ _ _ a.read came a.consumed consumed;
+  given = gives a.read a.requests a.given;
+  written = a.written;
+}
+
+-- what is unread then
+still_unread : (left : Option (List ℕ)) (new : RequestHeld) (pushed : List ℕ) (requests : List PlainRequest) (result : Result (Option PlainRequest) StreamFault) → GivesNext result left new pushed requests
+    → (rest : List ℕ) × Unread new rest
+still_unread left new pushed requests (Ok (Some request)) g = (g.0, g.1)
+still_unread left new pushed requests (Ok None) g = (g.0, g.1)
+still_unread left new pushed requests (Err fault) g = (g.0, g.1)
+
+is_read_next : (left left' : Option (List ℕ)) (reads reads' : ℕ) (old new : RequestHeld) (came : List ℕ) (result : Result (Option PlainRequest) StreamFault) → ((bytes : List ℕ) × Unread old bytes)
+    → Consumes left left' came
+    → ((pushed : List ℕ) (requests : List PlainRequest) → IsGiven old pushed requests → GivesNext result left' new (pushed ++ came) requests) → IsSpelledIfSome result
+    → FallsIfSome result (most_left reads old) (most_left reads' new) → IsReadNext left left' reads reads' old result new
+is_read_next left left' reads reads' old new came result unread consumed gives spelled falls = record {
+  came = came;
+  consumed = consumed;
+  gives_on = gives;
+  answers = goes_on left left' old new came result consumed gives;
+  unread = still_unread left' new (unread.0 ++ came) [] result (gives unread.0 [] (unread.0, unread.1, refl));
+  spelled = spelled;
+  falls = falls;
+}
+
+-- these bytes came of the stream, and what was given before stays given
+pub record HasCome (left left' : Option (List ℕ)) (reads reads' : ℕ) (old new : RequestHeld) : Type 0 where
+  pub came : List ℕ
+  pub consumed : Consumes left left' came
+  pub given : (pushed : List ℕ) (requests : List PlainRequest) → IsGiven old pushed requests → IsGiven new (pushed ++ came) requests
+  pub falls : most_left reads' new ≤ most_left reads old
+
+pub none_came : (left : Option (List ℕ)) (reads : ℕ) (old : RequestHeld) → HasCome left left reads reads old old
+none_came left reads old = record {
+  came = [];
+  consumed = Consumes-nil left;
+  given = λ pushed requests g. subst (λ b. IsGiven old b requests) (sym (append-nil pushed)) g;
+  falls = omega arith;
+}
+
+module _ (left mid : Option (List ℕ)) (reads reads' : ℕ) (old now : RequestHeld) (first : (bytes : List ℕ) × Unread old bytes) (h : HasCome left mid reads reads' old now) where
+  pub unread_now : (rest : List ℕ) × Unread now rest
+  unread_now =
+      let g = h.given first.0 [] (first.0, first.1, refl) in
+      (g.0, g.1)
+
+  pub more_came : (left' : Option (List ℕ)) (reads'' count : ℕ) (new : RequestHeld) → IsFilled mid left' now new count → reads'' + 1 ≡ reads' → length new.kept ≤ READER_LIMIT
+      → HasCome left left' reads reads'' old new
+  more_came left' reads'' count new f fewer most = record {
+    came = h.came ++ f.came;
+    consumed = Consumes-trans _ _ _ h.came f.came h.consumed f.consumed;
+    given = λ pushed requests g.
+        subst (λ b. IsGiven new b requests) (append_assoc pushed h.came f.came) (f.given (pushed ++ h.came) requests (h.given pushed requests g));
+    falls = (let before = h.falls in omega arith);
+  }
+
+  -- nothing more came, and the bytes unread then end the stream so
+  module _ (left' : Option (List ℕ)) (reads'' : ℕ) (new : RequestHeld) (n : IsNotFilled mid left' now new) where
+    given_whole : (end : Result Unit StreamFault) → ((rest : List ℕ) → Unread now rest → EndsAs end left' rest) → (pushed : List ℕ) (requests : List PlainRequest) → IsGiven old pushed requests
+        → IsGivenWhole end left' new (pushed ++ h.came) requests
+    given_whole end ends pushed requests given =
+        let g = h.given pushed requests given in
+        (g.0, subst (λ held. Unread held g.0) (sym n.1) g.1, g.2, ends g.0 g.1)
+
+    pub ended : ((rest : List ℕ) → Unread now rest → EndsAs (Ok tt) left' rest) → IsReadNext left left' reads reads'' old (Ok None) new
+    ended ends = is_read_next _ _ _ _ _ _ h.came _ first (Consumes-kept _ _ _ h.came h.consumed n.0) (given_whole (Ok tt) ends) tt tt
+
+    pub failed : (fault : StreamFault) → ((rest : List ℕ) → Unread now rest → EndsAs (Err fault) left' rest) → IsReadNext left left' reads reads'' old (Err fault) new
+    failed fault ends = is_read_next _ _ _ _ _ _ h.came _ first (Consumes-kept _ _ _ h.came h.consumed n.0) (given_whole (Err fault) ends) tt tt
+
+  pub next_given : (given : Option Request) (new : RequestHeld) → ((rest : List ℕ) → Unread now rest → ¬ (IsOpen rest × HasNoSpelling rest)) → IsNext now (told (Ok given)) new
+      → IsReadNext left mid reads reads' old (told_next (Ok given)) new
+  next_given None new enough n =
+      let rest = unread_now in
+      let open_rest = n.continues rest.0 rest.1 in
+      absurd (enough rest.0 rest.1 (open_rest.2.0, open_rest.2.1))
+  next_given (Some request) new enough n =
+      let rest = unread_now in
+      let given = n.continues rest.0 rest.1 in
+      let shrinks = n.shrinks in
+      let before = h.falls in
+      is_read_next _ _ _ _ _ _ h.came _ first h.consumed (λ pushed requests g. n.gives_on (pushed ++ h.came) requests (h.given pushed requests g)) (given.2.0, given.2.1) (omega arith)
+
+  pub next_broken : (fault : WireFault) (new : RequestHeld) → IsNext now (told (Err fault)) new → IsReadNext left mid reads reads' old (Err (Broken fault)) new
+  next_broken fault new n = is_read_next _ _ _ _ _ _ h.came _ first h.consumed
+      (λ pushed requests g.
+      let w = n.gives_on (pushed ++ h.came) requests (h.given pushed requests g) in
+      (w.0, w.1, w.2, (w.3, w.4)))
+      tt tt
+
+-- what is no failed read counts no failure
+pub counts_none : (given : Option Request) (failures failures' : ℕ) → failures' ≡ failures → CountsNext (told_next (Ok given)) failures failures'
+counts_none None failures failures' same = same
+counts_none (Some request) failures failures' same = same
