@@ -1,33 +1,40 @@
 //! Serving one stream of requests: an example to copy.
 ghost use Rattle.std.specs.Prelude.{[]};
 ghost use Rattle.rmt_wire.specs.RequestReader.{Unread};
-ghost use Rattle.example_server.specs.Serving.{IsServed};
+ghost use Rattle.example_server.specs.Serving.{IsServed, Fails};
 
 use crate::reply::answer;
-use rmt_wire::{Counted, OutputFault, RequestReader, WireFault, write_reply};
+use rmt_wire::{Counted, OutputFault, RequestReader, StreamFault, write_reply};
 use std::io::{Read, Write};
 
 /// Why a server stopped before the end of its stream, or at an end inside a request.
 #[derive(Clone, Copy, Debug, PartialEq, Eq)]
 pub enum Stop {
-    /// The stream ended inside a request.
-    Truncated,
-    /// The bytes are no request.
-    Broken(WireFault),
-    /// A read failed.
-    Input,
-    /// A write failed, or took none of some bytes.
-    Output,
+    /// The stream of requests ended inside one, has bytes that are none, or failed.
+    Requests(StreamFault),
+    /// The stream of replies failed.
+    Replies(OutputFault),
+}
+
+impl From<StreamFault> for Stop {
+    ghost use Rattle.std.specs.Prelude.{◌≡◌};
+    ghost use Rattle.example_server.specs.declared.stream.Stop.TheVariants.{Requests};
+
+    ghost from_gives = { λ fault e. e ≡ Requests fault };
+
+    fn from(fault: StreamFault) -> Self {
+        Stop::Requests(fault)
+    }
 }
 
 impl From<OutputFault> for Stop {
     ghost use Rattle.std.specs.Prelude.{◌≡◌};
-    ghost use Rattle.example_server.specs.declared.stream.Stop.TheVariants.{Output};
+    ghost use Rattle.example_server.specs.declared.stream.Stop.TheVariants.{Replies};
 
-    ghost from_gives = { λ _ e. e ≡ Output };
+    ghost from_gives = { λ fault e. e ≡ Replies fault };
 
-    fn from(_: OutputFault) -> Self {
-        Stop::Output
+    fn from(fault: OutputFault) -> Self {
+        Stop::Replies(fault)
     }
 }
 
@@ -35,24 +42,19 @@ impl From<OutputFault> for Stop {
 ///
 /// It stops at the first bytes that are no request, at a stream that ends inside one, and where a read or a write fails.
 /// The reader has given all that was pushed. It takes no memory.
+#[tactic(auto, using(std::proofs::lemmas::Result::err_from_is_err_and))]
 pub fn serve<R: Read, W: Write>(
     requests: &mut RequestReader,
     input: &mut Counted<R>,
     output: &mut Counted<W>,
 ) -> Result<(), Stop>
     requires { Unread requests.old [] }
-    ensures { IsServed R.remaining W.contents result input.old input.new output.old output.new }
+    ensures served { IsServed result (R.remaining input.old.inner) (R.remaining input.new.inner) requests.new
+        (W.contents output.old.inner) (W.contents output.new.inner) }
+    ensures failures { Fails result input.old.failures input.new.failures output.old.failures output.new.failures }
 {
-    loop {
-        match requests.next() {
-            Err(fault) => return Err(Stop::Broken(fault)),
-            Ok(Some(request)) => write_reply(output, &answer(&request))?,
-            Ok(None) => match requests.fill(input) {
-                Err(_) => return Err(Stop::Input),
-                Ok(0) if requests.is_empty() => return Ok(()),
-                Ok(0) => return Err(Stop::Truncated),
-                Ok(_) => {}
-            },
-        }
+    while let Some(request) = requests.read_next(input)? {
+        write_reply(output, &answer(&request))?;
     }
+    Ok(())
 }

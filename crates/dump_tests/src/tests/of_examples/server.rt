@@ -1,7 +1,7 @@
 //! The server of a tape that keeps nothing.
 
 use example_server::{Stop, serve};
-use rmt_wire::{Counted, RequestReader, WireFault};
+use rmt_wire::{Counted, RequestReader, StreamFault, WireFault};
 use std::alloc::Global;
 
 /// What is served, how the server ends at it, and what it writes.
@@ -14,10 +14,14 @@ static ROWS: [Row; 3] = [
         Ok(()),
         b"A0\nA5\nA0\nA0\nA0\n",
     ),
-    (b"C\nW5\nhel", Err(Stop::Truncated), b"A0\n"),
+    (
+        b"C\nW5\nhel",
+        Err(Stop::Requests(StreamFault::Truncated)),
+        b"A0\n",
+    ),
     (
         b"C\nX",
-        Err(Stop::Broken(WireFault::UnknownCommand)),
+        Err(Stop::Requests(StreamFault::Broken(WireFault::UnknownCommand))),
         b"A0\n",
     ),
 ];
