@@ -283,6 +283,34 @@ def unprinted(p: Programs) -> None:
         check("wrong words", p.run("tape", **streams).status == FAILED)
     got = read(p, NOWHERE, stderr=os.open("/dev/full", os.O_WRONLY))
     check("a read that can't be told of", got.status == ABNORMAL, got)
+    closed_streams(p)
+
+
+def closed(p: Programs, closing: str, *words: str) -> Ended:
+    """Runs `rdump` with standard streams that a shell closes by these words."""
+    return p.run("-c", f'exec "$0" "$@" {closing}', p.rdump, *words, program="sh")
+
+
+def closed_streams(p: Programs) -> None:
+    """No file gets the place of a standard stream that is closed."""
+    path = p.folder / "closed"
+    listed = ["--device", DEVICE, "--out", path.name, "--to"]
+    for title, closing, status, held in (
+        ("standard error", "2>&-", DONE, b"".join(BLOCKS)),
+        ("standard output", ">&-", ABNORMAL, b""),
+    ):
+        with p.listening() as (address, _):
+            write_volume(address, [label(1, 0), *BLOCKS, None])
+            got = closed(p, closing, "read", *listed, address)
+        check(f"a read with {title} closed", got.status == status and path.read_bytes() == held, got, path.read_bytes()[:99])
+    path.write_bytes(OLD)
+    got = closed(p, "2>&-", "read", *listed, NOWHERE)
+    check("a read that fails with standard error closed", got.status == ABNORMAL and path.read_bytes() == OLD, got)
+    p.file("payload", b"yes\n" * 9)
+    listed = ["--to", NOWHERE, "--device", DEVICE, "--fs", "/usr", "--level", "0", "--payload", "payload", "--block", "1024"]
+    got = closed(p, "<&-", "dump", *listed, "--dumpdates", "dumpdates", "--date", str(DAY))
+    asked_once = got.output.endswith(ASKED) and got.output.count("retry?") == 1
+    check("a dump with standard input closed", got.status == ABNORMAL and asked_once, got)
 
 
 # A terminal.

@@ -4,6 +4,7 @@ ghost use Rattle.rdump_commands.specs.Status.{IsHelpStatus, IsStatus};
 use crate::fault::{FAILED, tell, tell_no_memory, unwritten};
 use crate::{System, run_dates, run_dump, run_mt, run_read};
 use clap::error::ErrorKind;
+use file_medium::take_places;
 use rdump_words::{RdumpLine, rdump_words};
 use std::convert::AsStr;
 use std::env;
@@ -15,9 +16,12 @@ use std::io::{self, Write};
 /// The status is 0 where all was done, 1 where it could not begin, as where the words are wrong or a file can't be read, and 3
 /// where it ended before it was done. Help and the version end with 0. What is at fault is told on standard error, and refused
 /// memory on standard output.
+///
+/// No file that it opens gets the place of a standard stream that the process was started without.
 pub fn rdump<R: System, T: Write + Copy + Drop>(rt: &R, terminal: Option<T>) -> u8
     ensures { IsStatus result }
 {
+    take_places(rt);
     match words(rt) {
         Ok(words) => run_words(rt, words.as_slice(), terminal),
         Err(error) => tell(rt, "the words could not be read", error),
