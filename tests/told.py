@@ -235,7 +235,7 @@ def pauses(p: Programs) -> None:
 def words(p: Programs) -> None:
     """Words that are wrong, and values that are past a limit."""
     p.file("payload", PAYLOAD)
-    for to in ("localhost", "localhost:", ":4711", "localhost:65536", "localhost:+1", "localhost:x", ""):
+    for to in ("localhost", "localhost:", ":4711", "4711", "127.0.0.1", "localhost:65536", "localhost:+1", "localhost:x", ""):
         for title, got in (
             ("dump", p.dump(to, payload="missing")),
             ("read", read(p, to)),

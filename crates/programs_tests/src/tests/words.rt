@@ -75,7 +75,16 @@ fn words_of_the_client(rt: HostRuntime) {
 }
 
 /// Addresses that have no host or no port.
-static ADDRESSES: [&str; 6] = ["h", "h:", ":1", "h:65536", "h:+1", "h:1:x"];
+static ADDRESSES: [&str; 8] = [
+    "h",
+    "h:",
+    ":1",
+    "h:65536",
+    "h:+1",
+    "h:1:x",
+    "4711",
+    "127.0.0.1",
+];
 
 /// Whether the words of a read at this address are refused.
 fn is_refused(alloc: Global, address: &str) -> bool {
