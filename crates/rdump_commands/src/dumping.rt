@@ -3,7 +3,7 @@ ghost use Rattle.rdump_commands.specs.Status.{IsDumpStatus};
 
 use crate::System;
 use crate::asking::Asking;
-use crate::fault::{ended, tell_failed};
+use crate::fault::{ABNORMAL, ended, tell_failed};
 use crate::told_peer::ToldPeer;
 use dump_client::{Blocks, Client};
 use rdump_files::{Clearing, ReplacedFile, dump_and_update};
@@ -71,7 +71,15 @@ fn dump_entered<R: System, B: Blocks, P: Peer, I: Read, W: Write>(
     let status = dump_and_update(rt.alloc(), client, peer, operator, out, &mut file);
     match file.failure() {
         Some(error) => tell_failed(rt, dumpdates, error, status),
-        None => status,
+        None => {
+            // The dump is complete and told of: only the text of the file can be at fault.
+            if status == ABNORMAL && client.finished().is_some() && out.failures() == 0 {
+                let _ = eprintln!(rt;
+                    "rdump: {dumpdates}: it is no dumpdates file, or memory was refused"
+                );
+            }
+            status
+        }
     }
 }
 

@@ -46,13 +46,14 @@ impl<R: Files<File = File>> Drop for NewFile<'_, R> {
 
 impl<'a, R: Files<File = File> + Clock> NewFile<'a, R> {
     /// Makes the new file of the one that this path names. It is tried every few milliseconds, for ten seconds, while another
-    /// run has one.
+    /// run has one. What a run left that was killed is taken away.
     pub(crate) fn make(rt: &'a R, alloc: Global, path: &str) -> io::Result<Self> {
         let began = Instant::now(rt)?;
         for _ in 0..u64::MAX {
             if let Some(new) = NewFile::try_make(rt, alloc, path)? {
                 return Ok(new);
             }
+            take_away(rt, alloc, path)?;
             if began.elapsed(rt)?.as_secs() >= WAIT_SECONDS {
                 break;
             }
@@ -62,18 +63,21 @@ impl<'a, R: Files<File = File> + Clock> NewFile<'a, R> {
         Err(io::Error::new(ErrorKind::TimedOut, error))
     }
 
-    /// Makes it, where no other run has one. What a run left that was killed is taken away: the next try makes it then.
+    /// Makes it, where nothing has its name. What has it stays as it is.
+    ///
+    /// It fails where what has the name could not be taken away: it is no plain file, or can't be opened.
     pub(crate) fn try_make(rt: &'a R, alloc: Global, path: &str) -> io::Result<Option<Self>> {
         let named = named_file(rt, alloc, path)?;
-        let old = named.as_path().as_str();
-        let path = format!(in alloc; "{old}.new")?;
+        let path = beside(alloc, &named)?;
         match File::create_new(rt, path.as_str()) {
             Ok(file) => NewFile::locked(rt, named, path, file),
             Err(error) if error.kind() == ErrorKind::AlreadyExists => {
-                take_away(rt, path.as_str())?;
-                Ok(None)
+                match open_left(rt, path.as_str()) {
+                    Ok(_) => Ok(None),
+                    Err(error) => Err(of_new(alloc, error)),
+                }
             }
-            Err(error) => Err(error),
+            Err(error) => Err(of_new(alloc, error)),
         }
     }
 
@@ -140,16 +144,37 @@ impl<R: Files<File = File>> NewFile<'_, R> {
     }
 }
 
-/// Takes away what a run that was killed left at this path. Where a run has its lock it stays.
-///
-/// It fails where no run can have left it, as it is a link or a folder.
-fn take_away<R: Files<File = File>>(rt: &R, path: &str) -> io::Result<()> {
-    let Some(found) = found_at(rt, path)? else {
-        return Ok(());
-    };
-    if !found.is_file() {
-        return Err(io::Error::new(ErrorKind::AlreadyExists, "its .new is no plain file"));
+/// The path of the new file of this one.
+fn beside(alloc: Global, named: &PathBuf) -> io::Result<String> {
+    let old = named.as_path().as_str();
+    Ok(format!(in alloc; "{old}.new")?)
+}
+
+/// An error at the new file. Where the system tells the reason, that one's name stands before it.
+fn of_new(alloc: Global, error: io::Error) -> io::Error {
+    if error.raw_os_error().is_none() {
+        return error;
     }
+    match format!(in alloc; "its .new: {error}") {
+        Ok(words) => io::Error::new(error.kind(), words.as_str()),
+        Err(_) => error,
+    }
+}
+
+/// Takes away what a run that was killed left of the new file of the one that this path names. Where a run has its lock it stays.
+///
+/// It fails where no run can have left it, as it is a link or a folder, or where it can't be opened or removed.
+fn take_away<R: Files<File = File>>(rt: &R, alloc: Global, path: &str) -> io::Result<()> {
+    let named = named_file(rt, alloc, path)?;
+    let path = beside(alloc, &named)?;
+    match take_left(rt, path.as_str()) {
+        Ok(()) => Ok(()),
+        Err(error) => Err(of_new(alloc, error)),
+    }
+}
+
+/// Takes away what was left at this path.
+fn take_left<R: Files<File = File>>(rt: &R, path: &str) -> io::Result<()> {
     let Some(file) = open_left(rt, path)? else {
         return Ok(());
     };
@@ -159,8 +184,18 @@ fn take_away<R: Files<File = File>>(rt: &R, path: &str) -> io::Result<()> {
     Ok(())
 }
 
-/// Opens what a run left, so that it can be locked: to write where it may be, since a lock over a network asks for that. None where it went away.
+/// Opens what a run left at this path, so that it can be locked: to write where it may be, since a lock over a network asks for that.
+/// None where it went away.
+///
+/// It fails where no run can have left it, as it is a link or a folder.
 fn open_left<R: Files<File = File>>(rt: &R, path: &str) -> io::Result<Option<File>> {
+    match found_at(rt, path)? {
+        None => return Ok(None),
+        Some(found) if !found.is_file() => {
+            return Err(io::Error::new(ErrorKind::AlreadyExists, "its .new is no plain file"));
+        }
+        Some(_) => {}
+    }
     let opened = match OpenOptions::new().read(true).write(true).open(rt, path) {
         Err(error) if error.kind() == ErrorKind::PermissionDenied => File::open(rt, path),
         opened => opened,

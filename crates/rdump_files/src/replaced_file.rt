@@ -41,7 +41,8 @@ impl<'a, R: Files<File = File> + Clock> ReplacedFile<'a, R> {
         self.failure.as_ref()
     }
 
-    /// Why no text could be put in place now, as far as that shows without one: the new file can't be made. It leaves nothing there.
+    /// Why no text could be put in place now, as far as that shows without one: the new file can't be made. What it makes it takes away,
+    /// and what lies there it leaves.
     pub fn find_fault(&self) -> Option<io::Error> {
         match NewFile::try_make(self.rt, self.alloc, self.path) {
             Ok(_) => None,

@@ -7,6 +7,7 @@ use rdump_files::{FileFailed, ReplacedFile, UpdateFault, base_date, date_text, u
 use rmt_wire::Counted;
 use std::alloc::Global;
 use std::fs;
+use std::test::Fail;
 
 /// What a read of the file gives, and whether it can be replaced; what comes of a dump that is entered, and what is put in
 /// place of the file.
@@ -63,6 +64,17 @@ fn a_date_as_text(rt: HostRuntime) {
         panic!(rt; "no text");
     };
     assert!(rt; text.as_str() == "Tue Feb 29 00:00:00 2000");
+}
+
+#[test]
+fn what_lies_in_place_of_a_new_file(rt: HostRuntime) -> Result<(), Fail> {
+    fs::write(&rt, "kept.new", OLD)?;
+    let file = ReplacedFile::new(&rt, rt.alloc(), "kept");
+    assert!(rt; file.find_fault().is_none());
+    let left = fs::read(&rt, "kept.new")?;
+    fs::remove_file(&rt, "kept.new")?;
+    assert!(rt; left.as_slice() == OLD);
+    Ok(())
 }
 
 #[test]
