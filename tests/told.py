@@ -178,6 +178,32 @@ def files(p: Programs) -> None:
         told("a full output", got, "", ABNORMAL, "0 blocks\nrdump: standard output could not be written\n")
 
 
+def shared(p: Programs) -> None:
+    """Two reads into one file, which the first has made: the second is refused. A file that takes the name meanwhile is not removed."""
+    made = p.folder / "volume"
+    for title, other in (("alone", None), ("with another file at its name", b"not ours")):
+        gate = threading.Event()
+        server = Said(b"E16\nbusy\n")
+        converse = server.converse
+        server.converse = lambda stream, converse=converse, gate=gate: gate.wait(GUARD_SECONDS) and converse(stream)
+        words = (p.rdump, "read", "--to", server.address, "--device", DEVICE, "--out", made.name)
+        with subprocess.Popen(words, cwd=p.folder, stdout=subprocess.PIPE, stderr=subprocess.PIPE) as first:
+            while not server.connections and first.poll() is None:
+                time.sleep(0.01)
+            unread = Said()
+            told(f"two reads, {title}: the second", read(p, unread.address), "", FAILED, "rdump: volume: another run writes it\n")
+            check(f"two reads, {title}: nothing is sent", unread.connections == 0)
+            unread.stop()
+            if other is not None:
+                made.unlink()
+                made.write_bytes(other)
+            gate.set()
+            first.communicate(timeout=GUARD_SECONDS)
+        check(f"two reads, {title}: the first", first.returncode == ABNORMAL, first.returncode)
+        check(f"two reads, {title}: the file", (made.read_bytes() if made.exists() else None) == other)
+        server.stop()
+
+
 # Why a connection failed.
 
 
@@ -419,7 +445,7 @@ def block_device(p: Programs) -> str | None:
     return None
 
 
-PARTS = (volumes, torn, files, reasons, pauses, words, unprinted, terminal, based, hangs_up, block_device)
+PARTS = (volumes, torn, files, shared, reasons, pauses, words, unprinted, terminal, based, hangs_up, block_device)
 
 
 def main() -> int:

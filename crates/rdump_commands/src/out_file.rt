@@ -1,7 +1,11 @@
 //! The file that a volume is read back into.
-use std::fs::{self, File, OpenOptions};
+use std::fs::{self, File, OpenOptions, TryLockError};
 use std::io::{self, ErrorKind, Write};
+use std::os::unix::fs::MetadataExt;
 use std::rt::Files;
+
+/// So often the file is opened at most, where others remove it each time before it is locked.
+const MOST_TRIES: u32 = 100;
 
 /// How many blocks came, and of how many bytes.
 #[derive(Clone, Copy)]
@@ -31,7 +35,7 @@ impl BlockSizes {
 }
 
 /// The file that the blocks of a volume are written to, each by one write. It holds what it held until the volume begins, with the
-/// label or a block.
+/// label or a block. One that is plain is locked, so that no other run writes it or removes it meanwhile.
 #[derive(Drop)]
 pub(crate) struct OutFile {
     file: File,
@@ -44,24 +48,21 @@ pub(crate) struct OutFile {
 
 impl OutFile {
     /// Opens the file at this path, and makes it where it is not there. It holds what it held.
+    ///
+    /// Answers the system's error, or `WouldBlock` where another run has it.
     pub(crate) fn open<R: Files<File = File>>(rt: &R, path: &str) -> io::Result<OutFile> {
-        match OpenOptions::new()
-            .write(true)
-            .create_new(true)
-            .open(rt, path)
-        {
-            Ok(file) => OutFile::of(file, true),
-            Err(error) if error.kind() == ErrorKind::AlreadyExists => {
-                let file = OpenOptions::new().write(true).create(true).open(rt, path)?;
-                OutFile::of(file, false)
+        for _ in 0..MOST_TRIES {
+            let (file, is_new) = open_or_make(rt, path)?;
+            let is_plain = file.metadata()?.is_file();
+            if !is_plain || lock(rt, path, &file)? {
+                return Ok(OutFile::of(file, is_new, is_plain));
             }
-            Err(error) => Err(error),
         }
+        Err(taken())
     }
 
-    fn of(file: File, is_new: bool) -> io::Result<OutFile> {
-        let is_plain = file.metadata()?.is_file();
-        Ok(OutFile {
+    fn of(file: File, is_new: bool, is_plain: bool) -> OutFile {
+        OutFile {
             file,
             is_new,
             is_plain,
@@ -73,7 +74,7 @@ impl OutFile {
                 total: 0,
             },
             failure: None,
-        })
+        }
     }
 
     /// How many blocks were written, and of how many bytes.
@@ -98,9 +99,9 @@ impl OutFile {
         }
     }
 
-    /// Removes the file, which is at this path, if this run made it and no volume has begun.
-    pub(crate) fn end<R: Files>(self, rt: &R, path: &str) {
-        if self.is_new && !self.has_begun {
+    /// Removes the file, if this run made it, no volume has begun, and it is still at this path.
+    pub(crate) fn end<R: Files<File = File>>(self, rt: &R, path: &str) {
+        if self.is_new && !self.has_begun && is_at(rt, path, &self.file).unwrap_or(false) {
             let _ = fs::remove_file(rt, path);
         }
     }
@@ -136,5 +137,43 @@ impl Write for OutFile {
 
     fn flush(&mut self) -> io::Result<()> {
         self.file.flush()
+    }
+}
+
+/// Opens the file at this path to write, and makes it where it is not there. Whether this run made it is said too.
+fn open_or_make<R: Files<File = File>>(rt: &R, path: &str) -> io::Result<(File, bool)> {
+    match File::create_new(rt, path) {
+        Ok(file) => Ok((file, true)),
+        Err(error) if error.kind() == ErrorKind::AlreadyExists => {
+            let file = OpenOptions::new().write(true).create(true).open(rt, path)?;
+            Ok((file, false))
+        }
+        Err(error) => Err(error),
+    }
+}
+
+/// Takes the advisory lock of a file, which goes with the handle, and looks whether the file is still at this path. A file system
+/// without such locks gives none, and is written to all the same.
+///
+/// Answers `WouldBlock` where another run has the lock.
+fn lock<R: Files<File = File>>(rt: &R, path: &str, file: &File) -> io::Result<bool> {
+    match file.try_lock() {
+        Err(TryLockError::WouldBlock) => Err(taken()),
+        _ => is_at(rt, path, file),
+    }
+}
+
+/// The error where another run has the file.
+fn taken() -> io::Error {
+    io::Error::new(ErrorKind::WouldBlock, "another run writes it")
+}
+
+/// Whether this path names the file, or leads to it by links.
+fn is_at<R: Files<File = File>>(rt: &R, path: &str, file: &File) -> io::Result<bool> {
+    let opened = file.metadata()?;
+    match fs::metadata(rt, path) {
+        Ok(found) => Ok(found.dev() == opened.dev() && found.ino() == opened.ino()),
+        Err(error) if error.kind() == ErrorKind::NotFound => Ok(false),
+        Err(error) => Err(error),
     }
 }
