@@ -13,7 +13,6 @@ mod incoming;
 mod listening;
 mod many;
 mod memory_server;
-mod places;
 mod pool;
 mod ready;
 mod site;

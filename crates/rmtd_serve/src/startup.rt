@@ -8,12 +8,12 @@ ghost use Rattle.rmtd_serve.specs.Startup.{AreUntouched, IsDone, IsBegun, IsStar
 
 use crate::connections::Connections;
 use crate::error_log::ErrorLog;
-use crate::places::take_places;
 use crate::ready::site_of;
 use crate::site::Site;
 use crate::{MemoryServer, TapeServer, exit_status, folder_stacks, run_stdio, serve_connections};
 use clap::Error;
 use clap::error::ErrorKind;
+use file_medium::take_places;
 use reel_files::{FolderSystem, Log};
 use rmt_wire::Counted;
 use rmtd_words::{ServerLine, server_line};
