@@ -104,7 +104,7 @@ fn addresses_have_a_port(rt: HostRuntime) {
 #[test]
 fn a_value_past_a_limit(rt: HostRuntime) {
     let told = dump_error(rt.alloc(), "--level 10: a level is 0 to 9");
-    assert!(rt; matches!(told, Ok(error) if error.use_stderr()));
+    assert!(rt; matches!(&told, Ok(error) if error.use_stderr()));
 }
 
 /// Words of `rmtd` with a drive.
