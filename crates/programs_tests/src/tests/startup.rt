@@ -5,7 +5,7 @@
 
 use rmt_wire::Counted;
 use rmtd_serve::{Begun, System, begin, start};
-use std::fs::File;
+use std::fs::{self, File};
 use std::io;
 use std::net::{TcpListener, TcpStream};
 use std::rt::Env;
@@ -57,7 +57,7 @@ static FOLDERS: [&str; 5] = [
     "--listen=127.0.0.1:0",
     "--connections=7",
     "--bin=.",
-    "d=.",
+    "d=left",
 ];
 
 /// How many connections these words leave to serve.
@@ -73,6 +73,7 @@ fn left_by<R: System>(rt: &R, words: &[&str]) -> io::Result<u64> {
 #[test]
 fn connections_at_folders_are_left(rt: HostRuntime) -> io::Result<()> {
     let _system: (Option<File>, Option<TcpListener>, Option<TcpStream>) = (None, None, None);
+    fs::create_dir(&rt, "left")?;
     assert!(rt; left_by(&rt, &FOLDERS)? == 7);
     Ok(())
 }
