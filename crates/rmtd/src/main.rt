@@ -12,12 +12,11 @@ use std::process::ExitCode;
 fn main(rt: HostRuntime) -> io::Result<ExitCode> {
     let mut input = Counted::new(rt.stdin());
     let mut output = Counted::new(rt.stdout());
-    let site = match start(&rt, &mut input, &mut output)? {
+    let (listener, site) = match start(&rt, &mut input, &mut output)? {
         Begun::End(status) => return Ok(ExitCode::from(status)),
-        Begun::Serve(site) => site,
+        Begun::Serve(listener, site) => (listener, site),
     };
     let Site {
-        listener,
         left,
         table,
         seats,
@@ -27,7 +26,7 @@ fn main(rt: HostRuntime) -> io::Result<ExitCode> {
         rt: &rt,
         seat: None,
     };
-    let connections = Connections::new(&listener, left, log);
-    serve_many(&rt, rt.alloc(), connections, &table, seats, stacks);
-    Ok(ExitCode::from(0))
+    let connections = Connections::new(&rt, &listener, left, log);
+    let connections = serve_many(&rt, rt.alloc(), connections, &table, seats, stacks);
+    Ok(ExitCode::from(connections.status()))
 }

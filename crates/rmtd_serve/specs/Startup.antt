@@ -18,7 +18,7 @@ abbrev pub AreUntouched : {In Out : Type 0} → Streams In Out → Streams In Ou
 AreUntouched old new = (new.input ≡ old.input) × (new.output ≡ old.output)
 
 -- What a line asked was done, with this status: the streams were served, with a drive in memory or with drives in folders;
--- connections were served one after the other; or it could not start.
+-- as many connections as were to come were served one after the other; or it could not start, or the listener is broken for good.
 pub data EndsLine {In Out : Type 0} (kind : StreamsKind In Out) (line : ServerLine) (old new : Streams In Out) (status : ℕ) : Type 0 where
   in_memory : line.listen ≡ None → line.drives.items ≡ []
       → IsStdio kind line.capacity old new status
@@ -27,7 +27,7 @@ pub data EndsLine {In Out : Type 0} (kind : StreamsKind In Out) (line : ServerLi
       → EndsLine kind line old new status
   listened : IsSome line.listen → line.drives.items ≡ [] → AreUntouched old new → status ≡ 0
       → EndsLine kind line old new status
-  not_started : AreUntouched old new → status ≡ 1 → EndsLine kind line old new status
+  failed : AreUntouched old new → status ≡ 1 → EndsLine kind line old new status
 
 -- At once so many connections are served with these drives, of which each seat of the table has stacks: those of the line.
 pub record IsSiteOf (line : ServerLine) (left drives : ℕ) (stacks : List FolderShop) : Type 0 where
@@ -42,7 +42,7 @@ pub record IsSiteOf (line : ServerLine) (left drives : ℕ) (stacks : List Folde
 abbrev pub IsDone : {In Out R Dir : Type 0} {reads : ReadPromise Dir} {clones : ClonePromise R} → StreamsKind In Out
     → ServerLine → Streams In Out → Streams In Out → Begun R Dir reads clones → Type 0
 IsDone kind line old new (End status) = EndsLine kind line old new status
-IsDone kind line old new (Serve site) =
+IsDone kind line old new (Serve listener site) =
     AreUntouched old new × IsSome line.listen × IsSiteOf line site.left site.table.words site.stacks.items
 
 -- What was done of words, and what is left: what their line asks; or clap's help or version was told, and the status is 0; or

@@ -1,68 +1,141 @@
 //! The connections of a listener, as pairs of streams.
-ghost use Rattle.std.specs.Prelude.{◌≡◌};
+ghost use Rattle.std.specs.Prelude.{◌≡◌, ◌+◌, ◌<◌, false, true, IfSome, None, if◌then◌else◌, ◌==◌};
+ghost use Rattle.std.specs.IoError.{raw_os_error};
+ghost use Rattle.std.proofs.Props.{props};
+ghost use Rattle.rmtd_serve.specs.Accepting.{AreOver, IsLasting, lasting_of};
 
 use crate::error_log::text_of;
 use crate::incoming::Incoming;
 use reel_files::Log;
+use rmt_wire::errno::{EBADF, EINVAL};
 use std::fmt::Display;
-use std::io;
 use std::net::{SocketAddr, TcpListener, TcpStream};
+use std::rt::Clock;
+use std::time::Duration;
+use std::{io, thread};
 
-/// The connections of a listener, up to so many. One that could not be accepted counts as one. A log has a line for each that came,
-/// and for each that is not served; of accepts that fail one after the other it has one for the first.
+/// The address has no place in memory, by accept(2).
+pub const EFAULT: u32 = 14;
+
+/// The listener is no socket, by accept(2).
+pub const ENOTSOCK: u32 = 88;
+
+/// The listener is a socket that has no connections, by accept(2).
+pub const EOPNOTSUPP: u32 = 95;
+
+/// How many milliseconds it waits after an accept that failed, so that a table of files that is full keeps no processor busy.
+const PAUSE: u64 = 100;
+
+/// The connections of a listener, up to so many. Where an accept fails it waits for a moment and accepts again, and where the listener
+/// is broken for good no more come. A log has a line for each that came, and for each that is not served; of accepts that
+/// fail one after the other it has one for the first, and one for that by which the listener is broken.
 #[derive(Drop)]
-pub struct Connections<'a, L: Log + Drop> {
+pub struct Connections<'a, C: Clock, L: Log + Drop> {
+    clock: &'a C,
     listener: &'a TcpListener,
     /// How many come still, at most.
     pub left: u64,
+    /// How many accepts may fail still. At one each 100 milliseconds it does not come to 0 in the life of a machine.
+    pub tries: u64,
+    /// The error of the system by which the listener is broken for good.
+    pub broken: Option<u32>,
     /// How many were accepted, which is the number of the last one.
     pub(crate) number: u64,
     has_failed: bool,
     pub(crate) log: L,
+    ghost lasting: { IfSome broken IsLasting } by { Prim.hlevel props },
 }
 
-impl<'a, L: Log + Drop> Connections<'a, L> {
-    /// The connections that come to this listener, up to so many, and the log that has their lines.
-    pub fn new(listener: &'a TcpListener, left: u64, log: L) -> Self
-        ensures { result.left ≡ left }
+/// The error of the system, where it is one by which a listener is broken for good.
+fn lasting(why: &io::Error) -> Option<u32>
+    ensures { result ≡ lasting_of (raw_os_error why.now) }
+{
+    let code = why.raw_os_error()?.unsigned_abs();
+    if code == EBADF || code == EFAULT || code == EINVAL || code == ENOTSOCK || code == EOPNOTSUPP {
+        Some(code)
+    } else {
+        None
+    }
+}
+
+impl<'a, C: Clock, L: Log + Drop> Connections<'a, C, L> {
+    /// The connections that come to this listener, up to so many, what it waits by where an accept fails, and the log that has
+    /// their lines.
+    pub fn new(clock: &'a C, listener: &'a TcpListener, left: u64, log: L) -> Self
+        ensures left { result.left ≡ left }
+        ensures tries { result.tries ≡ 18446744073709551615 }
+        ensures whole { result.broken ≡ None }
     {
         Connections {
+            clock,
             listener,
             left,
+            tries: u64::MAX,
+            broken: None,
             number: 0,
             has_failed: false,
             log,
         }
     }
 
-    /// The next connection, which sends its bytes at once. None where it could not be accepted.
+    /// The exit status of a server that served them: 0 where as many came as were to come, and else 1.
+    pub fn status(&self) -> u8
+        ensures { result ≡ if self.now.left == 0 then 0 else 1 }
+    {
+        u8::from(self.left > 0)
+    }
+
+    /// Whether another one may come.
+    pub(crate) fn is_open(&self) -> bool
+        ensures closed { result ≡ false → AreOver self.now.left self.now.tries self.now.broken }
+        ensures left { result ≡ true → 0 < self.now.left }
+        ensures tries { result ≡ true → 0 < self.now.tries }
+    {
+        self.left > 0 && self.tries > 0 && self.broken.is_none()
+    }
+
+    /// The next connection, which sends its bytes at once. None where none was accepted, and where the system refuses to
+    /// make it ready.
     pub(crate) fn accept(&mut self) -> Option<TcpStream>
-        ensures { self.new.left ≡ self.old.left }
+        requires left { 0 < self.old.left }
+        requires tries { 0 < self.old.tries }
+        ensures { self.new.left + self.new.tries < self.old.left + self.old.tries }
     {
         match self.listener.accept() {
             Ok((stream, address)) => self.take(stream, address),
             Err(why) => {
-                self.note_failed(why);
+                self.miss(why);
                 None
             }
         }
     }
 
-    /// Notes that an accept failed, where the one before did not.
-    fn note_failed(&mut self, why: io::Error)
-        ensures { self.new.left ≡ self.old.left }
+    /// Notes that an accept failed. Where the listener is broken for good that is kept, and else it waits for a moment.
+    fn miss(&mut self, why: io::Error)
+        requires { 0 < self.old.tries }
+        ensures left { self.new.left ≡ self.old.left }
+        ensures tries { self.new.tries + 1 ≡ self.old.tries }
+        ensures broken { self.new.broken ≡ lasting_of (raw_os_error why) }
     {
-        if !self.has_failed {
-            self.has_failed = true;
+        self.tries -= 1;
+        self.broken = lasting(&why);
+        if !self.has_failed || self.broken.is_some() {
             self.log
                 .note(text_of(format_args!("accept failed: {why}")).as_str());
         }
+        self.has_failed = true;
+        if self.broken.is_none() {
+            thread::sleep(self.clock, Duration::from_millis(PAUSE));
+        }
     }
 
-    /// Numbers a connection, and has it send its bytes at once. None where the system refuses that.
+    /// Counts a connection, and has it send its bytes at once. None where the system refuses that.
     fn take(&mut self, stream: TcpStream, address: SocketAddr) -> Option<TcpStream>
-        ensures { self.new.left ≡ self.old.left }
+        requires { 0 < self.old.left }
+        ensures left { self.new.left + 1 ≡ self.old.left }
+        ensures tries { self.new.tries ≡ self.old.tries }
     {
+        self.left -= 1;
         self.has_failed = false;
         self.number = self.number.saturating_add(1);
         self.note_last(format_args!("accepted from {address}"));
@@ -75,9 +148,12 @@ impl<'a, L: Log + Drop> Connections<'a, L> {
         }
     }
 
-    /// The next connection, once to read from and once to write to. None where it could not be accepted.
+    /// The next connection, once to read from and once to write to. None where none was accepted, and where the system
+    /// refuses to make it ready.
     fn accept_both(&mut self) -> Option<(TcpStream, TcpStream)>
-        ensures { self.new.left ≡ self.old.left }
+        requires left { 0 < self.old.left }
+        requires tries { 0 < self.old.tries }
+        ensures { self.new.left + self.new.tries < self.old.left + self.old.tries }
     {
         let stream = self.accept()?;
         match stream.try_clone() {
@@ -97,20 +173,20 @@ impl<'a, L: Log + Drop> Connections<'a, L> {
     /// Notes a line of the last connection.
     fn note_last<D: Display + Drop>(&self, what: D) {
         let number = self.number;
-        self.log.note(text_of(format_args!("connection {number}: {what}")).as_str());
+        self.log
+            .note(text_of(format_args!("connection {number}: {what}")).as_str());
     }
 }
 
-impl<L: Log + Drop> Incoming for Connections<'_, L> {
+impl<C: Clock, L: Log + Drop> Incoming for Connections<'_, C, L> {
     type In = TcpStream;
 
     type Out = TcpStream;
 
-    ghost is_over = { λ connections. connections.left ≡ 0 };
+    ghost is_over = { λ connections. AreOver connections.left connections.tries connections.broken };
 
     fn next(&mut self) -> Option<(TcpStream, TcpStream)> {
-        while let Some(left) = self.left.checked_sub(1) {
-            self.left = left;
+        while self.is_open() {
             if let Some(pair) = self.accept_both() {
                 return Some(pair);
             }

@@ -7,6 +7,7 @@ mod bench;
 mod connections;
 mod ended;
 mod error_log;
+mod file_limit;
 mod folders;
 mod fresh;
 mod incoming;

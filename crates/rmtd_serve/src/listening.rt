@@ -1,4 +1,5 @@
 //! Serving the connections of a listener, one after the other, as `rmtd --listen` does at a drive in memory.
+ghost use Rattle.rmtd_serve.specs.Accepting.{AreOver};
 ghost use Rattle.rmtd_serve.specs.Serving.{ServedInTurn};
 
 use crate::MemoryServer;
@@ -8,21 +9,27 @@ use crate::error_log::text_of;
 use reel_files::Log;
 use rmt_wire::Counted;
 use std::net::TcpStream;
+use std::rt::Clock;
 
-/// Serves connections one after the other. The reels go from each to the next.
+/// Serves connections one after the other, until as many have come as were to come, or their listener is broken for good. The reels
+/// go from each to the next. It gives back the connections.
 ///
-/// A connection that could not be accepted counts as one, and so does one that ended in mid request or failed. The log of the
-/// connections has a line for the end of each.
-pub fn serve_connections<L: Log + Drop>(server: &mut MemoryServer, connections: Connections<'_, L>)
-    ensures { ServedInTurn server.old server.new }
+/// One that ended in mid request or failed has come too. The log of the connections has a line for the end of each.
+pub fn serve_connections<'a, C: Clock, L: Log + Drop>(
+    server: &mut MemoryServer,
+    connections: Connections<'a, C, L>,
+) -> Connections<'a, C, L>
+    ensures turns { ServedInTurn server.old server.new }
+    ensures over { AreOver result.left result.tries result.broken }
 {
     let mut connections = connections;
-    for _ in 0..connections.left {
+    while connections.is_open() {
         if let Some(stream) = connections.accept() {
             let ended = serve_stream(server, &stream, connections.number);
             connections.log.note(text_of(ended).as_str());
         }
     }
+    connections
 }
 
 /// Serves the connection of that number, and answers how it ended.

@@ -30,7 +30,7 @@ fn work<W: Wait, I: Read + Drop, O: Write + Drop, S: Stacks + Drop>(
     pool.lock(rt).put(bench);
 }
 
-/// Why a pair is let go: each seat has one, or there was no memory for a place to put them.
+/// Why a pair is let go: each seat has one, or there was no memory for its seat to come back.
 const NO_SEAT: &str = "no seat is free";
 
 /// Why a pair is let go for which the system has no thread.
@@ -76,14 +76,6 @@ where
     )
 }
 
-/// A pool of these, all of them free. None is free where memory is refused.
-fn pool<S: Stacks + Drop>(alloc: Global, fresh: Fresh<'_, S>) -> Pool<'_, S> {
-    match Vec::with_capacity(alloc, SEAT_LIMIT) {
-        Ok(benches) => Pool::new(fresh, benches, SEAT_LIMIT),
-        Err(_) => Pool::new(fresh, Vec::new(alloc), 0),
-    }
-}
-
 /// Serves each pair of streams by a session in a thread of its own, at most `SEAT_LIMIT` at once. It returns once the last pair was given
 /// and each thread has ended, and gives back what the pairs came from.
 ///
@@ -110,6 +102,6 @@ where
     requires stacks { (length stacks.items ≡ SEAT_LIMIT) × All (λ s. S.drives s ≤ table.now.words) stacks.items }
     ensures { I.is_over result }
 {
-    let pool = Mutex::new(pool(alloc, Fresh::new(table, seats, stacks)));
+    let pool = Mutex::new(Pool::new(alloc, Fresh::new(table, seats, stacks)));
     serve_all(rt, alloc, incoming, &pool)
 }

@@ -3,6 +3,8 @@
 use crate::bench::Bench;
 use crate::fresh::Fresh;
 use drives::Stacks;
+use hold_table::SEAT_LIMIT;
+use std::alloc::Global;
 
 /// The benches that no thread has, and how many of them are promised to none.
 #[derive(Drop)]
@@ -13,24 +15,26 @@ pub(crate) struct Pool<'t, S: Stacks + Drop> {
 }
 
 impl<'t, S: Stacks + Drop> Pool<'t, S> {
-    /// So many of these are free, and there is room for as many that come back.
-    pub(crate) fn new(fresh: Fresh<'t, S>, benches: Vec<Bench<'t, S>>, free: usize) -> Self {
+    /// These, of which all are free. It takes no memory.
+    pub(crate) fn new(alloc: Global, fresh: Fresh<'t, S>) -> Self {
         Pool {
             fresh,
-            benches,
-            free,
+            benches: Vec::new(alloc),
+            free: SEAT_LIMIT,
         }
     }
 
-    /// Promises a bench to a thread that is to be started. It answers false where none is free.
+    /// Promises a bench to a thread that is to be started, and makes room for it to come back. It answers false where none is free,
+    /// and where memory is refused for that room.
     pub(crate) fn reserve(&mut self) -> bool {
-        match self.free.checked_sub(1) {
-            Some(free) => {
-                self.free = free;
-                true
-            }
-            None => false,
+        let Some(free) = self.free.checked_sub(1) else {
+            return false;
+        };
+        if self.benches.reserve(SEAT_LIMIT.saturating_sub(free)).is_err() {
+            return false;
         }
+        self.free = free;
+        true
     }
 
     /// Takes a promise back, where the thread was not started.
@@ -46,7 +50,7 @@ impl<'t, S: Stacks + Drop> Pool<'t, S> {
         }
     }
 
-    /// Takes a bench back. It takes no memory: there was room for all.
+    /// Takes a bench back. It takes no memory: room was made when it was promised.
     pub(crate) fn put(&mut self, bench: Bench<'t, S>) {
         let is_back = self.benches.push(bench).is_ok();
         self.free = self.free.saturating_add(is_back as usize);

@@ -9,12 +9,10 @@ use hold_table::HoldTable;
 use reel_files::FolderSystem;
 use rmtd_words::ServerLine;
 use std::io;
-use std::net::TcpListener;
 
-/// What the line has connections served at, which come from this listener. It fails only where memory is refused.
+/// What the line has connections served at. It fails only where memory is refused.
 pub(crate) fn site_of<R: FolderSystem + Eprint>(
     rt: &R,
-    listener: TcpListener,
     line: &ServerLine<'_>,
     bin: &str,
 ) -> io::Result<Site<R>>
@@ -27,7 +25,6 @@ pub(crate) fn site_of<R: FolderSystem + Eprint>(
     let (table, seats) = HoldTable::new(rt.alloc(), drives.len())?;
     let stacks = seat_stacks(rt.clone()?, drives, bin, line.capacity)?;
     Ok(Site {
-        listener,
         left: line.connections.unwrap_or(u64::MAX),
         table,
         seats,

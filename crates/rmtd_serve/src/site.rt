@@ -8,14 +8,10 @@ ghost use Rattle.hold_table.specs.declared.table.TheConstants.{SEAT_LIMIT};
 use crate::error_log::ErrorLog;
 use hold_table::{HoldSeat, HoldTable};
 use reel_files::{FolderStacks, FolderSystem};
-use std::net::TcpListener;
 
-/// A listener, and what its connections are served at: drives in folders, with a table of who holds them, its seats, and stacks
-/// for each seat.
+/// What connections are served at: drives in folders, with a table of who holds them, its seats, and stacks for each seat.
 #[derive(Drop)]
 pub struct Site<R: FolderSystem + Eprint> {
-    /// Where the connections come from.
-    pub listener: TcpListener,
     /// How many of them are served, at most.
     pub left: u64,
     /// Who holds which drive.

@@ -8,6 +8,7 @@ ghost use Rattle.rmtd_serve.specs.Startup.{AreUntouched, IsDone, IsBegun, IsStar
 
 use crate::connections::Connections;
 use crate::error_log::ErrorLog;
+use crate::file_limit::tell_limit;
 use crate::ready::site_of;
 use crate::site::Site;
 use crate::{MemoryServer, TapeServer, exit_status, folder_stacks, run_stdio, serve_connections};
@@ -17,6 +18,7 @@ use file_medium::take_places;
 use reel_files::{FolderSystem, Log};
 use rmt_wire::Counted;
 use rmtd_words::{ServerLine, server_line};
+use std::alloc::{AllocError, Global};
 use std::env;
 use std::io::{self, Read, Write};
 use std::net::{Net, TcpListener, TcpStream};
@@ -38,8 +40,8 @@ where
 pub enum Begun<R: FolderSystem + Eprint> {
     /// To end with this status.
     End(u8),
-    /// To serve the connections of a listener at once.
-    Serve(Site<R>),
+    /// To serve the connections of this listener at once.
+    Serve(TcpListener, Site<R>),
 }
 
 /// Reads the words that the program was called with, and does what they ask until connections are served at once.
@@ -79,7 +81,11 @@ fn begin_by_args<R: System + Env, I: Read, O: Write>(
 
 /// The words that the program was called with, its own name first.
 fn words<R: Env + AllocGlobal>(rt: &R) -> io::Result<Vec<String>> {
-    Ok(env::args(rt)?.collect(rt.alloc())?)
+    let mut words = Vec::new(rt.alloc());
+    for word in env::args(rt)? {
+        words.push(word)?;
+    }
+    Ok(words)
 }
 
 /// Does what these words ask until connections are served at once.
@@ -93,16 +99,25 @@ fn begin_with<R: System, I: Read, O: Write>(
         (streams input.old output.old) (streams input.new output.new)) }
     ensures failed { OnErr result (AreUntouched (streams input.old output.old) (streams input.new output.new)) }
 {
-    let lent = words.iter().map(|word| word.as_str());
-    let lent: Vec<&str> = lent.collect(rt.alloc())?;
+    let lent = lent(rt.alloc(), words)?;
     begin(rt, lent.as_slice(), input, output)
+}
+
+/// The same words, lent.
+fn lent(alloc: Global, words: &[String]) -> Result<Vec<&str>, AllocError> {
+    let mut lent = Vec::new(alloc);
+    for word in words {
+        lent.push(word.as_str())?;
+    }
+    Ok(lent)
 }
 
 /// Does what the words of `rmtd` ask, of which the first is the name of the program itself, until connections are served at
 /// once. The standard streams are `input` and `output`, and what is told goes to those of the system.
 ///
 /// With `--stdio` the streams are served, and the status is that of how they ended (`exit_status`). With `--listen` and a drive
-/// in memory connections are served one after the other, and the status is 0. With `--listen` and drives in folders what is
+/// in memory connections are served one after the other: the status is 0 where as many have come as were to come, and 1 where the
+/// listener is broken for good. With `--listen` and drives in folders what is
 /// left is to serve them at once. Help and the version go to standard output, with the status 0.
 ///
 /// The status is 1, and what is at fault is told on standard error, where the words are wrong, a folder can't be used, or the
@@ -182,8 +197,11 @@ fn follow_in_folders<R: System, I: Read, O: Write>(
         };
         return Ok(Begun::End(exit_status(server.serve(input, output))));
     };
+    // Who is told that it listens is served: all memory of the start is had before.
+    tell_limit(rt, line.capacity)?;
+    let site = site_of(rt, line, bin)?;
     match bind(rt, address) {
-        Ok(listener) => Ok(Begun::Serve(site_of(rt, listener, line, bin)?)),
+        Ok(listener) => Ok(Begun::Serve(listener, site)),
         Err(error) => tell(rt, address, error),
     }
 }
@@ -200,9 +218,9 @@ fn tell<R: System>(rt: &R, what: &str, why: io::Error) -> io::Result<Begun<R>>
 const IN_MEMORY: &str = "the reel of /dev/st0 is in memory, and is gone when the server ends";
 
 /// Listens at this address, and serves as many connections as the line says with a drive in memory, which is told on standard error.
-/// Answers the status.
+/// Answers the status: 0 where as many came, and 1 where the listener is broken for good.
 fn listen<R: System>(rt: &R, address: &str, line: &ServerLine<'_>) -> io::Result<u8>
-    ensures { IfOk result (λ status. status ≡ 0) }
+    ensures { IfOk result (λ status. (status ≡ 0) ⊎ (status ≡ 1)) }
 {
     let Some(mut server) = MemoryServer::new(rt.alloc(), line.capacity) else {
         return Err(io::ErrorKind::OutOfMemory.into());
@@ -211,8 +229,8 @@ fn listen<R: System>(rt: &R, address: &str, line: &ServerLine<'_>) -> io::Result
     let log = ErrorLog { rt, seat: None };
     log.note(IN_MEMORY);
     let left = line.connections.unwrap_or(u64::MAX);
-    serve_connections(&mut server, Connections::new(&listener, left, log));
-    Ok(0)
+    let connections = Connections::new(rt, &listener, left, log);
+    Ok(serve_connections(&mut server, connections).status())
 }
 
 /// A listener at this address, which is told on standard output.

@@ -7,6 +7,7 @@ use rmtd_serve::{Connections, MemoryServer, serve_connections};
 use std::alloc::Global;
 use std::io::{self, Read, Write};
 use std::net::{Shutdown, TcpListener, TcpStream};
+use std::rt::Clock;
 
 /// Whether a record and a mark are written on a connection and read back, and all of it sent before an answer.
 fn sends(stream: &mut TcpStream) -> bool {
@@ -27,11 +28,11 @@ fn hears(stream: &mut TcpStream) -> bool {
 }
 
 /// Whether a drive serves the next connection, and then a stream that reads the one record of it.
-fn serves_both(alloc: Global, listener: &TcpListener) -> bool {
+fn serves_both<C: Clock>(clock: &C, alloc: Global, listener: &TcpListener) -> bool {
     let Some(mut server) = MemoryServer::new(alloc, 1024) else {
         return false;
     };
-    serve_connections(&mut server, Connections::new(listener, 1, NoLog));
+    serve_connections(&mut server, Connections::new(clock, listener, 1, NoLog));
     let mut taken = Vec::new(alloc);
     let mut input = Counted::new(b"O/dev/st0\n0\nR10\nR10\n".as_slice());
     let mut output = Counted::new(&mut taken);
@@ -43,6 +44,6 @@ fn serves_both(alloc: Global, listener: &TcpListener) -> bool {
 fn a_connection_and_a_stream_after_it(rt: HostRuntime) -> io::Result<()> {
     let listener = TcpListener::bind(&rt, "127.0.0.1:0")?;
     let mut stream = TcpStream::connect(&rt, listener.local_addr()?)?;
-    assert!(rt; sends(&mut stream) && serves_both(rt.alloc(), &listener) && hears(&mut stream));
+    assert!(rt; sends(&mut stream) && serves_both(&rt, rt.alloc(), &listener) && hears(&mut stream));
     Ok(())
 }

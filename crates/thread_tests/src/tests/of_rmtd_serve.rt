@@ -1,5 +1,6 @@
 //! Sessions in threads, over streams that wait for one another.
 
+mod accepts;
 mod at;
 mod at_once;
 mod crowd;

@@ -1,13 +1,9 @@
 use Rattle.rmtd_serve.specs.Serving.ServedInTurn.{none}
 use Rattle.rmtd_serve.proofs.Resting.{in_turn}
 use Rattle.rmtd_serve.proofs.listening.serve_connections.Goals as goal
-use Rattle.rmtd_serve.proofs.listening.serve_connections.Goals.{in-Some, in_default}
 
-pub loop-init : goal.loop-init
-loop-init g c = none
+pub loop-connections-init : goal.loop-connections-init
+loop-connections-init g c = none
 
-pub loop-preserved : goal.loop-preserved
-loop-preserved g c = elim c.match-accept.branch [
-  | in-Some w ↦ rw w.server-is (in_turn c.loop.invariant w.serve_stream-ended.ensures)
-  | in_default w ↦ rw w.server-is c.loop.invariant
-]
+pub loop-connections-preserved-in-Some : goal.loop-connections-preserved-in-Some
+loop-connections-preserved-in-Some g c = in_turn c.loop-connections.invariant c.serve_stream-ended.ensures

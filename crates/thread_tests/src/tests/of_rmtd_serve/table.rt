@@ -52,14 +52,13 @@ fn all_stacks(alloc: Global) -> Result<Vec<ListStacks>, Fail>
     Ok(all)
 }
 
-/// Serves pairs at two drives, each pair in a thread of its own.
+/// Serves pairs at two drives, each pair in a thread of its own, and gives back what they came from.
 pub(crate) fn serve_pairs<R: Threads + Wait + Sync, I: Incoming + Drop>(
     rt: &R,
     alloc: Global,
     pairs: I,
-) -> Result<(), Fail> {
+) -> Result<I, Fail> {
     let (table, seats) = two_words(alloc)?;
     let stacks = all_stacks(alloc)?;
-    serve_many(rt, alloc, pairs, &table, seats, stacks);
-    Ok(())
+    Ok(serve_many(rt, alloc, pairs, &table, seats, stacks))
 }
