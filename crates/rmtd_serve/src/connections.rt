@@ -173,8 +173,7 @@ impl<'a, C: Clock, L: Log + Drop> Connections<'a, C, L> {
     /// Notes a line of the last connection.
     fn note_last<D: Display + Drop>(&self, what: D) {
         let number = self.number;
-        self.log
-            .note(text_of(format_args!("connection {number}: {what}")).as_str());
+        self.log.note(text_of(format_args!("connection {number}: {what}")).as_str());
     }
 }
 

@@ -2,9 +2,8 @@
 ghost use Rattle.std.specs.Prelude.{◌≤◌, IfOk, length};
 
 use reel_files::FolderSystem;
-use std::fs;
 use std::io::{self, ErrorKind, Read};
-use std::str;
+use std::{fs, str};
 
 /// Where the system tells the limits of this process.
 const LIMITS: &str = "/proc/self/limits";
@@ -26,7 +25,9 @@ pub(crate) fn tell_limit<R: FolderSystem + Eprint>(rt: &R, capacity: u64) -> io:
         return Ok(());
     };
     if limit < capacity && is_fatal(rt)? {
-        let _ = eprintln!(rt; "rmtd: a file may have {limit} bytes here and a reel {capacity}: a longer one ends the server by SIGXFSZ, and is E5 where it is started with that ignored (trap '' XFSZ)");
+        let _ = eprintln!(rt;
+            "rmtd: a file may have {limit} bytes here and a reel {capacity}: a longer one ends the server by SIGXFSZ, and is E5 where it is started with that ignored (trap '' XFSZ)"
+        );
     }
     Ok(())
 }

@@ -30,7 +30,11 @@ impl<'t, S: Stacks + Drop> Pool<'t, S> {
         let Some(free) = self.free.checked_sub(1) else {
             return false;
         };
-        if self.benches.reserve(SEAT_LIMIT.saturating_sub(free)).is_err() {
+        if self
+            .benches
+            .reserve(SEAT_LIMIT.saturating_sub(free))
+            .is_err()
+        {
             return false;
         }
         self.free = free;
