@@ -207,7 +207,23 @@ const NOISE: &[Move] = &[
     Asks(MARK),
 ];
 
-static CASES: [Case; 8] = [
+/// A number of ten digits is one, with zeros before it too. An error whose text has not come waits.
+const TO_THE_REWIND: &[Move] = &[
+    Writes(FirstTwo),
+    At(REWIND, b"A0000000001\n", Send),
+    At(REWIND, b"A00000000001\n", Failed(AttemptFault::Botched)),
+    At(REWIND, b"A\n", Failed(AttemptFault::Botched)),
+    At(REWIND, b"B1\n", Failed(AttemptFault::Botched)),
+    At(REWIND, b"A1\nA", Failed(AttemptFault::Botched)),
+    Starts(Ok(())),
+    Goes(OPEN, REWIND),
+    Asks(REWIND),
+    Hears(b"E5\n", Waiting),
+    Ends(Failed(AttemptFault::ConnectionEnded)),
+    Stands(State::Asking, &[], (1, 0)),
+];
+
+static CASES: [Case; 9] = [
     Case {
         name: "replies to the open",
         dumped: USR,
@@ -255,6 +271,12 @@ static CASES: [Case; 8] = [
         dumped: USR,
         blocks: 3,
         moves: NOISE,
+    },
+    Case {
+        name: "numbers in replies to the rewind",
+        dumped: USR,
+        blocks: 3,
+        moves: TO_THE_REWIND,
     },
 ];
 
