@@ -417,3 +417,43 @@ def first_byte_after_an_open(byte: int) -> Conversation:
     refused = ((), bytes((byte,)) + AFTER_A_FIRST_BYTE, BROKEN)
     exchanges, unanswered, status = FIRST_BYTES_OF_REQUESTS.get(byte, refused)
     return Conversation(f"first byte 0x{byte:02x} after an open", (OPENED, *exchanges), unanswered, status)
+
+
+# A rewind with nothing open is answered so, and so is a close or a read of the number that follows.
+REFUSED_REWIND = b"I5\n1\n"
+DIGITS = range(ord("0"), ord("9") + 1)
+LF = ord("\n")
+
+
+def first_byte_of_a_rewind(byte: int) -> Conversation:
+    """A rewind with this byte in place of its letter, and nothing open."""
+    name, sent = f"byte 0x{byte:02x} in place of a rewind's letter", bytes((byte,)) + REFUSED_REWIND[1:]
+    if byte == ord("I"):
+        return Conversation(name, (Exchange(sent, BAD_DESCRIPTOR),))
+    # A device `5` with mode 1; the first two bytes of five; and a close, or a read, after which the digit 1 begins no request.
+    if byte == ord("O"):
+        return Conversation(name, (Exchange(sent, NO_SUCH_FILE),))
+    if byte == ord("W"):
+        return Conversation(name, (), sent, CUT_SHORT)
+    if byte in b"CR":
+        return Conversation(name, (Exchange(sent[:3], BAD_DESCRIPTOR),), sent[3:], BROKEN)
+    return Conversation(name, (), sent, BROKEN)
+
+
+def byte_of_a_rewind(place: int, byte: int) -> Conversation:
+    """A rewind with this byte at this place of its text, and nothing open."""
+    if place == 0:
+        return first_byte_of_a_rewind(byte)
+    name = f"byte 0x{byte:02x} at place {place} of a rewind"
+    sent = REFUSED_REWIND[:place] + bytes((byte,)) + REFUSED_REWIND[place + 1 :]
+    ends_a_number = REFUSED_REWIND[place] == LF
+    # A digit in place of a digit is another operation or count, which is looked at after what is open. One in place of LF makes the
+    # number longer, and the request has not come to its end then.
+    if byte == LF if ends_a_number else byte in DIGITS:
+        return Conversation(name, (Exchange(sent, BAD_DESCRIPTOR),))
+    return Conversation(name, (), sent, CUT_SHORT if ends_a_number and byte in DIGITS else BROKEN)
+
+
+def bytes_of_a_rewind() -> list[Conversation]:
+    """Each of the 256 bytes at each place of a rewind."""
+    return [byte_of_a_rewind(place, byte) for place in range(len(REFUSED_REWIND)) for byte in range(256)]

@@ -22,6 +22,7 @@ from conversations import (
     WRITTEN_AND_READ_BACK,
     Conversation,
     beginnings,
+    bytes_of_a_rewind,
     first_byte_after_an_open,
     first_byte_alone,
 )
@@ -94,13 +95,15 @@ def wanted_of(conversation: Conversation) -> Ended:
 
 
 def checks_of_conversations(words: Sequence[str]) -> Iterator[Check]:
-    """Each conversation in each form, then each beginning of the first one and each first byte of a request."""
+    """Each conversation in each form, then each beginning of the first one and each first byte of a request, and each byte of a rewind."""
     for it in CONVERSATIONS:
         yield Check(it.name, "in lock step", wanted_of(it), in_lock_step(words, it))
     firsts = [make(byte) for byte in range(256) for make in (first_byte_alone, first_byte_after_an_open)]
     for it in (*CONVERSATIONS, *beginnings(WRITTEN_AND_READ_BACK), *firsts):
         yield Check(it.name, "in one piece", wanted_of(it), in_one_piece(words, it))
         yield Check(it.name, "one byte a piece", wanted_of(it), one_byte_a_piece(words, it))
+    for it in bytes_of_a_rewind():
+        yield Check(it.name, "in one piece", wanted_of(it), in_one_piece(words, it))
 
 
 def checks_of_examples(words: Sequence[str]) -> Iterator[Check]:
