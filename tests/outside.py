@@ -21,7 +21,9 @@ from typing import NamedTuple
 TESTS = Path(__file__).resolve().parent
 # The scripts, those that take longest first, and the programs that each is given.
 CHECKS = {
+    "refused.py": ("rmtd", "rdump", "rsim"),
     "reels.py": ("rmtd", "rdump"),
+    "faults.py": ("rmtd", "rdump"),
     "kills.py": ("rmtd", "rdump"),
     "threads.py": ("rmtd", "rdump"),
     "log.py": ("rmtd",),
@@ -31,6 +33,8 @@ CHECKS = {
     "told.py": ("rmtd", "rdump"),
     "updates.py": ("rdump",),
     "relay.py": ("rmtd", "rdump"),
+    "stops.py": ("rmtd",),
+    "replies.py": ("rdump",),
     "clients.py": ("rmtd",),
     "cuts.py": ("rsim",),
     "rows.py": ("rmtd",),

@@ -37,7 +37,8 @@ class Ended(NamedTuple):
 
     def shown(self) -> tuple[object, ...]:
         """What is told of a run that is not as it has to be."""
-        return self.status, self.output, self.told[-300:], self.left
+        left = self.left.shown() if isinstance(self.left, Left) else self.left
+        return self.status, self.output, self.told[-300:], left
 
 
 class Programs(NamedTuple):
@@ -152,6 +153,10 @@ class Left(NamedTuple):
     bin: dict[str, bytes]
     dates: bytes
     names: list[str]
+
+    def shown(self) -> tuple[object, ...]:
+        """What is told of it: of each reel its length."""
+        return {name: len(data) for name, data in self.bin.items()}, self.dates, self.names
 
 
 @contextmanager

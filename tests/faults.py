@@ -1,0 +1,565 @@
+#!/usr/bin/env python3
+"""Fails calls of the system that the built programs make: each one by each of some errors, alone and with all later ones; shortened, interrupted,
+stopped, and with the program killed in it.
+
+    faults.py [RMTD [RDUMP]]
+
+No output is foretold. What a server answers to a conversation, and what its folders hold then, have to be one lawful history (lawful.py): what a
+tape may do whose device failed, and no more. A dump takes a lawful course, and dumpdates is the old file or the new one. Where a fault has an outcome of its
+own, as a sync that failed has, or a full table of files, it has a part of its own here.
+"""
+
+from __future__ import annotations
+
+import argparse
+import os
+import re
+import resource
+import signal
+import socket
+import struct
+import subprocess
+import sys
+import threading
+import time
+from collections import Counter
+from contextlib import contextmanager, suppress
+from typing import Iterator, NamedTuple
+
+from checks import check, ended
+from clients import BAD_DESCRIPTOR, CLOSE, DONE_ONE, IO_ERROR, NO_REEL, NOTHING, OFFLINE, REWIND, away, comes_true, opened, site, talking, write
+from clients import DONE as TAKEN
+from lawful import DEVICE_FAULT, History, empty, reels_of
+from model_rmtd import images
+from shim import compiled
+from sites import ABNORMAL, CRATES, DATED, DAY, DONE, FAILED, GUARD_SECONDS, LISTEN, NEW_DATES, OLD_DATES, THREE_BLOCKS
+from sites import Ended, Left, Programs, course, drive_words, dump_site, dumped, folders, held, left
+
+# A server that is to end is waited for so long.
+ENDS_SECONDS = 10
+
+ERRORS = {"EIO": 5, "ENOSPC": 28, "EDQUOT": 122, "EROFS": 30, "EMFILE": 24, "EINTR": 4}
+# Errors that one call alone has: another file system, and a lock that another process has.
+OWN_ERRORS = {"rename": {"EXDEV": 18}, "flock": {"EWOULDBLOCK": 11}}
+# What is interrupted for ever is tried for ever, and a lock that another process keeps is waited for.
+ONCE = ("EINTR", "EWOULDBLOCK")
+# Requests for memory are those of refused.py. A clock, pages and rights are looked at by themselves.
+LEFT_OUT = {"alloc", "malloc", "calloc", "realloc", "memalign", "mmap", "clock_gettime"}
+
+# Two records and two marks, spacing back, reads, a record in place of those after the first, a move to the bin, and the next reel.
+TALK = b"".join(
+    (
+        *(opened(), write(b"hello"), write(b"ab"), b"I0\n2\n", b"I2\n2\n", b"R9\n", REWIND, b"R9\n", b"I3\n1\n", write(b"x"), OFFLINE, CLOSE),
+        *(opened(), write(b"z"), CLOSE),
+    )
+)
+HISTORY = History(TALK, empty("r1", "r2"), DEVICE_FAULT)
+# At least so many calls were seen when this was written, of the server and of a dump.
+LEAST_CALLS, LEAST_DUMP_CALLS = 60, 50
+
+
+class Rule(NamedTuple):
+    """A rule of hostile.c, and its title."""
+
+    title: str
+    text: str
+
+
+def counted(well: Ended) -> dict[str, int]:
+    """How many calls of each name were seen."""
+    return {call: count for call, count in Counter(well.calls).items() if call not in LEFT_OUT}
+
+
+# A server over folders.
+
+
+def talked(p: Programs, rules: str, path: str = "") -> Ended:
+    """The conversation, with a server that meets these rules."""
+    with folders(r1=b"", r2=b"") as folder:
+        got = p.run((p.rmtd, "--stdio", *drive_words(folder)), rules, TALK, path)
+        return got._replace(left=held(folder))
+
+
+def is_history(got: Ended) -> bool:
+    """Answers and files are a lawful history."""
+    left = tuple(dict(reels_of(it)) for it in got.left)
+    return left in [it.held() for it in HISTORY.states(got.output)]
+
+
+def is_right(got: Ended) -> bool:
+    """It did not start, which is told, and read nothing. Or all was answered."""
+    if got.status == FAILED:
+        return got.output == b"" and got.told != b"" and "read" not in got.calls and is_history(got)
+    return got.status == DONE and HISTORY.answered_all(got.output) and is_history(got)
+
+
+def is_cut_short(got: Ended) -> bool:
+    """It ended in the middle, as a stream failed."""
+    return got.status == FAILED and is_history(got)
+
+
+class Target(NamedTuple):
+    """Calls of one name, at files with this in their path; how many are made, and whether at a standard stream, which are not tried again."""
+
+    call: str
+    path: str
+    count: int
+    is_stream: bool
+
+    def title(self, number: object) -> str:
+        return f"{self.call} {number}{' at a standard stream' if self.is_stream else ''}"
+
+    def rules(self) -> Iterator[Rule]:
+        """Each of them fails by each error: alone, and with all later ones."""
+        for number in range(1, self.count + 1):
+            for name, error in (ERRORS | OWN_ERRORS.get(self.call, {})).items():
+                for more in ("",) if name in ONCE else ("", "+"):
+                    title = f"{self.title(number)}{' and all later ones' if more else ''}: {name}"
+                    yield Rule(title, f"{self.call}:{number}{more}:E{error}")
+
+    def each(self, what: str) -> Iterator[Rule]:
+        """This becomes of each of them alone, and of all of them."""
+        for number in (*range(1, self.count + 1), "1+"):
+            yield Rule(f"{self.title(number)}: {what}", f"{self.call}:{number}:{what}")
+
+
+STREAMS = "pipe:"
+
+
+def targets(p: Programs) -> list[Target]:
+    """The calls of the conversation."""
+    files, streams = counted(talked(p, "")), counted(talked(p, "", STREAMS))
+    files = Counter(files) - Counter({call: streams.get(call, 0) for call in ("read", "write")})
+    at_files = [Target(call, "/st0/" if call == "write" else "", count, False) for call, count in files.items()]
+    return at_files + [Target(call, STREAMS, streams[call], True) for call in ("read", "write")]
+
+
+def server(p: Programs) -> None:
+    """Each call of a server fails."""
+    well, calls = talked(p, ""), targets(p)
+    seen = sum(it.count for it in calls)
+    check("a server in which nothing fails", (well.status, well.output) == (DONE, HISTORY.wanted()) and is_history(well), well.shown())
+    check(f"at least {LEAST_CALLS} calls of a server are seen", seen >= LEAST_CALLS, calls)
+    runs = changed = 0
+    for target in calls:
+        for rule in target.rules():
+            got = talked(p, rule.text, target.path)
+            check(rule.title, is_cut_short(got) if target.is_stream else is_right(got), got.shown())
+            runs += 1
+            changed += got.seen() != well.seen()
+    print(f"a server: {seen} calls, {runs} runs, {changed} of them answered or left otherwise", flush=True)
+    lies = ("writev:1:L", "writev:4:L", "ftruncate:1:L", "rename:2:L")
+    noticed = [rule for rule in lies if not is_history(talked(p, rule))]
+    check("a system that says it did what it did not is noticed", noticed == [*lies], noticed)
+
+
+def killed_and_stopped(p: Programs) -> None:
+    """A server is killed before each of its calls; stopped there, and continued; and moves a byte in them, or none."""
+    well = talked(p, "")
+    for target in targets(p):
+        for number in range(1, target.count + 1):
+            got = talked(p, f"{target.call}:{number}:K", target.path)
+            check(f"killed before {target.title(number)}", got.status == -signal.SIGKILL and is_history(got), got.shown())
+        for rule in target.each("s1") if target.call in ("read", "pread", "write", "writev") else ():
+            got = talked(p, rule.text, target.path)
+            check(rule.title, got.seen() == well.seen(), got.shown())
+        for rule in target.each("s0") if target.call in ("write", "writev") else ():
+            got = talked(p, rule.text, target.path)
+            check(rule.title, is_cut_short(got) if target.is_stream else is_right(got), got.shown())
+    for call in ("read", "writev", "pread", "rename", "write"):
+        got = stopped(p, f"{call}:1+:S")
+        check(f"stopped before each {call}, and continued", got.seen() == well.seen(), got.shown())
+
+
+def stopped(p: Programs, rules: str) -> Ended:
+    """The conversation, with a server that is continued whenever it stopped itself."""
+    p.shim.forget()
+    with folders(r1=b"", r2=b"") as folder:
+        words = (p.rmtd, "--stdio", *drive_words(folder))
+        streams = {"stdin": subprocess.PIPE, "stdout": subprocess.PIPE, "env": p.shim.environment(rules)}
+        with guarded(subprocess.Popen(words, **streams)) as process:
+            process.stdin.write(TALK)
+            process.stdin.close()
+            continued(process.pid)
+            output = process.stdout.read()
+            process.wait()
+        return Ended(process.returncode, output, b"", held(folder), tuple(p.shim.calls()))
+
+
+def continued(process: int) -> None:
+    """Continues a child whenever it stopped, until it ends."""
+    while (found := os.waitid(os.P_PID, process, os.WSTOPPED | os.WEXITED | os.WNOWAIT)).si_code == os.CLD_STOPPED:
+        os.waitid(os.P_PID, process, os.WSTOPPED)
+        os.kill(found.si_pid, signal.SIGCONT)
+
+
+@contextmanager
+def guarded(process: subprocess.Popen[bytes]) -> Iterator[subprocess.Popen[bytes]]:
+    """A process that is killed where it does not end."""
+    guard = threading.Timer(GUARD_SECONDS, process.kill)
+    guard.start()
+    try:
+        yield process
+    finally:
+        process.kill()
+        process.wait()
+        guard.cancel()
+        for it in (process.stdin, process.stdout, process.stderr):
+            if it:
+                it.close()
+
+
+# A sync that failed.
+
+
+def failed_sync(p: Programs) -> None:
+    """A reel whose sync failed is not moved as long as it is open, until it is written anew from its beginning."""
+    rules = "fsync:1:E5,fdatasync:1:E5"
+    moved = (OFFLINE, DONE_ONE), (NOTHING, NO_REEL)
+    with site(p.rmtd) as shop:
+        shop.reel("r1")
+        with talking(shop, env=p.shim.environment(rules)) as talk:
+            talk.asks("a sync that failed", (opened(), TAKEN), (write(b"data"), b"A4\n"), (OFFLINE, IO_ERROR), (OFFLINE, IO_ERROR))
+            talk.asks("a sync that failed: the reel is read", (b"R9\n", b"A4\ndata"), (b"R9\n", TAKEN), (OFFLINE, IO_ERROR))
+            talk.asks("a sync that failed: more is written", (b"I3\n1\n", DONE_ONE), (write(b"x"), DONE_ONE), (OFFLINE, IO_ERROR))
+            check("a sync that failed: nothing is moved", not [*shop.bin.iterdir()])
+            talk.asks("a sync that failed: the reel is written anew", (REWIND, DONE_ONE), (write(b"anew"), b"A4\n"), *moved)
+            check("a sync that failed: the reel that was written anew is moved", shop.bin.joinpath("r1").read_bytes() == images([b"anew"]))
+    for folder in (2, 3):
+        with site(p.rmtd) as shop:
+            shop.reel("r1")
+            with talking(shop, env=p.shim.environment(f"fsync:{folder}:E5")) as talk:
+                talk.asks(f"the sync of a folder that failed, {folder}", (opened(), TAKEN), (write(b"data"), b"A4\n"), *moved)
+    with site(p.rmtd) as shop:
+        shop.reel("r1")
+        with talking(shop, env=p.shim.environment(rules)) as talk:
+            talk.asks("a sync that failed, and marks", (opened(), TAKEN), (b"I0\n2\n", b"A2\n"), (OFFLINE, IO_ERROR), (OFFLINE, IO_ERROR))
+            talk.asks("a sync that failed: marks are written anew", (b"I0\n1\n", DONE_ONE), *moved)
+    with site(p.rmtd) as shop:
+        shop.reel("r1")
+        with talking(shop, env=p.shim.environment(rules)) as talk:
+            talk.asks("a sync that failed, and a close", (opened(), TAKEN), (write(b"data"), b"A4\n"), (OFFLINE, IO_ERROR), (CLOSE, TAKEN))
+            talk.asks("a sync that failed: an open knows nothing of it", (opened(), TAKEN), *moved)
+
+
+# Folders, clocks and limits.
+
+
+def folder_away(p: Programs) -> None:
+    """A stack's folder that goes away while its reel is open, and comes back."""
+    with site(p.rmtd) as shop:
+        shop.reel("r1")
+        with talking(shop) as talk:
+            talk.asks("a stack that goes away, before", (opened(), TAKEN), (write(b"before"), b"A6\n"))
+            with away(shop.stack):
+                talk.asks("a stack that is away: the open reel", (write(b"x"), DONE_ONE), (OFFLINE, IO_ERROR), (b"R9\n", b"A6\nbefore"))
+                talk.asks("a stack that is away: a close, and an open", (CLOSE, TAKEN), (opened(), IO_ERROR), (write(b"y"), BAD_DESCRIPTOR))
+            talk.asks("a stack that is back", (opened(), TAKEN), (b"R9\n", b"A6\nbefore"), (b"R9\n", b"A1\nx"), (OFFLINE, DONE_ONE))
+            check("a stack that is back: it ends well", talk.end() == DONE)
+            check("a stack that is back: the reel", shop.bin.joinpath("r1").read_bytes() == images([b"before", b"x"]))
+
+
+def clocks(p: Programs) -> None:
+    """A clock before 1970, and one that goes back meanwhile."""
+    got = dumped(p, THREE_BLOCKS, b"", "clock_gettime:1+:t-5", date=())
+    untouched = Left({}, OLD_DATES, ["dates"])
+    check("a clock before 1970", got.seen() == (FAILED, b"", untouched) and b"the clock" in got.told, got.shown())
+    well = dumped(p, THREE_BLOCKS, b"", "")
+    got = dumped(p, THREE_BLOCKS, b"", f"clock_gettime:1:t{DAY},clock_gettime:2+:t1", date=())
+    check("a dump whose clock goes back", got.seen() == well.seen(), got.shown())
+    got = talked(p, f"clock_gettime:1:t{DAY},clock_gettime:2+:t1")
+    check("a server whose clock goes back", got.output == HISTORY.wanted() and is_history(got), got.shown())
+
+
+# Files of a kilobyte at most, and the signal for that ignored or not.
+IGNORED, NOT_IGNORED = (("sh", "-c", f'{first} ulimit -f 1; exec "$@"', "sh") for first in ("trap '' XFSZ;", ""))
+
+
+def limited_size(p: Programs) -> None:
+    """A limit on the size of files is an error of the device where its signal is ignored, and ends the server where it is not."""
+    record, larger = write(b"w" * 200), write(b"w" * 2000)
+    sent = opened() + record + larger * 2 + record + CLOSE + opened() + OFFLINE
+    with folders(r1=b"") as folder:
+        got = p.run((*IGNORED, p.rmtd, "--stdio", *drive_words(folder)), None, sent)
+        wanted = TAKEN + b"A200\n" + IO_ERROR * 2 + b"A200\n" + TAKEN * 2 + DONE_ONE
+        check("a limit on the size of files", (got.status, got.output) == (DONE, wanted), got.shown())
+        check("a limit on the size of files: the reel", held(folder) == ({}, {"r1": images([b"w" * 200] * 2)}), held(folder))
+    with folders(r1=b"") as folder:
+        got = p.run((*NOT_IGNORED, p.rmtd, "--stdio", *drive_words(folder)), None, sent)
+        check("a limit on the size of files, whose signal is not ignored", got.status == -signal.SIGXFSZ, got.shown())
+        stands = reels_of(held(folder)[0])
+        check("a limit on the size of files, whose signal is not ignored: the reel", stands == (("r1", (b"w" * 200,)),), stands)
+
+
+# A server that listens.
+
+
+class Listener:
+    """A server that listens at a drive in a folder, or in memory, and meets these rules."""
+
+    def __init__(self, p: Programs, rules: str, *words: str) -> None:
+        p.shim.forget()
+        self.shim = p.shim
+        streams = {"stdout": subprocess.PIPE, "stderr": subprocess.DEVNULL, "env": p.shim.environment(rules)}
+        self.process = subprocess.Popen((p.rmtd, *LISTEN, *words), **streams)
+        host, port = re.fullmatch(r"listening on (.+):(\d+)\n", self.process.stdout.readline().decode()).groups()
+        self.address = (host, int(port))
+
+    def connect(self) -> socket.socket:
+        stream = socket.create_connection(self.address, GUARD_SECONDS)
+        stream.setsockopt(socket.IPPROTO_TCP, socket.TCP_NODELAY, 1)
+        return stream
+
+    def asked(self, request: bytes) -> bytes:
+        """What a connection of one request is answered, and nothing where there is none."""
+        with suppress(OSError), self.connect() as stream:
+            return ask(stream, request)
+        return b""
+
+    def accepts(self) -> int:
+        """How often it has asked for a connection."""
+        return self.shim.calls().count("accept4")
+
+    def files(self) -> list[int]:
+        """The descriptors that it has, but for that of the log."""
+        return [int(it) for it in os.listdir(f"/proc/{self.process.pid}/fd") if int(it) < 900]
+
+    def limit_files(self, count: int) -> None:
+        resource.prlimit(self.process.pid, resource.RLIMIT_NOFILE, (count, 1024))
+
+    def ended(self) -> int | None:
+        """Its status, and none where it does not end."""
+        with suppress(subprocess.TimeoutExpired):
+            return self.process.wait(ENDS_SECONDS)
+        return None
+
+
+@contextmanager
+def listening(p: Programs, rules: str, *words: str) -> Iterator[Listener]:
+    """A server that listens, and is killed at the end."""
+    it = Listener(p, rules, *words)
+    with guarded(it.process):
+        yield it
+
+
+def ask(stream: socket.socket, request: bytes) -> bytes:
+    """The answer to a request, and nothing where the connection ends."""
+    with suppress(ConnectionError):
+        stream.sendall(request)
+        return stream.recv(65536)
+    return b""
+
+
+def no_threads(p: Programs) -> None:
+    """Connections for which no thread is had are closed, and each later one is served: 33 of them have not taken the places of 32."""
+    for count in (1, 33):
+        title = f"no thread for {count} connections"
+        with folders(r1=b"") as folder, listening(p, f"pthread_create:1-{count}:E11", "--connections", str(count + 2), *drive_words(folder)) as it:
+            answers = [it.asked(NOTHING) for _ in range(count + 2)]
+            check(f"{title}: they are closed, and the next two are served", answers == [b""] * count + [BAD_DESCRIPTOR] * 2, answers)
+            check(f"{title}: it ends after so many connections", it.ended() == DONE)
+
+
+# A server that has no descriptor for a connection waits a tenth of a second before it tries again. So often at most it tries in a second.
+TRIES_IN_A_SECOND = 50
+# So many descriptors has a server whose table is small.
+SMALL_TABLE = 10
+
+
+def full_table(p: Programs) -> None:
+    """A table of files that is full: the server tries now and then, and who waits is served once there is a place."""
+    title = "a full table of files, at a drive in a folder"
+    with folders(r1=b"") as folder, listening(p, "", "--connections", str(SMALL_TABLE), *drive_words(folder)) as it:
+        it.limit_files(SMALL_TABLE)
+        streams = [it.connect() for _ in range(SMALL_TABLE)]
+        for stream in streams:
+            stream.sendall(NOTHING)
+        check(f"{title}: it is full", comes_true(lambda: len(it.files()) == SMALL_TABLE), it.files())
+        tries(it, title)
+        answers = [answered(stream) for stream in streams]
+        check(f"{title}: each is served once there is a place", answers == [BAD_DESCRIPTOR] * SMALL_TABLE, answers)
+        check(f"{title}: it ends after so many connections", it.ended() == DONE)
+    title = "a full table of files, at the drive in memory"
+    with listening(p, "", "--connections", "2") as it:
+        it.limit_files(max(it.files()) + 1)
+        streams = [it.connect() for _ in range(2)]
+        for stream in streams:
+            stream.sendall(NOTHING)
+        tries(it, title)
+        it.limit_files(1024)
+        answers = [answered(stream) for stream in streams]
+        check(f"{title}: both are served then", answers == [BAD_DESCRIPTOR] * 2, answers)
+        check(f"{title}: it ends after so many connections", it.ended() == DONE)
+
+
+def answered(stream: socket.socket) -> bytes:
+    """The answer that comes, or nothing where the connection ends; and its end."""
+    with stream, suppress(OSError):
+        return stream.recv(65536)
+    return b""
+
+
+def tries(it: Listener, title: str) -> None:
+    """It runs, tries again, and not without a pause."""
+    before = it.accepts()
+    check(f"{title}: it tries again", comes_true(lambda: it.accepts() > before + 1))
+    before = it.accepts()
+    time.sleep(1)
+    made = it.accepts() - before
+    check(f"{title}: it tries {TRIES_IN_A_SECOND} times a second at most", made <= TRIES_IN_A_SECOND and it.process.poll() is None, made)
+
+
+def accepts(p: Programs) -> None:
+    """Accepts that fail do not count as connections, and a listener that is broken for good ends the server."""
+    for drive in ("in memory", "in a folder"):
+        with folders(r1=b"") as folder:
+            words = ("--connections", "2", *(drive_words(folder) if drive == "in a folder" else ()))
+            for name, error in (("EIO", 5), ("ECONNABORTED", 103), ("EMFILE", 24), ("ENOBUFS", 105)):
+                with listening(p, f"accept4:1-2:E{error}", *words) as it:
+                    answers = [it.asked(NOTHING) for _ in range(2)]
+                    served = answers == [BAD_DESCRIPTOR] * 2 and it.ended() == DONE
+                    check(f"two accepts fail by {name}, at a drive {drive}: two connections are served", served, answers, it.process.poll())
+            for name, error in (("EBADF", 9), ("EINVAL", 22), ("ENOTSOCK", 88)):
+                with listening(p, f"accept4:1+:E{error}", *words) as it:
+                    check(f"a listener that is broken by {name}, at a drive {drive}, ends the server", it.ended() == FAILED, it.process.poll())
+
+
+def unstarted(p: Programs) -> None:
+    """A listener that cannot be made: nothing is printed."""
+    for call in ("socket", "bind", "listen"):
+        for drive in ("in memory", "in a folder"):
+            with folders(r1=b"") as folder:
+                words = (p.rmtd, *LISTEN, "--connections", "0", *(drive_words(folder) if drive == "in a folder" else ()))
+                got = p.run(words, f"{call}:1:E13")
+            check(f"{call} fails, at a drive {drive}", (got.status, got.output) == (FAILED, b"") and got.told != b"", got.shown())
+
+
+def sockets(p: Programs) -> None:
+    """A server that receives and sends a byte at a time, and a client that resets its connection in a write."""
+    for rules in ("recv:1+:s1", "send:1+:s1,sendmsg:1+:s1", "recv:1+:s1,send:1+:s1,sendmsg:1+:s1"):
+        for title, in_folder in (("in memory", False), ("in a folder", True)):
+            with folders(r1=b"", r2=b"") as folder:
+                with listening(p, rules, "--connections", "1", *(drive_words(folder) if in_folder else ())) as it, it.connect() as stream:
+                    stream.sendall(TALK)
+                    stream.shutdown(socket.SHUT_WR)
+                    output = b"".join(iter(lambda stream=stream: stream.recv(65536), b""))
+                reels = ("r1", "r2") if in_folder else ("r1",)
+                check(f"a server with {rules}, at the drive {title}", output == History(TALK, empty(*reels), DEVICE_FAULT).wanted(), output)
+    with folders(r1=b"") as folder, listening(p, "", *drive_words(folder)) as it:
+        with it.connect() as stream:
+            answers = [ask(stream, opened()), ask(stream, write(b"whole"))]
+            stream.sendall(b"W100\n" + b"w" * 50)
+            stream.setsockopt(socket.SOL_SOCKET, socket.SO_LINGER, struct.pack("ii", 1, 0))
+        check("a reset in a write: before it", answers == [TAKEN, b"A5\n"], answers)
+        check("a reset in a write: the drive is free", comes_true(lambda: it.asked(opened()) == TAKEN))
+        check("a reset in a write: the whole record stands, and nothing else", held(folder)[0] == {"r1": images([b"whole"])}, held(folder))
+
+
+# A dump.
+
+
+def is_dump_right(got: Ended, yes: int, stays: bool = False) -> bool:
+    """It did not start and left all as it was; or it took a lawful course, each volume that was counted is whole in the bin, nothing else is there
+    but whole volumes, and dumpdates is the old file, or the new one where it says so. Each fault is told. Its new file may stay where it cannot be
+    removed."""
+    reels = THREE_BLOCKS.reels()
+    if not {*got.left.bin.values()} <= {*reels} or got.left.names not in ([["dates"], ["dates", "dates.new"]] if stays else [["dates"]]):
+        return False
+    if got.status == FAILED:
+        return got.output == b"" and got.told != b"" and got.left[:2] == ({}, OLD_DATES)
+    went = course(THREE_BLOCKS, got.output, yes)
+    if went is None or got.status != went.status() or not {*reels[: went.counted]} <= {*got.left.bin.values()}:
+        return False
+    is_told = got.told != b"" or went.end == "complete" or "SourceFault" in went.faults
+    return is_told and got.left.dates == (NEW_DATES if went.end == "complete" else OLD_DATES)
+
+
+# Files that are written, which are told from standard error by their paths.
+WRITTEN = {"write": "/dates"}
+
+
+def dump(p: Programs) -> None:
+    """Each call of a client that dumps and enters its run fails."""
+    well = dumped(p, THREE_BLOCKS, b"", "")
+    calls = counted(well) | {"write": dumped(p, THREE_BLOCKS, b"", "", WRITTEN["write"]).calls.count("write")}
+    check("a dump in which nothing fails", (well.status, well.output) == (DONE, THREE_BLOCKS.printed()) and is_dump_right(well, 0), well.shown())
+    check(f"at least {LEAST_DUMP_CALLS} calls of a dump are seen", sum(calls.values()) >= LEAST_DUMP_CALLS, calls)
+    ends: Counter[int] = Counter()
+    for call, count in calls.items():
+        for rule in Target(call, WRITTEN.get(call, ""), count, False).rules():
+            got = dumped(p, THREE_BLOCKS, b"", rule.text, WRITTEN.get(call, ""))
+            check(f"a dump: {rule.title}", is_dump_right(got, 0, call == "unlink"), got.shown())
+            ends[got.status] += 1
+    print(f"a dump: {sum(ends.values())} runs, by their status {dict(ends)}; calls: {calls}", flush=True)
+    for call in ("recv", "send", "sendmsg", "pread", "read", "write"):
+        got = dumped(p, THREE_BLOCKS, b"", f"{call}:1+:s1")
+        check(f"a dump: each {call} is of one byte", got.seen() == well.seen(), got.shown())
+    for call in ("recv", "pread"):
+        for number in range(2, calls.get(call, 0) + 1):
+            got = dumped(p, THREE_BLOCKS, b"yes\n", f"{call}:{number}:E5")
+            check(f"a dump: {call} {number} fails once, and the operator says yes", is_dump_right(got, 1), got.shown())
+    for call, count in calls.items():
+        for number in range(1, count + 1):
+            got = dumped(p, THREE_BLOCKS, b"", f"{call}:{number}:K", WRITTEN.get(call, ""))
+            whole = got.left.dates in (OLD_DATES, NEW_DATES) and {*got.left.bin.values()} <= {*THREE_BLOCKS.reels()}
+            check(f"a dump that is killed before {call} {number}", got.status == -signal.SIGKILL and whole, got.shown())
+
+
+def unprinted(p: Programs) -> None:
+    """Standard output that fails at each line of a dump: the status says so, and the run is not entered where its end was not printed."""
+    lines = THREE_BLOCKS.lines()
+    for number in range(1, len(lines) + 1):
+        for more in ("", "+"):
+            with dump_site(p, THREE_BLOCKS) as (folder, words):
+                with folder.joinpath("printed").open("wb") as printed:
+                    how = {"stdin": subprocess.DEVNULL, "stdout": printed, "stderr": subprocess.PIPE, "timeout": GUARD_SECONDS}
+                    got = subprocess.run((*words, *DATED), env=p.shim.environment(f"write:{number}{more}:E28", "/printed"), **how)
+                text, stands = folder.joinpath("printed").read_text(), left(folder)
+            title = f"line {number}{' and all later ones' if more else ''} cannot be printed"
+            check(f"{title}: the status", got.returncode == ABNORMAL and got.stderr != b"", got, text)
+            wanted = [line for at, line in enumerate(lines, 1) if at < number or (at > number and not more)]
+            check(f"{title}: what is printed", text.splitlines() == wanted[: text.count("\n")] and lines[number - 1] not in text, text)
+            check(f"{title}: no run is entered that is not printed", stands.dates == OLD_DATES or lines[-1] in text, stands.dates, text)
+
+
+def stopped_client(p: Programs) -> None:
+    """A client that is stopped in mid volume keeps its drive, and ends well once it is continued."""
+    with dump_site(p, THREE_BLOCKS) as (folder, words):
+        streams = {"stdin": subprocess.DEVNULL, "stdout": subprocess.PIPE, "env": p.shim.environment("recv:4:S")}
+        with guarded(subprocess.Popen((*words, *DATED), **streams)) as client:
+            os.waitid(os.P_PID, client.pid, os.WSTOPPED)
+            for _ in range(3):
+                other = p.run((p.rdump, "mt", *words[2:6], "nop", "1"))
+                check("a client that is stopped: the others", (other.status, other.output) == (ABNORMAL, b"E16 Device busy\n"), other.shown())
+            os.kill(client.pid, signal.SIGCONT)
+            output = client.stdout.read()
+            check("a client that is continued", (output, client.wait()) == (THREE_BLOCKS.printed(), DONE), output)
+        reels = {f"r{number}": data for number, data in enumerate(THREE_BLOCKS.reels(), 1)}
+        check("a client that is continued: what stands", left(folder) == Left(reels, NEW_DATES, ["dates"]), left(folder))
+
+
+PARTS = (
+    *(server, killed_and_stopped, failed_sync, folder_away, clocks, limited_size, no_threads, full_table, accepts, unstarted, sockets),
+    *(dump, unprinted, stopped_client),
+)
+
+
+def main() -> int:
+    parser = argparse.ArgumentParser(description="Fails calls of the system that the built programs make.")
+    for name in ("rmtd", "rdump"):
+        parser.add_argument(name, nargs="?", default=str(CRATES / f"{name}/out/{name}"))
+    asked = parser.parse_args()
+    began = time.monotonic()
+    with compiled() as shim:
+        p = Programs(os.path.abspath(asked.rmtd), os.path.abspath(asked.rdump), "", shim)
+        for part in PARTS:
+            try:
+                part(p)
+            except (OSError, ValueError, AttributeError) as fault:
+                check(f"{part.__name__}: it comes to its end", False, fault)
+    print(f"{time.monotonic() - began:.0f} seconds")
+    return ended()
+
+
+if __name__ == "__main__":
+    sys.exit(main())

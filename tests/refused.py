@@ -1,0 +1,372 @@
+#!/usr/bin/env python3
+"""Refuses each request for memory that the built programs make, alone and with all later ones, and checks what they answer, print and leave.
+
+    refused.py [RMTD [RDUMP [RSIM]]]
+
+No request is named by its number, since compilers and kits differ in these: each sweep runs once with all memory, counts the requests of the log,
+and parts those before the first request is read, or the first attempt connects, from those after it. It fails where fewer requests are seen than
+when it was written, and where refusing one changed nothing.
+"""
+
+from __future__ import annotations
+
+import argparse
+import os
+import re
+import socket
+import subprocess
+import sys
+import tempfile
+import threading
+import time
+from contextlib import suppress
+from pathlib import Path
+from typing import Callable, NamedTuple
+
+from checks import check, ended
+from lawful import NO_MEMORY, History, empty, reels_of
+from model_rmtd import images
+from shim import compiled
+from sites import ABANDONED, ABNORMAL, ASKED, CRATES, DEVICE, DONE, FAILED, GUARD_SECONDS, LISTEN, NEW_DATES, NO_BLOCKS, OLD_DATES, THREE_BLOCKS
+from sites import Ended, Left, Payload, Programs, course, drive_words, dumped, folders, held, serving
+
+# A record and a mark are written and read back; and a reel is taken away, so that none is left.
+ROW = b"O/dev/st0\n2\nW5\nhelloI0\n1\nI5\n1\nR10\nR10\nC\n"
+AWAY = b"O/dev/st0\n2\nI6\n1\nW1\nxI7\n1\nC\nO/dev/st0\n2\n"
+NO_WRITE = b"A0\nE12\nCannot allocate memory\nA1\nA1\nA0\nA0\nA0\n"
+NO_MARK = b"A0\nA5\nE12\nCannot allocate memory\nA1\nA5\nhelloA0\nA0\n"
+
+NAMED = b"out of memory\n"
+FAILED_START = f"volume 1 failed: OutOfMemory\n{ASKED}\n"
+
+
+class Sweep(NamedTuple):
+    """A run of a program whose requests for memory are refused one after the other. `least` is how many were seen when this was written, less a
+    few that another compiler does without. `begins` is the call that reads the first request or begins the first attempt: `before` says whether
+    what came is right where a request before it is refused, and `after` so for later ones, and whether all after them are refused too."""
+
+    title: str
+    least: int
+    begins: str
+    go: Callable[[str], Ended]
+    before: Callable[[Ended], bool]
+    after: Callable[[Ended, bool], bool]
+
+    def run(self) -> list[Ended]:
+        """Makes all the runs, and answers what came."""
+        well = self.go("")
+        first = well.calls.index(self.begins) if self.begins in well.calls else len(well.calls)
+        early, requests = well.calls[:first].count("alloc"), well.calls.count("alloc")
+        check(f"{self.title}: at least {self.least} requests for memory are seen", requests >= self.least, requests, well)
+        came = []
+        for number in range(1, requests + 1):
+            for more in (False, True):
+                got = self.go(f"alloc:{number}{'+' if more else ''}:0")
+                title = f"{self.title}: request {number} of {requests} is refused{' and all later ones' if more else ''}"
+                right = self.before(got) if number <= early else self.after(got, more)
+                check(title, right, got.shown(), f"{early} requests come before `{self.begins}`")
+                check(f"{title}: that is seen", got.seen() != well.seen(), got.shown())
+                came.append(got)
+        print(f"{self.title}: {requests} requests, {early} of them before `{self.begins}`", flush=True)
+        return came
+
+
+def is_silent(got: Ended) -> bool:
+    """It did not start, and printed nothing."""
+    return (got.status, got.output) == (FAILED, b"")
+
+
+def is_named(got: Ended) -> bool:
+    """It did not start, and printed why."""
+    return (got.status, got.output) == (FAILED, NAMED)
+
+
+def never(got: Ended, more: bool) -> bool:
+    """No request is refused then."""
+    return False
+
+
+# The server on its standard streams.
+
+
+def refusals(output: bytes) -> int:
+    """How many requests were answered with want of memory."""
+    return output.count(NO_MEMORY)
+
+
+def in_memory(p: Programs) -> None:
+    """The drive in memory, whose reel takes memory to write."""
+    rows = (("a record and a mark", ROW, 20), ("a reel that is taken away", AWAY, 20))
+    for title, row, least in rows:
+        history = History(row, empty("r"), NO_MEMORY, grows=True)
+
+        def after(got: Ended, more: bool, history: History = history) -> bool:
+            lawful = got.status == DONE and history.states(got.output) and history.answered_all(got.output)
+            return bool(lawful) and (more or refusals(got.output) == 1)
+
+        go = lambda rules, row=row: p.run((p.rmtd, "--stdio"), rules, row)
+        check(f"{title}: what is answered with all memory", go("").output == history.wanted())
+        came = Sweep(title, least, "read", go, is_silent, after).run()
+        if row == ROW:
+            alone = {it.output for it in came[::2] if it.status == DONE}
+            check(f"{title}: the write alone is refused, and the mark alone where that grows", {NO_WRITE} <= alone <= {NO_WRITE, NO_MARK}, alone)
+
+
+def over_a_folder(p: Programs) -> None:
+    """A drive in a folder, whose reels take no memory to write."""
+    for title, row, least in (("a record and a mark, in a folder", ROW, 40), ("a reel that is taken away, in a folder", AWAY, 40)):
+        history = History(row, empty("r1"), NO_MEMORY)
+
+        def go(rules: str, row: bytes = row) -> Ended:
+            with folders(r1=b"") as folder:
+                got = p.run((p.rmtd, "--stdio", *drive_words(folder)), rules, row)
+                return got._replace(left=held(folder))
+
+        def before(got: Ended) -> bool:
+            return is_silent(got) and got.left == ({"r1": b""}, {})
+
+        def after(got: Ended, more: bool, history: History = history) -> bool:
+            left = tuple(dict(reels_of(it)) for it in got.left)
+            lawful = got.status == DONE and history.answered_all(got.output)
+            return lawful and left in [it.held() for it in history.states(got.output)] and (more or refusals(got.output) == 1)
+
+        Sweep(title, least, "read", go, before, after).run()
+
+
+# The listener.
+
+
+def conversed(address: str) -> bytes | None:
+    """What a connection is answered; none where it is closed at once."""
+    host, port = address.rsplit(":", 1)
+    with suppress(OSError), socket.create_connection((host, int(port)), GUARD_SECONDS) as client:
+        client.sendall(ROW)
+        client.shutdown(socket.SHUT_WR)
+        return b"".join(iter(lambda: client.recv(65536), b"")) or None
+    return None
+
+
+def listened(p: Programs, rules: str, folder: Path | None) -> Ended:
+    """Two connections, one after the other. What is left is what each was answered."""
+    words = (p.rmtd, *LISTEN, "--connections", "2", *(drive_words(folder) if folder else ()))
+    p.shim.forget()
+    streams = {"stdout": subprocess.PIPE, "stderr": subprocess.DEVNULL, "env": p.shim.environment(rules)}
+    with subprocess.Popen(words, **streams) as server:
+        guard = threading.Timer(GUARD_SECONDS, server.kill)
+        guard.start()
+        line = server.stdout.readline().decode()
+        found = re.fullmatch(r"listening on (.+:\d+)\n", line)
+        answers = [conversed(found[1]) for _ in range(2)] if found else []
+        rest = server.stdout.read()
+        server.wait()
+        guard.cancel()
+    return Ended(server.returncode, b"" if found else line.encode() + rest, b"", answers, tuple(p.shim.calls()))
+
+
+def listener(p: Programs) -> None:
+    """Connections: a refusal alone is met by one of them, and the other is served."""
+    for title, in_folder, least in (("connections at the drive in memory", False, 40), ("connections at a folder", True, 150)):
+        history = History(ROW, empty("r1"), NO_MEMORY, grows=not in_folder)
+        whole = history.wanted()
+
+        def go(rules: str, in_folder: bool = in_folder) -> Ended:
+            with folders(r1=b"") as folder:
+                return listened(p, rules, folder if in_folder else None)
+
+        def is_lawful(answer: bytes | None, history: History = history) -> bool:
+            return answer is None or (bool(history.states(answer)) and history.answered_all(answer))
+
+        def after(got: Ended, more: bool, whole: bytes = whole, is_lawful: Callable[[bytes | None], bool] = is_lawful) -> bool:
+            met = [answer for answer in got.left if answer != whole]
+            return got.status == DONE and len(got.left) == 2 and all(map(is_lawful, met)) and len(met) in ((1, 2) if more else (1,))
+
+        check(f"{title}: with all memory", go("").left == [whole] * 2)
+        Sweep(title, least, "accept4", go, lambda got: is_silent(got) and not got.left, after).run()
+
+
+# The client.
+
+
+def tells_why(got: Ended) -> bool:
+    """Standard error says that it was memory, and not that the file was no dumpdates file."""
+    return b"memory" in got.told and b"it is no dumpdates file\n" not in got.told
+
+
+FAULTS = ("OutOfMemory", "Refused 16")
+UNTOUCHED = Left({}, OLD_DATES, ["dates"])
+
+
+class Dump(NamedTuple):
+    """A dump of this payload, where the operator says `yes` so often."""
+
+    payload: Payload
+    yes: int
+
+    def go(self, p: Programs, rules: str) -> Ended:
+        return dumped(p, self.payload, b"yes\n" * self.yes, rules)
+
+    def left(self, counted: int, is_entered: bool) -> Left:
+        """What a dump leaves that counted so many volumes."""
+        reels = {f"r{number}": data for number, data in enumerate(self.payload.reels()[:counted], 1)}
+        return Left(reels, NEW_DATES if is_entered else OLD_DATES, ["dates"])
+
+    def is_right(self, got: Ended, more: bool) -> bool:
+        """It took a lawful course: what was counted is in the bin, and dumpdates has the run or is as it was. A refusal alone is one fault. Where the
+        server has not yet seen the end of the attempt that failed, it refuses the next one."""
+        went = course(self.payload, got.output, self.yes)
+        if went is None or got.status != went.status() or went.faults[:1] not in ((), ("OutOfMemory",)) or {*went.faults[1:]} - {*FAULTS}:
+            return False
+        refused = went.faults.count("OutOfMemory") + (went.end == "not entered")
+        told = went.end != "not entered" or tells_why(got)
+        return got.left == self.left(went.counted, went.end == "complete") and told and (refused >= 1 if more else refused == 1)
+
+    def before(self, got: Ended) -> bool:
+        """It did not start, and touched nothing. Or the start of an attempt failed, which has room for its count before it connects."""
+        if is_named(got):
+            return got.left == UNTOUCHED and b"it is no dumpdates file" not in got.told
+        return got.output.decode().startswith(FAILED_START) and self.is_right(got, got.status != DONE)
+
+    def refused_starts(self, title: str, came: list[Ended]) -> None:
+        """An attempt whose start is refused makes no connection: where the operator wants it the next one does, and else the dump is abandoned."""
+        unconnected = [it.output.decode() for it in came if it.output and not is_named(it) and "connect" not in it.calls]
+        abandoned = FAILED_START * (self.yes + 1) + f"{ABANDONED}\n"
+        check(f"{title}: a refused start is abandoned without a connection", {*unconnected} == {abandoned}, unconnected)
+        for yes in range(1, self.yes + 1):
+            whole = [it for it in came if it.output.decode() == FAILED_START * yes + self.payload.printed().decode()]
+            once = [it for it in whole if it.calls.count("connect") == len(self.payload.volumes)]
+            check(f"{title}: after a refused start the first connection is that of the next attempt", bool(once), len(whole))
+
+
+def dump(p: Programs) -> None:
+    """Dumps of no blocks and of three, that are entered, and an operator who tries again once, or does not."""
+    for it in (Dump(payload, yes) for payload in (NO_BLOCKS, THREE_BLOCKS) for yes in (0, 1)):
+        title = f"a dump of {it.payload.blocks} blocks, where the operator says yes {it.yes} times"
+        well = it.go(p, "")
+        wanted = DONE, it.payload.printed(), it.left(len(it.payload.volumes), True)
+        check(f"{title}: with all memory", well.seen() == wanted, well.shown())
+        came = Sweep(title, 160, "connect", lambda rules, it=it: it.go(p, rules), it.before, it.is_right).run()
+        it.refused_starts(title, came)
+
+
+def dates(p: Programs) -> None:
+    """A dumpdates file that is printed, and one that is asked for a base."""
+    with tempfile.NamedTemporaryFile() as file:
+        file.write(OLD_DATES)
+        file.flush()
+        for title, asked, least in (("dates", (), 60), ("dates with a name and a level", ("--name", "/usr", "--level", "2"), 60)):
+            words = (p.rdump, "dates", "--file", file.name, *asked)
+            Sweep(title, least, "nothing", lambda rules, words=words: p.run(words, rules), is_named, never).run()
+
+
+VOLUME = Payload(3, (3,))
+REEL = VOLUME.reels()[0]
+LABEL = REEL[4:1028].rstrip(b"\0")
+
+
+def over_a_volume(p: Programs, words: tuple[str, ...], rules: str) -> Ended:
+    """A command of the client at a reel with a volume. What is left are the reel, and the file that is written, if any."""
+    with folders(r1=REEL) as folder, serving(p.rmtd, folder) as address:
+        out = folder / "out"
+        filled = (it.format(out=out) for it in words)
+        got = p.run((p.rdump, *filled, "--to", address, "--device", DEVICE), rules)
+        return got._replace(left=(held(folder)[0]["r1"], out.read_bytes() if out.exists() else None))
+
+
+def read_is_right(got: Ended, more: bool) -> bool:
+    """It failed, which is told. What was read is a beginning of the volume, and the reel is as it was."""
+    reel, out = got.left
+    begun = LABEL.startswith(got.output) and VOLUME.data().startswith(out or b"")
+    return got.status == ABNORMAL and got.told != b"" and begun and reel == REEL
+
+
+def operation_is_right(got: Ended, more: bool) -> bool:
+    """It failed, which is told, and its answer is not. The reel is as it was, or has the mark."""
+    return got.status == ABNORMAL and got.told != b"" and got.output == b"" and got.left[0] in (REEL, images([None]))
+
+
+def other_commands(p: Programs) -> None:
+    """A volume that is read back, and operations, one of which writes. Memory that is refused for the talk with the server may end them as an answer
+    that does not come does."""
+    for title, words, least, after in (
+        ("a volume that is read", ("read", "--out", "{out}"), 100, read_is_right),
+        ("an operation", ("mt", "nop", "1"), 100, operation_is_right),
+        ("marks", ("mt", "weof", "1"), 100, operation_is_right),
+    ):
+        before = lambda got, after=after: is_named(got) and got.left == (REEL, None) or after(got, False)
+        Sweep(title, least, "connect", lambda rules, words=words: over_a_volume(p, words, rules), before, after).run()
+
+
+# The simulator.
+
+# The reply to the move of a reel is lost, and the volume is written once more.
+LOST_REPLY = """drive /dev/st0 3100 r1 r2 r3
+run /dev/st0 /usr 0 951782400 0 1024 3
+connect
+pump 1 7
+send
+to-server 1 all
+serve 1
+cut 1
+end-client 1
+end-server 1
+retry
+connect
+pump 2 9
+connect
+pump 3 9
+enter
+"""
+ENDED_ATTEMPT = "volume 1 failed: ConnectionEnded\n"
+# A request that is refused memory fails its attempt, and the line after that one finds the client asking.
+REFUSED_REQUESTS = (
+    "volume 1 failed: Refused 12\nline 5: not possible\n",
+    f"{ENDED_ATTEMPT}volume 1 failed: Refused 12\nline 14: not possible\n",
+    f"{ENDED_ATTEMPT}volume 2 failed: Refused 12\nline 16: not possible\n",
+)
+
+
+def simulator(p: Programs) -> None:
+    """A schedule: a line that is refused memory is named, and inside a request it is an answer, and no stop."""
+    lines = LOST_REPLY.count("\n")
+    with tempfile.NamedTemporaryFile("w") as file:
+        file.write(LOST_REPLY)
+        file.flush()
+
+        def after(got: Ended, more: bool) -> bool:
+            output = got.output.decode()
+            named = re.fullmatch(rf"(?:{ENDED_ATTEMPT})?line (\d+): out of memory\n", output)
+            if named:
+                return got.status == ABNORMAL and 1 <= int(named[1]) <= lines and (int(named[1]) > 9) == output.startswith(ENDED_ATTEMPT)
+            # Where the line that names it is refused too there is nothing to print it with.
+            if more and output in ("", ENDED_ATTEMPT):
+                return got.status == FAILED
+            return got.status == FAILED and output in REFUSED_REQUESTS
+
+        def go(rules: str) -> Ended:
+            return p.run((p.rsim, file.name), rules)
+
+        came = Sweep("a schedule", 60, "read", go, is_silent, after).run()
+        named = [int(it[1]) for it in (re.search(rb"line (\d+): out of memory", it.output) for it in came[::2]) if it]
+        check("a schedule: later requests are of later lines", named == sorted(named), named)
+        check("a schedule: nothing else is told", not [it for it in came if b"Error" in it.told], [it for it in came if b"Error" in it.told][:3])
+
+
+PARTS = (in_memory, over_a_folder, listener, dump, dates, other_commands, simulator)
+
+
+def main() -> int:
+    parser = argparse.ArgumentParser(description="Refuses each request for memory of the built programs.")
+    for name in ("rmtd", "rdump", "rsim"):
+        parser.add_argument(name, nargs="?", default=str(CRATES / f"{name}/out/{name}"))
+    asked = parser.parse_args()
+    began = time.monotonic()
+    with compiled() as shim:
+        p = Programs(*(os.path.abspath(getattr(asked, name)) for name in ("rmtd", "rdump", "rsim")), shim)
+        for part in PARTS:
+            part(p)
+    print(f"{time.monotonic() - began:.0f} seconds")
+    return ended()
+
+
+if __name__ == "__main__":
+    sys.exit(main())
