@@ -5,8 +5,8 @@ stopped, and with the program killed in it.
     faults.py [RMTD [RDUMP]]
 
 No output is foretold. What a server answers to a conversation, and what its folders hold then, have to be one lawful history (lawful.py): what a
-tape may do whose device failed, and no more. A dump takes a lawful course, and dumpdates is the old file or the new one. Where a fault has an outcome of its
-own, as a sync that failed has, or a full table of files, it has a part of its own here.
+tape may do whose device failed, and no more. A dump takes a lawful course, and dumpdates is the old file or the new one. Where a fault has an
+outcome of its own, as a sync that failed has, or a full table of files, it has a part of its own here.
 """
 
 from __future__ import annotations
