@@ -42,7 +42,7 @@ FAILED_START = f"volume 1 failed: OutOfMemory\n{ASKED}\n"
 
 class Sweep(NamedTuple):
     """A run of a program whose requests for memory are refused one after the other. `least` is how many were seen when this was written, less a
-    few that another compiler does without. `begins` is the call that reads the first request or begins the first attempt: `before` says whether
+    tenth, as compilers differ. `begins` is the call that reads the first request or begins the first attempt: `before` says whether
     what came is right where a request before it is refused, and `after` so for later ones, and whether all after them are refused too."""
 
     title: str
@@ -96,7 +96,7 @@ def refusals(output: bytes) -> int:
 
 def in_memory(p: Programs) -> None:
     """The drive in memory, whose reel takes memory to write."""
-    rows = (("a record and a mark", ROW, 20), ("a reel that is taken away", AWAY, 20))
+    rows = (("a record and a mark", ROW, 25), ("a reel that is taken away", AWAY, 23))
     for title, row, least in rows:
         history = History(row, empty("r"), NO_MEMORY, grows=True)
 
@@ -114,7 +114,7 @@ def in_memory(p: Programs) -> None:
 
 def over_a_folder(p: Programs) -> None:
     """A drive in a folder, whose reels take no memory to write."""
-    for title, row, least in (("a record and a mark, in a folder", ROW, 40), ("a reel that is taken away, in a folder", AWAY, 40)):
+    for title, row, least in (("a record and a mark, in a folder", ROW, 70), ("a reel that is taken away, in a folder", AWAY, 75)):
         history = History(row, empty("r1"), NO_MEMORY)
 
         def go(rules: str, row: bytes = row) -> Ended:
@@ -165,7 +165,7 @@ def listened(p: Programs, rules: str, folder: Path | None) -> Ended:
 
 def listener(p: Programs) -> None:
     """Connections: a refusal alone is met by one of them, and the other is served."""
-    for title, in_folder, least in (("connections at the drive in memory", False, 40), ("connections at a folder", True, 150)):
+    for title, in_folder, least in (("connections at the drive in memory", False, 45), ("connections at a folder", True, 245)):
         history = History(ROW, empty("r1"), NO_MEMORY, grows=not in_folder)
         whole = history.wanted()
 
@@ -244,7 +244,7 @@ def dump(p: Programs) -> None:
         well = it.go(p, "")
         wanted = DONE, it.payload.printed(), it.left(len(it.payload.volumes), True)
         check(f"{title}: with all memory", well.seen() == wanted, well.shown())
-        came = Sweep(title, 160, "connect", lambda rules, it=it: it.go(p, rules), it.before, it.is_right).run()
+        came = Sweep(title, 170, "connect", lambda rules, it=it: it.go(p, rules), it.before, it.is_right).run()
         it.refused_starts(title, came)
 
 
@@ -253,7 +253,7 @@ def dates(p: Programs) -> None:
     with tempfile.NamedTemporaryFile() as file:
         file.write(OLD_DATES)
         file.flush()
-        for title, asked, least in (("dates", (), 60), ("dates with a name and a level", ("--name", "/usr", "--level", "2"), 60)):
+        for title, asked, least in (("dates", (), 76), ("dates with a name and a level", ("--name", "/usr", "--level", "2"), 93)):
             words = (p.rdump, "dates", "--file", file.name, *asked)
             Sweep(title, least, "nothing", lambda rules, words=words: p.run(words, rules), is_named, never).run()
 
@@ -288,9 +288,9 @@ def other_commands(p: Programs) -> None:
     """A volume that is read back, and operations, one of which writes. Memory that is refused for the talk with the server may end them as an answer
     that does not come does."""
     for title, words, least, after in (
-        ("a volume that is read", ("read", "--out", "{out}"), 100, read_is_right),
-        ("an operation", ("mt", "nop", "1"), 100, operation_is_right),
-        ("marks", ("mt", "weof", "1"), 100, operation_is_right),
+        ("a volume that is read", ("read", "--out", "{out}"), 95, read_is_right),
+        ("an operation", ("mt", "nop", "1"), 95, operation_is_right),
+        ("marks", ("mt", "weof", "1"), 95, operation_is_right),
     ):
         before = lambda got, after=after: is_named(got) and got.left == (REEL, None) or after(got, False)
         Sweep(title, least, "connect", lambda rules, words=words: over_a_volume(p, words, rules), before, after).run()
@@ -345,7 +345,7 @@ def simulator(p: Programs) -> None:
         def go(rules: str) -> Ended:
             return p.run((p.rsim, file.name), rules)
 
-        came = Sweep("a schedule", 60, "read", go, is_silent, after).run()
+        came = Sweep("a schedule", 92, "read", go, is_silent, after).run()
         named = [int(it[1]) for it in (re.search(rb"line (\d+): out of memory", it.output) for it in came[::2]) if it]
         check("a schedule: later requests are of later lines", named == sorted(named), named)
         check("a schedule: nothing else is told", not [it for it in came if b"Error" in it.told], [it for it in came if b"Error" in it.told][:3])
