@@ -1,5 +1,5 @@
 -- What the words of `rdump` may ask. Public contracts cite it.
-use Rattle.std.specs.Prelude.{◌≡◌, ℕ, ◌≤◌, ◌<◌, ◌^◌, List, [], ◌++◌, Option, None, Some, IfSome, ⊤, codes}
+use Rattle.std.specs.Prelude.{◌≡◌, ◌⊎◌, ◌==◌, ℕ, ◌≤◌, ◌<◌, ◌^◌, List, ◌++◌, Option, None, Some, IfSome, ⊤, codes, length, position}
 use Rattle.std.specs.Str.Parse.{digits_value}
 use Rattle.rmt_wire.specs.Argument.{IsNumber}
 use Rattle.std.specs.Borrow.{Bor}
@@ -23,9 +23,21 @@ IsDatesAsked (Some (name, level)) = IsName name.now × (level ≤ 9)
 abbrev pub IsPort : List ℕ → Type 0
 IsPort text = IsNumber text × (digits_value 10 text < 2 ^ 16)
 
+-- a text within brackets
+abbrev pub IsBracketed : List ℕ → Type 0
+IsBracketed text = (inner : List ℕ) × (text ≡ codes "[" ++ (inner ++ codes "]"))
+
+-- a text that has a byte, and no colon
+abbrev pub HasNoColon : List ℕ → Type 0
+HasNoColon text = (position (λ b. b == 58) text ≡ None) × (0 < length text)
+
+-- a host has no colon, or stands in brackets, as an address of IPv6
+abbrev pub IsHost : List ℕ → Type 0
+IsHost text = HasNoColon text ⊎ IsBracketed text
+
 -- an address is a host, a colon and a port; a port has no colon, so that one is the last
 abbrev pub HasPort : List ℕ → Type 0
-HasPort address = (host : List ℕ) × (port : List ℕ) × (address ≡ host ++ (codes ":" ++ port)) × ¬ (host ≡ []) × IsPort port
+HasPort address = (host : List ℕ) × (port : List ℕ) × (address ≡ host ++ (codes ":" ++ port)) × IsHost host × IsPort port
 
 -- the numbers of a run are within what words can say
 abbrev pub IsDumpLine : DumpLine → Type 0
