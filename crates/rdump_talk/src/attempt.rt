@@ -7,6 +7,9 @@ use dump_client::{AttemptFault, Blocks, Client, Progress, StartFault, State};
 /// How many bytes are taken from a peer at once.
 const PIECE: usize = 4096;
 
+/// How many bytes a peer gives at the end of its connection.
+const NO_BYTES: usize = 0;
+
 /// What came of an attempt.
 #[derive(Clone, Copy)]
 pub(crate) enum Attempted {
@@ -127,7 +130,7 @@ fn hear<B: Blocks, P: Peer>(client: &mut Client<B>, peer: &mut P) -> Progress
 {
     let mut piece = [0; PIECE];
     let count = peer.receive(&mut piece);
-    if count == 0 {
+    if count == NO_BYTES {
         return client.ended();
     }
     client.feed(&piece[..count])

@@ -2,20 +2,22 @@
 ghost use Rattle.std.specs.Prelude.{◌≤◌, IfOk, length};
 
 use crate::Peer;
+use dump_client::AttemptFault;
 use std::io::{self, ErrorKind, Read, Write};
 use std::net::{Net, OpenStream, TcpStream};
 use std::rt::Clock;
 use std::thread;
 use std::time::Duration;
 
-/// How long a connection waits after one that gave nothing, in seconds.
+/// How long a connection waits after failed ones, in seconds.
 const PAUSE_SECONDS: u64 = 1;
 
 /// A peer over TCP, at an address: a host and a port. It tells nothing.
 ///
-/// Each connection sends its bytes at once: a request, or a piece of one, waits for no reply to what went before. After a
-/// connection that could not be made, or that ended before a byte came, the next one waits for a second, so that who asks
-/// for it again and again leaves the server alone.
+/// Each connection sends its bytes at once: a request, or a piece of one, waits for no reply to what went before. The next
+/// one waits for a second after a connection that could not be made, or that ended before a byte came, and after two in a
+/// row over which an attempt failed: so who asks for it again and again leaves the server alone, and who answers a first
+/// failure does not wait.
 #[derive(Drop)]
 pub struct SocketPeer<'a, R: Net + Clock> {
     runtime: &'a R,
@@ -23,6 +25,8 @@ pub struct SocketPeer<'a, R: Net + Clock> {
     stream: Option<R::Stream>,
     failure: Option<io::Error>,
     was_silent: bool,
+    has_failed: bool,
+    has_failed_before: bool,
 }
 
 impl<'a, R: Net + Clock> SocketPeer<'a, R> {
@@ -34,6 +38,8 @@ impl<'a, R: Net + Clock> SocketPeer<'a, R> {
             stream: None,
             failure: None,
             was_silent: false,
+            has_failed: false,
+            has_failed_before: false,
         }
     }
 
@@ -49,9 +55,9 @@ impl<'a, R: Net + Clock> SocketPeer<'a, R> {
         Ok(stream)
     }
 
-    /// Waits, where the latest connection gave nothing.
+    /// Waits, where the latest connection gave nothing, and where attempts failed over it and over the one before.
     fn pause(&self) {
-        if self.was_silent {
+        if self.was_silent || (self.has_failed && self.has_failed_before) {
             thread::sleep(self.runtime, Duration::from_secs(PAUSE_SECONDS));
         }
     }
@@ -91,6 +97,8 @@ impl<'a, R: Net + Clock> Peer for SocketPeer<'a, R> {
     fn connect(&mut self) -> bool {
         self.pause();
         self.was_silent = true;
+        self.has_failed_before = self.has_failed;
+        self.has_failed = false;
         let opened = self.open();
         self.stream = self.keep(opened);
         self.stream.is_some()
@@ -122,5 +130,9 @@ impl<'a, R: Net + Clock> Peer for SocketPeer<'a, R> {
 
     fn hang_up(&mut self) {
         self.stream = None;
+    }
+
+    fn attempt_failed(&mut self, _fault: AttemptFault) {
+        self.has_failed = true;
     }
 }
