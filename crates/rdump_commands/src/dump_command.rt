@@ -7,13 +7,13 @@ use crate::{System, run_client};
 use dumpdates::DatesFault;
 use file_medium::FileMedium;
 use rdump_files::{
-    DumperFault, PayloadFile, ProgressLine, base_date, date_text, dumper, read_or_empty,
-    read_steady, seconds_now,
+    DumperFault, PayloadFile, ProgressLine, ReplacedFile, base_date, date_text, dumper,
+    read_or_empty, read_steady, seconds_now,
 };
 use rdump_words::DumpLine;
 use rmt_wire::Counted;
 use std::fs::{File, Metadata};
-use std::io::{self, Write};
+use std::io::{self, ErrorKind, Write};
 use std::os::unix::fs::FileTypeExt;
 use tape::{Medium, MediumFailed, MemoryMedium};
 
@@ -114,24 +114,54 @@ fn dump_at<R: System, M: Medium + Drop, T: Write + Copy + Drop>(
 {
     let gauge = terminal.map(|it| ProgressLine::new(rt, it));
     match dumper(rt.alloc(), line, date, since, payload, gauge) {
-        Ok(mut client) => {
-            if terminal.is_some() {
-                tell_since(rt, since);
-            }
-            run_client(rt, line, &mut client, terminal)
-        }
+        Ok(mut client) => match tell_first(rt, line, since, terminal.is_some()) {
+            Ok(()) => run_client(rt, line, &mut client, terminal),
+            Err(error) => tell(rt, line.dumpdates, error),
+        },
         Err(DumperFault::Run(fault)) => refuse_run(rt, line, date, fault),
         Err(DumperFault::OutOfMemory) => tell_no_memory(rt),
     }
 }
 
-/// Tells from which date on a block counts as new.
-fn tell_since<R: System>(rt: &R, since: u64) {
+/// Tells what is known before the first attempt: at a terminal the base date, and where the dump could not be entered now, why.
+///
+/// It fails only where memory is refused.
+fn tell_first<R: System>(
+    rt: &R,
+    line: &DumpLine<'_>,
+    since: u64,
+    is_at_terminal: bool,
+) -> io::Result<()> {
+    if is_at_terminal {
+        tell_since(rt, since)?;
+    }
+    if line.update {
+        warn(rt, line.dumpdates)?;
+    }
+    Ok(())
+}
+
+/// Tells from which date on a block counts as new. It fails only where memory is refused: each date of an entry has a text.
+fn tell_since<R: System>(rt: &R, since: u64) -> io::Result<()> {
     if since == 0 {
         let _ = eprintln!(rt; "since the epoch: every block counts as new");
-        return;
+        return Ok(());
     }
-    if let Some(date) = date_text(rt.alloc(), since) {
-        let _ = eprintln!(rt; "since {date}");
+    let Some(date) = date_text(rt.alloc(), since) else {
+        return Err(io::Error::from(ErrorKind::OutOfMemory));
+    };
+    let _ = eprintln!(rt; "since {date}");
+    Ok(())
+}
+
+/// Tells why a dumpdates file can't be written, if it can't. It fails only where memory is refused.
+fn warn<R: System>(rt: &R, dumpdates: &str) -> io::Result<()> {
+    match ReplacedFile::new(rt, rt.alloc(), dumpdates).find_fault() {
+        None => Ok(()),
+        Some(error) if error.kind() == ErrorKind::OutOfMemory => Err(error),
+        Some(error) => {
+            let _ = eprintln!(rt; "rdump: {dumpdates}: {error}: the dump can't be entered");
+            Ok(())
+        }
     }
 }

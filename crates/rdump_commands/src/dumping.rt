@@ -3,10 +3,11 @@ ghost use Rattle.rdump_commands.specs.Status.{IsDumpStatus};
 
 use crate::System;
 use crate::asking::Asking;
-use crate::fault::{ABNORMAL, ended, tell_failed};
+use crate::fault::ended;
 use crate::told_peer::ToldPeer;
 use dump_client::{Blocks, Client};
-use rdump_files::{Clearing, ReplacedFile, dump_and_update};
+use dumpdates::DatesFault;
+use rdump_files::{Clearing, ReplacedFile, UpdateFault, dump_and_update};
 use rdump_talk::{Peer, dump};
 use rdump_words::DumpLine;
 use rmt_wire::Counted;
@@ -54,8 +55,8 @@ fn dump_over<R: System, B: Blocks, P: Peer, I: Read, W: Write>(
     }
 }
 
-/// Has a client dump, enters the dump in a dumpdates file where it is complete, and answers the status. Where the dump could not be
-/// entered now, that is told before.
+/// Has a client dump, enters the dump in a dumpdates file where it is complete, and answers the status. Why it was not entered is
+/// told.
 fn dump_entered<R: System, B: Blocks, P: Peer, I: Read, W: Write>(
     rt: &R,
     dumpdates: &str,
@@ -67,25 +68,26 @@ fn dump_entered<R: System, B: Blocks, P: Peer, I: Read, W: Write>(
     ensures { IsDumpStatus client.new.at result }
 {
     let mut file = ReplacedFile::new(rt, rt.alloc(), dumpdates);
-    warn(rt, dumpdates, file.find_fault());
-    let status = dump_and_update(rt.alloc(), client, peer, operator, out, &mut file);
-    match file.failure() {
-        Some(error) => tell_failed(rt, dumpdates, error, status),
-        None => {
-            // The dump is complete and told of: only the text of the file can be at fault.
-            if status == ABNORMAL && client.finished().is_some() && out.failures() == 0 {
-                let _ = eprintln!(rt;
-                    "rdump: {dumpdates}: it is no dumpdates file, or memory was refused"
-                );
-            }
-            status
-        }
+    let end = dump_and_update(rt.alloc(), client, peer, operator, out, &mut file);
+    if let Some(fault) = end.fault {
+        tell_unentered(rt, dumpdates, fault, file.failure());
     }
+    end.status
 }
 
-/// Tells that a dumpdates file can't be written, if there is a reason.
-fn warn<R: System>(rt: &R, dumpdates: &str, fault: Option<io::Error>) {
-    if let Some(error) = fault {
-        let _ = eprintln!(rt; "rdump: {dumpdates}: {error}: the dump can't be entered");
-    }
+/// Tells why a dump was not entered in a dumpdates file: by the system's reason where the file failed.
+fn tell_unentered<R: Eprint>(
+    rt: &R,
+    dumpdates: &str,
+    fault: UpdateFault,
+    failure: Option<&io::Error>,
+) {
+    let _ = match (fault, failure) {
+        (UpdateFault::Dates(DatesFault::OutOfMemory), _) => {
+            eprintln!(rt; "rdump: {dumpdates}: out of memory")
+        }
+        (UpdateFault::Dates(_), _) => eprintln!(rt; "rdump: {dumpdates}: it is no dumpdates file"),
+        (_, Some(error)) => eprintln!(rt; "rdump: {dumpdates}: {error}"),
+        (_, None) => eprintln!(rt; "rdump: {dumpdates}: it could not be read or replaced"),
+    };
 }

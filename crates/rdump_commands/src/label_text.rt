@@ -1,5 +1,4 @@
 //! The text of the label of a volume that is read back.
-use std::alloc::Global;
 use std::io::{self, Write};
 
 /// What the lines of a label begin with, in order.
@@ -7,42 +6,40 @@ static WORDS: [&[u8]; 6] = [
     b"name ", b"level ", b"date ", b"since ", b"volume ", b"first ",
 ];
 
-/// Where the text of a label goes, by one write. It is kept.
+/// Where the text of a label goes, by one write. What it is, is kept.
 #[derive(Drop)]
 pub(crate) struct LabelText<W> {
     out: W,
-    alloc: Global,
-    text: Option<Vec<u8>>,
+    has_come: bool,
+    is_label: bool,
 }
 
 impl<W: Write> LabelText<W> {
     /// Where no text went so far.
-    pub(crate) fn new(alloc: Global, out: W) -> Self {
+    pub(crate) fn new(out: W) -> Self {
         LabelText {
             out,
-            alloc,
-            text: None,
+            has_come: false,
+            is_label: false,
         }
     }
 
     /// Whether a text came.
     pub(crate) fn has_come(&self) -> bool {
-        self.text.is_some()
+        self.has_come
     }
 
     /// Whether the text is that of a label of `rdump`.
     pub(crate) fn is_label(&self) -> bool {
-        match &self.text {
-            Some(text) => has_words(text),
-            None => false,
-        }
+        self.is_label
     }
 }
 
 impl<W: Write> Write for LabelText<W> {
     /// It takes all of the text.
     fn write(&mut self, buf: &[u8]) -> io::Result<usize> {
-        self.text = Some(Vec::from_slice(self.alloc, buf)?);
+        self.has_come = true;
+        self.is_label = has_words(buf);
         self.out.write_all(buf)?;
         Ok(buf.len())
     }

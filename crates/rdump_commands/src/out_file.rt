@@ -1,7 +1,10 @@
 //! The file that a volume is read back into.
+use rdump_files::named_file;
+use std::alloc::Global;
 use std::fs::{self, File, OpenOptions, TryLockError};
 use std::io::{self, ErrorKind, Write};
 use std::os::unix::fs::MetadataExt;
+use std::path::PathBuf;
 use std::rt::Files;
 
 /// So often the file is opened at most, where others remove it each time before it is locked.
@@ -39,7 +42,7 @@ impl BlockSizes {
 #[derive(Drop)]
 pub(crate) struct OutFile {
     file: File,
-    is_new: bool,
+    made: Option<PathBuf>,
     is_plain: bool,
     has_begun: bool,
     sizes: BlockSizes,
@@ -49,22 +52,28 @@ pub(crate) struct OutFile {
 impl OutFile {
     /// Opens the file at this path, and makes it where it is not there. It holds what it held.
     ///
-    /// Answers the system's error, or `WouldBlock` where another run has it.
-    pub(crate) fn open<R: Files<File = File>>(rt: &R, path: &str) -> io::Result<OutFile> {
+    /// Answers the system's error, `OutOfMemory`, or `WouldBlock` where another run has it.
+    pub(crate) fn open<R: Files<File = File>>(
+        rt: &R,
+        alloc: Global,
+        path: &str,
+    ) -> io::Result<OutFile> {
         for _ in 0..MOST_TRIES {
-            let (file, is_new) = open_or_make(rt, path)?;
+            let Some((file, made)) = open_or_make(rt, alloc, path)? else {
+                continue;
+            };
             let is_plain = file.metadata()?.is_file();
             if !is_plain || lock(rt, path, &file)? {
-                return Ok(OutFile::of(file, is_new, is_plain));
+                return Ok(OutFile::of(file, made, is_plain));
             }
         }
         Err(taken())
     }
 
-    fn of(file: File, is_new: bool, is_plain: bool) -> OutFile {
+    fn of(file: File, made: Option<PathBuf>, is_plain: bool) -> OutFile {
         OutFile {
             file,
-            is_new,
+            made,
             is_plain,
             has_begun: false,
             sizes: BlockSizes {
@@ -99,9 +108,13 @@ impl OutFile {
         }
     }
 
-    /// Removes the file, if this run made it, no volume has begun, and it is still at this path.
-    pub(crate) fn end<R: Files<File = File>>(self, rt: &R, path: &str) {
-        if self.is_new && !self.has_begun && is_at(rt, path, &self.file).unwrap_or(false) {
+    /// Removes the file, if this run made it, no volume has begun, and it is still where it was made.
+    pub(crate) fn end<R: Files<File = File>>(self, rt: &R) {
+        let Some(path) = &self.made else {
+            return;
+        };
+        let path = path.as_path().as_str();
+        if !self.has_begun && is_at(rt, path, &self.file).unwrap_or(false) {
             let _ = fs::remove_file(rt, path);
         }
     }
@@ -140,14 +153,28 @@ impl Write for OutFile {
     }
 }
 
-/// Opens the file at this path to write, and makes it where it is not there. Whether this run made it is said too.
-fn open_or_make<R: Files<File = File>>(rt: &R, path: &str) -> io::Result<(File, bool)> {
-    match File::create_new(rt, path) {
-        Ok(file) => Ok((file, true)),
-        Err(error) if error.kind() == ErrorKind::AlreadyExists => {
-            let file = OpenOptions::new().write(true).create(true).open(rt, path)?;
-            Ok((file, false))
-        }
+/// A file that was opened, and where this run made it, if it did.
+type Opened = (File, Option<PathBuf>);
+
+/// Opens the file at this path to write, and makes it where it is not there. None where another run made it meanwhile.
+fn open_or_make<R: Files<File = File>>(
+    rt: &R,
+    alloc: Global,
+    path: &str,
+) -> io::Result<Option<Opened>> {
+    match OpenOptions::new().write(true).open(rt, path) {
+        Ok(file) => Ok(Some((file, None))),
+        Err(error) if error.kind() == ErrorKind::NotFound => make(rt, alloc, path),
+        Err(error) => Err(error),
+    }
+}
+
+/// Makes the file at this path: where a link to nothing is there, the file that it leads to. None where it is there by now.
+fn make<R: Files<File = File>>(rt: &R, alloc: Global, path: &str) -> io::Result<Option<Opened>> {
+    let named = named_file(rt, alloc, path)?;
+    match File::create_new(rt, &named) {
+        Ok(file) => Ok(Some((file, Some(named)))),
+        Err(error) if error.kind() == ErrorKind::AlreadyExists => Ok(None),
         Err(error) => Err(error),
     }
 }

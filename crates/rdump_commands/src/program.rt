@@ -28,9 +28,13 @@ pub fn rdump<R: System, T: Write + Copy + Drop>(rt: &R, terminal: Option<T>) -> 
     }
 }
 
-/// The words of the process, its own name first.
+/// The words of the process, its own name first. Each growth that is refused is answered.
 fn words<R: System>(rt: &R) -> io::Result<Vec<String>> {
-    Ok(env::args(rt)?.collect(rt.alloc())?)
+    let mut words = Vec::new(rt.alloc());
+    for word in env::args(rt)? {
+        words.push(word)?;
+    }
+    Ok(words)
 }
 
 /// Does what these words ask, of which the first is the name of the program itself, and answers the status, both as `rdump`

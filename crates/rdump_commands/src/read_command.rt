@@ -25,7 +25,7 @@ pub fn run_read<R: System>(rt: &R, line: ReadLine<'_>) -> u8
     requires { IsReadLine line }
     ensures { IsStatus result }
 {
-    match OutFile::open(rt, line.out) {
+    match OutFile::open(rt, rt.alloc(), line.out) {
         Ok(file) => read_into(rt, line, file),
         Err(error) => tell(rt, line.out, error),
     }
@@ -38,7 +38,7 @@ fn read_into<R: System>(rt: &R, line: ReadLine<'_>, file: OutFile) -> u8
 {
     let mut peer = SocketPeer::new(rt, line.to);
     let mut file = Counted::new(file);
-    let mut out = Counted::new(LabelText::new(rt.alloc(), io::writer(rt)));
+    let mut out = Counted::new(LabelText::new(io::writer(rt)));
     let device = line.device.as_bytes();
     let read = copy_volume(rt.alloc(), &mut peer, device, &mut file, &mut out);
     let file = tell_volume(rt, file.into_inner(), &out.into_inner(), read.is_ok());
@@ -47,7 +47,7 @@ fn read_into<R: System>(rt: &R, line: ReadLine<'_>, file: OutFile) -> u8
         (_, Some(error)) => tell_failed(rt, line.out, error, ABNORMAL),
         (Err(fault), None) => tell_read(rt, line.to, fault, peer.failure()),
     };
-    file.end(rt, line.out);
+    file.end(rt);
     status
 }
 

@@ -56,6 +56,7 @@ impl<'a, R: System, T: Write> Peer for ToldPeer<'a, R, T> {
     }
 
     fn attempt_failed(&mut self, fault: AttemptFault) {
+        self.socket.attempt_failed(fault);
         match fault {
             AttemptFault::ConnectionEnded => {
                 self.clear();

@@ -10,10 +10,11 @@ use Rattle.dump_client.specs.declared.count.VolumeCount.{VolumeCount}
 use Rattle.dump_client.specs.declared.stage.Stage.{Stage}
 use Rattle.dump_client.specs.declared.stage.Stage.TheVariants.{Finished}
 use Rattle.rdump_talk.specs.Lines.{IsDumped, IsLast}
-use Rattle.rdump_files.specs.Entering.{dates_entry_of, sinks, IsUpdateTold, IsDumpEntered}
+use Rattle.rdump_files.specs.Entering.{dates_entry_of, sinks, IsUncaused, IsUpdateTold, IsDumpEntered}
 use Rattle.rdump_files.specs.Updating.{IsUpdated}
 use Rattle.rdump_files.specs.WholeFile.{WholeFileKind}
 use Rattle.rdump_files.specs.declared.dates_update.UpdateFault.{UpdateFault}
+use Rattle.rdump_files.specs.declared.dump_update.DumpEnd.{DumpEnd}
 
 -- a dump that ended with 0 is finished
 finished_at : (whole : Bool) (at : Standing) (last : List ℕ) → IsLast whole at last 0 → at.stage ≡ Finished
@@ -28,16 +29,16 @@ entry_told stage run entry e t = let told : TellsEntry Finished run (Some entry)
 module _ {W F : Type 0} {contents : W → Option (List ℕ)} {k : WholeFileKind F} {first : List VolumeCount} {at : Standing}
     {out told : Counting W} where
   -- after another status than 0 the file is left alone
-  pub left_alone : (file : F) (ended : ℕ) → 0 < ended → IsDumped contents first at out told ended
-      → IsDumpEntered contents k first at (sinks out file) (sinks told file) ended
-  left_alone file ended some d =
-      record { told = told; ended = ended; dumped = d; left = λ _. (refl, refl); enters = λ none. absurd (omega (arith, some, none)) }
+  pub left_alone : (file : F) (ended : ℕ) (end : DumpEnd) → 0 < ended → IsDumped contents first at out told ended → IsUncaused end ended
+      → IsDumpEntered contents k first at (sinks out file) (sinks told file) end
+  left_alone file ended end some d u =
+      record { told = told; ended = ended; dumped = d; left = λ _. (refl, u); enters = λ none. absurd (omega (arith, some, none)) }
 
   -- after 0 the run's entry is put into the file
-  pub entered_after : (ended : ℕ) (entry : Entry) {old new : F} {out' : Counting W} {status : ℕ} (result : Result Unit UpdateFault)
+  pub entered_after : (ended : ℕ) (entry : Entry) {old new : F} {out' : Counting W} {end : DumpEnd} (result : Result Unit UpdateFault)
       → ended ≡ 0 → IsDumped contents first at out told ended → TellsEntry at.stage at.run (Some entry)
-      → IsUpdated k (plain_entry entry) old new result → IsUpdateTold contents result told out' status
-      → IsDumpEntered contents k first at (sinks out old) (sinks out' new) status
+      → IsUpdated k (plain_entry entry) old new result → IsUpdateTold contents result told out' end
+      → IsDumpEntered contents k first at (sinks out old) (sinks out' new) end
   entered_after ended entry {old} {new} result e d t u l =
       let finished = finished_at d.whole at d.last (subst (λ n. IsLast d.whole at d.last n) e d.ends) in
       let same = entry_told at.stage at.run entry finished t in

@@ -1,5 +1,5 @@
 -- A dump that is entered in a dumpdates file once it is complete. Public contracts cite it.
-use Rattle.std.specs.Prelude.{◌≡◌, ◌≢◌, ℕ, Bool, List, Option, Result, Ok, Err, codes}
+use Rattle.std.specs.Prelude.{◌≡◌, ◌≢◌, ℕ, Bool, List, Option, None, Some, Result, Ok, Err, codes}
 use Rattle.rmt_wire.specs.Counted.{Counting}
 use Rattle.rmt_wire.specs.Print.{IsPrinted}
 use Rattle.dumpdates.specs.Entry.{DatesEntry}
@@ -11,16 +11,21 @@ use Rattle.rdump_talk.specs.Lines.{IsDumped}
 use Rattle.rdump_files.specs.Updating.{IsUpdated}
 use Rattle.rdump_files.specs.WholeFile.{WholeFileKind}
 use Rattle.rdump_files.specs.declared.dates_update.UpdateFault.{UpdateFault}
+use Rattle.rdump_files.specs.declared.dump_update.DumpEnd.{DumpEnd}
 
 -- the entry of a run
 abbrev pub dates_entry_of : PlainRun → DatesEntry
 dates_entry_of run = record { name = run.name; level = run.level; date = run.date }
 
--- the status, and the line where the dump was not entered
-abbrev pub IsUpdateTold : {W : Type 0} → (W → Option (List ℕ)) → Result Unit UpdateFault → Counting W → Counting W → ℕ → Type 0
-IsUpdateTold contents (Ok x) out out' status = (out' ≡ out) × (status ≡ 0)
-IsUpdateTold contents (Err fault) out out' status =
-    ((whole : Bool) × IsPrinted contents (codes "dumpdates not updated\n") out out' whole) × (status ≡ 3)
+-- an end with this status, and no cause
+abbrev pub IsUncaused : DumpEnd → ℕ → Type 0
+IsUncaused end status = (end.status ≡ status) × (end.fault ≡ None)
+
+-- the status; and where the dump was not entered the line, and the cause
+abbrev pub IsUpdateTold : {W : Type 0} → (W → Option (List ℕ)) → Result Unit UpdateFault → Counting W → Counting W → DumpEnd → Type 0
+IsUpdateTold contents (Ok x) out out' end = (out' ≡ out) × IsUncaused end 0
+IsUpdateTold contents (Err fault) out out' end =
+    ((whole : Bool) × IsPrinted contents (codes "dumpdates not updated\n") out out' whole) × (end.status ≡ 3) × (end.fault ≡ Some fault)
 
 -- where the lines of a dump go, and the dumpdates file that it is entered in
 pub record DumpSinks (W F : Type 0) : Type 0 where
@@ -30,13 +35,13 @@ pub record DumpSinks (W F : Type 0) : Type 0 where
 abbrev pub sinks : {W F : Type 0} → Counting W → F → DumpSinks W F
 sinks out file = record { out = out; file = file }
 
--- A dump, and then its entry. A dump that ends with another status than 0 leaves the file alone. After 0, which says that the run is
--- finished and all was printed, its entry is put into the file.
+-- A dump, and then its entry. A dump that ends with another status than 0 leaves the file alone, and has no cause. After 0, which says
+-- that the run is finished and all was printed, its entry is put into the file.
 pub record IsDumpEntered {W F : Type 0} (contents : W → Option (List ℕ)) (k : WholeFileKind F) (first : List VolumeCount)
-    (at : Standing) (old new : DumpSinks W F) (status : ℕ) : Type 0 where
+    (at : Standing) (old new : DumpSinks W F) (end : DumpEnd) : Type 0 where
   pub told : Counting W
   pub ended : ℕ
   pub dumped : IsDumped contents first at old.out told ended
-  pub left : ended ≢ 0 → (new ≡ sinks told old.file) × (status ≡ ended)
+  pub left : ended ≢ 0 → (new ≡ sinks told old.file) × IsUncaused end ended
   pub enters : ended ≡ 0 → (at.stage ≡ Finished) × ((result : Result Unit UpdateFault)
-      × IsUpdated k (dates_entry_of at.run) old.file new.file result × IsUpdateTold contents result told new.out status)
+      × IsUpdated k (dates_entry_of at.run) old.file new.file result × IsUpdateTold contents result told new.out end)

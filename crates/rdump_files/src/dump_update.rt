@@ -1,4 +1,5 @@
 //! A dump that is entered in a dumpdates file once it is complete.
+ghost use Rattle.std.specs.Prelude.{◌≡◌, None};
 ghost use Rattle.rdump_files.specs.Entering.{IsDumpEntered, IsUpdateTold, sinks};
 ghost use Rattle.rdump_files.specs.WholeFile.{whole_file};
 
@@ -9,6 +10,15 @@ use rmt_wire::{Counted, print_text};
 use std::alloc::Global;
 use std::io::{Read, Write};
 
+/// How a dump ended that was to be entered.
+#[derive(Clone, Copy)]
+pub struct DumpEnd {
+    /// The exit status.
+    pub status: u8,
+    /// Why a dump that is complete was not entered, if it was not.
+    pub fault: Option<UpdateFault>,
+}
+
 /// The status of a dump that is complete.
 const COMPLETE: u8 = 0;
 
@@ -18,8 +28,8 @@ const ABNORMAL: u8 = 3;
 /// Has a client write its run over a peer, as `dump` does, and enters it in a dumpdates file once it is complete and
 /// `dump complete` is printed. Where it can't be entered it prints `dumpdates not updated`.
 ///
-/// Answers the exit status: 0 where the run is finished, all was printed and the run is entered, and else 3. The file is
-/// read and replaced in no other run than one that is finished and told of.
+/// Answers the exit status: 0 where the run is finished, all was printed and the run is entered, and else 3; and why a run
+/// that is finished and told of was not entered. The file is read and replaced in no other run than such a one.
 pub fn dump_and_update<B: Blocks, P: Peer, R: Read, W: Write, F: WholeFile>(
     alloc: Global,
     client: &mut Client<B>,
@@ -27,30 +37,43 @@ pub fn dump_and_update<B: Blocks, P: Peer, R: Read, W: Write, F: WholeFile>(
     operator: &mut R,
     out: &mut Counted<W>,
     file: &mut F,
-) -> u8
+) -> DumpEnd
     ensures { IsDumpEntered W.contents (whole_file F.gives F.takes) client.old.at.counts client.new.at
         (sinks out.old file.old) (sinks out.new file.new) result }
 {
     let status = dump(alloc, client, peer, operator, out);
     if status != COMPLETE {
-        return status;
+        return unentered(status);
     }
     let Some(entry) = client.finished() else {
-        return ABNORMAL;
+        return unentered(ABNORMAL);
     };
     let updated = update(alloc, file, entry);
     tell(updated, out)
 }
 
-/// Tells of a dump that is complete and was not entered, and answers the status.
-fn tell<W: Write>(updated: Result<(), UpdateFault>, out: &mut Counted<W>) -> u8
+/// The end of a dump that was not to be entered.
+fn unentered(status: u8) -> DumpEnd
+    ensures { (result.status ≡ status) × (result.fault ≡ None) }
+{
+    DumpEnd {
+        status,
+        fault: None,
+    }
+}
+
+/// Tells of a dump that is complete and was not entered, and answers its end.
+fn tell<W: Write>(updated: Result<(), UpdateFault>, out: &mut Counted<W>) -> DumpEnd
     ensures { IsUpdateTold W.contents updated out.old out.new result }
 {
     match updated {
-        Ok(()) => COMPLETE,
-        Err(_) => {
+        Ok(()) => unentered(COMPLETE),
+        Err(fault) => {
             print_text(out, b"dumpdates not updated\n");
-            ABNORMAL
+            DumpEnd {
+                status: ABNORMAL,
+                fault: Some(fault),
+            }
         }
     }
 }

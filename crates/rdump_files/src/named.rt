@@ -10,11 +10,10 @@ use std::rt::Files;
 const MOST_LINKS: u32 = 40;
 
 /// The path of the plain file that this path names: where it is a link, of what that leads to in the end. Nothing need be there.
-pub(crate) fn named_file<R: Files<File = File>>(
-    rt: &R,
-    alloc: Global,
-    path: &str,
-) -> io::Result<PathBuf> {
+///
+/// It fails where something else than a plain file is there, where links lead round, where a folder can't be read, and where memory
+/// is refused.
+pub fn named_file<R: Files<File = File>>(rt: &R, alloc: Global, path: &str) -> io::Result<PathBuf> {
     let mut named = PathBuf::from_str(alloc, path)?;
     for _ in 0..MOST_LINKS {
         match fs::symlink_metadata(rt, &named) {

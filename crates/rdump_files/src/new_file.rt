@@ -20,7 +20,7 @@ const BETWEEN_MILLIS: u64 = 5;
 /// A new file that is to replace another: it has that one's name with `.new` after it, and lies in the same folder.
 ///
 /// This run made it, and has its advisory lock: no other run has one of that name meanwhile. It is gone where this is dropped before
-/// it was put in place.
+/// it was put in place; what else has its name by then stays.
 pub(crate) struct NewFile<'a, R: Files<File = File>> {
     rt: &'a R,
     named: PathBuf,
@@ -35,11 +35,11 @@ impl<R: Files<File = File>> Drop for NewFile<'_, R> {
             rt,
             named: _,
             path,
-            file: _file,
+            file,
             placed,
         } = self;
         if !placed {
-            let _ = fs::remove_file(rt, path.as_str());
+            take_back(rt, path.as_str(), &file);
         }
     }
 }
@@ -93,7 +93,7 @@ impl<'a, R: Files<File = File> + Clock> NewFile<'a, R> {
             })),
             Ok(false) => Ok(None),
             Err(error) => {
-                let _ = fs::remove_file(rt, path.as_str());
+                take_back(rt, path.as_str(), &file);
                 Err(error)
             }
         }
@@ -150,14 +150,15 @@ fn beside(alloc: Global, named: &PathBuf) -> io::Result<String> {
     Ok(format!(in alloc; "{old}.new")?)
 }
 
-/// An error at the new file. Where the system tells the reason, that one's name stands before it.
+/// An error at the new file. Where the system tells the reason, that one's name stands before it. Memory for that can be refused, which is
+/// the error then.
 fn of_new(alloc: Global, error: io::Error) -> io::Error {
     if error.raw_os_error().is_none() {
         return error;
     }
     match format!(in alloc; "its .new: {error}") {
         Ok(words) => io::Error::new(error.kind(), words.as_str()),
-        Err(_) => error,
+        Err(refused) => refused.into(),
     }
 }
 
@@ -215,10 +216,22 @@ fn lock<R: Files<File = File>>(rt: &R, path: &str, file: &File) -> io::Result<bo
         Err(TryLockError::WouldBlock) => return Ok(false),
         Err(TryLockError::Error(error)) => return Err(error),
     }
-    let locked = file.metadata()?;
+    has_name(rt, path, file)
+}
+
+/// Whether a file has this name: another may have it by now, or none.
+fn has_name<R: Files<File = File>>(rt: &R, path: &str, file: &File) -> io::Result<bool> {
+    let opened = file.metadata()?;
     match found_at(rt, path)? {
-        Some(found) => Ok(found.dev() == locked.dev() && found.ino() == locked.ino()),
+        Some(found) => Ok(found.dev() == opened.dev() && found.ino() == opened.ino()),
         None => Ok(false),
+    }
+}
+
+/// Takes away a new file that this run made, if it still has its name.
+fn take_back<R: Files<File = File>>(rt: &R, path: &str, file: &File) {
+    if has_name(rt, path, file).unwrap_or(false) {
+        let _ = fs::remove_file(rt, path);
     }
 }
 

@@ -8,9 +8,9 @@ pub use hold_table::{HoldSeat, HoldTable, TableHand};
 pub use memory_peer::MemoryPeer;
 pub use rdump_commands::{rdump, run_client, run_dates, run_dump, run_mt, run_read, run_words};
 pub use rdump_files::{
-    Clearing, DumperFault, FileFailed, Gauge, PayloadFile, ProgressLine, ReplacedFile, Shown,
-    UpdateFault, WholeFile, base_date, date_text, dates, dump_and_update, dumper, read_or_empty,
-    read_steady, seconds_now, update,
+    Clearing, DumpEnd, DumperFault, FileFailed, Gauge, PayloadFile, ProgressLine, ReplacedFile,
+    Shown, UpdateFault, WholeFile, base_date, date_text, dates, dump_and_update, dumper,
+    named_file, read_or_empty, read_steady, seconds_now, update,
 };
 pub use rdump_talk::{
     Passed, Peer, ReadFault, SocketPeer, VolumeRequest, copy_volume, dump, failure_line, mt,
