@@ -20,7 +20,11 @@ impl<'a> HexText<'a> {
 
     /// Its bytes.
     pub(crate) fn bytes(&self, alloc: Global) -> Result<Vec<u8>, AllocError> {
-        self.digits.chunks(2).map(byte_of).collect(alloc)
+        let mut bytes = Vec::new(alloc);
+        for pair in self.digits.chunks(2) {
+            bytes.push(byte_of(pair))?;
+        }
+        Ok(bytes)
     }
 }
 

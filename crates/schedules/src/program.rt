@@ -28,8 +28,10 @@ pub fn rsim<R: Files + Print + Eprint + AllocGlobal, W: Write>(
     ensures ended { IfOk result (λ status. IsRsim W.contents out.old status out.new) }
     ensures failed { OnErr result (out.new ≡ out.old) }
 {
-    let lent = words.iter().map(|word| word.as_str());
-    let lent: Vec<&str> = lent.collect(rt.alloc())?;
+    let mut lent = Vec::new(rt.alloc());
+    for word in words {
+        lent.push(word.as_str())?;
+    }
     match file_in(rt.alloc(), lent.as_slice()) {
         Ok(file) => run_file(rt, file, out),
         Err(error) => refuse(rt, error),
