@@ -17,3 +17,5 @@ pub mod Walks
 pub mod Scanning
 pub mod Held
 pub mod Memory
+pub mod Fuses
+pub mod Stood

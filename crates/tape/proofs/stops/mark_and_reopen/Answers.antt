@@ -1,0 +1,19 @@
+use Rattle.std.proofs.Common.{ap}
+use Rattle.tape.specs.Tape.{done_answer}
+use Rattle.tape.proofs.Stood.{marks_stood}
+use Rattle.tape.proofs.stops.mark_and_reopen.Goals as goal
+
+pub returns-clause-stood : goal.returns-clause-stood
+returns-clause-stood g c = λ t held.
+    let s = c.op-written.ensures.step t held in
+    let again = c.reopened.ensures.stood s.0 s.1 in
+    (again.0, again.1, rw again.2 (marks_stood _ _ t s.0 _ s.2))
+
+pub returns-clause-step : goal.returns-clause-step
+returns-clause-step g c = λ t held.
+    let s = c.op-written.ensures.step t held in
+    let again = c.reopened.ensures.stood s.0 s.1 in
+    (again.0, again.1, (s.0, s.2, again.2))
+
+pub returns-clause-cause : goal.returns-clause-cause
+returns-clause-cause g c = λ failed. c.op-written.ensures.made.cause (ap done_answer failed)

@@ -1,0 +1,33 @@
+-- What a reel has that is opened again after a write was stopped. Public contracts cite it.
+use Rattle.std.specs.Prelude.{◌≡◌, ◌⊎◌, ℕ, ◌<◌, ◌≤◌, List, [], ◌++◌, replicate}
+use Rattle.tape.specs.Tape.{PlainEntry, Tape, TapeRequest, TapeAnswer, TapeStep, entries_of, tape}
+use Rattle.tape.specs.Tape.PlainEntry.{Mark}
+use Rattle.tape.specs.Tape.TapeAnswer.{Done, Fault}
+use Rattle.tape.specs.RecordFile.{FileTape, HoldsTape}
+use Rattle.tape.specs.Fuse.{Fused}
+use Rattle.tape.specs.declared.fault.TapeFault.TheVariants.{Device}
+
+-- Where the reel told a tape, the one that is opened again on the same medium tells entries that stand so after that tape, and is
+-- at its beginning.
+abbrev pub Reopens : {M : Type 0} → (M → List ℕ → Type 0) → FileTape (Fused M) → FileTape M → (Tape → List PlainEntry → Type 0) → Type 0
+Reopens holds old new stands =
+    (t : Tape) → HoldsTape (λ f bytes. holds f.inner bytes) old t → (u : List PlainEntry) × HoldsTape holds new (tape [] u) × stands t u
+
+-- The entries before the place stand. After them stands what was written, where that went well; what stood, nothing, or what was
+-- written, where the device failed; and what stood, where it was refused otherwise.
+abbrev pub StandsAfterWrite : Tape → List PlainEntry → TapeAnswer → List PlainEntry → Type 0
+StandsAfterWrite t written Done u = u ≡ t.before ++ written
+StandsAfterWrite t written (Fault Device) u = (u ≡ t.before ++ t.after) ⊎ (u ≡ t.before) ⊎ (u ≡ t.before ++ written)
+StandsAfterWrite t written answer u = u ≡ t.before ++ t.after
+
+-- The same of so many marks: a device that failed leaves what stood, or any number of them up to all. Of a count of 0 nothing is
+-- written, and what stood stands.
+abbrev pub StandsAfterMarks : Tape → ℕ → TapeAnswer → List PlainEntry → Type 0
+StandsAfterMarks t count Done u = ((count ≡ 0) × (u ≡ t.before ++ t.after)) ⊎ ((0 < count) × (u ≡ t.before ++ replicate count Mark))
+StandsAfterMarks t count (Fault Device) u =
+    (u ≡ t.before ++ t.after) ⊎ ((some : ℕ) × (some ≤ count) × (u ≡ t.before ++ replicate some Mark))
+StandsAfterMarks t count answer u = u ≡ t.before ++ t.after
+
+-- The entries are those of a tape that such a step leaves.
+abbrev pub StandsAfterStep : ℕ → Tape → TapeRequest → TapeAnswer → List PlainEntry → Type 0
+StandsAfterStep capacity t request answer u = (v : Tape) × TapeStep capacity t request answer v × (u ≡ entries_of v)

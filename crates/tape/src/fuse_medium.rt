@@ -1,0 +1,229 @@
+//! A medium that fails at a call that it is told.
+
+ghost use Rattle.std.specs.Prelude.{◌≡◌, ◌⊎◌, ◌++◌, ◌<◌, if◌then◌else◌, IsErr, Some, length, take};
+ghost use Rattle.tape.specs.Failures.{raised};
+ghost use Rattle.tape.specs.Fuse.{CanStop, CountsDown, IsCutWithin, IsDue, IsLeft, IsNotDue, counted_down, fuse_kind, is_due};
+ghost use Rattle.tape.specs.Medium.{IsMediumCall, medium_kind};
+ghost use Rattle.tape.specs.Medium.MediumCall.{Len, ReadAt, Append, Cut};
+
+use crate::{Medium, MediumFailed};
+use std::marker::Model;
+
+/// A medium on another one, that is told which of its calls fails: to see what stands on it after a stop there.
+///
+/// Its calls are numbered from 0: each `len`, `read_at`, `append`, `append_framed` and `cut` is one. A call that is told to fail fails
+/// and is counted. An append of these adds its first bytes, as many as are told, with a frame or without; a cut is made where that
+/// number is above 0, and else is not; and a call that reads reads nothing. Each other call is the one of the medium within.
+#[derive(Drop)]
+pub struct FuseMedium<M: Medium> {
+    inner: M,
+    to_go: Option<u64>,
+    left: usize,
+    once: bool,
+    failures: u64,
+}
+
+impl<M: Medium> Model for FuseMedium<M> {
+    ghost use Rattle.tape.specs.Fuse.{Fused, fused_code};
+
+    ghost Value = { Fused M };
+
+    ghost coded = { fused_code M.code };
+
+    ghost view = { λ f. record { inner = f.inner; to_go = f.to_go; left = f.left; once = f.once; failures = f.failures } };
+}
+
+impl<M: Medium> FuseMedium<M> {
+    /// A medium on this one, whose call number `at` fails, and each call after it too, or none of them where `once`. An append that
+    /// is told to fail adds its first `left` bytes.
+    pub fn new(inner: M, at: u64, left: usize, once: bool) -> FuseMedium<M>
+        ensures { result ≡ record { inner = inner; to_go = Some at; left = left; once = once; failures = 0 } }
+    {
+        FuseMedium {
+            inner,
+            to_go: Some(at),
+            left,
+            once,
+            failures: 0,
+        }
+    }
+
+    /// Gives the medium within back as it is, so that it can be opened again. It makes no call of it.
+    pub fn into_inner(self) -> M
+        ensures { result ≡ self.inner }
+    {
+        let FuseMedium { inner, .. } = self;
+        inner
+    }
+
+    /// Counts a call. Answers whether it is told to fail, and counts that failure too.
+    fn stops(&mut self) -> bool
+        ensures answer { result ≡ is_due self.old.to_go }
+        ensures new { self.new ≡ record self.old {
+          to_go = counted_down self.old.once self.old.to_go;
+          failures = if is_due self.old.to_go then raised self.old.failures else self.old.failures;
+        } }
+    {
+        match self.to_go {
+            None => false,
+            Some(0) => {
+                if self.once {
+                    self.to_go = None;
+                }
+                self.fail();
+                true
+            }
+            Some(n) => {
+                self.to_go = Some(n - 1);
+                false
+            }
+        }
+    }
+
+    /// Counts a failure.
+    fn fail(&mut self)
+        ensures { self.new ≡ record self.old { failures = raised self.old.failures } }
+    {
+        self.failures = self.failures.saturating_add(1);
+    }
+}
+
+impl<M: Medium> Medium for FuseMedium<M> {
+    ghost holds = { λ f bytes. M.holds f.inner bytes };
+
+    ghost failures = { λ f. f.failures };
+
+    ghost can_fail = { λ f. M.can_fail f.inner ⊎ CanStop f.to_go };
+
+    ghost spare = { λ f. M.spare f.inner };
+
+    fn len(&mut self) -> Result<u64, MediumFailed>
+        ensures call { IsMediumCall (fuse_kind M.holds M.can_fail M.spare) self.old (Len result) self.new }
+        ensures stopped { IsDue self.old.to_go → IsErr result }
+        ensures passed { IsNotDue self.old.to_go → IsErr result → M.can_fail self.old.inner }
+        ensures counted { CountsDown self.old self.new }
+    {
+        if self.stops() {
+            return Err(MediumFailed);
+        }
+        let found = self.inner.len();
+        if found.is_err() {
+            self.fail();
+        }
+        found
+    }
+
+    fn read_at(&mut self, at: u64, into: &mut [u8]) -> Result<usize, MediumFailed>
+        ensures call { IsMediumCall (fuse_kind M.holds M.can_fail M.spare) self.old (ReadAt at into.new result) self.new }
+        ensures same { length into.new ≡ length into.old }
+        ensures stopped { IsDue self.old.to_go → IsErr result }
+        ensures passed { IsNotDue self.old.to_go → IsErr result → M.can_fail self.old.inner }
+        ensures counted { CountsDown self.old self.new }
+    {
+        if self.stops() {
+            return Err(MediumFailed);
+        }
+        let found = self.inner.read_at(at, into);
+        if found.is_err() {
+            self.fail();
+        }
+        found
+    }
+
+    fn append(&mut self, bytes: &[u8]) -> Result<(), MediumFailed>
+        ensures call { IsMediumCall (fuse_kind M.holds M.can_fail M.spare) self.old (Append bytes.now result) self.new }
+        ensures stopped { IsDue self.old.to_go → IsErr result }
+        ensures left { IsDue self.old.to_go →
+            IsLeft (medium_kind M.holds M.failures M.can_fail M.spare) self.old.inner (take self.old.left bytes.now) self.new.inner }
+        ensures passed { IsNotDue self.old.to_go → IsErr result →
+            M.can_fail self.old.inner ⊎ (M.spare self.old.inner < length bytes.now) }
+        ensures counted { CountsDown self.old self.new }
+    {
+        if self.stops() {
+            leave(&mut self.inner, self.left, bytes);
+            return Err(MediumFailed);
+        }
+        let added = self.inner.append(bytes);
+        if added.is_err() {
+            self.fail();
+        }
+        added
+    }
+
+    fn append_framed(&mut self, frame: &[u8], bytes: &[u8]) -> Result<(), MediumFailed>
+        ensures call { IsMediumCall (fuse_kind M.holds M.can_fail M.spare) self.old
+            (Append (frame.now ++ (bytes.now ++ frame.now)) result) self.new }
+        ensures stopped { IsDue self.old.to_go → IsErr result }
+        ensures left { IsDue self.old.to_go →
+            IsLeft (medium_kind M.holds M.failures M.can_fail M.spare) self.old.inner
+            (take self.old.left (frame.now ++ (bytes.now ++ frame.now))) self.new.inner }
+        ensures passed { IsNotDue self.old.to_go → IsErr result →
+            M.can_fail self.old.inner ⊎ (M.spare self.old.inner < length (frame.now ++ (bytes.now ++ frame.now))) }
+        ensures counted { CountsDown self.old self.new }
+    {
+        if self.stops() {
+            leave_framed(&mut self.inner, self.left, frame, bytes);
+            return Err(MediumFailed);
+        }
+        let added = self.inner.append_framed(frame, bytes);
+        if added.is_err() {
+            self.fail();
+        }
+        added
+    }
+
+    fn cut(&mut self, len: u64) -> Result<(), MediumFailed>
+        ensures call { IsMediumCall (fuse_kind M.holds M.can_fail M.spare) self.old (Cut len result) self.new }
+        ensures stopped { IsDue self.old.to_go → IsErr result }
+        ensures kept { IsDue self.old.to_go → self.old.left ≡ 0 → self.new.inner ≡ self.old.inner }
+        ensures made { IsDue self.old.to_go → 0 < self.old.left →
+            IsCutWithin (medium_kind M.holds M.failures M.can_fail M.spare) self.old.inner len self.new.inner }
+        ensures passed { IsNotDue self.old.to_go → IsErr result → M.can_fail self.old.inner }
+        ensures counted { CountsDown self.old self.new }
+    {
+        if self.stops() {
+            if self.left > 0 {
+                let _ = self.inner.cut(len);
+            }
+            return Err(MediumFailed);
+        }
+        let cut = self.inner.cut(len);
+        if cut.is_err() {
+            self.fail();
+        }
+        cut
+    }
+
+    fn failures(&self) -> u64 {
+        self.failures
+    }
+
+    ghost single = { λ f x y told also. M.single f.inner x y told also };
+
+    ghost bounded = { λ f x told. M.bounded f.inner x told };
+}
+
+/// Adds the first `left` of these bytes, or all where there are fewer.
+fn leave<M: Medium>(medium: &mut M, left: usize, bytes: &[u8])
+    ensures { IsLeft (medium_kind M.holds M.failures M.can_fail M.spare) medium.old (take left bytes.now) medium.new }
+{
+    let count = bytes.len().min(left);
+    let _ = medium.append(&bytes[..count]);
+}
+
+/// Adds the first `left` bytes of the frame, the bytes and the frame, up to a call that fails.
+fn leave_framed<M: Medium>(medium: &mut M, left: usize, frame: &[u8], bytes: &[u8])
+    ensures { IsLeft (medium_kind M.holds M.failures M.can_fail M.spare) medium.old
+        (take left (frame.now ++ (bytes.now ++ frame.now))) medium.new }
+{
+    let first = frame.len().min(left);
+    if medium.append(&frame[..first]).is_err() {
+        return;
+    }
+    let middle = bytes.len().min(left - first);
+    if medium.append(&bytes[..middle]).is_err() {
+        return;
+    }
+    let last = frame.len().min(left - first - middle);
+    let _ = medium.append(&frame[..last]);
+}

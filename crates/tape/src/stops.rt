@@ -1,0 +1,62 @@
+//! A write that is stopped at any call of the medium, and the reel opened again.
+
+ghost use Rattle.std.specs.Prelude.{◌≡◌, ◌⊎◌, ◌+◌, ◌*◌, ◌<◌, ◌∷◌, [], Err, length};
+ghost use Rattle.tape.specs.Tape.{IsRecord, done_answer, entries_of};
+ghost use Rattle.tape.specs.Tape.PlainEntry.{Record};
+ghost use Rattle.tape.specs.Tape.TapeRequest.{Write, WriteMarks};
+ghost use Rattle.tape.specs.Fuse.{CanStop};
+ghost use Rattle.tape.specs.Stops.{Reopens, StandsAfterMarks, StandsAfterStep, StandsAfterWrite};
+ghost use Rattle.tape.specs.declared.fault.TapeFault.TheVariants.{Device};
+
+use crate::{FileReel, FuseMedium, Medium, Reel, TapeFault};
+use rmt_wire::mtio::MTWEOF;
+
+/// The reel that lies on what a stopped medium has, opened anew with this capacity.
+pub fn reopened<M: Medium>(reel: FileReel<FuseMedium<M>>, capacity: u64) -> FileReel<M>
+    ensures stood { Reopens M.holds reel result (λ t u. u ≡ entries_of t) }
+    ensures medium { result.medium ≡ reel.medium.inner }
+    ensures capacity { result.capacity ≡ capacity }
+{
+    FileReel::open(reel.into_medium().into_inner(), capacity)
+}
+
+/// Writes a record to a reel whose medium stops at a call that it was told, and opens the reel anew, with this capacity, on what
+/// is left there.
+///
+/// Whichever call that is, the entries before the place stand, and after them what stood, nothing, or the record.
+pub fn write_and_reopen<M: Medium>(
+    reel: FileReel<FuseMedium<M>>,
+    bytes: &[u8],
+    capacity: u64,
+) -> (Result<(), TapeFault>, FileReel<M>)
+    requires { IsRecord bytes.now }
+    ensures stood { Reopens M.holds reel result.1 (λ t u. StandsAfterWrite t (Record bytes.now ∷ []) (done_answer result.0) u) }
+    ensures step { Reopens M.holds reel result.1 (λ t u. StandsAfterStep reel.capacity t (Write bytes.now) (done_answer result.0) u) }
+    ensures cause { result.0 ≡ Err Device →
+        (M.can_fail reel.medium.inner ⊎ CanStop reel.medium.to_go) ⊎ (M.spare reel.medium.inner < length bytes.now + 8) }
+    ensures capacity { result.1.capacity ≡ capacity }
+{
+    let mut reel = reel;
+    let written = reel.write(bytes);
+    (written, reopened(reel, capacity))
+}
+
+/// Writes marks to a reel whose medium stops at a call that it was told, and opens the reel anew, with this capacity, on what is
+/// left there.
+///
+/// Whichever call that is, the entries before the place stand, and after them what stood, or any number of the marks.
+pub fn mark_and_reopen<M: Medium>(
+    reel: FileReel<FuseMedium<M>>,
+    count: u32,
+    capacity: u64,
+) -> (Result<(), TapeFault>, FileReel<M>)
+    ensures stood { Reopens M.holds reel result.1 (λ t u. StandsAfterMarks t count (done_answer result.0) u) }
+    ensures step { Reopens M.holds reel result.1 (λ t u. StandsAfterStep reel.capacity t (WriteMarks count) (done_answer result.0) u) }
+    ensures cause { result.0 ≡ Err Device →
+        (M.can_fail reel.medium.inner ⊎ CanStop reel.medium.to_go) ⊎ (M.spare reel.medium.inner < 4 * count) }
+    ensures capacity { result.1.capacity ≡ capacity }
+{
+    let mut reel = reel;
+    let written = reel.op(MTWEOF, count);
+    (written, reopened(reel, capacity))
+}
