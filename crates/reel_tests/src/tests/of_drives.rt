@@ -4,6 +4,7 @@ mod faults;
 mod folder_log;
 mod folders;
 mod reels;
+mod renames;
 mod rounds;
 mod seats;
 mod tables;

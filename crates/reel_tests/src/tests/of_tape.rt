@@ -11,4 +11,5 @@ mod plain_medium;
 mod records;
 mod reel_calls;
 mod runs;
+mod stops;
 mod troubled_reel;
