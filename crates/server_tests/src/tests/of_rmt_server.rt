@@ -12,6 +12,7 @@ mod rows;
 mod served;
 mod session;
 mod shared;
+mod stopped_medium;
 mod troubled;
 mod turns;
 mod two;
