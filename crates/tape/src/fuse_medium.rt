@@ -1,6 +1,7 @@
 //! A medium that fails at a call that it is told.
 
 ghost use Rattle.std.specs.Prelude.{◌≡◌, ◌⊎◌, ◌++◌, ◌<◌, if◌then◌else◌, IsErr, Some, length, take};
+ghost use Rattle.std.specs.Result.{is_err};
 ghost use Rattle.tape.specs.Failures.{raised};
 ghost use Rattle.tape.specs.Fuse.{CanStop, CountsDown, IsCutWithin, IsDue, IsLeft, IsNotDue, counted_down, fuse_kind, is_due};
 ghost use Rattle.tape.specs.Medium.{IsMediumCall, medium_kind};
@@ -64,20 +65,23 @@ impl<M: Medium> FuseMedium<M> {
           failures = if is_due self.old.to_go then raised self.old.failures else self.old.failures;
         } }
     {
-        match self.to_go {
-            None => false,
-            Some(0) => {
-                if self.once {
-                    self.to_go = None;
-                }
-                self.fail();
-                true
-            }
-            Some(n) => {
-                self.to_go = Some(n - 1);
-                false
-            }
+        let is_due = matches!(self.to_go, Some(0));
+        self.to_go = count_down(self.to_go, self.once);
+        if is_due {
+            self.fail();
         }
+        is_due
+    }
+
+    /// Passes on what the medium within answered, and counts it where that is a failure.
+    fn pass<T>(&mut self, answer: Result<T, MediumFailed>) -> Result<T, MediumFailed>
+        ensures same { result ≡ answer }
+        ensures new { self.new ≡ record self.old { failures = if is_err answer then raised self.old.failures else self.old.failures } }
+    {
+        if answer.is_err() {
+            self.fail();
+        }
+        answer
     }
 
     /// Counts a failure.
@@ -107,10 +111,7 @@ impl<M: Medium> Medium for FuseMedium<M> {
             return Err(MediumFailed);
         }
         let found = self.inner.len();
-        if found.is_err() {
-            self.fail();
-        }
-        found
+        self.pass(found)
     }
 
     fn read_at(&mut self, at: u64, into: &mut [u8]) -> Result<usize, MediumFailed>
@@ -124,10 +125,7 @@ impl<M: Medium> Medium for FuseMedium<M> {
             return Err(MediumFailed);
         }
         let found = self.inner.read_at(at, into);
-        if found.is_err() {
-            self.fail();
-        }
-        found
+        self.pass(found)
     }
 
     fn append(&mut self, bytes: &[u8]) -> Result<(), MediumFailed>
@@ -144,10 +142,7 @@ impl<M: Medium> Medium for FuseMedium<M> {
             return Err(MediumFailed);
         }
         let added = self.inner.append(bytes);
-        if added.is_err() {
-            self.fail();
-        }
-        added
+        self.pass(added)
     }
 
     fn append_framed(&mut self, frame: &[u8], bytes: &[u8]) -> Result<(), MediumFailed>
@@ -166,10 +161,7 @@ impl<M: Medium> Medium for FuseMedium<M> {
             return Err(MediumFailed);
         }
         let added = self.inner.append_framed(frame, bytes);
-        if added.is_err() {
-            self.fail();
-        }
-        added
+        self.pass(added)
     }
 
     fn cut(&mut self, len: u64) -> Result<(), MediumFailed>
@@ -188,10 +180,7 @@ impl<M: Medium> Medium for FuseMedium<M> {
             return Err(MediumFailed);
         }
         let cut = self.inner.cut(len);
-        if cut.is_err() {
-            self.fail();
-        }
-        cut
+        self.pass(cut)
     }
 
     fn failures(&self) -> u64 {
@@ -201,6 +190,17 @@ impl<M: Medium> Medium for FuseMedium<M> {
     ghost single = { λ f x y told also. M.single f.inner x y told also };
 
     ghost bounded = { λ f x told. M.bounded f.inner x told };
+}
+
+/// How many calls come before the one that fails, after one call more.
+fn count_down(to_go: Option<u64>, once: bool) -> Option<u64>
+    ensures { result ≡ counted_down once to_go }
+{
+    match to_go {
+        None => None,
+        Some(0) => { if once { None } else { Some(0) } }
+        Some(n) => Some(n - 1),
+    }
 }
 
 /// Adds the first `left` of these bytes, or all where there are fewer.
