@@ -1,29 +1,20 @@
 -- A request that was appended, or was not for want of memory, is that of its step.
-use Rattle.std.proofs.Common.{◌≡◌, ℕ, true, false, List, length, refl, sym, subst, Result, Ok, Err}
+use Rattle.std.proofs.Common.{◌≡◌, inr, ℕ, true, false, List, length, refl, sym, subst, Result, Ok, Err}
 use Rattle.rmt_wire.specs.Request.{PlainRequest}
 use Rattle.rmt_wire.specs.Request.PlainRequest.{Write}
 use Rattle.dump_client.specs.Standing.{Standing, checkpoint_of}
-use Rattle.dump_client.specs.Client.{IsRequestOf, IsScarce, IsFaultAt, IsRequestPushed, AppendedBy, ReadBy, IsRequestGiven, is_source_fault, has_failed, failures_after}
+use Rattle.dump_client.specs.Client.{IsRequestOf, IsRequestPushed, AppendedBy, ReadBy, IsRequestGiven, is_source_fault, has_failed, failures_after}
 use Rattle.dump_run.specs.declared.blocks.SourceFailed.{SourceFailed}
 use Rattle.dump_client.specs.declared.step.Step.{Step}
-use Rattle.dump_client.specs.declared.step.Step.TheVariants.{Open, Rewind, Label, Block, Mark, Unload, Close}
+use Rattle.dump_client.specs.declared.step.Step.TheVariants.{Block}
 use Rattle.dump_client.specs.declared.fault.AttemptFault.{AttemptFault}
-use Rattle.dump_client.specs.declared.fault.AttemptFault.TheVariants.{SourceFault, OutOfMemory}
-
-scarce_at : (step : Step) (capacity len : ℕ) → IsScarce capacity len → IsFaultAt step OutOfMemory capacity len
-scarce_at Open capacity len h = h
-scarce_at Rewind capacity len h = h
-scarce_at Label capacity len h = h
-scarce_at (Block number) capacity len h = h
-scarce_at (Mark next) capacity len h = h
-scarce_at (Unload next) capacity len h = h
-scarce_at Close capacity len h = h
+use Rattle.dump_client.specs.declared.fault.AttemptFault.TheVariants.{SourceFault}
 
 pub appended : (told : List (List ℕ) → Type 0) (at : Standing) (step : Step) (request : PlainRequest) (capacity : ℕ) (before : List ℕ) (result : Result Unit AttemptFault) (now : List ℕ)
     → IsRequestOf told at.run (checkpoint_of at.counts) step request → IsRequestPushed request capacity before result now → AppendedBy told at step capacity before result now
 appended told at step request capacity before (Ok x) now is h = (request, is, h.0, h.1)
 appended told at step request capacity before (Err fault) now is h =
-    (subst (λ f. IsFaultAt step f capacity (length before)) (sym h.0) (scarce_at step capacity (length before) h.1), h.2)
+    (inr (h.0, (request, is, h.1, h.2)), h.3)
 
 pub appended_at : (told : List (List ℕ) → Type 0) (at : Standing) (step this : Step) (request : PlainRequest) (capacity : ℕ) (before : List ℕ) (result : Result Unit AttemptFault) (now : List ℕ)
     → step ≡ this → IsRequestOf told at.run (checkpoint_of at.counts) this request → IsRequestPushed request capacity before result now → AppendedBy told at step capacity before result now

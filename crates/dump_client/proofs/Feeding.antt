@@ -7,8 +7,9 @@ use Rattle.rmt_wire.specs.ReplyReader.{ReplyUnread}
 use Rattle.rmt_wire.specs.Reply.Wanted.{Number}
 use Rattle.dump_client.specs.Position.Heard.{Reply, Noise, End}
 use Rattle.dump_client.specs.Listening.{IsReaderWaiting, IsSaid, IsListened}
-use Rattle.dump_client.specs.Standing.{Standing, standing, IsOver, HearsAt, FedAt, CutAt, StartedAt}
-use Rattle.dump_client.specs.Client.{HasFedAt, unanswered, AppendedBy, AskedAt, IsPayload, ReadBy, IsScarce, IsFaultAt, is_source_fault}
+use Rattle.rmt_wire.specs.Request.PlainRequest.{Close as CloseDevice}
+use Rattle.dump_client.specs.Standing.{Standing, standing, checkpoint_of, IsOver, HearsAt, FedAt, CutAt, StartedAt}
+use Rattle.dump_client.specs.Client.{HasFedAt, unanswered, AppendedBy, AskedAt, IsPayload, ReadBy, IsScarce, LacksRoom, IsFaultAt, is_source_fault}
 use Rattle.dump_run.specs.Run.{PlainRun}
 use Rattle.dump_client.specs.declared.count.VolumeCount.{VolumeCount}
 use Rattle.dump_run.specs.declared.blocks.SourceFailed.{SourceFailed}
@@ -114,14 +115,12 @@ pub asked_done : (told : List (List ℕ) → Type 0) (old : Standing) (step : St
 asked_done told old step capacity before now new at h is =
     subst (λ s. AskedAt s told old capacity before (Ok true) now new) at (h.0, h.1, h.2, h.3, is)
 
-scarce_close : (fault : AttemptFault) (capacity len : ℕ) → IsFaultAt Close fault capacity len → IsScarce capacity len
-scarce_close OutOfMemory capacity len h = h
-scarce_close (Refused n) capacity len h = absurd h
-scarce_close Botched capacity len h = absurd h
-scarce_close ConnectionEnded capacity len h = absurd h
-scarce_close ShortWrite capacity len h = absurd h
-scarce_close ReelTooSmall capacity len h = absurd h
-scarce_close SourceFault capacity len h = absurd h
+scarce_close : (told : List (List ℕ) → Type 0) (run : PlainRun) (at : ℕ × ℕ) (step : Step) (fault : AttemptFault) (capacity len : ℕ) → step ≡ Close
+    → IsFaultAt told run at step fault capacity len → IsScarce CloseDevice capacity len
+scarce_close told run at step fault capacity len is (inl h) = let no : Close ≡ Block h.1.0 = sym is ∙ h.1.1 in absurd cc
+scarce_close told run at step fault capacity len is (inr h) =
+    let lacks : LacksRoom told run at Close capacity len = subst (λ s. LacksRoom told run at s capacity len) is h.1 in
+    subst (λ r. IsScarce r capacity len) lacks.1.1 lacks.3
 
 -- at the close none is, where memory is scarce
 pub asked_over : (told : List (List ℕ) → Type 0) (old : Standing) (step : Step) (capacity : ℕ) (before now : List ℕ) (fault : AttemptFault) (new : Standing)
@@ -129,7 +128,7 @@ pub asked_over : (told : List (List ℕ) → Type 0) (old : Standing) (step : St
     → AskedAt old.stage told old capacity before (Ok false) now new
 asked_over told old step capacity before now fault new at is h over =
     subst (λ s. AskedAt s told old capacity before (Ok false) now new) at
-    (is, subst (λ s. IsFaultAt s fault capacity (length before) → IsScarce capacity (length before)) (sym is) (scarce_close fault capacity (length before)) h.0, h.1, over)
+    (is, scarce_close told old.run (checkpoint_of old.counts) step fault capacity (length before) is h.0, h.1, over)
 
 pub asked_failed : (told : List (List ℕ) → Type 0) (old : Standing) (step : Step) (capacity : ℕ) (before now : List ℕ) (fault : AttemptFault) (new : Standing)
     → ToSend step ≡ old.stage → step ≢ Close → AppendedBy told old step capacity before (Err fault) now → new ≡ standing old.run old.counts Asking

@@ -1,9 +1,8 @@
 -- What a client holds, and what a call that asks for the next request does. Public contracts cite it.
-use Rattle.std.specs.Prelude.{◌≡◌, ◌≢◌, ℕ, ◌+◌, ◌<◌, Bool, true, false, List, [], ◌++◌, length, get_or, Option, Some, None, Result, Ok, Err}
+use Rattle.std.specs.Prelude.{◌≡◌, ◌≢◌, ◌⊎◌, ℕ, ◌+◌, ◌<◌, Bool, true, false, List, [], ◌++◌, length, get_or, Option, Some, None, Result, Ok, Err}
 use Rattle.rmt_wire.specs.Counted.{raised}
 use Rattle.rmt_wire.specs.Request.{PlainRequest, IsTextOf, request_text}
-use Rattle.rmt_wire.specs.Request.PlainRequest.{Write}
-use Rattle.rmt_wire.specs.declared.limits.TheConstants.{READER_LIMIT}
+use Rattle.rmt_wire.specs.Request.PlainRequest.{Write, Close as CloseDevice}
 use Rattle.rmt_wire.specs.ReplyReader as reader
 use Rattle.rmt_wire.specs.ReplyReader.{ReplyUnread}
 use Rattle.dumpdates.specs.Stored.{plain_entry}
@@ -61,20 +60,26 @@ abbrev pub IsRequestOf : (List (List ℕ) → Type 0) → PlainRun → ℕ × �
 IsRequestOf told run at step request =
     ((payload : List (List ℕ)) → told payload → request ≡ request_of run payload at.0 at.1 step) × IsShapedAs run at step request
 
--- there is spare room for fewer bytes than the longest request has
-abbrev pub IsScarce : ℕ → ℕ → Type 0
-IsScarce capacity len = capacity < len + READER_LIMIT
+-- there is spare room for fewer bytes than the text of the request has
+abbrev pub IsScarce : PlainRequest → ℕ → ℕ → Type 0
+IsScarce request capacity len = capacity < len + length (request_text request)
 
--- why no request could be appended: a block that could not be read, or want of memory
-abbrev pub IsFaultAt : Step → AttemptFault → ℕ → ℕ → Type 0
-IsFaultAt (Block number) SourceFault capacity len = Unit {0}
-IsFaultAt step OutOfMemory capacity len = IsScarce capacity len
-IsFaultAt step fault capacity len = ⊥
+-- the request of a step, as it is spelled, has no room; a block's text has the same length whatever its bytes are
+abbrev pub LacksRoom : (List (List ℕ) → Type 0) → PlainRun → ℕ × ℕ → Step → ℕ → ℕ → Type 0
+LacksRoom told run at step capacity len =
+    (request : PlainRequest) × IsRequestOf told run at step request × IsTextOf (request_text request) request × IsScarce request capacity len
 
--- a request is appended, or nothing, where memory is scarce
+-- why no request could be appended: a block that could not be read, or no room
+abbrev pub IsFaultAt : (List (List ℕ) → Type 0) → PlainRun → ℕ × ℕ → Step → AttemptFault → ℕ → ℕ → Type 0
+IsFaultAt told run at step fault capacity len =
+    ((fault ≡ SourceFault) × ((number : ℕ) × (step ≡ Block number)))
+    ⊎ ((fault ≡ OutOfMemory) × LacksRoom told run at step capacity len)
+
+-- a request is appended, or nothing, where there is no room for it
 abbrev pub IsRequestPushed : PlainRequest → ℕ → List ℕ → Result Unit AttemptFault → List ℕ → Type 0
 IsRequestPushed request capacity before (Ok x) now = IsTextOf (request_text request) request × (now ≡ before ++ request_text request)
-IsRequestPushed request capacity before (Err fault) now = (fault ≡ OutOfMemory) × IsScarce capacity (length before) × (now ≡ before)
+IsRequestPushed request capacity before (Err fault) now =
+    (fault ≡ OutOfMemory) × IsTextOf (request_text request) request × IsScarce request capacity (length before) × (now ≡ before)
 
 -- the write of the next volume's label
 abbrev pub label_request : Standing → PlainRequest
@@ -85,7 +90,8 @@ abbrev pub AppendedBy : (List (List ℕ) → Type 0) → Standing → Step → �
 AppendedBy told at step capacity before (Ok x) now =
     (request : PlainRequest) × IsRequestOf told at.run (checkpoint_of at.counts) step request × IsTextOf (request_text request) request
     × (now ≡ before ++ request_text request)
-AppendedBy told at step capacity before (Err fault) now = IsFaultAt step fault capacity (length before) × (now ≡ before)
+AppendedBy told at step capacity before (Err fault) now =
+    IsFaultAt told at.run (checkpoint_of at.counts) step fault capacity (length before) × (now ≡ before)
 
 -- The next request is asked for, with what `out` held before and holds now. At the close want of memory is no fault: the attempt is
 -- over.
@@ -94,9 +100,10 @@ AskedAt (ToSend step) told old capacity before (Ok true) now new =
     (request : PlainRequest) × IsRequestOf told old.run (checkpoint_of old.counts) step request × IsTextOf (request_text request) request
     × (now ≡ before ++ request_text request) × (new ≡ standing old.run old.counts (Waiting step))
 AskedAt (ToSend step) told old capacity before (Ok false) now new =
-    (step ≡ Close) × IsScarce capacity (length before) × (now ≡ before) × IsOver old.run old.counts new
+    (step ≡ Close) × IsScarce CloseDevice capacity (length before) × (now ≡ before) × IsOver old.run old.counts new
 AskedAt (ToSend step) told old capacity before (Err fault) now new =
-    (step ≢ Close) × IsFaultAt step fault capacity (length before) × (now ≡ before) × (new ≡ standing old.run old.counts Asking)
+    (step ≢ Close) × IsFaultAt told old.run (checkpoint_of old.counts) step fault capacity (length before) × (now ≡ before)
+    × (new ≡ standing old.run old.counts Asking)
 AskedAt stage told old capacity before result now new = (result ≡ Ok false) × (now ≡ before) × (new ≡ old)
 
 -- a read of the source failed

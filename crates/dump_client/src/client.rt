@@ -126,8 +126,8 @@ impl<B: Blocks> Client<B> {
     /// another state than `ToSend`.
     ///
     /// A fault fails the attempt, with nothing appended: `SourceFault` where the block could not be read, and
-    /// `OutOfMemory` where `out` has spare room for fewer than `READER_LIMIT` bytes and the memory for more is refused.
-    /// At the close, which comes after the count, that is no fault: it answers false, and the attempt is over.
+    /// `OutOfMemory` where `out` has less spare room than this request's text has bytes and the memory for more is
+    /// refused. At the close, which comes after the count, that is no fault: it answers false, and the attempt is over.
     pub fn next_request(&mut self, out: &mut Vec<u8>) -> Result<bool, AttemptFault>
         ensures asked { AskedAt self.old.at.stage (B.holds self.old.source) self.old.at (vec_capacity out.old) out.old.items
             result out.new.items self.new.at }

@@ -1,13 +1,15 @@
 //! Laws of an attempt and its counts, each the contract of a call that does nothing.
 
-ghost use Rattle.std.specs.Prelude.{◌≡◌, ◌≢◌, ◌⊎◌, ℕ, List, [], ◌++◌};
+ghost use Rattle.std.specs.Prelude.{◌≡◌, ◌≢◌, ◌⊎◌, ℕ, ◌≤◌, List, [], ◌++◌, length};
 ghost use Rattle.rmt_wire.specs.Reply.{PlainReply};
+ghost use Rattle.rmt_wire.specs.Request.{PlainRequest, IsTextOf, request_text};
+ghost use Rattle.rmt_wire.specs.declared.limits.TheConstants.{READER_LIMIT};
 ghost use Rattle.dump_run.specs.Run.{PlainRun, IsRun};
 ghost use Rattle.dump_client.specs.Script.{IsCount, steps_of};
 ghost use Rattle.dump_client.specs.Position.{RepliesFollow, Heard, IsWantedAt, IsFailure, after_reply, outcome};
 ghost use Rattle.dump_client.specs.Position.Heard.{Noise, End};
 ghost use Rattle.dump_client.specs.Standing.{Standing, Feeds, CutAt};
-ghost use Rattle.dump_client.specs.Client.{FeedsNext};
+ghost use Rattle.dump_client.specs.Client.{FeedsNext, IsShapedAs};
 ghost use Rattle.dump_client.specs.Going.{GoesOnWith, StandsAfter};
 ghost use Rattle.dump_client.specs.declared.step.Step.{Step};
 ghost use Rattle.dump_client.specs.Lawful.{IsLawful, StandsAt, sent_before, AsksAtCheckpoint, SendsNext, SendsLast};
@@ -50,6 +52,15 @@ pub fn granted_replies()
 pub fn lawful_positions()
     ensures stands { (s : Standing) (payload : List (List ℕ)) → IsLawful s → StandsAt s.run payload s.counts s.stage }
     ensures asked { (run : PlainRun) (payload : List (List ℕ)) (counts : List VolumeCount) → AsksAtCheckpoint run payload counts }
+{}
+
+/// The text of a request has at most `READER_LIMIT` bytes, so that with spare room for so many none is refused for want of
+/// memory.
+///
+/// It does nothing: its contract is a law of the definitions.
+pub fn short_requests()
+    ensures { (run : PlainRun) (at : ℕ × ℕ) (step : Step) (request : PlainRequest) → IsShapedAs run at step request →
+        IsTextOf (request_text request) request → length (request_text request) ≤ READER_LIMIT }
 {}
 
 /// What was sent is what was appended: nothing at the start of an attempt, and at each step that a reply leads to one request

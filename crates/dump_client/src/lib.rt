@@ -23,6 +23,6 @@ pub use dump_run::{BLOCKS_LIMIT, Blocks, ListBlocks, Run, RunFault, SourceFailed
 pub use fault::{AttemptFault, StartFault};
 pub use laws::{
     after_the_count, fed_in_pieces, granted_replies, lawful_positions, same_run, sent_in_order,
-    wanted_replies,
+    short_requests, wanted_replies,
 };
 pub use stage::{Answer, Progress, State};

@@ -85,7 +85,6 @@ fn push_op(op: u32, out: &mut Vec<u8>) -> Result<(), AttemptFault>
 }
 
 /// Appends a request, or nothing.
-#[tactic(auto, using(crate::proofs::Texts::text_within))]
 fn push(request: &Request<'_>, out: &mut Vec<u8>) -> Result<(), AttemptFault>
     requires { requests.HasSpelling (plain_request request.now) }
     ensures { IsRequestPushed (plain_request request.now) (vec_capacity out.old) out.old.items result out.new.items }

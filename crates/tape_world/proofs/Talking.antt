@@ -1,5 +1,5 @@
 -- What the client's next request makes of it.
-use Rattle.std.proofs.Common.{◌≡◌, ◌≤◌, ℕ, Bool, true, false, List, [], length, length-append, decimal, Option, Some, None, refl, sym, ap, subst, ◌∙◌, arith}
+use Rattle.std.proofs.Common.{◌≡◌, inl, inr, ◌≤◌, ℕ, Bool, true, false, List, [], length, length-append, decimal, Option, Some, None, refl, sym, ap, subst, ◌∙◌, arith}
 use Rattle.std.specs.Prelude.{Result, Ok, Err, IfOk, slice_set, slice_index_or, map, ◌-◌}
 use Rattle.tape_events.specs.Changes.{changed}
 use Rattle.tape_world.specs.declared.link.Link.{Link as RealLink}
@@ -23,7 +23,7 @@ use Rattle.dump_client.specs.declared.step.Step.{Step}
 use Rattle.dump_client.specs.declared.step.Step.TheVariants.{Open, Rewind, Label, Block, Mark, Unload, Close}
 use Rattle.dump_client.specs.declared.stage.Stage.TheVariants.{ToSend, Waiting, Asking}
 use Rattle.dump_client.specs.declared.fault.AttemptFault.{AttemptFault}
-use Rattle.dump_client.specs.declared.fault.AttemptFault.TheVariants.{Refused, Botched, ConnectionEnded, ShortWrite, ReelTooSmall, SourceFault, OutOfMemory}
+use Rattle.dump_client.specs.declared.fault.AttemptFault.TheVariants.{SourceFault}
 use Rattle.tape_events.specs.Steps.{is_failing}
 
 ten_digits : (n : ℕ) → n ≤ 2147483647 → length (decimal n) ≤ 10
@@ -72,57 +72,12 @@ Came false step at blocks text r new =
     (r ≡ Ok true) × (length text ≤ READER_LIMIT) × (new ≡ standing at.run at.counts (Waiting step))
     × (text ≡ request_text (request_of at.run blocks (checkpoint_of at.counts).0 (checkpoint_of at.counts).1 step))
 
-failed_at : (step : Step) (fault : AttemptFault) (capacity : ℕ) → READER_LIMIT ≤ capacity → IsFaultAt step fault capacity 0
-    → (fault ≡ SourceFault) × ((n : ℕ) × (step ≡ Block n))
-failed_at Open (Refused k) capacity room h = absurd h
-failed_at Open Botched capacity room h = absurd h
-failed_at Open ConnectionEnded capacity room h = absurd h
-failed_at Open ShortWrite capacity room h = absurd h
-failed_at Open ReelTooSmall capacity room h = absurd h
-failed_at Open SourceFault capacity room h = absurd h
-failed_at Open OutOfMemory capacity room h = absurd (omega (arith, room, h))
-failed_at Rewind (Refused k) capacity room h = absurd h
-failed_at Rewind Botched capacity room h = absurd h
-failed_at Rewind ConnectionEnded capacity room h = absurd h
-failed_at Rewind ShortWrite capacity room h = absurd h
-failed_at Rewind ReelTooSmall capacity room h = absurd h
-failed_at Rewind SourceFault capacity room h = absurd h
-failed_at Rewind OutOfMemory capacity room h = absurd (omega (arith, room, h))
-failed_at Label (Refused k) capacity room h = absurd h
-failed_at Label Botched capacity room h = absurd h
-failed_at Label ConnectionEnded capacity room h = absurd h
-failed_at Label ShortWrite capacity room h = absurd h
-failed_at Label ReelTooSmall capacity room h = absurd h
-failed_at Label SourceFault capacity room h = absurd h
-failed_at Label OutOfMemory capacity room h = absurd (omega (arith, room, h))
-failed_at (Block n) (Refused k) capacity room h = absurd h
-failed_at (Block n) Botched capacity room h = absurd h
-failed_at (Block n) ConnectionEnded capacity room h = absurd h
-failed_at (Block n) ShortWrite capacity room h = absurd h
-failed_at (Block n) ReelTooSmall capacity room h = absurd h
-failed_at (Block n) SourceFault capacity room h = (refl, (n, refl))
-failed_at (Block n) OutOfMemory capacity room h = absurd (omega (arith, room, h))
-failed_at (Mark n) (Refused k) capacity room h = absurd h
-failed_at (Mark n) Botched capacity room h = absurd h
-failed_at (Mark n) ConnectionEnded capacity room h = absurd h
-failed_at (Mark n) ShortWrite capacity room h = absurd h
-failed_at (Mark n) ReelTooSmall capacity room h = absurd h
-failed_at (Mark n) SourceFault capacity room h = absurd h
-failed_at (Mark n) OutOfMemory capacity room h = absurd (omega (arith, room, h))
-failed_at (Unload n) (Refused k) capacity room h = absurd h
-failed_at (Unload n) Botched capacity room h = absurd h
-failed_at (Unload n) ConnectionEnded capacity room h = absurd h
-failed_at (Unload n) ShortWrite capacity room h = absurd h
-failed_at (Unload n) ReelTooSmall capacity room h = absurd h
-failed_at (Unload n) SourceFault capacity room h = absurd h
-failed_at (Unload n) OutOfMemory capacity room h = absurd (omega (arith, room, h))
-failed_at Close (Refused k) capacity room h = absurd h
-failed_at Close Botched capacity room h = absurd h
-failed_at Close ConnectionEnded capacity room h = absurd h
-failed_at Close ShortWrite capacity room h = absurd h
-failed_at Close ReelTooSmall capacity room h = absurd h
-failed_at Close SourceFault capacity room h = absurd h
-failed_at Close OutOfMemory capacity room h = absurd (omega (arith, room, h))
+-- with room for the longest request it fails only by its source
+failed_at : (told : List (List ℕ) → Type 0) (run : PlainRun) (blocks : List (List ℕ)) (at : ℕ × ℕ) (step : Step) (fault : AttemptFault) (capacity : ℕ) → told blocks → READER_LIMIT ≤ capacity
+    → IsFaultAt told run at step fault capacity 0 → (fault ≡ SourceFault) × ((n : ℕ) × (step ≡ Block n))
+failed_at told run blocks at step fault capacity t room (inl h) = h
+failed_at told run blocks at step fault capacity t room (inr (memory, (request, is, textof, scarce))) =
+    (let short = short_text run blocks at.0 at.1 step request (is.0 blocks t) textof in absurd (omega (arith, room, scarce, short)))
 
 -- a read without trouble does not fail, and one in trouble does
 read_fails : (old new : ListedBlocks) (n : ℕ) (into given : List ℕ) (read : Result Unit SourceFailed) (b : Bool) → ListedRead old n into read new given
@@ -153,9 +108,10 @@ came fails step at now old new capacity size text (Ok true) room is (request, is
     let same = isreq.0 old.blocks refl in
     subst (λ b. Came b step at old.blocks text (Ok true) now) (sym (ok_fails fails step size old new text is read))
     (refl, subst (λ t. length t ≤ READER_LIMIT) (sym items) (short_text at.run old.blocks (checkpoint_of at.counts).0 (checkpoint_of at.counts).1 step request same textof), after, items ∙ ap request_text same)
-came fails step at now old new capacity size text (Ok false) room is (close, scarce, items, over) read = absurd (omega (arith, room, scarce))
+came fails step at now old new capacity size text (Ok false) room is (close, scarce, items, over) read =
+    (let short : length (request_text CloseDevice) ≡ 2 = refl in absurd (omega (arith, room, scarce, short)))
 came fails step at now old new capacity size text (Err fault) room is (other, why, items, after) read =
-    let f = failed_at step fault capacity room why in
+    let f = failed_at (AreBlocksOf old) at.run old.blocks (checkpoint_of at.counts) step fault capacity refl room why in
     let read2 = subst (λ x. ReadBy {T = Bool} step size ListedRead old [] (Err x) new text) f.0 read in
     let b : is_failing fails step ≡ true
     = ap (is_failing fails) f.1.1 ∙ err_fails fails f.1.0 size old new text is (subst (λ s. ReadBy {T = Bool} s size ListedRead old [] (Err SourceFault) new text) f.1.1 read2) in
