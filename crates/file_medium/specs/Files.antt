@@ -2,9 +2,10 @@
 use Rattle.std.specs.Prelude.{ℕ}
 use Rattle.tape.specs.Medium.{MediumKind, medium_kind}
 
--- what is told of a file: how many calls have failed, and nothing of its bytes
+-- what is told of a file: how many calls have failed, how often it was cut to nothing, and nothing of its bytes
 pub record FileCount : Type 0 where
   pub failures : ℕ
+  pub beginnings : ℕ
 
 -- any call of a file can fail
 abbrev pub file_kind : MediumKind FileCount

@@ -1,6 +1,6 @@
 //! A medium that is a file of the system.
 
-ghost use Rattle.std.specs.Prelude.{◌≡◌, ◌++◌, ◌≤◌, IfOk, Ok, OnErr, OnOk, length};
+ghost use Rattle.std.specs.Prelude.{◌≡◌, ◌≢◌, ◌++◌, ◌≤◌, IfOk, Ok, OnErr, OnOk, length};
 ghost use Rattle.tape.specs.Failures.{raised};
 ghost use Rattle.tape.specs.Medium.{IsMediumCall};
 ghost use Rattle.tape.specs.Medium.MediumCall.{Len, ReadAt, Append, Cut};
@@ -26,6 +26,7 @@ pub struct FileMedium {
     len: Option<u64>,
     window: Option<Window>,
     failures: u64,
+    beginnings: u64,
 }
 
 impl Model for FileMedium {
@@ -33,7 +34,7 @@ impl Model for FileMedium {
 
     ghost Value = { FileCount };
 
-    ghost view = { λ m. record { failures = m.failures } };
+    ghost view = { λ m. record { failures = m.failures; beginnings = m.beginnings } };
 }
 
 impl FileMedium {
@@ -41,13 +42,15 @@ impl FileMedium {
     ///
     /// A file that is added to has to be open to append (`OpenOptions::append`): its bytes are written where it ends.
     pub fn new(file: File) -> FileMedium
-        ensures { result.failures ≡ 0 }
+        ensures count { result.failures ≡ 0 }
+        ensures begun { result.beginnings ≡ 0 }
     {
         FileMedium {
             file,
             len: None,
             window: None,
             failures: 0,
+            beginnings: 0,
         }
     }
 
@@ -56,9 +59,17 @@ impl FileMedium {
         &self.file
     }
 
+    /// How often the file was cut to nothing, by cuts that went well. It stays at the greatest `u64`.
+    pub fn beginnings(&self) -> u64
+        ensures { result ≡ self.now.beginnings }
+    {
+        self.beginnings
+    }
+
     /// Writes to the device what the system keeps of the file. A failure is not counted here.
     ///
-    /// Answers the system's error.
+    /// Answers the system's error. The system tells once what it could not write, and forgets it then: a sync after one that
+    /// failed says nothing of what was written before that one.
     pub fn sync(&self) -> io::Result<()> {
         self.file.sync_all()
     }
@@ -77,6 +88,13 @@ impl FileMedium {
                 Err(MediumFailed)
             }
         }
+    }
+
+    /// Counts a cut to nothing.
+    fn begin(&mut self)
+        ensures { self.new ≡ record self.old { beginnings = raised self.old.beginnings } }
+    {
+        self.beginnings = self.beginnings.saturating_add(1);
     }
 
     /// Forgets what the system was asked for, before a call changes it.
@@ -183,6 +201,7 @@ impl Medium for FileMedium {
 
     fn append(&mut self, bytes: &[u8]) -> Result<(), MediumFailed>
         ensures call { IsMediumCall file_kind self.old (Append bytes.now result) self.new }
+        ensures same { OnOk result (self.new ≡ self.old) }
         ensures failed { OnErr result (self.new ≡ record self.old { failures = raised self.old.failures }) }
     {
         let end = self.len()?;
@@ -192,6 +211,7 @@ impl Medium for FileMedium {
     /// It is one call of the system, where the system takes all of it at once.
     fn append_framed(&mut self, frame: &[u8], bytes: &[u8]) -> Result<(), MediumFailed>
         ensures call { IsMediumCall file_kind self.old (Append (frame.now ++ (bytes.now ++ frame.now)) result) self.new }
+        ensures same { OnOk result (self.new ≡ self.old) }
         ensures failed { OnErr result (self.new ≡ record self.old { failures = raised self.old.failures }) }
     {
         let end = self.len()?;
@@ -200,12 +220,17 @@ impl Medium for FileMedium {
 
     fn cut(&mut self, len: u64) -> Result<(), MediumFailed>
         ensures call { IsMediumCall file_kind self.old (Cut len result) self.new }
+        ensures begun { OnOk result (len ≡ 0 → self.new ≡ record self.old { beginnings = raised self.old.beginnings }) }
+        ensures same { OnOk result (len ≢ 0 → self.new ≡ self.old) }
         ensures failed { OnErr result (self.new ≡ record self.old { failures = raised self.old.failures }) }
     {
-        if self.len()? <= len {
-            return Ok(());
+        if self.len()? > len {
+            self.shorten(len)?;
         }
-        self.shorten(len)
+        if len == 0 {
+            self.begin();
+        }
+        Ok(())
     }
 
     fn failures(&self) -> u64 {

@@ -3,19 +3,23 @@ use Rattle.std.specs.Prelude.{◌≡◌, ◌≢◌, ◌⊎◌, ℕ, ◌<◌, Boo
 use Rattle.std.specs.List.{Contains}
 use Rattle.tape.specs.Failures.{raised}
 use Rattle.tape.specs.RecordFile.{FileTape}
+use Rattle.file_medium.specs.Files.{FileCount}
 use Rattle.drives.specs.Calls.{StacksCall}
 use Rattle.drives.specs.Calls.StacksCall.{Latch, LayBack, Move}
 use Rattle.drives.specs.declared.fault.DriveFault.{DriveFault}
 use Rattle.drives.specs.declared.fault.DriveFault.TheVariants.{NoReel, Device, OutOfMemory, NameTaken}
 
--- a drive: its name, the folder of its stack, and whether a reel is latched
+-- A drive: its name, the folder of its stack, whether a reel is latched, and how often that reel's file had been cut to
+-- nothing when a sync of it failed last, if one did.
 pub record FolderRow : Type 0 where
   pub name : List ℕ
   pub folder : List ℕ
   pub latched : Bool
+  pub failed : Option ℕ
 
+-- a drive where no sync has failed
 abbrev pub folder_row : List ℕ → List ℕ → Bool → FolderRow
-folder_row name folder latched = record { name = name; folder = folder; latched = latched }
+folder_row name folder latched = record { name = name; folder = folder; latched = latched; failed = None }
 
 -- the drives, the bin's folder, how many bytes each reel takes, and how often the device has failed
 pub record FolderShop : Type 0 where
@@ -31,9 +35,17 @@ folder_shop rows bin capacity failures = record { rows = rows; bin = bin; capaci
 abbrev pub row_at : FolderShop → ℕ → FolderRow
 row_at s d = slice_index_or s.rows d (folder_row [] [] false)
 
--- a reel is latched at drive d, or none is
+-- a reel is latched at drive d, or none is, and no sync has failed
 abbrev pub with_latched : FolderShop → ℕ → Bool → FolderShop
 with_latched s d latched = record s { rows = slice_set s.rows d (folder_row (row_at s d).name (row_at s d).folder latched) }
+
+-- a sync failed at drive d, of a file that had been cut to nothing so often
+abbrev pub with_failed : FolderShop → ℕ → ℕ → FolderShop
+with_failed s d beginnings = record s { rows = slice_set s.rows d (record (row_at s d) { failed = Some beginnings }) }
+
+-- no sync has failed at drive d since its file was last cut to nothing
+abbrev pub IsSyncable : FolderShop → ℕ → FileCount → Type 0
+IsSyncable s d file = (row_at s d).failed ≢ Some file.beginnings
 
 -- the device failed once more
 abbrev pub after_fault : FolderShop → FolderShop
@@ -62,16 +74,16 @@ IsFolderLatch old d (Ok reel) new =
 IsFolderLatch old d (Err NoReel) new = new ≡ old
 IsFolderLatch old d (Err fault) new = ((row_at old d).latched ≡ false) × IsFolderRefused old fault new
 
--- The latched reel was moved. It is not only where its name is taken, which changes nothing, and where the device failed,
--- which is counted.
-abbrev pub IsFolderMove : {U : Type 0} → FolderShop → ℕ → Result U DriveFault → FolderShop → Type 0
-IsFolderMove old d (Ok done) new = ((row_at old d).latched ≡ true) × (new ≡ with_latched old d false)
-IsFolderMove old d (Err Device) new = new ≡ after_fault old
-IsFolderMove old d (Err NameTaken) new = ((row_at old d).latched ≡ true) × (new ≡ old)
-IsFolderMove old d (Err _) new = ⊥
+-- The latched reel was moved, of which no sync has failed since its file was last cut to nothing. It is not only where its
+-- name is taken, which changes nothing, and where the device failed, which is counted: a sync that failed is noted.
+abbrev pub IsFolderMove : {U : Type 0} → FolderShop → ℕ → FileCount → Result U DriveFault → FolderShop → Type 0
+IsFolderMove old d file (Ok done) new = ((row_at old d).latched ≡ true) × IsSyncable old d file × (new ≡ with_latched old d false)
+IsFolderMove old d file (Err Device) new = (new ≡ after_fault old) ⊎ (new ≡ after_fault (with_failed old d file.beginnings))
+IsFolderMove old d file (Err NameTaken) new = ((row_at old d).latched ≡ true) × IsSyncable old d file × (new ≡ old)
+IsFolderMove old d file (Err _) new = ⊥
 
 -- what a call of stacks in folders leaves
-abbrev pub IsFolderCall : {M : Type 0} → FolderShop → FolderShop → StacksCall (FileTape M) → Type 0
+abbrev pub IsFolderCall : FolderShop → FolderShop → StacksCall (FileTape FileCount) → Type 0
 IsFolderCall old new (Latch d result) = IsFolderLatch old d result new
 IsFolderCall old new (LayBack d reel) = new ≡ with_latched old d false
-IsFolderCall old new (Move d reel result) = IsFolderMove old d result new
+IsFolderCall old new (Move d reel result) = IsFolderMove old d reel.medium result new

@@ -1,2 +1,3 @@
--- Drives in folders: Folders.
+-- Drives in folders: Folders. How a file is synced and taken offline: Syncs.
 pub mod Folders
+pub mod Syncs

@@ -177,14 +177,13 @@ impl<R: FolderSystem, L: Log + Drop> FolderStacks<R, L> {
         }
     }
 
-    /// Moves the file of the latched reel to the bin, as `Stacks::offline` does, where it could be synced.
-    fn move_first(&mut self, drive: usize, synced: Result<(), Refusal>) -> Result<(), DriveFault>
+    /// Takes the file of the latched reel offline, which is this medium, as `Stacks::offline` does.
+    fn take_off(&mut self, drive: usize, medium: &FileMedium) -> Result<(), DriveFault>
         requires { drive < length self.old.rows }
-        ensures moved { IsFolderMove self.old drive result self.new }
-        ensures unsynced { IsErr synced → IsErrAnd result (λ fault. fault ≡ Device) }
+        ensures { IsFolderMove self.old drive medium.now result self.new }
     {
         let rack = &mut self.racks[drive];
-        let moved = rack.move_to(&self.rt, self.bin.as_str(), synced);
+        let moved = rack.take_off(&self.rt, self.bin.as_str(), medium);
         self.log.note(rack.moved_line(&moved).as_str());
         match moved {
             Ok(Moved::Done(_)) => {
@@ -258,12 +257,12 @@ impl<R: FolderSystem, L: Log + Drop> Stacks for FolderStacks<R, L> {
         }
     }
 
-    /// Syncs the file where it was written to since the latch, and lets it go, with its lock. A sync that fails is noted, and
-    /// counted nowhere. Where none is latched it does nothing else.
+    /// Syncs the file where it was written to since the latch, and lets it go, with its lock. A sync that fails, or has failed since
+    /// the file was last cut to nothing, is noted, and counted nowhere. Where none is latched it does nothing else.
     fn unlatch(&mut self, drive: usize, reel: FileReel<FileMedium>) {
-        let line = self.racks[drive].close(reel.medium());
+        let rack = &mut self.racks[drive];
+        let line = rack.close(&self.rt, self.bin.as_str(), reel.medium());
         drop(reel);
-        self.racks[drive].note(None);
         if let Some(line) = line {
             self.log.note(line.as_str());
         }
@@ -272,15 +271,14 @@ impl<R: FolderSystem, L: Log + Drop> Stacks for FolderStacks<R, L> {
     /// Syncs the file, renames it under the lock of the bin's folder, and syncs the bin's folder and then the stack's: only then is
     /// it done. What fails after the rename changes nothing of that. It takes no memory, and never answers `OutOfMemory`.
     ///
-    /// Answers `Device` also where none is latched, where others have the lock of the bin's folder for about a second, and where
-    /// another file than was latched has its name.
+    /// Answers `Device` also where none is latched, where others have the lock of the bin's folder for about a second, where
+    /// another file than was latched has its name, and where a sync of the file has failed since it was last cut to nothing.
     fn offline(
         &mut self,
         drive: usize,
         reel: FileReel<FileMedium>,
     ) -> Result<(), (FileReel<FileMedium>, DriveFault)> {
-        let synced = self.racks[drive].sync(reel.medium());
-        match self.move_first(drive, synced) {
+        match self.take_off(drive, reel.medium()) {
             Ok(()) => Ok(()),
             Err(fault) => Err((reel, fault)),
         }

@@ -6,9 +6,11 @@
 
 mod folder;
 mod log;
+mod syncs;
 mod system;
 
 pub use file_medium::FileMedium;
 pub use folder::{FolderDrive, FolderFault, FolderStacks};
 pub use log::{Log, NoLog};
+pub use syncs::{MovableFile, Syncs, take_offline};
 pub use system::FolderSystem;

@@ -3,7 +3,7 @@
 use super::known::{FileId, Written};
 use super::lock::wait_for_lock;
 use super::refusal::{Refusal, at};
-use crate::FolderSystem;
+use crate::{FileMedium, FolderSystem, MovableFile};
 use std::fs::{self, File};
 use std::io::{self, ErrorKind};
 
@@ -20,6 +20,43 @@ pub(super) struct ReelFile {
     pub(super) id: FileId,
     /// What it was at the latch.
     pub(super) written: Written,
+}
+
+/// The file of a latched reel, its medium, and the folders of the stack and the bin. It tells nothing.
+#[derive(Drop)]
+pub(super) struct Latched<'a, R: FolderSystem> {
+    /// The system.
+    pub(super) rt: &'a R,
+    /// The file.
+    pub(super) file: &'a ReelFile,
+    /// Its medium.
+    pub(super) medium: &'a FileMedium,
+    /// The folder of the stack.
+    pub(super) stack: &'a str,
+    /// The folder of the bin.
+    pub(super) bin: &'a str,
+}
+
+impl<R: FolderSystem> MovableFile for Latched<'_, R> {
+    type Moved = Moved;
+
+    type Refusal = Refusal;
+
+    ghost told = { λ _ _. ⊥ };
+
+    ghost beginnings = { λ f. f.medium.now.beginnings };
+
+    fn beginnings(&self) -> u64 {
+        self.medium.beginnings()
+    }
+
+    fn sync(&mut self) -> Result<(), Refusal> {
+        at(self.file.from.as_str(), "sync", self.medium.sync())
+    }
+
+    fn rename(&mut self) -> Result<Moved, Refusal> {
+        move_file(self.rt, self.file, self.stack, self.bin)
+    }
 }
 
 /// What came of a move.
@@ -55,7 +92,7 @@ fn look_again<R: FolderSystem>(rt: &R, file: &ReelFile) -> io::Result<()> {
 ///
 /// After a refusal nothing changed. The bin's folder is synced after the rename, and then the stack's, and what fails then
 /// is told, and changes nothing.
-pub(super) fn move_file<R: FolderSystem>(
+fn move_file<R: FolderSystem>(
     rt: &R,
     file: &ReelFile,
     stack: &str,

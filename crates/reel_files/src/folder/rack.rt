@@ -1,27 +1,29 @@
 //! One drive whose stack is a folder.
 
-ghost use Rattle.std.specs.Prelude.{◌≡◌, ◌≢◌, false, true, IfOk, IsErr, IsSome, is_some, MatchBool, MatchResult};
+ghost use Rattle.std.specs.Prelude.{◌≡◌, ◌≢◌, ◌⊎◌, false, true, Some, IfOk, IsSome, is_some, MatchBool, MatchResult};
 ghost use Rattle.reel_files.specs.Folders.{folder_row};
 
 use super::FolderDrive;
 use super::known::Written;
 use super::line::Line;
 use super::listing::{Opened, open_first};
-use super::moving::{Moved, ReelFile, move_file};
-use super::refusal::{Refusal, at};
-use crate::{FileMedium, FolderSystem};
+use super::moving::{Latched, Moved, ReelFile};
+use super::refusal::Refusal;
+use crate::{FileMedium, FolderSystem, Syncs, take_offline};
 use std::alloc::{AllocError, Global};
 use std::fmt::Write;
 use std::fs::File;
 use std::io::{self, ErrorKind};
 use std::marker::Model;
 
-/// A drive of a `FolderStacks`: its name, the folder of its stack, and the file of the reel that is latched.
+/// A drive of a `FolderStacks`: its name, the folder of its stack, the file of the reel that is latched, and what is known of its
+/// syncs.
 #[derive(Drop)]
 pub(super) struct FolderRack {
     name: String,
     folder: String,
     latched: Option<ReelFile>,
+    syncs: Syncs<Refusal>,
 }
 
 impl Model for FolderRack {
@@ -30,7 +32,7 @@ impl Model for FolderRack {
 
     ghost Value = { FolderRow };
 
-    ghost view = { λ r. folder_row (string_bytes r.name) (string_bytes r.folder) (is_some r.latched) };
+    ghost view = { λ r. record (folder_row (string_bytes r.name) (string_bytes r.folder) (is_some r.latched)) { failed = r.syncs } };
 }
 
 impl FolderRack {
@@ -42,6 +44,7 @@ impl FolderRack {
             name: String::from_str(alloc, drive.name)?,
             folder: String::from_str(alloc, drive.folder)?,
             latched: None,
+            syncs: Syncs::new(),
         })
     }
 
@@ -59,11 +62,12 @@ impl FolderRack {
         self.folder.as_str()
     }
 
-    /// Notes which reel is latched, or that none is.
+    /// Notes which reel is latched, or that none is. No sync has failed then.
     pub(super) fn note(&mut self, latched: Option<ReelFile>)
         ensures { self.new ≡ folder_row self.old.name self.old.folder (is_some latched) }
     {
         self.latched = latched;
+        self.syncs = Syncs::new();
     }
 
     /// Opens and locks the file of the reel that a latch takes. None where one is latched already, and where no plain file
@@ -100,59 +104,80 @@ impl FolderRack {
         line
     }
 
-    /// Syncs the file of the latched reel, where it was written to since the latch. Answers the line of its close, none where none is
-    /// latched. It takes no memory.
-    pub(super) fn close(&self, medium: &FileMedium) -> Option<Line> {
+    /// Syncs the file of the latched reel, which is this medium, where it was written to since the latch, and notes that none is
+    /// latched. Answers the line of the close, none where none was latched. It takes no memory.
+    pub(super) fn close<R: FolderSystem>(
+        &mut self,
+        rt: &R,
+        bin: &str,
+        medium: &FileMedium,
+    ) -> Option<Line>
+        ensures { self.new ≡ folder_row self.old.name self.old.folder false }
+    {
+        let line = self.sync_at_close(rt, bin, medium);
+        self.note(None);
+        line
+    }
+
+    /// Syncs the file as `close` does, and answers its line.
+    fn sync_at_close<R: FolderSystem>(
+        &mut self,
+        rt: &R,
+        bin: &str,
+        medium: &FileMedium,
+    ) -> Option<Line>
+        ensures name { self.new.name ≡ self.old.name }
+        ensures folder { self.new.folder ≡ self.old.folder }
+    {
         let Some(file) = &self.latched else {
             return None;
         };
         let mut line = Line::new();
         let _ = write!(line, "{}: {} closed", self.name, file.name);
         if was_written(file, medium) {
-            match medium.sync() {
-                Ok(()) => {
-                    let _ = write!(line, ", synced");
-                }
-                Err(reason) => {
-                    let _ = write!(line, ", sync failed: {reason}");
-                }
-            }
+            let stack = self.folder.as_str();
+            let synced = self.syncs.sync(&mut Latched {
+                rt,
+                file,
+                medium,
+                stack,
+                bin,
+            });
+            let _ = match synced {
+                Ok(()) => write!(line, ", synced"),
+                Err(refusal) => write!(line, ", sync failed: {}", refusal.reason),
+            };
         }
         Some(line)
     }
 
-    /// Syncs the file of the latched reel. It takes no memory.
-    pub(super) fn sync(&self, medium: &FileMedium) -> Result<(), Refusal> {
-        let path = self.latched_path();
-        at(path, "sync", medium.sync())
-    }
-
-    /// The path of the latched reel, or the folder's.
-    fn latched_path(&self) -> &str {
-        match &self.latched {
-            Some(file) => file.from.as_str(),
-            None => self.folder.as_str(),
-        }
-    }
-
-    /// Moves the file of the latched reel to the bin, where it could be synced. It takes no memory.
+    /// Takes the file of the latched reel offline, which is this medium. It takes no memory.
     ///
     /// It is refused also where none is latched. Nothing changed then.
-    pub(super) fn move_to<R: FolderSystem>(
-        &self,
+    pub(super) fn take_off<R: FolderSystem>(
+        &mut self,
         rt: &R,
         bin: &str,
-        synced: Result<(), Refusal>,
+        medium: &FileMedium,
     ) -> Result<Moved, Refusal>
-        ensures latched { IfOk result (λ _. self.now.latched ≡ true) }
-        ensures unsynced { IsErr synced → IsErr result }
+        ensures latched { IfOk result (λ _. self.old.latched ≡ true) }
+        ensures again { IfOk result (λ _. self.old.failed ≢ Some medium.now.beginnings) }
+        ensures noted { MatchResult result (λ _. self.new ≡ self.old)
+            (λ _. (self.new ≡ self.old) ⊎ (self.new ≡ record self.old { failed = Some medium.now.beginnings })) }
     {
-        synced?;
+        let stack = self.folder.as_str();
         let Some(file) = &self.latched else {
             let none = io::Error::from(ErrorKind::NotFound);
-            return Err(Refusal::new(self.folder.as_str(), "move", none));
+            return Err(Refusal::new(stack, "move", none));
         };
-        move_file(rt, file, self.folder.as_str(), bin)
+        let mut latched = Latched {
+            rt,
+            file,
+            medium,
+            stack,
+            bin,
+        };
+        take_offline(&mut latched, &mut self.syncs)
     }
 
     /// The line of a move. It takes no memory.
