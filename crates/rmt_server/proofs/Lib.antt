@@ -19,3 +19,4 @@ mod TroubledReels
 mod TroubledServing
 mod TroubledSteps
 mod Troubles
+mod Wanting

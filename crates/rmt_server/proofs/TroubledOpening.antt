@@ -50,7 +50,7 @@ open_seen_so trouble held device access asked (Err NoSuchDrive) shop shop' h q =
 open_seen_so trouble held device access asked (Err (Busy n)) shop shop' h q = record { plain = Err (Busy n); step = h; cause = q; reply = refl; seen = refl }
 open_seen_so trouble held device access asked (Err NoReel) shop shop' h q = record { plain = Err NoReel; step = h; cause = q; reply = refl; seen = refl }
 open_seen_so trouble held device access asked (Err Device) shop shop' h q = record { plain = Err Device; step = h; cause = q; reply = refl; seen = refl }
-open_seen_so trouble held device access asked (Err OutOfMemory) shop shop' h q = record { plain = Err OutOfMemory; step = h; cause = q; reply = refl; seen = refl }
+open_seen_so trouble held device access asked (Err OutOfMemory) shop shop' h q = absurd q
 open_seen_so trouble held device access asked (Err NameTaken) shop shop' h q = absurd q
 
 -- why an open answered so

@@ -65,8 +65,8 @@ open_excused trouble n (Err NoSuchDrive) q = tt
 open_excused trouble n (Err (Busy m)) q = subst (λ x. 0 < x) (sym q.1) q.0
 open_excused trouble n (Err NoReel) q = tt
 open_excused trouble n (Err Device) q = set_is trouble q.1
-open_excused trouble n (Err OutOfMemory) q = tt
-open_excused trouble n (Err NameTaken) q = q
+open_excused trouble n (Err OutOfMemory) q = absurd q
+open_excused trouble n (Err NameTaken) q = absurd q
 
 open_step : (trouble : Trouble) (holders : List ℕ) (before : Scene) (device : List ℕ) (access : Option Access) (reply : PlainReply) (after : Scene)
     → TroubledOpens trouble holders before device access reply after

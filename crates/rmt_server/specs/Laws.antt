@@ -12,10 +12,12 @@ use Rattle.drives.specs.Opening.{Kinds}
 use Rattle.rmt_wire.specs.Request.{PlainRequest}
 use Rattle.rmt_wire.specs.Reply.{PlainReply}
 use Rattle.rmt_server.specs.declared.session.desk.Desk.{Desk}
+use Rattle.rmt_server.specs.declared.refusal.Refusal.TheVariants.{NoMemory}
+use Rattle.rmt_server.specs.Refusals.{refused}
 use Rattle.rmt_server.specs.Session.{Scene, ServeStep}
 use Rattle.rmt_server.specs.State.{state, IsAt, Tells, KeepsDrives, drive_of, online_drive}
 use Rattle.rmt_server.specs.Opening.{IsClosed}
-use Rattle.rmt_server.specs.Carrying.{IsCarriedOut}
+use Rattle.rmt_server.specs.Carrying.{IsCarriedOut, is_of_stacks}
 use Rattle.rmt_server.specs.Memory.{MemoryState, in_memory}
 use Rattle.rmt_server.specs.TroubledServe.{TroubledServe, IsTroubled, IsSetFor, IsServedUnder, IsEnded}
 
@@ -72,6 +74,11 @@ abbrev pub TroubledIsServed : Type 0
 TroubledIsServed = (trouble : Trouble) (holders holders' : List ℕ) (k : ℕ) (before after : Scene) (request : PlainRequest) (reply : PlainReply) →
     TroubledServe trouble holders k before request reply after holders' →
     (asked : Option ℕ) × (found : ℕ) × ServeStep (is_set trouble) true asked found before request reply after
+
+-- what is asked of the stacks in memory, an open and MTOFFL, is never answered that memory is wanting
+abbrev pub NoMemoryIsWanted : Type 0
+NoMemoryIsWanted = (trouble : Trouble) (holders holders' : List ℕ) (k : ℕ) (before after : Scene) (request : PlainRequest) (reply : PlainReply) →
+    TroubledServe trouble holders k before request reply after holders' → is_of_stacks request ≡ true → reply ≢ refused NoMemory
 
 -- the end of a session whose open reel has no trouble leaves what `IsEnded` says
 abbrev pub EndsUntroubled : Type 0

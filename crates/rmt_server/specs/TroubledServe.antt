@@ -49,16 +49,15 @@ TroubledReelStep trouble before request reply after =
     × (reply ≡ reel_reply request answer)
     × (after ≡ scene before.shop (Online drive access (plain_reel t reel.capacity)))
 
--- Why an open answers so, where the drive of that name is held by n, or by none at 0: a drive that is held is busy, no
--- reel is latched in spite of a trouble, and memory is wanting where there is none.
+-- Why an open answers so, where the drive of that name is held by n, or by none at 0: a drive that is held is busy, and
+-- no reel is latched in spite of a trouble. A latch in memory wants no memory.
 abbrev pub IsOpenCause : {R : Type 0} → Trouble → ℕ → Result (ℕ × R) DriveFault → Type 0
 IsOpenCause trouble n (Ok opened) = (n ≡ 0) × (trouble ≡ NoTrouble)
 IsOpenCause trouble n (Err drive.NoSuchDrive) = Unit {0}
 IsOpenCause trouble n (Err (drive.Busy m)) = (0 < n) × (m ≡ n)
 IsOpenCause trouble n (Err drive.NoReel) = n ≡ 0
 IsOpenCause trouble n (Err drive.Device) = (n ≡ 0) × (trouble ≢ NoTrouble)
-IsOpenCause trouble n (Err drive.OutOfMemory) = (n ≡ 0) × (trouble ≡ NoTrouble)
-IsOpenCause trouble n (Err drive.NameTaken) = ⊥
+IsOpenCause trouble n (Err _) = ⊥
 
 -- what an open does once nothing is open, where these hold the drives
 abbrev pub TroubledOpens : Trouble → List ℕ → Scene → List ℕ → Option Access → PlainReply → Scene → Type 0
@@ -70,10 +69,12 @@ TroubledOpens trouble holders before device (Some access) reply after =
     × (reply ≡ open_reply result)
     × (after.session ≡ session_after access result)
 
--- a reel is not moved in spite of a trouble
+-- A reel is moved where there is no trouble, and not moved in spite of one. A move in memory wants no memory, and finds
+-- no reel of that name in the bin.
 abbrev pub IsMoveCause : Trouble → Result Unit DriveFault → Type 0
+IsMoveCause trouble (Ok done) = trouble ≡ NoTrouble
 IsMoveCause trouble (Err drive.Device) = trouble ≢ NoTrouble
-IsMoveCause trouble result = trouble ≡ NoTrouble
+IsMoveCause trouble (Err _) = ⊥
 
 -- the latched reel is rewound and moved to the bin
 abbrev pub TroubledMoveStep : Trouble → Scene → ℕ → PlainReply → Scene → Type 0

@@ -13,7 +13,7 @@ ghost use Rattle.rmt_server.specs.State.{IsAt, Tells};
 ghost use Rattle.rmt_server.specs.Memory.{MemoryState, in_memory, scene_seen};
 ghost use Rattle.rmt_server.specs.TroubledServe.{IsTroubled, with_troubles, set_for, IsSetFor};
 ghost use Rattle.rmt_server.specs.Laws.{NoDriveIsOpenTwice, OthersStayAt, OpenIsHeld, FreeIsClosed, StaysAt, StaysAtElsewhere, StaysAtWithMoreSeats};
-ghost use Rattle.rmt_server.specs.Laws.{StaysAtUnderTrouble, TroublesAreServed, TroubledIsServed, EndsUntroubled};
+ghost use Rattle.rmt_server.specs.Laws.{StaysAtUnderTrouble, TroublesAreServed, TroubledIsServed, NoMemoryIsWanted, EndsUntroubled};
 
 use drives::{Holds, Stacks, lying_troubles};
 use tape::device_steps;
@@ -81,11 +81,13 @@ pub fn troubled_serve()
     lying_troubles();
 }
 
-/// What `troubled_serve` says of one request is a serve step.
+/// What `troubled_serve` says of one request is a serve step, and what it says of an open and of operation 6 of mtio has no
+/// want of memory: over stacks in memory neither takes any.
 ///
 /// It does nothing: its contract is a law of the definitions.
 pub fn troubled_is_served()
-    ensures { TroubledIsServed }
+    ensures served { TroubledIsServed }
+    ensures memory { NoMemoryIsWanted }
 {
     device_steps();
 }
