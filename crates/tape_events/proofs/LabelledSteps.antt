@@ -233,8 +233,7 @@ opens_stood trouble holders before request device (Some access) reply after (Err
     closed_stood before request after latch.1 is
 opens_stood trouble holders before request device (Some access) reply after (Err Device, asked, (e, found, named, latch), cause, replies, is) =
     closed_stood before request after latch.1 is
-opens_stood trouble holders before request device (Some access) reply after (Err OutOfMemory, asked, (e, found, named, latch), cause, replies, is) =
-    closed_stood before request after latch.1 is
+opens_stood trouble holders before request device (Some access) reply after (Err OutOfMemory, asked, step, cause, replies, is) = absurd cause
 opens_stood trouble holders before request device (Some access) reply after (Err NameTaken, asked, step, cause, replies, is) = absurd cause
 
 -- no other operation of a reel writes

@@ -361,8 +361,7 @@ opens_laid trouble h k s x u holders device (Some access) reply after t a l free
     not_opened h k s x u t.sits (t.shop ∙ latch.1) (ap online_drive_in (t.session ∙ is)) a l
 opens_laid trouble h k s x u holders device (Some access) reply after t a l free (Err Device, asked, (e, found, named, latch), cause, replies, is) =
     not_opened h k s x u t.sits (t.shop ∙ latch.1) (ap online_drive_in (t.session ∙ is)) a l
-opens_laid trouble h k s x u holders device (Some access) reply after t a l free (Err OutOfMemory, asked, (e, found, named, latch), cause, replies, is) =
-    not_opened h k s x u t.sits (t.shop ∙ latch.1) (ap online_drive_in (t.session ∙ is)) a l
+opens_laid trouble h k s x u holders device (Some access) reply after t a l free (Err OutOfMemory, asked, step, cause, replies, is) = absurd cause
 opens_laid trouble h k s x u holders device (Some access) reply after t a l free (Err NameTaken, asked, step, cause, replies, is) = absurd cause
 
 step_laid : (trouble : Trouble) (h : Hall) (k : ℕ) (s x : Side) (u : Hall) (request : PlainRequest) (reply : PlainReply) (after : Scene) → Scenes h k s x u after

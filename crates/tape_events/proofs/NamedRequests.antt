@@ -84,7 +84,7 @@ opens_comes trouble holders before device (Some access) reply after (Err NoSuchD
 opens_comes trouble holders before device (Some access) reply after (Err (Busy n), asked, (e, found, named, same), cause, replies, is) = not_opened before after same is
 opens_comes trouble holders before device (Some access) reply after (Err NoReel, asked, (e, found, named, latch), cause, replies, is) = not_opened before after latch.1 is
 opens_comes trouble holders before device (Some access) reply after (Err Device, asked, (e, found, named, latch), cause, replies, is) = not_opened before after latch.1 is
-opens_comes trouble holders before device (Some access) reply after (Err OutOfMemory, asked, (e, found, named, latch), cause, replies, is) = not_opened before after latch.1 is
+opens_comes trouble holders before device (Some access) reply after (Err OutOfMemory, asked, step, cause, replies, is) = absurd cause
 opens_comes trouble holders before device (Some access) reply after (Err NameTaken, asked, step, cause, replies, is) = absurd cause
 
 -- a request that is no open

@@ -113,10 +113,7 @@ opens_serves trouble holders before device (Some access) reply after places (Err
   racks = ap (λ (s : Shop). length s.racks) latch.1 ∙ closed_racks before.shop before.session;
   drive = λ d at. (let clash : drive_in Idle ≡ Some d = sym (ap drive_in is) ∙ at in absurd cc);
 }
-opens_serves trouble holders before device (Some access) reply after places (Err OutOfMemory, asked, (e, found, named, latch), cause, replies, is) = record {
-  racks = ap (λ (s : Shop). length s.racks) latch.1 ∙ closed_racks before.shop before.session;
-  drive = λ d at. (let clash : drive_in Idle ≡ Some d = sym (ap drive_in is) ∙ at in absurd cc);
-}
+opens_serves trouble holders before device (Some access) reply after places (Err OutOfMemory, asked, step, cause, replies, is) = absurd cause
 opens_serves trouble holders before device (Some access) reply after places (Err NameTaken, asked, step, cause, replies, is) = absurd cause
 
 done_stays : (trouble : Trouble) (before : Scene) (request : PlainRequest) (reply : PlainReply) (after : Scene) → TroubledDoneStep trouble before request reply after

@@ -64,8 +64,7 @@ opens_bin trouble holders before device (Some access) reply after (Err NoReel, a
     same_bin before.shop.bin after.shop.bin (ap (λ (s : Shop). s.bin) latch.1 ∙ closed_bin before.shop before.session)
 opens_bin trouble holders before device (Some access) reply after (Err Device, asked, (d, at, named, latch), cause, replies, is) =
     same_bin before.shop.bin after.shop.bin (ap (λ (s : Shop). s.bin) latch.1 ∙ closed_bin before.shop before.session)
-opens_bin trouble holders before device (Some access) reply after (Err OutOfMemory, asked, (d, at, named, latch), cause, replies, is) =
-    same_bin before.shop.bin after.shop.bin (ap (λ (s : Shop). s.bin) latch.1 ∙ closed_bin before.shop before.session)
+opens_bin trouble holders before device (Some access) reply after (Err OutOfMemory, asked, opens, cause, replies, is) = absurd cause
 opens_bin trouble holders before device (Some access) reply after (Err NameTaken, asked, opens, cause, replies, is) = absurd cause
 
 pub served_bin : (trouble : Trouble) (holders : List ℕ) (before : Scene) (request : PlainRequest) (reply : PlainReply) (after : Scene)

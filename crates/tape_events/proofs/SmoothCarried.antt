@@ -136,7 +136,6 @@ carried_smooth g h drive w u k c l d b s step kept sm un v =
       volume = v.attempt.volume;
       first = v.attempt.first;
       done = p.done;
-      once = kept.once.once;
     } un.stands served) in
     let bins = served_bin NoTrouble w.hall.holders (scene w.hall.shop s.session) (request_in b d step) v.reply (scene v.shop v.session) served.step in
     let x : World = carried w k v.request v.reply v.reached v.shop v.session v.holders in

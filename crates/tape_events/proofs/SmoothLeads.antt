@@ -1,5 +1,5 @@
 -- Where the reply to each request of an attempt leads, on a link without faults.
-use Rattle.std.proofs.Common.{◌≡◌, ◌⊎◌, ℕ, zero, suc, ◌+◌, ◌<◌, ◌≤◌, ◌==◌, nat_lt, if◌then◌else◌, Bool, true, false, List, [], ◌∷◌, ◌++◌, length, append_assoc, Option, Some, None, Contains, refl, sym, ap, subst, ◌∙◌, inl, inr, arith}
+use Rattle.std.proofs.Common.{◌≡◌, ◌⊎◌, ℕ, zero, suc, ◌+◌, ◌<◌, ◌≤◌, ◌==◌, nat_lt, if◌then◌else◌, Bool, true, false, List, [], ◌∷◌, ◌++◌, length, append_assoc, Option, Some, Contains, refl, sym, ap, subst, ◌∙◌, inl, inr, arith}
 use Rattle.std.specs.Prelude.{get_or}
 use Rattle.std.proofs.lemmas.Bool.Decides.{nat_tests}
 use Rattle.std.proofs.lemmas.List.{append-nil}
@@ -91,7 +91,11 @@ pub refused_leads : (drive : PlainDriveSpec) (t : Stock) (k : ℕ) (old : Standi
 refused_leads drive t k old b d device before reply after holders opens q bin =
     let e : Dumping = record d { carried = raised d.carried } in
     subst (λ r. Leads drive (then_stock t after.shop holders opens) (attempt_on k b (noted (OpenDevice device O_RDWR) r d) after.session) old Open r) (sym q.replies.is)
-    (λ progress new (moves, is). fails_with drive (then_stock t after.shop holders opens) k old b e after.session progress new q.replies.number q.replies.why
+    (λ progress new (moves, is). fails_with drive (then_stock t after.shop holders opens) k old b e after.session progress new q.replies.number
+    (elim q.replies.why [
+      | inl drive_gone ↦ inl drive_gone
+      | inr reel_gone ↦ inr (inl reel_gone)
+    ])
     (ap (λ (x : Shop). x.bin) q.shop ∙ bin) moves is)
 
 -- the reel is still in the drive, with these entries
@@ -323,11 +327,10 @@ volume_written b d labelled marked =
 pub unload_leads : (drive : PlainDriveSpec) (t : Stock) (k : ℕ) (old : Standing) (b : Begun) (d : Dumping) (o : Option Side) (session : PlainSession) (next : ℕ) (reply : PlainReply)
     (after : Scene) (holders : List ℕ) (opens : List Opening) → HasDone b.run o d (Unload next) → (after.session ≡ Offline 0 Both → holders ≡ k ∷ [])
     → (q : IsLatched drive t k b d session) → Contains opens (opening k q.name)
-    → ((reply ≡ Done 1)
-    × (after ≡ scene (one_drive drive (blanks drive q.others) (volume_slots drive t ++ slot q.name (Some (kept_reel (attempt_written b.run b.payload d) drive.capacity)) ∷ [])) (Offline 0 Both)))
-    ⊎ (IsScarce reply × (after.shop ≡ one_drive drive (slot q.name None ∷ blanks drive q.others) (volume_slots drive t)))
+    → (reply ≡ Done 1)
+    × (after ≡ scene (one_drive drive (blanks drive q.others) (volume_slots drive t ++ slot q.name (Some (kept_reel (attempt_written b.run b.payload d) drive.capacity)) ∷ [])) (Offline 0 Both))
     → Leads drive (then_stock t after.shop holders opens) (attempt_on k b (noted (Op MTOFFL 1) reply d) after.session) old (Unload next) reply
-unload_leads drive t k old b d o session next reply after holders opens h held q among (inl (replies, is_after)) =
+unload_leads drive t k old b d o session next reply after holders opens h held q among (replies, is_after) =
     let off : after.session ≡ Offline 0 Both = ap (λ (v : Scene). v.session) is_after in
     subst (λ r. Leads drive (then_stock t after.shop holders opens) (attempt_on k b (noted (Op MTOFFL 1) r d) after.session) old (Unload next) r) (sym replies)
     (λ progress new (moves, is). led drive (then_stock t after.shop holders opens) k old b (carried_on d) after.session (ToSend Close) (counted_to old.counts next) moved.Send progress new
@@ -342,10 +345,6 @@ unload_leads drive t k old b d o session next reply after holders opens h held q
       offline = off;
       opened = among;
     } (ap (counted_to old.counts) h.blocks))
-unload_leads drive t k old b d o session next reply after holders opens h held q among (inr ((words, replies), stays)) =
-    subst (λ r. Leads drive (then_stock t after.shop holders opens) (attempt_on k b (noted (Op MTOFFL 1) r d) after.session) old (Unload next) r) (sym replies)
-    (λ progress new (moves, is). fails_with drive (then_stock t after.shop holders opens) k old b (carried_on d) after.session progress new 12 (inr (inr refl))
-    (ap (λ (x : Shop). x.bin) stays) moves is)
 
 -- the attempt is over
 over_leads : (drive : PlainDriveSpec) (t : Stock) (k : ℕ) (old : Standing) (b : Begun) (d : Dumping) (session : PlainSession) (progress : Progress) (new : Standing) → IsFree drive t

@@ -3,8 +3,6 @@ use Rattle.std.proofs.Common.{◌≡◌, ◌⊎◌, ℕ, ◌+◌, ◌<◌, ◌�
 use Rattle.std.proofs.lemmas.Bool.Decides.{nat_tests}
 use Rattle.std.proofs.lemmas.Option.{same_Some}
 use Rattle.std.proofs.lemmas.List.{append-nil}
-use Rattle.std.proofs.lemmas.List.Sums.{sum_by-append, sum_by-cons}
-use Rattle.std.proofs.lemmas.Slice.Eq.{bytes_eq-Decides}
 use Rattle.tape.specs.Tape.{PlainEntry, Tape, tape, TapeAnswer, offset_of, entries_of}
 use Rattle.rmt_wire.specs.declared.limits.TheConstants.{RECORD_LIMIT}
 use Rattle.tape.specs.Tape.PlainEntry.{Record, Mark}
@@ -20,8 +18,8 @@ use Rattle.rmt_wire.specs.declared.errno.TheConstants.{ENOENT, ENOMEM, ENXIO}
 use Rattle.rmt_wire.specs.declared.fcntl.TheConstants.{O_RDWR}
 use Rattle.rmt_wire.specs.declared.mtio.TheConstants.{MTOFFL, MTREW, MTWEOF}
 use Rattle.drives.specs.declared.fault.DriveFault.TheVariants.{NoSuchDrive, Busy as Taken, NoReel, Device, OutOfMemory, NameTaken}
-use Rattle.drives.specs.Shop.{KeptReel, kept_reel, Slot, slot, Shop, EachReelOnce, times, names_in, names_of, IsNameInBin, slots_in, waiting_reel, after_latch, after_offline, latched_at}
-use Rattle.drives.proofs.Shops.{bit, named, times_named}
+use Rattle.drives.specs.Shop.{KeptReel, kept_reel, Slot, slot, Shop, waiting_reel, after_latch, after_offline}
+use Rattle.drives.proofs.Shops.{named}
 use Rattle.rmt_server.specs.declared.access.Access.TheVariants.{Both}
 use Rattle.rmt_server.specs.Refusals.{refused, tape_refusal}
 use Rattle.rmt_server.specs.Session.{PlainReel, plain_reel, Scene, scene, tape_request, reel_reply}
@@ -30,12 +28,12 @@ use Rattle.rmt_server.specs.TroubledServe.{holder_of, TroubledServeStep, Trouble
 use Rattle.tape_events.specs.First.{PlainDriveSpec}
 use Rattle.tape_events.specs.Smooth.{blanks, one_drive}
 
--- no drive, no reel or no memory
+-- no drive or no reel
 pub record IsTurnedDown (reply : PlainReply) : Type 0 where
   pub number : ℕ
   pub words : List ℕ
   pub is : reply ≡ Error number words
-  pub why : (number ≡ ENOENT) ⊎ (number ≡ ENXIO) ⊎ (number ≡ ENOMEM)
+  pub why : (number ≡ ENOENT) ⊎ (number ≡ ENXIO)
 
 -- want of memory
 abbrev pub IsScarce : PlainReply → Type 0
@@ -55,7 +53,7 @@ pub record Refused (before : Shop) (reply : PlainReply) (after : Scene) : Type 0
   pub shop : after.shop ≡ before
   pub idle : after.session ≡ Idle
 
-refused_as : (before : Shop) (reply : PlainReply) (after : Scene) (n : ℕ) (words : List ℕ) → reply ≡ Error n words → (n ≡ ENOENT) ⊎ (n ≡ ENXIO) ⊎ (n ≡ ENOMEM) → after.shop ≡ before
+refused_as : (before : Shop) (reply : PlainReply) (after : Scene) (n : ℕ) (words : List ℕ) → reply ≡ Error n words → (n ≡ ENOENT) ⊎ (n ≡ ENXIO) → after.shop ≡ before
     → after.session ≡ Idle → Refused before reply after
 refused_as before reply after n words is why shop session = record { replies = record { number = n; words = words; is = is; why = why }; shop = shop; idle = session }
 
@@ -93,10 +91,9 @@ serve_open drive names bin device reply after (Err (Taken n), asked, (d, is, nam
     let held = cause.0 in
     absurd (omega (arith, held, free))
 serve_open drive names bin device reply after (Err NoReel, asked, (d, is, named, latch), cause, replies, session) =
-    inr (refused_as (one_drive drive (blanks drive names) bin) reply after _ _ replies (inr (inl refl)) latch.1 session)
+    inr (refused_as (one_drive drive (blanks drive names) bin) reply after _ _ replies (inr refl) latch.1 session)
 serve_open drive names bin device reply after (Err Device, asked, opens, cause, replies, session) = absurd (cause.1 refl)
-serve_open drive names bin device reply after (Err OutOfMemory, asked, (d, is, named, latch), cause, replies, session) =
-    inr (refused_as (one_drive drive (blanks drive names) bin) reply after _ _ replies (inr (inr refl)) latch.1 session)
+serve_open drive names bin device reply after (Err OutOfMemory, asked, opens, cause, replies, session) = absurd cause
 serve_open drive names bin device reply after (Err NameTaken, asked, opens, cause, replies, session) = absurd cause
 
 -- one call of the reel in the drive
@@ -208,43 +205,26 @@ serve_mark shop capacity before reply holders after room step = marked_by (calle
         → ((reply ≡ Done 1) × IsOnline shop capacity (tape (before ++ Mark ∷ []) []) after) ⊎ (IsScarce reply × IsOnline shop capacity (tape before []) after)
     marked_by c = answered c.answer c.tape c.device c.replies c.is
 
--- the name of the reel in the drive is not that of one in the bin
-name_free : (drive : PlainDriveSpec) (stack bin : List (Slot KeptReel)) (name : List ℕ) → EachReelOnce (one_drive drive (slot name None ∷ stack) bin) → 0 < times name (names_of bin) → ⊥
-name_free drive stack bin name once among =
-    let few : times name (names_in (one_drive drive (slot name None ∷ stack) bin)) ≤ 1 = once name in
-    let all = times_named name (slots_in (one_drive drive (slot name None ∷ stack) bin)) in
-    let one : named name (slot {X = KeptReel} name None) ≡ 1 = ap bit ((bytes_eq-Decides name name).1 refl) in
-    let first = sum_by-cons (named name) (slot name None) (stack ++ []) in
-    let parts = sum_by-append (named name) ((slot name None ∷ stack) ++ []) bin in
-    let there = times_named name bin in
-    omega (arith, few, all, one, first, parts, there, among)
-
--- the reel went to the bin, or there is no memory, and it stays
+-- the reel went to the bin
 pub serve_unload : (drive : PlainDriveSpec) (stack bin : List (Slot KeptReel)) (name : List ℕ) (before : List PlainEntry) (reply : PlainReply) (holders : List ℕ) (after : Scene)
-    → EachReelOnce (one_drive drive (slot name None ∷ stack) bin)
     → TroubledServeStep NoTrouble holders (scene (one_drive drive (slot name None ∷ stack) bin) (Online 0 Both (plain_reel (tape before []) drive.capacity))) (Op MTOFFL 1) reply after
-    → ((reply ≡ Done 1) × (after ≡ scene (one_drive drive stack (bin ++ slot name (Some (kept_reel before drive.capacity)) ∷ [])) (Offline 0 Both)))
-    ⊎ (IsScarce reply × (after.shop ≡ one_drive drive (slot name None ∷ stack) bin))
-serve_unload drive stack bin name before reply holders after once (e, access, x, Ok done, online, cause, replies, is) =
+    → (reply ≡ Done 1) × (after ≡ scene (one_drive drive stack (bin ++ slot name (Some (kept_reel before drive.capacity)) ∷ [])) (Offline 0 Both))
+serve_unload drive stack bin name before reply holders after (e, access, x, Ok done, online, cause, replies, is) =
     let drives : e ≡ 0 = cc in
     let accesses : access ≡ Both = cc in
-    let reels : x ≡ plain_reel (tape before []) drive.capacity = cc in
-    inl (
+    let reels : x ≡ plain_reel (tape before []) drive.capacity = cc in (
       replies,
       is ∙ ap (λ n. scene (after_offline (one_drive drive (slot name None ∷ stack) bin) n (entries_of x.tape) x.capacity) (Offline n access)) drives
           ∙ ap (λ a. scene (after_offline (one_drive drive (slot name None ∷ stack) bin) 0 (entries_of x.tape) x.capacity) (Offline 0 a)) accesses
           ∙ ap (λ (r : PlainReel). scene (after_offline (one_drive drive (slot name None ∷ stack) bin) 0 (entries_of r.tape) r.capacity) (Offline 0 Both)) reels
           ∙ ap (λ l. scene (one_drive drive stack (bin ++ slot name (Some (kept_reel l drive.capacity)) ∷ [])) (Offline 0 Both)) (append-nil before),
     )
-serve_unload drive stack bin name before reply holders after once (e, access, x, Err OutOfMemory, online, cause, replies, (excused, stays, is)) = inr ((_, replies), stays.0)
-serve_unload drive stack bin name before reply holders after once (e, access, x, Err Device, online, cause, replies, (excused, stays, is)) = absurd (cause refl)
-serve_unload drive stack bin name before reply holders after once (e, access, x, Err NameTaken, online, cause, replies, (excused, stays, is)) =
-    let drives : e ≡ 0 = cc in
-    absurd (name_free drive stack bin name once
-    (subst (λ n. IsNameInBin (one_drive drive (slot name None ∷ stack) bin) (latched_at (one_drive drive (slot name None ∷ stack) bin) n)) drives (stays.1 refl)))
-serve_unload drive stack bin name before reply holders after once (e, access, x, Err NoSuchDrive, online, cause, replies, (excused, stays, is)) = absurd excused
-serve_unload drive stack bin name before reply holders after once (e, access, x, Err (Taken n), online, cause, replies, (excused, stays, is)) = absurd excused
-serve_unload drive stack bin name before reply holders after once (e, access, x, Err NoReel, online, cause, replies, (excused, stays, is)) = absurd excused
+serve_unload drive stack bin name before reply holders after (e, access, x, Err Device, online, cause, replies, is) = absurd (cause refl)
+serve_unload drive stack bin name before reply holders after (e, access, x, Err OutOfMemory, online, cause, replies, is) = absurd cause
+serve_unload drive stack bin name before reply holders after (e, access, x, Err NameTaken, online, cause, replies, is) = absurd cause
+serve_unload drive stack bin name before reply holders after (e, access, x, Err NoSuchDrive, online, cause, replies, is) = absurd cause
+serve_unload drive stack bin name before reply holders after (e, access, x, Err (Taken n), online, cause, replies, is) = absurd cause
+serve_unload drive stack bin name before reply holders after (e, access, x, Err NoReel, online, cause, replies, is) = absurd cause
 
 -- the drive is given back
 pub serve_close : (shop : Shop) (reply : PlainReply) (holders : List ℕ) (after : Scene) → TroubledServeStep NoTrouble holders (scene shop (Offline 0 Both)) Close reply after

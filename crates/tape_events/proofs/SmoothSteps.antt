@@ -9,7 +9,7 @@ use Rattle.rmt_wire.specs.Request.{PlainRequest}
 use Rattle.rmt_wire.specs.Request.PlainRequest.{Open as OpenDevice, Write, Op, Close as CloseDevice}
 use Rattle.rmt_wire.specs.Reply.{PlainReply}
 use Rattle.rmt_wire.specs.declared.mtio.TheConstants.{MTOFFL, MTREW, MTWEOF}
-use Rattle.drives.specs.Shop.{Shop, EachReelOnce, rack_at}
+use Rattle.drives.specs.Shop.{Shop, rack_at}
 use Rattle.rmt_server.specs.declared.access.Access.TheVariants.{Both}
 use Rattle.rmt_server.specs.Hall.{Side}
 use Rattle.rmt_server.specs.Session.{plain_reel, PlainSession, Scene, scene}
@@ -58,7 +58,6 @@ pub record Attempt (t : Stock) (k : ℕ) (old : Standing) (b : Begun) (d : Dumpi
   pub volume : d.volume ≡ (attempt_at step old.counts).0
   pub first : d.first ≡ (attempt_at step old.counts).1
   pub done : HasDone b.run (Some s) d step
-  pub once : EachReelOnce t.shop
 
 -- the openings once the request was carried out
 abbrev pub opens_then : Stock → ℕ → PlainRequest → Shop → PlainSession → List Opening
@@ -185,7 +184,7 @@ unload_step : (drive : PlainDriveSpec) (t : Stock) (k : ℕ) (old : Standing) (b
 unload_step drive t k old b d s next reply shop session holders a q served =
     unload_leads drive t k old b d (Some s) s.session next reply (scene shop session) holders (opens_then t k (Op MTOFFL 1) shop session) a.done
     (λ off. latched_held drive t k b d s.session session (Op MTOFFL 1) reply shop holders q served (ap drive_in off)) q (still_opened t.opens [] (opening k q.name) q.opened)
-    (serve_unload drive (blanks drive q.others) (volume_slots drive t) q.name (attempt_written b.run b.payload d) reply t.holders (scene shop session) (subst EachReelOnce q.shop a.once)
+    (serve_unload drive (blanks drive q.others) (volume_slots drive t) q.name (attempt_written b.run b.payload d) reply t.holders (scene shop session)
     (subst (λ x. TroubledServeStep NoTrouble t.holders (scene x (Online 0 Both (plain_reel (tape (attempt_written b.run b.payload d) []) drive.capacity))) (Op MTOFFL 1) reply (scene shop session))
     q.shop (latched_step drive t k b d s.session session (Op MTOFFL 1) reply shop holders q served)))
 
