@@ -38,6 +38,7 @@ CHECKS = {
     "clients.py": ("rmtd",),
     "cuts.py": ("rsim",),
     "rows.py": ("rmtd",),
+    "half_open.py": ("rmtd", "rdump"),
     "dates.py": ("rdump",),
 }
 

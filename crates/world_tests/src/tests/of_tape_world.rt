@@ -1,5 +1,6 @@
 //! What a world has to do, by hand.
 
+mod cuts;
 mod dump;
 mod laws;
 mod line;
