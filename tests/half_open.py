@@ -3,7 +3,7 @@
 
     half_open.py [RMTD [RDUMP]]
 
-Two hosts are two network namespaces with a link between them, which is taken away. The steps are those of docs/OPERATING.md, *A client that says
+Two hosts are two network namespaces with a link between them, which goes down. The steps are those of docs/OPERATING.md, *A client that says
 nothing*. Where no namespaces can be made, or the kernel can end no connection, that is named as skipped.
 """
 
@@ -117,7 +117,7 @@ def ends_the_connection(site: Site) -> None:
     accepted = site.lines(rf"connection 1: accepted from {re.escape(CLIENT_ADDRESS)}:\d+$")
     check("half open: and where it came from", len(accepted) == 1, site.log.read_text())
     port = accepted[0].rpartition(":")[2] if accepted else "0"
-    check("half open: which ss shows", len(site.connections()) == 1 and site.connections()[0].endswith(f":{port} "), site.connections())
+    check("half open: which ss shows", [it.split()[-1] for it in site.connections()] == [f"{CLIENT_ADDRESS}:{port}"], site.connections())
     tool(*on_host(SERVER, "ss", "-tK", "dst", CLIENT_ADDRESS, "dport", "=", port))
     if site.connections():
         print("skipped: a half-open connection that an operator ends: the kernel ends none")
@@ -127,7 +127,7 @@ def ends_the_connection(site: Site) -> None:
 
 
 def half_open(rmtd: str, rdump: str, folder: Path) -> None:
-    """A server on one host; a client on the other that opens the drive, and the link between them goes away."""
+    """A server on one host; a client on the other that opens the drive, and the link between them goes down."""
     for name in ("st0", "bin"):
         (folder / name).mkdir()
     (folder / "st0/r1").touch()
@@ -137,7 +137,7 @@ def half_open(rmtd: str, rdump: str, folder: Path) -> None:
         silent = on_host(CLIENT, sys.executable, "-c", SILENT, SERVER_ADDRESS, str(port))
         with started(silent, folder / "errors") as client:
             check("half open: the client has the drive", client.stdout.readline() == "A0\n")
-            tool("ip", "-n", CLIENT, "link", "del", "back")
+            tool("ip", "-n", CLIENT, "link", "set", "back", "down")
             ends_the_connection(Site(rdump, folder / "log", port))
 
 

@@ -17,44 +17,37 @@ static DRIVES: [DriveSpec<'static>; 1] = [DriveSpec {
 }];
 
 /// A request of an attempt: how many bytes it has, and how many its answer has.
-struct Round {
-    sent: usize,
-    answered: usize,
-}
-
-const fn round(sent: usize, answered: usize) -> Round {
-    Round { sent, answered }
-}
+type Round = (usize, usize);
 
 /// The first attempt: open, rewind, label, two blocks, a third that has no room, mark, move to the bin, close.
 static FIRST_ATTEMPT: [Round; 9] = [
-    round(12, 3),
-    round(5, 3),
-    round(1030, 6),
-    round(1030, 6),
-    round(1030, 6),
-    round(1030, 3),
-    round(5, 3),
-    round(5, 3),
-    round(2, 3),
+    (12, 3),
+    (5, 3),
+    (1030, 6),
+    (1030, 6),
+    (1030, 6),
+    (1030, 3),
+    (5, 3),
+    (5, 3),
+    (2, 3),
 ];
 
 /// The second: open, rewind, label, the third block, mark, move to the bin, close.
 static SECOND_ATTEMPT: [Round; 7] = [
-    round(12, 3),
-    round(5, 3),
-    round(1030, 6),
-    round(1030, 6),
-    round(5, 3),
-    round(5, 3),
-    round(2, 3),
+    (12, 3),
+    (5, 3),
+    (1030, 6),
+    (1030, 6),
+    (5, 3),
+    (5, 3),
+    (2, 3),
 ];
 
 /// The bytes of these requests.
 fn sent(rounds: &[Round]) -> usize {
     let mut total: usize = 0;
-    for round in rounds {
-        total = total.saturating_add(round.sent);
+    for (bytes, _) in rounds {
+        total = total.saturating_add(*bytes);
     }
     total
 }
@@ -62,8 +55,8 @@ fn sent(rounds: &[Round]) -> usize {
 /// The bytes of their answers.
 fn answered(rounds: &[Round]) -> usize {
     let mut total: usize = 0;
-    for round in rounds {
-        total = total.saturating_add(round.answered);
+    for (_, bytes) in rounds {
+        total = total.saturating_add(*bytes);
     }
     total
 }
@@ -274,7 +267,7 @@ fn first_count(world: &World) -> Option<(&[u8], usize)> {
 /// Whether the session of the first attempt, cut there, had opened the drive and not closed it.
 fn holds_the_drive(cut: &Cut) -> bool {
     let whole = &FIRST_ATTEMPT;
-    let opened = whole[0].sent;
+    let (opened, _) = whole[0];
     let moved = answered(&whole[..8]);
     match cut.to_server {
         true => (opened..sent(whole)).contains(&cut.count),
