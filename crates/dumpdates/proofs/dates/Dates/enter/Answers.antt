@@ -15,7 +15,9 @@ pub returns-in_ok-append-in-None-clause-entered : goal.returns-in_ok-append-in-N
 returns-in_ok-append-in-None-clause-entered c =
     let e = plain_entry c.args.entry in
     let a = absent e c.self.inside.entries.items (rw c.deref.ensures.value at (sym c.in-None.ensures)) in
-    c.in_ok-append-in-None.ensures.last ∙ sym a.1 ∙ ap (λ d. entered d e) c.self.view_is
+    let last = c.in_ok-append-in-None.ensures.last in
+    let whole = sym a.1 ∙ ap (λ d. entered d e) c.self.view_is in
+    cc
 
 pub returns-in-Some-clause-entered : goal.returns-in-Some-clause-entered
 returns-in-Some-clause-entered c = search rules
