@@ -1,16 +1,22 @@
 #!/usr/bin/env python3
 """Checks docs/PROMISES.md against the crates. Each heading names calls or laws of the crate of its section, each line the clauses
 of their contracts, and each `refused` an edit that is there. Each public call with a contract, each of its clauses, and each
-edit is named. No line has more than 120 characters.
+edit is named. The section "Edits without a control" names just the edits beside which no NAME.control.md stands. No line has more
+than 120 characters.
 
     promises.py
+    promises.py --without-controls
+
+With the word it prints what that section has to hold, as the crates are.
 """
 
 from __future__ import annotations
 
 import re
 import sys
+import textwrap
 from functools import lru_cache
+from itertools import groupby
 from pathlib import Path
 from typing import Iterator, NamedTuple
 
@@ -22,6 +28,7 @@ SECTION = re.compile(r"## `(\w+)`")
 # The clauses that a line is about: `- ` and names up to the first colon.
 CLAUSES = re.compile(r"- ((?:`\w+`, )*`\w+`):")
 REFUSED = "  - refused: "
+UNCONTROLLED = "## Edits without a control"
 
 
 class Call(NamedTuple):
@@ -42,6 +49,33 @@ def libraries() -> list[str]:
 
 def edits() -> set[str]:
     return {f"{it.parent.parent.name}/{it.stem}" for it in TOP.glob("crates/*/must-fail/*.edit")}
+
+
+def without_controls() -> set[str]:
+    """The edits beside which no control stands."""
+    return {it for it in edits() if not (TOP / "crates" / it.replace("/", "/must-fail/")).with_suffix(".control.md").exists()}
+
+
+def told_without_controls(lines: list[str]) -> set[str]:
+    """The edits that the section of them names."""
+    found, crate, within = set[str](), "", False
+    for line in lines:
+        within = line == UNCONTROLLED if line.startswith("## ") else within
+        if not within or not re.match(r"(?:- |  )`", line):
+            continue
+        names = QUOTED.findall(line)
+        crate, names = (names[0], names[1:]) if line.startswith("- ") else (crate, names)
+        found |= {f"{crate}/{it}" for it in names}
+    return found
+
+
+def section_of(edits_named: set[str]) -> str:
+    """The lines of the section, one crate after the other."""
+    out = []
+    for crate, names in groupby(sorted(it.split("/") for it in edits_named), key=lambda it: it[0]):
+        text = f"- `{crate}`: " + ", ".join(f"`{name}`" for _, name in names)
+        out.append(textwrap.fill(text, LONGEST, subsequent_indent="  ", break_long_words=False, break_on_hyphens=False))
+    return "\n".join(out) if out else "- None."
 
 
 def exported(crate: str) -> set[str]:
@@ -166,6 +200,9 @@ class Section:
 
 
 def main() -> int:
+    if sys.argv[1:] == ["--without-controls"]:
+        print(section_of(without_controls()))
+        return 0
     there, told, wrong = edits(), set[str](), []
     sections: dict[str, Section] = {}
     section: Section | None = None
@@ -186,6 +223,9 @@ def main() -> int:
     for crate in libraries():
         wrong += sections[crate].missing() if crate in sections else Section(crate).missing()
     wrong += [f"docs/PROMISES.md does not name the edit {it}" for it in sorted(there - told)]
+    bare, said = without_controls(), told_without_controls(PROMISES.read_text().split("\n"))
+    wrong += [f"{it} has no control, and \"Edits without a control\" does not name it" for it in sorted(bare - said)]
+    wrong += [f"\"Edits without a control\" names {it}, which has one or is not there" for it in sorted(said - bare)]
     count = sum(len(it.named) for it in sections.values())
     print("\n".join(wrong) if wrong else f"promises: {count} calls and laws and {len(told)} edits are as the crates have them")
     return 1 if wrong else 0
