@@ -118,7 +118,6 @@ UNSHOWN = {
     "rdump: the clock: it tells no date": "it takes a clock before 1970, and all processes of a machine have one clock",
     "rdump: FILE: its .new was locked for ten seconds": "tests/updates.py shows it, and waits for it beside other checks",
     "rdump: FILE: its .new is no plain file": "tests/updates.py shows it, and a recipe of its own would take a dump more",
-    "rdump: FILE: it is no dumpdates file, or memory was refused": "tests/updates.py shows it: the file has to change while a dump runs",
     "rdump: FILE: another run writes it": "tests/told.py shows it: it takes a server that does not answer",
 }
 

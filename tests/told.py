@@ -239,7 +239,7 @@ def reset(stream: socket.socket) -> None:
 
 
 def pauses(p: Programs) -> None:
-    """How long an attempt waits after one that came to no server."""
+    """How long an attempt waits after one that came to no server, and after failures that a server answered: not after the first of these."""
     p.file("payload", PAYLOAD)
     silent = Said()
     for title, address in (("no server", NOWHERE), ("a server that says nothing", silent.address)):
@@ -248,11 +248,12 @@ def pauses(p: Programs) -> None:
         check(f"{title}: three seconds for four attempts", 3 <= time.monotonic() - began < 20, time.monotonic() - began)
         check(f"{title}: four attempts", got.output.count("failed: ConnectionEnded") == 4, got)
     silent.stop()
-    model = Model(Reel("r1", 3100), Reel("r2", 3100), said={it: b"E5\nbroken\n" for it in range(1, 31)})
-    began = time.monotonic()
-    check("a server that answers", p.dump(model.address, said="yes\n" * 30).output.endswith(TWO_VOLUMES))
-    check("a server that answers: no wait", time.monotonic() - began < 15, time.monotonic() - began)
-    model.stop()
+    for failures, least in ((1, 0), (4, 3)):
+        model = Model(Reel("r1", 3100), Reel("r2", 3100), said={it: b"E5\nbroken\n" for it in range(1, failures + 1)})
+        began = time.monotonic()
+        check(f"{failures} failures that are answered", p.dump(model.address, said="yes\n" * failures).output.endswith(TWO_VOLUMES))
+        check(f"{failures} failures that are answered: {least} seconds", least <= time.monotonic() - began < 20, time.monotonic() - began)
+        model.stop()
 
 
 # Words.
@@ -261,7 +262,7 @@ def pauses(p: Programs) -> None:
 def words(p: Programs) -> None:
     """Words that are wrong, and values that are past a limit."""
     p.file("payload", PAYLOAD)
-    for to in ("localhost", "localhost:", ":4711", "4711", "127.0.0.1", "localhost:65536", "localhost:+1", "localhost:x", ""):
+    for to in ("localhost", "localhost:", ":4711", "4711", "127.0.0.1", "localhost:65536", "localhost:+1", "localhost:x", "::1", "::1:4711", ""):
         for title, got in (
             ("dump", p.dump(to, payload="missing")),
             ("read", read(p, to)),

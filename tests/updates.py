@@ -322,7 +322,7 @@ def failures(p: Programs) -> None:
     p.put(OLD)
     p.server.gate = threading.Barrier(1, lambda: p.put("no entry\n"))
     got = p.dump("/bad")
-    not_entered("a file that became a bad one", got, "rdump: dumpdates: it is no dumpdates file, or memory was refused\n")
+    not_entered("a file that became a bad one", got, "rdump: dumpdates: it is no dumpdates file\n")
     check("a file that became a bad one: the texts", p.text() == "no entry\n" and not p.left(), p.left())
     p.server.gate = threading.Barrier(1)
     missing = p.dump("/missing", dumpdates="nowhere/dumpdates")
