@@ -1,0 +1,3 @@
+//! Files of the system as reels, one call after another.
+
+mod syncs;

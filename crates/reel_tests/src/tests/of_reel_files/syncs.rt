@@ -1,0 +1,103 @@
+//! A file of which one sync fails: it is not taken offline until it was written anew from its beginning.
+
+ghost use Rattle.std.specs.Prelude.{◌≡◌};
+
+use reel_files::{FileMedium, MovableFile, Syncs, take_offline};
+use std::fs::{self, OpenOptions};
+use std::io;
+use std::process;
+use std::test::Fail;
+use tape::{FileReel, Reel, TapeFault};
+
+/// A reel in a file, of which so many syncs are to fail.
+#[derive(Drop)]
+struct Failing {
+    reel: FileReel<FileMedium>,
+    fails: u32,
+    syncs: u32,
+    moves: u32,
+}
+
+/// A sync failed.
+#[derive(Clone, Copy)]
+struct NotSynced;
+
+impl MovableFile for Failing {
+    type Moved = ();
+
+    type Refusal = NotSynced;
+
+    ghost told = { λ _ _. ⊥ };
+
+    ghost beginnings = { λ f. f.reel.medium.beginnings };
+
+    fn beginnings(&self) -> u64 {
+        self.reel.medium().beginnings()
+    }
+
+    fn sync(&mut self) -> Result<(), NotSynced> {
+        self.syncs = self.syncs.saturating_add(1);
+        if self.syncs <= self.fails {
+            return Err(NotSynced);
+        }
+        Ok(())
+    }
+
+    fn rename(&mut self) -> Result<(), NotSynced> {
+        self.moves = self.moves.saturating_add(1);
+        Ok(())
+    }
+}
+
+impl Failing {
+    /// Whether it is taken offline, and how many syncs and moves were asked of it then in all.
+    fn goes(&mut self, syncs: &mut Syncs<NotSynced>) -> (bool, u32, u32) {
+        let done = take_offline(self, syncs).is_ok();
+        (done, self.syncs, self.moves)
+    }
+
+    /// Writes records, and asks for it to be taken offline after each: the first sync fails.
+    fn answers(&mut self) -> Result<bool, TapeFault> {
+        let mut syncs = Syncs::new();
+        self.reel.write(b"hello")?;
+        let failed = self.goes(&mut syncs) == (false, 1, 0);
+        let again = self.goes(&mut syncs) == (false, 1, 0);
+        self.reel.write(b"more")?;
+        let after_more = self.goes(&mut syncs) == (false, 1, 0);
+        self.reel.rewind();
+        self.reel.write(b"hello")?;
+        let anew = self.goes(&mut syncs) == (true, 2, 1);
+        Ok(failed && again && after_more && anew)
+    }
+}
+
+/// The reel in a new file of this path, of which one sync is to fail.
+fn reel_in_a_file(rt: &HostRuntime, path: &str) -> io::Result<Failing> {
+    let file = OpenOptions::new()
+        .read(true)
+        .append(true)
+        .create_new(true)
+        .open(rt, path)?;
+    Ok(Failing {
+        reel: FileReel::open(FileMedium::new(file), 100),
+        fails: 1,
+        syncs: 0,
+        moves: 0,
+    })
+}
+
+/// Whether a reel in a new file of this path answers as is wanted.
+fn file_of_path_answers(rt: &HostRuntime, path: &str) -> Result<bool, Fail> {
+    let mut reel = reel_in_a_file(rt, path)?;
+    Ok(matches!(reel.answers(), Ok(true)))
+}
+
+#[test]
+fn is_written_anew_after_a_failed_sync(rt: HostRuntime) -> Result<(), Fail> {
+    let id = process::id(rt.process());
+    let path = format!(in rt.alloc(); "syncs_{id}")?;
+    let right = file_of_path_answers(&rt, path.as_str())?;
+    fs::remove_file(&rt, path.as_str())?;
+    assert!(rt; right);
+    Ok(())
+}
