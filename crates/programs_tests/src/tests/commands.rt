@@ -7,6 +7,7 @@ use rdump_commands::{rdump, run_client, run_dates, run_dump, run_mt, run_read, r
 use rdump_words::{MtLine, ReadLine};
 use std::fs;
 use std::io::Stderr;
+use std::os::unix::fs::symlink;
 use std::test::Fail;
 
 /// No terminal, on which progress would be shown.
@@ -87,6 +88,22 @@ fn a_volume_of_no_server(rt: HostRuntime) {
     };
     assert!(rt; run_read(&rt, line) == 3);
     assert!(rt; fs::remove_file(&rt, "volume").is_err());
+}
+
+/// A link to nothing stays one: the file that it leads to is gone.
+#[test]
+fn a_volume_of_no_server_by_a_link(rt: HostRuntime) -> Result<(), Fail> {
+    let line = ReadLine {
+        to: NOWHERE,
+        device: "d",
+        out: "led",
+    };
+    symlink(&rt, "far", "led")?;
+    let status = run_read(&rt, line);
+    fs::remove_file(&rt, "led")?;
+    assert!(rt; status == 3);
+    assert!(rt; fs::remove_file(&rt, "far").is_err());
+    Ok(())
 }
 
 #[test]

@@ -3,7 +3,7 @@
 use super::check_row;
 use super::store::{ENTERED, FIRST, Held, Kept, OLD};
 use dumpdates::{DatesFault, Entry};
-use rdump_files::{FileFailed, ReplacedFile, UpdateFault, base_date, date_text, update};
+use rdump_files::{FileFailed, ReplacedFile, UpdateFault, WholeFile, base_date, date_text, update};
 use rmt_wire::Counted;
 use std::alloc::Global;
 use std::fs;
@@ -74,6 +74,20 @@ fn what_lies_in_place_of_a_new_file(rt: HostRuntime) -> Result<(), Fail> {
     let left = fs::read(&rt, "kept.new")?;
     fs::remove_file(&rt, "kept.new")?;
     assert!(rt; left.as_slice() == OLD);
+    Ok(())
+}
+
+/// A new file that another run has put in place of this one's stays.
+#[test]
+fn what_takes_the_name_of_a_new_file(rt: HostRuntime) -> Result<(), Fail> {
+    fs::write(&rt, "taken", OLD)?;
+    let mut file = ReplacedFile::new(&rt, rt.alloc(), "taken");
+    assert!(rt; file.read(rt.alloc()).is_ok());
+    fs::remove_file(&rt, "taken.new")?;
+    fs::write(&rt, "taken.new", ENTERED)?;
+    drop(file);
+    fs::remove_file(&rt, "taken")?;
+    assert!(rt; fs::remove_file(&rt, "taken.new").is_ok());
     Ok(())
 }
 

@@ -3,9 +3,10 @@
 use super::check_row;
 use super::fake::{FakePeer, Replies};
 use super::fixture::{PayloadDumper, TWO_BYTES, client};
-use super::store::{ENTERED, Kept, OLD};
+use super::store::{ENTERED, Held, Kept, OLD};
 use dump_client::AttemptFault;
-use rdump_files::dump_and_update;
+use dumpdates::DatesFault;
+use rdump_files::{FileFailed, UpdateFault, dump_and_update};
 use rdump_talk::failure_line;
 use rmt_wire::Counted;
 use std::alloc::Global;
@@ -26,45 +27,77 @@ const SMALL: Replies = &[b"A0\n", b"A1\n", b"A1024\n", b"A0\n"];
 /// A drive without a reel.
 const EMPTY: Replies = &[b"E6\nDevice not configured\n"];
 
-/// A dump of three blocks: the replies of each connection, what the operator says, what is printed, the status, and what is
-/// put in place of the dumpdates file.
+/// A dump of three blocks: the replies of each connection, what the operator says, what a read of the dumpdates file gives, what is
+/// printed, the status, why the dump is not entered, and what is put in place of the file.
 struct Row {
     connections: &'static [Replies],
     said: &'static [u8],
+    held: Held,
     printed: &'static [u8],
     status: u8,
+    fault: Option<UpdateFault>,
     dates: &'static [u8],
 }
 
-/// Two volumes; an abandon; a retry, where the second connection is made after `yes`, and the third cannot be; and a reel that is
-/// too small.
-static ROWS: [Row; 4] = [
+/// What is printed of two volumes that are not entered.
+const UNENTERED: &[u8] =
+    b"volume 1: 2 blocks from 0\nvolume 2: 1 blocks from 2\ndump complete: 2 volumes, 3 blocks\ndumpdates not updated\n";
+
+/// Two volumes, also where the dumpdates file became a bad one, and where it can't be read; an abandon; a retry, where the second
+/// connection is made after `yes`, and the third cannot be; and a reel that is too small.
+static ROWS: [Row; 6] = [
     Row {
         connections: &[FULL, LAST],
         said: b"",
+        held: Ok(Some(OLD)),
         printed: b"volume 1: 2 blocks from 0\nvolume 2: 1 blocks from 2\ndump complete: 2 volumes, 3 blocks\n",
         status: 0,
+        fault: None,
         dates: ENTERED,
+    },
+    Row {
+        connections: &[FULL, LAST],
+        said: b"",
+        held: Ok(Some(b"\n/usr")),
+        printed: UNENTERED,
+        status: 3,
+        fault: Some(UpdateFault::Dates(DatesFault::BadLine(2))),
+        dates: b"",
+    },
+    Row {
+        connections: &[FULL, LAST],
+        said: b"",
+        held: Err(FileFailed),
+        printed: UNENTERED,
+        status: 3,
+        fault: Some(UpdateFault::Unread),
+        dates: b"",
     },
     Row {
         connections: &[FULL, EMPTY],
         said: b"",
+        held: Ok(Some(OLD)),
         printed: b"volume 1: 2 blocks from 0\nvolume 2 failed: Refused 6\nretry?\ndump abandoned\n",
         status: 3,
+        fault: None,
         dates: b"",
     },
     Row {
         connections: &[EMPTY, FULL],
         said: b"yes\nno\n",
+        held: Ok(Some(OLD)),
         printed: b"volume 1 failed: Refused 6\nretry?\nvolume 1: 2 blocks from 0\nvolume 2 failed: ConnectionEnded\nretry?\ndump abandoned\n",
         status: 3,
+        fault: None,
         dates: b"",
     },
     Row {
         connections: &[SMALL],
         said: b"",
+        held: Ok(Some(OLD)),
         printed: b"volume 1 failed: ReelTooSmall\nretry?\ndump abandoned\n",
         status: 3,
+        fault: None,
         dates: b"",
     },
 ];
@@ -80,13 +113,13 @@ fn prints(
     let mut operator = row.said;
     let mut printed = Vec::new(alloc);
     let mut out = Counted::new(&mut printed);
-    let status = dump_and_update(alloc, client, peer, &mut operator, &mut out, store);
-    status == row.status && printed.as_slice() == row.printed
+    let end = dump_and_update(alloc, client, peer, &mut operator, &mut out, store);
+    end.status == row.status && end.fault == row.fault && printed.as_slice() == row.printed
 }
 
 /// Whether a dump of this client goes as the row says.
 fn goes(alloc: Global, client: &mut PayloadDumper, row: &Row) -> bool {
-    let mut store = Kept::new(alloc, Ok(Some(OLD)), true);
+    let mut store = Kept::new(alloc, row.held, true);
     let mut peer = FakePeer::new(alloc, row.connections);
     prints(alloc, client, &mut peer, &mut store, row) && store.put.as_slice() == row.dates
 }

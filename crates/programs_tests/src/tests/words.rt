@@ -74,8 +74,8 @@ fn words_of_the_client(rt: HostRuntime) {
     }
 }
 
-/// Addresses that have no host or no port.
-static ADDRESSES: [&str; 8] = [
+/// Addresses that have no host or no port, and of IPv6 without brackets.
+static ADDRESSES: [&str; 12] = [
     "h",
     "h:",
     ":1",
@@ -84,6 +84,10 @@ static ADDRESSES: [&str; 8] = [
     "h:1:x",
     "4711",
     "127.0.0.1",
+    "::1",
+    "::1:4711",
+    "[::1]",
+    "[::1:4711",
 ];
 
 /// Whether the words of a read at this address are refused.
@@ -99,6 +103,11 @@ fn addresses_have_a_port(rt: HostRuntime) {
     for address in &ADDRESSES {
         assert!(rt; is_refused(rt.alloc(), address));
     }
+}
+
+#[test]
+fn an_address_within_brackets(rt: HostRuntime) {
+    assert!(rt; !is_refused(rt.alloc(), "[::1]:4711"));
 }
 
 #[test]
