@@ -612,6 +612,9 @@ def on_the_disk(program: str) -> None:
                 if fails:
                     talk.asks(f"{title} fails", (OFFLINE, IO_ERROR), (b"R4\n", b"A4\ndata"))
                     check(f"{title} fails: the reel stands where it was", data_of(reel) == data and not [*shop.bin.iterdir()])
+                if title == "the sync of the reel":
+                    # The system tells a lost write once: the reel has to be written from its beginning.
+                    talk.asks(f"{title} failed once", (OFFLINE, IO_ERROR), (REWIND, DONE_ONE), (write(b"data"), b"A4\n"))
                 talk.asks(f"{title} fails, then", (OFFLINE, DONE_ONE), (NOTHING, NO_REEL), (CLOSE, DONE), (opened(), NO_REEL))
                 check(f"{title} fails: the reel is moved then", data_of(shop.bin / "r1") == data and not [*shop.stack.iterdir()])
                 talk.end()

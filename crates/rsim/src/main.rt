@@ -6,23 +6,28 @@ use schedules::rsim;
 use std::process::ExitCode;
 use std::{env, io};
 
-/// What the program ends with where its words can't be read.
+/// What the program ends with where its words can't be read, and where nothing can be told.
 const FAILED: u8 = 1;
 
 /// Does what the words ask, and ends with its status.
-fn main(rt: HostRuntime) -> io::Result<ExitCode> {
+fn main(rt: HostRuntime) -> ExitCode {
     let mut out = Counted::new(rt.stdout());
     let status = match words(&rt) {
-        Ok(words) => rsim(&rt, &words, &mut out)?,
+        // An error could not be told.
+        Ok(words) => rsim(&rt, &words, &mut out).unwrap_or(FAILED),
         Err(error) => {
-            eprintln!(rt; "rsim: the words could not be read: {error}")?;
+            let _ = eprintln!(rt; "rsim: the words could not be read: {error}");
             FAILED
         }
     };
-    Ok(ExitCode::from(status))
+    ExitCode::from(status)
 }
 
-/// The words that the program was called with, its own name first.
+/// The words that the program was called with, its own name first. Each growth that is refused is answered.
 fn words(rt: &HostRuntime) -> io::Result<Vec<String>> {
-    Ok(env::args(rt)?.collect(rt.alloc())?)
+    let mut words = Vec::new(rt.alloc());
+    for word in env::args(rt)? {
+        words.push(word)?;
+    }
+    Ok(words)
 }
