@@ -36,6 +36,9 @@ AWAY = b"O/dev/st0\n2\nI6\n1\nW1\nxI7\n1\nC\nO/dev/st0\n2\n"
 NO_WRITE = b"A0\nE12\nCannot allocate memory\nA1\nA1\nA0\nA0\nA0\n"
 NO_MARK = b"A0\nA5\nE12\nCannot allocate memory\nA1\nA5\nhelloA0\nA0\n"
 
+# The bytes that a session reserves: for what it reads from a reel, and for its reader of requests.
+RESERVED = [65_536, 65_548]
+
 NAMED = b"out of memory\n"
 FAILED_START = f"volume 1 failed: OutOfMemory\n{ASKED}\n"
 
@@ -110,6 +113,13 @@ def in_memory(p: Programs) -> None:
         if row == ROW:
             alone = {it.output for it in came[::2] if it.status == DONE}
             check(f"{title}: the write alone is refused, and the mark alone where that grows", {NO_WRITE} <= alone <= {NO_WRITE, NO_MARK}, alone)
+
+
+def reserved(p: Programs) -> None:
+    """A session asks once for each of its two buffers, and for nothing else that is as large."""
+    p.run((p.rmtd, "--stdio"), "", ROW)
+    large = sorted(it for it in p.shim.sizes() if it >= min(RESERVED))
+    check("what a session reserves", large == RESERVED, large)
 
 
 def over_a_folder(p: Programs) -> None:
@@ -351,7 +361,7 @@ def simulator(p: Programs) -> None:
         check("a schedule: nothing else is told", not [it for it in came if b"Error" in it.told], [it for it in came if b"Error" in it.told][:3])
 
 
-PARTS = (in_memory, over_a_folder, listener, dump, dates, other_commands, simulator)
+PARTS = (in_memory, reserved, over_a_folder, listener, dump, dates, other_commands, simulator)
 
 
 def main() -> int:

@@ -37,6 +37,11 @@ class Shim(NamedTuple):
         """The names of the calls that were logged, in their order. A request for memory stands there as `alloc` and by its own name."""
         return [line.split()[0] for line in self.log.read_text().splitlines()] if self.log.exists() else []
 
+    def sizes(self) -> list[int]:
+        """How many bytes each logged request for memory asked for, in their order."""
+        lines = [line.split() for line in self.log.read_text().splitlines()] if self.log.exists() else []
+        return [int(size) for call, _, size in lines if call == "alloc"]
+
 
 @contextmanager
 def compiled() -> Iterator[Shim]:
