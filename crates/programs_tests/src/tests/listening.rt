@@ -44,6 +44,8 @@ fn serves_both<C: Clock>(clock: &C, alloc: Global, listener: &TcpListener) -> bo
 fn a_connection_and_a_stream_after_it(rt: HostRuntime) -> io::Result<()> {
     let listener = TcpListener::bind(&rt, "127.0.0.1:0")?;
     let mut stream = TcpStream::connect(&rt, listener.local_addr()?)?;
-    assert!(rt; sends(&mut stream) && serves_both(&rt, rt.alloc(), &listener) && hears(&mut stream));
+    assert!(rt;
+        sends(&mut stream) && serves_both(&rt, rt.alloc(), &listener) && hears(&mut stream)
+    );
     Ok(())
 }

@@ -4,9 +4,8 @@ ghost use Rattle.std.specs.Prelude.{◌≡◌};
 
 use reel_files::{FileMedium, MovableFile, Syncs, take_offline};
 use std::fs::{self, OpenOptions};
-use std::io;
-use std::process;
 use std::test::Fail;
+use std::{io, process};
 use tape::{FileReel, Reel, TapeFault};
 
 /// A reel in a file, of which so many syncs are to fail.

@@ -76,7 +76,9 @@ impl Clock for Waits<'_> {
 /// Whether two clients come, each after three accepts that failed and as many waits of 100 milliseconds, and no more. The failures
 /// before each have one line, and each client has one.
 fn two_come(clock: &Waits<'_>, listener: &TcpListener) -> bool {
-    let lines = Lines { count: Cell::new(0) };
+    let lines = Lines {
+        count: Cell::new(0),
+    };
     let log = ErrorLog {
         rt: &lines,
         seat: None,
@@ -104,7 +106,9 @@ fn no_listener(rt: &HostRuntime) -> Result<TcpListener, Fail> {
 
 /// Whether the connections of a listener that is none are over at once, with a line, no wait, and the status 1.
 fn none_come(clock: &Waits<'_>, listener: &TcpListener) -> bool {
-    let lines = Lines { count: Cell::new(0) };
+    let lines = Lines {
+        count: Cell::new(0),
+    };
     let log = ErrorLog {
         rt: &lines,
         seat: None,
@@ -126,7 +130,9 @@ fn a_listener_that_is_none_has_no_connections(rt: HostRuntime) -> Result<(), Fai
 /// The status of a server in memory whose listener is this one.
 fn status_in_memory(alloc: Global, clock: &Waits<'_>, listener: &TcpListener) -> Option<u8> {
     let mut server = MemoryServer::new(alloc, 1024)?;
-    let lines = Lines { count: Cell::new(0) };
+    let lines = Lines {
+        count: Cell::new(0),
+    };
     let log = ErrorLog {
         rt: &lines,
         seat: None,
@@ -147,7 +153,9 @@ fn a_server_in_memory_ends_with_its_listener(rt: HostRuntime) -> Result<(), Fail
 fn a_server_of_threads_ends_with_its_listener(rt: HostRuntime) -> Result<(), Fail> {
     let listener = no_listener(&rt)?;
     let clock = Waits::new(&rt, None);
-    let lines = Lines { count: Cell::new(0) };
+    let lines = Lines {
+        count: Cell::new(0),
+    };
     let log = ErrorLog {
         rt: &lines,
         seat: None,
