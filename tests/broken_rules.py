@@ -12,7 +12,8 @@ from typing import Collection, Iterator, NamedTuple
 
 from headline import BESIDE, HEADLINE, SENTENCES, broken
 from model_session import KEEPS_THE_OLD_TAIL, STAYS_HELD, TAKES_FROM_A_HOLDER, WRITES_A_PART
-from model_world import COUNTS_AT_THE_MARK, ENTERS_A_PART, LISTS_NO_OPEN, TAKES_A_SMALLER_NUMBER, BadLine, NotPossible, Schedule
+from model_world import A_COUNT_MORE, COUNTS_AT_THE_MARK, ENTERS_A_PART, KEEPS_AN_ENTERED_RUN, KEEPS_OVER_A_NEW_RUN, LISTS_NO_OPEN
+from model_world import TAKES_A_SMALLER_NUMBER, BadLine, NotPossible, Schedule
 from random_schedules import DUMPING, Profile, Walk
 
 # Each rule that can be turned off, and what the server, the client or the world does then.
@@ -25,10 +26,14 @@ RULES = {
     TAKES_A_SMALLER_NUMBER: "the client takes a smaller number in answer to a write",
     ENTERS_A_PART: "a run is entered with a volume missing",
     STAYS_HELD: "the end of a session leaves the drive held",
+    A_COUNT_MORE: "a run that comes back has a count that was not made",
+    KEEPS_AN_ENTERED_RUN: "a run that was entered can come back",
+    KEEPS_OVER_A_NEW_RUN: "a run comes back in place of one that was begun after it",
 }
 
-# A part of a record can come onto a reel only before it is counted, so the headline alone does not tell it.
-LOOKED_AT = {rule: HEADLINE for rule in RULES} | {WRITES_A_PART: BESIDE, "": SENTENCES}
+# A part of a record can come onto a reel only before it is counted, and an older run that comes back is one that was counted too: the headline alone
+# does not tell these.
+LOOKED_AT = {rule: HEADLINE for rule in RULES} | {WRITES_A_PART: BESIDE, KEEPS_OVER_A_NEW_RUN: BESIDE, "": SENTENCES}
 
 PUMPED = Profile(
     "pumped",
@@ -43,7 +48,8 @@ PUMPED = Profile(
     alive=4,
 )
 CUT = PUMPED._replace(name="cut", weights={**DUMPING, "pump": 2, "cut": 4, "end-server": 20, "stranger": 1}, pieces=0.4, alive=3)
-SEARCHED = (PUMPED, CUT)
+RESTARTED = PUMPED._replace(name="restarted", weights={**PUMPED.weights, "save": 8, "restart-client": 5})
+SEARCHED = (PUMPED, CUT, RESTARTED)
 LENGTH = 150
 
 # The words behind which the number of a connection stands, and how many lines are few.
@@ -60,7 +66,7 @@ class Break(NamedTuple):
 
 def first_break(rule: str, seed: int) -> Break | None:
     """The first line of a random schedule after which something is broken, with all before it."""
-    walk = Walk(random.Random(seed), SEARCHED[seed % 2], [rule])
+    walk = Walk(random.Random(seed), SEARCHED[seed % len(SEARCHED)], [rule])
     while len(walk.lines) < LENGTH:
         walk.take(walk.next())
         if told := broken(walk.world, LOOKED_AT[rule]):

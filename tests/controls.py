@@ -12,7 +12,9 @@ applies each control to a copy of its crate and checks that it is proved. It pri
 
 It fails where a control is not proved, or stands at another place than its edit. The gate tries the edits themselves (`rt must-fail`), and not
 the controls. The check of the copy begins with what the last check of the crate kept. A crate's controls are tried all at once, since functions
-are proved one by one, and one at a time where that is refused: it takes a minute for a crate whose controls are all proved.
+are proved one by one. Where that is refused, the log names the functions that are proved and those that are not: a control whose functions are all
+proved there is proved, and each of the others is tried alone. So it takes a minute for a crate whose controls are all proved, and a check more for
+each one that may not be.
 """
 
 from __future__ import annotations
@@ -23,10 +25,11 @@ import subprocess
 import sys
 import tempfile
 from pathlib import Path
-from typing import NamedTuple
+from typing import Collection, NamedTuple
 
 TOP = Path(__file__).resolve().parent.parent
-PARTS = ("src", "specs", "proofs")
+# What a log says of a function.
+PROVED, REFUSED, WAITS = "proved", "refused", "waits"
 
 
 class Pair(NamedTuple):
@@ -83,23 +86,88 @@ def copy_of(crate: str, room: Path) -> Path:
     return Path(shutil.copytree(TOP / "crates" / crate, room / "crates" / crate))
 
 
-def why_not(folder: Path, changes: list[Pair]) -> str:
-    """Why the crate is not proved with these changes, or nothing where it is. The files are as they were afterwards."""
+class Checked(NamedTuple):
+    """Why a crate is not proved, or nothing where it is, and the log of its check."""
+
+    why: str
+    log: str
+
+
+def checked(folder: Path, changes: list[Pair]) -> Checked:
+    """Checks the crate with these changes. The files are as they were afterwards."""
     before = {it.file: (folder / it.file).read_text(encoding="utf-8") for it in changes}
     try:
         for it in changes:
             text = (folder / it.file).read_text(encoding="utf-8")
             if text.count(it.old) != 1:
-                return f"`{it.old}` is in {it.file} {text.count(it.old)} times"
+                return Checked(f"`{it.old}` is in {it.file} {text.count(it.old)} times", "")
             (folder / it.file).write_text(text.replace(it.old, it.new), encoding="utf-8")
         ran = subprocess.run(["rt", "check"], cwd=folder, capture_output=True, text=True, check=False)
     finally:
         for name, text in before.items():
             (folder / name).write_text(text, encoding="utf-8")
-    if ran.returncode == 0:
-        return ""
-    said = [it for it in (ran.stdout + ran.stderr).splitlines() if re.match(r"\S+:\d+:\d+: error", it)]
+    log = ran.stdout + ran.stderr
+    return Checked("" if ran.returncode == 0 else reason(log), log)
+
+
+def reason(log: str) -> str:
+    """The first line of a log that says what is wrong."""
+    said = [it for it in log.splitlines() if re.match(r"\S+:\d+:\d+: error|fn \S+: (?:not proved|no proof)", it)]
     return said[0] if said else "rt check failed"
+
+
+def verdicts(log: str) -> dict[str, str]:
+    """The functions that a log names, and whether each is proved, is refused, or waits for others: it calls some that are refused."""
+    found: dict[str, str] = {}
+    for name, verdict, calls in re.findall(r"^fn (\S+): (proved|no holes|not proved|no proof)\b(: it calls )?", log, re.M):
+        said = PROVED if verdict in ("proved", "no holes") else WAITS if calls else REFUSED
+        found[name] = said if found.get(name, PROVED) == PROVED else found[name]
+    return found
+
+
+def module_of(crate: str, file: str) -> str:
+    """The module that a file of src/ is, as a log writes it."""
+    parts = Path(file).with_suffix("").parts[1:]
+    return "::".join((crate, *(it for it in parts if it not in ("lib", "main", "mod"))))
+
+
+def function_at(text: str, old: str) -> str:
+    """The name of the function in whose body a piece of a file lies, and nothing where it lies in none."""
+    end = text.index(old) + len(old)
+    heads = [*re.finditer(r"\bfn (\w+)", text[:end])]
+    if not heads:
+        return ""
+    between = text[heads[-1].end() : text.index(old)]
+    is_inside = heads[-1].start() >= text.index(old) or between.count("{") > between.count("}")
+    return heads[-1][1] if is_inside else ""
+
+
+def names_of(found: Collection[str], module: str, function: str) -> set[str]:
+    """Those of a log's names that are a function's, or of closures in it. A method is named by its type, which may lie in another module than it:
+    where the module has none of that name, all of the crate count."""
+    here = {it for it in found if function in it.split("::")[1:]}
+    return {it for it in here if it.startswith(f"{module}::")} or here
+
+
+def places_of(crate: str, folder: Path, changes: list[Pair]) -> list[tuple[str, str]]:
+    """The module and the function of each change, and of each function that it adds. A pair that puts back the same text changes nothing."""
+    found: list[tuple[str, str]] = []
+    for it in (it for it in changes if it.old != it.new):
+        named = [function_at((folder / it.file).read_text(encoding="utf-8"), it.old), *re.findall(r"\bfn (\w+)", it.new)]
+        found += [(module_of(crate, it.file), name) for name in dict.fromkeys(named)]
+    return found
+
+
+def suspects(places: dict[str, list[tuple[str, str]]], log: str) -> list[str]:
+    """Of the controls of a lot that was refused those that the log does not show as proved, by the places of their changes. A control is shown where
+    each of its functions is named, and proved. Where a function is refused that no control changes, none is shown."""
+    found = verdicts(log)
+    names = {place: names_of(found, *place) for it in places.values() for place in it}
+    refused = {name for name, verdict in found.items() if verdict == REFUSED}
+    if not refused or not refused <= set().union(*names.values()):
+        return [*places]
+    shown = {place for place, it in names.items() if {found[name] for name in it} == {PROVED}}
+    return [name for name, it in places.items() if not shown.issuperset(it)]
 
 
 def rounds(controls: dict[str, list[Pair]]) -> list[list[str]]:
@@ -117,13 +185,18 @@ def rounds(controls: dict[str, list[Pair]]) -> list[list[str]]:
 
 
 def why_not_each(crate: str, controls: dict[str, list[Pair]]) -> dict[str, str]:
-    """Why each control is not proved, or nothing where it is: first many at once, then, where that is refused, one alone."""
+    """Why each control is not proved, or nothing where it is: first many at once, then, where that is refused, those alone that may not be proved."""
     found: dict[str, str] = {}
     with tempfile.TemporaryDirectory(prefix="controls-") as room:
         copy = copy_of(crate, Path(room)) if controls else Path(room)
         for names in rounds(controls):
-            why = why_not(copy, list(dict.fromkeys(it for name in names for it in controls[name])))
-            found |= {name: why and (why if len(names) == 1 else why_not(copy, controls[name])) for name in names}
+            lot = checked(copy, list(dict.fromkeys(it for name in names for it in controls[name])))
+            found |= dict.fromkeys(names, "")
+            if lot.why and len(names) == 1:
+                found[names[0]] = lot.why
+            elif lot.why:
+                alone = suspects({name: places_of(crate, copy, controls[name]) for name in names}, lot.log)
+                found |= {name: checked(copy, controls[name]).why for name in alone}
     return found
 
 

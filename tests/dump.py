@@ -24,6 +24,8 @@ from contextlib import contextmanager
 from pathlib import Path
 from typing import Callable, Iterator, NamedTuple
 
+from checks import check, ended
+
 CRATES = Path(__file__).resolve().parent.parent / "crates"
 DEVICE = "/dev/st0"
 DAY = 951_782_400  # Tue Feb 29 00:00:00 2000
@@ -233,10 +235,8 @@ class Programs:
         path = self.folder / name
         return path.read_text() if path.is_file() else None
 
-    def dump(
-        self, address: str, *more: str, said: str = "", stdout: int = subprocess.PIPE, stderr: int = subprocess.PIPE, **changed: str | None
-    ) -> Ended:
-        """Runs `rdump dump` with the usual words, of which these are changed, or left out at None."""
+    def dump_words(self, address: str, *more: str, **changed: str | None) -> list[str]:
+        """The usual words of `rdump dump`, of which these are changed, or left out at None."""
         words = {
             "to": address,
             "device": DEVICE,
@@ -247,8 +247,13 @@ class Programs:
             "dumpdates": "dumpdates",
             "date": str(DAY),
         } | changed
-        listed = [it for name, value in words.items() if value is not None for it in (f"--{name}", value)]
-        return self.run("dump", *listed, *more, said=said, stdout=stdout, stderr=stderr)
+        return ["dump", *(it for name, value in words.items() if value is not None for it in (f"--{name}", value)), *more]
+
+    def dump(
+        self, address: str, *more: str, said: str = "", stdout: int = subprocess.PIPE, stderr: int = subprocess.PIPE, **changed: str | None
+    ) -> Ended:
+        """Runs `rdump dump` with these words."""
+        return self.run(*self.dump_words(address, *more, **changed), said=said, stdout=stdout, stderr=stderr)
 
     @contextmanager
     def listening(self, *words: str, at: str = "127.0.0.1:0") -> Iterator[tuple[str, subprocess.Popen[bytes]]]:
@@ -265,15 +270,6 @@ class Programs:
 
 
 # The checks.
-
-COUNT = [0, 0]
-
-
-def check(name: str, holds: bool, *seen: object) -> None:
-    """Counts a check, and tells of one that failed."""
-    COUNT[not holds] += 1
-    if not holds:
-        print(f"FAILED: {name}", *(f"  {it!r}"[:600] for it in seen), sep="\n")
 
 
 def ends(name: str, got: Ended, output: str, status: int, *faults: str) -> None:
@@ -700,8 +696,7 @@ def main() -> int:
     for part in (dumps, payloads, memory, progress, dates, retries, startup, servers, operations, reads):
         with tempfile.TemporaryDirectory() as folder:
             part(Programs(os.path.abspath(asked.rmtd), os.path.abspath(asked.rdump), Path(folder)))
-    print(f"{COUNT[0]} passed, {COUNT[1]} failed")
-    return 1 if COUNT[1] else 0
+    return ended()
 
 
 if __name__ == "__main__":

@@ -24,16 +24,18 @@ import threading
 import time
 from collections import Counter
 from contextlib import contextmanager, suppress
-from typing import Iterator, NamedTuple
+from pathlib import Path
+from typing import Callable, Iterator, NamedTuple
 
 from checks import check, ended
 from clients import BAD_DESCRIPTOR, CLOSE, DONE_ONE, IO_ERROR, NO_REEL, NOTHING, OFFLINE, REWIND, away, comes_true, opened, site, talking, write
 from clients import DONE as TAKEN
+from dump import Model, Reel
 from lawful import DEVICE_FAULT, History, empty, reels_of
 from model_rmtd import images
 from shim import compiled
-from sites import ABNORMAL, CRATES, DATED, DAY, DONE, FAILED, GUARD_SECONDS, LISTEN, NEW_DATES, OLD_DATES, THREE_BLOCKS
-from sites import Ended, Left, Programs, course, drive_words, dump_site, dumped, folders, held, left
+from sites import ABNORMAL, BLOCK, CRATES, DATED, DAY, DEVICE, DONE, FAILED, GUARD_SECONDS, LISTEN, NEW_DATES, OLD_DATES, THREE_BLOCKS
+from sites import KEPT, Ended, Left, Programs, course, drive_words, dump_site, dumped, folders, held, kept_words, left
 
 # A server that is to end is waited for so long.
 ENDS_SECONDS = 10
@@ -513,6 +515,186 @@ def dump(p: Programs) -> None:
             check(f"a dump that is killed before {call} {number}", got.status == -signal.SIGKILL and whole, got.shown())
 
 
+# A dump with a checkpoint file.
+
+KEPT_PATH = f"/{KEPT}"
+# At least so many calls of such a dump were seen when this was written.
+LEAST_KEPT_CALLS = 70
+
+
+class KeptRun(NamedTuple):
+    """A dump with a checkpoint file that met a rule, and the same words again without one, where it was not complete."""
+
+    got: Ended
+    again: Ended | None
+
+    def is_complete(self) -> bool:
+        """Whether the first run printed the end, and had removed the file."""
+        return self.got.output.endswith(THREE_BLOCKS.printed(2)) and self.got.left.kept is None
+
+    def goes_on(self) -> bool:
+        """The second run dumps what the file has not, enters the run, and leaves no file."""
+        texts = [THREE_BLOCKS.checkpoint(it) for it in range(3)]
+        had = 0 if self.got.left.kept is None else texts.index(self.got.left.kept)
+        reels, then = THREE_BLOCKS.reels(), self.again.left
+        right = (self.again.status, self.again.output) == (DONE, THREE_BLOCKS.printed(had))
+        # A volume that the file had is on one reel. Of another one the server may have moved a reel once the client was gone.
+        once = all([*then.bin.values()].count(it) == 1 for it in reels[:had])
+        return right and {*then.bin.values()} == {*reels} and once and then[1:] == (NEW_DATES, ["dates"], None)
+
+
+def kept_run(p: Programs, rules: str, path: str = "") -> KeptRun:
+    with dump_site(p, THREE_BLOCKS) as (folder, words):
+        words += kept_words(folder)
+        first = KeptRun(p.run((*words, *DATED), rules, b"", path)._replace(left=left(folder)), None)
+        if first.got.left.kept is None and first.got.status in (DONE, ABNORMAL) or first.is_complete():
+            return first
+        return first._replace(again=p.run((*words, *DATED), None)._replace(left=left(folder)))
+
+
+def is_kept_right(it: KeptRun, call: str) -> bool:
+    """It did not start and left all as it was; or it took a lawful course, and the file has what was printed as counted, but for a count of which it
+    is said that it is not kept. Where the folder's sync alone failed that may be there. A file that could not be removed stays, with status 3."""
+    got, reels = it.got, THREE_BLOCKS.reels()
+    names = ["dates"] if got.left.kept is None else [KEPT, "dates"]
+    if not {*got.left.bin.values()} <= {*reels} or (got.left.names != names and call not in STAYS):
+        return False
+    if got.status == FAILED:
+        return got.output == b"" and got.told != b"" and (got.left.bin, got.left.dates, got.left.kept) == ({}, OLD_DATES, None)
+    went = course(THREE_BLOCKS, got.output, 0, 0)
+    if went is None or not {*reels[: went.counted]} <= {*got.left.bin.values()}:
+        return False
+    stays = went.end in ("complete", "abandoned") and got.left.kept is not None
+    lawful = texts_after(went.counted, went.end, stays, call)
+    is_told = got.told != b"" or (went.end == "complete" and not stays) or "SourceFault" in went.faults
+    dates = NEW_DATES if went.end == "complete" else OLD_DATES
+    return got.left.kept in lawful and got.status == (ABNORMAL if stays else went.status()) and is_told and got.left.dates == dates
+
+
+def texts_after(counted: int, end: str, stays: bool, call: str) -> list[bytes | None]:
+    """What the file may hold after a dump that ended so."""
+    if end == "not kept":
+        late = [THREE_BLOCKS.checkpoint(counted)] if call == "fsync" else []
+        return [THREE_BLOCKS.checkpoint(counted - 1) if counted else None, *late]
+    return [THREE_BLOCKS.checkpoint(counted) if stays or end == "not entered" else None]
+
+
+def kept_dump(p: Programs) -> None:
+    """Each call of a client that keeps what it counted fails, and it is killed before each; the same words go on then."""
+    well = kept_run(p, "").got
+    wanted = DONE, THREE_BLOCKS.printed(), (NEW_DATES, ["dates"], None)
+    check("a dump with a checkpoint file in which nothing fails", (well.status, well.output, well.left[1:]) == wanted, well.shown())
+    calls = counted(well) | {"write": kept_run(p, "", KEPT_PATH).got.calls.count("write")}
+    check(f"at least {LEAST_KEPT_CALLS} calls of such a dump are seen", sum(calls.values()) >= LEAST_KEPT_CALLS, calls)
+    ends: Counter[int] = Counter()
+    for call, count in calls.items():
+        path = KEPT_PATH if call == "write" else ""
+        for number in range(1, count + 1):
+            for what in (f"{number}:E5", f"{number}:E28", f"{number}+:E5"):
+                it = kept_run(p, f"{call}:{what}", path)
+                check(f"a dump with a checkpoint file, {call}:{what}", is_kept_right(it, call), it.got.shown())
+                goes_on = not it.again or it.goes_on()
+                check(f"a dump with a checkpoint file, {call}:{what}: it goes on", goes_on, it.got.shown(), it.again and it.again.shown())
+                ends[it.got.status] += 1
+            killed_keeping(p, f"{call}:{number}:K", path)
+    check("each end of such a dump is met", {DONE, FAILED, ABNORMAL} <= {*ends}, ends)
+    print(f"a dump with a checkpoint file: {sum(ends.values())} runs, by their status {dict(ends)}; calls: {calls}", flush=True)
+    short = kept_run(p, "write:1+:s1", KEPT_PATH).got
+    check("a dump with a checkpoint file: each write to it is of one byte", short.seen() == well.seen(), short.shown())
+    for number in (1, 2):
+        for moved in range(len(THREE_BLOCKS.checkpoint(number - 1)) + 1):
+            killed_keeping(p, f"write:{number}:k{moved}", KEPT_PATH)
+    unremoved(p, calls["unlink"])
+
+
+def killed_keeping(p: Programs, rules: str, path: str) -> None:
+    """The client is killed: the file is whole, has what was printed at most, and the same words go on."""
+    it = kept_run(p, rules, path)
+    printed = len(re.findall(rb"^volume \d+: ", it.got.output, re.M))
+    lawful = [None, *(THREE_BLOCKS.checkpoint(number) for number in range(printed + 1))]
+    title = f"a dump with a checkpoint file that is killed by {rules}"
+    whole = {*it.got.left.bin.values()} <= {*THREE_BLOCKS.reels()} and it.got.left.dates in (OLD_DATES, NEW_DATES)
+    check(title, it.got.status == -signal.SIGKILL and it.got.left.kept in lawful and whole, it.got.shown())
+    if it.again and it.got.left.kept in lawful:
+        check(f"{title}: it goes on", it.goes_on(), it.got.shown(), it.again.shown())
+
+
+def unremoved(p: Programs, last: int) -> None:
+    """A file that cannot be removed, which the last call of this name would do: that is told, and the status says so."""
+    it = kept_run(p, f"unlink:{last}+:E13")
+    wanted = ABNORMAL, THREE_BLOCKS.printed(), (NEW_DATES, [KEPT, "dates"], THREE_BLOCKS.checkpoint(2))
+    right = (it.got.status, it.got.output, it.got.left[1:]) == wanted and KEPT_PATH.encode() in it.got.told
+    check("a checkpoint file that cannot be removed", right, it.got.shown())
+    check("a checkpoint file that could not be removed: it is found finished", bool(it.again) and it.goes_on(), it.again and it.again.shown())
+    with dump_site(p, THREE_BLOCKS) as (folder, words):
+        folder.joinpath(KEPT).write_bytes(THREE_BLOCKS.checkpoint(1))
+        away = [it if ":" not in it or "/" in it else "127.0.0.1:1" for it in words]
+        got = p.run((*away, *kept_words(folder), *DATED), f"unlink:{last}+:E13")._replace(left=left(folder))
+    abandoned = b"volume 2 failed: ConnectionEnded\nretry?\ndump abandoned\n"
+    right = (got.status, got.output, got.left.kept) == (ABNORMAL, abandoned, THREE_BLOCKS.checkpoint(1)) and KEPT_PATH.encode() in got.told
+    check("a checkpoint file that cannot be removed after the dump was abandoned", right, got.shown())
+
+
+NOWHERE = "127.0.0.1:1"
+# Calls before which one of two dumps with one file is stopped while the other one begins.
+MEETING = ("open", "statx", "flock", "write", "fsync", "rename")
+# So long the other one may take to begin, or to be refused.
+MEETS_SECONDS = 1.5
+
+
+def two_keep(p: Programs) -> None:
+    """Two dumps with one checkpoint file that is not there: one is stopped before each of its calls up to its first connection, and the other begins
+    then. One alone dumps."""
+    with folders() as folder:
+        alone = p.run(meeting_words(p, folder, NOWHERE), "").calls
+    calls = Counter(alone[: alone.index("connect")])
+    met: Counter[str] = Counter()
+    for call in MEETING:
+        for number in range(1, calls[call] + 1):
+            met[meeting(p, f"{call}:{number}:S")] += 1
+    check("of two dumps with one file the stopped one and the other one are each met as the one that dumps", {*met} == {"stopped", "other"}, met)
+    print(f"two dumps with one checkpoint file: {sum(met.values())} meetings, {dict(met)}", flush=True)
+
+
+def meeting_words(p: Programs, folder: Path, address: str) -> tuple[str, ...]:
+    """The words of both dumps."""
+    folder.joinpath("payload").write_bytes(THREE_BLOCKS.data())
+    words = (p.rdump, "dump", "--to", address, "--device", DEVICE, "--fs", "/usr", "--level", "0", "--block", str(BLOCK), *DATED)
+    return (*words, "--payload", str(folder / "payload"), "--dumpdates", str(folder / "none"), *kept_words(folder))
+
+
+def meeting(p: Programs, rule: str) -> str:
+    """One dump is stopped by this rule, and the other begins. Answers which of them dumped."""
+    p.shim.forget()
+    began, leaves = threading.Event(), threading.Event()
+    model = Model(*(Reel(it, 3100) for it in ("r1", "r2")), acts={3: lambda: (began.set(), leaves.wait(GUARD_SECONDS))})
+    with folders() as folder:
+        words = meeting_words(p, folder, model.address)
+        streams = {"stdin": subprocess.DEVNULL, "stdout": subprocess.PIPE, "stderr": subprocess.PIPE}
+        with guarded(subprocess.Popen(words, env=p.shim.environment(rule), **streams)) as stopped:
+            os.waitid(os.P_PID, stopped.pid, os.WSTOPPED | os.WEXITED | os.WNOWAIT)
+            with guarded(subprocess.Popen(words, **streams)) as other:
+                waits(lambda: began.is_set() or other.poll() is not None)
+                os.kill(stopped.pid, signal.SIGCONT)
+                waits(lambda: stopped.poll() is not None)
+                leaves.set()
+                ends = [(it.stdout.read(), it.stderr.read(), it.wait()) for it in (stopped, other)]
+        model.stop()
+        dumped = [name for name, (output, _, status) in zip(("stopped", "other"), ends) if (output, status) == (THREE_BLOCKS.printed(), DONE)]
+        refused = [status for output, told, status in ends if (output, status) in ((b"", FAILED), (b"checkpoint not written\n", ABNORMAL)) and told]
+        check(f"two dumps with one file, one of them stopped by {rule}", len(dumped) == len(refused) == 1, ends)
+        check(f"two dumps with one file, one of them stopped by {rule}: what is sent", len(model.logs) == 2, [len(it) for it in model.logs])
+        check(f"two dumps with one file, one of them stopped by {rule}: it is gone", not [*folder.glob(f"{KEPT}*")], [*folder.iterdir()])
+        return dumped[0] if len(dumped) == 1 else "neither" if not dumped else "both"
+
+
+def waits(comes: Callable[[], bool]) -> None:
+    """Waits until this is so, or for a while."""
+    deadline = time.monotonic() + MEETS_SECONDS
+    while not comes() and time.monotonic() < deadline:
+        time.sleep(0.005)
+
+
 def unprinted(p: Programs) -> None:
     """Standard output that fails at each line of a dump: the status says so, and the run is not entered where its end was not printed."""
     lines = THREE_BLOCKS.lines()
@@ -548,7 +730,7 @@ def stopped_client(p: Programs) -> None:
 
 PARTS = (
     *(server, killed_and_stopped, failed_sync, folder_away, clocks, limited_size, no_threads, full_table, accepts, unstarted, sockets),
-    *(dump, unprinted, stopped_client),
+    *(dump, kept_dump, two_keep, unprinted, stopped_client),
 )
 
 

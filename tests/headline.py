@@ -1,9 +1,10 @@
 """What must hold in the world of `model_world.py` after every event, looked at from nothing: by no step of the model's own.
 
 The headline: each counted reel that no session opened for writing since holds exactly its volume, its label, its blocks and one mark; no two sessions
-hold one drive; dumpdates gained only runs whose counted volumes are all their blocks in order; and the counts are exactly those of what the client
-sent and was answered. Beside it: from the label on a client's reel holds the writes that were accepted and nothing else, until one met a device fault
-or another session opened the reel for writing; and a client sends one request at a time.
+hold one drive; dumpdates gained only runs of which the client's list, as they were entered, is all their blocks in order, and each volume of that stands
+among the counts; and the counts are exactly those of what the client sent and was answered. Beside it: what the client lists, and what is kept of a
+run, was counted, in order, and the run that is kept is the last that was begun, and not entered; from the label on a client's reel holds the writes that
+were accepted and nothing else, until one met a device fault or another session opened the reel for writing; and a client sends one request at a time.
 """
 
 from __future__ import annotations
@@ -62,14 +63,22 @@ def covers(counts: list[Volume], blocks: int) -> bool:
 
 def entered_runs(world: World) -> Iterator[str]:
     dates: list[tuple[bytes, int, int]] = []
-    for number in world.entered:
+    for number, listed in world.entered:
         run = world.runs[number - 1]
-        counts = [it.volume for it in world.counts if it.run == number]
         dates = entered(dates, (run.name, run.level, run.date))
-        if not covers(counts, run.blocks):
-            yield f"run {number} of {run.blocks} blocks was entered, counted are {[tuple(it) for it in counts]}"
-    if dates != world.dates or len(set(world.entered)) < len(world.entered):
-        yield f"entered were {world.entered}, dumpdates are {world.dates}"
+        if not covers([*listed], run.blocks):
+            yield f"run {number} of {run.blocks} blocks was entered, listed were {[tuple(it) for it in listed]}"
+        if uncounted := not_counted(world, number, listed):
+            yield f"run {number} was entered, and {uncounted} were not counted"
+    runs = [it.run for it in world.entered]
+    if dates != world.dates or len(set(runs)) < len(runs):
+        yield f"entered were {runs}, dumpdates are {world.dates}"
+
+
+def not_counted(world: World, run: int, listed: Iterable[Volume]) -> list[tuple[int, ...]]:
+    """Those of these volumes that are not among the counts of a run."""
+    counts = {it.volume for it in world.counts if it.run == run}
+    return [tuple(it) for it in listed if it not in counts]
 
 
 def position_of(link: Link, world: World) -> Volume | None:
@@ -120,6 +129,29 @@ def requests_ahead(world: World) -> Iterator[str]:
             yield f"connection {link.number} sent {len(link.sent)} requests and was answered {len(link.got)}"
 
 
+def is_beginning(counts: Iterable[Volume], blocks: int) -> bool:
+    """Whether these volumes are the first ones of a run, in order."""
+    block = 0
+    for place, it in enumerate(counts, 1):
+        if (it.volume, it.first) != (place, block) or block + it.count > blocks:
+            return False
+        block += it.count
+    return True
+
+
+def listed_volumes(world: World) -> Iterator[str]:
+    """What the client lists, and what is kept."""
+    lists = [("the client", world.client.number, world.client.counted)] if world.client else []
+    lists += [("what is kept", *world.kept)] if world.kept else []
+    for who, run, listed in lists:
+        if uncounted := not_counted(world, run, listed):
+            yield f"{who} lists {uncounted} of run {run}, which were not counted"
+        if not is_beginning(listed, world.runs[run - 1].blocks):
+            yield f"{who} lists {[tuple(it) for it in listed]} of run {run}"
+    if world.kept and (world.kept.run != len(world.runs) or world.kept.run in [it.run for it in world.entered]):
+        yield f"run {world.kept.run} is kept, {len(world.runs)} were begun, entered were {[it.run for it in world.entered]}"
+
+
 HEADLINE = (counted_reels, holders, entered_runs, counts_of_positions)
-BESIDE = (accepted_writes, requests_ahead)
+BESIDE = (accepted_writes, requests_ahead, listed_volumes)
 SENTENCES = (*HEADLINE, *BESIDE)

@@ -1,11 +1,13 @@
 #!/usr/bin/env python3
-"""Kills the built server at random moments of dumps over the loopback, starts it again, and looks at every reel at the end of each dump.
+"""Kills the built server at random moments of dumps over the loopback, starts it again, and looks at every reel at the end of each dump; and then
+kills the client, the server or both at moments of dumps with a checkpoint file, and has the same words go on until the dump is complete.
 
-    kills.py [RMTD [RDUMP]] [--seed N] [--kills N]
+    kills.py [RMTD [RDUMP]] [--seed N] [--kills N] [--checkpoint]
 
 The client connects to a gate of this file, which passes its bytes on to the server that runs. The moments are behind a number of bytes
 either way, after some time, and around the move of a reel to the bin: before the request for it has passed, within the move, when its
-reply has come, which is lost then, and when that has passed. The seed is printed where a check failed.
+reply has come, which is lost then, and when that has passed; and where there is a checkpoint file also around the reply to the close, behind which
+that is written. With `--checkpoint` only dumps with such a file are made. The seed is printed where a check failed.
 """
 
 from __future__ import annotations
@@ -14,17 +16,22 @@ import argparse
 import os
 import random
 import re
+import signal
 import socket
 import subprocess
 import sys
 import tempfile
 import threading
 import time
+from contextlib import contextmanager, suppress
 from pathlib import Path
-from typing import NamedTuple
+from typing import Iterator, NamedTuple
 
 from checks import COUNT, check, ended
+from model_checkpoint import Checkpoint, decoded
 from model_rmtd import Entry, images
+from model_world import Run
+from sites import files_of
 
 CRATES = Path(__file__).resolve().parent.parent / "crates"
 DEVICE = "/dev/st0"
@@ -37,30 +44,54 @@ A_VOLUME = 15
 CAPACITY = 1024 + 8 + A_VOLUME * (BLOCK + 8) + 4
 VOLUMES = 3
 REELS = 9
-MOVE = b"I6\n1\n"
+MOVE, CLOSE = b"I6\n1\n", b"C\n"
+
+SERVER, CLIENT, BOTH = "the server", "the client", "both"
 
 
 class Moment(NamedTuple):
-    """When the server is killed: at a part of a dump, which is the number of bytes or moves passed, and so much later."""
+    """When the server, the client or both are killed: at a part of a dump, which is the number of bytes or moves passed, and so much later."""
 
     kind: str
     part: int
     later: float
+    who: str = SERVER
 
 
 # Of a move: before its request has passed on, behind it, when its reply has come, and when that has passed on.
 AROUND_A_MOVE = ("before the request", "in the move", "before the reply", "after the reply")
+# Of a close: when its reply has passed on, after which a count is printed and kept.
+AFTER_A_CLOSE = "after the close"
+KEEPING_SECONDS = 0.01
 
 
-def moments(source: random.Random, bytes_passed: int, seconds: float, move_seconds: float) -> Moment:
-    """A random moment of a dump that passes so many bytes in so much time, in which a move takes so long."""
-    kind = source.choice(("bytes", "time", *AROUND_A_MOVE, "in the move"))
+class Pace(NamedTuple):
+    """A dump that is not killed passes so many bytes in so much time, and a move of it takes so long."""
+
+    passed: int
+    seconds: float
+    move_seconds: float
+
+
+def moments(source: random.Random, pace: Pace) -> Moment:
+    """A random moment of a dump of this pace."""
+    return moment_of(source, source.choice(("bytes", "time", *AROUND_A_MOVE, "in the move")), pace)
+
+
+def moments_of_both(source: random.Random, pace: Pace) -> Moment:
+    """A random moment of a dump of this pace, at which the client, the server or both are killed."""
+    kind = source.choice(("bytes", "time", *AROUND_A_MOVE, AFTER_A_CLOSE, AFTER_A_CLOSE))
+    return moment_of(source, kind, pace)._replace(who=source.choice((CLIENT, CLIENT, BOTH, SERVER)))
+
+
+def moment_of(source: random.Random, kind: str, pace: Pace) -> Moment:
+    """A random moment of this kind."""
     if kind == "bytes":
-        return Moment(kind, source.randrange(1, bytes_passed), 0.0)
+        return Moment(kind, source.randrange(1, pace.passed), 0.0)
     if kind == "time":
-        return Moment(kind, 0, source.uniform(0, seconds))
-    later = source.uniform(0, 1.2 * move_seconds) if kind == "in the move" else 0.0
-    return Moment(kind, source.randrange(VOLUMES), later)
+        return Moment(kind, 0, source.uniform(0, pace.seconds))
+    most = {"in the move": 1.2 * pace.move_seconds, AFTER_A_CLOSE: KEEPING_SECONDS}.get(kind, 0.0)
+    return Moment(kind, source.randrange(VOLUMES), source.uniform(0, most) if most else 0.0)
 
 
 class Served:
@@ -77,7 +108,6 @@ class Served:
         self.words = (program, "--listen", "127.0.0.1:0", "--capacity", str(CAPACITY), "--bin", str(self.bin), f"{DEVICE}={self.stack}")
         self.process: subprocess.Popen[bytes] | None = None
         self.address = ("127.0.0.1", 0)
-        self.kills = 0
 
     def start(self) -> None:
         """Starts it where it does not run."""
@@ -88,6 +118,10 @@ class Served:
         host, port = re.fullmatch(r"listening on (.+):(\d+)\n", line).groups()
         self.address = (host, int(port))
 
+    def looked_at(self) -> tuple[dict[str, bytes], dict[str, bytes]]:
+        """What the reels of the stack and of the bin hold, by name."""
+        return files_of(self.stack, self.bin)
+
     def kill(self) -> None:
         """Kills it, and returns once it is gone."""
         if self.process:
@@ -97,10 +131,13 @@ class Served:
 
 
 class Gate:
-    """Passes each connection on to the server, and kills the server at a moment, once."""
+    """Passes each connection on to the server, and kills the server or the client at a moment, once."""
 
     def __init__(self, served: Served) -> None:
         self.served = served
+        self.client: subprocess.Popen[bytes] | None = None
+        self.kills = 0
+        self.closes = False
         self.moment: Moment | None = None
         self.timer: threading.Timer | None = None
         self.killing = threading.Lock()
@@ -115,7 +152,7 @@ class Gate:
         self.worker.start()
 
     def set(self, moment: Moment | None) -> None:
-        """Kills the server at this moment, counted from now on."""
+        """Kills at this moment, counted from now on."""
         self.moment = moment
         self.killed = moment is None
         self.passed = self.moves = 0
@@ -123,17 +160,22 @@ class Gate:
             self.later(moment.later)
 
     def later(self, seconds: float) -> None:
-        self.timer = threading.Timer(seconds, self.kill)
-        self.timer.start()
+        # A client that is gone meanwhile has it settled at once, so it runs before it can be seen.
+        timer = threading.Timer(seconds, self.kill)
+        timer.start()
+        self.timer = timer
 
     def kill(self) -> bool:
-        """Kills the server, where it was not killed at this moment before; whether it did."""
+        """Kills who is to be killed at this moment, where that was not done before; whether it did."""
         with self.killing:
             if self.killed:
                 return False
             self.killed = True
-            self.served.kills += 1
-            self.served.kill()
+            self.kills += 1
+            if self.moment.who != SERVER and self.client:
+                self.client.kill()
+            if self.moment.who != CLIENT:
+                self.served.kill()
             return True
 
     def settle(self) -> None:
@@ -182,12 +224,13 @@ class Gate:
             self.kill()
 
     def here(self, kind: str) -> bool:
-        """Whether this is the move, and the side of it, at which the server is killed."""
+        """Whether this is the move, and the side of it, at which is killed."""
         return self.moment is not None and self.moment.kind == kind and self.moment.part == self.moves
 
     def request(self, piece: bytes, server: socket.socket) -> None:
         """Passes on what the client sent."""
         move = piece == MOVE
+        self.closes = piece == CLOSE
         if move and self.here("before the request"):
             self.kill()
         self.asked = time.perf_counter() if move else 0.0
@@ -207,6 +250,9 @@ class Gate:
         client.sendall(piece)
         if move and self.here("after the reply"):
             self.kill()
+        if self.closes and self.moment and (self.moment.kind, self.moment.part) == (AFTER_A_CLOSE, self.moves - 1):
+            self.later(self.moment.later)
+        self.closes = False
         self.moves += move
         self.count(piece)
 
@@ -227,6 +273,9 @@ def volume(payload: bytes, number: int, first: int, count: int) -> bytes:
 
 # Each volume of the dump: its number, its first block, and how many it has.
 WHOLE = ((1, 0, 15), (2, 15, 15), (3, 30, 10))
+DATED, LATER = ("--date", "951782400"), ("--date", "951868800")
+RUN = Run(DEVICE.encode(), b"/usr", 0, 951_782_400, 0, BLOCK, BLOCKS)
+ENTRY = "/usr" + 28 * " " + " 0 Tue Feb 29 00:00:00 2000\n"
 
 
 class Dump:
@@ -235,16 +284,19 @@ class Dump:
     def __init__(self, title: str, rdump: str, folder: Path, gate: Gate, payload: bytes) -> None:
         self.title = title
         self.gate = gate
+        self.folder = folder
         self.served = gate.served
         self.volumes = {volume(payload, *it): it for it in WHOLE}
         folder.joinpath("payload").write_bytes(payload)
-        self.words = [rdump, "dump", "--to", gate.address, "--device", DEVICE, "--fs", "/usr", "--level", "0", "--date", "951782400"]
+        self.words = [rdump, "dump", "--to", gate.address, "--device", DEVICE, "--fs", "/usr", "--level", "0"]
         self.words += ["--payload", str(folder / "payload"), "--block", str(BLOCK), "--dumpdates", str(folder / "dumpdates")]
         self.lines: list[str] = []
 
-    def run(self) -> int:
+    def run(self, *more: str) -> int:
         """Dumps, starts the server anew whenever the client asks whether to try again, and answers the status."""
-        with subprocess.Popen(self.words, stdin=subprocess.PIPE, stdout=subprocess.PIPE, bufsize=0) as client:
+        streams = {"stdin": subprocess.PIPE, "stdout": subprocess.PIPE, "stderr": subprocess.DEVNULL, "bufsize": 0}
+        with subprocess.Popen((*self.words, *(more or DATED)), **streams) as client:
+            self.gate.client = client
             guard = threading.Timer(GUARD_SECONDS, client.kill)
             guard.start()
             try:
@@ -252,7 +304,8 @@ class Dump:
                     self.lines.append(line.decode().rstrip("\n"))
                     if self.lines[-1] == "retry?":
                         self.settled()
-                        client.stdin.write(b"yes\n")
+                        with suppress(BrokenPipeError):
+                            client.stdin.write(b"yes\n")
             finally:
                 client.kill()
                 client.wait()
@@ -275,8 +328,7 @@ class Dump:
 
     def reels_hold(self) -> None:
         """Each volume that was counted is in the bin, to the byte, only whole volumes are there, and no name is gone or stands twice."""
-        stack = [it.name for it in self.served.stack.iterdir()]
-        bin = {it.name: it.read_bytes() for it in self.served.bin.iterdir()}
+        stack, bin = self.served.looked_at()
         check(f"{self.title}: each name stands once", sorted([*stack, *bin]) == self.served.names, stack, sorted(bin))
         there = {self.volumes.get(it) for it in bin.values()}
         counted = self.counted()
@@ -290,44 +342,156 @@ class Dump:
         self.reels_hold()
 
 
+class KeptDump(Dump):
+    """One dump with a checkpoint file that is entered, by as many clients as it takes. The dates of the words are others once there is a file."""
+
+    def __init__(self, title: str, rdump: str, folder: Path, gate: Gate, payload: bytes) -> None:
+        super().__init__(title, rdump, folder, gate, payload)
+        self.file = folder / "kept"
+        self.words += ["--checkpoint", str(self.file), "--update"]
+        self.had: dict[int, int] = {}
+
+    def run_to_the_end(self, asked: list[Moment]) -> int:
+        """Dumps, and has the same words go on whenever the client was killed: at each of these moments, one for a client. Answers the last status."""
+        for moment in (*asked, None):
+            self.gate.set(moment)
+            printed, going = len(self.lines), self.spelled()
+            status = self.run(*(LATER if self.file.exists() else DATED))
+            self.gate.settle()
+            self.goes_on_with(going, self.lines[printed:])
+            if status != -signal.SIGKILL or self.is_over():
+                return status
+            self.stops()
+        return status
+
+    def is_over(self) -> bool:
+        """Whether the dump was complete when the client was killed, which has removed the file then."""
+        return not self.file.exists() and self.lines[-1:] == [self.end()]
+
+    def spelled(self) -> list[tuple[int, int, int]]:
+        """The volumes that the file has."""
+        if not self.file.exists():
+            return []
+        found = decoded(self.file.read_bytes())
+        right = isinstance(found, Checkpoint) and found.run == RUN
+        check(f"{self.title}: the file is of this run, with its date", right, found)
+        return [tuple(it) for it in found.counts] if right else []
+
+    def goes_on_with(self, going: list[tuple[int, int, int]], lines: list[str]) -> None:
+        """A client that began with a file of these volumes printed none of them again."""
+        again = [it for it in lines if re.match(r"volume \d+:? ", it) and int(it.split()[1].rstrip(":")) <= len(going)]
+        check(f"{self.title}: no volume that the file had is tried again", not again, going, lines)
+
+    def stops(self) -> None:
+        """A client was killed: what the file has is a beginning of the dump, was printed, and each volume of it is in the bin."""
+        with self.gate.killing:
+            self.served.start()
+        file = self.spelled()
+        check(f"{self.title}: the file has a beginning of the dump", file == [*WHOLE[: len(file)]], file)
+        check(f"{self.title}: what the file has was printed", {*file} <= {*self.counted()}, file, self.lines)
+        self.reels_hold()
+        check(f"{self.title}: what the file has is on reels", {*file} <= {*self.there()}, file)
+        for volume_number, _, _ in file:
+            self.had.setdefault(volume_number, self.reels_of(volume_number))
+
+    def there(self) -> list[tuple[int, int, int] | None]:
+        _, bin = self.served.looked_at()
+        return [self.volumes.get(it) for it in bin.values()]
+
+    def reels_of(self, number: int) -> int:
+        """How many reels have the label of a volume, on the stack too."""
+        stack, bin = self.served.looked_at()
+        return sum(f"\nvolume {number}\n".encode() in it for it in (*stack.values(), *bin.values()))
+
+    def end(self) -> str:
+        return f"dump complete: {VOLUMES} volumes, {BLOCKS} blocks"
+
+    def holds(self) -> None:
+        """The dump ended well, every reel is what it has to be, the run is entered once, and no volume was dumped again once the file had it."""
+        check(f"{self.title}: the counts", {*self.counted()} == {*WHOLE} and self.lines[-1:] == [self.end()], self.lines)
+        self.reels_hold()
+        check(f"{self.title}: each volume is in the bin", {*self.there()} == {*WHOLE}, self.there())
+        dates = self.folder / "dumpdates"
+        check(f"{self.title}: the run is entered once", dates.exists() and dates.read_text() == ENTRY)
+        again = {number: self.reels_of(number) for number in self.had}
+        check(f"{self.title}: no volume that the file had is dumped again", again == self.had, again, self.had)
+        check(f"{self.title}: the file is gone", not self.file.exists() and not self.file.with_name("kept.new").exists())
+
+
+class Shop(NamedTuple):
+    """What all dumps share: the programs, the payload, and the source of random moments."""
+
+    rmtd: str
+    rdump: str
+    payload: bytes
+    source: random.Random
+
+    @contextmanager
+    def gate(self, folder: Path) -> Iterator[Gate]:
+        """A server in this folder that runs, and the gate before it."""
+        served = Served(self.rmtd, folder, [f"r{number}" for number in range(1, REELS + 1)])
+        gate = Gate(served)
+        try:
+            served.start()
+            yield gate
+        finally:
+            gate.stop()
+            served.kill()
+
+    def dump(self, kind: type[Dump], moment: Moment | None) -> tuple[int, int, Pace]:
+        """One dump in which the server is killed, or nobody: how often it was, how many reels are in the bin that were not counted, and its pace."""
+        title = f"killed at {moment}" if moment else "not killed"
+        with tempfile.TemporaryDirectory() as name:
+            with self.gate(Path(name)) as gate:
+                gate.set(moment)
+                began = time.perf_counter()
+                dump = kind(title, self.rdump, Path(name), gate, self.payload)
+                status = dump.run()
+                pace = Pace(gate.passed, time.perf_counter() - began, gate.longest_move)
+            check(f"{title}: the status", status == 0, status, dump.lines)
+            dump.holds()
+            return gate.kills, len([*gate.served.bin.iterdir()]) - VOLUMES, pace
+
+    def kept_dump(self, asked: list[Moment]) -> int:
+        """One dump with a checkpoint file in which is killed at these moments: how often it was."""
+        title = f"with a checkpoint file, killed at {asked}"
+        with tempfile.TemporaryDirectory() as name:
+            with self.gate(Path(name)) as gate:
+                dump = KeptDump(title, self.rdump, Path(name), gate, self.payload)
+                status = dump.run_to_the_end(asked)
+            check(f"{title}: the status", status == 0 or (status == -signal.SIGKILL and dump.is_over()), status, dump.lines)
+            dump.holds()
+            return gate.kills
+
+
+# A dump with a checkpoint file meets so many kills at most: each may cost a reel.
+KILLS_A_DUMP = 5
+
+
 def main() -> int:
-    parser = argparse.ArgumentParser(description="Kills the built server at random moments of dumps.")
+    parser = argparse.ArgumentParser(description="Kills the built server, and the client, at random moments of dumps.")
     parser.add_argument("rmtd", nargs="?", default=str(CRATES / "rmtd/out/rmtd"))
     parser.add_argument("rdump", nargs="?", default=str(CRATES / "rdump/out/rdump"))
     parser.add_argument("--seed", type=int, default=200, help="of the random moments")
-    parser.add_argument("--kills", type=int, default=200, help="how often the server is killed")
+    parser.add_argument("--kills", type=int, default=200, help="how often it kills, and half as often with a checkpoint file")
+    parser.add_argument("--checkpoint", action="store_true", help="make only dumps with a checkpoint file")
     asked = parser.parse_args()
-    rmtd, rdump = os.path.abspath(asked.rmtd), os.path.abspath(asked.rdump)
     source = random.Random(asked.seed)
-    payload = source.randbytes(BLOCK * BLOCKS)
-    names = [f"r{number}" for number in range(1, REELS + 1)]
+    shop = Shop(os.path.abspath(asked.rmtd), os.path.abspath(asked.rdump), source.randbytes(BLOCK * BLOCKS), source)
+    _, _, pace = shop.dump(Dump, None)
     kills = spare = 0
-    seconds = move_seconds = 0.0
-    passed = 0
-    while kills < asked.kills and not COUNT[1]:
-        with tempfile.TemporaryDirectory() as folder:
-            served = Served(rmtd, Path(folder), names)
-            gate = Gate(served)
-            moment = moments(source, passed, seconds, move_seconds) if passed else None
-            title = f"killed at {moment}" if moment else "not killed"
-            try:
-                served.start()
-                gate.set(moment)
-                began = time.perf_counter()
-                dump = Dump(title, rdump, Path(folder), gate, payload)
-                status = dump.run()
-                if not passed:
-                    seconds, passed, move_seconds = time.perf_counter() - began, gate.passed, gate.longest_move
-            finally:
-                gate.stop()
-                served.kill()
-            kills += served.kills
-            spare += len([*served.bin.iterdir()]) - VOLUMES
-            check(f"{title}: the status", status == 0, status, dump.lines)
-            dump.holds()
+    while not asked.checkpoint and kills < asked.kills and not COUNT[1]:
+        made, more, _ = shop.dump(Dump, moments(source, pace))
+        kills, spare = kills + made, spare + more
+    if not asked.checkpoint:
+        print(f"{kills} times killed; {spare} reels in the bin that were whole and not counted", flush=True)
+    kills = dumps = 0
+    while kills < asked.kills // 2 and not COUNT[1]:
+        kills += shop.kept_dump([moments_of_both(source, pace) for _ in range(source.randint(1, KILLS_A_DUMP))])
+        dumps += 1
+    print(f"{kills} times killed in {dumps} dumps with a checkpoint file")
     if COUNT[1]:
         print(f"The seed is {asked.seed}.")
-    print(f"{kills} times killed; {spare} reels in the bin that were whole and not counted")
     return ended()
 
 

@@ -48,6 +48,9 @@ COUNTS_AT_THE_MARK = "counts-at-the-mark"
 ENTERS_A_PART = "enters-an-unfinished-run"
 LISTS_NO_OPEN = "does-not-list-an-open"
 TAKES_A_SMALLER_NUMBER = "takes-a-smaller-number"
+A_COUNT_MORE = "comes-back-with-a-count-more"
+KEEPS_AN_ENTERED_RUN = "keeps-a-run-that-was-entered"
+KEEPS_OVER_A_NEW_RUN = "keeps-over-a-new-run"
 
 
 # The client.
@@ -254,6 +257,13 @@ class Count(NamedTuple):
     link: int
 
 
+class Listed(NamedTuple):
+    """A run by its number, and what its client had counted: as it was entered, or as it was kept."""
+
+    run: int
+    counts: tuple[Volume, ...]
+
+
 class World:
     """The server with its drives, all connections, at most one client, and what has been written down."""
 
@@ -268,7 +278,8 @@ class World:
         self.own: Link | None = None
         self.counts: list[Count] = []
         self.opens: list[tuple[int, Reel]] = []
-        self.entered: list[int] = []
+        self.entered: list[Listed] = []
+        self.kept: Listed | None = None
         self.dates: list[tuple[bytes, int, int]] = []
         self.failures: list[tuple[int, str]] = []
         self.seen: Counter[str] = Counter()
@@ -305,6 +316,8 @@ class World:
             raise NotPossible
         self.runs.append(run)
         self.client = Client(len(self.runs), run, self.off)
+        if KEEPS_OVER_A_NEW_RUN not in self.off:
+            self.kept = None
 
     def connect(self) -> None:
         if self.state() != "Ready":
@@ -327,12 +340,35 @@ class World:
         if self.state() != "Asking":
             raise NotPossible
         self.client.state = state
+        if state == "Abandoned":
+            self.kept = None
+
+    def can_be_kept(self) -> bool:
+        """Whether there is a run that was not abandoned, nor finished and entered."""
+        return self.state() not in ("none", "Abandoned") and not (self.state() == "Finished" and self.client.entered)
+
+    def save(self) -> None:
+        """The run is kept, with what is counted of it now."""
+        if not self.can_be_kept():
+            raise NotPossible
+        self.kept = Listed(self.client.number, tuple(self.client.counted))
 
     def client_restart(self) -> None:
+        """The client is gone. The run that is kept comes back with what was counted of it when it was kept."""
         if not self.client:
             raise NotPossible
-        self.client = None
         self.hang_up()
+        self.client = self.come_back(self.kept) if self.kept else None
+
+    def come_back(self, kept: Listed) -> Client:
+        client = Client(kept.run, self.runs[kept.run - 1], self.off)
+        client.counted = [*kept.counts]
+        if A_COUNT_MORE in self.off and client.checkpoint()[1] < client.run.blocks:
+            client.counted.append(Volume(*client.checkpoint(), 1))
+        client.state = "Finished" if client.is_complete() else "Ready"
+        newer = sum(it.run == kept.run for it in self.counts) > len(kept.counts)
+        self.saw(f"event a run comes back{' with fewer counts than were made' if newer else ''}")
+        return client
 
     def can_be_entered(self) -> bool:
         """Whether the run is finished, which a broken rule does not ask, and was not entered."""
@@ -343,7 +379,9 @@ class World:
         if not self.can_be_entered():
             raise NotPossible
         self.client.entered = True
-        self.entered.append(self.client.number)
+        self.entered.append(Listed(self.client.number, tuple(self.client.counted)))
+        if KEEPS_AN_ENTERED_RUN not in self.off:
+            self.kept = None
         run = self.client.run
         self.dates = entered(self.dates, (run.name, run.level, run.date))
 
@@ -632,6 +670,7 @@ class Schedule:
             "send": world.send,
             "restart-server": world.server_restart,
             "restart-client": world.client_restart,
+            "save": world.save,
             "retry": lambda: world.answer("Ready"),
             "abandon": lambda: world.answer("Abandoned"),
             "stranger": world.stranger,

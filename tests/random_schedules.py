@@ -41,10 +41,11 @@ class Profile(NamedTuple):
 
 DUMPING = {
     "run": 9, "connect": 25, "send": 25, "to-server": 25, "serve": 25, "to-client": 25, "pump": 4, "cut": 0.6, "end-server": 9, "end-client": 6,
-    "restart-server": 0.1, "restart-client": 0.06, "retry": 9, "abandon": 0.15, "stranger": 0.3, "says": 3, "enter": 20, "arrange": 4, "blank": 0.3,
+    "restart-server": 0.1, "restart-client": 0.1, "save": 2, "retry": 9, "abandon": 0.15, "stranger": 0.3, "says": 3, "enter": 20, "arrange": 4,
+    "blank": 0.3,
 }
 STRANGE = {**DUMPING, "stranger": 2, "says": 14, "to-server": 40, "serve": 60, "pump": 2}
-ROUGH = {**DUMPING, "cut": 4, "restart-server": 0.8, "restart-client": 0.5, "abandon": 1, "stranger": 2, "says": 15, "arrange": 3, "pump": 12}
+ROUGH = {**DUMPING, "cut": 4, "restart-server": 0.8, "restart-client": 0.8, "abandon": 1, "stranger": 2, "says": 15, "arrange": 3, "pump": 12}
 
 PROFILES = (
     Profile("dumps", DUMPING, troubles=0.03),
@@ -78,7 +79,7 @@ class Walk:
             "to-client": self.to_client, "pump": self.pump, "cut": self.cut, "end-server": self.end_server, "end-client": self.end_client,
             "restart-server": lambda: b"restart-server", "restart-client": self.restart_client, "retry": lambda: self.answer(b"retry"),
             "abandon": lambda: self.answer(b"abandon"), "stranger": self.stranger, "says": self.says, "enter": self.enter,
-            "arrange": self.arrange, "blank": lambda: source.choice((b"", b"#", b"# drive", b"#\xff\r")),
+            "save": self.save, "arrange": self.arrange, "blank": lambda: source.choice((b"", b"#", b"# drive", b"#\xff\r")),
         }
 
     def drives(self) -> Iterator[bytes]:
@@ -150,6 +151,9 @@ class Walk:
 
     def restart_client(self) -> bytes | None:
         return b"restart-client" if self.world.client else None
+
+    def save(self) -> bytes | None:
+        return b"save" if self.world.can_be_kept() else None
 
     def enter(self) -> bytes | None:
         return b"enter" if self.world.can_be_entered() else None
@@ -271,7 +275,7 @@ def is_served(link: Link) -> bool:
 def candidates(world: World) -> Iterator[bytes]:
     """Lines of every kind that can be impossible, some of which are possible now."""
     yield b"run /dev/st0 /usr 0 0 0 1 1"
-    yield from (b"connect", b"send", b"send fault", b"restart-client", b"retry", b"abandon", b"enter")
+    yield from (b"connect", b"send", b"send fault", b"restart-client", b"save", b"retry", b"abandon", b"enter")
     numbers = [0, *sorted(world.alive), len(world.links), len(world.links) + 1, GREATEST]
     for number in dict.fromkeys(numbers):
         there = 1 <= number <= len(world.links)
@@ -311,6 +315,8 @@ def is_possible(world: World, line: bytes) -> bool:
         return world.client is not None
     if word == "enter":
         return state == "Finished" and not world.client.entered
+    if word == "save":
+        return state in ("Ready", "ToSend", "Waiting", "Asking") or (state == "Finished" and not world.client.entered)
     if word == "arrange":
         return can_be_arranged(world, fields[1], fields[2:])
     number = int(fields[1])

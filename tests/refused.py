@@ -27,8 +27,9 @@ from checks import check, ended
 from lawful import NO_MEMORY, History, empty, reels_of
 from model_rmtd import images
 from shim import compiled
-from sites import ABANDONED, ABNORMAL, ASKED, CRATES, DEVICE, DONE, FAILED, GUARD_SECONDS, LISTEN, NEW_DATES, NO_BLOCKS, OLD_DATES, THREE_BLOCKS
-from sites import Ended, Left, Payload, Programs, course, drive_words, dumped, folders, held, serving
+from sites import ABANDONED, ABNORMAL, ASKED, CRATES, DATED, DEVICE, DONE, FAILED, GUARD_SECONDS, KEPT, LISTEN, NEW_DATES, NO_BLOCKS, NOT_WRITTEN
+from sites import OLD_DATES, THREE_BLOCKS, Ended, Left, Payload, Programs, course, drive_words, dump_site, dumped, folders, held, kept_words, left
+from sites import serving
 
 # A record and a mark are written and read back; and a reel is taken away, so that none is left.
 ROW = b"O/dev/st0\n2\nW5\nhelloI0\n1\nI5\n1\nR10\nR10\nC\n"
@@ -258,6 +259,68 @@ def dump(p: Programs) -> None:
         it.refused_starts(title, came)
 
 
+class KeptDump(NamedTuple):
+    """A dump of this payload with a checkpoint file, which has so many counts at the start or is none, where the operator says `yes` so often."""
+
+    payload: Payload
+    yes: int
+    had: int | None
+
+    def go(self, p: Programs, rules: str) -> Ended:
+        with dump_site(p, self.payload) as (folder, words):
+            if self.had is not None:
+                folder.joinpath(KEPT).write_bytes(self.payload.checkpoint(self.had))
+            return p.run((*words, *kept_words(folder), *DATED), rules, b"yes\n" * self.yes)._replace(left=left(folder))
+
+    def left(self, counted: int, is_entered: bool, kept: int | None) -> Left:
+        """What a dump leaves that counted so many volumes, where the file has so many of them, or is not there."""
+        reels = {f"r{number}": data for number, data in enumerate(self.payload.reels()[self.had or 0 : counted], 1)}
+        text = None if kept is None else self.payload.checkpoint(kept)
+        names = ["dates"] if text is None else [KEPT, "dates"]
+        return Left(reels, NEW_DATES if is_entered else OLD_DATES, names, text)
+
+    def is_right(self, got: Ended, more: bool) -> bool:
+        """It took a lawful course, and the file has what was counted, but for a count that could not be kept; it is gone where the dump is complete
+        or abandoned, or could not be removed, which is told. A refusal alone is one fault."""
+        went = course(self.payload, got.output, self.yes, self.had or 0)
+        if went is None or went.faults[:1] not in ((), ("OutOfMemory",)) or {*went.faults[1:]} - {*FAULTS}:
+            return False
+        stays = went.end in ("complete", "abandoned") and got.left.kept is not None
+        refused = went.faults.count("OutOfMemory") + (went.end in ("not entered", "not kept")) + stays
+        right = self.left(went.counted, went.end == "complete", self.kept(went.counted, went.end, stays))
+        status = ABNORMAL if stays else went.status()
+        told = tells_why(got) or not (stays or went.end in ("not entered", "not kept"))
+        return got.left == right and got.status == status and told and (refused >= 1 if more else refused == 1)
+
+    def kept(self, counted: int, end: str, stays: bool) -> int | None:
+        """How many counts the file has after a dump that ended so, none where it is not there."""
+        if end == "not kept":
+            return self.had if counted == (self.had or 0) else counted - 1
+        return counted if stays or end == "not entered" else None
+
+    def before(self, got: Ended) -> bool:
+        """It did not start, and touched nothing. Or it could not keep that it begins, or the start of an attempt failed."""
+        if is_named(got):
+            return got.left == self.left(self.had or 0, False, self.had)
+        begun = (f"{NOT_WRITTEN}\n", f"volume {(self.had or 0) + 1} failed: OutOfMemory\n{ASKED}\n")
+        return got.output.decode().startswith(begun) and self.is_right(got, got.status != DONE)
+
+
+def kept_dump(p: Programs) -> None:
+    """Dumps with a checkpoint file: a new one, and one that goes on; and one that is finished, which makes no attempt."""
+    for it in (KeptDump(THREE_BLOCKS, 0, None), KeptDump(THREE_BLOCKS, 1, None), KeptDump(THREE_BLOCKS, 0, 1)):
+        title = f"a dump whose checkpoint file has {it.had} counts, where the operator says yes {it.yes} times"
+        well = it.go(p, "")
+        wanted = DONE, THREE_BLOCKS.printed(it.had or 0), it.left(2, True, None)
+        check(f"{title}: with all memory", well.seen() == wanted, well.shown())
+        Sweep(title, 180, "connect", lambda rules, it=it: it.go(p, rules), it.before, it.is_right).run()
+    it = KeptDump(THREE_BLOCKS, 0, 2)
+    well = it.go(p, "")
+    check("a finished checkpoint file: with all memory", well.seen() == (DONE, THREE_BLOCKS.printed(2), it.left(2, True, None)), well.shown())
+    starts = lambda got: is_named(got) and got.left == it.left(2, False, 2) or it.is_right(got, True)
+    Sweep("a finished checkpoint file", 150, "connect", lambda rules: it.go(p, rules), starts, never).run()
+
+
 def dates(p: Programs) -> None:
     """A dumpdates file that is printed, and one that is asked for a base."""
     with tempfile.NamedTemporaryFile() as file:
@@ -361,7 +424,7 @@ def simulator(p: Programs) -> None:
         check("a schedule: nothing else is told", not [it for it in came if b"Error" in it.told], [it for it in came if b"Error" in it.told][:3])
 
 
-PARTS = (in_memory, reserved, over_a_folder, listener, dump, dates, other_commands, simulator)
+PARTS = (in_memory, reserved, over_a_folder, listener, dump, kept_dump, dates, other_commands, simulator)
 
 
 def main() -> int:

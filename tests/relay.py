@@ -28,6 +28,7 @@ from typing import Iterator
 from checks import check, ended
 from cuts import ATTEMPTS, ENTRY, REELS, Cut, blocks, cuts, first_block
 from model_rmtd import images
+from sites import files_of
 
 CRATES = Path(__file__).resolve().parent.parent / "crates"
 DEVICE = "/dev/st0"
@@ -163,7 +164,8 @@ class Site:
 
     def reels(self) -> dict[str, bytes]:
         """The files of the bin and of the stack."""
-        return {f"{it.parent.name}/{it.name}": it.read_bytes() for folder in (self.bin, self.stack) for it in folder.iterdir()}
+        places = self.bin, self.stack
+        return {f"{place.name}/{name}": data for place, files in zip(places, files_of(*places)) for name, data in files.items()}
 
 
 # What is wanted.

@@ -272,7 +272,7 @@ def how_often(seen: Counter[str]) -> None:
 WANTED_EVENTS = (
     "run", "connect", "send", "send fault", "to-server", "to-server all", "serve", "serve kept", "serve lost", "serve written", "to-client",
     "to-client all", "cut", "end-server", "end-client", "restart-server", "restart-client", "retry", "abandon", "arrange", "stranger", "says",
-    "enter", "pump",
+    "enter", "pump", "save", "a run comes back", "a run comes back with fewer counts than were made",
 )
 WANTED_FAILURES = ("ConnectionEnded", "ReelTooSmall", "SourceFault", "Refused 2", "Refused 5", "Refused 6", "Refused 16")
 

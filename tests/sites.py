@@ -4,11 +4,13 @@ from __future__ import annotations
 
 import subprocess
 import tempfile
-from contextlib import contextmanager
+from contextlib import contextmanager, suppress
 from pathlib import Path
-from typing import Iterator, NamedTuple
+from typing import Callable, Iterator, NamedTuple, TypeVar
 
+from model_checkpoint import text_of
 from model_rmtd import images
+from model_world import Run, Volume
 from shim import Shim
 
 CRATES = Path(__file__).resolve().parent.parent / "crates"
@@ -76,9 +78,26 @@ def folders(**reels: bytes) -> Iterator[Path]:
         yield folder
 
 
+T = TypeVar("T")
+
+
+def settled(look: Callable[[], T]) -> T:
+    """What two looks in a row see alike: of one moment, though a session that lost its client may still move a reel."""
+    while True:
+        with suppress(FileNotFoundError):
+            first, again = look(), look()
+            if first == again:
+                return first
+
+
+def files_of(*folders: Path) -> tuple[dict[str, bytes], ...]:
+    """The files of each of these folders, at one moment: what each holds, by its name."""
+    return settled(lambda: tuple({it.name: it.read_bytes() for it in folder.iterdir()} for folder in folders))
+
+
 def held(folder: Path) -> tuple[dict[str, bytes], dict[str, bytes]]:
     """The files of the stack and of the bin."""
-    return tuple({it.name: it.read_bytes() for it in folder.joinpath(name).iterdir()} for name in ("st0", "bin"))
+    return files_of(folder / "st0", folder / "bin")
 
 
 def drive_words(folder: Path) -> tuple[str, ...]:
@@ -98,7 +117,7 @@ NEW_DATES = b"".join(
         (b"/home", 0, b"Thu Jan  1 00:00:00 1970"),
     )
 )
-ASKED, ABANDONED, NOT_UPDATED = "retry?", "dump abandoned", "dumpdates not updated"
+ASKED, ABANDONED, NOT_UPDATED, NOT_WRITTEN = "retry?", "dump abandoned", "dumpdates not updated", "checkpoint not written"
 
 
 @contextmanager
@@ -139,24 +158,31 @@ class Payload(NamedTuple):
         counts = [f"volume {number}: {count} blocks from {first}" for number, (first, count) in enumerate(zip(self.firsts(), self.volumes), 1)]
         return [*counts, f"dump complete: {len(self.volumes)} volumes, {self.blocks} blocks"]
 
-    def printed(self) -> bytes:
-        """What a dump without a fault prints."""
-        return "\n".join([*self.lines(), ""]).encode()
+    def printed(self, had: int = 0) -> bytes:
+        """What a dump without a fault prints, which goes on with so many volumes."""
+        return "\n".join([*self.lines()[had:], ""]).encode()
+
+    def checkpoint(self, counted: int) -> bytes:
+        """The text of the checkpoint file once so many volumes are counted."""
+        run = Run(DEVICE.encode(), b"/usr", 1, DAY, DAY_BEFORE, BLOCK, self.blocks)
+        counts = [Volume(number, *it) for number, it in enumerate(zip(self.firsts(), self.volumes), 1)]
+        return text_of(run, tuple(counts[:counted]))
 
 
 NO_BLOCKS, THREE_BLOCKS = Payload(0, (0,)), Payload(3, (2, 1))
 
 
 class Left(NamedTuple):
-    """What a dump leaves: the reels of the bin, dumpdates, and the names of files that begin like it."""
+    """What a dump leaves: the reels of the bin, dumpdates, the names of files that begin like it or like the checkpoint file, and what that holds."""
 
     bin: dict[str, bytes]
     dates: bytes
     names: list[str]
+    kept: bytes | None = None
 
     def shown(self) -> tuple[object, ...]:
         """What is told of it: of each reel its length."""
-        return {name: len(data) for name, data in self.bin.items()}, self.dates, self.names
+        return {name: len(data) for name, data in self.bin.items()}, self.dates, self.names, self.kept
 
 
 @contextmanager
@@ -173,10 +199,19 @@ def dump_site(p: Programs, payload: Payload) -> Iterator[tuple[Path, tuple[str, 
 DATED = ("--date", str(DAY))
 
 
+KEPT = "checkpoint"
+
+
+def kept_words(folder: Path) -> tuple[str, str]:
+    """The words that have a dump keep what it counted."""
+    return "--checkpoint", str(folder / KEPT)
+
+
 def left(folder: Path) -> Left:
     """What stands after a dump."""
-    dates = folder / "dates"
-    return Left(held(folder)[1], dates.read_bytes(), sorted(it.name for it in folder.iterdir() if it.name.startswith(dates.name)))
+    dates, kept = folder / "dates", folder / KEPT
+    names = sorted(it.name for it in folder.iterdir() if it.name.startswith((dates.name, KEPT)))
+    return Left(held(folder)[1], dates.read_bytes(), names, kept.read_bytes() if kept.exists() else None)
 
 
 def dumped(p: Programs, payload: Payload, answer: bytes, rules: str, path: str = "", date: tuple[str, ...] = DATED) -> Ended:
@@ -196,9 +231,10 @@ class Course(NamedTuple):
         return DONE if self.end == "complete" else ABNORMAL
 
 
-def course(payload: Payload, output: bytes, yes: int) -> Course | None:
-    """The course of a dump where the operator says `yes` so often. None where no dump prints this."""
-    lines, counted, faults = output.decode().split("\n"), 0, ()
+def course(payload: Payload, output: bytes, yes: int, had: int | None = None) -> Course | None:
+    """The course of a dump where the operator says `yes` so often. None where no dump prints this. Of one with a checkpoint file `had` is how many
+    volumes that has at the start: it ends also where a count, or that it begins, cannot be kept."""
+    lines, counted, faults, keeps = output.decode().split("\n"), had or 0, (), had is not None
     if lines.pop() != "":
         return None
     while lines:
@@ -207,10 +243,13 @@ def course(payload: Payload, output: bytes, yes: int) -> Course | None:
         if line.startswith(failed) and lines[:1] == [ASKED]:
             faults += (line.removeprefix(failed),)
             lines.pop(0)
+            keeps = False
             if len(faults) > yes:
                 return Course(counted, faults, "abandoned") if lines == [ABANDONED] else None
+        elif keeps and line == NOT_WRITTEN and not lines:
+            return Course(counted, faults, "not kept")
         elif counted < len(payload.volumes) and line == payload.lines()[counted]:
-            counted += 1
+            counted, keeps = counted + 1, had is not None
         elif counted == len(payload.volumes) and line == payload.lines()[-1] and lines in ([], [NOT_UPDATED]):
             return Course(counted, faults, "not entered" if lines else "complete")
         else:

@@ -25,8 +25,9 @@ from pathlib import Path
 from typing import Iterator
 
 import dump
-from dump import ABNORMAL, BLOCKS, COUNT, DAY, DEVICE, DONE, FAILED, GUARD_SECONDS, PAYLOAD, TWO_VOLUMES
-from dump import Ended, Model, Programs, Received, Reel, check, label, write_volume
+from checks import check, ended
+from dump import ABNORMAL, BLOCKS, DAY, DEVICE, DONE, FAILED, GUARD_SECONDS, PAYLOAD, TWO_VOLUMES
+from dump import Ended, Model, Programs, Received, Reel, label, write_volume
 
 NOWHERE = "127.0.0.1:1"
 REFUSED = f"rdump: {NOWHERE}: Connection refused (os error 111)\n"
@@ -458,10 +459,9 @@ def main() -> int:
     for part in PARTS:
         with tempfile.TemporaryDirectory() as folder:
             skipped.append(part(Programs(os.path.abspath(asked.rmtd), os.path.abspath(asked.rdump), Path(folder))))
-    print(f"{COUNT[0]} passed, {COUNT[1]} failed")
     for it in filter(None, skipped):
         print(f"skipped: {it}")
-    return 1 if COUNT[1] else 0
+    return ended()
 
 
 if __name__ == "__main__":

@@ -13,8 +13,6 @@ import argparse
 import fcntl
 import os
 import random
-import re
-import shutil
 import socket
 import stat
 import subprocess
@@ -28,6 +26,7 @@ from pathlib import Path
 from typing import Iterator, NamedTuple
 
 from checks import check, ended
+from traced import in_order, made_in, traced
 
 BUILT = Path(__file__).resolve().parent.parent / "crates/rdump/out/rdump"
 DATE = 951_782_400
@@ -329,22 +328,17 @@ def failures(p: Programs) -> None:
     not_entered("no folder", missing, "nowhere/dumpdates", "its .new: No such file")
 
 
-# A call of the system that went well, with the paths of its descriptors.
-CALL = re.compile(r"^(?:\d+ +)?(\w+)\((.*)\) += \d")
 CALLS = "openat,open,flock,read,write,fsync,fdatasync,rename,renameat,renameat2"
 
 
 def order(p: Programs) -> None:
     """The order of the calls: the lock, the reading, the text, its sync, the rename, and the folder's sync."""
-    strace = shutil.which("strace")
+    strace = traced(CALLS)
     if not strace:
-        print("skipped: the order of the system's calls: strace is not installed")
         return
     p.put(OLD)
-    entered("under strace", p.dump("/traced", before=(strace, "-f", "-qq", "-y", "-s", "4096", "-e", f"trace={CALLS}", "-o", "calls")))
+    entered("under strace", p.dump("/traced", before=strace))
     folder = str(p.folder.resolve())
-    found = [CALL.match(it) for it in (p.text("calls") or "").splitlines()]
-    made = [(it[1].removesuffix("at").removesuffix("at2"), it[2]) for it in found if it]
     wanted = (
         ("the new file is made", "open", rf'"dumpdates\.new", .*O_CREAT\|O_EXCL'),
         ("it is locked", "flock", rf"<{folder}/dumpdates\.new>, LOCK_EX"),
@@ -354,11 +348,7 @@ def order(p: Programs) -> None:
         ("it is renamed", "rename", r'"dumpdates\.new".*"dumpdates"'),
         ("the folder is synced", "fsync", rf"<{folder}>"),
     )
-    at = 0
-    for title, call, words in wanted:
-        places = [n for n, (name, text) in enumerate(made) if n >= at and name == call and re.search(words, text)]
-        check(f"under strace: {title}, after all before it", bool(places), made[-20:])
-        at = places[0] + 1 if places else at
+    in_order(made_in(p.folder), wanted)
 
 
 KINDS = (many_at_once, killed, new_files, links, rights, failures, order)

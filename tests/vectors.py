@@ -69,6 +69,19 @@ VECTORS = (
         "connect\npump 3 9\n",
         "volume 1 failed: ConnectionEnded\n" + TWO_VOLUMES,
     ),
+    vector(
+        "a client restart after a save",
+        "drive /dev/st0 3100 r1 r2 r3\n" + THREE_BLOCKS + "connect\npump 1 9\nsave\nconnect\npump 2 4\nrestart-client\nend-server 2\nconnect\n"
+        "pump 3 9\nenter\n",
+        "reel r1 R1024 R1024 R1024 M\nreel r2 R1024 R1024 M\nreel r3\nstack /dev/st0 r3\nbin r1 r2\ncounted 1 1 0 2 r1\ncounted 1 2 2 1 r2\n"
+        "dumpdates\n" + USR,
+    ),
+    vector(
+        "a save before any count",
+        "drive /dev/st0 3100 r1 r2 r3\n" + THREE_BLOCKS + "save\nconnect\npump 1 9\nrestart-client\nconnect\npump 2 9\nconnect\npump 3 9\nenter\n",
+        "reel r1 R1024 R1024 R1024 M\nreel r2 R1024 R1024 R1024 M\nreel r3 R1024 R1024 M\nstack /dev/st0\nbin r1 r2 r3\ncounted 1 1 0 2 r1\n"
+        "counted 1 1 0 2 r2\ncounted 1 2 2 1 r3\ndumpdates\n" + USR,
+    ),
 )
 
 # A schedule with two failed attempts, after which the client is ready, three connections have been, and the drive is free.
@@ -166,6 +179,31 @@ def of_runs() -> Iterator[Vector]:
     yield vector("what was on the way before the cut is carried out", text, "reel r1 R1024\n" + EMPTY)
 
 
+def of_saves() -> Iterator[Vector]:
+    """Runs that are kept, and come back."""
+    drive = "drive /dev/st0 3100 r1 r2 r3\n"
+    finished = "connect\npump 1 9\nconnect\npump 2 9\n"
+    two = "reel r1 R1024 R1024 R1024 M\nreel r2 R1024 R1024 M\nreel r3\nstack /dev/st0 r3\nbin r1 r2\ncounted 1 1 0 2 r1\ncounted 1 2 2 1 r2\ndumpdates\n"
+    yield vector("a finished run comes back, and is entered", drive + THREE_BLOCKS + finished + "save\nrestart-client\nenter\n", two + USR)
+    text = drive + THREE_BLOCKS + finished + "save\nrestart-client\nrestart-client\nsave\nrestart-client\nenter\n"
+    yield vector("a finished run comes back three times", text, two + USR)
+    text = drive + THREE_BLOCKS + "connect\npump 1 9\nsave\nrestart-client\nconnect\npump 2 9\nenter\n"
+    yield vector("a run comes back behind its count", text, two + USR)
+    text = drive + THREE_BLOCKS + "connect\nsend\nsave\nrestart-client\nend-server 1\nconnect\npump 2 9\nconnect\npump 3 9\nenter\n"
+    yield vector("a run is kept in an attempt", text, two + USR)
+    asking = "connect\npump 1 9\nconnect\ncut 2\nend-client 2\n"
+    text = drive + THREE_BLOCKS + asking + "save\nrestart-client\nend-server 2\nconnect\npump 3 9\nenter\n"
+    yield vector("a run that asks comes back ready", text, "volume 2 failed: ConnectionEnded\n" + two + USR)
+    text = drive + THREE_BLOCKS + "save\n" + asking + "retry\nrestart-client\nend-server 2\nconnect\npump 3 9\nconnect\npump 4 9\nenter\n"
+    output = "volume 2 failed: ConnectionEnded\n" + VECTORS[-1].output.decode()
+    yield vector("a retry leaves what is kept", text, output)
+    text = drive + run(blocks=0) + "save\nconnect\npump 1 9\nsave\nrestart-client\nenter\n"
+    yield vector("no blocks are kept", text, "reel r1 R1024 M\nreel r2\nreel r3\nstack /dev/st0 r2 r3\nbin r1\ncounted 1 1 0 0 r1\ndumpdates\n" + USR)
+    text = drive + run(blocks=0) + "connect\npump 1 9\nsave\n" + run("/home") + "restart-client\n" + run("/opt") + "connect\npump 2 9\nenter\n"
+    output = "reel r1 R1024 M\nreel r2 R1024 M\nreel r3\nstack /dev/st0 r3\nbin r1 r2\ncounted 1 1 0 0 r1\ncounted 3 1 0 0 r2\ndumpdates\n"
+    yield vector("a new run drops what is kept", text, output + USR.replace("/usr", "/opt"))
+
+
 def of_shapes() -> Iterator[Vector]:
     """Texts that are lawful in unusual ways."""
     yield vector("a drive alone", "drive /dev/st0 0\n", "stack /dev/st0\nbin\ndumpdates\n")
@@ -207,7 +245,7 @@ def of_lengths() -> Iterator[Vector]:
     yield vector("a record that is read", read, "reel r1 R40\n" + EMPTY)
 
 
-GOOD_TEXTS = (*of_shapes(), *of_troubles(), *of_dates(), *of_runs(), *of_lengths())
+GOOD_TEXTS = (*of_shapes(), *of_troubles(), *of_dates(), *of_runs(), *of_saves(), *of_lengths())
 
 TWO_FILES = (OPENED, b"W1\na", b"I0\n1\n", b"W1\nb", b"I0\n1\n")
 DONE_TWICE = "A0\nA1\nA1\nA1\nA1\n"
@@ -366,7 +404,15 @@ def of_worlds() -> Iterator[Vector]:
     yield stops("a counted run is entered before its attempt ends", drive + run() + "connect\npump 1 5\nenter\n")
     yield stops("an entered run is answered", drive + run() + "connect\npump 1 9\nenter\nretry\n")
     yield stops("a second run", drive + run() + run())
-    yield stops("words of a later day", drive + run() + "save\n", "bad line")
+    yield stops("nothing is kept without a run", drive + "save\n")
+    yield stops("an entered run is kept", drive + run() + "connect\npump 1 9\nenter\nsave\n")
+    yield stops("an entered run does not come back", drive + run() + "save\nconnect\npump 1 9\nsave\nenter\nrestart-client\nenter\n")
+    text = drive + run(device="/dev/st9") + "save\nconnect\npump 1 9\nabandon\n"
+    yield stops("an abandoned run is kept", text + "save\n", before="volume 1 failed: Refused 2\n")
+    yield stops("an abandoned run does not come back", text + "restart-client\nconnect\n", before="volume 1 failed: Refused 2\n")
+    yield stops("a run that a new one dropped does not come back", drive + run() + "connect\npump 1 9\nsave\n" + run() + "restart-client\nenter\n")
+    yield stops("a restart without a save", VECTORS[-2].text.decode().replace("save\n", "").partition("pump 3")[0])
+    yield stops("a run comes back without an attempt", drive + THREE_BLOCKS + "connect\nsave\nrestart-client\nsend\n")
 
 
 BAD_TEXTS = (*of_answers(), *of_rooms(), *of_bad_texts(), *of_first_faults(), *of_worlds())
@@ -399,7 +445,7 @@ def of_bad_runs() -> Iterator[str]:
     yield from (runs(*LAWFUL[:6]), runs(*LAWFUL, "1"), runs(*LAWFUL, ""), "run", "run ", runs(*LAWFUL).replace(" 0 0 0 ", " 0  0 0 "))
 
 
-ALONE = ("connect", "send", "restart-server", "restart-client", "retry", "abandon", "stranger", "enter")
+ALONE = ("connect", "send", "restart-server", "restart-client", "retry", "abandon", "stranger", "enter", "save")
 OF_ONE = ("cut", "end-server", "end-client")
 NUMBERS = ("", "x", "-1", "+1", "1.0", "0x1", "9223372036854775808", "99999999999999999999999999", "all", "1\r", "\u0661")
 
@@ -409,7 +455,7 @@ def of_bad_lines() -> Iterator[str]:
     yield from of_bad_runs()
     for word in ALONE:
         yield from (word + " ", word + " 1", " " + word, word.upper(), word + "s", word + "\r", word + "\t")
-    yield from ("send Fault", "send  fault", "send fault ", "send fault fault", "restart", "restart server", "restart_server", "quit", "-", "save")
+    yield from ("send Fault", "send  fault", "send fault ", "send fault fault", "restart", "restart server", "restart_server", "quit", "-")
     for word in (*OF_ONE, "serve"):
         yield from (word, word + "  1", word + " 1 ", word + " 1 1", *(f"{word} {it}" for it in NUMBERS))
     for end in ("", " ", " x", " -1", " 1 1", " 9223372036854775808"):

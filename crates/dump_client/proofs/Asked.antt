@@ -4,7 +4,7 @@ use Rattle.dump_run.specs.Run.{PlainRun}
 use Rattle.dump_client.specs.Script.{request_of}
 use Rattle.dump_client.specs.Standing.{checkpoint_of}
 use Rattle.dump_client.specs.Lawful.{attempt_request}
-use Rattle.dump_client.specs.declared.count.VolumeCount.{VolumeCount}
+use Rattle.dump_run.specs.declared.count.VolumeCount.{VolumeCount}
 use Rattle.dump_client.specs.declared.step.Step.{Step}
 use Rattle.dump_client.specs.declared.step.Step.TheVariants.{Open, Rewind, Label, Block, Mark, Unload, Close}
 

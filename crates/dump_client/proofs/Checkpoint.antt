@@ -5,7 +5,7 @@ use Rattle.dump_client.specs.Script.{IsCount}
 use Rattle.dump_client.specs.Position.{Covers, CoversFrom}
 use Rattle.dump_client.specs.Standing.{checkpoint_after, checkpoint_of, count_to, counted_to}
 use Rattle.dump_client.specs.Lawful.{AreVolumes, IsRunLeft}
-use Rattle.dump_client.specs.declared.count.VolumeCount.{VolumeCount}
+use Rattle.dump_run.specs.declared.count.VolumeCount.{VolumeCount}
 
 -- the checkpoint is behind the last count
 pub checkpoint_behind : (volume first : ℕ) (rest : List VolumeCount) (c : VolumeCount) → checkpoint_after volume first (rest ++ c ∷ []) ≡ (c.volume + 1, c.first + c.count)

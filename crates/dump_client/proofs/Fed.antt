@@ -6,7 +6,7 @@ use Rattle.dump_run.specs.Run.{PlainRun}
 use Rattle.dump_client.specs.Position.{after_noise, after_end}
 use Rattle.dump_client.specs.Standing.{Standing, IsOver, Becomes}
 use Rattle.dump_client.specs.Client.{HasFedAt, unanswered}
-use Rattle.dump_client.specs.declared.count.VolumeCount.{VolumeCount}
+use Rattle.dump_run.specs.declared.count.VolumeCount.{VolumeCount}
 use Rattle.dump_client.specs.declared.outcome.Outcome.{Outcome}
 use Rattle.dump_client.specs.declared.outcome.Outcome.TheVariants.{GoesOn, Fails, Counted, Ended}
 use Rattle.dump_client.specs.declared.stage.Progress.{Progress}

@@ -1,5 +1,5 @@
 -- What comes of a piece, by what all the bytes are that came since the request.
-use Rattle.std.proofs.Common.{◌≡◌, ◌≢◌, ◌⊎◌, inl, inr, ℕ, Bool, true, false, List, [], ◌++◌, length, length-append, take, drop, arith, refl, sym, ◌∙◌, subst, Some, None, Result, Ok, Err}
+use Rattle.std.proofs.Common.{◌≡◌, ◌≢◌, ◌⊎◌, inl, inr, ℕ, Bool, true, false, List, [], ◌++◌, length, length-append, take, drop, arith, refl, sym, ap, ◌∙◌, subst, Some, None, Result, Ok, Err}
 use Rattle.std.proofs.lemmas.List.{length-take-le}
 use Rattle.rmt_wire.specs.Reply.{PlainReply}
 use Rattle.rmt_wire.specs.ReplyReader as reader
@@ -9,9 +9,9 @@ use Rattle.dump_client.specs.Position.Heard.{Reply, Noise, End}
 use Rattle.dump_client.specs.Listening.{IsReaderWaiting, IsSaid, IsListened}
 use Rattle.rmt_wire.specs.Request.PlainRequest.{Close as CloseDevice}
 use Rattle.dump_client.specs.Standing.{Standing, standing, checkpoint_of, IsOver, HearsAt, FedAt, CutAt, StartedAt}
-use Rattle.dump_client.specs.Client.{HasFedAt, unanswered, AppendedBy, AskedAt, IsPayload, ReadBy, IsScarce, LacksRoom, IsFaultAt, is_source_fault}
+use Rattle.dump_client.specs.Client.{HasFedAt, IsIdle, unanswered, AppendedBy, AskedAt, IsPayload, ReadBy, IsScarce, LacksRoom, IsFaultAt, is_source_fault}
 use Rattle.dump_run.specs.Run.{PlainRun}
-use Rattle.dump_client.specs.declared.count.VolumeCount.{VolumeCount}
+use Rattle.dump_run.specs.declared.count.VolumeCount.{VolumeCount}
 use Rattle.dump_run.specs.declared.blocks.SourceFailed.{SourceFailed}
 use Rattle.dump_client.specs.declared.fault.AttemptFault.{AttemptFault}
 use Rattle.dump_client.specs.declared.fault.AttemptFault.TheVariants.{Refused, Botched, ConnectionEnded, ShortWrite, ReelTooSmall, SourceFault, OutOfMemory}
@@ -32,6 +32,16 @@ abbrev pub Keeps : {B : Type 0} → (B → List (List ℕ) → Type 0) → B →
 Keeps {B} holds source block r s =
     (length block ≡ s.run.block_bytes) × ((payload : List (List ℕ)) → holds source payload → IsPayload s.run payload)
     × ((bytes : List ℕ) × HasFedAt s.stage r bytes)
+
+pub idle_fed : (stage : Stage) (r : reader.ReplyHeld) → IsIdle stage → HasFedAt stage r []
+idle_fed (ToSend step) r idle = absurd idle
+idle_fed (Waiting step) r idle = absurd idle
+idle_fed stage r idle = refl
+
+-- where an attempt is over the run and the counts are these
+pub over_is : (run : PlainRun) (counts : List VolumeCount) (new : Standing) → IsOver run counts new → (new.run ≡ run) × (new.counts ≡ counts)
+over_is run counts new (inl h) = (ap (λ s. s.run) h.1, ap (λ s. s.counts) h.1)
+over_is run counts new (inr h) = (ap (λ s. s.run) h.1, ap (λ s. s.counts) h.1)
 
 pub over_keeps : {B : Type 0} (holds : B → List (List ℕ) → Type 0) (source : B) (block : List ℕ) (r : reader.ReplyHeld) (run : PlainRun) (counts : List VolumeCount)
     (new : Standing) → IsOver run counts new → length block ≡ run.block_bytes → ((payload : List (List ℕ)) → holds source payload → IsPayload run payload)

@@ -21,7 +21,7 @@ use Rattle.dump_client.specs.declared.listen.Said.TheVariants as said
 use Rattle.dump_client.specs.declared.stage.Stage.{Stage}
 use Rattle.dump_client.specs.declared.stage.Stage.TheVariants as stages
 use Rattle.dump_client.specs.declared.stage.Stage.TheVariants.{ToSend, Waiting}
-use Rattle.dump_client.specs.declared.count.VolumeCount.{VolumeCount}
+use Rattle.dump_run.specs.declared.count.VolumeCount.{VolumeCount}
 use Rattle.dump_client.proofs.Checkpoint.{last_within}
 
 -- a test that has two lawful sides

@@ -6,7 +6,7 @@ use Rattle.rmt_wire.specs.declared.fault.WireFault.{WireFault}
 use Rattle.dump_client.specs.Position.{after_end}
 use Rattle.dump_client.specs.Standing.{Standing, standing, checkpoint_of, count_to, Becomes, Makes, FedAt, CutAt}
 use Rattle.dump_client.specs.Going.{GoesOnWith}
-use Rattle.dump_client.specs.declared.count.VolumeCount.{VolumeCount}
+use Rattle.dump_run.specs.declared.count.VolumeCount.{VolumeCount}
 use Rattle.dump_client.specs.declared.outcome.Outcome.{Outcome}
 use Rattle.dump_client.specs.declared.outcome.Outcome.TheVariants.{GoesOn, Fails, Counted, Ended}
 use Rattle.dump_client.specs.declared.stage.Progress.{Progress}

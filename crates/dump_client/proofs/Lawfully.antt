@@ -5,7 +5,7 @@ use Rattle.rmt_wire.specs.declared.fault.WireFault.{WireFault}
 use Rattle.dump_run.specs.Run.{PlainRun, IsRun}
 use Rattle.dump_client.specs.Lawful.{IsLawful, AreVolumes, StageFits, RoomFits, OutcomeFits}
 use Rattle.dump_client.specs.Standing.{Standing, standing, IsAtStep, counted_to, IsOver, Becomes, Makes, FedAt, CutAt}
-use Rattle.dump_client.specs.declared.count.VolumeCount.{VolumeCount}
+use Rattle.dump_run.specs.declared.count.VolumeCount.{VolumeCount}
 use Rattle.dump_client.specs.declared.outcome.Outcome.{Outcome}
 use Rattle.dump_client.specs.declared.outcome.Outcome.TheVariants.{GoesOn, Fails, Counted, Ended}
 use Rattle.dump_client.specs.declared.stage.Progress.{Progress}
@@ -42,7 +42,7 @@ stands_lawful : (run : PlainRun) (counts : List VolumeCount) (stage : Stage) (ne
     → StageFits run counts stage → IsLawful new
 stands_lawful run counts stage new is of volumes fits = subst IsLawful (sym is) (record { run = of; counts = volumes; stage = fits })
 
-over_lawful : (run : PlainRun) (counts : List VolumeCount) (new : Standing) → IsOver run counts new → IsRun run → AreVolumes run 1 0 counts → IsLawful new
+pub over_lawful : (run : PlainRun) (counts : List VolumeCount) (new : Standing) → IsOver run counts new → IsRun run → AreVolumes run 1 0 counts → IsLawful new
 over_lawful run counts new (inl (covers, is)) of volumes = stands_lawful run counts Finished new is of volumes covers
 over_lawful run counts new (inr (left, is)) of volumes = stands_lawful run counts Ready new is of volumes (left_of run counts volumes left)
 

@@ -17,7 +17,7 @@ use Rattle.dump_client.specs.declared.step.Step.TheVariants.{Open, Rewind, Label
 use Rattle.dump_client.specs.declared.outcome.Outcome.{Outcome}
 use Rattle.dump_client.specs.declared.outcome.Outcome.TheVariants.{GoesOn, Fails, Counted}
 use Rattle.dump_client.specs.declared.fault.AttemptFault.TheVariants.{Refused, Botched, ShortWrite, ReelTooSmall}
-use Rattle.dump_client.specs.declared.count.VolumeCount.{VolumeCount}
+use Rattle.dump_run.specs.declared.count.VolumeCount.{VolumeCount}
 use Rattle.dump_client.proofs.Branches.{same_or, less_or}
 use Rattle.dump_client.proofs.Checkpoint.{checkpoint_behind}
 use Rattle.dump_client.proofs.Steps.{blocks_push}

@@ -14,7 +14,7 @@ use Rattle.dump_client.specs.declared.step.Step.{Step}
 use Rattle.dump_client.specs.declared.step.Step.TheVariants.{Open, Rewind, Label, Block, Mark, Unload, Close}
 use Rattle.dump_client.specs.declared.stage.Stage.{Stage}
 use Rattle.dump_client.specs.declared.stage.Stage.TheVariants.{Ready, ToSend, Waiting, Asking, Finished, Abandoned}
-use Rattle.dump_client.specs.declared.count.VolumeCount.{VolumeCount}
+use Rattle.dump_run.specs.declared.count.VolumeCount.{VolumeCount}
 use Rattle.dump_client.proofs.Checkpoint.{checkpoint_behind, first_within, volumes_behind}
 use Rattle.dump_client.proofs.Steps.{plain_steps, Reaches, count_left, reaches_block, reaches_mark, reaches_unload, reaches_close}
 use Rattle.dump_client.proofs.Unloaded.{NotClose, not_unloaded, unloaded}

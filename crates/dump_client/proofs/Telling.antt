@@ -5,7 +5,7 @@ use Rattle.rmt_wire.specs.declared.fault.WireFault.{WireFault}
 use Rattle.dump_run.specs.Run.{PlainRun}
 use Rattle.dump_client.specs.Going.{StandsAfter}
 use Rattle.dump_client.specs.Standing.{Standing, standing, IsOver, Becomes, Makes, FedAt, CutAt}
-use Rattle.dump_client.specs.declared.count.VolumeCount.{VolumeCount}
+use Rattle.dump_run.specs.declared.count.VolumeCount.{VolumeCount}
 use Rattle.dump_client.specs.declared.outcome.Outcome.{Outcome}
 use Rattle.dump_client.specs.declared.outcome.Outcome.TheVariants.{GoesOn, Fails, Counted, Ended}
 use Rattle.dump_client.specs.declared.stage.Progress.{Progress}

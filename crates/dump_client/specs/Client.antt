@@ -11,7 +11,9 @@ use Rattle.dump_run.specs.Run.{PlainRun}
 use Rattle.dump_run.specs.Label.{label}
 use Rattle.dump_client.specs.Script.{request_of, wanted_of}
 use Rattle.dump_client.specs.Listening.{IsReaderWaiting}
-use Rattle.dump_client.specs.Standing.{Standing, standing, checkpoint_of, IsOver, Feeds}
+use Rattle.dump_run.specs.declared.fault.ResumeFault.{ResumeFault}
+use Rattle.dump_run.specs.declared.fault.ResumeFault.TheVariants as refusals
+use Rattle.dump_client.specs.Standing.{VolumeCount, Standing, standing, checkpoint_of, IsOver, Feeds}
 use Rattle.dump_client.specs.declared.step.Step.{Step}
 use Rattle.dump_client.specs.declared.step.Step.TheVariants.{Block, Close}
 use Rattle.dump_client.specs.declared.stage.Progress.{Progress}
@@ -45,6 +47,17 @@ unanswered stage bytes = []
 -- a client that stands there since this piece is fed the next one
 abbrev pub FeedsNext : Standing → List ℕ → List ℕ → List ℕ → Progress → Standing → Type 0
 FeedsNext middle bytes piece next progress new = Feeds middle (unanswered middle.stage (bytes ++ piece)) next progress new
+
+-- it is in no attempt
+abbrev pub IsIdle : Stage → Type 0
+IsIdle (ToSend step) = ⊥
+IsIdle (Waiting step) = ⊥
+IsIdle stage = Unit {0}
+
+-- a client was made with this run and these counts, or memory was refused for it
+abbrev pub ResumesAs : {B : Type 0} → PlainRun → List VolumeCount → Result (ClientHeld B) ResumeFault → Type 0
+ResumesAs {B} run counts (Ok c) = (c.at.run ≡ run) × (c.at.counts ≡ counts)
+ResumesAs {B} run counts (Err fault) = fault ≡ refusals.OutOfMemory
 
 -- the payload has the run's number of blocks, each of its size
 abbrev pub IsPayload : PlainRun → List (List ℕ) → Type 0

@@ -1,7 +1,7 @@
 -- How a client goes on in its run. Public contracts cite it.
 use Rattle.std.specs.Prelude.{◌≡◌, ◌≢◌, ◌⊎◌, List, [], ◌++◌}
 use Rattle.dump_client.specs.Standing.{Standing}
-use Rattle.dump_client.specs.declared.count.VolumeCount.{VolumeCount}
+use Rattle.dump_run.specs.declared.count.VolumeCount.{VolumeCount}
 use Rattle.dump_client.specs.declared.stage.Progress.{Progress}
 use Rattle.dump_client.specs.declared.stage.Progress.TheVariants.{Idle, Waiting, Send, Failed, Ended}
 use Rattle.dump_client.specs.declared.stage.Stage.TheVariants.{Ready, ToSend, Waiting as Awaits, Asking, Finished}

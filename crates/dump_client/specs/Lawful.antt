@@ -1,10 +1,11 @@
 -- What holds of each client, and the position that it stands at. Public contracts cite it.
-use Rattle.std.specs.Prelude.{◌≡◌, ◌⊎◌, ℕ, zero, suc, ◌+◌, ◌-◌, ◌<◌, ◌≤◌, if◌then◌else◌, nat_lt, List, [], ◌∷◌, ◌++◌, length, map, take, Contains}
+use Rattle.std.specs.Prelude.{◌≡◌, ◌⊎◌, ℕ, zero, suc, ◌-◌, ◌<◌, ◌≤◌, if◌then◌else◌, nat_lt, List, [], ◌∷◌, ◌++◌, length, map, take, Contains}
 use Rattle.rmt_wire.specs.Request.{PlainRequest}
 use Rattle.rmt_wire.specs.Request.PlainRequest.{Op}
 use Rattle.rmt_wire.specs.Reply.{PlainReply}
 use Rattle.rmt_wire.specs.declared.mtio.TheConstants.{MTOFFL}
 use Rattle.dump_run.specs.Run.{PlainRun, IsRun}
+pub use Rattle.dump_run.specs.Counts.{AreVolumes}
 use Rattle.dump_client.specs.Script.{IsCount, request_of}
 use Rattle.dump_client.specs.Position.{Covers, Position, CountsVolume, after_reply}
 use Rattle.dump_client.specs.Standing.{Standing, checkpoint_of, counted_to}
@@ -14,14 +15,7 @@ use Rattle.dump_client.specs.declared.outcome.Outcome.{Outcome}
 use Rattle.dump_client.specs.declared.outcome.Outcome.TheVariants.{GoesOn, Fails, Counted, Ended}
 use Rattle.dump_client.specs.declared.stage.Stage.{Stage}
 use Rattle.dump_client.specs.declared.stage.Stage.TheVariants.{ToSend, Waiting, Finished}
-use Rattle.dump_client.specs.declared.count.VolumeCount.{VolumeCount}
-
--- volumes of the run, from this one on: each begins where the one before ended, and only where blocks are left
-abbrev pub AreVolumes : PlainRun → ℕ → ℕ → List VolumeCount → Type 0
-AreVolumes run volume first [] = Unit {0}
-AreVolumes run volume first (c ∷ counts) =
-    (c.volume ≡ volume) × (c.first ≡ first) × IsCount run first c.count × ((counts ≡ []) ⊎ (first + c.count < run.blocks))
-    × AreVolumes run (volume + 1) (first + c.count) counts
+use Rattle.dump_run.specs.declared.count.VolumeCount.{VolumeCount}
 
 -- the counts do not cover the run
 abbrev pub IsRunLeft : PlainRun → List VolumeCount → Type 0

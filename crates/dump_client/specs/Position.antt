@@ -7,6 +7,7 @@ use Rattle.rmt_wire.specs.Reply.PlainReply.{Done, Data, Error}
 use Rattle.rmt_wire.specs.declared.errno.TheConstants.{ENOSPC}
 use Rattle.rmt_wire.specs.declared.mtio.TheConstants.{MTOFFL}
 use Rattle.dump_run.specs.Run.{PlainRun}
+pub use Rattle.dump_run.specs.Counts.{CoversFrom, Covers}
 use Rattle.dump_run.specs.Label.{label_bytes}
 use Rattle.dump_client.specs.Script.{Wish, Grants, IsCount, script}
 use Rattle.dump_client.specs.Script.Wish.{AnyNumber, Number, NoRoom, Anything}
@@ -15,7 +16,6 @@ use Rattle.dump_client.specs.declared.step.Step.TheVariants.{Open, Rewind, Label
 use Rattle.dump_client.specs.declared.outcome.Outcome.{Outcome}
 use Rattle.dump_client.specs.declared.outcome.Outcome.TheVariants.{GoesOn, Fails, Counted, Ended}
 use Rattle.dump_client.specs.declared.fault.AttemptFault.TheVariants.{Refused, Botched, ConnectionEnded, ShortWrite, ReelTooSmall}
-use Rattle.dump_client.specs.declared.count.VolumeCount.{VolumeCount}
 
 -- What was sent begins the script of a volume of so many blocks, and so many wanted replies to it came. At most one request has no
 -- reply yet.
@@ -138,13 +138,3 @@ IsWantedAt run first step reply = Grants (Number 1) reply
 abbrev pub IsFailure : Outcome → Type 0
 IsFailure (Fails fault) = Unit {0}
 IsFailure outcome = ⊥
-
--- from this volume and block on, each count begins where the one before ended, and the last ends with the blocks
-abbrev pub CoversFrom : ℕ → ℕ → ℕ → List VolumeCount → Type 0
-CoversFrom blocks volume first [] = first ≡ blocks
-CoversFrom blocks volume first (c ∷ counts) =
-    (c.volume ≡ volume) × (c.first ≡ first) × CoversFrom blocks (volume + 1) (first + c.count) counts
-
--- there is a count, and the counted volumes are the whole run, in order
-abbrev pub Covers : PlainRun → List VolumeCount → Type 0
-Covers run counts = (0 < length counts) × CoversFrom run.blocks 1 0 counts

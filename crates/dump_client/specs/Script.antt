@@ -1,5 +1,5 @@
 -- What a client sends in one attempt, which writes one volume, and the replies that keep it going. Public contracts cite it.
-use Rattle.std.specs.Prelude.{◌≡◌, ◌⊎◌, ℕ, zero, suc, ◌+◌, ◌<◌, ◌≤◌, if◌then◌else◌, nat_lt, List, [], ◌∷◌, ◌++◌, map, get_or}
+use Rattle.std.specs.Prelude.{◌≡◌, ℕ, zero, suc, ◌+◌, if◌then◌else◌, nat_lt, List, [], ◌∷◌, ◌++◌, map, get_or}
 use Rattle.rmt_wire.specs.Request.{PlainRequest}
 use Rattle.rmt_wire.specs.Request.PlainRequest.{Open as OpenDevice, Op, Write, Close as CloseDevice}
 use Rattle.rmt_wire.specs.Reply.{PlainReply, Wanted}
@@ -9,6 +9,7 @@ use Rattle.rmt_wire.specs.declared.errno.TheConstants.{ENOSPC}
 use Rattle.rmt_wire.specs.declared.fcntl.TheConstants.{O_RDWR}
 use Rattle.rmt_wire.specs.declared.mtio.TheConstants.{MTOFFL, MTREW, MTWEOF}
 use Rattle.dump_run.specs.Run.{PlainRun}
+pub use Rattle.dump_run.specs.Counts.{IsCount}
 use Rattle.dump_run.specs.Label.{label, label_bytes}
 use Rattle.dump_client.specs.declared.step.Step.{Step}
 use Rattle.dump_client.specs.declared.step.Step.TheVariants.{Open, Rewind, Label, Block, Mark, Unload, Close}
@@ -65,7 +66,3 @@ steps_of run first count =
 -- the same with the requests that are sent
 abbrev pub script : PlainRun → List (List ℕ) → ℕ → ℕ → ℕ → List (PlainRequest × Wish)
 script run payload volume first count = map (λ s. (request_of run payload volume first s.0, s.1)) (steps_of run first count)
-
--- a volume has a block or more, unless the run has none
-abbrev pub IsCount : PlainRun → ℕ → ℕ → Type 0
-IsCount run first count = (first + count ≤ run.blocks) × ((0 < count) ⊎ (run.blocks ≡ 0))

@@ -1,9 +1,10 @@
 -- Where a client stands, as values, and how bytes and the end of a connection move it. Public contracts cite it.
-use Rattle.std.specs.Prelude.{◌≡◌, ◌≢◌, ◌⊎◌, ℕ, ◌+◌, ◌-◌, Bool, true, false, List, [], ◌∷◌, ◌++◌, Option, Some, None, Result, Ok, Err}
+use Rattle.std.specs.Prelude.{◌≡◌, ◌≢◌, ◌⊎◌, ℕ, ◌-◌, Bool, true, false, List, [], ◌∷◌, ◌++◌, Option, Some, None, Result, Ok, Err}
 use Rattle.rmt_wire.specs.Reply.{PlainReply}
 use Rattle.rmt_wire.specs.ReplyParts.{ReplyGives}
 use Rattle.rmt_wire.specs.declared.fault.WireFault.{WireFault}
 use Rattle.dump_run.specs.Run.{PlainRun}
+pub use Rattle.dump_run.specs.Counts.{checkpoint_after, checkpoint_of}
 use Rattle.dump_client.specs.Script.{wanted_of}
 use Rattle.dump_client.specs.Position.{Covers, Heard, outcome}
 use Rattle.dump_client.specs.Position.Heard.{Reply, Noise, End}
@@ -18,7 +19,7 @@ use Rattle.dump_client.specs.declared.stage.State.{State}
 use Rattle.dump_client.specs.declared.stage.State.TheVariants as told
 use Rattle.dump_client.specs.declared.stage.Progress.{Progress}
 use Rattle.dump_client.specs.declared.stage.Progress.TheVariants as moved
-use Rattle.dump_client.specs.declared.count.VolumeCount.{VolumeCount}
+pub use Rattle.dump_run.specs.declared.count.VolumeCount.{VolumeCount}
 use Rattle.dump_client.specs.declared.fault.AttemptFault.TheVariants.{Botched}
 use Rattle.dump_client.specs.declared.fault.StartFault.{StartFault}
 use Rattle.dump_client.specs.declared.fault.StartFault.TheVariants.{WrongState, OutOfMemory}
@@ -53,14 +54,6 @@ state_of (Waiting step) = told.Waiting
 state_of Asking = told.Asking
 state_of Finished = told.Finished
 state_of Abandoned = told.Abandoned
-
--- the volume and the first block that are next, after these counts
-abbrev pub checkpoint_after : ℕ → ℕ → List VolumeCount → ℕ × ℕ
-checkpoint_after volume first [] = (volume, first)
-checkpoint_after volume first (c ∷ counts) = checkpoint_after (c.volume + 1) (c.first + c.count) counts
-
-abbrev pub checkpoint_of : List VolumeCount → ℕ × ℕ
-checkpoint_of counts = checkpoint_after 1 0 counts
 
 -- the count of the volume that is written at this checkpoint, up to block `next`
 abbrev pub count_to : ℕ × ℕ → ℕ → VolumeCount

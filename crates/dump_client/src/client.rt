@@ -1,10 +1,13 @@
 //! The client: one attempt after the other, and what they count.
-ghost use Rattle.std.specs.Prelude.{◌≡◌, ◌↔◌, ℕ, ◌++◌, ◌+◌, ◌<◌, true, List, [], length, IfOk, OnErr, OnOk};
+ghost use Rattle.std.specs.Prelude.{◌≡◌, ◌↔◌, ℕ, ◌++◌, ◌+◌, ◌<◌, true, List, [], length, IfOk, IfErr, OnErr, OnOk};
 ghost use Rattle.std.specs.Vec.{vec_capacity};
 ghost use Rattle.dump_run.specs.Blocks.{listed};
-ghost use Rattle.dump_client.specs.Standing.{standing, state_of, checkpoint_of, StartedAt, AnsweredAt, FedAt, CutAt};
+ghost use Rattle.dump_run.specs.Run.{PlainRun};
+ghost use Rattle.dump_run.specs.Checkpoint.{SpellsCheckpoint, HasResumeFault};
+ghost use Rattle.dump_run.specs.Checkpoint as texts;
+ghost use Rattle.dump_client.specs.Standing.{VolumeCount, standing, state_of, checkpoint_of, IsOver, StartedAt, AnsweredAt, FedAt, CutAt};
 ghost use Rattle.dump_client.specs.Lawful.{IsLawful};
-ghost use Rattle.dump_client.specs.Client.{HasFed, unanswered, IsPayload, AskedAt, ReadAt, TellsEntry, failures_after, is_source_fault};
+ghost use Rattle.dump_client.specs.Client.{HasFed, IsIdle, ResumesAs, unanswered, IsPayload, AskedAt, ReadAt, TellsEntry, failures_after, is_source_fault};
 ghost use Rattle.dump_client.specs.declared.stage.Stage.TheVariants as stages;
 
 use crate::ledger::Ledger;
@@ -13,8 +16,10 @@ use crate::request::push_step;
 use crate::stage::Stage;
 use crate::step::Step;
 use crate::{
-    Answer, AttemptFault, Blocks, ListBlocks, Progress, Run, StartFault, State, VolumeCount,
+    Answer, AttemptFault, Blocks, ListBlocks, Progress, ResumeFault, Run, StartFault, State,
+    VolumeCount,
 };
+use dump_run::{Checkpoint, one_checkpoint, push_checkpoint};
 use dumpdates::Entry;
 use rmt_wire::{ReplyReader, Wanted};
 use std::alloc::{AllocError, Global};
@@ -57,13 +62,50 @@ impl<B: Blocks + Drop> Client<B> {
         ensures made { IfOk result (λ c. c.at ≡ standing run [] stages.Ready) }
         ensures given { IfOk result (λ c. c.source ≡ source) }
     {
-        let block = Vec::from_elem(alloc, 0u8, run.block_bytes())?;
+        Client::of_ledger(alloc, Ledger::new(alloc, run), source)
+    }
+
+    /// A client that stands there, in no attempt.
+    fn of_ledger(alloc: Global, ledger: Ledger, source: B) -> Result<Client<B>, AllocError>
+        requires blocks { (payload : List (List ℕ)) → B.holds source payload → IsPayload ledger.at.run payload }
+        requires idle { IsIdle ledger.at.stage }
+        ensures made { IfOk result (λ c. c.at ≡ ledger.at) }
+        ensures given { IfOk result (λ c. c.source ≡ source) }
+    {
+        let block = Vec::from_elem(alloc, 0u8, ledger.run().block_bytes())?;
+        let reader = ReplyReader::new(alloc)?;
         Ok(Client {
-            ledger: Ledger::new(alloc, run),
+            ledger,
             source,
             block,
-            reader: ReplyReader::new(alloc)?,
+            reader,
         })
+    }
+}
+
+impl<B: Blocks + Drop> Client<B> {
+    /// A client of the run of a checkpoint's text, with the counts that it says: it has finished where these are the whole
+    /// run, and can start elsewhere. A source that tells its blocks has the run's number of them, each of its size.
+    ///
+    /// It refuses bytes that are no such text by the fault of `dump_run::Checkpoint::read`. A text that a client appended is
+    /// refused by `OutOfMemory` at most: beside the counts it reserves `rmt_wire::READER_LIMIT` bytes for replies and a block.
+    pub fn resume(alloc: Global, bytes: &[u8], source: B) -> Result<Client<B>, ResumeFault>
+        requires { (run : PlainRun) (counts : List VolumeCount) (payload : List (List ℕ)) → SpellsCheckpoint bytes.now run counts →
+            B.holds source payload → IsPayload run payload }
+        ensures spelled { IfOk result (λ c. SpellsCheckpoint bytes.now c.at.run c.at.counts) }
+        ensures over { IfOk result (λ c. IsOver c.at.run c.at.counts c.at) }
+        ensures given { IfOk result (λ c. c.source ≡ source) }
+        ensures refused { IfErr result (HasResumeFault bytes.now) }
+        ensures comes_back { (run : PlainRun) (counts : List VolumeCount) → SpellsCheckpoint bytes.now run counts →
+            ResumesAs run counts result }
+    {
+        one_checkpoint();
+        let Checkpoint { run, counts } = Checkpoint::read(alloc, bytes)?;
+        let ledger = Ledger::resumed(run, counts);
+        match Client::of_ledger(alloc, ledger, source) {
+            Ok(client) => Ok(client),
+            Err(_) => Err(ResumeFault::OutOfMemory),
+        }
     }
 }
 
@@ -90,6 +132,15 @@ impl<B: Blocks> Client<B> {
         ensures { result ≡ checkpoint_of self.now.at.counts }
     {
         self.ledger.checkpoint()
+    }
+
+    /// Appends the text of the client's checkpoint, from which `resume` makes a client with the same run and counts. Where
+    /// memory is refused for it nothing is appended.
+    pub fn checkpoint_text(&self, out: &mut Vec<u8>) -> Result<(), AllocError>
+        ensures appended { OnOk result (out.new.items ≡ out.old.items ++ texts.checkpoint_text self.now.at.run self.now.at.counts) }
+        ensures unchanged { OnErr result (out.new.items ≡ out.old.items) }
+    {
+        push_checkpoint(self.ledger.run(), self.ledger.counted(), out)
     }
 
     /// Once the run is finished, its entry in dumpdates.

@@ -5,15 +5,7 @@ ghost use Rattle.dump_client.specs.Standing.{checkpoint_of};
 ghost use Rattle.dump_client.specs.Lawful.{AreVolumes};
 ghost use Rattle.dump_run.specs.Run.{IsRun};
 
-use crate::Run;
-
-/// A volume that was written whole: its number, counted from 1, its first block, and how many blocks it has.
-#[derive(Clone, Copy, Debug, PartialEq, Eq)]
-pub struct VolumeCount {
-    pub volume: u32,
-    pub first: u32,
-    pub count: u32,
-}
+use crate::{Run, VolumeCount};
 
 /// The volume that is next after these, and its first block.
 #[tactic(auto, using(crate::proofs::Checkpoint::behind_last, crate::proofs::Checkpoint::last_within))]

@@ -5,22 +5,28 @@ ghost use Rattle.rmt_wire.specs.Reply.{PlainReply};
 ghost use Rattle.rmt_wire.specs.Request.{PlainRequest, IsTextOf, request_text};
 ghost use Rattle.rmt_wire.specs.declared.limits.TheConstants.{READER_LIMIT};
 ghost use Rattle.dump_run.specs.Run.{PlainRun, IsRun};
+ghost use Rattle.dump_run.specs.Counts.{AreVolumes};
+ghost use Rattle.dump_run.specs.Checkpoint.{SpellsCheckpoint, HasResumeFault, checkpoint_text};
+ghost use Rattle.dump_run.specs.declared.fault.ResumeFault.{ResumeFault};
+ghost use Rattle.dump_run.specs.declared.fault.ResumeFault.TheVariants.{OutOfMemory};
 ghost use Rattle.dump_client.specs.Script.{IsCount, steps_of};
 ghost use Rattle.dump_client.specs.Position.{RepliesFollow, Heard, IsWantedAt, IsFailure, after_reply, outcome};
 ghost use Rattle.dump_client.specs.Position.Heard.{Noise, End};
-ghost use Rattle.dump_client.specs.Standing.{Standing, Feeds, CutAt};
+ghost use Rattle.dump_client.specs.Standing.{Standing, Feeds, CutAt, IsOver};
 ghost use Rattle.dump_client.specs.Client.{FeedsNext, IsShapedAs};
 ghost use Rattle.dump_client.specs.Going.{GoesOnWith, StandsAfter};
 ghost use Rattle.dump_client.specs.declared.step.Step.{Step};
 ghost use Rattle.dump_client.specs.Lawful.{IsLawful, StandsAt, sent_before, AsksAtCheckpoint, SendsNext, SendsLast};
 ghost use Rattle.dump_client.specs.Replies.{GrantedOnTheWay, GrantedAtTheCount};
-ghost use Rattle.dump_client.specs.declared.count.VolumeCount.{VolumeCount};
+ghost use Rattle.dump_run.specs.declared.count.VolumeCount.{VolumeCount};
 ghost use Rattle.dump_client.specs.declared.step.Step.TheVariants.{Open, Close};
 ghost use Rattle.dump_client.specs.declared.outcome.Outcome.TheVariants.{Fails, Ended};
 ghost use Rattle.dump_client.specs.declared.stage.Progress.{Progress};
 ghost use Rattle.dump_client.specs.declared.stage.Progress.TheVariants.{Failed};
 ghost use Rattle.dump_client.specs.declared.fault.AttemptFault.{AttemptFault};
 ghost use Rattle.dump_client.specs.declared.fault.AttemptFault.TheVariants.{Botched, ConnectionEnded};
+
+use dump_run::one_checkpoint;
 
 /// What comes next follows the script: each reply that a script wants leads to its next request, the reply to MTOFFL to
 /// the count, and the reply to the close to the attempt's end. Any other reply fails the attempt.
@@ -96,7 +102,8 @@ pub fn fed_in_pieces()
 {}
 
 /// Bytes that are fed and the end of a connection leave a client in its run, with what it had counted; the end counts
-/// nothing. A client that is finished stays so, and one that is lawful stays lawful. What is told is where it stands then.
+/// nothing. A client that is finished stays so, and one that is lawful stays lawful. What is told is where it stands then. Between
+/// attempts one of a lawful run whose counts are in order is lawful.
 ///
 /// It does nothing: its contract is a law of the definitions.
 pub fn same_run()
@@ -109,4 +116,20 @@ pub fn same_run()
         StandsAfter old progress new }
     ensures cut_stands { (old new : Standing) (progress : Progress) → CutAt old.stage old progress new → StandsAfter old progress new }
     ensures cut_lawful { (old new : Standing) (progress : Progress) → IsLawful old → CutAt old.stage old progress new → IsLawful new }
+    ensures over_lawful { (run : PlainRun) (counts : List VolumeCount) (at : Standing) → IsRun run → AreVolumes run 1 0 counts →
+        IsOver run counts at → IsLawful at }
 {}
+
+/// The text of a checkpoint of a lawful client spells its run and its counts, and no others, and no line of it is at fault: what
+/// is resumed from it has that run and those counts, and is refused for want of memory alone.
+///
+/// It does nothing: its contract is a law of the definitions.
+pub fn comes_back()
+    ensures spelled { (at : Standing) → IsLawful at → SpellsCheckpoint (checkpoint_text at.run at.counts) at.run at.counts }
+    ensures alone { (at : Standing) (run : PlainRun) (counts : List VolumeCount) → IsLawful at →
+        SpellsCheckpoint (checkpoint_text at.run at.counts) run counts → (run ≡ at.run) × (counts ≡ at.counts) }
+    ensures taken { (at : Standing) (fault : ResumeFault) → IsLawful at →
+        HasResumeFault (checkpoint_text at.run at.counts) fault → fault ≡ OutOfMemory }
+{
+    one_checkpoint();
+}

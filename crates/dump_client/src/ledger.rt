@@ -56,6 +56,20 @@ impl Ledger {
         }
     }
 
+    /// These volumes are counted, and no attempt is under way.
+    pub(crate) fn resumed(run: Run, counted: Vec<VolumeCount>) -> Ledger
+        requires run { IsRun run }
+        requires volumes { AreVolumes run 1 0 counted.items }
+        ensures { IsOver run counted.items result.at }
+    {
+        let stage = over(&run, &counted);
+        Ledger {
+            run,
+            counted,
+            stage,
+        }
+    }
+
     pub(crate) fn run(&self) -> &Run
         ensures { result.now ≡ self.now.at.run }
     {

@@ -4,6 +4,7 @@
 //! `Run` says what is dumped, to which drive, and in how many blocks. `Blocks` is where these are read from, and
 //! `ListBlocks` has them in memory. `Client` makes the requests of one attempt after the other and hears the replies: it
 //! counts a volume when MTOFFL was answered as done, and by nothing else. It carries no bytes itself.
+//! `Client::checkpoint_text` appends its run and its counts as a text, of which `Client::resume` makes a client.
 #![tactic(auto)]
 
 mod client;
@@ -18,11 +19,12 @@ mod stage;
 mod step;
 
 pub use client::Client;
-pub use count::VolumeCount;
-pub use dump_run::{BLOCKS_LIMIT, Blocks, ListBlocks, Run, RunFault, SourceFailed};
+pub use dump_run::{
+    BLOCKS_LIMIT, Blocks, ListBlocks, ResumeFault, Run, RunFault, SourceFailed, VolumeCount,
+};
 pub use fault::{AttemptFault, StartFault};
 pub use laws::{
-    after_the_count, fed_in_pieces, granted_replies, lawful_positions, same_run, sent_in_order,
-    short_requests, wanted_replies,
+    after_the_count, comes_back, fed_in_pieces, granted_replies, lawful_positions, same_run,
+    sent_in_order, short_requests, wanted_replies,
 };
 pub use stage::{Answer, Progress, State};

@@ -62,3 +62,7 @@ IsCheckedRun run result = MatchResult result (λ _. IsRun run) (λ fault. IsFirs
 -- this run was made, or the first of its limits that is broken is told
 abbrev pub IsRunOf : PlainRun → Result PlainRun RunFault → Type 0
 IsRunOf run result = MatchResult result (λ made. made ≡ run) (λ fault. IsFirstBroken fault run)
+
+-- both are of one dump: all is the same but the dates
+abbrev pub AreOfOneDump : PlainRun → PlainRun → Type 0
+AreOfOneDump r s = (r.device ≡ s.device) × (r.name ≡ s.name) × (r.level ≡ s.level) × (r.block_bytes ≡ s.block_bytes) × (r.blocks ≡ s.blocks)

@@ -1,4 +1,4 @@
-//! Why something is no run.
+//! Why something is no run, and why bytes are no checkpoint.
 
 use thiserror::Error;
 
@@ -23,4 +23,18 @@ pub enum RunFault {
     /// The blocks are more than `BLOCKS_LIMIT`.
     #[error("TooManyBlocks")]
     TooManyBlocks,
+}
+
+/// Why bytes are no checkpoint. Lines are counted from 1.
+#[derive(Clone, Copy, Debug, PartialEq, Eq, Error)]
+pub enum ResumeFault {
+    /// The line of this number is the first that has not its shape, is outside its limits, or is missing.
+    #[error("line {0}: bad line")]
+    BadLine(usize),
+    /// All lines have their shape, and the count on this line is the first that does not follow those before it.
+    #[error("line {0}: not in order")]
+    NotInOrder(usize),
+    /// A growth in memory was refused.
+    #[error("out of memory")]
+    OutOfMemory,
 }

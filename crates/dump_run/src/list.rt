@@ -1,10 +1,11 @@
 //! Blocks of a payload in memory.
 
-ghost use Rattle.std.specs.Prelude.{◌≡◌, ℕ, ◌*◌, ◌<◌, IsTrue, [], length, get_or, false};
+ghost use Rattle.std.specs.Prelude.{◌≡◌, ℕ, ◌*◌, ◌<◌, IsTrue, IfOk, [], length, get_or, false};
 ghost use Rattle.std.proofs.Common.{sym, ◌∙◌};
 ghost use Rattle.dump_run.specs.Blocks.{HasBlock, AreBlocksOf, ListedRead, cut_blocks, listed};
 
 use crate::{Blocks, SourceFailed};
+use std::alloc::AllocError;
 use std::marker::Model;
 
 /// A whole payload in memory, as blocks of one size, whose reads can be told to fail.
@@ -64,6 +65,23 @@ impl ListBlocks {
     {
         let start = block as usize * self.block_bytes;
         &self.payload[start..start + self.block_bytes]
+    }
+}
+
+impl Clone for ListBlocks {
+    /// The same payload, whose reads fail where those of this one do, with as many failures.
+    ///
+    /// Fails only where memory is refused.
+    fn clone(&self) -> Result<ListBlocks, AllocError>
+        ensures { IfOk result (λ b. b ≡ self.now) }
+    {
+        Ok(ListBlocks {
+            payload: self.payload.clone()?,
+            block_bytes: self.block_bytes,
+            blocks: self.blocks,
+            troubled: self.troubled,
+            failures: self.failures,
+        })
     }
 }
 

@@ -1,8 +1,8 @@
 //! A run: what is dumped, to which drive, and in how many blocks.
 
-ghost use Rattle.std.specs.Prelude.{◌≡◌, ℕ, ◌≤◌, ◌↔◌, List, IsTrue, IfOk, Ok};
+ghost use Rattle.std.specs.Prelude.{◌≡◌, ℕ, ◌≤◌, ◌↔◌, List, IsTrue, IsUtf8, IfOk, Ok};
 ghost use Rattle.dumpdates.specs.Entry.{IsName, last_second};
-ghost use Rattle.dump_run.specs.Run.{IsDevice, IsBlockSize, IsRun, IsCheckedRun, IsRunOf, plain_run};
+ghost use Rattle.dump_run.specs.Run.{IsDevice, IsBlockSize, IsRun, IsCheckedRun, IsRunOf, AreOfOneDump, plain_run};
 
 use crate::RunFault;
 use crate::row::Row;
@@ -15,7 +15,7 @@ use std::marker::Model;
 pub const BLOCKS_LIMIT: u32 = NUMBER_LIMIT;
 
 /// The greatest level of a dump.
-const LAST_LEVEL: u64 = 9;
+pub(crate) const LAST_LEVEL: u64 = 9;
 
 /// What a dump is (dump(8)): of a file system, at a level, at a date, building on that of a lower level, to a drive,
 /// in blocks of one size. Its texts stand in fixed rows, so that it takes no memory.
@@ -60,7 +60,7 @@ impl Clone for Run {
 }
 
 /// Whether the bytes are a device: 1 to 255 of them, and none a line feed.
-fn is_device(device: &[u8]) -> bool
+pub(crate) fn is_device(device: &[u8]) -> bool
     ensures { IsTrue result ↔ IsDevice device.now }
 {
     !device.is_empty() && device.len() <= LINE_LIMIT && device.iter().all(|b| *b != b'\n')
@@ -120,15 +120,54 @@ impl Run {
             return Err(RunFault::BadName);
         }
         check_numbers(level, date, since, block_bytes, blocks)?;
-        Ok(Run {
-            device: Row::new(device),
-            name: Row::new(fs.as_bytes()),
-            level: level as u8,
+        let run = Run::from_parts(
+            device,
+            fs.as_bytes(),
+            level,
             date,
             since,
+            block_bytes,
+            blocks,
+        );
+        Ok(run)
+    }
+
+    /// The run of these parts, which are within its limits; `base` is the date of the dump that it builds on.
+    #[tactic(auto, using(crate::proofs::Limits::number_of_run))]
+    pub(crate) fn from_parts(
+        device: &[u8],
+        name: &[u8],
+        level: u64,
+        date: u64,
+        base: u64,
+        block_bytes: u64,
+        blocks: u64,
+    ) -> Run
+        requires limits { IsRun (plain_run device.now name.now level date base block_bytes blocks) }
+        requires text { IsUtf8 name.now }
+        ensures { result ≡ plain_run device.now name.now level date base block_bytes blocks }
+    {
+        Run {
+            device: Row::new(device),
+            name: Row::new(name),
+            level: level as u8,
+            date,
+            since: base,
             block_bytes: block_bytes as usize,
             blocks: blocks as u32,
-        })
+        }
+    }
+
+    /// Whether both are of one dump: to the same device, of the same name, level, block size and number of blocks. Their
+    /// dates may differ.
+    pub fn is_same_dump(&self, other: &Run) -> bool
+        ensures { IsTrue result ↔ AreOfOneDump self.now other.now }
+    {
+        self.device() == other.device()
+            && self.name() == other.name()
+            && self.level == other.level
+            && self.block_bytes == other.block_bytes
+            && self.blocks == other.blocks
     }
 
     /// The device: 1 to 255 bytes of one line.

@@ -1,5 +1,6 @@
 //! Words, streams served, dumps, volumes that are read back, operations and dumpdates files, against what was written by hand.
 
+mod checkpoints;
 mod commands;
 mod dates;
 mod entering;

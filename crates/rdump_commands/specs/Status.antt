@@ -26,3 +26,7 @@ IsMtStatus status = (status ≡ 0) ⊎ (status ≡ 3)
 -- of a dump that has begun: 0 where its run is finished
 abbrev pub IsDumpStatus : Standing → ℕ → Type 0
 IsDumpStatus at status = ((at.stage ≡ Finished) × (status ≡ 0)) ⊎ (status ≡ 3)
+
+-- all is done, or something is not
+abbrev pub IsEndStatus : ℕ → Type 0
+IsEndStatus status = (status ≡ 0) ⊎ (status ≡ 3)

@@ -3,6 +3,7 @@ ghost use Rattle.std.specs.Prelude.{◌≡◌};
 ghost use Rattle.rdump_commands.specs.Status.{IsStatus};
 
 use crate::fault::{FAILED, refuse_run, say, tell, tell_no_memory};
+use crate::going_on::dump_from;
 use crate::{System, run_client};
 use dumpdates::DatesFault;
 use file_medium::FileMedium;
@@ -21,8 +22,11 @@ use tape::{Medium, MediumFailed, MemoryMedium};
 /// standard error, where that is a terminal: it shows the base date and the progress.
 ///
 /// A payload that is a plain file or a block device is read block by block while it is dumped. Any other file, as a pipe, and a
-/// plain one that says that it has no bytes is read whole before that. What is at fault is found in this order: the payload, the dumpdates file, the clock, and
-/// the limits of a run.
+/// plain one that says that it has no bytes is read whole before that. What is at fault is found in this order: the payload, the dumpdates file, the clock,
+/// the limits of a run, and the checkpoint file.
+///
+/// With a checkpoint file the dump goes on from it, where it is there, with the date and the base date that stand in it. It is held
+/// for as long as the dump lives, and removed where the dump is complete and entered, if it was to be, or abandoned.
 ///
 /// Answers the exit status: 0 where the dump is complete, all was printed, and the dump is entered if it was to be; 1 where it
 /// could not begin; and else 3.
@@ -112,6 +116,9 @@ fn dump_at<R: System, M: Medium + Drop, T: Write + Copy + Drop>(
     requires { payload.size ≡ line.now.block }
     ensures { IsStatus result }
 {
+    if let Some(path) = line.checkpoint {
+        return dump_from(rt, line, path, payload, since, date, terminal);
+    }
     let gauge = terminal.map(|it| ProgressLine::new(rt, it));
     match dumper(rt.alloc(), line, date, since, payload, gauge) {
         Ok(mut client) => match tell_first(rt, line, since, terminal.is_some()) {
@@ -126,7 +133,7 @@ fn dump_at<R: System, M: Medium + Drop, T: Write + Copy + Drop>(
 /// Tells what is known before the first attempt: at a terminal the base date, and where the dump could not be entered now, why.
 ///
 /// It fails only where memory is refused.
-fn tell_first<R: System>(
+pub(crate) fn tell_first<R: System>(
     rt: &R,
     line: &DumpLine<'_>,
     since: u64,

@@ -1,17 +1,23 @@
 //! A client that dumps to a server.
-ghost use Rattle.rdump_commands.specs.Status.{IsDumpStatus};
+ghost use Rattle.std.specs.Prelude.{◌≡◌, ◌⊎◌};
+ghost use Rattle.dump_client.specs.declared.stage.Stage.TheVariants.{Finished};
+ghost use Rattle.rdump_talk.specs.declared.conclusion.Conclusion.TheVariants as ends;
+ghost use Rattle.rdump_commands.specs.Status.{IsDumpStatus, IsEndStatus};
 
 use crate::System;
 use crate::asking::Asking;
-use crate::fault::ended;
+use crate::fault::{ABNORMAL, ended, tell_failed};
 use crate::told_peer::ToldPeer;
 use dump_client::{Blocks, Client};
 use dumpdates::DatesFault;
-use rdump_files::{Clearing, ReplacedFile, UpdateFault, dump_and_update};
-use rdump_talk::{Peer, dump};
+use rdump_files::{Clearing, FileFailed, ReplacedFile, UpdateFault, dump_and_update, enter_dump};
+use rdump_talk::{Conclusion, Peer, dump, dump_kept};
 use rdump_words::DumpLine;
 use rmt_wire::Counted;
 use std::io::{self, Read, Write};
+
+/// The status of a dump that is complete.
+const COMPLETE: u8 = 0;
 
 /// Has a client dump to the server of the line, as `rdump dump` does, with its lines to standard output. `terminal` is standard
 /// error, where that is a terminal: its line of progress is cleared before each of them, and what may be said is told there
@@ -73,6 +79,121 @@ fn dump_entered<R: System, B: Blocks, P: Peer, I: Read, W: Write>(
         tell_unentered(rt, dumpdates, fault, file.failure());
     }
     end.status
+}
+
+/// Has a client dump as `run_client` does, and keeps its checkpoint in this file, which is removed where the dump is complete, and
+/// entered if it was to be, and where it is abandoned. Where a checkpoint could not be written standard error tells why, and where
+/// the file can't be removed.
+///
+/// Answers the exit status: 0 where the run is finished, all was printed, it is entered in the dumpdates file if the line asks
+/// for that, and the file is removed; and else 3.
+pub(crate) fn run_kept<R: System, B: Blocks, T: Write + Copy + Drop>(
+    rt: &R,
+    line: &DumpLine<'_>,
+    client: &mut Client<B>,
+    file: &mut ReplacedFile<'_, R>,
+    terminal: Option<T>,
+) -> u8
+    ensures { IsDumpStatus client.new.at result }
+{
+    let mut peer = ToldPeer::new(rt, line.to, terminal);
+    let mut operator = Asking::new(rt.reader(), terminal);
+    let mut out = Counted::new(Clearing {
+        lines: io::writer(rt),
+        terminal,
+    });
+    let end = dump_kept(rt.alloc(), client, &mut peer, &mut operator, &mut out, file);
+    let status = end_kept(rt, line, client, end, &mut out, file);
+    let failures = out.failures();
+    ended(rt, failures, status)
+}
+
+/// Does what is left once a dump with a checkpoint ended so: enters it, and removes the file. Answers the status.
+fn end_kept<R: System, B: Blocks, W: Write>(
+    rt: &R,
+    line: &DumpLine<'_>,
+    client: &Client<B>,
+    end: Conclusion,
+    out: &mut Counted<W>,
+    file: &mut ReplacedFile<'_, R>,
+) -> u8
+    requires { end ≡ ends.Complete → client.now.at.stage ≡ Finished }
+    ensures { IsDumpStatus client.now.at result }
+{
+    match end {
+        Conclusion::Complete if line.update => match enter(rt, line.dumpdates, client, out) {
+            COMPLETE => remove(rt, line, file, COMPLETE),
+            status => status,
+        },
+        Conclusion::Complete => remove(rt, line, file, COMPLETE),
+        Conclusion::Abandoned => remove(rt, line, file, ABNORMAL),
+        Conclusion::Untold => ABNORMAL,
+        Conclusion::Unkept => tell_unkept(rt, line, file.failure()),
+    }
+}
+
+/// Removes the checkpoint file of a line, and answers this status. Where it can't be removed, that is told, and the status is another.
+fn remove<R: System>(rt: &R, line: &DumpLine<'_>, file: &mut ReplacedFile<'_, R>, status: u8) -> u8
+    ensures { (result ≡ status) ⊎ (result ≡ 3) }
+{
+    match file.remove() {
+        Ok(()) => status,
+        Err(FileFailed) => tell_left(rt, checkpoint_of(line), file.failure()),
+    }
+}
+
+/// Where the checkpoint of a line is kept.
+fn checkpoint_of<'a>(line: &DumpLine<'a>) -> &'a str {
+    line.checkpoint.unwrap_or("")
+}
+
+/// Tells that a checkpoint file could not be removed, by the system's reason, and answers the status.
+fn tell_left<R: Eprint>(rt: &R, path: &str, failure: Option<&io::Error>) -> u8
+    ensures { result ≡ 3 }
+{
+    match failure {
+        Some(error) => {
+            let _ = eprintln!(rt; "rdump: {path}: it could not be removed: {error}");
+        }
+        None => {
+            let _ = eprintln!(rt; "rdump: {path}: it could not be removed");
+        }
+    }
+    ABNORMAL
+}
+
+/// Tells why a checkpoint could not be kept, by the system's reason where the file failed, and answers the status.
+fn tell_unkept<R: Eprint>(rt: &R, line: &DumpLine<'_>, failure: Option<&io::Error>) -> u8
+    ensures { result ≡ 3 }
+{
+    let path = checkpoint_of(line);
+    match failure {
+        Some(error) => tell_failed(rt, path, error, ABNORMAL),
+        None => {
+            let _ = eprintln!(rt; "rdump: {path}: out of memory");
+            ABNORMAL
+        }
+    }
+}
+
+/// Enters the dump of a client that is finished in a dumpdates file, and answers the status. Why it was not entered is told.
+fn enter<R: System, B: Blocks, W: Write>(
+    rt: &R,
+    dumpdates: &str,
+    client: &Client<B>,
+    out: &mut Counted<W>,
+) -> u8
+    ensures { IsEndStatus result }
+{
+    let mut file = ReplacedFile::new(rt, rt.alloc(), dumpdates);
+    let end = enter_dump(rt.alloc(), client, out, &mut file);
+    if let Some(fault) = end.fault {
+        tell_unentered(rt, dumpdates, fault, file.failure());
+    }
+    match end.status {
+        COMPLETE => COMPLETE,
+        _ => ABNORMAL,
+    }
 }
 
 /// Tells why a dump was not entered in a dumpdates file: by the system's reason where the file failed.

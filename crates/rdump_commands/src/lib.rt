@@ -10,6 +10,7 @@ mod dates_command;
 mod dump_command;
 mod dumping;
 mod fault;
+mod going_on;
 mod label_text;
 mod mt_command;
 mod out_file;

@@ -1,16 +1,16 @@
 -- When a dump is entered in a dumpdates file.
-use Rattle.std.proofs.Common.{◌≡◌, ◌<◌, ℕ, Bool, true, false, List, Option, Some, Result, refl, subst, inl, inr, arith}
+use Rattle.std.proofs.Common.{◌≡◌, ◌<◌, ℕ, Bool, true, false, List, Option, None, Some, Result, refl, subst, inl, inr, arith}
 use Rattle.rmt_wire.specs.Counted.{Counting}
 use Rattle.dumpdates.specs.declared.entry.Entry.{Entry}
 use Rattle.dumpdates.specs.Stored.{plain_entry}
 use Rattle.dump_run.specs.Run.{PlainRun}
 use Rattle.dump_client.specs.Client.{TellsEntry}
 use Rattle.dump_client.specs.Standing.{Standing}
-use Rattle.dump_client.specs.declared.count.VolumeCount.{VolumeCount}
+use Rattle.dump_run.specs.declared.count.VolumeCount.{VolumeCount}
 use Rattle.dump_client.specs.declared.stage.Stage.{Stage}
-use Rattle.dump_client.specs.declared.stage.Stage.TheVariants.{Finished}
+use Rattle.dump_client.specs.declared.stage.Stage.TheVariants.{Ready, ToSend, Waiting, Asking, Finished, Abandoned}
 use Rattle.rdump_talk.specs.Lines.{IsDumped, IsLast}
-use Rattle.rdump_files.specs.Entering.{dates_entry_of, sinks, IsUncaused, IsUpdateTold, IsDumpEntered}
+use Rattle.rdump_files.specs.Entering.{dates_entry_of, sinks, DumpSinks, IsEntered, IsUncaused, IsUpdateTold, IsDumpEntered}
 use Rattle.rdump_files.specs.Updating.{IsUpdated}
 use Rattle.rdump_files.specs.WholeFile.{WholeFileKind}
 use Rattle.rdump_files.specs.declared.dates_update.UpdateFault.{UpdateFault}
@@ -26,6 +26,15 @@ finished_at false at last h = let bad : 0 ≡ 3 = h in absurd (omega (arith, bad
 entry_told : (stage : Stage) (run : PlainRun) (entry : Entry) → stage ≡ Finished → TellsEntry stage run (Some entry) → plain_entry entry ≡ dates_entry_of run
 entry_told stage run entry e t = let told : TellsEntry Finished run (Some entry) = subst (λ s. TellsEntry s run (Some entry)) e t in told
 
+-- a client that tells an entry is finished
+some_finished : (stage : Stage) (run : PlainRun) (entry : Entry) → TellsEntry stage run (Some entry) → stage ≡ Finished
+some_finished Finished run entry t = refl
+some_finished Ready run entry t = cc
+some_finished (ToSend step) run entry t = cc
+some_finished (Waiting step) run entry t = cc
+some_finished Asking run entry t = cc
+some_finished Abandoned run entry t = cc
+
 module _ {W F : Type 0} {contents : W → Option (List ℕ)} {k : WholeFileKind F} {first : List VolumeCount} {at : Standing}
     {out told : Counting W} where
   -- after another status than 0 the file is left alone
@@ -35,17 +44,31 @@ module _ {W F : Type 0} {contents : W → Option (List ℕ)} {k : WholeFileKind 
       record { told = told; ended = ended; dumped = d; left = λ _. (refl, u); enters = λ none. absurd (omega (arith, some, none)) }
 
   -- after 0 the run's entry is put into the file
-  pub entered_after : (ended : ℕ) (entry : Entry) {old new : F} {out' : Counting W} {end : DumpEnd} (result : Result Unit UpdateFault)
-      → ended ≡ 0 → IsDumped contents first at out told ended → TellsEntry at.stage at.run (Some entry)
-      → IsUpdated k (plain_entry entry) old new result → IsUpdateTold contents result told out' end
+  pub entered_after : (ended : ℕ) {old new : F} {out' : Counting W} {end : DumpEnd}
+      → ended ≡ 0 → IsDumped contents first at out told ended → IsEntered contents k at (sinks told old) (sinks out' new) end
       → IsDumpEntered contents k first at (sinks out old) (sinks out' new) end
-  entered_after ended entry {old} {new} result e d t u l =
+  entered_after ended e d entered =
       let finished = finished_at d.whole at d.last (subst (λ n. IsLast d.whole at d.last n) e d.ends) in
-      let same = entry_told at.stage at.run entry finished t in
       record {
         told = told;
         ended = ended;
         dumped = d;
         left = λ some. absurd (some e);
-        enters = λ _. (finished, (result, subst (λ x. IsUpdated k x old new result) same u, l));
+        enters = λ _. (finished, entered.enters finished);
       }
+
+-- a client that tells no entry is not finished
+pub not_entered : {W F : Type 0} {contents : W → Option (List ℕ)} {k : WholeFileKind F} {at : Standing} {s : DumpSinks W F} {end : DumpEnd}
+    → TellsEntry at.stage at.run None → IsUncaused end 3 → IsEntered contents k at s s end
+not_entered {at = at} t u = record {
+  unfinished = λ _. (refl, u);
+  enters = λ e. let told : TellsEntry Finished at.run None = subst (λ s. TellsEntry s at.run None) e t in absurd told;
+}
+
+pub entered_so : {W F : Type 0} {contents : W → Option (List ℕ)} {k : WholeFileKind F} {at : Standing} {out out' : Counting W} {old new : F} {end : DumpEnd}
+    (entry : Entry) (result : Result Unit UpdateFault) → TellsEntry at.stage at.run (Some entry) → IsUpdated k (plain_entry entry) old new result
+    → IsUpdateTold contents result out out' end → IsEntered contents k at (sinks out old) (sinks out' new) end
+entered_so {k = k} {at} {old = old} {new} entry result t u l = record {
+  unfinished = λ other. absurd (other (some_finished at.stage at.run entry t));
+  enters = λ e. (result, subst (λ x. IsUpdated k x old new result) (entry_told at.stage at.run entry e t) u, l);
+}

@@ -11,10 +11,10 @@ use Rattle.tape.specs.Medium.MediumCall.{ReadAt}
 use Rattle.tape.specs.declared.medium.MediumFailed.{MediumFailed}
 use Rattle.dump_run.specs.Blocks.{HasBlock, GivesBlock}
 use Rattle.dump_run.specs.declared.blocks.SourceFailed.{SourceFailed}
-use Rattle.dump_run.specs.Run.{PlainRun, plain_run}
+use Rattle.dump_run.specs.Run.{PlainRun, plain_run, AreOfOneDump}
 use Rattle.dump_client.specs.Client.{IsPayload}
 use Rattle.dump_run.proofs.Cut.{block_at, length_cut, size_cut}
-use Rattle.rdump_files.specs.Payload.{FiledPayload, HasPayloadBlocks, IsPayloadRead, begin_of, blocks_for, padded_payload, payload_blocks}
+use Rattle.rdump_files.specs.Payload.{FiledPayload, HasPayloadBlocks, IsPayloadRead, IsRunsPayload, begin_of, blocks_for, padded_payload, payload_blocks}
 
 -- the padded payload has whole blocks
 length_padded : (size : ℕ) (payload : List ℕ) → 0 < size → length (padded_payload size payload) ≡ div_ceil (length payload) size * size
@@ -170,14 +170,20 @@ gives_block {old = old} {block = block} {into = into} {given = given} (Ok x) rea
     is_block old.size old.len block bytes read.part into given len inside size read.asked part read.gives.1 ∙ ap (λ bs. get_or bs block []) (sym e)
 gives_block (Err failed) read blocks held there = tt
 
--- the blocks of a payload are those of a run that has its size and as many as it takes
-pub is_payload : {M : Type 0} (holds : M → List ℕ → Type 0) (p : FiledPayload M) (run : PlainRun)
-    {device name : List ℕ} {level date since size blocks long : ℕ} → run ≡ plain_run device name level date since size blocks
-    → blocks ≡ blocks_for size long → long ≡ p.len → p.size ≡ size
+-- the blocks of a payload are those of a run that has its size and as many
+pub runs_payload : {M : Type 0} (holds : M → List ℕ → Type 0) (p : FiledPayload M) (run : PlainRun) → IsRunsPayload run p
     → (payload : List (List ℕ)) → HasPayloadBlocks holds p payload → IsPayload run payload
-is_payload holds p run {long = long} is takes all same payload (bytes, held, len, e) =
-    let many : run.blocks ≡ blocks_for p.size (length bytes) =
-    ap (λ r. r.blocks) is ∙ takes ∙ ap (λ n. blocks_for n long) (sym same) ∙ ap (blocks_for p.size) (all ∙ sym len) in (
+runs_payload holds p run h payload (bytes, held, len, e) =
+    let many : run.blocks ≡ blocks_for p.size (length bytes) = h.1 ∙ ap (blocks_for p.size) (sym len) in (
       ap length e ∙ length_blocks p.size bytes ∙ sym many,
-      λ n h. ap (λ bs. length (get_or bs n [])) e ∙ size_blocks p.size bytes n (subst (λ k. n < k) many h) ∙ same ∙ sym (ap (λ r. r.block_bytes) is),
+      λ n k. ap (λ bs. length (get_or bs n [])) e ∙ size_blocks p.size bytes n (subst (λ m. n < m) many k) ∙ h.0,
     )
+
+-- a run that the words say is that of its payload
+pub line_payload : {M : Type 0} (p : FiledPayload M) (run : PlainRun) {device name : List ℕ} {level date since size : ℕ}
+    → run ≡ plain_run device name level date since size (blocks_for size p.len) → p.size ≡ size → IsRunsPayload run p
+line_payload p run is same = (same ∙ sym (ap (λ r. r.block_bytes) is), ap (λ r. r.blocks) is ∙ ap (λ n. blocks_for n p.len) (sym same))
+
+-- a run that is of one dump with that of the payload
+pub of_one_dump : {M : Type 0} (p : FiledPayload M) (run kept : PlainRun) → IsRunsPayload run p → AreOfOneDump kept run → IsRunsPayload kept p
+of_one_dump p run kept h same = (h.0 ∙ sym same.3, same.4 ∙ h.1)

@@ -5,7 +5,7 @@ use Rattle.rmt_wire.specs.Print.{IsPrinted}
 use Rattle.dumpdates.specs.Entry.{DatesEntry}
 use Rattle.dump_run.specs.Run.{PlainRun}
 use Rattle.dump_client.specs.Standing.{Standing}
-use Rattle.dump_client.specs.declared.count.VolumeCount.{VolumeCount}
+use Rattle.dump_run.specs.declared.count.VolumeCount.{VolumeCount}
 use Rattle.dump_client.specs.declared.stage.Stage.TheVariants.{Finished}
 use Rattle.rdump_talk.specs.Lines.{IsDumped}
 use Rattle.rdump_files.specs.Updating.{IsUpdated}
@@ -34,6 +34,13 @@ pub record DumpSinks (W F : Type 0) : Type 0 where
 
 abbrev pub sinks : {W F : Type 0} → Counting W → F → DumpSinks W F
 sinks out file = record { out = out; file = file }
+
+-- The entry of a run that is finished was put into the file, or why not was told. Of another run there is none.
+pub record IsEntered {W F : Type 0} (contents : W → Option (List ℕ)) (k : WholeFileKind F) (at : Standing) (old new : DumpSinks W F)
+    (end : DumpEnd) : Type 0 where
+  pub unfinished : at.stage ≢ Finished → (new ≡ old) × IsUncaused end 3
+  pub enters : at.stage ≡ Finished → (result : Result Unit UpdateFault)
+      × IsUpdated k (dates_entry_of at.run) old.file new.file result × IsUpdateTold contents result old.out new.out end
 
 -- A dump, and then its entry. A dump that ends with another status than 0 leaves the file alone, and has no cause. After 0, which says
 -- that the run is finished and all was printed, its entry is put into the file.

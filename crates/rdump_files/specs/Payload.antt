@@ -83,3 +83,7 @@ line_run line date since bytes = run_in_blocks line date since (blocks_for line.
 abbrev pub IsRefusedRun : PlainRun → DumperFault → Type 0
 IsRefusedRun run (Run fault) = IsFirstBroken fault run
 IsRefusedRun run OutOfMemory = Unit {0}
+
+-- the payload is that of the run: in blocks of its size, and as many
+abbrev pub IsRunsPayload : {M : Type 0} → PlainRun → FiledPayload M → Type 0
+IsRunsPayload run p = (p.size ≡ run.block_bytes) × (run.blocks ≡ blocks_for p.size p.len)

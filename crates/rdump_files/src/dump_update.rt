@@ -1,6 +1,6 @@
 //! A dump that is entered in a dumpdates file once it is complete.
 ghost use Rattle.std.specs.Prelude.{◌≡◌, None};
-ghost use Rattle.rdump_files.specs.Entering.{IsDumpEntered, IsUpdateTold, sinks};
+ghost use Rattle.rdump_files.specs.Entering.{IsDumpEntered, IsEntered, IsUpdateTold, sinks};
 ghost use Rattle.rdump_files.specs.WholeFile.{whole_file};
 
 use crate::{UpdateFault, WholeFile, update};
@@ -45,6 +45,21 @@ pub fn dump_and_update<B: Blocks, P: Peer, R: Read, W: Write, F: WholeFile>(
     if status != COMPLETE {
         return unentered(status);
     }
+    enter_dump(alloc, client, out, file)
+}
+
+/// Enters the run of a client that is finished in a dumpdates file. Where it can't be entered it prints `dumpdates not updated`.
+///
+/// Answers the exit status, 0 where the run is entered and else 3, and why it was not. Of a client that is not finished nothing is
+/// entered.
+pub fn enter_dump<B: Blocks, W: Write, F: WholeFile>(
+    alloc: Global,
+    client: &Client<B>,
+    out: &mut Counted<W>,
+    file: &mut F,
+) -> DumpEnd
+    ensures { IsEntered W.contents (whole_file F.gives F.takes) client.now.at (sinks out.old file.old) (sinks out.new file.new) result }
+{
     let Some(entry) = client.finished() else {
         return unentered(ABNORMAL);
     };

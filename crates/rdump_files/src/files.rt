@@ -19,7 +19,7 @@ pub fn read_steady(alloc: Global, mut file: File) -> io::Result<Option<Vec<u8>>>
 }
 
 /// The bytes of a file from where it stands.
-fn read_rest(alloc: Global, file: &mut File) -> io::Result<Vec<u8>> {
+pub(crate) fn read_rest(alloc: Global, file: &mut File) -> io::Result<Vec<u8>> {
     let mut bytes = Vec::new(alloc);
     file.read_to_end(&mut bytes)?;
     Ok(bytes)

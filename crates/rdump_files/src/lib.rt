@@ -1,11 +1,12 @@
 //! What a dump reads and writes beside its connection: the payload, the dumpdates file, and a terminal's line of progress.
 //!
-//! `dumper` makes the client of a dump of its words and a payload. Its blocks are read through `Shown`, which tells a
+//! `dumper` makes the client of a dump of its words and a payload, and `come_back` one that goes on from its checkpoint. Its blocks are read through `Shown`, which tells a
 //! `Gauge` of each, and `ProgressLine` is the gauge at a terminal. `update` enters a dump in a dumpdates file, which is any
 //! `WholeFile`: `ReplacedFile` is one of the system's. `dump_and_update` dumps over a connection and enters what is complete.
 //! `dates` and `base_date` ask a dumpdates file, and `date_text` is a date as it stands there. `named_file` follows links.
 #![tactic(auto)]
 
+mod comeback;
 mod ctime;
 mod dates_file;
 mod dates_update;
@@ -19,13 +20,14 @@ mod progress;
 mod replaced_file;
 mod whole_file;
 
+pub use comeback::{ComebackFault, come_back};
 pub use ctime::date_text;
 pub use dates_file::{base_date, dates};
 pub use dates_update::{UpdateFault, update};
-pub use dump_update::{DumpEnd, dump_and_update};
+pub use dump_update::{DumpEnd, dump_and_update, enter_dump};
 pub use files::{read_or_empty, read_steady, seconds_now};
 pub use named::named_file;
-pub use payload::{DumperFault, dumper};
+pub use payload::{DumperFault, dumper, dumper_of, run_of};
 pub use payload_file::PayloadFile;
 pub use progress::{CLEAR, Clearing, Gauge, ProgressLine, Shown};
 pub use replaced_file::ReplacedFile;

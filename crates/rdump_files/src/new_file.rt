@@ -1,5 +1,6 @@
 //! A new file beside the one that it is to replace.
 
+use crate::files::read_rest;
 use crate::named::named_file;
 use std::alloc::Global;
 use std::fs::{self, File, Metadata, OpenOptions, TryLockError};
@@ -17,10 +18,14 @@ const WAIT_SECONDS: u64 = 10;
 /// How long it sleeps between two tries, in milliseconds.
 const BETWEEN_MILLIS: u64 = 5;
 
+/// So often a file in its place is opened at most, where others replace it each time before it is locked.
+const MOST_TRIES: u32 = 100;
+
 /// A new file that is to replace another: it has that one's name with `.new` after it, and lies in the same folder.
 ///
 /// This run made it, and has its advisory lock: no other run has one of that name meanwhile. It is gone where this is dropped before
-/// it was put in place; what else has its name by then stays.
+/// it was put in place; what else has its name by then stays. Once it is in place it has the other's name, and the lock goes with
+/// this. A file that was found in its place is one too.
 pub(crate) struct NewFile<'a, R: Files<File = File>> {
     rt: &'a R,
     named: PathBuf,
@@ -100,26 +105,95 @@ impl<'a, R: Files<File = File> + Clock> NewFile<'a, R> {
     }
 }
 
-impl<R: Files<File = File>> NewFile<'_, R> {
+impl<'a, R: Files<File = File>> NewFile<'a, R> {
+    /// The file that this path names, with its lock. None where it is not there.
+    ///
+    /// It fails with `WouldBlock` where another run has its lock.
+    pub(crate) fn find(rt: &'a R, alloc: Global, path: &str) -> io::Result<Option<Self>> {
+        for _ in 0..MOST_TRIES {
+            let named = named_file(rt, alloc, path)?;
+            let Some(file) = open_left(rt, named.as_path().as_str())? else {
+                return Ok(None);
+            };
+            if is_in_place(rt, &named, &file)? {
+                return Ok(Some(NewFile::found(rt, alloc, named, file)?));
+            }
+        }
+        Err(taken())
+    }
+
+    /// A file that was found in its place, and locked.
+    fn found(rt: &'a R, alloc: Global, named: PathBuf, file: File) -> io::Result<Self> {
+        let path = beside(alloc, &named)?;
+        Ok(NewFile {
+            rt,
+            named,
+            path,
+            file,
+            placed: true,
+        })
+    }
+
+    /// The bytes of the file, from where it stands.
+    pub(crate) fn read(&mut self, alloc: Global) -> io::Result<Vec<u8>> {
+        read_rest(alloc, &mut self.file)
+    }
+
+    /// Looks whether the other file is this one, which is in place, or is not there.
+    ///
+    /// It fails with `WouldBlock` where it is another's.
+    pub(crate) fn check_place(&self, placed: Option<&NewFile<'a, R>>) -> io::Result<()> {
+        let path = self.named();
+        let is_ours = match placed {
+            Some(placed) => has_name(self.rt, path, &placed.file)?,
+            None => false,
+        };
+        if is_ours || found_at(self.rt, path)?.is_none() {
+            return Ok(());
+        }
+        Err(taken())
+    }
+
+    /// Removes the file, which is in place, and has its folder remember that. Where it is gone, that is done.
+    ///
+    /// It fails with `WouldBlock` where its name is another's by now.
+    pub(crate) fn remove(&self) -> io::Result<()> {
+        let path = self.named();
+        if has_name(self.rt, path, &self.file)? {
+            fs::remove_file(self.rt, path)?;
+            self.settle();
+            return Ok(());
+        }
+        match found_at(self.rt, path)? {
+            Some(_) => Err(taken()),
+            None => Ok(()),
+        }
+    }
+
     /// The path of the file that is to be replaced.
     pub(crate) fn named(&self) -> &str {
         self.named.as_path().as_str()
     }
 
     /// Writes the text, syncs it, and puts the new file in place of the other, with the other's mode and owner where the system lets
-    /// it.
-    ///
-    /// Once it has the other's name this is done, whatever comes of the folder's sync.
-    pub(crate) fn put(mut self, text: &[u8]) -> io::Result<()> {
+    /// it. It has the other's name then, and its lock still.
+    pub(crate) fn put(&mut self, text: &[u8]) -> io::Result<()> {
         self.take_rights();
         self.file.write_all(text)?;
         self.file.sync_all()?;
         fs::rename(self.rt, self.path.as_str(), &self.named)?;
         self.placed = true;
-        // Others need not wait for the folder.
-        let _ = self.file.unlock();
-        let _ = self.sync_folder();
         Ok(())
+    }
+
+    /// Gives its lock back.
+    pub(crate) fn unlock(&self) {
+        let _ = self.file.unlock();
+    }
+
+    /// Has the folder remember the new name. Where it can't, the name is the new file's all the same.
+    pub(crate) fn settle(&self) {
+        let _ = sync_folder(self.rt, &self.named);
     }
 
     /// Gives the new file the owner and the mode of the other, where that is there and the system lets it.
@@ -133,15 +207,15 @@ impl<R: Files<File = File>> NewFile<'_, R> {
         }
         let _ = self.file.set_permissions(found.permissions());
     }
+}
 
-    /// Has the folder remember the new name.
-    fn sync_folder(&self) -> io::Result<()> {
-        let folder = match self.named.as_path().parent() {
-            Some(folder) if !folder.as_str().is_empty() => folder,
-            _ => Path::new("."),
-        };
-        File::open(self.rt, folder)?.sync_all()
-    }
+/// Syncs the folder of the file at this path, so that it remembers its names.
+pub(crate) fn sync_folder<R: Files<File = File>>(rt: &R, named: &PathBuf) -> io::Result<()> {
+    let folder = match named.as_path().parent() {
+        Some(folder) if !folder.as_str().is_empty() => folder,
+        _ => Path::new("."),
+    };
+    File::open(rt, folder)?.sync_all()
 }
 
 /// The path of the new file of this one.
@@ -217,6 +291,22 @@ fn lock<R: Files<File = File>>(rt: &R, path: &str, file: &File) -> io::Result<bo
         Err(TryLockError::Error(error)) => return Err(error),
     }
     has_name(rt, path, file)
+}
+
+/// Takes the advisory lock of a file that was found at this path, and looks whether it still has its name.
+///
+/// It fails with `WouldBlock` where another run has the lock.
+fn is_in_place<R: Files<File = File>>(rt: &R, named: &PathBuf, file: &File) -> io::Result<bool> {
+    match file.try_lock() {
+        Ok(()) => has_name(rt, named.as_path().as_str(), file),
+        Err(TryLockError::WouldBlock) => Err(taken()),
+        Err(TryLockError::Error(error)) => Err(error),
+    }
+}
+
+/// The error where another run has the file.
+fn taken() -> io::Error {
+    io::Error::new(ErrorKind::WouldBlock, "another run has it")
 }
 
 /// Whether a file has this name: another may have it by now, or none.

@@ -1,10 +1,9 @@
 //! The client that dumps a payload.
-ghost use Rattle.std.specs.Prelude.{◌≡◌, ℕ, List, [], IfErr, IfOk};
-ghost use Rattle.dump_client.specs.Client.{IsPayload};
+ghost use Rattle.std.specs.Prelude.{◌≡◌, [], IfErr, IfOk};
 ghost use Rattle.dump_client.specs.Standing.{standing};
 ghost use Rattle.dump_client.specs.declared.stage.Stage.TheVariants as stages;
 ghost use Rattle.dump_run.specs.Run.{IsRunOf};
-ghost use Rattle.rdump_files.specs.Payload.{blocks_for, line_run, run_in_blocks, HasPayloadBlocks, IsRefusedRun};
+ghost use Rattle.rdump_files.specs.Payload.{blocks_for, line_run, IsRefusedRun, IsRunsPayload};
 
 use crate::{Gauge, PayloadFile, Shown};
 use dump_client::{Client, Run, RunFault};
@@ -61,29 +60,39 @@ pub fn dumper<M: Medium + Drop, G: Gauge + Drop>(
     ensures source { IfOk result (λ c. c.source ≡ payload) }
     ensures refused { IfErr result (IsRefusedRun (line_run line.now date since payload.len)) }
 {
-    let blocks = block_count(payload.len(), line.block);
-    match run_of(line, date, since, blocks) {
-        Ok(run) => Ok(client_of(alloc, run, payload, gauge)?),
+    match run_of(line, date, since, &payload) {
+        Ok(run) => Ok(dumper_of(alloc, run, payload, gauge)?),
         Err(fault) => Err(DumperFault::Run(fault)),
     }
 }
 
-/// The run that the words say, in so many blocks.
-fn run_of(line: &DumpLine<'_>, date: u64, since: u64, blocks: u64) -> Result<Run, RunFault>
-    ensures { IsRunOf (run_in_blocks line.now date since blocks) result }
+/// The run that the words say of a payload, of this date and building on a dump of the date `since`, both in seconds since 1970
+/// began, UTC.
+///
+/// Answers the first limit of a run that is broken.
+pub fn run_of<M: Medium + Drop>(
+    line: &DumpLine<'_>,
+    date: u64,
+    since: u64,
+    payload: &PayloadFile<M>,
+) -> Result<Run, RunFault>
+    ensures { IsRunOf (line_run line.now date since payload.now.len) result }
 {
     let device = line.device.as_bytes();
+    let blocks = block_count(payload.len(), line.block);
     Run::new(device, line.fs, line.level, date, since, line.block, blocks)
 }
 
-/// The client of a run, whose gauge is told how many blocks there are.
-fn client_of<M: Medium + Drop, G: Gauge + Drop>(
+/// The client of a run, with nothing counted, that dumps its payload, as `dumper` makes it.
+///
+/// It fails where memory is refused.
+pub fn dumper_of<M: Medium + Drop, G: Gauge + Drop>(
     alloc: Global,
     run: Run,
     payload: PayloadFile<M>,
     mut gauge: G,
 ) -> Result<Client<Shown<PayloadFile<M>, G>>, AllocError>
-    requires { (blocks : List (List ℕ)) → HasPayloadBlocks M.holds payload blocks → IsPayload run blocks }
+    requires { IsRunsPayload run payload }
     ensures at { IfOk result (λ c. c.at ≡ standing run [] stages.Ready) }
     ensures source { IfOk result (λ c. c.source ≡ payload) }
 {

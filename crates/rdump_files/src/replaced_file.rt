@@ -3,35 +3,64 @@
 use crate::files::read_if_there;
 use crate::new_file::NewFile;
 use crate::{FileFailed, WholeFile};
+use rdump_talk::Keeper;
 use std::alloc::Global;
 use std::fs::File;
 use std::io;
 use std::rt::Files;
 use std::time::Clock;
 
+/// For how long a run has the lock of a file that it replaces.
+#[derive(Clone, Copy, PartialEq, Eq)]
+enum LockTime {
+    /// From the read to the text that is put in place: the lock is that of the new file.
+    OneStep,
+    /// From the read on, as long as the run lives: the lock is that of the file which is in place.
+    WholeRun,
+}
+
 /// A file by its path. It tells nothing: what a file holds, no clause says.
 ///
 /// Its text is put in place by writing it to a new file of the same name with `.new` after it, which is synced, and then
-/// renamed. Who reads it makes that file first, and has its advisory lock until the text is in place or this is dropped: so what is
-/// read and what is put in place of it is one step between any number of runs. A run waits ten seconds for another's. Where the
-/// path is a link, the file that it leads to is read and replaced.
+/// renamed. The new file is made first, and its advisory lock is taken: a run waits ten seconds for another's. Where the path is
+/// a link, the file that it leads to is read and replaced.
+///
+/// A file of `new` is locked by one step: who reads it makes the new file before, and has that one's lock until the text is in
+/// place or this is dropped. So what is read and what is put in place of it is one step between any number of runs.
+///
+/// A file of `held` is one run's alone: the file that is in place is locked from the read on, and each new one before it has the
+/// name. Another run's is not read, and nothing is put in place of it.
 #[derive(Drop)]
 pub struct ReplacedFile<'a, R: Files<File = File> + Clock> {
     rt: &'a R,
     alloc: Global,
     path: &'a str,
+    lock_time: LockTime,
     new: Option<NewFile<'a, R>>,
+    placed: Option<NewFile<'a, R>>,
     failure: Option<io::Error>,
 }
 
 impl<'a, R: Files<File = File> + Clock> ReplacedFile<'a, R> {
-    /// The file at this path, which need not be there.
+    /// The file at this path, which need not be there. It is locked from a read to the text that is put in place then.
     pub fn new(rt: &'a R, alloc: Global, path: &'a str) -> Self {
+        ReplacedFile::with_lock(rt, alloc, path, LockTime::OneStep)
+    }
+
+    /// The file at this path, which need not be there. It is locked from the read on, for as long as this lives.
+    pub fn held(rt: &'a R, alloc: Global, path: &'a str) -> Self {
+        ReplacedFile::with_lock(rt, alloc, path, LockTime::WholeRun)
+    }
+
+    /// The file at this path, locked for so long.
+    fn with_lock(rt: &'a R, alloc: Global, path: &'a str, lock_time: LockTime) -> Self {
         ReplacedFile {
             rt,
             alloc,
             path,
+            lock_time,
             new: None,
+            placed: None,
             failure: None,
         }
     }
@@ -50,6 +79,19 @@ impl<'a, R: Files<File = File> + Clock> ReplacedFile<'a, R> {
         }
     }
 
+    /// Removes a file that is held, and gives its lock back. Where none is held, or it is gone, there is nothing to do.
+    ///
+    /// Answers `FileFailed` where it can't be removed, or where another file has its name by now.
+    pub fn remove(&mut self) -> Result<(), FileFailed> {
+        let Some(placed) = self.placed.take() else {
+            return Ok(());
+        };
+        match placed.remove() {
+            Ok(()) => Ok(()),
+            Err(error) => Err(self.fail(error)),
+        }
+    }
+
     /// Keeps why a call failed.
     fn fail(&mut self, error: io::Error) -> FileFailed {
         self.failure = Some(error);
@@ -64,18 +106,54 @@ impl<'a, R: Files<File = File> + Clock> ReplacedFile<'a, R> {
         }
     }
 
-    /// Reads the file with the new file made, and keeps that.
+    /// Reads the file with its lock, and keeps that.
     fn read_locked(&mut self, alloc: Global) -> io::Result<Option<Vec<u8>>> {
+        match self.lock_time {
+            LockTime::OneStep => self.read_beside_new(alloc),
+            LockTime::WholeRun => self.read_placed(alloc),
+        }
+    }
+
+    /// Reads the file with the new file made, and keeps that.
+    fn read_beside_new(&mut self, alloc: Global) -> io::Result<Option<Vec<u8>>> {
         let new = self.take_new()?;
         let bytes = read_if_there(self.rt, alloc, new.named())?;
         self.new = Some(new);
         Ok(bytes)
     }
 
+    /// Reads the file that is in place, and keeps its lock.
+    fn read_placed(&mut self, alloc: Global) -> io::Result<Option<Vec<u8>>> {
+        let Some(mut placed) = NewFile::find(self.rt, self.alloc, self.path)? else {
+            return Ok(None);
+        };
+        let bytes = placed.read(alloc)?;
+        self.placed = Some(placed);
+        Ok(Some(bytes))
+    }
+
     /// Puts the new file in place, with this text.
     fn put(&mut self, text: &[u8]) -> io::Result<()> {
-        self.take_new()?.put(text)
+        let mut new = self.take_new()?;
+        match self.lock_time {
+            LockTime::OneStep => put_unlocked(new, text),
+            LockTime::WholeRun => {
+                new.check_place(self.placed.as_ref())?;
+                new.put(text)?;
+                new.settle();
+                self.placed = Some(new);
+                Ok(())
+            }
+        }
     }
+}
+
+/// Puts a new file in place, with this text, and gives its lock back: others need not wait for the folder.
+fn put_unlocked<R: Files<File = File>>(mut new: NewFile<'_, R>, text: &[u8]) -> io::Result<()> {
+    new.put(text)?;
+    new.unlock();
+    new.settle();
+    Ok(())
 }
 
 impl<'a, R: Files<File = File> + Clock> WholeFile for ReplacedFile<'a, R> {
@@ -96,5 +174,13 @@ impl<'a, R: Files<File = File> + Clock> WholeFile for ReplacedFile<'a, R> {
             Ok(()) => Ok(()),
             Err(error) => Err(self.fail(error)),
         }
+    }
+}
+
+impl<'a, R: Files<File = File> + Clock> Keeper for ReplacedFile<'a, R> {
+    ghost puts = { λ _ _. ⊥ };
+
+    fn keep(&mut self, text: &[u8]) -> bool {
+        self.replace(text).is_ok()
     }
 }

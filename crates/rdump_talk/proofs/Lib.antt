@@ -4,3 +4,4 @@ pub mod Heard
 pub mod Calls
 pub mod Operating
 pub mod Reading
+pub mod Keeping

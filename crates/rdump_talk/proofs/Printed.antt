@@ -5,7 +5,7 @@ use Rattle.std.proofs.KnownBytes.{Appends-nil, Appends-trans}
 use Rattle.std.proofs.Math.Seq.{take-append-add}
 use Rattle.std.proofs.lemmas.List.{take-append-le, take_min}
 use Rattle.rmt_wire.specs.Counted.{Counting, HasRisen}
-use Rattle.dump_client.specs.declared.count.VolumeCount.{VolumeCount}
+use Rattle.dump_client.specs.Standing.{VolumeCount}
 use Rattle.dump_client.specs.Standing.{Standing, checkpoint_of, state_of}
 use Rattle.dump_client.specs.declared.fault.AttemptFault.{AttemptFault}
 use Rattle.dump_client.specs.declared.stage.Stage.{Stage}
@@ -13,7 +13,9 @@ use Rattle.dump_client.specs.declared.stage.Stage.TheVariants.{Ready, ToSend, Wa
 use Rattle.dump_client.specs.declared.stage.State.{State}
 use Rattle.dump_client.specs.declared.stage.State.TheVariants as told
 use Rattle.rmt_wire.specs.Print.{IsPrinted}
-use Rattle.rdump_talk.specs.Lines.{DumpLines, IsDumped, IsFinish, IsLast, IsRound, abandoned_line, complete_line, count_lines, failure_lines}
+use Rattle.rdump_talk.specs.Lines.{DumpLines, IsConcluded, IsConclusion, IsDumped, IsFinish, IsLast, IsRound, abandoned_line, complete_line, conclusion_status, count_lines, failure_lines}
+use Rattle.rdump_talk.specs.declared.conclusion.Conclusion.{Conclusion}
+use Rattle.rdump_talk.specs.declared.conclusion.Conclusion.TheVariants as ends
 use Rattle.rdump_talk.specs.Lines.DumpLines.{none, counted, failed}
 
 module _ {W : Type 0} (contents : W → Option (List ℕ)) where
@@ -72,41 +74,64 @@ finished_stage Abandoned state e h = cc
 pub not_finished : (stage : Stage) (state : State) → state ≡ state_of stage → ¬ (state ≡ told.Finished) → stage ≢ Finished
 not_finished stage state e h same = h (e ∙ ap state_of same)
 
-pub last_complete : (whole : Bool) (at : Standing) (status : ℕ) → at.stage ≡ Finished → status ≡ (if whole then 0 else 3) → IsLast whole at (complete_line at.counts) status
-last_complete true at status h e = inl (h, refl, e)
-last_complete false at status h e = e
+pub last_complete : (whole : Bool) (at : Standing) (end : Conclusion) → at.stage ≡ Finished → end ≡ (if whole then ends.Complete else ends.Untold) → IsConclusion whole at (complete_line at.counts) end
+last_complete true at end h e = subst (IsConclusion true at (complete_line at.counts)) (sym e) (h, refl)
+last_complete false at end h e = subst (IsConclusion false at (complete_line at.counts)) (sym e) tt
 
-pub last_abandoned : (whole : Bool) (at : Standing) (status : ℕ) → at.stage ≢ Finished → status ≡ (if whole then 3 else 3) → IsLast whole at abandoned_line status
-last_abandoned true at status h e = inr (h, refl, e)
-last_abandoned false at status h e = e
+pub last_abandoned : (whole : Bool) (at : Standing) (end : Conclusion) → at.stage ≢ Finished → end ≡ (if whole then ends.Abandoned else ends.Untold) → IsConclusion whole at abandoned_line end
+last_abandoned true at end h e = subst (IsConclusion true at abandoned_line) (sym e) (h, refl)
+last_abandoned false at end h e = subst (IsConclusion false at abandoned_line) (sym e) tt
+
+-- the status that goes with an end
+last_of : (whole : Bool) (at : Standing) (last : List ℕ) (end : Conclusion) → IsConclusion whole at last end → IsLast whole at last (conclusion_status end)
+last_of true at last ends.Complete h = inl (h.0, h.1, refl)
+last_of true at last ends.Abandoned h = inr (h.0, h.1, refl)
+last_of true at last ends.Untold h = absurd h
+last_of true at last ends.Unkept h = absurd h
+last_of false at last ends.Untold h = refl
+last_of false at last ends.Complete h = absurd h
+last_of false at last ends.Abandoned h = absurd h
+last_of false at last ends.Unkept h = absurd h
 
 module _ {W : Type 0} (contents : W → Option (List ℕ)) where
   -- a part that was cut short
   pub cut_short : (first : List VolumeCount) (at : Standing) (out out' : Counting W) (text : List ℕ) → DumpLines first at.counts text
-      → IsPrinted contents text out out' false → IsDumped contents first at out out' 3
+      → IsPrinted contents text out out' false → IsConcluded contents first at out out' ends.Untold
   cut_short first at out out' text lines printed = record {
     text = text;
     last = [];
     whole = false;
     lines = lines;
     printed = subst (λ t. IsPrinted contents t out out' false) (sym (append-nil text)) printed;
-    ends = refl;
+    ends = tt;
   }
 
   -- the last line alone
-  pub last_alone : (at : Standing) (out out' : Counting W) (status : ℕ) → IsFinish contents at out out' status → IsDumped contents at.counts at out out' status
-  last_alone at out out' status h = record { text = []; last = h.0; whole = h.1; lines = none; printed = h.2; ends = h.3 }
+  pub last_alone : (at : Standing) (out out' : Counting W) (end : Conclusion) → IsFinish contents at out out' end → IsConcluded contents at.counts at out out' end
+  last_alone at out out' end h = record { text = []; last = h.0; whole = h.1; lines = none; printed = h.2; ends = h.3 }
 
   -- a part, and then another
-  pub round_after : (first : List VolumeCount) (counts : List VolumeCount) (at : Standing) (a b c : Counting W) (text : List ℕ) (result : Option ℕ)
+  pub round_after : (first : List VolumeCount) (counts : List VolumeCount) (at : Standing) (a b c : Counting W) (text : List ℕ) (result : Option Conclusion)
       → DumpLines first counts text → IsPrinted contents text a b true → IsRound contents counts at b c result → IsRound contents first at a c result
   round_after first counts at a b c text None lines printed h =
       (text ++ h.0, lines_both first counts text lines at.counts h.0 h.1, printed_both contents text h.0 a b c true printed h.2)
-  round_after first counts at a b c text (Some status) lines printed h = record {
+  round_after first counts at a b c text (Some end) lines printed h = record {
     text = text ++ h.text;
     last = h.last;
     whole = h.whole;
     lines = lines_both first counts text lines at.counts h.text h.lines;
     printed = subst (λ t. IsPrinted contents t a c h.whole) (sym (append_assoc text h.text h.last)) (printed_both contents text (h.text ++ h.last) a b c h.whole printed h.printed);
     ends = h.ends;
+  }
+
+  -- what a dump prints, with its status
+  pub dumped_so : (first : List VolumeCount) (at : Standing) (out out' : Counting W) (end : Conclusion) (status : ℕ) → status ≡ conclusion_status end
+      → IsConcluded contents first at out out' end → IsDumped contents first at out out' status
+  dumped_so first at out out' end status e h = record {
+    text = h.text;
+    last = h.last;
+    whole = h.whole;
+    lines = h.lines;
+    printed = h.printed;
+    ends = subst (IsLast h.whole at h.last) (sym e) (last_of h.whole at h.last end h.ends);
   }

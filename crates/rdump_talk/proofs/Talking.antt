@@ -12,7 +12,7 @@ use Rattle.dump_client.specs.declared.stage.Stage.TheVariants.{Ready, ToSend, Wa
 use Rattle.rdump_talk.specs.Peer.{AreBytesSent, Logs, connected, given}
 use Rattle.rdump_talk.specs.declared.peer.Passed.{Passed}
 use Rattle.rdump_talk.specs.declared.peer.Passed.TheVariants.{Given, Sent, Ended}
-use Rattle.rdump_talk.specs.Talk.{TalkStep, Talks, TalksAlone, TalksOver}
+use Rattle.rdump_talk.specs.Talk.{Anywhere, Nowhere, TalkStep, Talks, TalksAlone, TalksOver}
 use Rattle.rdump_talk.specs.Talk.TalkStep.{starts, stays, asks, has_none, hears, ends, answers}
 use Rattle.rdump_talk.specs.Talk.Talks.{none, one_more}
 
@@ -39,33 +39,39 @@ asked_weaker told less f Finished old capacity before result now new h = h
 asked_weaker told less f Abandoned old capacity before result now new h = h
 
 step_weaker : {told less : List (List ℕ) → Type 0} → ((payload : List (List ℕ)) → less payload → told payload)
-    → {old new : Standing} {fed later : List ℕ} {passed : List Passed} → TalkStep told old fed passed new later → TalkStep less old fed passed new later
-step_weaker f (starts room begun made h k) = starts room begun made h k
-step_weaker f (stays room fault h) = stays room fault h
-step_weaker {told} {less} f {old} (asks capacity text asked whole h sent k) =
+    → {allows wider : Standing → Type 0} → ((at : Standing) → allows at → wider at)
+    → {old new : Standing} {fed later : List ℕ} {passed : List Passed} → TalkStep told allows old fed passed new later → TalkStep less wider old fed passed new later
+step_weaker f w {old} (starts room begun made a h k) = starts room begun made (w old a) h k
+step_weaker f w (stays room fault h) = stays room fault h
+step_weaker {told} {less} f w {old} (asks capacity text asked whole h sent k) =
     asks capacity text asked whole (asked_weaker told less f old.stage old capacity [] (Ok true) text asked h) sent k
-step_weaker {told} {less} f {old} {new} (has_none capacity result text h unmade) =
+step_weaker {told} {less} f w {old} {new} (has_none capacity result text h unmade) =
     has_none capacity result text (asked_weaker told less f old.stage old capacity [] result text new h) unmade
-step_weaker f (hears piece progress h) = hears piece progress h
-step_weaker f (ends progress h) = ends progress h
-step_weaker f (answers answer result h) = answers answer result h
+step_weaker f w (hears piece progress h) = hears piece progress h
+step_weaker f w (ends progress h) = ends progress h
+step_weaker f w (answers answer result h) = answers answer result h
 
-talks_weaker : {told less : List (List ℕ) → Type 0} → ((payload : List (List ℕ)) → less payload → told payload)
-    → {old : Standing} {fed : List ℕ} {passed : List Passed} {new : Standing} {later : List ℕ} → Talks told old fed passed new later → Talks less old fed passed new later
-talks_weaker f none = none
-talks_weaker f (one_more before step) = one_more (talks_weaker f before) (step_weaker f step)
+pub talks_weaker : {told less : List (List ℕ) → Type 0} → ((payload : List (List ℕ)) → less payload → told payload)
+    → {allows wider : Standing → Type 0} → ((at : Standing) → allows at → wider at)
+    → {old : Standing} {fed : List ℕ} {passed : List Passed} {new : Standing} {later : List ℕ} → Talks told allows old fed passed new later → Talks less wider old fed passed new later
+talks_weaker f w none = none
+talks_weaker f w (one_more before step) = one_more (talks_weaker f w before) (step_weaker f w step)
 
-joined : {told : List (List ℕ) → Type 0} {a b : Standing} {fa fb : List ℕ} {one : List Passed} → Talks told a fa one b fb
-    → {two : List Passed} {c : Standing} {fc : List ℕ} → Talks told b fb two c fc → Talks told a fa (one ++ two) c fc
-joined {told} {a} {b} {fa} {fb} {one} first none = subst (λ passed. Talks told a fa passed b fb) (sym (append-nil one)) first
-joined {told} {a} {b} {fa} {fb} {one} first {c = c} {fc = fc} (one_more {passed = passed} {more = more} before step) =
-    subst (λ all. Talks told a fa all c fc) (append_assoc one passed more) (one_more (joined first before) step)
+joined : {told : List (List ℕ) → Type 0} {allows : Standing → Type 0} {a b : Standing} {fa fb : List ℕ} {one : List Passed} → Talks told allows a fa one b fb
+    → {two : List Passed} {c : Standing} {fc : List ℕ} → Talks told allows b fb two c fc → Talks told allows a fa (one ++ two) c fc
+joined {told} {allows} {a} {b} {fa} {fb} {one} first none = subst (λ passed. Talks told allows a fa passed b fb) (sym (append-nil one)) first
+joined {told} {allows} {a} {b} {fa} {fb} {one} first {c = c} {fc = fc} (one_more {passed = passed} {more = more} before step) =
+    subst (λ all. Talks told allows a fa all c fc) (append_assoc one passed more) (one_more (joined first before) step)
+
+-- what is allowed nowhere is allowed only where this is
+never : (allows : Standing → Type 0) (at : Standing) → Nowhere at → allows at
+never allows at h = absurd h
 
 -- one call of the client, with what passed in it
-pub record IsCalled {B P : Type 0} (told : List (List ℕ) → Type 0) (tells : P → List Passed → Type 0) (c c' : ClientHeld B) (p p' : P) (fed : List ℕ) : Type 0 where
+pub record IsCalled {B P : Type 0} (told : List (List ℕ) → Type 0) (allows : Standing → Type 0) (tells : P → List Passed → Type 0) (c c' : ClientHeld B) (p p' : P) (fed : List ℕ) : Type 0 where
   pub passed : List Passed
   pub later : List ℕ
-  pub step : TalkStep told c.at fed passed c'.at later
+  pub step : TalkStep told allows c.at fed passed c'.at later
   pub keeps : HasFed c' later
   pub logs : Logs tells p p' passed
 
@@ -73,15 +79,15 @@ pub record IsCalled {B P : Type 0} (told : List (List ℕ) → Type 0) (tells : 
 pub alone : {P : Type 0} (tells : P → List Passed → Type 0) (p : P) → Logs tells p p []
 alone tells p log h = subst (tells p) (sym (append-nil log)) h
 
-module _ {B P : Type 0} (holds : B → List (List ℕ) → Type 0) (tells : P → List Passed → Type 0) where
-  pub nothing_said : (c : ClientHeld B) (p : P) → TalksOver holds tells c c p p
+module _ {B P : Type 0} (holds : B → List (List ℕ) → Type 0) (allows : Standing → Type 0) (tells : P → List Passed → Type 0) where
+  pub nothing_said : (c : ClientHeld B) (p : P) → TalksOver holds allows tells c c p p
   nothing_said c p = record {
     same = λ payload h. h;
     talked = λ fed h. record { passed = []; later = fed; talks = none; keeps = h; logs = alone tells p };
   }
 
   pub one_call : (c c' : ClientHeld B) (p p' : P) → ((payload : List (List ℕ)) → holds c.source payload → holds c'.source payload)
-      → ((fed : List ℕ) → HasFed c fed → IsCalled (holds c.source) tells c c' p p' fed) → TalksOver holds tells c c' p p'
+      → ((fed : List ℕ) → HasFed c fed → IsCalled (holds c.source) allows tells c c' p p' fed) → TalksOver holds allows tells c c' p p'
   one_call c c' p p' same call = record {
     same = same;
     talked = λ fed h.
@@ -89,7 +95,7 @@ module _ {B P : Type 0} (holds : B → List (List ℕ) → Type 0) (tells : P �
         record { passed = one.passed; later = one.later; talks = one_more none one.step; keeps = one.keeps; logs = one.logs };
   }
 
-  pub followed : (c d e : ClientHeld B) (p q r : P) → TalksOver holds tells c d p q → TalksOver holds tells d e q r → TalksOver holds tells c e p r
+  pub followed : (c d e : ClientHeld B) (p q r : P) → TalksOver holds allows tells c d p q → TalksOver holds allows tells d e q r → TalksOver holds allows tells c e p r
   followed c d e p q r a b = record {
     same = λ payload h. b.same payload (a.same payload h);
     talked = λ fed h.
@@ -98,25 +104,25 @@ module _ {B P : Type 0} (holds : B → List (List ℕ) → Type 0) (tells : P �
         record {
           passed = one.passed ++ two.passed;
           later = two.later;
-          talks = joined one.talks (talks_weaker a.same two.talks);
+          talks = joined one.talks (talks_weaker a.same (λ at h. h) two.talks);
           keeps = two.keeps;
           logs = λ log t. subst (tells r) (append_assoc log one.passed two.passed) (two.logs (log ++ one.passed) (one.logs log t));
         };
   }
 
   -- a call of the client while the peer is left alone
-  pub by_itself : (c c' : ClientHeld B) (p : P) → TalksAlone holds c c' → TalksOver holds tells c c' p p
+  pub by_itself : (c c' : ClientHeld B) (p : P) → TalksAlone holds c c' → TalksOver holds allows tells c c' p p
   by_itself c c' p call = one_call c c' p p call.same
       (λ fed h.
       let one = call.talked fed h in
-      record { passed = []; later = one.0; step = one.1; keeps = one.2; logs = alone tells p })
+      record { passed = []; later = one.0; step = step_weaker (λ payload h. h) (never allows) one.1; keeps = one.2; logs = alone tells p })
 
   kept_source : (c c' : ClientHeld B) → c'.source ≡ c.source → (payload : List (List ℕ)) → holds c.source payload → holds c'.source payload
   kept_source c c' e payload h = subst (λ s. holds s payload) (sym e) h
 
   -- the client is told of the end
   pub told_end : (c c' : ClientHeld B) (p q : P) (progress : Progress) → CutAt c.at.stage c.at progress c'.at → HasFed c' [] → c'.source ≡ c.source → Logs tells p q (Ended ∷ [])
-      → TalksOver holds tells c c' p q
+      → TalksOver holds allows tells c c' p q
   told_end c c' p q progress cut fed e logs = one_call c c' p q (kept_source c c' e)
       (λ old h. record { passed = Ended ∷ []; later = []; step = ends progress cut; keeps = fed; logs = logs })
 
@@ -124,7 +130,7 @@ module _ {B P : Type 0} (holds : B → List (List ℕ) → Type 0) (tells : P �
   pub fed_piece : (c c' : ClientHeld B) (p q : P) (piece : List ℕ) (progress : Progress)
       → ((fed : List ℕ) → HasFed c fed → FedAt c.at.stage c.at fed piece progress c'.at)
       → ((fed : List ℕ) → HasFed c fed → HasFed c' (unanswered c'.at.stage (fed ++ piece)))
-      → c'.source ≡ c.source → Logs tells p q (map Given piece) → TalksOver holds tells c c' p q
+      → c'.source ≡ c.source → Logs tells p q (map Given piece) → TalksOver holds allows tells c c' p q
   fed_piece c c' p q piece progress moved fed e logs = one_call c c' p q (kept_source c c' e)
       (λ old h. record {
         passed = map Given piece;
@@ -138,7 +144,7 @@ module _ {B P : Type 0} (holds : B → List (List ℕ) → Type 0) (tells : P �
   pub asked_and_sent : (c c' : ClientHeld B) (p q : P) (capacity : ℕ) (before text : List ℕ) (passed : List Passed)
       → before ≡ [] → AskedAt c.at.stage (holds c.source) c.at capacity before (Ok true) text c'.at → AreBytesSent text true passed
       → ((payload : List (List ℕ)) → holds c.source payload ↔ holds c'.source payload)
-      → ((fed : List ℕ) → HasFed c fed → HasFed c' fed) → Logs tells p q passed → TalksOver holds tells c c' p q
+      → ((fed : List ℕ) → HasFed c fed → HasFed c' fed) → Logs tells p q passed → TalksOver holds allows tells c c' p q
   asked_and_sent c c' p q capacity before text passed e asked sent same fed logs = one_call c c' p q (λ payload. (same payload).0)
       (λ old h. record {
         passed = passed;
@@ -152,7 +158,7 @@ module _ {B P : Type 0} (holds : B → List (List ℕ) → Type 0) (tells : P �
   pub asked_and_cut : (c b c' : ClientHeld B) (p q : P) (capacity : ℕ) (before text : List ℕ) (passed : List Passed) (progress : Progress)
       → before ≡ [] → AskedAt c.at.stage (holds c.source) c.at capacity before (Ok true) text b.at → AreBytesSent text false passed
       → CutAt b.at.stage b.at progress c'.at → HasFed c' [] → ((payload : List (List ℕ)) → holds c.source payload ↔ holds b.source payload)
-      → c'.source ≡ b.source → Logs tells p q passed → TalksOver holds tells c c' p q
+      → c'.source ≡ b.source → Logs tells p q passed → TalksOver holds allows tells c c' p q
   asked_and_cut c b c' p q capacity before text passed progress e asked sent cut fed same kept logs =
       one_call c c' p q (λ payload told. kept_source b c' kept payload ((same payload).0 told))
       (λ old h. record {
@@ -167,7 +173,7 @@ module _ {B P : Type 0} (holds : B → List (List ℕ) → Type 0) (tells : P �
   pub asked_none : (c c' : ClientHeld B) (p : P) (capacity : ℕ) (before : List ℕ) (result : Result Bool AttemptFault) (text : List ℕ)
       → before ≡ [] → AskedAt c.at.stage (holds c.source) c.at capacity before result text c'.at → result ≢ Ok true
       → ((payload : List (List ℕ)) → holds c.source payload ↔ holds c'.source payload)
-      → ((fed : List ℕ) → HasFed c fed → HasFed c' fed) → TalksOver holds tells c c' p p
+      → ((fed : List ℕ) → HasFed c fed → HasFed c' fed) → TalksOver holds allows tells c c' p p
   asked_none c c' p capacity before result text e asked unmade same fed = one_call c c' p p (λ payload. (same payload).0)
       (λ old h. record {
         passed = [];
@@ -178,27 +184,47 @@ module _ {B P : Type 0} (holds : B → List (List ℕ) → Type 0) (tells : P �
       })
 
   -- the connection is ended
-  pub hung_up : (c : ClientHeld B) (p q : P) → Logs tells p q [] → TalksOver holds tells c c p q
+  pub hung_up : (c : ClientHeld B) (p q : P) → Logs tells p q [] → TalksOver holds allows tells c c p q
   hung_up c p q logs = record {
     same = λ payload h. h;
     talked = λ fed h. record { passed = []; later = fed; talks = none; keeps = h; logs = logs };
   }
 
-  pub started_on : (c c' : ClientHeld B) (p q : P) (room : ℕ) → StartedAt c.at.stage c.at room (Ok tt) c'.at
-      → ((fed : List ℕ) → HasFed c fed → HasFed c' fed) → c'.source ≡ c.source → Logs tells p q (connected true) → TalksOver holds tells c c' p q
-  started_on c c' p q room start fed e logs = one_call c c' p q (kept_source c c' e)
-      (λ old h. record { passed = connected true; later = old; step = starts room c'.at true start (refl, refl); keeps = fed old h; logs = logs })
+  pub started_on : (c c' : ClientHeld B) (p q : P) (room : ℕ) → allows c.at → StartedAt c.at.stage c.at room (Ok tt) c'.at
+      → ((fed : List ℕ) → HasFed c fed → HasFed c' fed) → c'.source ≡ c.source → Logs tells p q (connected true) → TalksOver holds allows tells c c' p q
+  started_on c c' p q room allowed start fed e logs = one_call c c' p q (kept_source c c' e)
+      (λ old h. record { passed = connected true; later = old; step = starts room c'.at true allowed start (refl, refl); keeps = fed old h; logs = logs })
 
   -- no connection could be made
-  pub started_and_cut : (c b c' : ClientHeld B) (p q : P) (room : ℕ) (progress : Progress) → StartedAt c.at.stage c.at room (Ok tt) b.at
-      → CutAt b.at.stage b.at progress c'.at → HasFed c' [] → b.source ≡ c.source → c'.source ≡ b.source → Logs tells p q (connected false) → TalksOver holds tells c c' p q
-  started_and_cut c b c' p q room progress start cut fed e kept logs = one_call c c' p q (kept_source c c' (kept ∙ e))
-      (λ old h. record { passed = connected false; later = []; step = starts room b.at false start (progress, cut, refl); keeps = fed; logs = logs })
+  pub started_and_cut : (c b c' : ClientHeld B) (p q : P) (room : ℕ) (progress : Progress) → allows c.at → StartedAt c.at.stage c.at room (Ok tt) b.at
+      → CutAt b.at.stage b.at progress c'.at → HasFed c' [] → b.source ≡ c.source → c'.source ≡ b.source → Logs tells p q (connected false) → TalksOver holds allows tells c c' p q
+  started_and_cut c b c' p q room progress allowed start cut fed e kept logs = one_call c c' p q (kept_source c c' (kept ∙ e))
+      (λ old h. record { passed = connected false; later = []; step = starts room b.at false allowed start (progress, cut, refl); keeps = fed; logs = logs })
 
   pub not_started : (c c' : ClientHeld B) (p : P) (room : ℕ) (fault : StartFault) → StartedAt c.at.stage c.at room (Err fault) c'.at
-      → ((fed : List ℕ) → HasFed c fed → HasFed c' fed) → c'.source ≡ c.source → TalksOver holds tells c c' p p
+      → ((fed : List ℕ) → HasFed c fed → HasFed c' fed) → c'.source ≡ c.source → TalksOver holds allows tells c c' p p
   not_started c c' p room fault start fed e = one_call c c' p p (kept_source c c' e)
       (λ old h. record { passed = []; later = old; step = stays room fault start; keeps = fed old h; logs = alone tells p })
+
+-- an attempt may start from more places
+pub wider : {B P : Type 0} (holds : B → List (List ℕ) → Type 0) (allows more : Standing → Type 0) (tells : P → List Passed → Type 0)
+    (c c' : ClientHeld B) (p p' : P) → ((at : Standing) → allows at → more at) → TalksOver holds allows tells c c' p p' → TalksOver holds more tells c c' p p'
+wider holds allows more tells c c' p p' w h = record {
+  same = h.same;
+  talked = λ fed k.
+      let one = h.talked fed k in
+      record { passed = one.passed; later = one.later; talks = talks_weaker (λ payload t. t) w one.talks; keeps = one.keeps; logs = one.logs };
+}
+
+-- one that starts nowhere
+pub from_nowhere : {B P : Type 0} (holds : B → List (List ℕ) → Type 0) (allows : Standing → Type 0) (tells : P → List Passed → Type 0)
+    (c c' : ClientHeld B) (p p' : P) → TalksOver holds Nowhere tells c c' p p' → TalksOver holds allows tells c c' p p'
+from_nowhere holds allows tells c c' p p' h = wider holds Nowhere allows tells c c' p p' (never allows) h
+
+-- from any place
+pub from_anywhere : {B P : Type 0} (holds : B → List (List ℕ) → Type 0) (allows : Standing → Type 0) (tells : P → List Passed → Type 0)
+    (c c' : ClientHeld B) (p p' : P) → TalksOver holds allows tells c c' p p' → TalksOver holds Anywhere tells c c' p p'
+from_anywhere holds allows tells c c' p p' h = wider holds allows Anywhere tells c c' p p' (λ at x. tt) h
 
 module _ {B : Type 0} (holds : B → List (List ℕ) → Type 0) where
   pub answered_alone : (c c' : ClientHeld B) (answer : Answer) (result : Result Unit StartFault) → AnsweredAt c.at.stage c.at answer result c'.at

@@ -1,7 +1,8 @@
--- In reading order: Peer, Talk, Lines (a dump); KeptReply, Call, Calls (requests); Ends; Operation (mtio); Reading (a volume).
+-- In reading order: Peer, Talk, Lines (a dump), Keeping (one whose checkpoint is kept); KeptReply, Call, Calls (requests); Ends; Operation (mtio); Reading (a volume).
 pub mod Peer
 pub mod Talk
 pub mod Lines
+pub mod Keeping
 pub mod KeptReply
 pub mod Call
 pub mod Calls

@@ -1,13 +1,15 @@
 -- The lines that a dump prints. Public contracts cite it.
-use Rattle.std.specs.Prelude.{◌≡◌, ◌≢◌, ◌⊎◌, ℕ, Bool, true, false, List, [], ◌++◌, length, drop, codes, decimal, Option, Some, None}
+use Rattle.std.specs.Prelude.{◌≡◌, ◌≢◌, ◌⊎◌, ⊤, ℕ, Bool, true, false, List, [], ◌++◌, length, drop, codes, decimal, Option, Some, None}
 use Rattle.std.specs.List.{flat_map}
 use Rattle.rmt_wire.specs.Counted.{Counting}
 use Rattle.dump_client.specs.Standing.{Standing, checkpoint_of}
-use Rattle.dump_client.specs.declared.count.VolumeCount.{VolumeCount}
+use Rattle.dump_client.specs.Standing.{VolumeCount}
 use Rattle.dump_client.specs.declared.fault.AttemptFault.{AttemptFault}
 use Rattle.dump_client.specs.declared.fault.AttemptFault.TheVariants.{Refused, Botched, ConnectionEnded, ShortWrite, ReelTooSmall, SourceFault, OutOfMemory}
 use Rattle.dump_client.specs.declared.stage.Stage.TheVariants.{Finished}
 use Rattle.rmt_wire.specs.Print.{IsPrinted}
+use Rattle.rdump_talk.specs.declared.conclusion.Conclusion.{Conclusion}
+use Rattle.rdump_talk.specs.declared.conclusion.Conclusion.TheVariants.{Complete, Abandoned, Untold}
 
 -- a volume that is counted: its number, how many blocks it has, and the first
 abbrev pub count_line : VolumeCount → List ℕ
@@ -71,12 +73,34 @@ pub record IsDumped {W : Type 0} (contents : W → Option (List ℕ)) (first : L
   pub printed : IsPrinted contents (text ++ last) out out' whole
   pub ends : IsLast whole at last status
 
--- a part of a dump that does not end it, or its last
-abbrev pub IsRound : {W : Type 0} → (W → Option (List ℕ)) → List VolumeCount → Standing → Counting W → Counting W → Option ℕ → Type 0
-IsRound contents first at out out' None = (text : List ℕ) × DumpLines first at.counts text × IsPrinted contents text out out' true
-IsRound contents first at out out' (Some status) = IsDumped contents first at out out' status
+-- How a dump ends, and its last line: complete where the run is finished, abandoned where it is not; where printing failed it is untold.
+abbrev pub IsConclusion : Bool → Standing → List ℕ → Conclusion → Type 0
+IsConclusion true at last Complete = (at.stage ≡ Finished) × (last ≡ complete_line at.counts)
+IsConclusion true at last Abandoned = (at.stage ≢ Finished) × (last ≡ abandoned_line)
+IsConclusion false at last Untold = ⊤
+IsConclusion whole at last end = ⊥
 
--- the last line, and the status
-abbrev pub IsFinish : {W : Type 0} → (W → Option (List ℕ)) → Standing → Counting W → Counting W → ℕ → Type 0
-IsFinish contents at out out' status =
-    (last : List ℕ) × (whole : Bool) × IsPrinted contents last out out' whole × IsLast whole at last status
+-- what a dump prints, from these counts on up to where the client stands, and how it ends
+pub record IsConcluded {W : Type 0} (contents : W → Option (List ℕ)) (first : List VolumeCount) (at : Standing)
+    (out out' : Counting W) (end : Conclusion) : Type 0 where
+  pub text : List ℕ
+  pub last : List ℕ
+  pub whole : Bool
+  pub lines : DumpLines first at.counts text
+  pub printed : IsPrinted contents (text ++ last) out out' whole
+  pub ends : IsConclusion whole at last end
+
+-- the status of a dump that ends so
+abbrev pub conclusion_status : Conclusion → ℕ
+conclusion_status Complete = 0
+conclusion_status end = 3
+
+-- a part of a dump that does not end it, or its last
+abbrev pub IsRound : {W : Type 0} → (W → Option (List ℕ)) → List VolumeCount → Standing → Counting W → Counting W → Option Conclusion → Type 0
+IsRound contents first at out out' None = (text : List ℕ) × DumpLines first at.counts text × IsPrinted contents text out out' true
+IsRound contents first at out out' (Some end) = IsConcluded contents first at out out' end
+
+-- the last line, and how a dump ends
+abbrev pub IsFinish : {W : Type 0} → (W → Option (List ℕ)) → Standing → Counting W → Counting W → Conclusion → Type 0
+IsFinish contents at out out' end =
+    (last : List ℕ) × (whole : Bool) × IsPrinted contents last out out' whole × IsConclusion whole at last end

@@ -1,5 +1,7 @@
 //! One attempt of a client, on a connection of its own.
-ghost use Rattle.rdump_talk.specs.Talk.{TalksOver};
+ghost use Rattle.std.specs.Prelude.{◌≡◌, OnErr};
+ghost use Rattle.rdump_talk.specs.Talk.{Just, Nowhere, TalksOver};
+ghost use Rattle.rdump_talk.specs.declared.attempt.Attempted.TheVariants.{NotStarted};
 
 use crate::Peer;
 use dump_client::{AttemptFault, Blocks, Client, Progress, StartFault, State};
@@ -30,7 +32,8 @@ pub(crate) fn attempt<B: Blocks, P: Peer>(
     peer: &mut P,
     text: &mut Vec<u8>,
 ) -> Attempted
-    ensures { TalksOver B.holds P.tells client.old client.new peer.old peer.new }
+    ensures talks { TalksOver B.holds (Just client.old.at) P.tells client.old client.new peer.old peer.new }
+    ensures still { result ≡ NotStarted → client.new.at ≡ client.old.at }
 {
     let Ok(begun) = begin(client, peer) else {
         return Attempted::NotStarted;
@@ -48,7 +51,8 @@ pub(crate) fn attempt<B: Blocks, P: Peer>(
 
 /// Starts an attempt on a new connection, unless one is under way. Where no connection could be made, that is its end.
 fn begin<B: Blocks, P: Peer>(client: &mut Client<B>, peer: &mut P) -> Result<Progress, StartFault>
-    ensures { TalksOver B.holds P.tells client.old client.new peer.old peer.new }
+    ensures talks { TalksOver B.holds (Just client.old.at) P.tells client.old client.new peer.old peer.new }
+    ensures still { OnErr result (client.new.at ≡ client.old.at) }
 {
     if client.state() != State::Ready {
         return Ok(Progress::Send);
@@ -67,7 +71,7 @@ fn talk<B: Blocks, P: Peer>(
     text: &mut Vec<u8>,
     begun: Progress,
 ) -> Progress
-    ensures { TalksOver B.holds P.tells client.old client.new peer.old peer.new }
+    ensures { TalksOver B.holds Nowhere P.tells client.old client.new peer.old peer.new }
 {
     match begun {
         Progress::Send => converse(client, peer, text),
@@ -81,7 +85,7 @@ fn converse<B: Blocks, P: Peer>(
     peer: &mut P,
     text: &mut Vec<u8>,
 ) -> Progress
-    ensures { TalksOver B.holds P.tells client.old client.new peer.old peer.new }
+    ensures { TalksOver B.holds Nowhere P.tells client.old client.new peer.old peer.new }
 {
     for _ in 0..u64::MAX {
         match exchange(client, peer, text) {
@@ -98,7 +102,7 @@ fn exchange<B: Blocks, P: Peer>(
     peer: &mut P,
     text: &mut Vec<u8>,
 ) -> Progress
-    ensures { TalksOver B.holds P.tells client.old client.new peer.old peer.new }
+    ensures { TalksOver B.holds Nowhere P.tells client.old client.new peer.old peer.new }
 {
     match client.state() {
         State::ToSend => ask(client, peer, text),
@@ -109,7 +113,7 @@ fn exchange<B: Blocks, P: Peer>(
 
 /// Makes the next request and sends it. Tells the client of the end, where it could not be sent whole.
 fn ask<B: Blocks, P: Peer>(client: &mut Client<B>, peer: &mut P, text: &mut Vec<u8>) -> Progress
-    ensures { TalksOver B.holds P.tells client.old client.new peer.old peer.new }
+    ensures { TalksOver B.holds Nowhere P.tells client.old client.new peer.old peer.new }
 {
     text.clear();
     match client.next_request(text) {
@@ -126,7 +130,7 @@ fn ask<B: Blocks, P: Peer>(client: &mut Client<B>, peer: &mut P, text: &mut Vec<
 
 /// Takes what the peer gives, and feeds it to the client, or tells it of the end.
 fn hear<B: Blocks, P: Peer>(client: &mut Client<B>, peer: &mut P) -> Progress
-    ensures { TalksOver B.holds P.tells client.old client.new peer.old peer.new }
+    ensures { TalksOver B.holds Nowhere P.tells client.old client.new peer.old peer.new }
 {
     let mut piece = [0; PIECE];
     let count = peer.receive(&mut piece);

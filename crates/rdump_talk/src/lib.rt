@@ -2,13 +2,16 @@
 //! the lines that an operator reads.
 //!
 //! `Peer` is the far end: `SocketPeer` is one over TCP. `dump` has a client write its volumes over a peer, asks an
-//! operator after a failure, and prints what is counted. `copy_volume` reads a volume back, and `mt` does one operation,
+//! operator after a failure, and prints what is counted. `dump_kept` does so too, and keeps the checkpoint with a `Keeper`. `copy_volume` reads a volume back, and `mt` does one operation,
 //! each over a connection of its own.
 #![tactic(auto)]
 
 mod attempt;
 mod caller;
+mod conclusion;
 mod fault;
+mod keeper;
+mod kept;
 mod kept_reply;
 mod lines;
 mod operation;
@@ -18,7 +21,10 @@ mod rounds;
 mod socket;
 mod volume;
 
+pub use conclusion::Conclusion;
 pub use fault::{ReadFault, VolumeRequest};
+pub use keeper::Keeper;
+pub use kept::dump_kept;
 pub use lines::{LINE_ROOM, failure_line};
 pub use operation::mt;
 pub use peer::{Passed, Peer};

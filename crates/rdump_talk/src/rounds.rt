@@ -1,25 +1,21 @@
 //! A whole dump: attempt after attempt, the lines that tell of them, and what an operator answers.
-ghost use Rattle.std.specs.Prelude.{◌≡◌, length, drop, if◌then◌else◌};
+ghost use Rattle.std.specs.Prelude.{◌≡◌, ◌≢◌, Some, length, drop, if◌then◌else◌};
 ghost use Rattle.dump_client.specs.Standing.{checkpoint_of};
 ghost use Rattle.rdump_talk.specs.Lines.{IsDumped, IsFinish, IsRound, complete_line, count_lines, failure_lines};
+ghost use Rattle.rdump_talk.specs.declared.attempt.Attempted.TheVariants.{NotStarted};
+ghost use Rattle.rdump_talk.specs.declared.conclusion.Conclusion.TheVariants as ends;
 ghost use Rattle.rmt_wire.specs.Print.{IsPrinted};
-ghost use Rattle.rdump_talk.specs.Talk.{TalksAlone, TalksOver};
+ghost use Rattle.rdump_talk.specs.Talk.{Anywhere, Just, TalksAlone, TalksOver};
 
-use crate::Peer;
 use crate::attempt::{Attempted, attempt};
 use crate::lines::{LINE_ROOM, complete_text, failure_text, print_counts};
 use crate::operator::says_yes;
+use crate::{Conclusion, Peer};
 use arrayvec::ArrayString;
 use dump_client::{Answer, AttemptFault, Blocks, Client, State, VolumeCount};
 use rmt_wire::{Counted, print_text};
 use std::alloc::Global;
 use std::io::{Read, Write};
-
-/// The status of a dump that is complete.
-const COMPLETE: u8 = 0;
-
-/// The status of a dump that was abandoned, or could not be told of.
-const ABNORMAL: u8 = 3;
 
 /// Has a client write its run over a peer, each volume over a connection of its own, and prints what comes of it.
 ///
@@ -36,28 +32,30 @@ pub fn dump<B: Blocks, P: Peer, R: Read, W: Write>(
     operator: &mut R,
     out: &mut Counted<W>,
 ) -> u8
-    ensures talks { TalksOver B.holds P.tells client.old client.new peer.old peer.new }
+    ensures talks { TalksOver B.holds Anywhere P.tells client.old client.new peer.old peer.new }
     ensures printed { IsDumped W.contents client.old.at.counts client.new.at out.old out.new result }
 {
     let mut text = Vec::new(alloc);
     for _ in 0..u64::MAX {
-        if let Some(status) = round(client, peer, operator, out, &mut text) {
-            return status;
+        if let Some(end) = round(client, peer, operator, out, &mut text) {
+            return end.status();
         }
     }
-    finish(client, out)
+    let end = finish(client, out);
+    end.status()
 }
 
-/// Does what the client waits for. Answers the status at the end of the dump.
-fn round<B: Blocks, P: Peer, R: Read, W: Write>(
+/// Does what the client waits for. Answers how the dump ended, at its end.
+pub(crate) fn round<B: Blocks, P: Peer, R: Read, W: Write>(
     client: &mut Client<B>,
     peer: &mut P,
     operator: &mut R,
     out: &mut Counted<W>,
     text: &mut Vec<u8>,
-) -> Option<u8>
-    ensures talks { TalksOver B.holds P.tells client.old client.new peer.old peer.new }
+) -> Option<Conclusion>
+    ensures talks { TalksOver B.holds (Just client.old.at) P.tells client.old client.new peer.old peer.new }
     ensures printed { IsRound W.contents client.old.at.counts client.new.at out.old out.new result }
+    ensures still { result ≡ Some ends.Complete → client.new.at ≡ client.old.at }
 {
     match client.state() {
         State::Ready | State::ToSend | State::Waiting => {
@@ -71,34 +69,36 @@ fn round<B: Blocks, P: Peer, R: Read, W: Write>(
     }
 }
 
-/// Has the client try its next volume, and prints what came of it. Answers the status at the end of the dump.
+/// Has the client try its next volume, and prints what came of it. Answers how the dump ended, at its end.
 fn try_volume<B: Blocks, P: Peer, R: Read, W: Write>(
     client: &mut Client<B>,
     peer: &mut P,
     operator: &mut R,
     out: &mut Counted<W>,
     text: &mut Vec<u8>,
-) -> Option<u8>
-    ensures talks { TalksOver B.holds P.tells client.old client.new peer.old peer.new }
+) -> Option<Conclusion>
+    ensures talks { TalksOver B.holds (Just client.old.at) P.tells client.old client.new peer.old peer.new }
     ensures printed { IsRound W.contents client.old.at.counts client.new.at out.old out.new result }
+    ensures still { result ≡ Some ends.Complete → client.new.at ≡ client.old.at }
 {
     let before = volumes(client);
     let attempted = attempt(client, peer, text);
     if !print_since(client, before, out) {
-        return Some(ABNORMAL);
+        return Some(Conclusion::Untold);
     }
     report(client, attempted, operator, out)
 }
 
-/// Prints that an attempt failed, if it did. Where it could not start, the operator is asked here. Answers the status at
-/// the end of the dump: where printing failed, and where the operator gives up.
+/// Prints that an attempt failed, if it did. Where it could not start, the operator is asked here. Answers how the
+/// dump ended: where printing failed, and where the operator gives up.
 fn report<B: Blocks, R: Read, W: Write>(
     client: &Client<B>,
     attempted: Attempted,
     operator: &mut R,
     out: &mut Counted<W>,
-) -> Option<u8>
-    ensures { IsRound W.contents client.now.at.counts client.now.at out.old out.new result }
+) -> Option<Conclusion>
+    ensures printed { IsRound W.contents client.now.at.counts client.now.at out.old out.new result }
+    ensures ends { result ≡ Some ends.Complete → attempted ≡ NotStarted }
 {
     match attempted {
         Attempted::Over => None,
@@ -107,31 +107,32 @@ fn report<B: Blocks, R: Read, W: Write>(
     }
 }
 
-/// Prints that an attempt failed. Answers the status of the dump where printing failed.
+/// Prints that an attempt failed. Answers how the dump ended where printing failed.
 fn tell<B: Blocks, W: Write>(
     client: &Client<B>,
     fault: AttemptFault,
     out: &mut Counted<W>,
-) -> Option<u8>
-    ensures { IsRound W.contents client.now.at.counts client.now.at out.old out.new result }
+) -> Option<Conclusion>
+    ensures printed { IsRound W.contents client.now.at.counts client.now.at out.old out.new result }
+    ensures ends { result ≢ Some ends.Complete }
 {
     if print_failure(client, fault, out) {
         None
     } else {
-        Some(ABNORMAL)
+        Some(Conclusion::Untold)
     }
 }
 
-/// Prints that an attempt could not start, and asks the operator. Answers the status at the end of the dump.
+/// Prints that an attempt could not start, and asks the operator. Answers how the dump ended, at its end.
 fn ask_here<B: Blocks, R: Read, W: Write>(
     client: &Client<B>,
     operator: &mut R,
     out: &mut Counted<W>,
-) -> Option<u8>
+) -> Option<Conclusion>
     ensures { IsRound W.contents client.now.at.counts client.now.at out.old out.new result }
 {
     if !print_failure(client, AttemptFault::OutOfMemory, out) {
-        return Some(ABNORMAL);
+        return Some(Conclusion::Untold);
     }
     if says_yes(operator) {
         return None;
@@ -187,27 +188,27 @@ fn ask<B: Blocks, R: Read>(client: &mut Client<B>, operator: &mut R)
     let _ = client.answer(answer);
 }
 
-/// Prints how the dump ended, and answers its status.
-fn finish<B: Blocks, W: Write>(client: &Client<B>, out: &mut Counted<W>) -> u8
+/// Prints how the dump ended, and answers that.
+pub(crate) fn finish<B: Blocks, W: Write>(client: &Client<B>, out: &mut Counted<W>) -> Conclusion
     ensures { IsFinish W.contents client.now.at out.old out.new result }
 {
     match client.state() {
         State::Finished => {
             let printed = print_text(out, last_line(client).as_bytes());
-            status_of(printed, COMPLETE)
+            ended(printed, Conclusion::Complete)
         }
         _ => {
             let printed = print_text(out, b"dump abandoned\n");
-            status_of(printed, ABNORMAL)
+            ended(printed, Conclusion::Abandoned)
         }
     }
 }
 
-/// The status of a dump that ended with this one, where that was printed.
-fn status_of(printed: bool, status: u8) -> u8
-    ensures { result ≡ (if printed then status else 3) }
+/// How a dump ended that ended so, where that was printed.
+fn ended(printed: bool, end: Conclusion) -> Conclusion
+    ensures { result ≡ (if printed then end else ends.Untold) }
 {
-    if printed { status } else { ABNORMAL }
+    if printed { end } else { Conclusion::Untold }
 }
 
 /// The last line of a dump that is complete.

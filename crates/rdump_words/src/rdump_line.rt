@@ -38,7 +38,7 @@ pub enum RdumpLine<'a> {
 /// commands:
 ///
 /// `dump --to ADDRESS --device D --fs NAME --level L --payload FILE --block BYTES --dumpdates FILE [--date SECONDS]
-/// [--update]`, `read --to ADDRESS --device D --out FILE`, `mt --to ADDRESS --device D OP COUNT`, and
+/// [--checkpoint FILE] [--update]`, `read --to ADDRESS --device D --out FILE`, `mt --to ADDRESS --device D OP COUNT`, and
 /// `dates --file FILE [--name NAME --level LEVEL]`.
 ///
 /// Answers an error where the words are bad, or ask for help or the version, or memory is refused; its kind tells which,

@@ -29,6 +29,8 @@ pub struct DumpLine<'a> {
     pub dumpdates: &'a str,
     /// The date of the dump, in seconds since 1970 began, UTC, and None where it is that of the clock.
     pub date: Option<u64>,
+    /// Where the checkpoint of the dump is kept, and None where it is not.
+    pub checkpoint: Option<&'a str>,
     /// Whether the dump is entered in the dumpdates file once it is complete.
     pub update: bool,
 }
@@ -63,6 +65,7 @@ pub(crate) fn dump_in<'a>(matches: &ArgMatches<'a>) -> Result<DumpLine<'a>, Word
             block,
             dumpdates: value_in(matches, "dumpdates"),
             date,
+            checkpoint: matches.get_str("checkpoint"),
             update: matches.get_str("update") == Some("true"),
         }),
         Err(fault) => Err(fault),
@@ -101,7 +104,7 @@ fn date_in(text: Option<&str>) -> Option<Option<u64>>
 }
 
 /// The words of `rdump dump`.
-pub(crate) static DUMP_WORDS: [Word; 9] = [
+pub(crate) static DUMP_WORDS: [Word; 10] = [
     Word::TO,
     Word::DEVICE,
     Word {
@@ -143,6 +146,13 @@ pub(crate) static DUMP_WORDS: [Word; 9] = [
         name: "date",
         value: "SECONDS",
         help: "The date of the dump in seconds since 1970 [default: the clock's]",
+        form: Form::Optional,
+        missing: "",
+    },
+    Word {
+        name: "checkpoint",
+        value: "FILE",
+        help: "Keep there what is counted; where it is there, go on from it",
         form: Form::Optional,
         missing: "",
     },

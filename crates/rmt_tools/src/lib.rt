@@ -8,13 +8,14 @@ pub use hold_table::{HoldSeat, HoldTable, TableHand};
 pub use memory_peer::MemoryPeer;
 pub use rdump_commands::{rdump, run_client, run_dates, run_dump, run_mt, run_read, run_words};
 pub use rdump_files::{
-    Clearing, DumpEnd, DumperFault, FileFailed, Gauge, PayloadFile, ProgressLine, ReplacedFile,
-    Shown, UpdateFault, WholeFile, base_date, date_text, dates, dump_and_update, dumper,
-    named_file, read_or_empty, read_steady, seconds_now, update,
+    Clearing, ComebackFault, DumpEnd, DumperFault, FileFailed, Gauge, PayloadFile, ProgressLine,
+    ReplacedFile, Shown, UpdateFault, WholeFile, base_date, come_back, date_text, dates,
+    dump_and_update, dumper, dumper_of, enter_dump, named_file, read_or_empty, read_steady, run_of,
+    seconds_now, update,
 };
 pub use rdump_talk::{
-    Passed, Peer, ReadFault, SocketPeer, VolumeRequest, copy_volume, dump, failure_line, mt,
-    read_volume,
+    Conclusion, Keeper, Passed, Peer, ReadFault, SocketPeer, VolumeRequest, copy_volume, dump,
+    dump_kept, failure_line, mt, read_volume,
 };
 pub use rdump_words::{DumpLine, MtLine, RdumpLine, ReadLine, rdump_words};
 pub use reel_files::{FileMedium, FolderDrive, FolderFault, FolderStacks};

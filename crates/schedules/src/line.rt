@@ -199,6 +199,7 @@ fn event_of(command: &str) -> Option<Act> {
         "restart-client" => Event::ClientRestart,
         "stranger" => Event::Stranger,
         "enter" => Event::Enter,
+        "save" => Event::Save,
         _ => return answer_of(command),
     };
     Some(Act::Event { event })

@@ -1,39 +1,34 @@
 -- Runs, their counts and dumpdates, whatever happens.
-use Rattle.std.proofs.Common.{◌≡◌, ◌≢◌, ◌==◌, ℕ, zero, suc, ◌+◌, ◌<◌, ◌≤◌, Bool, true, false, List, [], ◌∷◌, ◌++◌, length, map, drop, Contains, Option, Some, None, Result, Ok, Err, refl, sym, ap, subst, ◌∙◌, inl, inr, arith}
+use Rattle.std.proofs.Common.{◌≡◌, ◌≢◌, ◌==◌, ℕ, zero, suc, ◌+◌, ◌<◌, ◌≤◌, Bool, true, false, List, [], ◌∷◌, ◌++◌, length, map, take, drop, Contains, Option, Some, None, refl, sym, ap, subst, ◌∙◌, inl, inr, arith}
 use Rattle.std.proofs.lemmas.Bool.{eq-eqb, ne_eqb}
-use Rattle.std.proofs.lemmas.Bool.Decides.{eqb_tells}
 use Rattle.std.proofs.lemmas.List.{append-nil, length-append}
-use Rattle.std.proofs.lemmas.List.Elements.{Contains-push_cases}
+use Rattle.std.proofs.lemmas.List.Elements.{Contains-push_cases, Contains-append_cases, Contains-append_left, Contains-append_right}
 use Rattle.std.proofs.lemmas.Option.{same_Some}
 use Rattle.rmt_wire.specs.ReplyReader.{ReplyHeld}
-use Rattle.rmt_wire.specs.Request.{PlainRequest}
-use Rattle.rmt_wire.specs.declared.fault.WireFault.{WireFault}
-use Rattle.tape.specs.declared.trouble.Trouble.{Trouble}
-use Rattle.rmt_server.specs.Hall.{Side}
 use Rattle.dumpdates.specs.Entry.{DatesEntry}
 use Rattle.dumpdates.specs.Dates.{entered}
-use Rattle.dump_run.specs.Run.{PlainRun}
+use Rattle.dump_run.specs.Run.{PlainRun, IsRun}
+use Rattle.dump_run.specs.Counts.{AreVolumes}
 use Rattle.dump_client.specs.Going.{GoesOnWith}
 use Rattle.dump_client.specs.Lawful.{IsLawful, StageFits}
 use Rattle.dump_client.specs.Position.{Covers}
-use Rattle.dump_client.specs.Standing.{Standing, standing, FedAt, CutAt, stage_after}
-use Rattle.dump_client.specs.declared.count.VolumeCount.{VolumeCount}
+use Rattle.dump_client.specs.Standing.{Standing, standing, FedAt, CutAt, IsOver, stage_after}
+use Rattle.dump_run.specs.declared.count.VolumeCount.{VolumeCount}
+use Rattle.dump_client.specs.declared.stage.Answer.{Answer}
+use Rattle.dump_client.specs.declared.stage.Answer.TheVariants.{Retry, Abandon}
 use Rattle.dump_client.specs.declared.stage.Progress.{Progress}
-use Rattle.dump_client.specs.declared.stage.Progress.TheVariants as moved
 use Rattle.dump_client.specs.declared.stage.Stage.{Stage}
 use Rattle.dump_client.specs.declared.stage.Stage.TheVariants.{Ready, ToSend, Waiting, Asking, Finished}
-use Rattle.dump_client.specs.declared.step.Step.{Step}
 use Rattle.dump_client.specs.declared.step.Step.TheVariants.{Open}
-use Rattle.tape_events.specs.World.{World, Dumping, Begun, Caller, Count, Entered, numbered}
-use Rattle.tape_events.specs.Events.{PlainEvent}
-use Rattle.tape_events.specs.Events.PlainEvent.{StartRun, Connect, Send, ToServer, Serve, ToClient, Cut, EndAtServer, EndAtClient, ServerRestart, ClientRestart, Respond, Arrange, Stranger, Says, Enter}
-use Rattle.tape_events.specs.Changes.{changed, calm, counts_of, counted_from, came_to}
-use Rattle.tape_events.specs.Rows.{IsRunEntered}
-use Rattle.tape_events.specs.Steps.{Happens, Sends, Finds, Hears, SeesEnd, forgotten_from, entry_of, caller, recorded}
+use Rattle.tape_events.specs.World.{World, Begun, Caller, Count, Entered, Kept, numbered}
+use Rattle.tape_events.specs.Changes.{calm, counts_of}
+use Rattle.tape_events.specs.Rows.{IsRunEntered, MayBeKept}
+use Rattle.tape_events.specs.Steps.{kept_after, entry_of, caller, recorded}
 use Rattle.tape_events.specs.Books.{volume_of, counted_if, counts_in, dates_with, dates_after}
-use Rattle.tape_events.specs.Headline.{IsEarned, AreOnce}
-use Rattle.tape_events.specs.Kept.{AreBooked, HasLawful}
+use Rattle.tape_events.specs.Headline.{AreCountedIn, IsEarned, AreOnce}
+use Rattle.tape_events.specs.Kept.{IsKeptRun, AreBooked, HasLawful}
 use Rattle.tape_events.proofs.Numbers.{pushed_is, numbered_more, numbered_last, numbered_within}
+use Rattle.tape_events.proofs.Moves.{Listens, told_counts, Move, begins, connects, asks, fails, hears, hears_last, sees, gone, comes, forgets, gives_up, answers, enters, saves, moved}
 
 -- counts of lists that are put together
 if_more : (b : Bool) (x : Count) (a c : List VolumeCount) → counted_if b x (a ++ c) ≡ counted_if b x a ++ c
@@ -62,18 +57,34 @@ pub record SameBooks (w u : World) : Type 0 where
   pub begun : u.begun ≡ w.begun
   pub counts : u.counts ≡ w.counts
   pub entered : u.entered ≡ w.entered
+  pub kept : u.kept ≡ w.kept
   pub dates : u.dates ≡ w.dates
 
+-- what was counted stays counted
+same_listed : (w u : World) → u.counts ≡ w.counts → (run : ℕ) (listed : List VolumeCount) → AreCountedIn w run listed → AreCountedIn u run listed
+same_listed w u counts run listed l v among = subst (λ cs. Contains (counts_in cs run) v) (sym counts) (l v among)
+
 same_earned : (w u : World) → SameBooks w u → (e : Entered) → IsEarned w e → IsEarned u e
-same_earned w u s e (b, at, covers) =
-    (b, ap (λ l. numbered l e.run) s.begun ∙ at, subst (λ l. Covers b.run (counts_in l e.run)) (sym s.counts) covers)
+same_earned w u s e (b, at, covers, counted) = (b, ap (λ l. numbered l e.run) s.begun ∙ at, covers, same_listed w u s.counts e.run e.listed counted)
+
+same_kept : (w u : World) → SameBooks w u → (x : Kept) → IsKeptRun w x → IsKeptRun u x
+same_kept w u s x k = record {
+  begun = k.begun;
+  begun_as = ap (λ l. numbered l x.run) s.begun ∙ k.begun_as;
+  limits = k.limits;
+  last = k.last ∙ sym (ap length s.begun);
+  in_order = k.in_order;
+  counted = same_listed w u s.counts x.run x.listed k.counted;
+  unentered = λ e among. k.unentered e (subst (λ l. Contains l e) s.entered among);
+}
 
 -- nothing of it changes
 beside_booked : (w u : World) → SameBooks w u → u.caller ≡ w.caller → AreBooked w → AreBooked u
 beside_booked w u s same k = record {
   last = λ c is. k.last c (sym same ∙ is) ∙ sym (ap length s.begun);
   begun = λ c is. (let b = k.begun c (sym same ∙ is) in (b.0, ap (λ l. numbered l c.number) s.begun ∙ b.1, b.2));
-  listed = λ c is. ap (λ l. counts_in l c.number) s.counts ∙ k.listed c (sym same ∙ is);
+  listed = λ c is. same_listed w u s.counts c.number c.at.counts (k.listed c (sym same ∙ is));
+  kept = λ x is. same_kept w u s x (k.kept x (sym s.kept ∙ is));
   none = λ run past. ap (λ l. counts_in l run) s.counts ∙ k.none run (subst (λ l. length l < run) s.begun past);
   earned = λ e among. same_earned w u s e (k.earned e (subst (λ l. Contains l e) s.entered among));
   once = subst AreOnce (sym s.entered) k.once;
@@ -83,14 +94,15 @@ beside_booked w u s same k = record {
 
 -- there is no client
 gone_booked : (w u : World) → SameBooks w u → u.caller ≡ None → AreBooked w → AreBooked u
-gone_booked w u s gone k = record {
-  last = λ c is. (let clash = sym gone ∙ is in absurd cc);
-  begun = λ c is. (let clash = sym gone ∙ is in absurd cc);
-  listed = λ c is. (let clash = sym gone ∙ is in absurd cc);
+gone_booked w u s nobody k = record {
+  last = λ c is. (let clash = sym nobody ∙ is in absurd cc);
+  begun = λ c is. (let clash = sym nobody ∙ is in absurd cc);
+  listed = λ c is. (let clash = sym nobody ∙ is in absurd cc);
+  kept = λ x is. same_kept w u s x (k.kept x (sym s.kept ∙ is));
   none = λ run past. ap (λ l. counts_in l run) s.counts ∙ k.none run (subst (λ l. length l < run) s.begun past);
   earned = λ e among. same_earned w u s e (k.earned e (subst (λ l. Contains l e) s.entered among));
   once = subst AreOnce (sym s.entered) k.once;
-  finished = λ c e is among same_run. (let clash = sym gone ∙ is in absurd cc);
+  finished = λ c e is among same_run. (let clash = sym nobody ∙ is in absurd cc);
   dates = s.dates ∙ k.dates ∙ sym (ap (λ l. dates_after l [] u.entered) s.begun ∙ ap (dates_after w.begun []) s.entered);
 }
 
@@ -99,6 +111,7 @@ record Goes (w u : World) (x y : Caller) (more : List VolumeCount) (told : List 
   begun : u.begun ≡ w.begun
   counts : u.counts ≡ w.counts ++ told
   entered : u.entered ≡ w.entered
+  kept : (x : Kept) → u.kept ≡ Some x → w.kept ≡ Some x
   dates : u.dates ≡ w.dates
   was : w.caller ≡ Some x
   is : u.caller ≡ Some y
@@ -117,22 +130,37 @@ own_run : (w u : World) (x y : Caller) (more : List VolumeCount) (told : List Co
     → counts_in u.counts x.number ≡ counts_in w.counts x.number ++ more
 own_run w u x y more told g = ap (λ l. counts_in l x.number) g.counts ∙ in_more w.counts told x.number ∙ ap (λ l. counts_in w.counts x.number ++ l) g.own
 
-goes_earned : (w u : World) (x y : Caller) (more : List VolumeCount) (told : List Count) → Goes w u x y more told → AreBooked w
-    → (e : Entered) → Contains w.entered e → IsEarned u e
-goes_earned w u x y more told g k e among =
-    let b = k.earned e among in (
-      b.0,
-      ap (λ l. numbered l e.run) g.begun ∙ b.1,
-      elim (eqb_tells x.number e.run) [
-        | inl (equal, same) ↦
-            let none = (g.goes.finished (k.finished x e g.was among (sym same))).1 in
-            let stays : counts_in u.counts e.run ≡ counts_in w.counts e.run
-            = ap (counts_in u.counts) (sym same) ∙ own_run w u x y more told g ∙ ap (λ l. counts_in w.counts x.number ++ l) none
-            ∙ append-nil (counts_in w.counts x.number) ∙ ap (counts_in w.counts) same in
-            subst (Covers b.0.run) (sym stays) b.2
-        | inr (unequal, other) ↦ subst (Covers b.0.run) (sym (other_run w u x y more told g e.run other)) b.2
-      ],
-    )
+-- what was counted stays counted
+more_listed : (w u : World) (x y : Caller) (more : List VolumeCount) (told : List Count) → Goes w u x y more told → (run : ℕ) (listed : List VolumeCount)
+    → AreCountedIn w run listed → AreCountedIn u run listed
+more_listed w u x y more told g run listed l v among =
+    subst (λ cs. Contains cs v) (sym (ap (λ cs. counts_in cs run) g.counts ∙ in_more w.counts told run))
+    (Contains-append_left (counts_in w.counts run) (counts_in told run) v (l v among))
+
+-- and what the client counts now is counted
+own_listed : (w u : World) (x y : Caller) (more : List VolumeCount) (told : List Count) → Goes w u x y more told
+    → AreCountedIn w x.number x.at.counts → AreCountedIn u y.number y.at.counts
+own_listed w u x y more told g l v among =
+    subst (λ n. Contains (counts_in u.counts n) v) (sym g.number)
+    (subst (λ cs. Contains cs v) (sym (own_run w u x y more told g)) (elim (Contains-append_cases x.at.counts more v (subst (λ cs. Contains cs v) g.goes.counts among)) [
+      | inl before ↦ Contains-append_left (counts_in w.counts x.number) more v (l v before)
+      | inr after ↦ Contains-append_right (counts_in w.counts x.number) more v after
+    ]))
+
+goes_kept : (w u : World) (x y : Caller) (more : List VolumeCount) (told : List Count) → Goes w u x y more told → (z : Kept) → IsKeptRun w z → IsKeptRun u z
+goes_kept w u x y more told g z k = record {
+  begun = k.begun;
+  begun_as = ap (λ l. numbered l z.run) g.begun ∙ k.begun_as;
+  limits = k.limits;
+  last = k.last ∙ sym (ap length g.begun);
+  in_order = k.in_order;
+  counted = more_listed w u x y more told g z.run z.listed k.counted;
+  unentered = λ e among. k.unentered e (subst (λ l. Contains l e) g.entered among);
+}
+
+goes_earned : (w u : World) (x y : Caller) (more : List VolumeCount) (told : List Count) → Goes w u x y more told → (e : Entered) → IsEarned w e → IsEarned u e
+goes_earned w u x y more told g e (b, at, covers, counted) =
+    (b, ap (λ l. numbered l e.run) g.begun ∙ at, covers, more_listed w u x y more told g e.run e.listed counted)
 
 goes_booked : (w u : World) (x y : Caller) (more : List VolumeCount) (told : List Count) → Goes w u x y more told → AreBooked w → AreBooked u
 goes_booked w u x y more told g k =
@@ -144,12 +172,12 @@ goes_booked w u x y more told g k =
         ap (λ l. numbered l c.number) g.begun ∙ ap (λ (z : Caller). numbered w.begun z.number) (sym (its c is)) ∙ ap (numbered w.begun) g.number ∙ b.1,
         b.2 ∙ sym g.goes.run ∙ ap (λ (z : Caller). z.at.run) (its c is),
       ));
-      listed = λ c is. ap (λ (z : Caller). counts_in u.counts z.number) (sym (its c is)) ∙ ap (counts_in u.counts) g.number
-          ∙ own_run w u x y more told g ∙ ap (λ l. l ++ more) (k.listed x g.was) ∙ sym g.goes.counts ∙ ap (λ (z : Caller). z.at.counts) (its c is);
+      listed = λ c is. subst (λ (z : Caller). AreCountedIn u z.number z.at.counts) (its c is) (own_listed w u x y more told g (k.listed x g.was));
+      kept = λ z is. goes_kept w u x y more told g z (k.kept z (g.kept z is));
       none = λ run past. (
           let after : length w.begun < run = subst (λ l. length l < run) g.begun past in
           other_run w u x y more told g run (λ e. (let same = k.last x g.was in omega (arith, after, e, same))) ∙ k.none run after);
-      earned = λ e among. goes_earned w u x y more told g k e (subst (λ l. Contains l e) g.entered among);
+      earned = λ e among. goes_earned w u x y more told g e (k.earned e (subst (λ l. Contains l e) g.entered among));
       once = subst AreOnce (sym g.entered) k.once;
       finished = λ c e is among same_run. (
           let same : e.run ≡ x.number = same_run ∙ ap (λ (z : Caller). z.number) (sym (its c is)) ∙ g.number in
@@ -177,6 +205,7 @@ alone_booked w u x y s was is number goes k =
       begun = s.begun;
       counts = s.counts ∙ sym (append-nil w.counts);
       entered = s.entered;
+      kept = λ z is. sym s.kept ∙ is;
       dates = s.dates;
       was = was;
       is = is;
@@ -186,94 +215,15 @@ alone_booked w u x y s was is number goes k =
       other = λ run other. refl;
     } k
 
-unlike_ready : (stage : Stage) → stage ≡ Ready → stage ≢ Finished
-unlike_ready stage is e = let clash = sym is ∙ e in absurd cc
-
-unlike_asking : (stage : Stage) → stage ≡ Asking → stage ≢ Finished
-unlike_asking stage is e = let clash = sym is ∙ e in absurd cc
-
-unlike_to_send : (stage : Stage) (step : Step) → stage ≡ ToSend step → stage ≢ Finished
-unlike_to_send stage step is e = let clash = sym is ∙ e in absurd cc
-
-same_books : (w u v : World) → u ≡ v → SameBooks w v → SameBooks w u
-same_books w u v is s = record {
-  begun = ap (λ (x : World). x.begun) is ∙ s.begun;
-  counts = ap (λ (x : World). x.counts) is ∙ s.counts;
-  entered = ap (λ (x : World). x.entered) is ∙ s.entered;
-  dates = ap (λ (x : World). x.dates) is ∙ s.dates;
-}
-
-beside : (w u v : World) → u ≡ v → SameBooks w v → v.caller ≡ w.caller → AreBooked w → AreBooked u
-beside w u v is s same k = subst AreBooked (sym is) (beside_booked w v s same k)
-
-nothing_else : {w : World} → SameBooks w w
-nothing_else = record { begun = refl; counts = refl; entered = refl; dates = refl }
-
--- what comes of the client's call changes none of it
-came_beside : (w : World) (k : ℕ) (at : Standing) (progress : Progress) → AreBooked w → AreBooked (came_to w k at progress)
-came_beside w k at (moved.Failed fault) b = beside_booked w _ record { begun = refl; counts = refl; entered = refl; dates = refl } refl b
-came_beside w k at moved.Ended b = beside_booked w _ record { begun = refl; counts = refl; entered = refl; dates = refl } refl b
-came_beside w k at moved.Idle b = b
-came_beside w k at moved.Waiting b = b
-came_beside w k at moved.Send b = b
-
 -- what is behind the first so many
 pub drop_front : {X : Type 0} (xs ys : List X) → drop (length xs) (xs ++ ys) ≡ ys
 drop_front [] ys = refl
 drop_front (x ∷ xs) ys = drop_front xs ys
 
-hears_booked : Goings → (o : Option Dumping) (w : World) (k n : ℕ) (piece : List ℕ) (u : World) → Hears o w k n piece u → AreBooked w → AreBooked u
-hears_booked g None w k n piece u is b = beside w u _ is record { begun = refl; counts = refl; entered = refl; dates = refl } refl b
-hears_booked g (Some dump) w k n piece u (c, fed, at, reader, progress, there, had, feeds, has, is) b =
-    let m = g.0 c.at at fed piece progress feeds in
-    let new : drop (length c.at.counts) at.counts ≡ m.0 = ap (drop (length c.at.counts)) m.1.counts ∙ drop_front c.at.counts m.0 in
-    let v : World = record (calm w) { links = changed (λ l. record l { back = drop n l.back }) w.links k; caller = Some (caller c.number at reader) } in
-    let new_counts = drop (length c.at.counts) at.counts in
-    subst AreBooked (sym is) (came_beside (counted_from v c.number k new_counts) k at progress
-    (goes_booked w (counted_from v c.number k new_counts) c (caller c.number at reader) m.0 (map (counts_of v c.number k) new_counts) record {
-      begun = refl;
-      counts = refl;
-      entered = refl;
-      dates = refl;
-      was = there;
-      is = refl;
-      number = refl;
-      goes = m.1;
-      own = own_counts v c.number k new_counts ∙ new;
-      other = λ run other. other_counts v c.number k run new_counts other;
-    } b))
-
-sees_booked : Goings → (o : Option Dumping) (w : World) (k : ℕ) (u : World) → SeesEnd o w k u → AreBooked w → AreBooked u
-sees_booked g None w k u is b = beside w u _ is record { begun = refl; counts = refl; entered = refl; dates = refl } refl b
-sees_booked g (Some dump) w k u (c, at, reader, progress, there, cuts, has, is) b =
-    subst AreBooked (sym is) (came_beside _ k at progress
-    (alone_booked w _ c (caller c.number at reader) record { begun = refl; counts = refl; entered = refl; dates = refl } there refl refl
-    (g.1 c.at at progress cuts) b))
-
-sends_booked : (failing : Bool) (w : World) (k : ℕ) (c : Caller) (payload : List (List ℕ)) (step : Step) (u : World) → w.caller ≡ Some c → c.at.stage ≡ ToSend step
-    → Sends failing w k c payload step u → AreBooked w → AreBooked u
-sends_booked true w k c payload step u there stage (reader, is) b =
-    alone_booked w u c (caller c.number (standing c.at.run c.at.counts Asking) reader) (same_books w u _ is record { begun = refl; counts = refl; entered = refl; dates = refl })
-    there (ap (λ (x : World). x.caller) is) refl (at_stage c.at Asking (unlike_to_send c.at.stage step stage)) b
-sends_booked false w k c payload step u there stage (reader, has, is) b =
-    alone_booked w u c (caller c.number (standing c.at.run c.at.counts (Waiting step)) reader) (same_books w u _ is record { begun = refl; counts = refl; entered = refl; dates = refl })
-    there (ap (λ (x : World). x.caller) is) refl (at_stage c.at (Waiting step) (unlike_to_send c.at.stage step stage)) b
-
-finds_booked : (w : World) (k : ℕ) (trouble : Trouble) (s : Side) (found : Result (Option PlainRequest) WireFault) (rest : List ℕ) (u : World)
-    → Finds w k trouble s found rest u → AreBooked w → AreBooked u
-finds_booked w k trouble s (Ok None) rest u finds b = absurd finds
-finds_booked w k trouble s (Ok (Some request)) rest u (reply, reached, shop, session, holders, unread, served, is) b =
-    beside w u _ is record { begun = refl; counts = refl; entered = refl; dates = refl } refl b
-finds_booked w k trouble s (Err fault) rest u is b = beside w u _ is record { begun = refl; counts = refl; entered = refl; dates = refl } refl b
-
-forgotten_booked : (w : World) (o : Option ℕ) → AreBooked w → AreBooked (record (forgotten_from (calm w) o) { caller = None })
-forgotten_booked w None b = gone_booked w _ record { begun = refl; counts = refl; entered = refl; dates = refl } refl b
-forgotten_booked w (Some k) b = gone_booked w _ record { begun = refl; counts = refl; entered = refl; dates = refl } refl b
-
 -- a run more that was begun
 more_earned : (w u : World) (more : List Begun) → u.begun ≡ w.begun ++ more → u.counts ≡ w.counts → (e : Entered) → IsEarned w e → IsEarned u e
-more_earned w u more begun counts e (b, at, covers) =
-    (b, ap (λ l. numbered l e.run) begun ∙ numbered_more w.begun more e.run b at, subst (λ l. Covers b.run (counts_in l e.run)) (sym counts) covers)
+more_earned w u more begun counts e (b, at, covers, counted) =
+    (b, ap (λ l. numbered l e.run) begun ∙ numbered_more w.begun more e.run b at, covers, same_listed w u counts e.run e.listed counted)
 
 -- what holds of each of a list holds of each behind the first
 next_there : (begun : List Begun) (e : Entered) (es : List Entered)
@@ -315,9 +265,9 @@ place_of (y ∷ xs) x (suc i, within, is) =
 
 -- a run is begun
 started_booked : (w u : World) (run : PlainRun) (b : Begun) (reader : ReplyHeld) → u.begun ≡ w.begun ++ b ∷ [] → b.run ≡ run
-    → u.caller ≡ Some (caller (length w.begun + 1) (standing run [] Ready) reader) → u.counts ≡ w.counts → u.entered ≡ w.entered → u.dates ≡ w.dates
+    → u.caller ≡ Some (caller (length w.begun + 1) (standing run [] Ready) reader) → u.counts ≡ w.counts → u.entered ≡ w.entered → u.kept ≡ None → u.dates ≡ w.dates
     → AreBooked w → AreBooked u
-started_booked w u run b reader begun of is counts done dates k =
+started_booked w u run b reader begun of is counts done dropped dates k =
     let new : Caller = caller (length w.begun + 1) (standing run [] Ready) reader in
     let its : (c : Caller) → u.caller ≡ Some c → new ≡ c = λ c at. same_Some new c (sym is ∙ at) in
     let many : length u.begun ≡ length w.begun + 1 = ap length begun ∙ length-append w.begun (b ∷ []) in
@@ -332,8 +282,8 @@ started_booked w u run b reader begun of is counts done dates k =
             ∙ ap (numbered (w.begun ++ b ∷ [])) place ∙ numbered_last w.begun b,
         of ∙ ap (λ (z : Caller). z.at.run) (its c at),
       );
-      listed = λ c at. ap (λ (z : Caller). counts_in u.counts z.number) (sym (its c at)) ∙ ap (λ l. counts_in l (length w.begun + 1)) counts
-          ∙ k.none (length w.begun + 1) (omega arith) ∙ ap (λ (z : Caller). z.at.counts) (its c at);
+      listed = λ c at. subst (λ (z : Caller). AreCountedIn u z.number z.at.counts) (its c at) (λ v (i, within, here). absurd (omega (arith, within)));
+      kept = λ z at. (let clash = sym dropped ∙ at in absurd cc);
       none = λ run past. ap (λ l. counts_in l run) counts ∙ k.none run (omega (arith, past, many));
       earned = λ e among. more_earned w u (b ∷ []) begun counts e (k.earned e (subst (λ l. Contains l e) done among));
       once = subst AreOnce (sym done) k.once;
@@ -367,48 +317,139 @@ entered_booked : (w : World) (c : Caller) → w.caller ≡ Some c → c.at.stage
     → AreBooked (recorded w c)
 entered_booked w c there stage not_yet lawful k =
     let b = k.begun c there in
-    let covers : Covers b.0.run (counts_in w.counts c.number)
-    = subst (Covers b.0.run) (sym (k.listed c there))
-    (subst (λ r. Covers r c.at.counts) (sym b.2) (subst (StageFits c.at.run c.at.counts) stage lawful.stage)) in
+    let now : Entered = record { run = c.number; listed = c.at.counts } in
+    let covers : Covers b.0.run c.at.counts
+    = subst (λ r. Covers r c.at.counts) (sym b.2) (subst (StageFits c.at.run c.at.counts) stage lawful.stage) in
     record {
       last = k.last;
       begun = k.begun;
       listed = k.listed;
+      kept = λ z is. absurd cc;
       none = k.none;
-      earned = λ e among. elim (Contains-push_cases w.entered (record { run = c.number }) e among) [
+      earned = λ e among. elim (Contains-push_cases w.entered now e among) [
         | inl before ↦ k.earned e before
-        | inr is ↦ subst (IsEarned (recorded w c)) is (b.0, b.1, covers)
+        | inr is ↦ subst (IsEarned (recorded w c)) is (b.0, b.1, covers, k.listed c there)
       ];
-      once = once_more w.entered (record { run = c.number }) (λ f among same. not_yet (f, among, same)) k.once;
+      once = once_more w.entered now (λ f among same. not_yet (f, among, same)) k.once;
       finished = λ d e is among same. ap (λ (z : Caller). z.at.stage) (sym (same_Some c d (sym there ∙ is))) ∙ stage;
       dates = ap (λ l. entered l (entry_of c.at.run)) k.dates
-          ∙ sym (dates_more w.begun [] w.entered (record { run = c.number }) ∙ ap (dates_with (dates_after w.begun [] w.entered)) b.1
+          ∙ sym (dates_more w.begun [] w.entered now ∙ ap (dates_with (dates_after w.begun [] w.entered)) b.1
           ∙ ap (λ r. entered (dates_after w.begun [] w.entered) (entry_of r)) b.2);
     }
 
-pub booked_after : Goings → (w : World) (event : PlainEvent) (u : World) → HasLawful w → Happens w event u → AreBooked w → AreBooked u
-booked_after g w (StartRun run payload) u lawful (may, (reader, is)) b =
-    started_booked w u run _ reader (ap (λ (x : World). x.begun) is) refl (ap (λ (x : World). x.caller) is) (ap (λ (x : World). x.counts) is) (ap (λ (x : World). x.entered) is)
-    (ap (λ (x : World). x.dates) is) b
-booked_after g w Connect u lawful (may, (c, there, ready, is)) b =
-    alone_booked w u c _ (same_books w u _ is record { begun = refl; counts = refl; entered = refl; dates = refl }) there (ap (λ (x : World). x.caller) is) refl
-    (at_stage c.at (ToSend Open) (unlike_ready c.at.stage ready)) b
-booked_after g w (Send fails) u lawful (may, (c, step, k, x, there, stage, own, begun, sends)) b = sends_booked _ w k c x.payload step u there stage sends b
-booked_after g w (ToServer k n) u lawful (may, (s, l, reached, live, at, grows, is)) b = beside w u _ is record { begun = refl; counts = refl; entered = refl; dates = refl } refl b
-booked_after g w (Serve k trouble) u lawful (may, (s, found, bytes, rest, live, unread, gives, finds)) b = finds_booked w k trouble s found rest u finds b
-booked_after g w (ToClient k n) u lawful (may, (l, at, hears)) b = hears_booked g l.dump w k n _ u hears b
-booked_after g w (Cut k) u lawful (may, is) b = beside w u _ is record { begun = refl; counts = refl; entered = refl; dates = refl } refl b
-booked_after g w (EndAtServer k) u lawful (may, is) b = beside w u _ is record { begun = refl; counts = refl; entered = refl; dates = refl } refl b
-booked_after g w (EndAtClient k) u lawful (may, (l, at, sees)) b = sees_booked g l.dump w k u sees b
-booked_after g w ServerRestart u lawful (may, is) b = beside w u _ is record { begun = refl; counts = refl; entered = refl; dates = refl } refl b
-booked_after g w ClientRestart u lawful (may, is) b = subst AreBooked (sym is) (forgotten_booked w w.own b)
-booked_after g w (Respond answer) u lawful (may, (c, reader, there, asks, is)) b =
-    alone_booked w u c _ (same_books w u _ is record { begun = refl; counts = refl; entered = refl; dates = refl }) there (ap (λ (x : World). x.caller) is) refl
-    (at_stage c.at (stage_after answer) (unlike_asking c.at.stage asks)) b
-booked_after g w (Arrange drive reels) u lawful (may, (d, named, is)) b = beside w u _ is record { begun = refl; counts = refl; entered = refl; dates = refl } refl b
-booked_after g w Stranger u lawful (may, is) b = beside w u _ is record { begun = refl; counts = refl; entered = refl; dates = refl } refl b
-booked_after g w (Says k bytes) u lawful (may, is) b = beside w u _ is record { begun = refl; counts = refl; entered = refl; dates = refl } refl b
-booked_after g w Enter u lawful ((x, at, stage, not_yet), (c, there, is)) b =
-    let same : x ≡ c = same_Some x c (sym at ∙ there) in
-    subst AreBooked (sym is) (entered_booked w c there (ap (λ (z : Caller). z.at.stage) (sym same) ∙ stage)
-    (λ e. not_yet (subst (λ (z : Caller). IsRunEntered w z.number) (sym same) e)) (lawful c there) b)
+-- the client's run is kept, with its counts
+saved_booked : (w : World) (c : Caller) → w.caller ≡ Some c → MayBeKept w c → IsLawful c.at → AreBooked w
+    → AreBooked (record (calm w) { kept = Some (record { run = c.number; listed = c.at.counts }) })
+saved_booked w c there may lawful k =
+    let b = k.begun c there in
+    let u : World = record (calm w) { kept = Some (record { run = c.number; listed = c.at.counts }) } in
+    let its : IsKeptRun u (record { run = c.number; listed = c.at.counts }) = record {
+      begun = b.0;
+      begun_as = b.1;
+      limits = subst IsRun (sym b.2) lawful.run;
+      last = k.last c there;
+      in_order = subst (λ r. AreVolumes r 1 0 c.at.counts) (sym b.2) lawful.counts;
+      counted = k.listed c there;
+      unentered = λ e among same. may.1 (k.finished c e there among same) (e, among, same);
+    } in
+    record {
+      last = k.last;
+      begun = k.begun;
+      listed = k.listed;
+      kept = λ z is. subst (IsKeptRun u) (same_Some _ z is) its;
+      none = k.none;
+      earned = k.earned;
+      once = k.once;
+      finished = k.finished;
+      dates = k.dates;
+    }
+
+-- what is over has its run and counts
+over_is : (run : PlainRun) (counts : List VolumeCount) (at : Standing) → IsOver run counts at → (at.run ≡ run) × (at.counts ≡ counts)
+over_is run counts at (inl (covers, is)) = (ap (λ (s : Standing). s.run) is, ap (λ (s : Standing). s.counts) is)
+over_is run counts at (inr (left, is)) = (ap (λ (s : Standing). s.run) is, ap (λ (s : Standing). s.counts) is)
+
+-- a client comes back with what is kept
+back_booked : (w u : World) (z : Kept) (b : Begun) (at : Standing) (reader : ReplyHeld) → SameBooks w u → w.kept ≡ Some z → numbered w.begun z.run ≡ Some b
+    → IsOver b.run z.listed at → u.caller ≡ Some (caller z.run at reader) → AreBooked w → AreBooked u
+back_booked w u z b at reader s is_kept begun over is k =
+    let q = k.kept z is_kept in
+    let same = over_is b.run z.listed at over in
+    let its : (c : Caller) → u.caller ≡ Some c → caller z.run at reader ≡ c = λ c there. same_Some (caller z.run at reader) c (sym is ∙ there) in
+    record {
+      last = λ c there. ap (λ (y : Caller). y.number) (sym (its c there)) ∙ q.last ∙ sym (ap length s.begun);
+      begun = λ c there. (
+        b,
+        ap (λ (y : Caller). numbered u.begun y.number) (sym (its c there)) ∙ ap (λ l. numbered l z.run) s.begun ∙ begun,
+        sym same.0 ∙ ap (λ (y : Caller). y.at.run) (its c there),
+      );
+      listed = λ c there. subst (λ (y : Caller). AreCountedIn u y.number y.at.counts) (its c there)
+          (subst (AreCountedIn u z.run) (sym same.1) (same_listed w u s.counts z.run z.listed q.counted));
+      kept = λ y there. same_kept w u s y (k.kept y (sym s.kept ∙ there));
+      none = λ run past. ap (λ l. counts_in l run) s.counts ∙ k.none run (subst (λ l. length l < run) s.begun past);
+      earned = λ e among. same_earned w u s e (k.earned e (subst (λ l. Contains l e) s.entered among));
+      once = subst AreOnce (sym s.entered) k.once;
+      finished = λ c e there among same_run. absurd
+          (q.unentered e (subst (λ l. Contains l e) s.entered among) (same_run ∙ ap (λ (y : Caller). y.number) (sym (its c there))));
+      dates = s.dates ∙ k.dates ∙ sym (ap (λ l. dates_after l [] u.entered) s.begun ∙ ap (dates_after w.begun []) s.entered);
+    }
+
+-- an answer by which the run is given up drops what is kept
+answer_keeps : (answer : Answer) (o : Option Kept) (z : Kept) → kept_after answer o ≡ Some z → o ≡ Some z
+answer_keeps Retry o z is = is
+answer_keeps Abandon o z is = absurd cc
+
+-- the client heard
+heard_booked : Goings → (w u : World) (t : Listens w) → u.begun ≡ w.begun → u.counts ≡ w.counts ++ told_counts w t → u.entered ≡ w.entered → u.kept ≡ w.kept → u.dates ≡ w.dates
+    → u.caller ≡ Some (caller t.c.number t.at t.reader) → AreBooked w → AreBooked u
+heard_booked g w u t begun counts entered kept dates is b =
+    let m = g.0 t.c.at t.at t.fed (take t.n t.l.back) t.progress t.feeds in
+    let new = drop (length t.c.at.counts) t.at.counts in
+    let more : new ≡ m.0 = ap (drop (length t.c.at.counts)) m.1.counts ∙ drop_front t.c.at.counts m.0 in
+    goes_booked w u t.c (caller t.c.number t.at t.reader) m.0 (told_counts w t) record {
+      begun = begun;
+      counts = counts;
+      entered = entered;
+      kept = λ z at. sym kept ∙ at;
+      dates = dates;
+      was = t.client;
+      is = is;
+      number = refl;
+      goes = m.1;
+      own = own_counts w t.c.number t.k new ∙ more;
+      other = λ run other. other_counts w t.c.number t.k run new other;
+    } b
+
+pub booked_moved : Goings → (w : World) (m : Move w) → HasLawful w → AreBooked w → AreBooked (moved w m)
+booked_moved g w (begins run payload reader none good long) lawful b = started_booked w _ run _ reader refl refl refl refl refl refl refl b
+booked_moved g w (connects c there ready) lawful b =
+    alone_booked w _ c _ (record { begun = refl; counts = refl; entered = refl; kept = refl; dates = refl }) there refl refl (at_stage c.at (ToSend Open) (λ e. (let clash = sym ready ∙ e in absurd cc))) b
+booked_moved g w (asks t) lawful b = alone_booked w _ t.c _ (record { begun = refl; counts = refl; entered = refl; kept = refl; dates = refl }) t.there refl refl (at_stage t.c.at (Waiting t.step) (λ e. (let clash = sym t.stage ∙ e in absurd cc))) b
+booked_moved g w (fails k n c reader there stage own) lawful b =
+    alone_booked w _ c _ (record { begun = refl; counts = refl; entered = refl; kept = refl; dates = refl }) there refl refl (at_stage c.at Asking (λ e. (let clash = sym stage ∙ e in absurd cc))) b
+booked_moved g w (hears t on) lawful b = heard_booked g w _ t refl refl refl refl refl refl b
+booked_moved g w (hears_last t failure over) lawful b = heard_booked g w _ t refl refl refl refl refl refl b
+booked_moved g w (sees t failure) lawful b = alone_booked w _ t.c _ (record { begun = refl; counts = refl; entered = refl; kept = refl; dates = refl }) t.client refl refl (g.1 t.c.at t.at t.progress t.cuts) b
+booked_moved g w (answers c answer reader there stage) lawful b =
+    goes_booked w _ c _ [] [] record {
+      begun = refl;
+      counts = sym (append-nil w.counts);
+      entered = refl;
+      kept = λ z. answer_keeps answer w.kept z;
+      dates = refl;
+      was = there;
+      is = refl;
+      number = refl;
+      goes = at_stage c.at (stage_after answer) (λ e. (let clash = sym stage ∙ e in absurd cc));
+      own = refl;
+      other = λ run other. refl;
+    } b
+booked_moved g w (forgets (gone none) idle) lawful b = gone_booked w _ (record { begun = refl; counts = refl; entered = refl; kept = refl; dates = refl }) refl b
+booked_moved g w (forgets (comes z x at reader kept begun over) idle) lawful b =
+    back_booked w _ z x at reader (record { begun = refl; counts = refl; entered = refl; kept = refl; dates = refl }) kept begun over refl b
+booked_moved g w (gives_up (gone none) k own) lawful b = gone_booked w _ (record { begun = refl; counts = refl; entered = refl; kept = refl; dates = refl }) refl b
+booked_moved g w (gives_up (comes z x at reader kept begun over) k own) lawful b =
+    back_booked w _ z x at reader (record { begun = refl; counts = refl; entered = refl; kept = refl; dates = refl }) kept begun over refl b
+booked_moved g w (saves c there may) lawful b = saved_booked w c there may (lawful c there) b
+booked_moved g w (enters c there stage not_yet) lawful b = entered_booked w c there stage not_yet (lawful c there) b
+booked_moved g w m lawful b = beside_booked w _ (record { begun = refl; counts = refl; entered = refl; kept = refl; dates = refl }) refl b

@@ -13,7 +13,8 @@ use Rattle.tape_events.proofs.Booked.{drop_front}
 use Rattle.tape_events.proofs.Sent.{still_unloaded}
 use Rattle.tape_events.proofs.SentWire.{OneReply}
 use Rattle.tape_events.proofs.ToldHears.{open_attempt}
-use Rattle.tape_events.proofs.LabelledEvents.{Like, link_still, Quietly, Listens}
+use Rattle.tape_events.proofs.LabelledEvents.{Like, link_still, Quietly}
+use Rattle.tape_events.proofs.Moves.{Listens, told_counts}
 use Rattle.tape_events.proofs.CountedHears.{HasCounted, heard_counts}
 
 -- the first opening of a connection is there, if one is
@@ -72,7 +73,7 @@ same_earned w u q counts earned x among =
     still_earned w u x e.0 e.1 e.2 q e.3
 
 -- the count of an attempt of which all was done up to its close
-new_earned : (w u : World) (t : Listens w u) → Quietly w u → IsSingle w.opens t.k t.d → HasCounted w.begun (side_of w.hall t.k) t.c t.d t.at
+new_earned : (w u : World) (t : Listens w) → Quietly w u → IsSingle w.opens t.k t.d → HasCounted w.begun (side_of w.hall t.k) t.c t.d t.at
     → (x : Count) → x ≡ counts_of w t.c.number t.k (count_to (checkpoint_of t.c.at.counts) (t.d.first + t.d.blocks))
     → (m : Link) × (e : Dumping) × (c : Begun) × IsEarnedBy u x m e c
 new_earned w u t q single h x is =
@@ -101,17 +102,17 @@ new_earned w u t q single h x is =
     }
 
 -- the client heard, and may have counted
-listens_counts : (w u : World) (t : Listens w u) → (t.at.counts ≡ t.c.at.counts) ⊎ HasCounted w.begun (side_of w.hall t.k) t.c t.d t.at → Quietly w u
+listens_counts : (w u : World) (t : Listens w) → u.counts ≡ w.counts ++ told_counts w t → (t.at.counts ≡ t.c.at.counts) ⊎ HasCounted w.begun (side_of w.hall t.k) t.c t.d t.at → Quietly w u
     → IsSingle w.opens t.k t.d → AreCountsEarned w → AreCountsEarned u
-listens_counts w u t (inl same) q single earned x among =
+listens_counts w u t counts (inl same) q single earned x among =
     let none : drop (length t.c.at.counts) t.at.counts ≡ []
     = ap (drop (length t.c.at.counts)) (same ∙ sym (append-nil t.c.at.counts)) ∙ drop_front t.c.at.counts [] in
-    same_earned w u q (t.counts ∙ ap (λ cs. w.counts ++ map (counts_of w t.c.number t.k) cs) none ∙ append-nil w.counts) earned x among
-listens_counts w u t (inr h) q single earned x among =
+    same_earned w u q (counts ∙ ap (λ cs. w.counts ++ map (counts_of w t.c.number t.k) cs) none ∙ append-nil w.counts) earned x among
+listens_counts w u t counts (inr h) q single earned x among =
     let new = count_to (checkpoint_of t.c.at.counts) (t.d.first + t.d.blocks) in
     let one : drop (length t.c.at.counts) t.at.counts ≡ new ∷ []
     = ap (drop (length t.c.at.counts)) h.goes.counts ∙ drop_front t.c.at.counts (new ∷ []) in
-    let all : u.counts ≡ w.counts ++ counts_of w t.c.number t.k new ∷ [] = t.counts ∙ ap (λ cs. w.counts ++ map (counts_of w t.c.number t.k) cs) one in
+    let all : u.counts ≡ w.counts ++ counts_of w t.c.number t.k new ∷ [] = counts ∙ ap (λ cs. w.counts ++ map (counts_of w t.c.number t.k) cs) one in
     elim (Contains-push_cases w.counts (counts_of w t.c.number t.k new) x (subst (λ xs. Contains xs x) all among)) [
       | inl before ↦ (let e = earned x before in still_earned w u x e.0 e.1 e.2 q e.3)
       | inr is ↦ new_earned w u t q single h x (sym is)
@@ -121,10 +122,10 @@ pub quiet_earned : (w u : World) → Quietly w u → u.counts ≡ w.counts → A
 quiet_earned w u q counts earned = same_earned w u q counts earned
 
 -- the client's connection that hears is its own, and it is told
-pub listens_earned : OneReply → (w u : World) (t : Listens w u) → Quietly w u → IsOwned w → AreTold w → AreSingle w → AreCountsEarned w → AreCountsEarned u
-listens_earned g w u t q owned told single earned =
+pub listens_earned : OneReply → (w u : World) (t : Listens w) → u.counts ≡ w.counts ++ told_counts w t → Quietly w u → IsOwned w → AreTold w → AreSingle w → AreCountsEarned w → AreCountsEarned u
+listens_earned g w u t counts q owned told single earned =
     let own : w.own ≡ Some t.k = owned.only t.k (t.l, t.d, t.there, t.other, t.dump) in
-    let at = (told.each t.k t.l t.there).own t.d t.c t.dump own t.caller in
-    listens_counts w u t
+    let at = (told.each t.k t.l t.there).own t.d t.c t.dump own t.client in
+    listens_counts w u t counts
     (heard_counts g t.c.at.stage w.begun (side_of w.hall t.k) t.l t.c t.d t.at t.fed t.n t.progress t.some t.within at t.had t.feeds)
     q (single t.k t.l t.d t.there t.dump) earned

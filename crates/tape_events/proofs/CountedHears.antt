@@ -1,29 +1,25 @@
 -- What a client counts once it heard a reply.
-use Rattle.std.proofs.Common.{◌≡◌, ◌≢◌, ◌⊎◌, ℕ, ◌≤◌, ◌==◌, nat_lt, if◌then◌else◌, Bool, true, false, List, ◌++◌, length, length-append, append_assoc, take, drop, Option, Some, None, Result, Ok, Err, sym, ap, subst, ◌∙◌, inl, inr, arith}
-use Rattle.std.proofs.lemmas.List.{take-append-drop}
-use Rattle.rmt_wire.specs.Reply.{PlainReply, reply_text}
+use Rattle.std.proofs.Common.{◌≡◌, ◌≢◌, ◌⊎◌, ℕ, ◌≤◌, ◌==◌, nat_lt, if◌then◌else◌, Bool, true, false, List, ◌++◌, length, length-append, take, drop, Option, ap, inl, inr, arith}
+use Rattle.rmt_wire.specs.Reply.{PlainReply}
 use Rattle.rmt_wire.specs.Reply.PlainReply.{Done, Data, Error}
-use Rattle.rmt_wire.specs.Reply.Wanted.{Number}
-use Rattle.rmt_wire.specs.ReplyParts.{ReplyGives}
-use Rattle.rmt_wire.specs.declared.fault.WireFault.{WireFault}
 use Rattle.rmt_wire.specs.declared.errno.TheConstants.{ENOSPC}
 use Rattle.rmt_server.specs.Hall.{Side}
 use Rattle.dump_run.specs.Run.{PlainRun}
 use Rattle.dump_run.specs.Label.{label_bytes}
 use Rattle.dump_client.specs.Position.{at_end_of_reel}
 use Rattle.dump_client.specs.Position.Heard.{Reply}
-use Rattle.dump_client.specs.Standing.{Standing, standing, checkpoint_of, IsOver, Becomes, HearsAt, FedAt, Makes}
-use Rattle.dump_client.specs.Listening.{is_more}
+use Rattle.dump_client.specs.Standing.{Standing, standing, checkpoint_of, IsOver, Becomes, HearsAt, FedAt}
 use Rattle.dump_client.specs.Client.{HasFedAt}
-use Rattle.dump_client.specs.declared.count.VolumeCount.{VolumeCount}
+use Rattle.dump_run.specs.declared.count.VolumeCount.{VolumeCount}
 use Rattle.dump_client.specs.declared.step.Step.{Step}
 use Rattle.dump_client.specs.declared.step.Step.TheVariants.{Open, Rewind, Label, Block, Mark, Unload, Close}
 use Rattle.dump_client.specs.declared.stage.Stage.{Stage}
-use Rattle.dump_client.specs.declared.stage.Stage.TheVariants.{Ready, ToSend, Waiting, Asking, Finished, Abandoned}
+use Rattle.dump_client.specs.declared.stage.Stage.TheVariants.{ToSend, Waiting}
 use Rattle.dump_client.specs.declared.stage.Progress.{Progress}
 use Rattle.tape_events.specs.World.{Link, Dumping, Begun, Caller}
-use Rattle.tape_events.specs.Sending.{GoesTo, LeadsOn, IsBrief, IsStepReply, IsAttempt, IsStepReplied, IsLinkToldAt}
-use Rattle.tape_events.proofs.SentWire.{OneReply, one_heard, reply_whole, reply_no_fault}
+use Rattle.tape_events.specs.Sending.{GoesTo, LeadsOn, IsStepReply, IsAttempt, IsStepReplied, IsLinkToldAt}
+use Rattle.tape_events.proofs.SentWire.{OneReply}
+use Rattle.tape_events.proofs.Pieces.{HearsPiece, waits, whole, hearing}
 use Rattle.tape_events.proofs.ToldHears.{unlike_close, some_way}
 
 -- an attempt that is over counts no more
@@ -89,27 +85,20 @@ pub record HasCounted (begun : List Begun) (o : Option Side) (c : Caller) (d : D
   pub attempt : IsAttempt begun c d step b
   pub goes : GoesTo b.run o c.at d new Close
 
-makes_counts : OneReply → (begun : List Begun) (o : Option Side) (l : Link) (c : Caller) (d : Dumping) (step : Step) (b : Begun) (new : Standing)
-    (bytes rest way : List ℕ) (reply : PlainReply) (progress : Progress) (seen : Result (Option PlainReply) WireFault)
-    → IsAttempt begun c d step b → reply_text reply ≡ bytes ++ way → IsBrief reply → LeadsOn b.run o c.at d step reply
-    → ReplyGives (Some Number) bytes seen rest → Makes c.at step bytes seen rest progress new → (new.counts ≡ c.at.counts) ⊎ HasCounted begun o c d new
-makes_counts g begun o l c d step b new bytes rest way reply progress (Ok None) attempt text brief leads gives (moved, is) = inl (ap (λ (s : Standing). s.counts) is)
-makes_counts g begun o l c d step b new bytes rest way reply progress (Ok (Some found)) attempt text brief leads gives hears =
-    let whole = reply_whole g Number (reply_text reply) bytes way rest reply found brief.spelled text gives in
-    let its : HearsAt c.at step (Reply reply) false progress new
-    = subst (λ r. HearsAt c.at step (Reply r) false progress new) whole.0 (subst (λ x. HearsAt c.at step (Reply found) (is_more x) progress new) whole.1 hears) in
-    elim (becomes_counts c.at new step reply progress its) [
-      | inl same ↦ inl same
-      | inr at ↦ inr record {
-        b = b;
-        step = step;
-        other = unlike_close c.at new step Close reply progress its at;
-        attempt = attempt;
-        goes = leads progress new Close its at;
-      }
-    ]
-makes_counts g begun o l c d step b new bytes rest way reply progress (Err fault) attempt text brief leads gives hears =
-    absurd (reply_no_fault Number (reply_text reply) bytes way rest reply fault brief.spelled text gives)
+hearing_counts : (begun : List Begun) (o : Option Side) (c : Caller) (d : Dumping) (step : Step) (b : Begun) (new : Standing) (bytes way : List ℕ) (reply : PlainReply)
+    (progress : Progress) → IsAttempt begun c d step b → LeadsOn b.run o c.at d step reply → HearsPiece c.at step reply bytes way progress new
+    → (new.counts ≡ c.at.counts) ⊎ HasCounted begun o c d new
+hearing_counts begun o c d step b new bytes way reply progress attempt leads (waits moved is text) = inl (ap (λ (s : Standing). s.counts) is)
+hearing_counts begun o c d step b new bytes way reply progress attempt leads (whole spelled none heard) = elim (becomes_counts c.at new step reply progress heard) [
+  | inl same ↦ inl same
+  | inr at ↦ inr record {
+    b = b;
+    step = step;
+    other = unlike_close c.at new step Close reply progress heard at;
+    attempt = attempt;
+    goes = leads progress new Close heard at;
+  }
+]
 
 reply_counts : OneReply → (begun : List Begun) (o : Option Side) (l : Link) (c : Caller) (d : Dumping) (step : Step) (b : Begun) (new : Standing) (fed : List ℕ)
     (n : ℕ) (progress : Progress) → 1 ≤ n → n ≤ length l.back → (r : IsStepReplied b o l c d step) → IsStepReply b.run o c.at d step (r.fed ++ l.back)
@@ -119,14 +108,9 @@ reply_counts g begun o l c d step b new fed n progress first within r (inl none)
     let size : length (r.fed ++ l.back) ≡ 0 = ap length none in
     let both = length-append r.fed l.back in
     absurd (omega (arith, first, within, size, both))
-reply_counts g begun o l c d step b new fed n progress first within r (inr (reply, is, brief, leads)) attempt had (seen, rest, gives, makes) =
-    let size = ap length is in
-    let both = length-append r.fed l.back in
-    let short = brief.short in
-    let same : r.fed ≡ fed = one_heard c.reader Number r.fed fed (omega (arith, size, both, short)) r.has.unread had.unread in
-    let text : reply_text reply ≡ (fed ++ take n l.back) ++ drop n l.back
-    = sym is ∙ ap (λ f. f ++ l.back) same ∙ ap (λ x. fed ++ x) (sym (take-append-drop n l.back)) ∙ sym (append_assoc fed (take n l.back) (drop n l.back)) in
-    makes_counts g begun o l c d step b new (fed ++ take n l.back) rest (drop n l.back) reply progress seen attempt text brief leads gives makes
+reply_counts g begun o l c d step b new fed n progress first within r (inr (reply, is, brief, leads)) attempt had feeds =
+    hearing_counts begun o c d step b new (fed ++ take n l.back) (drop n l.back) reply progress attempt leads
+    (hearing g c.reader c.at new step reply r.fed fed l.back n progress brief is r.has had feeds)
 
 -- What was heard: no count more, or that of an attempt of which all was done up to its close.
 pub heard_counts : OneReply → (stage : Stage) (begun : List Begun) (o : Option Side) (l : Link) (c : Caller) (d : Dumping) (new : Standing) (fed : List ℕ) (n : ℕ)
@@ -136,7 +120,4 @@ heard_counts g (ToSend step) begun o l c d new fed n progress first within (b, a
 heard_counts g (Waiting step) begun o l c d new fed n progress first within (b, attempt, inl asked) had feeds = absurd (some_way l n first within asked.back)
 heard_counts g (Waiting step) begun o l c d new fed n progress first within (b, attempt, inr replied) had feeds =
     reply_counts g begun o l c d step b new fed n progress first within replied replied.reply attempt had feeds
-heard_counts g Ready begun o l c d new fed n progress first within told had (moved, is) = inl (ap (λ (s : Standing). s.counts) is)
-heard_counts g Asking begun o l c d new fed n progress first within told had (moved, is) = inl (ap (λ (s : Standing). s.counts) is)
-heard_counts g Finished begun o l c d new fed n progress first within told had (moved, is) = inl (ap (λ (s : Standing). s.counts) is)
-heard_counts g Abandoned begun o l c d new fed n progress first within told had (moved, is) = inl (ap (λ (s : Standing). s.counts) is)
+heard_counts g stage begun o l c d new fed n progress first within told had (moved, is) = inl (ap (λ (s : Standing). s.counts) is)

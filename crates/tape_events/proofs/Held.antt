@@ -1,39 +1,26 @@
 -- Who holds the drives, whatever happens.
-use Rattle.std.proofs.Common.{◌≡◌, ◌⊎◌, ℕ, zero, suc, Bool, true, false, List, [], ◌∷◌, length, Option, Some, None, Result, Ok, Err, refl, sym, ap, subst, ◌∙◌, inl, inr, arith}
+use Rattle.std.proofs.Common.{◌≡◌, ◌⊎◌, ℕ, zero, suc, List, length, Option, Some, None, refl, sym, ap, subst, ◌∙◌, inl, inr, arith}
 use Rattle.std.specs.Prelude.{slice_get, option_and_then}
 use Rattle.std.proofs.lemmas.Bool.Decides.{eqb_tells}
 use Rattle.std.proofs.lemmas.List.{length-set}
 use Rattle.std.proofs.lemmas.Option.{same_Some}
-use Rattle.rmt_wire.specs.Request.{PlainRequest}
 use Rattle.rmt_wire.specs.RequestReader.{held}
-use Rattle.rmt_wire.specs.declared.fault.WireFault.{WireFault}
-use Rattle.tape.specs.declared.trouble.Trouble.{Trouble}
 use Rattle.drives.specs.Shop.{Shop}
-use Rattle.drives.specs.Arranging.{arranged}
-use Rattle.rmt_server.specs.Hall.{Hall, hall, Side, side}
+use Rattle.rmt_server.specs.Hall.{Hall, Side, side}
 use Rattle.rmt_server.specs.Session.{PlainSession, scene}
 use Rattle.rmt_server.specs.Session.PlainSession.{Idle}
 use Rattle.rmt_server.specs.TroubledServe.{drive_in, with_holder}
-use Rattle.dump_client.specs.Standing.{Standing}
-use Rattle.dump_client.specs.declared.step.Step.{Step}
-use Rattle.dump_client.specs.declared.stage.Progress.{Progress}
-use Rattle.dump_client.specs.declared.stage.Progress.TheVariants as moved
-use Rattle.tape_events.specs.World.{World, Dumping, Caller, numbered, with_numbered}
+use Rattle.tape_events.specs.World.{World, numbered, with_numbered}
 use Rattle.tape_events.specs.Events.{PlainEvent}
-use Rattle.tape_events.specs.Events.PlainEvent.{StartRun, Connect, Send, ToServer, Serve, ToClient, Cut, EndAtServer, EndAtClient, ServerRestart, ClientRestart, Respond, Arrange, Stranger, Says, Enter}
-use Rattle.tape_events.specs.Changes.{side_of, with_side, ended_from, ended, all_ended, came_to, calm}
-use Rattle.tape_events.specs.Steps.{Happens, Sends, Finds, Hears, SeesEnd, forgotten_from}
+use Rattle.tape_events.specs.Changes.{side_of, with_side, ended_from, ended, all_ended}
+use Rattle.tape_events.specs.Steps.{Happens}
 use Rattle.tape_events.specs.Standing.{AreHeld}
-use Rattle.tape_events.proofs.Numbers.{set_is, set_here, set_other, with_here, with_other, pushed_is, numbered_more, numbered_first}
-use Rattle.tape_events.proofs.Served.{closed_racks, holders_length, step_serves}
-
--- the live side of that number, as a member
-pub is_side : (o : Option (Option Side)) (s : Side) → option_and_then (λ x. x) o ≡ Some s → o ≡ Some (Some s)
-is_side None s is = absurd cc
-is_side (Some x) s is = ap Some is
-
-pub side_there : (h : Hall) (k : ℕ) (s : Side) → side_of h k ≡ Some s → numbered h.sides k ≡ Some (Some s)
-side_there h k s is = is_side (numbered h.sides k) s is
+use Rattle.tape_events.proofs.Numbers.{set_is, set_here, set_other, with_here, with_other, numbered_first}
+use Rattle.tape_events.proofs.Served.{closed_racks, holders_length, comes_serves}
+pub use Rattle.tape_events.proofs.Sides.{side_there}
+use Rattle.tape_events.proofs.Sides.{Sits, sits_here, sits_other, joined_is, joined_was, KeepsOver, ended_by, all_ended_by}
+use Rattle.tape_events.proofs.HallMoves.{HallMove, leaves, joins, reads, serves, ends, restarts, arranges, hall_after}
+use Rattle.tape_events.proofs.Moves.{Move, moved, hall_move, hall_moved, happened}
 
 -- the drive that a side, if it is live, has open
 abbrev pub drive_of_side : Option Side → Option ℕ
@@ -58,19 +45,10 @@ cleared_own holders o d k is at = ap (λ x. slice_get (with_holder x 0 holders) 
 
 -- A live side is another, or over, and the holders follow: what was open is free, and what is open is its own.
 pub record Turns (h : Hall) (k : ℕ) (s : Side) (o : Option Side) (u : Hall) : Type 0 where
-  pub was : side_of h k ≡ Some s
-  pub sides : u.sides ≡ with_numbered h.sides k o
+  pub sits : Sits h k s o u
   pub holders : u.holders ≡ with_holder (drive_of_side o) k (with_holder (drive_in s.session) 0 h.holders)
   pub racks : length u.shop.racks ≡ length h.shop.racks
   pub free : (d : ℕ) → drive_of_side o ≡ Some d → slice_get (with_holder (drive_in s.session) 0 h.holders) d ≡ Some 0
-
-here_now : (h : Hall) (k : ℕ) (s : Side) (o : Option Side) (u : Hall) → Turns h k s o u → side_of u k ≡ o
-here_now h k s o u t =
-    ap (λ ss. option_and_then (λ x. x) (numbered ss k)) t.sides ∙ ap (option_and_then (λ x. x)) (with_here h.sides k (Some s) o (side_there h k s t.was))
-
-other_now : (h : Hall) (k j : ℕ) (s : Side) (o : Option Side) (u : Hall) → Turns h k s o u → (j ≡ k → ⊥) → side_of u j ≡ side_of h j
-other_now h k j s o u t other =
-    ap (λ ss. option_and_then (λ x. x) (numbered ss j)) t.sides ∙ ap (option_and_then (λ x. x)) (with_other h.sides k j o other)
 
 -- the holder of a drive that another has open stays
 holder_stays : (o : Option ℕ) (cleared : List ℕ) (k d n : ℕ) → slice_get cleared d ≡ Some (suc n) → ((e : ℕ) → o ≡ Some e → slice_get cleared e ≡ Some 0)
@@ -85,15 +63,15 @@ opened_turn : (h : Hall) (k : ℕ) (s : Side) (o : Option Side) (u : Hall) → T
 opened_turn h k s o u t a zero d x at drive = absurd (let first = numbered_first u.sides zero (Some x) (side_there u zero x at) in omega (arith, first))
 opened_turn h k s o u t a (suc j) d x at drive = elim (eqb_tells (suc j) k) [
   | inl (equal, same) ↦
-      let mine : o ≡ Some x = sym (here_now h k s o u t) ∙ ap (side_of u) (sym same) ∙ at in
+      let mine : o ≡ Some x = sym (sits_here h k s o u t.sits) ∙ ap (side_of u) (sym same) ∙ at in
       let its : drive_of_side o ≡ Some d = ap drive_of_side mine ∙ drive in
       ap (λ l. slice_get l d) t.holders ∙ ap (λ e. slice_get (with_holder e k (with_holder (drive_in s.session) 0 h.holders)) d) its
       ∙ set_here (with_holder (drive_in s.session) 0 h.holders) d 0 k (t.free d its) ∙ ap Some (sym same)
   | inr (unequal, other) ↦
-      let before : side_of h (suc j) ≡ Some x = sym (other_now h k (suc j) s o u t other) ∙ at in
+      let before : side_of h (suc j) ≡ Some x = sym (sits_other h k (suc j) s o u t.sits other) ∙ at in
       let holder = a.opened (suc j) d x before drive in
       let cleared = cleared_other (drive_in s.session) h.holders d (suc j) holder
-      (λ own. other (same_Some (suc j) k (sym holder ∙ a.opened k d s t.was own))) in
+      (λ own. other (same_Some (suc j) k (sym holder ∙ a.opened k d s t.sits.was own))) in
       ap (λ l. slice_get l d) t.holders ∙ holder_stays (drive_of_side o) (with_holder (drive_in s.session) 0 h.holders) k d j cleared t.free
 ]
 
@@ -104,8 +82,8 @@ told_holder h k s o u t a j d at =
     let was = cleared_was (drive_in s.session) h.holders d j at in
     let x = a.holds j d was.0 in
     let other : suc j ≡ k → ⊥
-    = λ same. was.1 (ap (λ (z : Side). drive_in z.session) (same_Some s x.0 (sym t.was ∙ ap (side_of h) (sym same) ∙ x.1)) ∙ x.2) in
-    (x.0, other_now h k (suc j) s o u t other ∙ x.1, x.2)
+    = λ same. was.1 (ap (λ (z : Side). drive_in z.session) (same_Some s x.0 (sym t.sits.was ∙ ap (side_of h) (sym same) ∙ x.1)) ∙ x.2) in
+    (x.0, sits_other h k (suc j) s o u t.sits other ∙ x.1, x.2)
 
 holds_from : (h : Hall) (k : ℕ) (s : Side) (o : Option Side) (u : Hall) (e : Option ℕ) → Turns h k s o u → AreHeld h → drive_of_side o ≡ e → (j d : ℕ)
     → slice_get (with_holder e k (with_holder (drive_in s.session) 0 h.holders)) d ≡ Some (suc j)
@@ -113,7 +91,7 @@ holds_from : (h : Hall) (k : ℕ) (s : Side) (o : Option Side) (u : Hall) (e : O
 holds_from h k s o u None t a its j d at = told_holder h k s o u t a j d at
 holds_from h k s None u (Some e) t a its j d at = absurd cc
 holds_from h k s (Some x) u (Some e) t a its j d at = elim (set_is (with_holder (drive_in s.session) 0 h.holders) e d k (suc j) at) [
-  | inl (same, mine) ↦ (x, ap (side_of u) mine ∙ here_now h k s (Some x) u t, its ∙ ap Some (sym same))
+  | inl (same, mine) ↦ (x, ap (side_of u) mine ∙ sits_here h k s (Some x) u t.sits, its ∙ ap Some (sym same))
   | inr (other, on) ↦ told_holder h k s (Some x) u t a j d on
 ]
 
@@ -161,33 +139,34 @@ read_held h u k s x was session sides holders racks a =
 joined_held : (h : Hall) → AreHeld h → AreHeld (with_side h)
 joined_held h a = record {
   places = a.places;
-  opened = λ k d s at drive. elim (pushed_is h.sides (Some (side (held [] 0) Idle)) k (Some s) (side_there (with_side h) k s at)) [
-    | inl on ↦ a.opened k d s (ap (option_and_then (λ x. x)) on) drive
-    | inr (last, new) ↦ (
-        let its : s ≡ side (held [] 0) Idle = same_Some s (side (held [] 0) Idle) new in
-        let clash : drive_in Idle ≡ Some d = ap (λ (z : Side). drive_in z.session) (sym its) ∙ drive in absurd cc)
+  opened = λ k d s at drive. elim (joined_is h k s at) [
+    | inl on ↦ a.opened k d s on drive
+    | inr new ↦ (let clash : drive_in Idle ≡ Some d = ap (λ (z : Side). drive_in z.session) new ∙ drive in absurd cc)
   ];
-  holds = λ k d at. (let x = a.holds k d at in
-      (x.0, ap (option_and_then (λ y. y)) (numbered_more h.sides (Some (side (held [] 0) Idle) ∷ []) (suc k) (Some x.0) (side_there h (suc k) x.0 x.1)), x.2));
+  holds = λ k d at. (let x = a.holds k d at in (x.0, joined_was h (suc k) x.0 x.1, x.2));
 }
 
 -- a side that is over
-ended_held_from : (h : Hall) (k : ℕ) (o : Option Side) → side_of h k ≡ o → AreHeld h → AreHeld (ended_from h k o)
-ended_held_from h k None is a = a
-ended_held_from h k (Some s) is a = turned_held h k s None _ record {
-  was = is;
-  sides = refl;
+over_held : KeepsOver AreHeld
+over_held h k s is a = turned_held h k s None _ record {
+  sits = record { was = is; sides = refl };
   holders = refl;
   racks = closed_racks h.shop s.session;
   free = λ d e. absurd cc;
 } a
 
-pub ended_held : (h : Hall) (k : ℕ) → AreHeld h → AreHeld (ended h k)
-ended_held h k a = ended_held_from h k (side_of h k) refl a
+-- what stays so beside this of a hall of which a side is over
+abbrev pub KeepsHeldOver : (Hall → Type 0) → Type 0
+KeepsHeldOver P = (h : Hall) (k : ℕ) (s : Side) → side_of h k ≡ Some s → AreHeld h → P h → P (ended_from h k (Some s))
 
-pub all_ended_held : (h : Hall) (n : ℕ) → AreHeld h → AreHeld (all_ended h n)
-all_ended_held h zero a = a
-all_ended_held h (suc n) a = ended_held (all_ended h n) (suc n) (all_ended_held h n a)
+both_over : (P : Hall → Type 0) → KeepsHeldOver P → KeepsOver (λ h. AreHeld h × P h)
+both_over P over h k s is both = (over_held h k s is both.0, over h k s is both.0 both.1)
+
+pub held_ended_by : (P : Hall → Type 0) → KeepsHeldOver P → (h : Hall) (k : ℕ) → AreHeld h → P h → P (ended h k)
+held_ended_by P over h k a p = (ended_by (λ x. AreHeld x × P x) (both_over P over) h k (a, p)).1
+
+pub held_all_ended_by : (P : Hall → Type 0) → KeepsHeldOver P → (h : Hall) (n : ℕ) → AreHeld h → P h → P (all_ended h n)
+held_all_ended_by P over h n a p = (all_ended_by (λ x. AreHeld x × P x) (both_over P over) h n (a, p)).1
 
 -- a free place stays free once nothing is open
 pub free_then : (holders : List ℕ) (session : PlainSession) (d k : ℕ) → (drive_in session ≡ Some d → slice_get holders d ≡ Some k)
@@ -198,65 +177,24 @@ free_then holders session d k own way = elim way [
   | inr free ↦ free
 ]
 
-finds_held : (w : World) (k : ℕ) (trouble : Trouble) (s : Side) (found : Result (Option PlainRequest) WireFault) (rest : List ℕ) (u : World)
-    → side_of w.hall k ≡ Some s → Finds w k trouble s found rest u → AreHeld w.hall → AreHeld u.hall
-finds_held w k trouble s (Ok None) rest u live finds a = absurd finds
-finds_held w k trouble s (Ok (Some request)) rest u live (reply, reached, shop, session, holders, unread, served, is) a =
-    let v = step_serves trouble w.hall.holders (scene w.hall.shop s.session) request reply (scene shop session) a.places served.step in
-    subst (λ (x : World). AreHeld x.hall) (sym is) (turned_held w.hall k s (Some (side reached session)) _ record {
-      was = live;
-      sides = refl;
-      holders = served.held;
+hall_held : (h : Hall) (m : HallMove h) → AreHeld h → AreHeld (hall_after h m)
+hall_held h leaves a = a
+hall_held h joins a = joined_held h a
+hall_held h (reads k s reached live unread) a = read_held h _ k s (side reached s.session) live refl refl refl refl a
+hall_held h (serves k s x shop holders opened live unread comes held) a =
+    let v = comes_serves h.holders (scene h.shop s.session) (scene shop x.session) opened a.places comes in
+    turned_held h k s (Some x) _ record {
+      sits = record { was = live; sides = refl };
+      holders = held;
       racks = v.racks;
-      free = λ d drive. free_then w.hall.holders s.session d k (a.opened k d s live) (v.drive d drive);
-    } a)
-finds_held w k trouble s (Err fault) rest u live is a = subst (λ (x : World). AreHeld x.hall) (sym is) (ended_held w.hall k a)
+      free = λ d drive. free_then h.holders s.session d k (a.opened k d s live) (v.drive d drive);
+    } a
+hall_held h (ends k) a = ended_by AreHeld over_held h k a
+hall_held h restarts a = all_ended_by AreHeld over_held h (length h.sides) a
+hall_held h (arranges d names within free) a = same_held h _ refl refl (length-set h.shop.racks d _) a
 
-came_held : (w : World) (k : ℕ) (at : Standing) (progress : Progress) → AreHeld w.hall → AreHeld (came_to w k at progress).hall
-came_held w k at (moved.Failed fault) a = a
-came_held w k at moved.Ended a = a
-came_held w k at moved.Idle a = a
-came_held w k at moved.Waiting a = a
-came_held w k at moved.Send a = a
-
-hears_held : (o : Option Dumping) (w : World) (k n : ℕ) (piece : List ℕ) (u : World) → Hears o w k n piece u → AreHeld w.hall → AreHeld u.hall
-hears_held None w k n piece u is a = subst (λ (x : World). AreHeld x.hall) (sym is) a
-hears_held (Some dump) w k n piece u (c, fed, at, reader, progress, there, had, feeds, has, is) a =
-    subst (λ (x : World). AreHeld x.hall) (sym is) (came_held _ k at progress a)
-
-sees_held : (o : Option Dumping) (w : World) (k : ℕ) (u : World) → SeesEnd o w k u → AreHeld w.hall → AreHeld u.hall
-sees_held None w k u is a = subst (λ (x : World). AreHeld x.hall) (sym is) a
-sees_held (Some dump) w k u (c, at, reader, progress, there, cuts, has, is) a = subst (λ (x : World). AreHeld x.hall) (sym is) (came_held _ k at progress a)
-
-sends_held : (failing : Bool) (w : World) (k : ℕ) (c : Caller) (payload : List (List ℕ)) (step : Step) (u : World) → Sends failing w k c payload step u
-    → AreHeld w.hall → AreHeld u.hall
-sends_held true w k c payload step u (reader, is) a = subst (λ (x : World). AreHeld x.hall) (sym is) a
-sends_held false w k c payload step u (reader, has, is) a = subst (λ (x : World). AreHeld x.hall) (sym is) a
-
-forgotten_held : (w : World) (o : Option ℕ) → AreHeld w.hall → AreHeld (record (forgotten_from (calm w) o) { caller = None }).hall
-forgotten_held w None a = a
-forgotten_held w (Some k) a = a
-
--- the world's hall is that of a world for which it is shown
-in_place : (u v : World) → u ≡ v → AreHeld v.hall → AreHeld u.hall
-in_place u v is a = subst (λ (x : World). AreHeld x.hall) (sym is) a
+pub held_moved : (w : World) (m : Move w) → AreHeld w.hall → AreHeld (moved w m).hall
+held_moved w m a = subst AreHeld (sym (hall_moved w m)) (hall_held w.hall (hall_move w m) a)
 
 pub held_after : (w : World) (event : PlainEvent) (u : World) → Happens w event u → AreHeld w.hall → AreHeld u.hall
-held_after w (StartRun run payload) u (may, (reader, is)) a = in_place u _ is a
-held_after w Connect u (may, (c, there, ready, is)) a = in_place u _ is (joined_held w.hall a)
-held_after w (Send fails) u (may, (c, step, k, b, there, stage, own, begun, sends)) a = sends_held _ w k c b.payload step u sends a
-held_after w (ToServer k n) u (may, (s, l, reached, live, at, grows, is)) a =
-    in_place u _ is (read_held w.hall _ k s (side reached s.session) live refl refl refl refl a)
-held_after w (Serve k trouble) u (may, (s, found, bytes, rest, live, unread, gives, finds)) a = finds_held w k trouble s found rest u live finds a
-held_after w (ToClient k n) u (may, (l, at, hears)) a = hears_held l.dump w k n _ u hears a
-held_after w (Cut k) u (may, is) a = in_place u _ is a
-held_after w (EndAtServer k) u (may, is) a = in_place u _ is (ended_held w.hall k a)
-held_after w (EndAtClient k) u (may, (l, at, sees)) a = sees_held l.dump w k u sees a
-held_after w ServerRestart u (may, is) a = in_place u _ is (all_ended_held w.hall (length w.hall.sides) a)
-held_after w ClientRestart u (may, is) a = in_place u _ is (forgotten_held w w.own a)
-held_after w (Respond answer) u (may, (c, reader, there, asks, is)) a = in_place u _ is a
-held_after w (Arrange drive reels) u (may, (d, named, is)) a =
-    in_place u _ is (same_held w.hall (hall (arranged w.hall.shop d reels) w.hall.holders w.hall.sides) refl refl (length-set w.hall.shop.racks d _) a)
-held_after w Stranger u (may, is) a = in_place u _ is (joined_held w.hall a)
-held_after w (Says k bytes) u (may, is) a = in_place u _ is a
-held_after w Enter u (may, (c, there, is)) a = in_place u _ is a
+held_after w event u happens a = let m = happened w event u happens in subst (λ (x : World). AreHeld x.hall) (sym m.1) (held_moved w m.0 a)

@@ -1,7 +1,6 @@
 -- What a change of the hall makes of what stands on reels.
-use Rattle.std.proofs.Common.{◌≡◌, ◌⊎◌, ℕ, zero, suc, List, [], Option, Some, None, refl, sym, ap, subst, ◌∙◌, inl, inr}
+use Rattle.std.proofs.Common.{◌≡◌, ◌⊎◌, ℕ, List, [], Some, None, refl, sym, ap, subst, ◌∙◌, inl, inr}
 use Rattle.std.specs.Prelude.{slice_index_or}
-use Rattle.std.proofs.lemmas.Bool.Decides.{eqb_tells}
 use Rattle.std.proofs.lemmas.Option.{same_Some}
 use Rattle.rmt_wire.specs.Request.{PlainRequest}
 use Rattle.rmt_wire.specs.Reply.{PlainReply}
@@ -11,11 +10,12 @@ use Rattle.drives.specs.Shop.{KeptReel, Rack, rack, Shop, rack_at}
 use Rattle.drives.specs.Arranging.{arranged}
 use Rattle.rmt_server.specs.Hall.{Hall, hall, Side}
 use Rattle.rmt_server.specs.Session.{PlainSession, scene, closed_shop}
-use Rattle.rmt_server.specs.TroubledServe.{drive_in, TroubledServeStep}
-use Rattle.tape_events.specs.Changes.{side_of, ended_from, ended, all_ended, first_name}
+use Rattle.rmt_server.specs.TroubledServe.{TroubledServeStep}
+use Rattle.tape_events.specs.Changes.{side_of, ended_from, first_name}
 use Rattle.tape_events.specs.Standing.{online_drive_in, AreHeld, ReelLiesOn, HasInDrive, StandsOn}
-use Rattle.tape_events.proofs.Held.{all_ended_held}
-use Rattle.tape_events.proofs.Laid.{IsOnlineElse, Sits, sits_here, sits_other, alone_at, rack_other, free_off}
+use Rattle.tape_events.proofs.Sides.{Sits, sits_is}
+use Rattle.tape_events.proofs.Held.{KeepsHeldOver}
+use Rattle.tape_events.proofs.Laid.{apart, online_drive, rack_other, free_off}
 use Rattle.tape_events.proofs.Opened.{closed_else, comes_else}
 use Rattle.tape_events.proofs.NamedRequests.{step_comes}
 use Rattle.tape_events.proofs.LabelledFrame.{closed_lies, arranged_lies}
@@ -49,57 +49,37 @@ served_stands trouble holders h u k s x request reply t a b step name entries st
       | inr wrote ↦ inr wrote
     ]
 
-    there : (d : ℕ) → IsOnlineElse h k d → IsOnlineElse u k d
-    there d (j, other, (y, at, on)) = (j, other, (y, sits_other h k j s (Some x) u t other ∙ at, on))
-
-    apart : (d : ℕ) → IsOnlineElse h k d → drive_in x.session ≡ Some d → ⊥
-    apart d elsewhere drive = alone_at u k x d b (sits_here h k s (Some x) u t) drive (there d elsewhere)
-
     from : StandsOn u name entries → StandsOn h name entries ⊎ WritesOn (scene h.shop s.session) request name
     from (inl lies) = own (inl lies)
-    from (inr (j, y, at, has)) = elim (eqb_tells j k) [
-      | inl (equal, same) ↦
-          let its : y ≡ x = same_Some y x (sym at ∙ ap (side_of u) same ∙ sits_here h k s (Some x) u t) in
-          own (inr (subst (λ (z : Side). HasInDrive u.shop z.session name entries) its has))
-      | inr (unequal, other) ↦
-          let was : side_of h j ≡ Some y = sym (sits_other h k j s (Some x) u t other) ∙ at in
-          inl (inr (
-            j,
-            y,
-            was,
-            same_rack u.shop h.shop y.session name entries
-                (λ d on. comes_else h k s (scene u.shop x.session) _ t.was a apart (step_comes trouble holders (scene h.shop s.session) request reply (scene u.shop x.session) step) d
-                (j, other, (y, was, on))) has,
-          ))
+    from (inr (j, y, at, has)) = elim (sits_is h k s (Some x) u t j y at) [
+      | inl (same, mine) ↦ own (inr (subst (λ (z : Side). HasInDrive u.shop z.session name entries) (same_Some y x (sym mine)) has))
+      | inr (other, was) ↦ inl (inr (
+        j,
+        y,
+        was,
+        same_rack u.shop h.shop y.session name entries
+            (λ d on. comes_else holders h k s (scene u.shop x.session) _ t.was a (apart h u k s x t b)
+            (step_comes trouble holders (scene h.shop s.session) request reply (scene u.shop x.session) step) d (j, other, (y, was, online_drive y.session d on))) has,
+      ))
     ]
 
 -- a side is over, and what it had open is laid back
-ended_stands_from : (h : Hall) (k : ℕ) (o : Option Side) → side_of h k ≡ o → AreHeld h → StoodIn h (ended_from h k o)
-ended_stands_from h k None is a name entries stands = stands
-ended_stands_from h k (Some s) is a name entries (inl lies) = elim (closed_lies h.shop s.session name entries lies) [
-  | inl on ↦ inl on
-  | inr has ↦ inr (k, s, is, has)
+pub over_stands : (base : Hall) → KeepsHeldOver (StoodIn base)
+over_stands base h k s is a stood name entries (inl lies) = elim (closed_lies h.shop s.session name entries lies) [
+  | inl on ↦ stood name entries (inl on)
+  | inr has ↦ stood name entries (inr (k, s, is, has))
 ]
-ended_stands_from h k (Some s) is a name entries (inr (j, y, at, has)) = elim (eqb_tells j k) [
-  | inl (equal, same) ↦ (let clash = sym (sits_here h k s None (ended_from h k (Some s)) record { was = is; sides = refl }) ∙ ap (side_of (ended_from h k (Some s))) (sym same) ∙ at in absurd cc)
-  | inr (unequal, other) ↦
-      let was : side_of h j ≡ Some y = sym (sits_other h k j s None (ended_from h k (Some s)) record { was = is; sides = refl } other) ∙ at in
-      inr (
+over_stands base h k s is a stood name entries (inr (j, y, at, has)) =
+    elim (sits_is h k s None (ended_from h k (Some s)) record { was = is; sides = refl } j y at) [
+      | inl (same, none) ↦ absurd cc
+      | inr (other, was) ↦ stood name entries (inr (
         j,
         y,
         was,
         same_rack (closed_shop h.shop s.session) h.shop y.session name entries
-            (λ d on. closed_else h k s is a s.session refl d (j, other, (y, was, on))) has,
-      )
-]
-
-pub ended_stands : (h : Hall) (k : ℕ) → AreHeld h → StoodIn h (ended h k)
-ended_stands h k a = ended_stands_from h k (side_of h k) refl a
-
-pub all_ended_stands : (h : Hall) (n : ℕ) → AreHeld h → StoodIn h (all_ended h n)
-all_ended_stands h zero a name entries stands = stands
-all_ended_stands h (suc n) a name entries stands =
-    all_ended_stands h n a name entries (ended_stands (all_ended h n) (suc n) (all_ended_held h n a) name entries stands)
+            (λ d on. closed_else h k s is a s.session refl d (j, other, (y, was, online_drive y.session d on))) has,
+      ))
+    ]
 
 -- sides are others, and each that is online was there with the same session
 pub sides_stand : (h u : Hall) → u.shop ≡ h.shop

@@ -97,7 +97,7 @@ stands_one h k s drive access reel name entries live online is a l once (inr (j,
       sym holds ∙ ap (λ (x : PlainReel). entries_of x.tape) reels
   | inr (unequal, differ) ↦
       let apart : e ≢ drive
-      = λ same. alone_at h k s drive a live (ap drive_in online) (j, differ, (y, at, ap online_drive_in now ∙ ap Some same)) in
+      = λ same. alone_at h k s drive a live (ap drive_in online) (j, differ, (y, at, ap drive_in now ∙ ap Some same)) in
       absurd (names_differ h.shop e drive once apart (drive_within h j y e a at (ap drive_in now)) (l.latched e (j, y, at, ap online_drive_in now))
       (drive_within h k s drive a live (ap drive_in online)) (l.latched drive (k, s, live, ap online_drive_in online)) (named ∙ sym is))
 ]

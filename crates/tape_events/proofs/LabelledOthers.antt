@@ -17,10 +17,11 @@ use Rattle.tape_events.specs.Headline.{IsUnopenedSince, block_records}
 use Rattle.tape_events.specs.Naming.{AreOpened}
 use Rattle.tape_events.specs.Written.{attempt_written, label_if, mark_if, IsBeforeOffline}
 use Rattle.tape_events.specs.Attempts.{IsReelWritten, IsLabelled, AreLabelled}
-use Rattle.tape_events.proofs.Numbers.{pushed_is, numbered_more}
-use Rattle.tape_events.proofs.Laid.{Sits, sits_other, less_or_more}
+use Rattle.tape_events.proofs.Numbers.{pushed_is, numbered_more, less_or_more}
+use Rattle.tape_events.proofs.Sides.{Sits, sits_other}
 use Rattle.tape_events.proofs.LabelledHalls.{served_stands}
-use Rattle.tape_events.proofs.LabelledEvents.{SameNotes, same_notes, IsFresh, Quietly, Serves}
+use Rattle.tape_events.proofs.LabelledEvents.{SameNotes, same_notes, IsFresh, Quietly}
+use Rattle.tape_events.proofs.Moves.{Turn, turned}
 use Rattle.tape_events.proofs.LabelledSingle.{like_back}
 
 -- the same was written
@@ -92,26 +93,25 @@ last_before opens j k reel (Some r) other (i, at, behind) = elim (pushed_is open
 ]
 
 -- a request of another connection
-pub others_labelled : (w u : World) (v : Serves w u) (j : ℕ) (d : Dumping) → j ≢ v.k → AreHeld w.hall → AreHeld u.hall → AreOpened w → IsLabelled w j d → IsLabelled u j d
-others_labelled w u v j d other a b opened labelled label =
+pub others_labelled : (w : World) (v : Turn w) (j : ℕ) (d : Dumping) → j ≢ v.k → AreHeld w.hall → AreHeld (turned w v).hall → AreOpened w → IsLabelled w j d → IsLabelled (turned w v) j d
+others_labelled w v j d other a b opened labelled label =
     let p = labelled label in
     let h : Hall = hall v.shop v.holders (with_numbered w.hall.sides v.k (Some (side v.reached v.session))) in
-    let same : u.hall ≡ h = ap (λ (x : World). x.hall) v.is in
     let sits : Sits w.hall v.k v.s (Some (side v.reached v.session)) h = record { was = v.live; sides = refl } in (
       p.0,
-      ap (λ (x : World). numbered x.begun d.run) v.is ∙ p.1,
+      p.1,
       λ reel quiet.
           (let last : IsUnopenedSince w.opens j reel
-          = last_before w.opens j v.k reel (opened_reel v.request v.shop v.session) other (subst (λ (x : World). IsUnopenedSince x.opens j reel) v.is quiet.1) in
-          still_written w u j p.0 d d reel (same_notes d)
+          = last_before w.opens j v.k reel (opened_reel v.request v.shop v.session) other quiet.1 in
+          still_written w (turned w v) j p.0 d d reel (same_notes d)
           record {
             stands = λ entries on.
-                elim (served_stands v.trouble w.hall.holders w.hall h v.k v.s (side v.reached v.session) v.request v.reply sits a (subst AreHeld same b) v.served.step reel entries
-                (subst (λ x. StandsOn x reel entries) same on)) [
+                elim (served_stands v.trouble w.hall.holders w.hall h v.k v.s (side v.reached v.session) v.request v.reply sits a b v.served.step reel entries
+                on) [
                   | inl before ↦ before
                   | inr wrote ↦ absurd (other (last_same w.opens j v.k reel last (opened.last v.k v.s reel v.live wrote.1)))
                 ];
-            sides = λ s r here on. (s, sym (sits_other w.hall v.k j v.s (Some (side v.reached v.session)) h sits other) ∙ ap (λ x. side_of x j) (sym same) ∙ here, refl);
+            sides = λ s r here on. (s, sym (sits_other w.hall v.k j v.s (Some (side v.reached v.session)) h sits other) ∙ here, refl);
           }
           (p.2 reel (quiet.0, last))),
     )

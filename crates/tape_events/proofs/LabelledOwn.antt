@@ -1,40 +1,35 @@
 -- What an attempt wrote stands on its reel, when its own request is carried out once the mark was accepted.
-use Rattle.std.proofs.Common.{◌≡◌, ℕ, true, false, List, Option, Some, refl, sym, ap, subst, ◌∙◌, inl, inr}
+use Rattle.std.proofs.Common.{◌≡◌, ℕ, true, false, List, Option, Some, refl, sym, ap, ◌∙◌, inl, inr}
 use Rattle.rmt_server.specs.Hall.{Hall, hall, Side, side}
 use Rattle.rmt_server.specs.Session.{tape_request}
 use Rattle.tape.specs.Tape.{PlainEntry}
 use Rattle.dump_client.specs.declared.step.Step.{Step}
-use Rattle.dump_client.specs.declared.step.Step.TheVariants.{Open, Rewind, Label, Block, Mark, Unload, Close}
+use Rattle.dump_client.specs.declared.step.Step.TheVariants.{Unload, Close}
 use Rattle.tape_events.specs.World.{World, Link, Dumping, Begun, with_numbered}
 use Rattle.tape_events.specs.Standing.{AreHeld, StandsOn}
 use Rattle.tape_events.specs.Sending.{HasDone, request_in}
 use Rattle.tape_events.specs.Written.{attempt_written}
 use Rattle.tape_events.specs.Attempts.{IsReelWritten}
-use Rattle.tape_events.proofs.Laid.{Sits}
+use Rattle.tape_events.proofs.Sides.{Sits}
 use Rattle.tape_events.proofs.LabelledSteps.{is_write}
 use Rattle.tape_events.proofs.LabelledHalls.{served_stands}
-use Rattle.tape_events.proofs.LabelledEvents.{Serves}
+use Rattle.tape_events.proofs.Moves.{Turn, turned}
 use Rattle.tape_events.proofs.LabelledServes.{IsServed}
 
 -- behind the mark no request asks for a write
 marked_reads : (b : Begun) (o : Option Side) (d : Dumping) (step : Step) → HasDone b.run o d step → d.mark ≡ true → is_write (tape_request (request_in b d step)) ≡ false
-marked_reads b o d Open done marked = let clash = sym done.mark ∙ marked in absurd cc
-marked_reads b o d Rewind done marked = let clash = sym done.mark ∙ marked in absurd cc
-marked_reads b o d Label done marked = let clash = sym done.mark ∙ marked in absurd cc
-marked_reads b o d (Block number) done marked = let clash = sym done.mark ∙ marked in absurd cc
-marked_reads b o d (Mark next) done marked = let clash = sym done.mark ∙ marked in absurd cc
 marked_reads b o d (Unload next) done marked = refl
 marked_reads b o d Close done marked = refl
+marked_reads b o d step done marked = let clash = sym done.mark ∙ marked in absurd cc
 
 -- what stands on the reel stood there before, so it is what was written
-pub marked_stands : (w u : World) (v : Serves w u) (l : Link) (d : Dumping) → IsServed w u v l d → d.mark ≡ true → AreHeld w.hall → AreHeld u.hall → (b : Begun) (reel : List ℕ)
-    → IsReelWritten w v.k b d reel → (entries : List PlainEntry) → StandsOn u.hall reel entries → entries ≡ attempt_written b.run b.payload d
-marked_stands w u v l d p marked a c b reel was entries on =
+pub marked_stands : (w : World) (v : Turn w) (l : Link) (d : Dumping) → IsServed w v l d → d.mark ≡ true → AreHeld w.hall → AreHeld (turned w v).hall → (b : Begun) (reel : List ℕ)
+    → IsReelWritten w v.k b d reel → (entries : List PlainEntry) → StandsOn (turned w v).hall reel entries → entries ≡ attempt_written b.run b.payload d
+marked_stands w v l d p marked a c b reel was entries on =
     let h : Hall = hall v.shop v.holders (with_numbered w.hall.sides v.k (Some (side v.reached v.session))) in
-    let same : u.hall ≡ h = ap (λ (x : World). x.hall) v.is in
     let sits : Sits w.hall v.k v.s (Some (side v.reached v.session)) h = record { was = v.live; sides = refl } in
-    elim (served_stands v.trouble w.hall.holders w.hall h v.k v.s (side v.reached v.session) v.request v.reply sits a (subst AreHeld same c) v.served.step reel entries
-    (subst (λ x. StandsOn x reel entries) same on)) [
+    elim (served_stands v.trouble w.hall.holders w.hall h v.k v.s (side v.reached v.session) v.request v.reply sits a c v.served.step reel entries
+    on) [
       | inl before ↦ was.stands entries before
       | inr wrote ↦ (
           let reads = marked_reads p.b (Some v.s) d p.step p.done marked in

@@ -1,5 +1,5 @@
 -- A write of an attempt's own session: it is accepted, or it changes nothing, or a device fault is answered.
-use Rattle.std.proofs.Common.{◌≡◌, ℕ, suc, ◌==◌, ◌||◌, Bool, true, false, if◌then◌else◌, nat_lt, List, [], ◌∷◌, ◌++◌, length, Some, None, MatchOption, refl, sym, ap, subst, ◌∙◌, inl, inr, arith}
+use Rattle.std.proofs.Common.{◌≡◌, ℕ, suc, ◌==◌, ◌||◌, Bool, true, false, if◌then◌else◌, nat_lt, List, [], ◌∷◌, ◌++◌, length, Some, None, MatchOption, refl, ap, subst, ◌∙◌, inl, inr, arith}
 use Rattle.rmt_wire.specs.Request.{PlainRequest}
 use Rattle.rmt_wire.specs.Request.PlainRequest.{Write, Op}
 use Rattle.rmt_wire.specs.Reply.{PlainReply}
@@ -8,22 +8,18 @@ use Rattle.tape.specs.Tape.{PlainEntry, Tape, tape, TapeAnswer}
 use Rattle.rmt_wire.specs.declared.limits.TheConstants.{RECORD_LIMIT}
 use Rattle.rmt_wire.specs.declared.mtio.TheConstants.{MTWEOF}
 use Rattle.tape.specs.Tape.PlainEntry.{Record, Mark}
-use Rattle.tape.specs.Tape.TapeAnswer.{Done as Did, Gave, Fault}
+use Rattle.tape.specs.Tape.TapeAnswer.{Done as Did, Fault}
 use Rattle.tape.specs.Trouble.{DeviceStep}
 use Rattle.tape.specs.declared.fault.TapeFault.TheVariants as faults
 use Rattle.tape.specs.declared.trouble.Trouble.{Trouble}
 use Rattle.rmt_server.specs.Refusals.{refused, tape_refusal}
 use Rattle.rmt_server.specs.declared.access.Access.TheVariants.{Both}
-use Rattle.rmt_server.specs.Session.{PlainReel, plain_reel, Scene, status_of, refusal, tape_request, reel_reply}
+use Rattle.rmt_server.specs.Session.{PlainReel, Scene, status_of, refusal, tape_request, reel_reply}
 use Rattle.rmt_server.specs.Session.PlainSession.{Online}
-use Rattle.rmt_server.specs.TroubledServe.{TroubledServeStep, TroubledReelStep, TroubledDoneStep}
+use Rattle.rmt_server.specs.TroubledServe.{TroubledServeStep, TroubledDoneStep}
 use Rattle.tape_events.specs.World.{Dumping}
 use Rattle.tape_events.specs.Changes.{noted_by}
-
--- The drives are as they were, and the session has its drive open still, where its reel has this tape.
-pub record IsLeftWith (before after : Scene) (drive : ℕ) (reel : PlainReel) (t : Tape) : Type 0 where
-  pub shop : after.shop ≡ before.shop
-  pub session : after.session ≡ Online drive Both (plain_reel t reel.capacity)
+use Rattle.tape_events.proofs.Called.{IsLeftWith, called}
 
 -- What comes of a write of these entries: they stand at the place, and nothing behind them; or nothing was changed, nor noted; or
 -- a device fault was noted.
@@ -31,33 +27,6 @@ pub data Puts (before after : Scene) (drive : ℕ) (reel : PlainReel) (entries :
   puts : (n : ℕ) → reply ≡ Done (suc n) → IsLeftWith before after drive reel (tape (reel.tape.before ++ entries) []) → Puts before after drive reel entries request reply
   keeps : ((d : Dumping) → noted_by d request reply ≡ d) → IsLeftWith before after drive reel reel.tape → Puts before after drive reel entries request reply
   fails : ((d : Dumping) → (noted_by d request reply).fault ≡ true) → Puts before after drive reel entries request reply
-
--- one call of the open reel
-record Called (trouble : Trouble) (before after : Scene) (drive : ℕ) (reel : PlainReel) (request : PlainRequest) (reply : PlainReply) : Type 0 where
-  answer : TapeAnswer
-  now : Tape
-  replies : reply ≡ reel_reply request answer
-  device : DeviceStep reel.capacity trouble reel.tape (tape_request request) answer now
-  left : IsLeftWith before after drive reel now
-
-called : (trouble : Trouble) (before : Scene) (request : PlainRequest) (reply : PlainReply) (after : Scene) (drive : ℕ) (reel : PlainReel)
-    → before.session ≡ Online drive Both reel → TroubledReelStep trouble before request reply after → Called trouble before after drive reel request reply
-called trouble before request reply after drive reel was (e, access, x, answer, t, online, device, replies, is) =
-    let same : Online drive Both reel ≡ Online e access x = sym was ∙ online in
-    let drives : e ≡ drive = cc in
-    let accesses : access ≡ Both = cc in
-    let reels : x ≡ reel = cc in
-    record {
-      answer = answer;
-      now = t;
-      replies = replies;
-      device = subst (λ (y : PlainReel). DeviceStep y.capacity trouble y.tape (tape_request request) answer t) reels device;
-      left = record {
-        shop = ap (λ (v : Scene). v.shop) is;
-        session = ap (λ (v : Scene). v.session) is ∙ ap (λ n. Online n access (plain_reel t x.capacity)) drives ∙ ap (λ a. Online drive a (plain_reel t x.capacity)) accesses
-            ∙ ap (λ (y : PlainReel). Online drive Both (plain_reel t y.capacity)) reels;
-      };
-    }
 
 -- the tape is known
 left_as : (before after : Scene) (drive : ℕ) (reel : PlainReel) (t u : Tape) → t ≡ u → IsLeftWith before after drive reel t → IsLeftWith before after drive reel u
@@ -70,15 +39,13 @@ write_put : (trouble : Trouble) (before after : Scene) (drive : ℕ) (reel : Pla
 write_put trouble before after drive reel [] b reply Did t some device is left = absurd cc
 write_put trouble before after drive reel (x ∷ xs) b reply Did t some device is left =
     puts (length xs) is (left_as before after drive reel t (tape (reel.tape.before ++ Record (x ∷ xs) ∷ []) []) device.1.1 left)
-write_put trouble before after drive reel bytes b reply (Gave given) t some device is left = absurd (device.1)
 write_put trouble before after drive reel bytes b reply (Fault faults.Device) t some device is left =
     fails (λ d. ap (λ r. (noted_by d (Write bytes) r).fault) is)
 write_put trouble before after drive reel bytes b reply (Fault faults.Full) t some device is left =
     keeps (λ d. ap (λ r. noted_by d (Write bytes) r) is) (left_as before after drive reel t reel.tape device.1.1 left)
-write_put trouble before after drive reel bytes b reply (Fault faults.EndOrMark) t some device is left = absurd (device.1)
-write_put trouble before after drive reel bytes b reply (Fault faults.BadOperation) t some device is left = absurd (device.1)
 write_put trouble before after drive reel bytes b reply (Fault faults.OutOfMemory) t some device is left =
     keeps (λ d. ap (λ r. noted_by d (Write bytes) r) is) (left_as before after drive reel t reel.tape device.1 left)
+write_put trouble before after drive reel bytes b reply answer t some device is left = absurd (device.1)
 
 write_tested : (trouble : Trouble) (before : Scene) (bytes : List ℕ) (reply : PlainReply) (after : Scene) (drive : ℕ) (reel : PlainReel) (b : Bool)
     → ((length bytes == 0) || nat_lt RECORD_LIMIT (length bytes)) ≡ b → before.session ≡ Online drive Both reel
@@ -108,14 +75,12 @@ mark_put : (trouble : Trouble) (before after : Scene) (drive : ℕ) (reel : Plai
 mark_put trouble before after drive reel reply Did t (spared, inl none) is left = (let clash = none.0 in absurd (omega (arith, clash)))
 mark_put trouble before after drive reel reply Did t (spared, inr some) is left =
     puts 0 is (left_as before after drive reel t (tape (reel.tape.before ++ Mark ∷ []) []) some.2 left)
-mark_put trouble before after drive reel reply (Gave given) t device is left = absurd (device.1)
 mark_put trouble before after drive reel reply (Fault faults.Device) t device is left = fails (λ d. ap (λ r. (noted_by d (Op MTWEOF 1) r).fault) is)
 mark_put trouble before after drive reel reply (Fault faults.Full) t device is left =
     keeps (λ d. ap (λ r. noted_by d (Op MTWEOF 1) r) is) (left_as before after drive reel t reel.tape device.1.2 left)
-mark_put trouble before after drive reel reply (Fault faults.EndOrMark) t device is left = absurd (device.1)
-mark_put trouble before after drive reel reply (Fault faults.BadOperation) t device is left = absurd (device.1)
 mark_put trouble before after drive reel reply (Fault faults.OutOfMemory) t device is left =
     keeps (λ d. ap (λ r. noted_by d (Op MTWEOF 1) r) is) (left_as before after drive reel t reel.tape device.2 left)
+mark_put trouble before after drive reel reply answer t device is left = absurd (device.1)
 
 pub mark_puts : (trouble : Trouble) (holders : List ℕ) (before : Scene) (reply : PlainReply) (after : Scene) (drive : ℕ) (reel : PlainReel)
     → before.session ≡ Online drive Both reel → TroubledServeStep trouble holders before (Op MTWEOF 1) reply after → Puts before after drive reel (Mark ∷ []) (Op MTWEOF 1) reply

@@ -30,18 +30,19 @@ use Rattle.tape_events.specs.Sending.{HasDone, request_in, IsGood, AreTold}
 use Rattle.tape_events.specs.Written.{label_if, mark_if, attempt_written, IsQuiet}
 use Rattle.tape_events.specs.Attempts.{IsReelWritten, IsLabelled, AreLabelled, IsSingle, AreSingle}
 use Rattle.tape_events.proofs.Booked.{among_at}
-use Rattle.tape_events.proofs.Laid.{Sits, sits_here}
+use Rattle.tape_events.proofs.Sides.{Sits, sits_here}
 use Rattle.tape_events.proofs.Sent.{before_length, raised_one}
 use Rattle.tape_events.proofs.SentServe.{noted_same}
 use Rattle.tape_events.proofs.SentLeads.{on_by_one, label_accepted, block_accepted}
-use Rattle.tape_events.proofs.LabelledEvents.{Serves}
+use Rattle.tape_events.proofs.Moves.{Turn, turned}
 use Rattle.tape_events.proofs.SentWire.{OneReading, DroppedWrites}
 use Rattle.tape_events.proofs.LabelledSingle.{one_reel}
 use Rattle.tape_events.proofs.LabelledServes.{IsServed, served_dump, served_step}
 use Rattle.tape_events.proofs.LabelledOthers.{others_labelled}
 use Rattle.tape_events.proofs.LabelledNames.{stands_one}
 use Rattle.tape_events.proofs.LabelledOwn.{marked_stands}
-use Rattle.tape_events.proofs.LabelledPuts.{IsLeftWith, Puts, puts, keeps, fails, write_puts, mark_puts}
+use Rattle.tape_events.proofs.Called.{IsLeftWith}
+use Rattle.tape_events.proofs.LabelledPuts.{Puts, puts, keeps, fails, write_puts, mark_puts}
 
 -- one block more is the last
 more_records : (payload : List (List ℕ)) (first count : ℕ)
@@ -59,47 +60,46 @@ labelled_as run payload d mark is marked =
     ∙ ap (λ t. Record (label run d.volume d.first) ∷ (block_records payload d.first d.blocks ++ mark_if t)) marked
 
 -- All that is known of an attempt whose own request is carried out.
-pub record Own (w u : World) (v : Serves w u) (l : Link) (d : Dumping) : Type 0 where
-  pub p : IsServed w u v l d
+pub record Own (w : World) (v : Turn w) (l : Link) (d : Dumping) : Type 0 where
+  pub p : IsServed w v l d
   pub good : IsGood p.b
   pub held : AreHeld w.hall
-  pub held_after : AreHeld u.hall
-  pub laid_after : AreLaid u.hall
-  pub once_after : EachReelOnce u.hall.shop
+  pub held_after : AreHeld (turned w v).hall
+  pub laid_after : AreLaid (turned w v).hall
+  pub once_after : EachReelOnce (turned w v).hall.shop
   pub opened : AreOpened w
   pub single : IsSingle w.opens v.k d
   pub labelled : IsLabelled w v.k d
 
 -- no request but an open changes the openings
-last_was : (w u : World) (v : Serves w u) (reel : List ℕ) → opened_reel v.request v.shop v.session ≡ None → IsUnopenedSince u.opens v.k reel → IsUnopenedSince w.opens v.k reel
-last_was w u v reel none last =
+last_was : (w : World) (v : Turn w) (reel : List ℕ) → opened_reel v.request v.shop v.session ≡ None → IsUnopenedSince (turned w v).opens v.k reel → IsUnopenedSince w.opens v.k reel
+last_was w v reel none last =
     subst (λ os. IsUnopenedSince os v.k reel)
-    (ap (λ (x : World). x.opens) v.is ∙ ap (λ o. w.opens ++ option_to_list (option_map (opening v.k) o)) none ∙ append-nil w.opens) last
+    (ap (λ o. w.opens ++ option_to_list (option_map (opening v.k) o)) none ∙ append-nil w.opens) last
 
 -- the reel in the drive is that of the attempt's last opening
-its_name : (w u : World) (v : Serves w u) (l : Link) (d : Dumping) → Own w u v l d → (drive : ℕ) (reel : PlainReel) (name : List ℕ)
+its_name : (w : World) (v : Turn w) (l : Link) (d : Dumping) → Own w v l d → (drive : ℕ) (reel : PlainReel) (name : List ℕ)
     → v.s.session ≡ Online drive Both reel → IsUnopenedSince w.opens v.k name → first_name (rack_at w.hall.shop drive).stack ≡ name
-its_name w u v l d o drive reel name online last =
+its_name w v l d o drive reel name online last =
     let first = first_name (rack_at w.hall.shop drive).stack in
     let mine = o.opened.last v.k v.s first v.live (ap (written_reel w.hall.shop) online) in
     one_reel w.opens v.k d o.single (opening v.k first) (opening v.k name) (among_at w.opens mine.0 (opening v.k first) mine.1) (among_at w.opens last.0 (opening v.k name) last.1) refl refl
 
 -- what was written stands on the tape of the session
-now_written : (w u : World) (v : Serves w u) (l : Link) (d e : Dumping) → Own w u v l d → (b : Begun) (drive : ℕ) (reel : PlainReel) (name : List ℕ) (t : Tape)
+now_written : (w : World) (v : Turn w) (l : Link) (d e : Dumping) → Own w v l d → (b : Begun) (drive : ℕ) (reel : PlainReel) (name : List ℕ) (t : Tape)
     → v.s.session ≡ Online drive Both reel → IsUnopenedSince w.opens v.k name
-    → IsLeftWith (scene w.hall.shop v.s.session) (scene v.shop v.session) drive reel t → entries_of t ≡ attempt_written b.run b.payload e → t.after ≡ [] → IsReelWritten u v.k b e name
-now_written w u v l d e o b drive reel name t online last left same none =
+    → IsLeftWith (scene w.hall.shop v.s.session) (scene v.shop v.session) drive reel t → entries_of t ≡ attempt_written b.run b.payload e → t.after ≡ [] → IsReelWritten (turned w v) v.k b e name
+now_written w v l d e o b drive reel name t online last left same none =
     let h : Hall = hall v.shop v.holders (with_numbered w.hall.sides v.k (Some (side v.reached v.session))) in
-    let is : u.hall ≡ h = ap (λ (x : World). x.hall) v.is in
     let sits : Sits w.hall v.k v.s (Some (side v.reached v.session)) h = record { was = v.live; sides = refl } in
-    let here : side_of u.hall v.k ≡ Some (side v.reached v.session)
-    = ap (λ x. side_of x v.k) is ∙ sits_here w.hall v.k v.s (Some (side v.reached v.session)) h sits in
-    let named : first_name (rack_at u.hall.shop drive).stack ≡ name
-    = ap (λ (x : Hall). first_name (rack_at x.shop drive).stack) is ∙ ap (λ (s : Shop). first_name (rack_at s drive).stack) left.shop
-    ∙ its_name w u v l d o drive reel name online last in
+    let here : side_of (turned w v).hall v.k ≡ Some (side v.reached v.session)
+    = sits_here w.hall v.k v.s (Some (side v.reached v.session)) h sits in
+    let named : first_name (rack_at (turned w v).hall.shop drive).stack ≡ name
+    = ap (λ (s : Shop). first_name (rack_at s drive).stack) left.shop
+    ∙ its_name w v l d o drive reel name online last in
     record {
       stands = λ entries on.
-          stands_one u.hall v.k (side v.reached v.session) drive Both (plain_reel t reel.capacity) name entries here left.session named o.held_after o.laid_after o.once_after on
+          stands_one (turned w v).hall v.k (side v.reached v.session) drive Both (plain_reel t reel.capacity) name entries here left.session named o.held_after o.laid_after o.once_after on
           ∙ same;
       behind = λ s r at on before. (
           let its : s ≡ side v.reached v.session = same_Some s (side v.reached v.session) (sym at ∙ here) in
@@ -113,10 +113,10 @@ record WasThere (b : Begun) (d : Dumping) (reel : PlainReel) : Type 0 where
   stood : entries_of reel.tape ≡ attempt_written b.run b.payload d
   none : reel.tape.after ≡ []
 
-was_there : (w u : World) (v : Serves w u) (l : Link) (d : Dumping) → Own w u v l d → (b : Begun) (drive : ℕ) (reel : PlainReel) (name : List ℕ) → v.s.session ≡ Online drive Both reel
+was_there : (w : World) (v : Turn w) (l : Link) (d : Dumping) → Own w v l d → (b : Begun) (drive : ℕ) (reel : PlainReel) (name : List ℕ) → v.s.session ≡ Online drive Both reel
     → IsUnopenedSince w.opens v.k name → d.mark ≡ false → IsReelWritten w v.k b d name → WasThere b d reel
-was_there w u v l d o b drive reel name online last unmarked was = record {
-  stood = was.stands (entries_of reel.tape) (inr (v.k, v.s, v.live, (drive, Both, reel, online, its_name w u v l d o drive reel name online last, refl)));
+was_there w v l d o b drive reel name online last unmarked was = record {
+  stood = was.stands (entries_of reel.tape) (inr (v.k, v.s, v.live, (drive, Both, reel, online, its_name w v l d o drive reel name online last, refl)));
   none = was.behind v.s reel v.live (drive, online) (λ marked. (let clash = sym unmarked ∙ marked in absurd cc));
 }
 
@@ -156,87 +156,87 @@ label_written run payload d none unmarked =
     ∙ sym (labelled_as run payload (record d { label = true }) false refl unmarked)
 
 -- what was written before, while the attempt is quiet
-was_written : (w u : World) (v : Serves w u) (l : Link) (d : Dumping) (o : Own w u v l d) → d.label ≡ true → d.fault ≡ false → (reel : List ℕ) → IsUnopenedSince w.opens v.k reel
+was_written : (w : World) (v : Turn w) (l : Link) (d : Dumping) (o : Own w v l d) → d.label ≡ true → d.fault ≡ false → (reel : List ℕ) → IsUnopenedSince w.opens v.k reel
     → IsReelWritten w v.k o.p.b d reel
-was_written w u v l d o labelled fault reel last =
+was_written w v l d o labelled fault reel last =
     let a = o.labelled labelled in
     subst (λ b. IsReelWritten w v.k b d reel) (same_Some a.0 o.p.b (sym a.1 ∙ o.p.begun)) (a.2 reel (fault, last))
 
 -- the run is the same
-labelled_so : (w u : World) (v : Serves w u) (l : Link) (d : Dumping) (o : Own w u v l d)
-    → ((noted v.request v.reply d).label ≡ true → (reel : List ℕ) → IsQuiet u.opens v.k (noted v.request v.reply d) reel → IsReelWritten u v.k o.p.b (noted v.request v.reply d) reel)
-    → IsLabelled u v.k (noted v.request v.reply d)
-labelled_so w u v l d o all labelled = (
+labelled_so : (w : World) (v : Turn w) (l : Link) (d : Dumping) (o : Own w v l d)
+    → ((noted v.request v.reply d).label ≡ true → (reel : List ℕ) → IsQuiet (turned w v).opens v.k (noted v.request v.reply d) reel → IsReelWritten (turned w v) v.k o.p.b (noted v.request v.reply d) reel)
+    → IsLabelled (turned w v) v.k (noted v.request v.reply d)
+labelled_so w v l d o all labelled = (
   o.p.b,
-  ap (λ (x : World). numbered x.begun (noted v.request v.reply d).run) v.is ∙ ap (numbered w.begun) (noted_same d v.request v.reply).run ∙ o.p.begun,
+  ap (numbered w.begun) (noted_same d v.request v.reply).run ∙ o.p.begun,
   all labelled,
 )
 
 -- the request of a write that was accepted, or was not
-abbrev IsNow : (w u : World) (v : Serves w u) → Begun → Dumping → PlainRequest → Type 0
-IsNow w u v b d request =
-    (noted request v.reply d).label ≡ true → (reel : List ℕ) → (noted request v.reply d).fault ≡ false → IsUnopenedSince w.opens v.k reel → IsReelWritten u v.k b (noted request v.reply d) reel
+abbrev IsNow : (w : World) (v : Turn w) → Begun → Dumping → PlainRequest → Type 0
+IsNow w v b d request =
+    (noted request v.reply d).label ≡ true → (reel : List ℕ) → (noted request v.reply d).fault ≡ false → IsUnopenedSince w.opens v.k reel → IsReelWritten (turned w v) v.k b (noted request v.reply d) reel
 
 -- the label
-own_label : (w u : World) (v : Serves w u) (l : Link) (d : Dumping) (o : Own w u v l d) (drive : ℕ) (reel : PlainReel) → v.s.session ≡ Online drive Both reel → reel.tape.before ≡ []
+own_label : (w : World) (v : Turn w) (l : Link) (d : Dumping) (o : Own w v l d) (drive : ℕ) (reel : PlainReel) → v.s.session ≡ Online drive Both reel → reel.tape.before ≡ []
     → HasDone o.p.b.run (Some v.s) d Label
     → Puts (scene w.hall.shop v.s.session) (scene v.shop v.session) drive reel (Record (label o.p.b.run d.volume d.first) ∷ []) (request_in o.p.b d Label) v.reply
-    → IsNow w u v o.p.b d (request_in o.p.b d Label)
-own_label w u v l d o drive reel online first done (puts n is left) labelled name quiet last =
+    → IsNow w v o.p.b d (request_in o.p.b d Label)
+own_label w v l d o drive reel online first done (puts n is left) labelled name quiet last =
     let x = Record (label o.p.b.run d.volume d.first) in
     let becomes : noted (request_in o.p.b d Label) v.reply d ≡ on_by_one (record d { label = true })
     = ap (λ r. noted (request_in o.p.b d Label) r d) is ∙ ap on_by_one (label_accepted d done.label) in
-    subst (λ e. IsReelWritten u v.k o.p.b e name) (sym becomes)
-    (now_written w u v l d (on_by_one (record d { label = true })) o o.p.b drive reel name (tape (reel.tape.before ++ x ∷ []) []) online last left
+    subst (λ e. IsReelWritten (turned w v) v.k o.p.b e name) (sym becomes)
+    (now_written w v l d (on_by_one (record d { label = true })) o o.p.b drive reel name (tape (reel.tape.before ++ x ∷ []) []) online last left
     (append-nil (reel.tape.before ++ x ∷ []) ∙ ap (λ t. t ++ x ∷ []) first ∙ label_written o.p.b.run o.p.b.payload d done.blocks done.mark) refl)
-own_label w u v l d o drive reel online first done (keeps same left) labelled name quiet last =
+own_label w v l d o drive reel online first done (keeps same left) labelled name quiet last =
     (let clash = sym done.label ∙ sym (ap (λ (e : Dumping). e.label) (same d)) ∙ labelled in absurd cc)
-own_label w u v l d o drive reel online first done (fails fault) labelled name quiet last = (let clash = sym (fault d) ∙ quiet in absurd cc)
+own_label w v l d o drive reel online first done (fails fault) labelled name quiet last = (let clash = sym (fault d) ∙ quiet in absurd cc)
 
 -- a block
-own_block : (w u : World) (v : Serves w u) (l : Link) (d : Dumping) (o : Own w u v l d) (drive : ℕ) (reel : PlainReel) (number : ℕ) → v.s.session ≡ Online drive Both reel
+own_block : (w : World) (v : Turn w) (l : Link) (d : Dumping) (o : Own w v l d) (drive : ℕ) (reel : PlainReel) (number : ℕ) → v.s.session ≡ Online drive Both reel
     → HasDone o.p.b.run (Some v.s) d (Block number)
     → Puts (scene w.hall.shop v.s.session) (scene v.shop v.session) drive reel (Record (get_or o.p.b.payload number []) ∷ []) (request_in o.p.b d (Block number)) v.reply
-    → IsNow w u v o.p.b d (request_in o.p.b d (Block number))
-own_block w u v l d o drive reel number online done (puts n is left) labelled name quiet last =
+    → IsNow w v o.p.b d (request_in o.p.b d (Block number))
+own_block w v l d o drive reel number online done (puts n is left) labelled name quiet last =
     let x = Record (get_or o.p.b.payload number []) in
     let becomes : noted (request_in o.p.b d (Block number)) v.reply d ≡ on_by_one (record d { blocks = raised d.blocks })
     = ap (λ r. noted (request_in o.p.b d (Block number)) r d) is ∙ ap on_by_one (block_accepted d done.label) in
-    let was = was_there w u v l d o o.p.b drive reel name online last done.mark (was_written w u v l d o done.label done.fault name last) in
+    let was = was_there w v l d o o.p.b drive reel name online last done.mark (was_written w v l d o done.label done.fault name last) in
     let few : d.blocks + 1 < 2 ^ 64 = (let at = done.blocks.0 in let within = done.blocks.1 in let limit = o.good.run.blocks in omega (arith, at, within, limit)) in
-    subst (λ e. IsReelWritten u v.k o.p.b e name) (sym becomes)
-    (now_written w u v l d (on_by_one (record d { blocks = raised d.blocks })) o o.p.b drive reel name (tape (reel.tape.before ++ x ∷ []) []) online last left
+    subst (λ e. IsReelWritten (turned w v) v.k o.p.b e name) (sym becomes)
+    (now_written w v l d (on_by_one (record d { blocks = raised d.blocks })) o o.p.b drive reel name (tape (reel.tape.before ++ x ∷ []) []) online last left
     (one_entry_more reel.tape x (attempt_written o.p.b.run o.p.b.payload d) was.stood was.none ∙ block_written o.p.b.run o.p.b.payload d number done.label done.mark done.blocks.0 few) refl)
-own_block w u v l d o drive reel number online done (keeps same left) labelled name quiet last =
-    let was = was_there w u v l d o o.p.b drive reel name online last done.mark (was_written w u v l d o done.label done.fault name last) in
-    subst (λ e. IsReelWritten u v.k o.p.b e name) (sym (ap on_by_one (same d)))
-    (now_written w u v l d (on_by_one d) o o.p.b drive reel name reel.tape online last left was.stood was.none)
-own_block w u v l d o drive reel number online done (fails fault) labelled name quiet last = (let clash = sym (fault d) ∙ quiet in absurd cc)
+own_block w v l d o drive reel number online done (keeps same left) labelled name quiet last =
+    let was = was_there w v l d o o.p.b drive reel name online last done.mark (was_written w v l d o done.label done.fault name last) in
+    subst (λ e. IsReelWritten (turned w v) v.k o.p.b e name) (sym (ap on_by_one (same d)))
+    (now_written w v l d (on_by_one d) o o.p.b drive reel name reel.tape online last left was.stood was.none)
+own_block w v l d o drive reel number online done (fails fault) labelled name quiet last = (let clash = sym (fault d) ∙ quiet in absurd cc)
 
 -- the mark
-own_mark : (w u : World) (v : Serves w u) (l : Link) (d : Dumping) (o : Own w u v l d) (drive : ℕ) (reel : PlainReel) (next : ℕ) → v.s.session ≡ Online drive Both reel
+own_mark : (w : World) (v : Turn w) (l : Link) (d : Dumping) (o : Own w v l d) (drive : ℕ) (reel : PlainReel) (next : ℕ) → v.s.session ≡ Online drive Both reel
     → HasDone o.p.b.run (Some v.s) d (MarkStep next)
-    → Puts (scene w.hall.shop v.s.session) (scene v.shop v.session) drive reel (Mark ∷ []) (Op MTWEOF 1) v.reply → IsNow w u v o.p.b d (Op MTWEOF 1)
-own_mark w u v l d o drive reel next online done (puts n is left) labelled name quiet last =
+    → Puts (scene w.hall.shop v.s.session) (scene v.shop v.session) drive reel (Mark ∷ []) (Op MTWEOF 1) v.reply → IsNow w v o.p.b d (Op MTWEOF 1)
+own_mark w v l d o drive reel next online done (puts n is left) labelled name quiet last =
     let becomes : noted (Op MTWEOF 1) v.reply d ≡ on_by_one (record d { mark = true }) = ap (λ r. noted (Op MTWEOF 1) r d) is in
-    let was = was_there w u v l d o o.p.b drive reel name online last done.mark (was_written w u v l d o done.label done.fault name last) in
-    subst (λ e. IsReelWritten u v.k o.p.b e name) (sym becomes)
-    (now_written w u v l d (on_by_one (record d { mark = true })) o o.p.b drive reel name (tape (reel.tape.before ++ Mark ∷ []) []) online last left
+    let was = was_there w v l d o o.p.b drive reel name online last done.mark (was_written w v l d o done.label done.fault name last) in
+    subst (λ e. IsReelWritten (turned w v) v.k o.p.b e name) (sym becomes)
+    (now_written w v l d (on_by_one (record d { mark = true })) o o.p.b drive reel name (tape (reel.tape.before ++ Mark ∷ []) []) online last left
     (one_entry_more reel.tape Mark (attempt_written o.p.b.run o.p.b.payload d) was.stood was.none ∙ mark_written o.p.b.run o.p.b.payload d done.label done.mark) refl)
-own_mark w u v l d o drive reel next online done (keeps same left) labelled name quiet last =
-    let was = was_there w u v l d o o.p.b drive reel name online last done.mark (was_written w u v l d o done.label done.fault name last) in
-    subst (λ e. IsReelWritten u v.k o.p.b e name) (sym (ap on_by_one (same d)))
-    (now_written w u v l d (on_by_one d) o o.p.b drive reel name reel.tape online last left was.stood was.none)
-own_mark w u v l d o drive reel next online done (fails fault) labelled name quiet last = (let clash = sym (fault d) ∙ quiet in absurd cc)
+own_mark w v l d o drive reel next online done (keeps same left) labelled name quiet last =
+    let was = was_there w v l d o o.p.b drive reel name online last done.mark (was_written w v l d o done.label done.fault name last) in
+    subst (λ e. IsReelWritten (turned w v) v.k o.p.b e name) (sym (ap on_by_one (same d)))
+    (now_written w v l d (on_by_one d) o o.p.b drive reel name reel.tape online last left was.stood was.none)
+own_mark w v l d o drive reel next online done (fails fault) labelled name quiet last = (let clash = sym (fault d) ∙ quiet in absurd cc)
 
 -- behind the mark nothing is written, and more was carried out than up to it
-own_marked : (w u : World) (v : Serves w u) (l : Link) (d e : Dumping) (o : Own w u v l d) → d.label ≡ true → d.fault ≡ false → d.mark ≡ true
+own_marked : (w : World) (v : Turn w) (l : Link) (d e : Dumping) (o : Own w v l d) → d.label ≡ true → d.fault ≡ false → d.mark ≡ true
     → length (steps_before o.p.b.run d.first (d.first + d.blocks) (Unload (d.first + d.blocks))) < e.carried
     → (e.mark ≡ d.mark) → (e.first ≡ d.first) → (e.blocks ≡ d.blocks) → (attempt_written o.p.b.run o.p.b.payload e ≡ attempt_written o.p.b.run o.p.b.payload d) → (name : List ℕ)
-    → IsUnopenedSince w.opens v.k name → IsReelWritten u v.k o.p.b e name
-own_marked w u v l d e o labelled fault marked more mark first blocks same name last = record {
+    → IsUnopenedSince w.opens v.k name → IsReelWritten (turned w v) v.k o.p.b e name
+own_marked w v l d e o labelled fault marked more mark first blocks same name last = record {
   stands = λ entries on.
-      marked_stands w u v l d o.p marked o.held o.held_after o.p.b name (was_written w u v l d o labelled fault name last) entries on ∙ sym same;
+      marked_stands w v l d o.p marked o.held o.held_after o.p.b name (was_written w v l d o labelled fault name last) entries on ∙ sym same;
   behind = λ s r at online before. (
       let less = before (mark ∙ marked) in
       let many : length (steps_before o.p.b.run e.first (e.first + e.blocks) (Unload (e.first + e.blocks)))
@@ -246,65 +246,60 @@ own_marked w u v l d e o labelled fault marked more mark first blocks same name 
       absurd (omega (arith, less, many, more)));
 }
 
-now_by : (w u : World) (v : Serves w u) (l : Link) (d : Dumping) (o : Own w u v l d) (step : Step) → HasDone o.p.b.run (Some v.s) d step → v.request ≡ request_in o.p.b d step
-    → IsNow w u v o.p.b d (request_in o.p.b d step)
-now_by w u v l d o Open done asks labelled = let clash = sym done.label ∙ labelled in absurd cc
-now_by w u v l d o Rewind done asks labelled = let clash = sym done.label ∙ labelled in absurd cc
-now_by w u v l d o Label done asks labelled =
+now_by : (w : World) (v : Turn w) (l : Link) (d : Dumping) (o : Own w v l d) (step : Step) → HasDone o.p.b.run (Some v.s) d step → v.request ≡ request_in o.p.b d step
+    → IsNow w v o.p.b d (request_in o.p.b d step)
+now_by w v l d o Open done asks labelled = let clash = sym done.label ∙ labelled in absurd cc
+now_by w v l d o Rewind done asks labelled = let clash = sym done.label ∙ labelled in absurd cc
+now_by w v l d o Label done asks labelled =
     let on = done.stands v.s refl in
-    own_label w u v l d o on.1.0 on.0 on.1.1 on.2 done
+    own_label w v l d o on.1.0 on.0 on.1.1 on.2 done
     (write_puts v.trouble w.hall.holders (scene w.hall.shop v.s.session) (label o.p.b.run d.volume d.first) v.reply (scene v.shop v.session) on.1.0 on.0 on.1.1
     (subst (λ r. TroubledServeStep v.trouble w.hall.holders (scene w.hall.shop v.s.session) r v.reply (scene v.shop v.session)) asks v.served.step))
     labelled
-now_by w u v l d o (Block number) done asks labelled =
+now_by w v l d o (Block number) done asks labelled =
     let on = done.stands v.s refl in
-    own_block w u v l d o on.1.0 on.0 number on.1.1 done
+    own_block w v l d o on.1.0 on.0 number on.1.1 done
     (write_puts v.trouble w.hall.holders (scene w.hall.shop v.s.session) (get_or o.p.b.payload number []) v.reply (scene v.shop v.session) on.1.0 on.0 on.1.1
     (subst (λ r. TroubledServeStep v.trouble w.hall.holders (scene w.hall.shop v.s.session) r v.reply (scene v.shop v.session)) asks v.served.step))
     labelled
-now_by w u v l d o (MarkStep next) done asks labelled =
+now_by w v l d o (MarkStep next) done asks labelled =
     let on = done.stands v.s refl in
-    own_mark w u v l d o on.1.0 on.0 next on.1.1 done
+    own_mark w v l d o on.1.0 on.0 next on.1.1 done
     (mark_puts v.trouble w.hall.holders (scene w.hall.shop v.s.session) v.reply (scene v.shop v.session) on.1.0 on.0 on.1.1
     (subst (λ r. TroubledServeStep v.trouble w.hall.holders (scene w.hall.shop v.s.session) r v.reply (scene v.shop v.session)) asks v.served.step))
     labelled
-now_by w u v l d o (Unload next) done asks labelled = λ name quiet last. (
+now_by w v l d o (Unload next) done asks labelled = λ name quiet last. (
     let one = raised_one d.carried o.p.few in
     let was = done.carried in
     let at = ap (λ n. length (steps_before o.p.b.run d.first (d.first + d.blocks) (Unload n))) done.blocks in
-    own_marked w u v l d (on_by_one d) o done.label done.fault done.mark (omega (arith, one, was, at)) refl refl refl refl name last)
-now_by w u v l d o Close done asks labelled = λ name quiet last. (
+    own_marked w v l d (on_by_one d) o done.label done.fault done.mark (omega (arith, one, was, at)) refl refl refl refl name last)
+now_by w v l d o Close done asks labelled = λ name quiet last. (
     let one = raised_one d.carried o.p.few in
     let was = done.carried in
     let all = before_length o.p.b.run d.first (d.first + d.blocks) Close in
     let some = before_length o.p.b.run d.first (d.first + d.blocks) (Unload (d.first + d.blocks)) in
-    own_marked w u v l d (on_by_one d) o done.label done.fault done.mark (omega (arith, one, was, all, some)) refl refl refl refl name last)
+    own_marked w v l d (on_by_one d) o done.label done.fault done.mark (omega (arith, one, was, all, some)) refl refl refl refl name last)
 
 -- an open comes before the label
-not_opened : (w u : World) (v : Serves w u) (b : Begun) (d : Dumping) (step : Step) → HasDone b.run (Some v.s) d step → v.request ≡ request_in b d step
+not_opened : (w : World) (v : Turn w) (b : Begun) (d : Dumping) (step : Step) → HasDone b.run (Some v.s) d step → v.request ≡ request_in b d step
     → (noted v.request v.reply d).label ≡ true → opened_reel v.request v.shop v.session ≡ None
-not_opened w u v b d Open done asks labelled = (let clash = sym done.label ∙ sym (ap (λ r. (noted r v.reply d).label) asks) ∙ labelled in absurd cc)
-not_opened w u v b d Rewind done asks labelled = ap (λ r. opened_reel r v.shop v.session) asks
-not_opened w u v b d Label done asks labelled = ap (λ r. opened_reel r v.shop v.session) asks
-not_opened w u v b d (Block number) done asks labelled = ap (λ r. opened_reel r v.shop v.session) asks
-not_opened w u v b d (MarkStep next) done asks labelled = ap (λ r. opened_reel r v.shop v.session) asks
-not_opened w u v b d (Unload next) done asks labelled = ap (λ r. opened_reel r v.shop v.session) asks
-not_opened w u v b d Close done asks labelled = ap (λ r. opened_reel r v.shop v.session) asks
+not_opened w v b d Open done asks labelled = (let clash = sym done.label ∙ sym (ap (λ r. (noted r v.reply d).label) asks) ∙ labelled in absurd cc)
+not_opened w v b d step done asks labelled = ap (λ r. opened_reel r v.shop v.session) asks
 
 -- a request of its own
-pub own_labelled : (w u : World) (v : Serves w u) (l : Link) (d : Dumping) → Own w u v l d → IsLabelled u v.k (noted v.request v.reply d)
-own_labelled w u v l d o =
-    labelled_so w u v l d o (λ labelled reel quiet.
-    (let now = subst (IsNow w u v o.p.b d) (sym o.p.asks) (now_by w u v l d o o.p.step o.p.done o.p.asks) in
-    now labelled reel quiet.0 (last_was w u v reel (not_opened w u v o.p.b d o.p.step o.p.done o.p.asks labelled) quiet.1)))
+pub own_labelled : (w : World) (v : Turn w) (l : Link) (d : Dumping) → Own w v l d → IsLabelled (turned w v) v.k (noted v.request v.reply d)
+own_labelled w v l d o =
+    labelled_so w v l d o (λ labelled reel quiet.
+    (let now = subst (IsNow w v o.p.b d) (sym o.p.asks) (now_by w v l d o o.p.step o.p.done o.p.asks) in
+    now labelled reel quiet.0 (last_was w v reel (not_opened w v o.p.b d o.p.step o.p.done o.p.asks labelled) quiet.1)))
 
-pub served_labelled : OneReading → DroppedWrites → (w u : World) (v : Serves w u) → AreHeld w.hall → AreHeld u.hall → AreLaid u.hall → EachReelOnce u.hall.shop → AreTold w → AreOpened w
-    → AreSingle w → AreLabelled w → AreLabelled u
-served_labelled g h w u v held held_after laid_after once_after told opened single labelled j l d at dump = elim (served_dump w u v j l d at dump) [
+pub served_labelled : OneReading → DroppedWrites → (w : World) (v : Turn w) → AreHeld w.hall → AreHeld (turned w v).hall → AreLaid (turned w v).hall → EachReelOnce (turned w v).hall.shop → AreTold w → AreOpened w
+    → AreSingle w → AreLabelled w → AreLabelled (turned w v)
+served_labelled g h w v held held_after laid_after once_after told opened single labelled j l d at dump = elim (served_dump w v j l d at dump) [
   | inl (same, (x, e, was, its, new)) ↦
-      let p = served_step g h w u v told x e was its in
-      subst (λ i. IsLabelled u i d) (sym same)
-      (subst (IsLabelled u v.k) (sym new) (own_labelled w u v x e record {
+      let p = served_step g h w v told x e was its in
+      subst (λ i. IsLabelled (turned w v) i d) (sym same)
+      (subst (IsLabelled (turned w v) v.k) (sym new) (own_labelled w v x e record {
         p = p;
         good = told.good e.run p.b p.begun;
         held = held;
@@ -315,5 +310,5 @@ served_labelled g h w u v held held_after laid_after once_after told opened sing
         single = single v.k x e was its;
         labelled = labelled v.k x e was its;
       }))
-  | inr (other, was) ↦ others_labelled w u v j d other held held_after opened (labelled j l d was dump)
+  | inr (other, was) ↦ others_labelled w v j d other held held_after opened (labelled j l d was dump)
 ]

@@ -1,27 +1,25 @@
 -- What a request that is carried out makes of attempts and of their openings.
-use Rattle.std.proofs.Common.{◌≡◌, ◌≢◌, ◌⊎◌, ℕ, ◌+◌, ◌^◌, ◌<◌, ◌≤◌, true, option_map, Option, Some, None, Contains, refl, sym, ap, subst, ◌∙◌, inl, inr, arith}
+use Rattle.std.proofs.Common.{◌≡◌, ◌≢◌, ◌⊎◌, ℕ, ◌+◌, ◌^◌, ◌<◌, ◌≤◌, true, option_map, Some, Contains, refl, sym, ap, subst, ◌∙◌, inl, inr, arith}
 use Rattle.std.proofs.lemmas.List.Elements.{Contains-append_left}
-use Rattle.std.proofs.lemmas.Bool.Decides.{eqb_tells}
-use Rattle.std.proofs.lemmas.Option.{same_Some}
 use Rattle.dump_client.specs.declared.step.Step.{Step}
-use Rattle.dump_client.specs.declared.step.Step.TheVariants.{Open, Rewind, Label, Block, Mark, Unload, Close}
-use Rattle.tape_events.specs.World.{World, Link, Dumping, Begun, Count, Opening, numbered, with_numbered}
-use Rattle.tape_events.specs.Changes.{changed_from, link_of, opening, noted, answered}
+use Rattle.dump_client.specs.declared.step.Step.TheVariants.{Unload, Close}
+use Rattle.tape_events.specs.World.{World, Link, Dumping, Begun, Count, Opening, numbered}
+use Rattle.tape_events.specs.Changes.{link_of, opening, noted, answered}
 use Rattle.tape_events.specs.Sending.{HasDone, request_in, IsLinkSent, AreTold}
 use Rattle.tape_events.specs.Attempts.{IsEarnedBy, AreCountsEarned}
-use Rattle.tape_events.proofs.Numbers.{changed_is, with_here, with_other}
+use Rattle.tape_events.proofs.Numbers.{changed_is, changed_there}
 use Rattle.tape_events.proofs.Sent.{still_unloaded}
 use Rattle.tape_events.proofs.SentWire.{OneReading, DroppedWrites}
 use Rattle.tape_events.proofs.SentServe.{nothing_there, serve_pending}
 use Rattle.tape_events.proofs.ToldEvents.{mapped}
-use Rattle.tape_events.proofs.LabelledEvents.{Serves}
+use Rattle.tape_events.proofs.Moves.{Turn, turned}
 
 -- the attempt of the connection that was served, or another's
-pub served_dump : (w u : World) (v : Serves w u) (j : ℕ) (l : Link) (d : Dumping) → link_of u j ≡ Some l → l.dump ≡ Some d
+pub served_dump : (w : World) (v : Turn w) (j : ℕ) (l : Link) (d : Dumping) → link_of (turned w v) j ≡ Some l → l.dump ≡ Some d
     → ((j ≡ v.k) × ((x : Link) × (e : Dumping) × (link_of w v.k ≡ Some x) × (x.dump ≡ Some e) × (d ≡ noted v.request v.reply e)))
     ⊎ ((j ≢ v.k) × (link_of w j ≡ Some l))
-served_dump w u v j l d at dump =
-    elim (changed_is (answered v.request v.reply) w.links v.k j l (sym (ap (λ (x : World). numbered x.links j) v.is) ∙ at)) [
+served_dump w v j l d at dump =
+    elim (changed_is (answered v.request v.reply) w.links v.k j l at) [
       | inl (same, (x, was, new)) ↦ (
           let m = mapped (noted v.request v.reply) x.dump d (sym (ap (λ (y : Link). y.dump) new) ∙ dump) in
           inl (same, (x, m.0, was, m.1, m.2)))
@@ -29,7 +27,7 @@ served_dump w u v j l d at dump =
     ]
 
 -- the request that was served is that of a step, before which all was done
-pub record IsServed (w u : World) (v : Serves w u) (l : Link) (d : Dumping) : Type 0 where
+pub record IsServed (w : World) (v : Turn w) (l : Link) (d : Dumping) : Type 0 where
   pub b : Begun
   pub step : Step
   pub begun : numbered w.begun d.run ≡ Some b
@@ -37,9 +35,9 @@ pub record IsServed (w u : World) (v : Serves w u) (l : Link) (d : Dumping) : Ty
   pub few : d.carried + 1 < 2 ^ 64
   pub asks : v.request ≡ request_in b d step
 
-served_sent : OneReading → DroppedWrites → (w u : World) (v : Serves w u) (l : Link) (d : Dumping) → IsLinkSent w.begun (Some v.s) l d → IsServed w u v l d
-served_sent g h w u v l d (inl settled) = absurd (nothing_there h v.s l.toward v.bytes v.rest v.request settled.unserved v.unread v.gives)
-served_sent g h w u v l d (inr (b, step, at, p)) =
+served_sent : OneReading → DroppedWrites → (w : World) (v : Turn w) (l : Link) (d : Dumping) → IsLinkSent w.begun (Some v.s) l d → IsServed w v l d
+served_sent g h w v l d (inl settled) = absurd (nothing_there h v.s l.toward v.bytes v.rest v.request settled.unserved v.unread v.gives)
+served_sent g h w v l d (inr (b, step, at, p)) =
     let all = serve_pending g h b v.s l.toward d step v.bytes v.rest v.request v.reply v.reached v.session p v.unread v.gives v.left in
     record {
       b = b;
@@ -50,10 +48,10 @@ served_sent g h w u v l d (inr (b, step, at, p)) =
       asks = all.0;
     }
 
-pub served_step : OneReading → DroppedWrites → (w u : World) (v : Serves w u) → AreTold w → (l : Link) (d : Dumping) → link_of w v.k ≡ Some l → l.dump ≡ Some d
-    → IsServed w u v l d
-served_step g h w u v told l d at dump =
-    served_sent g h w u v l d (subst (λ o. IsLinkSent w.begun o l d) v.live ((told.each v.k l at).sent d dump))
+pub served_step : OneReading → DroppedWrites → (w : World) (v : Turn w) → AreTold w → (l : Link) (d : Dumping) → link_of w v.k ≡ Some l → l.dump ≡ Some d
+    → IsServed w v l d
+served_step g h w v told l d at dump =
+    served_sent g h w v l d (subst (λ o. IsLinkSent w.begun o l d) v.live ((told.each v.k l at).sent d dump))
 
 -- all but how many were carried out, and those are no fewer
 pub record SameWrites (d e : Dumping) : Type 0 where
@@ -67,55 +65,31 @@ pub record SameWrites (d e : Dumping) : Type 0 where
   pub more : d.carried ≤ e.carried
 
 -- once the mark was accepted no request changes what was
-pub marked_writes : (w u : World) (v : Serves w u) (b : Begun) (d : Dumping) (step : Step) → HasDone b.run (Some v.s) d step → v.request ≡ request_in b d step → d.mark ≡ true
+pub marked_writes : (w : World) (v : Turn w) (b : Begun) (d : Dumping) (step : Step) → HasDone b.run (Some v.s) d step → v.request ≡ request_in b d step → d.mark ≡ true
     → SameWrites d (noted v.request v.reply d)
-marked_writes w u v b d Open done asks marked = let clash = sym done.mark ∙ marked in absurd cc
-marked_writes w u v b d Rewind done asks marked = let clash = sym done.mark ∙ marked in absurd cc
-marked_writes w u v b d Label done asks marked = let clash = sym done.mark ∙ marked in absurd cc
-marked_writes w u v b d (Block number) done asks marked = let clash = sym done.mark ∙ marked in absurd cc
-marked_writes w u v b d (Mark next) done asks marked = let clash = sym done.mark ∙ marked in absurd cc
-marked_writes w u v b d (Unload next) done asks marked =
+marked_writes w v b d (Unload next) done asks marked =
     subst (λ r. SameWrites d (noted r v.reply d)) (sym asks) record { run = refl; volume = refl; first = refl; label = refl; blocks = refl; mark = refl; fault = refl; more = omega arith }
-marked_writes w u v b d Close done asks marked =
+marked_writes w v b d Close done asks marked =
     subst (λ r. SameWrites d (noted r v.reply d)) (sym asks) record { run = refl; volume = refl; first = refl; label = refl; blocks = refl; mark = refl; fault = refl; more = omega arith }
+marked_writes w v b d step done asks marked = let clash = sym done.mark ∙ marked in absurd cc
 
--- each count is that of an attempt still
-link_after : (w u : World) (v : Serves w u) (j : ℕ) (l : Link) → link_of w j ≡ Some l
-    → (y : Link) × (link_of u j ≡ Some y) × (((j ≡ v.k) × (y ≡ answered v.request v.reply l)) ⊎ (y ≡ l))
-link_after w u v j l at = by_number (numbered w.links v.k) refl
-  where
-    by_number : (o : Option Link) → numbered w.links v.k ≡ o
-        → (y : Link) × (link_of u j ≡ Some y) × (((j ≡ v.k) × (y ≡ answered v.request v.reply l)) ⊎ (y ≡ l))
-    by_number None none =
-        (l, ap (λ (x : World). numbered x.links j) v.is ∙ ap (λ o. numbered (changed_from (answered v.request v.reply) w.links v.k o) j) none ∙ at, inr refl)
-    by_number (Some x) is = elim (eqb_tells j v.k) [
-      | inl (equal, same) ↦ (
-        answered v.request v.reply l,
-        ap (λ (z : World). numbered z.links j) v.is
-            ∙ ap (λ o. numbered (changed_from (answered v.request v.reply) w.links v.k o) j) is
-            ∙ ap (λ i. numbered (with_numbered w.links v.k (answered v.request v.reply x)) i) same
-            ∙ with_here w.links v.k x (answered v.request v.reply x) is
-            ∙ ap (λ z. Some (answered v.request v.reply z)) (same_Some x l (sym is ∙ ap (numbered w.links) (sym same) ∙ at)),
-        inl (same, refl),
-      )
-      | inr (unequal, other) ↦ (
-        l,
-        ap (λ (z : World). numbered z.links j) v.is
-            ∙ ap (λ o. numbered (changed_from (answered v.request v.reply) w.links v.k o) j) is
-            ∙ with_other w.links v.k j (answered v.request v.reply x) other ∙ at,
-        inr refl,
-      )
-    ]
+-- a connection that was there
+link_after : (w : World) (v : Turn w) (j : ℕ) (l : Link) → link_of w j ≡ Some l
+    → (y : Link) × (link_of (turned w v) j ≡ Some y) × (((j ≡ v.k) × (y ≡ answered v.request v.reply l)) ⊎ (y ≡ l))
+link_after w v j l at = elim (changed_there (answered v.request v.reply) w.links v.k j l at) [
+  | inl (same, there) ↦ (answered v.request v.reply l, there, inl (same, refl))
+  | inr there ↦ (l, there, inr refl)
+]
 
-pub opens_after : (w u : World) (v : Serves w u) (o : Opening) → Contains w.opens o → Contains u.opens o
-opens_after w u v o among = subst (λ (x : World). Contains x.opens o) (sym v.is) (Contains-append_left w.opens _ o among)
+pub opens_after : (w : World) (v : Turn w) (o : Opening) → Contains w.opens o → Contains (turned w v).opens o
+opens_after w v o among = Contains-append_left w.opens _ o among
 
-earned_as : (w u : World) (v : Serves w u) (x : Count) (l y : Link) (d e : Dumping) (b : Begun) → IsEarnedBy w x l d b → link_of u x.connection ≡ Some y → y.dump ≡ Some e
-    → SameWrites d e → IsEarnedBy u x y e b
-earned_as w u v x l y d e b p at dump same = record {
+earned_as : (w : World) (v : Turn w) (x : Count) (l y : Link) (d e : Dumping) (b : Begun) → IsEarnedBy w x l d b → link_of (turned w v) x.connection ≡ Some y → y.dump ≡ Some e
+    → SameWrites d e → IsEarnedBy (turned w v) x y e b
+earned_as w v x l y d e b p at dump same = record {
   there = at;
   dump = dump;
-  begun = ap (λ (z : World). numbered z.begun x.run) v.is ∙ p.begun;
+  begun = p.begun;
   run = same.run ∙ p.run;
   volume = same.volume ∙ p.volume;
   first = same.first ∙ p.first;
@@ -125,29 +99,29 @@ earned_as w u v x l y d e b p at dump same = record {
   mark = same.mark ∙ p.mark;
   unloaded = still_unloaded b.run d e same.first same.blocks same.more p.unloaded;
   fault = same.fault ∙ p.fault;
-  opened = opens_after w u v (opening x.connection x.reel) p.opened;
+  opened = opens_after w v (opening x.connection x.reel) p.opened;
 }
 
-pub served_earned : OneReading → DroppedWrites → (w u : World) (v : Serves w u) → AreTold w → AreCountsEarned w → AreCountsEarned u
-served_earned g h w u v told earned x among =
-    let p = earned x (subst (λ (z : World). Contains z.counts x) v.is among) in
-    let y = link_after w u v x.connection p.0 p.3.there in
+pub served_earned : OneReading → DroppedWrites → (w : World) (v : Turn w) → AreTold w → AreCountsEarned w → AreCountsEarned (turned w v)
+served_earned g h w v told earned x among =
+    let p = earned x among in
+    let y = link_after w v x.connection p.0 p.3.there in
     elim y.2 [
       | inl (same, new) ↦ (
           let at : link_of w v.k ≡ Some p.0 = ap (numbered w.links) (sym same) ∙ p.3.there in
-          let s = served_step g h w u v told p.0 p.1 at p.3.dump in
-          let writes = marked_writes w u v s.b p.1 s.step s.done s.asks p.3.mark in (
+          let s = served_step g h w v told p.0 p.1 at p.3.dump in
+          let writes = marked_writes w v s.b p.1 s.step s.done s.asks p.3.mark in (
             y.0,
             noted v.request v.reply p.1,
             p.2,
-            earned_as w u v x p.0 y.0 p.1 (noted v.request v.reply p.1) p.2 p.3 y.1
+            earned_as w v x p.0 y.0 p.1 (noted v.request v.reply p.1) p.2 p.3 y.1
                 (ap (λ (z : Link). z.dump) new ∙ ap (option_map (noted v.request v.reply)) p.3.dump) writes,
           ))
       | inr same ↦ (
         y.0,
         p.1,
         p.2,
-        earned_as w u v x p.0 y.0 p.1 p.1 p.2 p.3 y.1 (ap (λ (z : Link). z.dump) same ∙ p.3.dump)
+        earned_as w v x p.0 y.0 p.1 p.1 p.2 p.3 y.1 (ap (λ (z : Link). z.dump) same ∙ p.3.dump)
             record { run = refl; volume = refl; first = refl; label = refl; blocks = refl; mark = refl; fault = refl; more = omega arith },
       )
     ]

@@ -11,7 +11,7 @@ use Rattle.drives.specs.Shop.{Shop, rack_at}
 use Rattle.rmt_server.specs.Hall.{Side}
 use Rattle.rmt_server.specs.Session.{PlainSession}
 use Rattle.dump_client.specs.declared.step.Step.{Step}
-use Rattle.dump_client.specs.declared.step.Step.TheVariants.{Open, Rewind, Label, Block, Mark, Unload, Close}
+use Rattle.dump_client.specs.declared.step.Step.TheVariants.{Open, Rewind, Label}
 use Rattle.tape_events.specs.World.{World, Link, Dumping, Begun, Opening, numbered}
 use Rattle.tape_events.specs.Changes.{opening, opened_reel, written_reel, first_name, noted}
 use Rattle.tape_events.specs.Naming.{AreOpened}
@@ -23,7 +23,8 @@ use Rattle.tape_events.proofs.Named.{opening_is}
 use Rattle.tape_events.proofs.Sent.{raised_one}
 use Rattle.tape_events.proofs.SentWire.{OneReading, DroppedWrites}
 use Rattle.tape_events.proofs.SentServe.{noted_same}
-use Rattle.tape_events.proofs.LabelledEvents.{SameNotes, Like, IsFresh, Quietly, Serves}
+use Rattle.tape_events.proofs.LabelledEvents.{SameNotes, Like, IsFresh, Quietly}
+use Rattle.tape_events.proofs.Moves.{Turn, turned}
 use Rattle.tape_events.proofs.LabelledServes.{IsServed, served_dump, served_step, opens_after}
 
 -- the attempt that it was before
@@ -54,12 +55,7 @@ quiet_single w u q opened single k l d at dump = elim (q.links.at k l at) [
 -- only an open opens a reel
 open_step : (b : Begun) (d : Dumping) (step : Step) (s : Shop) (session : PlainSession) (reel : List ℕ) → opened_reel (request_in b d step) s session ≡ Some reel → step ≡ Open
 open_step b d Open s session reel is = refl
-open_step b d Rewind s session reel is = absurd cc
-open_step b d Label s session reel is = absurd cc
-open_step b d (Block number) s session reel is = absurd cc
-open_step b d (Mark next) s session reel is = absurd cc
-open_step b d (Unload next) s session reel is = absurd cc
-open_step b d Close s session reel is = absurd cc
+open_step b d step s session reel is = absurd cc
 
 -- only that of the label makes it accepted
 pub label_step : (b : Begun) (o : Option Side) (d : Dumping) (step : Step) (reply : PlainReply) → HasDone b.run o d step → d.label ≡ false
@@ -67,34 +63,31 @@ pub label_step : (b : Begun) (o : Option Side) (d : Dumping) (step : Step) (repl
 label_step b o d Open reply done none is = let clash = sym none ∙ is in absurd cc
 label_step b o d Rewind reply done none is = let clash = sym none ∙ is in absurd cc
 label_step b o d Label reply done none is = refl
-label_step b o d (Block number) reply done none is = let clash = sym none ∙ done.label in absurd cc
-label_step b o d (Mark next) reply done none is = let clash = sym none ∙ done.label in absurd cc
-label_step b o d (Unload next) reply done none is = let clash = sym none ∙ done.label in absurd cc
-label_step b o d Close reply done none is = let clash = sym none ∙ done.label in absurd cc
+label_step b o d step reply done none is = let clash = sym none ∙ done.label in absurd cc
 
 -- one request more was carried out
 pub carried_more : (d : Dumping) (request : PlainRequest) (reply : PlainReply) → d.carried + 1 < 2 ^ 64 → (noted request reply d).carried ≡ d.carried + 1
 carried_more d request reply few = ap raised (noted_same d request reply).carried ∙ raised_one d.carried few
 
 -- what is open before the label, and the last opening of it
-label_opened : (w u : World) (v : Serves w u) (l : Link) (d : Dumping) (p : IsServed w u v l d) → AreOpened w → p.step ≡ Label → (reel : List ℕ) × Contains w.opens (opening v.k reel)
-label_opened w u v l d p opened is =
+label_opened : (w : World) (v : Turn w) (l : Link) (d : Dumping) (p : IsServed w v l d) → AreOpened w → p.step ≡ Label → (reel : List ℕ) × Contains w.opens (opening v.k reel)
+label_opened w v l d p opened is =
     let on = subst (λ s. StandsFor s v.s.session) is (p.done.stands v.s refl) in
     let name = first_name (rack_at w.hall.shop on.1.0).stack in
     let last = opened.last v.k v.s name v.live (ap (written_reel w.hall.shop) on.1.1) in
     (name, among_at w.opens last.0 (opening v.k name) last.1)
 
-label_some : (w u : World) (v : Serves w u) (l : Link) (d : Dumping) (p : IsServed w u v l d) (b : Bool) → d.label ≡ b → AreOpened w → IsSingle w.opens v.k d
+label_some : (w : World) (v : Turn w) (l : Link) (d : Dumping) (p : IsServed w v l d) (b : Bool) → d.label ≡ b → AreOpened w → IsSingle w.opens v.k d
     → (noted v.request v.reply d).label ≡ true → (reel : List ℕ) × Contains w.opens (opening v.k reel)
-label_some w u v l d p true test opened single labelled = single.some test
-label_some w u v l d p false test opened single labelled =
-    label_opened w u v l d p opened
+label_some w v l d p true test opened single labelled = single.some test
+label_some w v l d p false test opened single labelled =
+    label_opened w v l d p opened
     (label_step p.b (Some v.s) d p.step v.reply p.done test (subst (λ r. (noted r v.reply d).label ≡ true) p.asks labelled))
 
 -- an opening is one of those before, or that of the open
-was_opened : (w u : World) (v : Serves w u) (o : Opening) → Contains u.opens o
+was_opened : (w : World) (v : Turn w) (o : Opening) → Contains (turned w v).opens o
     → Contains w.opens o ⊎ ((reel : List ℕ) × (opened_reel v.request v.shop v.session ≡ Some reel) × (o ≡ opening v.k reel))
-was_opened w u v o among = opening_is w.opens v.k (opened_reel v.request v.shop v.session) o (subst (λ (x : World). Contains x.opens o) v.is among)
+was_opened w v o among = opening_is w.opens v.k (opened_reel v.request v.shop v.session) o among
 
 -- the same by its place
 placed : (all : List Opening) (k : ℕ) (opened : Option (List ℕ)) (i : ℕ) (o : Opening) → numbered (all ++ option_to_list (option_map (opening k) opened)) i ≡ Some o
@@ -105,24 +98,24 @@ placed all k (Some reel) i o at = elim (pushed_is all (opening k reel) i o at) [
   | inr (last, new) ↦ inr (last, (reel, refl, new))
 ]
 
-was_placed_new : (w u : World) (v : Serves w u) (i : ℕ) (o : Opening) → numbered u.opens i ≡ Some o
+was_placed_new : (w : World) (v : Turn w) (i : ℕ) (o : Opening) → numbered (turned w v).opens i ≡ Some o
     → (numbered w.opens i ≡ Some o)
     ⊎ ((i ≡ suc (length w.opens)) × ((reel : List ℕ) × (opened_reel v.request v.shop v.session ≡ Some reel) × (o ≡ opening v.k reel)))
-was_placed_new w u v i o at =
-    placed w.opens v.k (opened_reel v.request v.shop v.session) i o (subst (λ (x : World). numbered x.opens i ≡ Some o) v.is at)
+was_placed_new w v i o at =
+    placed w.opens v.k (opened_reel v.request v.shop v.session) i o at
 
-was_placed : (w u : World) (v : Serves w u) (i : ℕ) (o : Opening) → numbered u.opens i ≡ Some o
+was_placed : (w : World) (v : Turn w) (i : ℕ) (o : Opening) → numbered (turned w v).opens i ≡ Some o
     → (numbered w.opens i ≡ Some o) ⊎ ((i ≡ suc (length w.opens)) × ((reel : List ℕ) × (opened_reel v.request v.shop v.session ≡ Some reel)))
-was_placed w u v i o at = elim (was_placed_new w u v i o at) [
+was_placed w v i o at = elim (was_placed_new w v i o at) [
   | inl before ↦ inl before
   | inr (last, (reel, is, new)) ↦ inr (last, (reel, is))
 ]
 
-own_single : (w u : World) (v : Serves w u) (l : Link) (d : Dumping) → IsServed w u v l d → AreOpened w → IsSingle w.opens v.k d → IsSingle u.opens v.k (noted v.request v.reply d)
-own_single w u v l d p opened single = record {
-  one = λ i j o q at other mine its. both i j o q (was_placed w u v i o at) (was_placed w u v j q other) mine its;
+own_single : (w : World) (v : Turn w) (l : Link) (d : Dumping) → IsServed w v l d → AreOpened w → IsSingle w.opens v.k d → IsSingle (turned w v).opens v.k (noted v.request v.reply d)
+own_single w v l d p opened single = record {
+  one = λ i j o q at other mine its. both i j o q (was_placed w v i o at) (was_placed w v j q other) mine its;
   none = λ nothing. (let more = carried_more d v.request v.reply p.few in absurd (omega (arith, more, nothing)));
-  some = λ labelled. (let s = label_some w u v l d p d.label refl opened single labelled in (s.0, opens_after w u v (opening v.k s.0) s.1));
+  some = λ labelled. (let s = label_some w v l d p d.label refl opened single labelled in (s.0, opens_after w v (opening v.k s.0) s.1));
 }
   where
     New : ℕ → Type 0
@@ -140,21 +133,21 @@ own_single w u v l d p opened single = record {
     both i j o q (inr (last, one)) (inr (past, other)) mine its = last ∙ sym past
 
 -- another's openings are those before
-other_single : (w u : World) (v : Serves w u) (j : ℕ) (d : Dumping) → j ≢ v.k → IsSingle w.opens j d → IsSingle u.opens j d
-other_single w u v j d other single = record {
+other_single : (w : World) (v : Turn w) (j : ℕ) (d : Dumping) → j ≢ v.k → IsSingle w.opens j d → IsSingle (turned w v).opens j d
+other_single w v j d other single = record {
   one = λ a b o p at its mine same. single.one a b o p (placed_before a o at mine) (placed_before b p its same) mine same;
   none = λ nothing o among mine. single.none nothing o (before o among mine) mine;
-  some = λ labelled. (let s = single.some labelled in (s.0, opens_after w u v (opening j s.0) s.1));
+  some = λ labelled. (let s = single.some labelled in (s.0, opens_after w v (opening j s.0) s.1));
 }
   where
-    placed_before : (i : ℕ) (o : Opening) → numbered u.opens i ≡ Some o → o.connection ≡ j → numbered w.opens i ≡ Some o
-    placed_before i o at mine = elim (was_placed_new w u v i o at) [
+    placed_before : (i : ℕ) (o : Opening) → numbered (turned w v).opens i ≡ Some o → o.connection ≡ j → numbered w.opens i ≡ Some o
+    placed_before i o at mine = elim (was_placed_new w v i o at) [
       | inl was ↦ was
       | inr (last, (reel, is, new)) ↦ absurd (other (sym mine ∙ ap (λ (z : Opening). z.connection) new))
     ]
 
-    before : (o : Opening) → Contains u.opens o → o.connection ≡ j → Contains w.opens o
-    before o among mine = elim (was_opened w u v o among) [
+    before : (o : Opening) → Contains (turned w v).opens o → o.connection ≡ j → Contains w.opens o
+    before o among mine = elim (was_opened w v o among) [
       | inl was ↦ was
       | inr (reel, is, new) ↦ absurd (other (sym mine ∙ ap (λ (z : Opening). z.connection) new))
     ]
@@ -167,11 +160,11 @@ one_reel opens k d single o p among other mine its =
     let j = place_of opens p other in
     ap (λ (z : Opening). z.reel) (same_Some o p (sym i.1 ∙ ap (numbered opens) (single.one i.0 j.0 o p i.1 j.1 mine its) ∙ j.1))
 
-pub served_single : OneReading → DroppedWrites → (w u : World) (v : Serves w u) → AreTold w → AreOpened w → AreSingle w → AreSingle u
-served_single g h w u v told opened single j l d at dump = elim (served_dump w u v j l d at dump) [
+pub served_single : OneReading → DroppedWrites → (w : World) (v : Turn w) → AreTold w → AreOpened w → AreSingle w → AreSingle (turned w v)
+served_single g h w v told opened single j l d at dump = elim (served_dump w v j l d at dump) [
   | inl (same, (x, e, was, its, new)) ↦
-      let p = served_step g h w u v told x e was its in
-      subst (λ i. IsSingle u.opens i d) (sym same)
-      (subst (IsSingle u.opens v.k) (sym new) (own_single w u v x e p opened (single v.k x e was its)))
-  | inr (other, was) ↦ other_single w u v j d other (single j l d was dump)
+      let p = served_step g h w v told x e was its in
+      subst (λ i. IsSingle (turned w v).opens i d) (sym same)
+      (subst (IsSingle (turned w v).opens v.k) (sym new) (own_single w v x e p opened (single v.k x e was its)))
+  | inr (other, was) ↦ other_single w v j d other (single j l d was dump)
 ]

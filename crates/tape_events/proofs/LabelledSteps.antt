@@ -2,7 +2,7 @@
 use Rattle.std.proofs.Common.{◌≡◌, ◌⊎◌, ℕ, ◌<◌, ◌==◌, Bool, true, false, if◌then◌else◌, List, [], ◌∷◌, ◌++◌, length, append_assoc, Option, Some, None, Ok, Err, MatchOption, refl, sym, ap, subst, ◌∙◌, inl, inr}
 use Rattle.std.proofs.lemmas.List.{take-append-drop}
 use Rattle.rmt_wire.specs.Request.{PlainRequest}
-use Rattle.rmt_wire.specs.Request.PlainRequest.{Open, Close, Write, WriteDropped, Read, Op}
+use Rattle.rmt_wire.specs.Request.PlainRequest.{Open, Close, Write, Op}
 use Rattle.rmt_wire.specs.Reply.{PlainReply}
 use Rattle.rmt_wire.specs.declared.mtio.TheConstants.{MTWEOF, MTFSF, MTBSF, MTFSR, MTBSR, MTREW, MTNOP}
 use Rattle.tape.specs.Tape.{PlainEntry, Tape, tape, entries_of, TapeRequest, TapeAnswer, TapeStep, SpaceStep, Passes}
@@ -34,12 +34,9 @@ is_write request = false
 
 space_same : (count met place : ℕ) (t u : Tape) (answer : TapeAnswer) → SpaceStep count met place t answer u → entries_of u ≡ entries_of t
 space_same count met place t u Did step = ap entries_of step.1 ∙ take-append-drop place (entries_of t)
-space_same count met place t u (Gave bytes) step = absurd step
 space_same count met place t u (Fault faults.EndOrMark) step = ap entries_of step.1 ∙ take-append-drop place (entries_of t)
 space_same count met place t u (Fault faults.Device) step = ap entries_of step.1
-space_same count met place t u (Fault faults.Full) step = absurd step
-space_same count met place t u (Fault faults.BadOperation) step = absurd step
-space_same count met place t u (Fault faults.OutOfMemory) step = absurd step
+space_same count met place t u answer step = absurd step
 
 passes_same : (count : ℕ) (after : List PlainEntry) (t u : Tape) (bytes : List ℕ) → t.after ≡ after → Passes count after t bytes u → entries_of u ≡ entries_of t
 passes_same count [] t u bytes is step = ap entries_of step.1
@@ -52,53 +49,28 @@ passes_same count (Mark ∷ rest) t u bytes is step =
 tape_same : (request : TapeRequest) (capacity : ℕ) (t u : Tape) (answer : TapeAnswer) → is_write request ≡ false → TapeStep capacity t request answer u → entries_of u ≡ entries_of t
 tape_same (WriteRecord bytes) capacity t u answer reads step = absurd cc
 tape_same (WriteMarks count) capacity t u answer reads step = absurd cc
-tape_same (ReadRecord count) capacity t u Did reads step = absurd step
 tape_same (ReadRecord count) capacity t u (Gave bytes) reads step = passes_same count t.after t u bytes refl step
 tape_same (ReadRecord count) capacity t u (Fault faults.Device) reads step = ap entries_of step
-tape_same (ReadRecord count) capacity t u (Fault faults.Full) reads step = absurd step
-tape_same (ReadRecord count) capacity t u (Fault faults.EndOrMark) reads step = absurd step
-tape_same (ReadRecord count) capacity t u (Fault faults.BadOperation) reads step = absurd step
-tape_same (ReadRecord count) capacity t u (Fault faults.OutOfMemory) reads step = absurd step
 tape_same (ForwardFiles count) capacity t u answer reads step = space_same count _ _ t u answer step
 tape_same (BackFiles count) capacity t u answer reads step = space_same count _ _ t u answer step
 tape_same (ForwardRecords count) capacity t u answer reads step = space_same count _ _ t u answer step
 tape_same (BackRecords count) capacity t u answer reads step = space_same count _ _ t u answer step
 tape_same Rewind capacity t u Did reads step = ap entries_of step
-tape_same Rewind capacity t u (Gave bytes) reads step = absurd step
-tape_same Rewind capacity t u (Fault why) reads step = absurd step
 tape_same Nothing capacity t u Did reads step = ap entries_of step
-tape_same Nothing capacity t u (Gave bytes) reads step = absurd step
-tape_same Nothing capacity t u (Fault why) reads step = absurd step
-tape_same Unknown capacity t u Did reads step = absurd step
-tape_same Unknown capacity t u (Gave bytes) reads step = absurd step
 tape_same Unknown capacity t u (Fault faults.BadOperation) reads step = ap entries_of step
-tape_same Unknown capacity t u (Fault faults.Device) reads step = absurd step
-tape_same Unknown capacity t u (Fault faults.Full) reads step = absurd step
-tape_same Unknown capacity t u (Fault faults.EndOrMark) reads step = absurd step
-tape_same Unknown capacity t u (Fault faults.OutOfMemory) reads step = absurd step
+tape_same x capacity t u answer reads step = absurd step
 
 failed_same : (request : TapeRequest) (trouble : Trouble) (capacity : ℕ) (t u : Tape) → is_write request ≡ false
     → DeviceStep capacity trouble t request (Fault faults.Device) u → entries_of u ≡ entries_of t
 failed_same (WriteRecord bytes) trouble capacity t u reads step = absurd cc
 failed_same (WriteMarks count) trouble capacity t u reads step = absurd cc
-failed_same (ReadRecord count) trouble capacity t u reads step = ap entries_of step.2
-failed_same (ForwardFiles count) trouble capacity t u reads step = ap entries_of step.2
-failed_same (BackFiles count) trouble capacity t u reads step = ap entries_of step.2
-failed_same (ForwardRecords count) trouble capacity t u reads step = ap entries_of step.2
-failed_same (BackRecords count) trouble capacity t u reads step = ap entries_of step.2
-failed_same Rewind trouble capacity t u reads step = ap entries_of step.2
-failed_same Nothing trouble capacity t u reads step = ap entries_of step.2
-failed_same Unknown trouble capacity t u reads step = ap entries_of step.2
+failed_same x trouble capacity t u reads step = ap entries_of step.2
 
 device_same : (request : TapeRequest) (trouble : Trouble) (capacity : ℕ) (t u : Tape) (answer : TapeAnswer) → is_write request ≡ false
     → DeviceStep capacity trouble t request answer u → entries_of u ≡ entries_of t
-device_same request trouble capacity t u Did reads step = tape_same request capacity t u Did reads step.1
-device_same request trouble capacity t u (Gave bytes) reads step = tape_same request capacity t u (Gave bytes) reads step.1
 device_same request trouble capacity t u (Fault faults.Device) reads step = failed_same request trouble capacity t u reads step
-device_same request trouble capacity t u (Fault faults.Full) reads step = tape_same request capacity t u (Fault faults.Full) reads step.1
-device_same request trouble capacity t u (Fault faults.EndOrMark) reads step = tape_same request capacity t u (Fault faults.EndOrMark) reads step.1
-device_same request trouble capacity t u (Fault faults.BadOperation) reads step = tape_same request capacity t u (Fault faults.BadOperation) reads step.1
 device_same request trouble capacity t u (Fault faults.OutOfMemory) reads step = tape_same request capacity t u (Fault faults.OutOfMemory) reads step
+device_same request trouble capacity t u answer reads step = tape_same request capacity t u answer reads step.1
 
 -- it stands on a reel that lies there, or on the reel that the session has in its drive
 abbrev pub StandsIn : Scene → List ℕ → List PlainEntry → Type 0
@@ -284,19 +256,15 @@ op_stood false trouble before op count reply after may step = reel_stood trouble
 
 done_stood : (trouble : Trouble) (before : Scene) (request : PlainRequest) (reply : PlainReply) (after : Scene) → refusal (status_of before.session) request ≡ None
     → TroubledDoneStep trouble before request reply after → Stood before request after
-done_stood trouble before (Open device mode) reply after none step =
-    reel_stood trouble before (Open device mode) reply after (λ drive access reel is write. absurd cc) step
 done_stood trouble before Close reply after none step =
     closed_stood before Close after (ap (λ (v : Scene). v.shop) step.1) (ap (λ (v : Scene). v.session) step.1)
 done_stood trouble before (Write bytes) reply after none step =
     reel_stood trouble before (Write bytes) reply after
     (λ drive access reel is. online_may before.session drive access reel (Write bytes) is (λ x free. write_may x bytes free) none) step
-done_stood trouble before (WriteDropped count) reply after none step =
-    reel_stood trouble before (WriteDropped count) reply after (λ drive access reel is write. absurd cc) step
-done_stood trouble before (Read count) reply after none step = reel_stood trouble before (Read count) reply after (λ drive access reel is write. absurd cc) step
 done_stood trouble before (Op op count) reply after none step =
     op_stood (is_offline op) trouble before op count reply after
     (λ drive access reel is. online_may before.session drive access reel (Op op count) is (λ x free. op_may x op count free) none) step
+done_stood trouble before request reply after none step = reel_stood trouble before request reply after (λ drive access reel is write. absurd cc) step
 
 other_stood : (trouble : Trouble) (before : Scene) (request : PlainRequest) (reply : PlainReply) (after : Scene)
     → MatchOption (refusal (status_of before.session) request) (TroubledDoneStep trouble before request reply after) (λ r. (reply ≡ refused r) × (after ≡ before))
@@ -308,8 +276,4 @@ other_stood trouble before request reply after step =
 pub step_stood : (trouble : Trouble) (holders : List ℕ) (before : Scene) (request : PlainRequest) (reply : PlainReply) (after : Scene)
     → TroubledServeStep trouble holders before request reply after → Stood before request after
 step_stood trouble holders before (Open device mode) reply after step = opens_stood trouble _ before (Open device mode) device (access_of mode) reply after step
-step_stood trouble holders before Close reply after step = other_stood trouble before Close reply after step
-step_stood trouble holders before (Write bytes) reply after step = other_stood trouble before (Write bytes) reply after step
-step_stood trouble holders before (WriteDropped count) reply after step = other_stood trouble before (WriteDropped count) reply after step
-step_stood trouble holders before (Read count) reply after step = other_stood trouble before (Read count) reply after step
-step_stood trouble holders before (Op op count) reply after step = other_stood trouble before (Op op count) reply after step
+step_stood trouble holders before request reply after step = other_stood trouble before request reply after step

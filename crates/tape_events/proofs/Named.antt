@@ -1,5 +1,5 @@
 -- The names of reels, whatever happens.
-use Rattle.std.proofs.Common.{◌≡◌, ◌⊎◌, ℕ, zero, suc, ◌+◌, ◌<◌, ◌≤◌, Bool, true, false, not, ◌&&◌, ◌||◌, List, [], ◌∷◌, ◌++◌, length, take, drop, map, flat_map, Option, Some, None, Contains, refl, sym, ap, subst, ◌∙◌, inl, inr, arith}
+use Rattle.std.proofs.Common.{◌≡◌, ◌⊎◌, ℕ, ◌+◌, ◌<◌, ◌≤◌, Bool, true, false, not, ◌&&◌, ◌||◌, List, [], ◌∷◌, ◌++◌, length, take, drop, map, flat_map, Option, Some, None, Contains, refl, sym, ap, subst, ◌∙◌, inl, inr, arith}
 use Rattle.std.specs.List.{sum_by, list_any}
 use Rattle.std.proofs.lemmas.List.Sums.{sum_by-append, sum_by-cons}
 use Rattle.std.specs.Str.{bytes_eq}
@@ -8,30 +8,34 @@ use Rattle.drives.specs.Shop.{KeptReel, kept_reel, Slot, slot, Rack, rack, Shop,
 use Rattle.drives.proofs.Shops.{bit, named, times_named, sum_by_slots, sum_by_with_rack}
 use Rattle.drives.specs.Arranging.{are_distinct}
 use Rattle.drives.proofs.Arranging.{times_arranged}
-use Rattle.std.specs.Prelude.{if◌then◌else◌, option_to_list, option_and_then}
+use Rattle.std.specs.Prelude.{if◌then◌else◌, option_to_list}
 use Rattle.std.specs.Option.{option_map}
 use Rattle.std.proofs.lemmas.List.{append-nil}
 use Rattle.std.proofs.lemmas.Option.{same_Some}
 use Rattle.std.proofs.lemmas.List.Elements.{Contains-push_cases}
 use Rattle.std.proofs.lemmas.Slice.Eq.{bytes_eq-Decides}
+use Rattle.rmt_wire.specs.Request.{PlainRequest}
+use Rattle.rmt_wire.specs.Request.PlainRequest.{Open}
 use Rattle.rmt_server.specs.Access.{writes}
-use Rattle.rmt_server.specs.Hall.{Hall, Side}
+use Rattle.rmt_server.specs.Hall.{Hall, Side, side}
 use Rattle.rmt_server.specs.Session.{PlainSession, Scene, scene, closed_shop}
 use Rattle.rmt_server.specs.Session.PlainSession.{Idle, Offline, Online}
 use Rattle.rmt_server.specs.TroubledServe.{drive_in}
-use Rattle.tape_events.specs.World.{World, Opening, numbered, with_numbered}
+use Rattle.tape_events.specs.World.{World, Opening}
 use Rattle.tape_events.specs.Events.{PlainEvent}
-use Rattle.tape_events.specs.Changes.{side_of, ended_from, ended, all_ended, first_name, written_reel, opening}
+use Rattle.tape_events.specs.Changes.{side_of, first_name, written_reel, opened_reel, opening}
 use Rattle.tape_events.specs.Steps.{Happens}
 use Rattle.tape_events.specs.First.{PlainDriveSpec, AreGoodDrives, blank_rack, first_world}
 use Rattle.tape_events.specs.Standing.{IsFirstAway, online_drive_in, AreHeld, HasReel}
 use Rattle.tape_events.specs.Kept.{AreLaid}
 use Rattle.tape_events.specs.Naming.{SameNames, AreNamed}
-use Rattle.tape_events.proofs.Numbers.{with_here}
-use Rattle.tape_events.proofs.Held.{side_there, all_ended_held}
+use Rattle.tape_events.proofs.Sides.{sits_here}
+use Rattle.tape_events.proofs.Held.{KeepsHeldOver, held_ended_by, held_all_ended_by}
 use Rattle.tape_events.proofs.Laid.{online_drive, drive_within}
 use Rattle.tape_events.proofs.NamedRequests.{Comes, stays, closes, opens, moves}
-use Rattle.tape_events.proofs.NamedEvents.{Makes, leaves, joins, reads, serves, ends, restarts, arranges, event_makes}
+use Rattle.tape_events.proofs.HallMoves.{HallMove, serves, ends, restarts, arranges, hall_after}
+use Rattle.tape_events.proofs.Moves as move
+use Rattle.tape_events.proofs.Moves.{Move, moved, hall_move, hall_moved, happened}
 
 -- a stack has the same names where its first reel is away or lies there
 first_names : (name : List ℕ) (reel : Option KeptReel) (stack : List (Slot KeptReel)) → sum_by (named name) (with_first reel stack) ≡ sum_by (named name) stack
@@ -78,44 +82,36 @@ closed_names h k s was a (Online drive access reel) is =
     at_first_names h.shop drive (Some (kept_reel (entries_of reel.tape) reel.capacity)) (drive_within h k s drive a was (ap drive_in is))
 
 -- one request of a session
-comes_names : (h : Hall) (k : ℕ) (s : Side) (after : Scene) (opened : Option (List ℕ)) → side_of h k ≡ Some s → AreHeld h → Comes (scene h.shop s.session) after opened
+comes_names : (holders : List ℕ) (h : Hall) (k : ℕ) (s : Side) (after : Scene) (opened : Option (List ℕ)) → side_of h k ≡ Some s → AreHeld h → Comes holders (scene h.shop s.session) after opened
     → SameNames h.shop after.shop
-comes_names h k s after opened was a (stays shop session none) name = ap (λ (v : Shop). times name (names_in v)) shop
-comes_names h k s after opened was a (closes shop session none) name =
+comes_names holders h k s after opened was a (stays shop session drive none) name = ap (λ (v : Shop). times name (names_in v)) shop
+comes_names holders h k s after opened was a (closes shop session none) name =
     ap (λ (v : Shop). times name (names_in v)) shop ∙ closed_names h k s was a s.session refl name
-comes_names h k s after opened was a (opens drive access reel within shop session new) name =
+comes_names holders h k s after opened was a (opens drive access reel first within waits free shop session new) name =
     ap (λ (v : Shop). times name (names_in v)) shop ∙ at_first_names (closed_shop h.shop s.session) drive None within name
     ∙ closed_names h k s was a s.session refl name
-comes_names h k s after opened was a (moves drive access reel online shop session none) name =
+comes_names holders h k s after opened was a (moves drive access reel online shop session none) name =
     ap (λ (v : Shop). times name (names_in v)) shop
     ∙ to_bin_names h.shop drive (kept_reel (entries_of reel.tape) reel.capacity) (drive_within h k s drive a was (ap drive_in online)) name
 
--- a side that is over, and all
-ended_names_from : (h : Hall) (k : ℕ) (o : Option Side) → side_of h k ≡ o → AreHeld h → SameNames h.shop (ended_from h k o).shop
-ended_names_from h k None is a = λ name. refl
-ended_names_from h k (Some s) is a = closed_names h k s is a s.session refl
-
-ended_names : (h : Hall) (k : ℕ) → AreHeld h → SameNames h.shop (ended h k).shop
-ended_names h k a = ended_names_from h k (side_of h k) refl a
-
-all_ended_names : (h : Hall) (n : ℕ) → AreHeld h → SameNames h.shop (all_ended h n).shop
-all_ended_names h zero a name = refl
-all_ended_names h (suc n) a name = ended_names (all_ended h n) (suc n) (all_ended_held h n a) name ∙ all_ended_names h n a name
+-- a side that is over
+over_names : (base : Shop) → KeepsHeldOver (λ h. SameNames base h.shop)
+over_names base h k s is a same name = closed_names h k s is a s.session refl name ∙ same name
 
 -- each event
-pub makes_names : (w u : World) → Makes w u → AreHeld w.hall → SameNames w.hall.shop u.hall.shop
-makes_names w u (leaves same) a name = ap (λ (h : Hall). times name (names_in h.shop)) same.hall
-makes_names w u (joins is made links) a name = ap (λ (h : Hall). times name (names_in h.shop)) is
-makes_names w u (reads k s x live session unread is made links) a name = ap (λ (h : Hall). times name (names_in h.shop)) is
-makes_names w u (serves k s x shop holders opened live unread comes is made links) a name =
-    ap (λ (h : Hall). times name (names_in h.shop)) is ∙ comes_names w.hall k s (scene shop x.session) opened live a comes name
-makes_names w u (ends k is made links) a name = ap (λ (h : Hall). times name (names_in h.shop)) is ∙ ended_names w.hall k a name
-makes_names w u (restarts is made links) a name = ap (λ (h : Hall). times name (names_in h.shop)) is ∙ all_ended_names w.hall (length w.hall.sides) a name
-makes_names w u (arranges d names within free is made links) a name =
-    ap (λ (h : Hall). times name (names_in h.shop)) is ∙ times_arranged w.hall.shop d names within name
+hall_names : (h : Hall) (m : HallMove h) → AreHeld h → SameNames h.shop (hall_after h m).shop
+hall_names h (serves k s x shop holders opened live unread comes held) a = comes_names h.holders h k s (scene shop x.session) opened live a comes
+hall_names h (ends k) a = held_ended_by (λ u. SameNames h.shop u.shop) (over_names h.shop) h k a (λ name. refl)
+hall_names h restarts a = held_all_ended_by (λ u. SameNames h.shop u.shop) (over_names h.shop) h (length h.sides) a (λ name. refl)
+hall_names h (arranges d names within free) a = times_arranged h.shop d names within
+hall_names h m a = λ name. refl
+
+names_moved : (w : World) (m : Move w) → AreHeld w.hall → SameNames w.hall.shop (moved w m).hall.shop
+names_moved w m a = subst (λ (h : Hall). SameNames w.hall.shop h.shop) (sym (hall_moved w m)) (hall_names w.hall (hall_move w m) a)
 
 pub names_after : (w : World) (event : PlainEvent) (u : World) → Happens w event u → AreHeld w.hall → SameNames w.hall.shop u.hall.shop
-names_after w event u happens a = makes_names w u (event_makes w event u happens) a
+names_after w event u happens a =
+    let m = happened w event u happens in subst (λ (x : World). SameNames w.hall.shop x.hall.shop) (sym m.1) (names_moved w m.0 a)
 
 -- the openings, where one may have been added
 pub opening_is : (all : List Opening) (k : ℕ) (opened : Option (List ℕ)) (o : Opening) → Contains (all ++ option_to_list (option_map (opening k) opened)) o
@@ -177,31 +173,24 @@ served_named w u k opened same made new n = record {
 }
 
 -- the reel that a request opened is there
-pub comes_reel : (before after : Scene) (opened : Option (List ℕ)) → Comes before after opened → (reel : List ℕ) → opened ≡ Some reel → written_reel after.shop after.session ≡ Some reel
-comes_reel before after opened (stays shop session none) reel is = let clash = sym none ∙ is in absurd cc
-comes_reel before after opened (closes shop session none) reel is = let clash = sym none ∙ is in absurd cc
-comes_reel before after opened (opens drive access r within shop session new) reel is = sym new ∙ is
-comes_reel before after opened (moves drive access r online shop session none) reel is = let clash = sym none ∙ is in absurd cc
+open_reel : (request : PlainRequest) (s : Shop) (session : PlainSession) (reel : List ℕ) → opened_reel request s session ≡ Some reel → written_reel s session ≡ Some reel
+open_reel (Open device mode) s session reel is = is
+open_reel request s session reel is = absurd cc
 
--- the side that a request turned
-pub turned_side : (h u : Hall) (k : ℕ) (s x : Side) → side_of h k ≡ Some s → u.sides ≡ with_numbered h.sides k (Some x) → side_of u k ≡ Some x
-turned_side h u k s x live sides =
-    ap (λ ss. option_and_then (λ y. y) (numbered ss k)) sides ∙ ap (option_and_then (λ y. y)) (with_here h.sides k (Some s) (Some x) (side_there h k s live))
+pub comes_reel : (holders : List ℕ) (before after : Scene) (opened : Option (List ℕ)) → Comes holders before after opened → (reel : List ℕ) → opened ≡ Some reel
+    → written_reel after.shop after.session ≡ Some reel
+comes_reel holders before after opened (opens drive access r first within waits free shop session new) reel is = sym new ∙ is
+comes_reel holders before after opened (stays shop session drive none) reel is = let clash = sym none ∙ is in absurd cc
+comes_reel holders before after opened (closes shop session none) reel is = let clash = sym none ∙ is in absurd cc
+comes_reel holders before after opened (moves drive access r online shop session none) reel is = let clash = sym none ∙ is in absurd cc
 
-makes_named : (w u : World) → Makes w u → SameNames w.hall.shop u.hall.shop → AreHeld u.hall → AreLaid u.hall → AreNamed w → AreNamed u
-makes_named w u (leaves alike) same a l n = same_named w u same alike.opens n
-makes_named w u (joins is made links) same a l n = same_named w u same made n
-makes_named w u (reads k s x live session unread is made links) same a l n = same_named w u same made n
-makes_named w u (serves k s x shop holders opened live unread comes is made links) same a l n =
-    served_named w u k opened same made
-    (λ reel new. opened_is_reel u.hall k x reel (turned_side w.hall u.hall k s x live (ap (λ (h : Hall). h.sides) is)) a l
-    (ap (λ (h : Hall). written_reel h.shop x.session) is ∙ comes_reel _ (scene shop x.session) opened comes reel new)) n
-makes_named w u (ends k is made links) same a l n = same_named w u same made n
-makes_named w u (restarts is made links) same a l n = same_named w u same made n
-makes_named w u (arranges d names within free is made links) same a l n = same_named w u same made n
-
-pub named_after : (w : World) (event : PlainEvent) (u : World) → Happens w event u → AreHeld w.hall → AreHeld u.hall → AreLaid u.hall → AreNamed w → AreNamed u
-named_after w event u happens before a l n = makes_named w u (event_makes w event u happens) (names_after w event u happens before) a l n
+pub named_moved : (w : World) (m : Move w) → AreHeld w.hall → AreHeld (moved w m).hall → AreLaid (moved w m).hall → AreNamed w → AreNamed (moved w m)
+named_moved w (move.serves t) before a l n =
+    let u = moved w (move.serves t) in
+    served_named w u t.k (opened_reel t.request t.shop t.session) (names_moved w (move.serves t) before) refl
+    (λ reel new. opened_is_reel u.hall t.k (side t.reached t.session) reel (sits_here w.hall t.k t.s (Some (side t.reached t.session)) u.hall record { was = t.live; sides = refl }) a l
+    (open_reel t.request t.shop t.session reel new)) n
+named_moved w m before a l n = same_named w _ (names_moved w m before) refl n
 
 both : (a b : Bool) → (a && b) ≡ true → (a ≡ true) × (b ≡ true)
 both true b is = (refl, is)

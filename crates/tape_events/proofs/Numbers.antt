@@ -1,7 +1,8 @@
 -- Members of lists by their numbers, and what becomes of them where one is changed or added.
-use Rattle.std.proofs.Common.{◌≡◌, ◌⊎◌, ℕ, zero, suc, ◌≤◌, List, [], ◌∷◌, ◌++◌, length, Option, Some, None, refl, sym, ap, ◌∙◌, inl, inr, arith}
+use Rattle.std.proofs.Common.{◌≡◌, ◌≢◌, ◌⊎◌, ℕ, zero, suc, ◌<◌, ◌≤◌, List, [], ◌∷◌, ◌++◌, length, map, Option, Some, None, refl, sym, ap, ◌∙◌, inl, inr, arith}
 use Rattle.std.specs.Prelude.{slice_get, slice_set}
 use Rattle.std.proofs.lemmas.List.{length-set}
+use Rattle.std.proofs.lemmas.Bool.Decides.{eqb_tells}
 use Rattle.std.proofs.lemmas.Option.{same_Some}
 use Rattle.tape_events.specs.World.{numbered, with_numbered}
 use Rattle.tape_events.specs.Changes.{changed, changed_from}
@@ -67,6 +68,22 @@ pub changed_is : {X : Type 0} (f : X → X) (xs : List X) (k j : ℕ) (y : X) �
     → ((j ≡ k) × ((x : X) × (numbered xs k ≡ Some x) × (y ≡ f x))) ⊎ (((j ≡ k) → ⊥) × (numbered xs j ≡ Some y))
 changed_is f xs k j y is = from_is f xs k j y (numbered xs k) refl is
 
+-- a member that was there
+there_from : {X : Type 0} (f : X → X) (xs : List X) (k j : ℕ) (x : X) (o : Option X) → numbered xs k ≡ o → numbered xs j ≡ Some x
+    → ((j ≡ k) × (numbered (changed_from f xs k o) j ≡ Some (f x))) ⊎ (numbered (changed_from f xs k o) j ≡ Some x)
+there_from f xs k j x None at there = inr there
+there_from f xs k j x (Some y) at there = elim (eqb_tells j k) [
+  | inl (equal, same) ↦ inl (
+    same,
+    ap (numbered (with_numbered xs k (f y))) same ∙ with_here xs k y (f y) at ∙ ap (λ z. Some (f z)) (same_Some y x (sym at ∙ ap (numbered xs) (sym same) ∙ there)),
+  )
+  | inr (unequal, other) ↦ inr (with_other xs k j (f y) other ∙ there)
+]
+
+pub changed_there : {X : Type 0} (f : X → X) (xs : List X) (k j : ℕ) (x : X) → numbered xs j ≡ Some x
+    → ((j ≡ k) × (numbered (changed f xs k) j ≡ Some (f x))) ⊎ (numbered (changed f xs k) j ≡ Some x)
+changed_there f xs k j x there = there_from f xs k j x (numbered xs k) refl there
+
 length_from : {X : Type 0} (f : X → X) (xs : List X) (k : ℕ) (o : Option X) → length (changed_from f xs k o) ≡ length xs
 length_from f xs k None = refl
 length_from f xs k (Some x) = length_with xs k (f x)
@@ -110,6 +127,11 @@ last_is (z ∷ xs) x = last_is xs x
 pub numbered_last : {X : Type 0} (xs : List X) (x : X) → numbered (xs ++ x ∷ []) (suc (length xs)) ≡ Some x
 numbered_last xs x = last_is xs x
 
+-- of an empty list no number has a member
+pub no_number : {X : Type 0} (k : ℕ) (x : X) → numbered {X = X} [] k ≡ Some x → ⊥
+no_number zero x is = cc
+no_number (suc k) x is = cc
+
 -- there is a member exactly at the numbers up to the length
 there_at : {X : Type 0} (xs : List X) (m : ℕ) (y : X) → slice_get xs m ≡ Some y → suc m ≤ length xs
 there_at [] m y is = absurd cc
@@ -132,3 +154,41 @@ numbered_there xs (suc m) first within = get_at xs m within
 pub numbered_first : {X : Type 0} (xs : List X) (k : ℕ) (y : X) → numbered xs k ≡ Some y → 1 ≤ k
 numbered_first xs zero y is = absurd cc
 numbered_first xs (suc m) y is = omega arith
+
+-- one that is set twice
+set_twice : {X : Type 0} (xs : List X) (i : ℕ) (x y : X) → slice_set (slice_set xs i x) i y ≡ slice_set xs i y
+set_twice [] i x y = refl
+set_twice (w ∷ xs) zero x y = refl
+set_twice (w ∷ xs) (suc i) x y = ap (λ l. w ∷ l) (set_twice xs i x y)
+
+pub with_twice : {X : Type 0} (xs : List X) (k : ℕ) (x y : X) → with_numbered (with_numbered xs k x) k y ≡ with_numbered xs k y
+with_twice xs zero x y = refl
+with_twice xs (suc i) x y = set_twice xs i x y
+
+pub less_or_more : (d e : ℕ) → d ≢ e → (d < e) ⊎ (e < d)
+less_or_more zero zero differ = absurd (differ refl)
+less_or_more zero (suc e) differ = inl (omega arith)
+less_or_more (suc d) zero differ = inr (omega arith)
+less_or_more (suc d) (suc e) differ = elim (less_or_more d e (λ same. differ (ap suc same))) [
+  | inl less ↦ inl (omega (arith, less))
+  | inr more ↦ inr (omega (arith, more))
+]
+
+-- of a list of which each was changed
+map_get : {X : Type 0} (f : X → X) (xs : List X) (m : ℕ) (y : X) → slice_get (map f xs) m ≡ Some y → (x : X) × (slice_get xs m ≡ Some x) × (y ≡ f x)
+map_get f [] m y is = absurd cc
+map_get f (x ∷ xs) zero y is = (x, refl, same_Some y (f x) (sym is))
+map_get f (x ∷ xs) (suc m) y is = map_get f xs m y is
+
+pub map_at : {X : Type 0} (f : X → X) (xs : List X) (k : ℕ) (y : X) → numbered (map f xs) k ≡ Some y → (x : X) × (numbered xs k ≡ Some x) × (y ≡ f x)
+map_at f xs zero y is = absurd cc
+map_at f xs (suc m) y is = map_get f xs m y is
+
+get_map : {X : Type 0} (f : X → X) (xs : List X) (m : ℕ) (x : X) → slice_get xs m ≡ Some x → slice_get (map f xs) m ≡ Some (f x)
+get_map f [] m x is = absurd cc
+get_map f (y ∷ xs) zero x is = ap (λ z. Some (f z)) (same_Some y x is)
+get_map f (y ∷ xs) (suc m) x is = get_map f xs m x is
+
+pub at_map : {X : Type 0} (f : X → X) (xs : List X) (k : ℕ) (x : X) → numbered xs k ≡ Some x → numbered (map f xs) k ≡ Some (f x)
+at_map f xs zero x is = absurd cc
+at_map f xs (suc m) x is = get_map f xs m x is

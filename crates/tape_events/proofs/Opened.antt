@@ -1,9 +1,8 @@
 -- Of a reel that a session may write on the last opening is its own, whatever happens.
-use Rattle.std.proofs.Common.{◌≡◌, ◌≢◌, ◌⊎◌, ℕ, zero, suc, ◌<◌, ◌≤◌, List, [], ◌∷◌, ◌++◌, length, Contains, Option, Some, None, refl, sym, ap, subst, ◌∙◌, inl, inr, arith}
-use Rattle.std.specs.Prelude.{slice_index_or, option_to_list, option_and_then, if◌then◌else◌}
+use Rattle.std.proofs.Common.{◌≡◌, ◌≢◌, ◌⊎◌, ℕ, suc, ◌<◌, ◌≤◌, List, [], ◌∷◌, ◌++◌, length, Contains, Option, Some, None, refl, sym, ap, subst, ◌∙◌, inl, inr, arith}
+use Rattle.std.specs.Prelude.{slice_index_or, option_to_list, if◌then◌else◌}
 use Rattle.std.specs.Option.{option_map}
 use Rattle.std.specs.List.{sum_by}
-use Rattle.std.proofs.lemmas.Bool.Decides.{eqb_tells}
 use Rattle.std.proofs.lemmas.List.{append-nil, length-append, length-set}
 use Rattle.std.proofs.lemmas.Option.{same_Some}
 use Rattle.rmt_wire.specs.RequestReader.{held}
@@ -17,19 +16,20 @@ use Rattle.rmt_server.specs.Session.{PlainSession, Scene, scene, closed_shop}
 use Rattle.rmt_server.specs.Session.PlainSession.{Idle, Offline, Online}
 use Rattle.rmt_server.specs.TroubledServe.{drive_in}
 use Rattle.tape_events.specs.World.{World, Opening, with_numbered}
-use Rattle.tape_events.specs.Events.{PlainEvent}
-use Rattle.tape_events.specs.Changes.{side_of, with_side, ended_from, ended, all_ended, first_name, written_reel, opening}
+use Rattle.tape_events.specs.Changes.{side_of, with_side, ended_from, first_name, written_reel, opened_reel, opening, answered}
 use Rattle.tape_events.specs.First.{PlainDriveSpec, first_world}
-use Rattle.tape_events.specs.Steps.{Happens}
 use Rattle.tape_events.specs.Kept.{AreTidy, AreLaid}
 use Rattle.tape_events.specs.Standing.{IsFirstAway, online_drive_in, AreHeld}
 use Rattle.tape_events.specs.Headline.{IsUnopenedSince}
 use Rattle.tape_events.specs.Naming.{AreOpened}
-use Rattle.tape_events.proofs.Numbers.{pushed_is, numbered_more, numbered_last, numbered_within, numbered_first}
-use Rattle.tape_events.proofs.Held.{side_there, all_ended_held}
-use Rattle.tape_events.proofs.Laid.{IsOnlineElse, Sits, sits_here, sits_other, alone_at, rack_other, drive_within, free_off, online_drive}
-use Rattle.tape_events.proofs.NamedRequests.{use_of, Comes, stays, closes, opens, moves}
-use Rattle.tape_events.proofs.NamedEvents.{Makes, leaves, joins, reads, serves, ends, restarts, arranges, event_makes}
+use Rattle.tape_events.proofs.Numbers.{no_number, length_changed, pushed_is, numbered_more, numbered_last, numbered_within, numbered_first}
+use Rattle.tape_events.proofs.Sides.{side_there, Sits, sits_here, sits_other, sits_is, joined_is}
+use Rattle.tape_events.proofs.Held.{KeepsHeldOver, held_ended_by, held_all_ended_by}
+use Rattle.tape_events.proofs.Laid.{IsOnlineElse, IsOpenElse, online_else, apart, alone_at, rack_other, drive_within, free_off, online_drive}
+use Rattle.tape_events.proofs.NamedRequests.{use_of, Comes, stays, closes, opens, moves, step_comes}
+use Rattle.tape_events.proofs.HallMoves.{HallMove, leaves, joins, reads, serves, ends, restarts, arranges, hall_after, IsNoRequest}
+use Rattle.tape_events.proofs.Moves as move
+use Rattle.tape_events.proofs.Moves.{Move, moved, hall_move, links_more}
 use Rattle.tape_events.proofs.Named.{first_times, comes_reel, written_is, opening_is}
 
 -- an opening that was the last of its reel, where one may have been added
@@ -85,11 +85,9 @@ turn_last : (h u : Hall) (k : ℕ) (s : Side) (o : Option Side) (all : List Open
     → ((d : ℕ) → IsOnlineElse h k d → (r : List ℕ) → opened ≡ Some r → r ≢ first_name (rack_at u.shop d).stack)
     → ((x : Side) (reel : List ℕ) → o ≡ Some x → written_reel u.shop x.session ≡ Some reel → IsUnopenedSince (all ++ option_to_list (option_map (opening k) opened)) k reel)
     → AreLast h all → AreLast u (all ++ option_to_list (option_map (opening k) opened))
-turn_last h u k s o all opened t racks differs own l j x reel at written = elim (eqb_tells j k) [
-  | inl (equal, same) ↦ subst (λ m. IsUnopenedSince (all ++ option_to_list (option_map (opening k) opened)) m reel) (sym same)
-      (own x reel (sym (sits_here h k s o u t) ∙ ap (side_of u) (sym same) ∙ at) written)
-  | inr (unequal, other) ↦
-      let was : side_of h j ≡ Some x = sym (sits_other h k j s o u t other) ∙ at in
+turn_last h u k s o all opened t racks differs own l j x reel at written = elim (sits_is h k s o u t j x at) [
+  | inl (same, mine) ↦ subst (λ m. IsUnopenedSince (all ++ option_to_list (option_map (opening k) opened)) m reel) (sym same) (own x reel mine written)
+  | inr (other, was) ↦
       let w = written_is u.shop x.session reel written in
       let elsewhere : IsOnlineElse h k w.0 = (j, other, (x, was, w.1)) in
       let before : written_reel h.shop x.session ≡ Some reel = sym (written_shop u.shop h.shop x.session w.0 w.1 (racks w.0 elsewhere)) ∙ written in
@@ -105,40 +103,40 @@ quiet_last h u k s o all t racks own l =
     subst (AreLast u) (append-nil all) (turn_last h u k s o all None t racks (λ d elsewhere r is. absurd cc)
     (λ x reel is written. subst (λ m. IsUnopenedSince m k reel) (sym (append-nil all)) (own x reel is written)) l)
 
--- the racks of drives where others are online
-pub closed_else : (h : Hall) (k : ℕ) (s : Side) → side_of h k ≡ Some s → AreHeld h → (session : PlainSession) → s.session ≡ session → (d : ℕ) → IsOnlineElse h k d
+-- the racks of drives that others have open
+pub closed_else : (h : Hall) (k : ℕ) (s : Side) → side_of h k ≡ Some s → AreHeld h → (session : PlainSession) → s.session ≡ session → (d : ℕ) → IsOpenElse h k d
     → rack_at (closed_shop h.shop session) d ≡ rack_at h.shop d
 closed_else h k s was a Idle is d elsewhere = refl
 closed_else h k s was a (Offline drive access) is d elsewhere = refl
 closed_else h k s was a (Online drive access reel) is d elsewhere =
-    rack_other h.shop.racks drive d _ (rack [] []) (λ same. alone_at h k s drive a was (ap drive_in is) (subst (IsOnlineElse h k) same elsewhere))
+    rack_other h.shop.racks drive d _ (rack [] []) (λ same. alone_at h k s drive a was (ap drive_in is) (subst (IsOpenElse h k) same elsewhere))
 
-pub comes_else : (h : Hall) (k : ℕ) (s : Side) (after : Scene) (opened : Option (List ℕ)) → side_of h k ≡ Some s → AreHeld h
-    → ((d : ℕ) → IsOnlineElse h k d → drive_in after.session ≡ Some d → ⊥) → Comes (scene h.shop s.session) after opened
-    → (d : ℕ) → IsOnlineElse h k d → rack_at after.shop d ≡ rack_at h.shop d
-comes_else h k s after opened was a apart (stays shop session none) d elsewhere = ap (λ (v : Shop). rack_at v d) shop
-comes_else h k s after opened was a apart (closes shop session none) d elsewhere =
+pub comes_else : (holders : List ℕ) (h : Hall) (k : ℕ) (s : Side) (after : Scene) (opened : Option (List ℕ)) → side_of h k ≡ Some s → AreHeld h
+    → ((d : ℕ) → IsOpenElse h k d → drive_in after.session ≡ Some d → ⊥) → Comes holders (scene h.shop s.session) after opened
+    → (d : ℕ) → IsOpenElse h k d → rack_at after.shop d ≡ rack_at h.shop d
+comes_else holders h k s after opened was a apart (stays shop session drive none) d elsewhere = ap (λ (v : Shop). rack_at v d) shop
+comes_else holders h k s after opened was a apart (closes shop session none) d elsewhere =
     ap (λ (v : Shop). rack_at v d) shop ∙ closed_else h k s was a s.session refl d elsewhere
-comes_else h k s after opened was a apart (opens drive access reel within shop session new) d elsewhere =
+comes_else holders h k s after opened was a apart (opens drive access reel first within waits free shop session new) d elsewhere =
     ap (λ (v : Shop). rack_at v d) shop
     ∙ rack_other (closed_shop h.shop s.session).racks drive d _ (rack [] []) (λ same. apart d elsewhere (ap drive_in session ∙ ap Some (sym same)))
     ∙ closed_else h k s was a s.session refl d elsewhere
-comes_else h k s after opened was a apart (moves drive access reel online shop session none) d elsewhere =
+comes_else holders h k s after opened was a apart (moves drive access reel online shop session none) d elsewhere =
     ap (λ (v : Shop). rack_at v d) shop
-    ∙ rack_other h.shop.racks drive d _ (rack [] []) (λ same. alone_at h k s drive a was (ap drive_in online) (subst (IsOnlineElse h k) same elsewhere))
+    ∙ rack_other h.shop.racks drive d _ (rack [] []) (λ same. alone_at h k s drive a was (ap drive_in online) (subst (IsOpenElse h k) same elsewhere))
 
 -- what the session itself may write on then, it could before, or it was opened
-comes_own : (before after : Scene) (opened : Option (List ℕ)) (reel : List ℕ) → Comes before after opened → written_reel after.shop after.session ≡ Some reel
+comes_own : (holders : List ℕ) (before after : Scene) (opened : Option (List ℕ)) (reel : List ℕ) → Comes holders before after opened → written_reel after.shop after.session ≡ Some reel
     → ((written_reel before.shop before.session ≡ Some reel) × (opened ≡ None)) ⊎ (opened ≡ Some reel)
-comes_own before after opened reel (stays shop session none) written =
+comes_own holders before after opened reel (stays shop session drive none) written =
     inl (
       written_use before.shop before.session ∙ ap (written_by before.shop) (sym session) ∙ ap (λ (v : Shop). written_by v (use_of after.session)) (sym shop)
           ∙ sym (written_use after.shop after.session) ∙ written,
       none,
     )
-comes_own before after opened reel (closes shop session none) written = let clash = sym (ap (written_reel after.shop) session) ∙ written in absurd cc
-comes_own before after opened reel (opens drive access r within shop session new) written = inr (new ∙ written)
-comes_own before after opened reel (moves drive access r online shop session none) written = let clash = sym (ap (written_reel after.shop) session) ∙ written in absurd cc
+comes_own holders before after opened reel (closes shop session none) written = let clash = sym (ap (written_reel after.shop) session) ∙ written in absurd cc
+comes_own holders before after opened reel (opens drive access r first within waits free shop session new) written = inr (new ∙ written)
+comes_own holders before after opened reel (moves drive access r online shop session none) written = let clash = sym (ap (written_reel after.shop) session) ∙ written in absurd cc
 
 -- two reels that are away have two names
 pub names_differ : (s : Shop) (d e : ℕ) → EachReelOnce s → d ≢ e → d < length s.racks → IsFirstAway (rack_at s d).stack → e < length s.racks → IsFirstAway (rack_at s e).stack
@@ -157,26 +155,17 @@ names_differ s d e once other here away there gone same =
     let few = once name in
     omega (arith, one, two, its, first, second, all, few)
 
--- a side that is over, and all
-ended_last_from : (h : Hall) (k : ℕ) (o : Option Side) (all : List Opening) → side_of h k ≡ o → AreHeld h → AreLast h all → AreLast (ended_from h k o) all
-ended_last_from h k None all is a l = l
-ended_last_from h k (Some s) all is a l =
-    quiet_last h (ended_from h k (Some s)) k s None all record { was = is; sides = refl } (closed_else h k s is a s.session refl) (λ x reel none written. absurd cc) l
-
-ended_last : (h : Hall) (k : ℕ) (all : List Opening) → AreHeld h → AreLast h all → AreLast (ended h k) all
-ended_last h k all a l = ended_last_from h k (side_of h k) all refl a l
-
-all_ended_last : (h : Hall) (n : ℕ) (all : List Opening) → AreHeld h → AreLast h all → AreLast (all_ended h n) all
-all_ended_last h zero all a l = l
-all_ended_last h (suc n) all a l = ended_last (all_ended h n) (suc n) all (all_ended_held h n a) (all_ended_last h n all a l)
+-- a side that is over
+over_last : (all : List Opening) → KeepsHeldOver (λ h. AreLast h all)
+over_last all h k s is a l =
+    quiet_last h (ended_from h k (Some s)) k s None all record { was = is; sides = refl }
+    (λ d elsewhere. closed_else h k s is a s.session refl d (online_else h k d elsewhere)) (λ x reel none written. absurd cc) l
 
 -- a side more, with nothing open
 joined_last : (h : Hall) (all : List Opening) → AreLast h all → AreLast (with_side h) all
-joined_last h all l k s reel at written = elim (pushed_is h.sides (Some (side (held [] 0) Idle)) k (Some s) (side_there (with_side h) k s at)) [
-  | inl before ↦ l k s reel (ap (option_and_then (λ x. x)) before) written
-  | inr (last, new) ↦ (
-      let its : s ≡ side (held [] 0) Idle = same_Some s (side (held [] 0) Idle) new in
-      let clash : written_reel h.shop Idle ≡ Some reel = ap (λ (z : Side). written_reel h.shop z.session) (sym its) ∙ written in absurd cc)
+joined_last h all l k s reel at written = elim (joined_is h k s at) [
+  | inl before ↦ l k s reel before written
+  | inr new ↦ (let clash : written_reel h.shop Idle ≡ Some reel = ap (λ (z : Side). written_reel h.shop z.session) new ∙ written in absurd cc)
 ]
 
 -- an operator's order
@@ -187,33 +176,23 @@ arranged_last h d names all a free l k s reel at written =
     let other : w.0 ≢ d = λ same. free_off h d a free (k, s, at, w.1 ∙ ap Some same) in
     l k s reel at (sym (written_shop (arranged h.shop d names) h.shop s.session w.0 w.1 (rack_other h.shop.racks d w.0 _ (rack [] []) other)) ∙ written)
 
--- a side that has read more
-read_last : (h u : Hall) (k : ℕ) (s x : Side) (all : List Opening) → side_of h k ≡ Some s → x.session ≡ s.session
-    → u ≡ hall h.shop h.holders (with_numbered h.sides k (Some x)) → AreLast h all → AreLast u all
-read_last h u k s x all was session is l =
-    subst (λ v. AreLast v all) (sym is)
-    (quiet_last h (hall h.shop h.holders (with_numbered h.sides k (Some x))) k s (Some x) all record { was = was; sides = refl } (λ d elsewhere. refl)
-    (λ y reel same written. l k s reel was
-    (ap (written_reel h.shop) (sym session) ∙ ap (λ (z : Side). written_reel h.shop z.session) (same_Some x y same) ∙ written)) l)
-
 -- one request of a session
-served_last : (h u : Hall) (k : ℕ) (s x : Side) (all : List Opening) (opened : Option (List ℕ)) → Sits h k s (Some x) u → Comes (scene h.shop s.session) (scene u.shop x.session) opened
+served_last : (holders : List ℕ) (h u : Hall) (k : ℕ) (s x : Side) (all : List Opening) (opened : Option (List ℕ)) → Sits h k s (Some x) u → Comes holders (scene h.shop s.session) (scene u.shop x.session) opened
     → AreHeld h → AreHeld u → AreLaid u → EachReelOnce u.shop → AreLast h all → AreLast u (all ++ option_to_list (option_map (opening k) opened))
-served_last h u k s x all opened t comes a b laid once l =
+served_last holders h u k s x all opened t comes a b laid once l =
     let here : side_of u k ≡ Some x = sits_here h k s (Some x) u t in
     let there : (d : ℕ) → IsOnlineElse h k d → IsOnlineElse u k d
     = λ d (j, other, (y, at, on)). (j, other, (y, sits_other h k j s (Some x) u t other ∙ at, on)) in
-    let apart : (d : ℕ) → IsOnlineElse h k d → drive_in x.session ≡ Some d → ⊥ = λ d elsewhere drive. alone_at u k x d b here drive (there d elsewhere) in
-    turn_last h u k s (Some x) all opened t (comes_else h k s (scene u.shop x.session) opened t.was a apart comes)
+    turn_last h u k s (Some x) all opened t (λ d elsewhere. comes_else holders h k s (scene u.shop x.session) opened t.was a (apart h u k s x t b) comes d (online_else h k d elsewhere))
     (λ d elsewhere r is same. (
-    let w = written_is u.shop x.session r (comes_reel (scene h.shop s.session) (scene u.shop x.session) opened comes r is) in
-    let other : w.0 ≢ d = λ e. apart d elsewhere (online_drive x.session d (w.1 ∙ ap Some e)) in
+    let w = written_is u.shop x.session r (comes_reel holders (scene h.shop s.session) (scene u.shop x.session) opened comes r is) in
+    let other : w.0 ≢ d = λ e. apart h u k s x t b d (online_else h k d elsewhere) (online_drive x.session d (w.1 ∙ ap Some e)) in
     let (j, unlike, (y, at, on)) = there d elsewhere in
     names_differ u.shop w.0 d once other (drive_within u k x w.0 b here (online_drive x.session w.0 w.1)) (laid.latched w.0 (k, x, here, w.1))
     (drive_within u j y d b at (online_drive y.session d on)) (laid.latched d (j, y, at, on)) (w.2 ∙ same)))
     (λ y reel same written. (
     let its : written_reel u.shop x.session ≡ Some reel = ap (λ (z : Side). written_reel u.shop z.session) (same_Some x y same) ∙ written in
-    elim (comes_own (scene h.shop s.session) (scene u.shop x.session) opened reel comes its) [
+    elim (comes_own holders (scene h.shop s.session) (scene u.shop x.session) opened reel comes its) [
       | inl (before, none) ↦ last_stays all k k reel opened (λ r is. (let clash = sym none ∙ is in absurd cc)) (l k s reel t.was before)
       | inr new ↦ subst (λ o. IsUnopenedSince (all ++ option_to_list (option_map (opening k) o)) k reel) (sym new) (last_new all k reel)
     ]))
@@ -225,12 +204,6 @@ same_there : (w u : World) → u.opens ≡ w.opens → length w.links ≤ length
 same_there w u made more n o among =
     let before = n.there o (subst (λ l. Contains l o) made among) in
     (before.0, (let few = before.1 in omega (arith, few, more)))
-
-same_opened : (w u : World) → u.opens ≡ w.opens → length w.links ≤ length u.links → AreLast u.hall w.opens → AreOpened w → AreOpened u
-same_opened w u made more last n = record { there = same_there w u made more n; last = subst (AreLast u.hall) (sym made) last }
-
-as_many : (w u : World) → length u.links ≡ length w.links → length w.links ≤ length u.links
-as_many w u links = omega (arith, links)
 
 served_there : (w u : World) (k : ℕ) (s : Side) (opened : Option (List ℕ)) → side_of w.hall k ≡ Some s → u.opens ≡ w.opens ++ option_to_list (option_map (opening k) opened)
     → length u.links ≡ length w.links → AreTidy w → AreOpened w → (o : Opening) → Contains u.opens o → (1 ≤ o.connection) × (o.connection ≤ length u.links)
@@ -245,38 +218,37 @@ served_there w u k s opened live made links t n o among = elim (opening_is w.ope
       (omega (arith, first, same), omega (arith, within, paired, links, same)))
 ]
 
-makes_opened : (w u : World) → Makes w u → AreTidy w → AreHeld w.hall → AreHeld u.hall → AreLaid u.hall → EachReelOnce u.hall.shop → AreOpened w → AreOpened u
-makes_opened w u (leaves same) t a b l once n =
-    same_opened w u same.opens (as_many w u same.links) (subst (λ (h : Hall). AreLast h w.opens) (sym same.hall) n.last) n
-makes_opened w u (joins is made links) t a b l once n =
-    same_opened w u made (omega (arith, links)) (subst (λ (h : Hall). AreLast h w.opens) (sym is) (joined_last w.hall w.opens n.last)) n
-makes_opened w u (reads k s x live session unread is made links) t a b l once n =
-    same_opened w u made (as_many w u links) (read_last w.hall u.hall k s x w.opens live session is n.last) n
-makes_opened w u (serves k s x shop holders opened live unread comes is made links) t a b l once n = record {
-  there = served_there w u k s opened live made links t n;
-  last = subst (AreLast u.hall) (sym made) (served_last w.hall u.hall k s x w.opens opened record { was = live; sides = ap (λ (h : Hall). h.sides) is }
-      (subst (λ (h : Hall). Comes (scene w.hall.shop s.session) (scene h.shop x.session) opened) (sym is) comes) a b l once n.last);
-}
-makes_opened w u (ends k is made links) t a b l once n =
-    same_opened w u made (as_many w u links) (subst (λ (h : Hall). AreLast h w.opens) (sym is) (ended_last w.hall k w.opens a n.last)) n
-makes_opened w u (restarts is made links) t a b l once n =
-    same_opened w u made (as_many w u links) (subst (λ (h : Hall). AreLast h w.opens) (sym is) (all_ended_last w.hall (length w.hall.sides) w.opens a n.last)) n
-makes_opened w u (arranges d names within free is made links) t a b l once n =
-    same_opened w u made (as_many w u links) (subst (λ (h : Hall). AreLast h w.opens) (sym is) (arranged_last w.hall d names w.opens a free n.last)) n
+-- each event
+hall_last : (h : Hall) (m : HallMove h) (all : List Opening) → IsNoRequest h m → AreHeld h → AreLast h all → AreLast (hall_after h m) all
+hall_last h (serves k s x shop holders opened live unread comes held) all none a l = absurd none
+hall_last h leaves all none a l = l
+hall_last h joins all none a l = joined_last h all l
+hall_last h (reads k s reached live unread) all none a l =
+    quiet_last h (hall h.shop h.holders (with_numbered h.sides k (Some (side reached s.session)))) k s (Some (side reached s.session)) all record { was = live; sides = refl }
+    (λ d elsewhere. refl)
+    (λ y reel same written. l k s reel live (ap (λ (z : Side). written_reel h.shop z.session) (same_Some (side reached s.session) y same) ∙ written)) l
+hall_last h (ends k) all none a l = held_ended_by (λ u. AreLast u all) (over_last all) h k a l
+hall_last h restarts all none a l = held_all_ended_by (λ u. AreLast u all) (over_last all) h (length h.sides) a l
+hall_last h (arranges d names within free) all none a l = arranged_last h d names all a free l
 
-pub opened_after : (w : World) (event : PlainEvent) (u : World) → Happens w event u → AreTidy w → AreHeld w.hall → AreHeld u.hall → AreLaid u.hall → EachReelOnce u.hall.shop
-    → AreOpened w → AreOpened u
-opened_after w event u happens t a b l once n = makes_opened w u (event_makes w event u happens) t a b l once n
+pub opened_moved : (w : World) (m : Move w) → AreTidy w → AreHeld w.hall → AreHeld (moved w m).hall → AreLaid (moved w m).hall → EachReelOnce (moved w m).hall.shop → AreOpened w
+    → AreOpened (moved w m)
+opened_moved w (move.serves t) tidy a b l once n =
+    let u = moved w (move.serves t) in
+    let o = opened_reel t.request t.shop t.session in
+    record {
+      there = served_there w u t.k t.s o t.live refl (length_changed (answered t.request t.reply) w.links t.k) tidy n;
+      last = served_last w.hall.holders w.hall u.hall t.k t.s (side t.reached t.session) w.opens o record { was = t.live; sides = refl }
+          (step_comes t.trouble w.hall.holders (scene w.hall.shop t.s.session) t.request t.reply (scene t.shop t.session) t.served.step) a b l once n.last;
+    }
+opened_moved w m tidy a b l once n = record {
+  there = same_there w (moved w m) refl (links_more w m) n;
+  last = hall_last w.hall (hall_move w m) w.opens tt a n.last;
+}
 
 -- no side is there in the first world
-none_live : (drives : List PlainDriveSpec) (k : ℕ) (s : Side) → side_of (first_world drives).hall k ≡ Some s → ⊥
-none_live drives k s at =
-    let within = numbered_within [] k (Some s) (side_there (first_world drives).hall k s at) in
-    let first = numbered_first [] k (Some s) (side_there (first_world drives).hall k s at) in
-    omega (arith, within, first)
-
 pub first_opened : (drives : List PlainDriveSpec) → AreOpened (first_world drives)
 first_opened drives = record {
   there = λ o (k, within, is). absurd (omega (arith, within));
-  last = λ k s reel at written. absurd (none_live drives k s at);
+  last = λ k s reel at written. absurd (no_number k (Some s) (side_there (first_world drives).hall k s at));
 }

@@ -1,54 +1,45 @@
 -- By each live side something is unread, if only no bytes, whatever happens.
-use Rattle.std.proofs.Common.{◌≡◌, ℕ, zero, suc, [], length, Option, Some, None, refl, sym, ap, subst, ◌∙◌, inl, inr}
-use Rattle.std.specs.Prelude.{option_and_then}
+use Rattle.std.proofs.Common.{◌≡◌, ℕ, [], length, Option, Some, None, refl, sym, subst, inl, inr}
 use Rattle.std.proofs.lemmas.Option.{same_Some}
 use Rattle.rmt_wire.specs.RequestReader.{held}
-use Rattle.rmt_server.specs.Hall.{Hall, Side, side}
-use Rattle.rmt_server.specs.Session.PlainSession.{Idle}
-use Rattle.tape_events.specs.World.{World, numbered, with_numbered}
-use Rattle.tape_events.specs.Events.{PlainEvent}
-use Rattle.tape_events.specs.Changes.{side_of, with_side, ended_from, all_ended}
+use Rattle.rmt_server.specs.Hall.{Hall, hall, Side, side}
+use Rattle.tape_events.specs.World.{World, with_numbered}
+use Rattle.tape_events.specs.Changes.{side_of, with_side, ended_from}
 use Rattle.tape_events.specs.First.{IsReadable}
-use Rattle.tape_events.specs.Steps.{Happens}
-use Rattle.tape_events.proofs.Numbers.{pushed_is, with_is}
-use Rattle.tape_events.proofs.Held.{side_there}
-use Rattle.tape_events.proofs.NamedEvents.{HasUnread, Makes, leaves, joins, reads, serves, ends, restarts, arranges, event_makes}
+use Rattle.tape_events.proofs.Sides.{Sits, sits_is, joined_is, KeepsOver, ended_by, all_ended_by}
+use Rattle.tape_events.proofs.HallMoves.{HasUnread, HallMove, leaves, joins, reads, serves, ends, restarts, arranges, hall_after}
+use Rattle.tape_events.proofs.Moves.{Move, moved, hall_move, hall_moved}
 use Rattle.tape_events.proofs.SentWire.{fresh_unread}
 
 abbrev AreRead : Hall → Type 0
 AreRead h = (k : ℕ) (s : Side) → side_of h k ≡ Some s → HasUnread s
 
 -- one side is another, or over
-turned_read : (h u : Hall) (k : ℕ) (o : Option Side) → u.sides ≡ with_numbered h.sides k o → ((s : Side) → o ≡ Some s → HasUnread s) → AreRead h → AreRead u
-turned_read h u k o sides own r j s at = elim (with_is h.sides k j o (Some s) (ap (λ ss. numbered ss j) (sym sides) ∙ side_there u j s at)) [
-  | inl (same, new) ↦ own s (sym new)
-  | inr (other, on) ↦ r j s (ap (option_and_then (λ x. x)) on)
+turned_read : (h u : Hall) (k : ℕ) (s : Side) (o : Option Side) → Sits h k s o u → ((x : Side) → o ≡ Some x → HasUnread x) → AreRead h → AreRead u
+turned_read h u k s o t own r j x at = elim (sits_is h k s o u t j x at) [
+  | inl (same, mine) ↦ own x mine
+  | inr (other, was) ↦ r j x was
 ]
 
-ended_read_from : (h : Hall) (k : ℕ) (o : Option Side) → AreRead h → AreRead (ended_from h k o)
-ended_read_from h k None r = r
-ended_read_from h k (Some s) r = turned_read h (ended_from h k (Some s)) k None refl (λ x none. absurd cc) r
+another_read : (h u : Hall) (k : ℕ) (s x : Side) → Sits h k s (Some x) u → HasUnread x → AreRead h → AreRead u
+another_read h u k s x t unread r = turned_read h u k s (Some x) t (λ y same. subst HasUnread (same_Some x y same) unread) r
 
-all_ended_read : (h : Hall) (n : ℕ) → AreRead h → AreRead (all_ended h n)
-all_ended_read h zero r = r
-all_ended_read h (suc n) r = ended_read_from (all_ended h n) (suc n) (side_of (all_ended h n) (suc n)) (all_ended_read h n r)
+over_read : KeepsOver AreRead
+over_read h k s is r = turned_read h (ended_from h k (Some s)) k s None record { was = is; sides = refl } (λ x none. absurd cc) r
 
 joined_read : (h : Hall) → AreRead h → AreRead (with_side h)
-joined_read h r k s at = elim (pushed_is h.sides (Some (side (held [] 0) Idle)) k (Some s) (side_there (with_side h) k s at)) [
-  | inl before ↦ r k s (ap (option_and_then (λ x. x)) before)
-  | inr (last, new) ↦ subst HasUnread (sym (same_Some s (side (held [] 0) Idle) new)) ([], fresh_unread)
-]
+joined_read h r k s at = elim (joined_is h k s at) [ inl before ↦ r k s before | inr new ↦ subst HasUnread new ([], fresh_unread) ]
 
-makes_read : (w u : World) → Makes w u → IsReadable w → IsReadable u
-makes_read w u (leaves same) r = subst AreRead (sym same.hall) r
-makes_read w u (joins is made links) r = subst AreRead (sym is) (joined_read w.hall r)
-makes_read w u (reads k s x live session unread is made links) r =
-    turned_read w.hall u.hall k (Some x) (ap (λ (h : Hall). h.sides) is) (λ y same. subst HasUnread (same_Some x y same) unread) r
-makes_read w u (serves k s x shop holders opened live unread comes is made links) r =
-    turned_read w.hall u.hall k (Some x) (ap (λ (h : Hall). h.sides) is) (λ y same. subst HasUnread (same_Some x y same) unread) r
-makes_read w u (ends k is made links) r = subst AreRead (sym is) (ended_read_from w.hall k (side_of w.hall k) r)
-makes_read w u (restarts is made links) r = subst AreRead (sym is) (all_ended_read w.hall (length w.hall.sides) r)
-makes_read w u (arranges d names within free is made links) r = subst AreRead (sym is) r
+hall_read : (h : Hall) (m : HallMove h) → AreRead h → AreRead (hall_after h m)
+hall_read h leaves r = r
+hall_read h joins r = joined_read h r
+hall_read h (reads k s reached live unread) r =
+    another_read h (hall h.shop h.holders (with_numbered h.sides k (Some (side reached s.session)))) k s (side reached s.session) record { was = live; sides = refl } unread r
+hall_read h (serves k s x shop holders opened live unread comes held) r =
+    another_read h (hall shop holders (with_numbered h.sides k (Some x))) k s x record { was = live; sides = refl } unread r
+hall_read h (ends k) r = ended_by AreRead over_read h k r
+hall_read h restarts r = all_ended_by AreRead over_read h (length h.sides) r
+hall_read h (arranges d names within free) r = r
 
-pub readable_after : (w : World) (event : PlainEvent) (u : World) → Happens w event u → IsReadable w → IsReadable u
-readable_after w event u happens r = makes_read w u (event_makes w event u happens) r
+pub readable_moved : (w : World) (m : Move w) → IsReadable w → IsReadable (moved w m)
+readable_moved w m r = subst AreRead (sym (hall_moved w m)) (hall_read w.hall (hall_move w m) r)

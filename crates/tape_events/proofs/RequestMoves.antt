@@ -15,7 +15,7 @@ use Rattle.rmt_server.specs.Session.{PlainReel, Scene, scene, status_of, refusal
 use Rattle.rmt_server.specs.Session.PlainSession.{Online}
 use Rattle.rmt_server.specs.TroubledServe.{TroubledServeStep, TroubledMoveStep, TroubledDoneStep}
 use Rattle.dump_client.specs.declared.step.Step.{Step}
-use Rattle.dump_client.specs.declared.step.Step.TheVariants.{Open, Rewind, Label, Block, Mark, Unload, Close}
+use Rattle.dump_client.specs.declared.step.Step.TheVariants.{Rewind, Mark, Unload}
 use Rattle.tape_events.specs.World.{World, Link, Dumping, Begun}
 use Rattle.tape_events.specs.Changes.{side_of, link_of, first_name, written_reel, opening}
 use Rattle.tape_events.specs.Standing.{IsFirstAway, online_drive_in}
@@ -26,7 +26,7 @@ use Rattle.tape_events.specs.Attempts.{IsReelWritten}
 use Rattle.tape_events.specs.Serving.{IsWholeInBin, IsMoveDone}
 use Rattle.tape_events.proofs.Booked.{among_at}
 use Rattle.tape_events.proofs.SentWire.{OneReading, DroppedWrites}
-use Rattle.tape_events.proofs.LabelledEvents.{Serves}
+use Rattle.tape_events.proofs.Moves.{Turn, turned}
 use Rattle.tape_events.proofs.LabelledServes.{IsServed, served_step}
 use Rattle.tape_events.proofs.LabelledServed.{labelled_as}
 
@@ -38,13 +38,10 @@ op_of request = 0
 -- the step is that of the MTOFFL
 move_step : (b : Begun) (d : Dumping) (step : Step) (count : ℕ) → request_in b d step ≡ Op MTOFFL count → (next : ℕ) × (step ≡ Unload next)
 unfolding op_of
-move_step b d Open count is = absurd cc
 move_step b d Rewind count is = let clash : 5 ≡ 6 = ap op_of is in absurd (omega (arith, clash))
-move_step b d Label count is = absurd cc
-move_step b d (Block number) count is = absurd cc
 move_step b d (Mark next) count is = let clash : 0 ≡ 6 = ap op_of is in absurd (omega (arith, clash))
 move_step b d (Unload next) count is = (next, refl)
-move_step b d Close count is = absurd cc
+move_step b d step count is = absurd cc
 
 -- the reel lies last in the bin
 moved_to : (trouble : Trouble) (before : Scene) (n : ℕ) (after : Scene) (drive : ℕ) (reel : PlainReel) → before.session ≡ Online drive Both reel
@@ -76,9 +73,9 @@ stands_whole : (w : World) (k : ℕ) (s : Side) (b : Begun) (d : Dumping) (drive
 stands_whole w k s b d drive reel live online labelled marked written =
     written.stands (entries_of reel.tape) (inr (k, s, live, (drive, Both, reel, online, refl, refl))) ∙ labelled_as b.run b.payload d true labelled marked
 
-moved_whole : (w u : World) (v : Serves w u) (l : Link) (d : Dumping) (p : IsServed w u v l d) (next n : ℕ) → IsWorldKept w → link_of w v.k ≡ Some l → l.dump ≡ Some d
-    → HasDone p.b.run (Some v.s) d (Unload next) → v.request ≡ Op MTOFFL 1 → v.reply ≡ Done n → IsWholeInBin w v.k d u
-moved_whole w u v l d p next n kept at dump done asks replies =
+moved_whole : (w : World) (v : Turn w) (l : Link) (d : Dumping) (p : IsServed w v l d) (next n : ℕ) → IsWorldKept w → link_of w v.k ≡ Some l → l.dump ≡ Some d
+    → HasDone p.b.run (Some v.s) d (Unload next) → v.request ≡ Op MTOFFL 1 → v.reply ≡ Done n → IsWholeInBin w v.k d (turned w v)
+moved_whole w v l d p next n kept at dump done asks replies =
     let on = done.stands v.s refl in
     let drive = on.1.0 in
     let reel = on.0 in
@@ -99,15 +96,15 @@ moved_whole w u v l d p next n kept at dump done asks replies =
       name = name;
       opened = among_at w.opens last.0 (opening v.k name) last.1;
       capacity = reel.capacity;
-      bin = ap (λ (x : World). x.hall.shop.bin) v.is ∙ ap (λ (s : Shop). s.bin) shop
+      bin = ap (λ (s : Shop). s.bin) shop
           ∙ ap (λ t. w.hall.shop.bin ++ t)
           (first_put (rack_at w.hall.shop drive).stack (kept_reel (entries_of reel.tape) reel.capacity) (kept.laid.latched drive (v.k, v.s, v.live, ap online_drive_in on.1.1)))
           ∙ ap (λ e. w.hall.shop.bin ++ slot name (Some (kept_reel e reel.capacity)) ∷ []) whole;
     }
 
-pub whole_at_the_move : OneReading → DroppedWrites → (w u : World) (v : Serves w u) (l : Link) (d : Dumping) → IsWorldKept w → link_of w v.k ≡ Some l → l.dump ≡ Some d
-    → IsMoveDone v.request v.reply → IsWholeInBin w v.k d u
-whole_at_the_move g h w u v l d kept at dump ((count, asks), (n, replies)) =
-    let p = served_step g h w u v kept.told l d at dump in
+pub whole_at_the_move : OneReading → DroppedWrites → (w : World) (v : Turn w) (l : Link) (d : Dumping) → IsWorldKept w → link_of w v.k ≡ Some l → l.dump ≡ Some d
+    → IsMoveDone v.request v.reply → IsWholeInBin w v.k d (turned w v)
+whole_at_the_move g h w v l d kept at dump ((count, asks), (n, replies)) =
+    let p = served_step g h w v kept.told l d at dump in
     let step = move_step p.b d p.step count (sym p.asks ∙ asks) in
-    moved_whole w u v l d p step.0 n kept at dump (subst (HasDone p.b.run (Some v.s) d) step.1 p.done) (p.asks ∙ ap (request_in p.b d) step.1) replies
+    moved_whole w v l d p step.0 n kept at dump (subst (HasDone p.b.run (Some v.s) d) step.1 p.done) (p.asks ∙ ap (request_in p.b d) step.1) replies

@@ -40,9 +40,6 @@ to_length run first next =
     omega (arith, all, many, last)
 
 pub before_length : (run : PlainRun) (first next : ℕ) (step : Step) → length (steps_before run first next step) ≡ steps_len run first next step
-before_length run first next Open = refl
-before_length run first next Rewind = refl
-before_length run first next Label = refl
 before_length run first next (Block number) = let many = blocks_length first (number - first) in omega (arith, many)
 before_length run first next (Mark end) = to_length run first end
 before_length run first next (Unload end) =
@@ -53,6 +50,7 @@ before_length run first next Close =
     let all = length-append (steps_to run first next) (Mark next ∷ Unload next ∷ []) in
     let many = to_length run first next in
     omega (arith, all, many)
+before_length run first next step = refl
 
 -- what comes before the close was carried out still
 pub still_unloaded : (run : PlainRun) (d e : Dumping) → e.first ≡ d.first → e.blocks ≡ d.blocks → d.carried ≤ e.carried

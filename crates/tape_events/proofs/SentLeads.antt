@@ -22,7 +22,7 @@ use Rattle.dump_client.specs.declared.step.Step.{Step}
 use Rattle.dump_client.specs.declared.step.Step.TheVariants.{Open, Rewind, Label, Block, Mark, Unload, Close}
 use Rattle.dump_client.specs.declared.stage.Stage.TheVariants.{ToSend, Asking, Ready, Finished}
 use Rattle.dump_client.specs.declared.stage.Progress.{Progress}
-use Rattle.dump_client.specs.declared.count.VolumeCount.{VolumeCount}
+use Rattle.dump_run.specs.declared.count.VolumeCount.{VolumeCount}
 use Rattle.tape_events.specs.World.{Dumping}
 use Rattle.tape_events.specs.Changes.{noted, noted_error, accepted}
 use Rattle.tape_events.specs.Sending.{HasDone, StandsFor, GoesTo, AreCounted}

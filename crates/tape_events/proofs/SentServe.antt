@@ -3,7 +3,7 @@ use Rattle.std.proofs.Common.{◌≡◌, ◌≢◌, ◌⊎◌, ℕ, zero, suc, �
 use Rattle.std.proofs.lemmas.List.{nil_from_length}
 use Rattle.rmt_wire.specs.Counted.{raised}
 use Rattle.rmt_wire.specs.Request.{PlainRequest, SpellsRequest, request_text}
-use Rattle.rmt_wire.specs.Request.PlainRequest.{Open as OpenDevice, Close as CloseDevice, Write, WriteDropped, Read, Op}
+use Rattle.rmt_wire.specs.Request.PlainRequest.{Close as CloseDevice, Write, WriteDropped, Op}
 use Rattle.rmt_wire.specs.Reply.{PlainReply, reply_text}
 use Rattle.rmt_wire.specs.Reply.PlainReply.{Done, Data, Error}
 use Rattle.rmt_wire.specs.RequestParts.{Gives}
@@ -24,7 +24,7 @@ use Rattle.dump_client.specs.Lawful.{attempt_at}
 use Rattle.dump_client.specs.declared.step.Step.{Step}
 use Rattle.dump_client.specs.declared.step.Step.TheVariants.{Open, Rewind, Label, Block, Mark, Unload, Close}
 use Rattle.dump_client.specs.declared.stage.Stage.{Stage}
-use Rattle.dump_client.specs.declared.stage.Stage.TheVariants.{Ready, ToSend, Waiting, Asking, Finished, Abandoned}
+use Rattle.dump_client.specs.declared.stage.Stage.TheVariants.{ToSend, Waiting}
 use Rattle.tape_events.specs.World.{Link, Dumping, Begun, Caller, numbered}
 use Rattle.tape_events.specs.Changes.{sent_on, noted, noted_by, noted_write, noted_marks, answered}
 use Rattle.tape_events.specs.Sending.{HasDone, AreUnserved, request_in, IsPending, IsLinkSettled, IsLinkSent, LeadsOn, IsBrief, IsStepReply, IsAttempt, IsStepAsked, IsStepReplied, IsLinkToldAt, IsGood}
@@ -68,12 +68,9 @@ op_same d reply true = marks_same d reply
 op_same d reply false = same_attempt d
 
 pub noted_same : (d : Dumping) (request : PlainRequest) (reply : PlainReply) → SameAttempt d (noted_by d request reply)
-noted_same d (OpenDevice device mode) reply = same_attempt d
-noted_same d CloseDevice reply = same_attempt d
 noted_same d (Write bytes) reply = write_same d reply
-noted_same d (WriteDropped count) reply = same_attempt d
-noted_same d (Read count) reply = same_attempt d
 noted_same d (Op op count) reply = op_same d reply (op == MTWEOF)
+noted_same d x reply = same_attempt d
 
 -- nothing can be given where nothing is unserved
 empty_start : (a b : List ℕ) → [] ≡ a ++ b → (a ≡ []) × (b ≡ [])
@@ -92,12 +89,7 @@ nothing_there g s way bytes rest found (reached, unread, is) other gives =
 -- no request of the client's is a write that is too long to be kept
 pub never_dropped : (b : Begun) (d : Dumping) (step : Step) (n : ℕ) → request_in b d step ≢ WriteDropped n
 never_dropped b d Open n is = cc
-never_dropped b d Rewind n is = cc
-never_dropped b d Label n is = cc
-never_dropped b d (Block number) n is = cc
-never_dropped b d (Mark next) n is = cc
-never_dropped b d (Unload next) n is = cc
-never_dropped b d Close n is = cc
+never_dropped b d step n is = cc
 
 -- what is carried out then is the request that was sent last
 pub serve_pending : OneReading → DroppedWrites → (b : Begun) (s : Side) (way : List ℕ) (d : Dumping) (step : Step) (bytes rest : List ℕ) (found : PlainRequest) (reply : PlainReply)
@@ -182,9 +174,7 @@ at_checkpoint o old d noted Label reply first leads = from_checkpoint o old d no
 at_checkpoint o old d noted (Block number) reply first leads = from_checkpoint o old d noted (Block number) reply first leads
 at_checkpoint o old d noted (Mark next) reply first leads = from_checkpoint o old d noted (Mark next) reply first leads
 at_checkpoint o old d noted (Unload next) reply first leads = from_checkpoint o old d noted (Unload next) reply first leads
-at_checkpoint o old d noted Close (Done n) first leads = leads
-at_checkpoint o old d noted Close (Data bytes) first leads = leads
-at_checkpoint o old d noted Close (Error n text) first leads = leads
+at_checkpoint o old d noted step reply first leads = leads
 
 -- the client's own connection, at which it waits
 asked_replied : ReplyTexts → OneReading → DroppedWrites → (b : Begun) (s : Side) (l : Link) (c : Caller) (d : Dumping) (step : Step) (bytes rest : List ℕ) (found : PlainRequest)
@@ -245,7 +235,4 @@ serve_told t g h begun (Waiting step) s l c d bytes rest found reply reached tro
 )
 serve_told t g h begun (Waiting step) s l c d bytes rest found reply reached trouble holders shop shop' session good (b, attempt, inr replied) unread gives left served =
     absurd (nothing_there h s l.toward bytes rest found replied.settled.unserved unread gives)
-serve_told t g h begun Ready s l c d bytes rest found reply reached trouble holders shop shop' session good told unread gives left served = tt
-serve_told t g h begun Asking s l c d bytes rest found reply reached trouble holders shop shop' session good told unread gives left served = tt
-serve_told t g h begun Finished s l c d bytes rest found reply reached trouble holders shop shop' session good told unread gives left served = tt
-serve_told t g h begun Abandoned s l c d bytes rest found reply reached trouble holders shop shop' session good told unread gives left served = tt
+serve_told t g h begun stage s l c d bytes rest found reply reached trouble holders shop shop' session good told unread gives left served = tt

@@ -17,15 +17,16 @@ use Rattle.tape.specs.Trouble.{DeviceStep}
 use Rattle.tape.specs.declared.fault.TapeFault.{TapeFault}
 use Rattle.tape.specs.declared.fault.TapeFault.TheVariants as faults
 use Rattle.tape.specs.declared.trouble.Trouble.{Trouble}
-use Rattle.drives.specs.declared.fault.DriveFault.TheVariants.{NoSuchDrive, Busy as Taken, NoReel, Device, OutOfMemory, NameTaken}
+use Rattle.drives.specs.declared.fault.DriveFault.TheVariants.{NoSuchDrive}
 use Rattle.drives.specs.declared.fault.DriveFault.{DriveFault}
 use Rattle.rmt_server.specs.Refusals.{refused, text_of, number_of, tape_refusal, drive_refusal}
 use Rattle.rmt_server.specs.declared.access.Access.TheVariants.{Both}
 use Rattle.rmt_server.specs.Session.{PlainReel, plain_reel, Scene, status_of, refusal, tape_request, reel_reply}
 use Rattle.rmt_server.specs.Session.PlainSession.{Offline, Online}
-use Rattle.rmt_server.specs.TroubledServe.{TroubledServeStep, TroubledReelStep, TroubledMoveStep, TroubledDoneStep}
+use Rattle.rmt_server.specs.TroubledServe.{TroubledServeStep, TroubledMoveStep, TroubledDoneStep}
 use Rattle.tape_events.specs.Standing.{IsOnlineWith}
 use Rattle.tape_events.specs.Sending.{IsBrief}
+use Rattle.tape_events.proofs.Called.{called}
 
 -- what a writer writes spells its request, and its reply
 abbrev pub RequestTexts : Type 0
@@ -63,19 +64,12 @@ line_means (b ∷ bs) e =
 tape_line : (why : TapeFault) → IsErrorLine (number_of (tape_refusal why)) (text_of (tape_refusal why))
 unfolding is_line
 tape_line faults.Device = record { number = omega arith; short = omega arith; line = line_means (text_of (tape_refusal faults.Device)) refl }
-tape_line faults.Full = record { number = omega arith; short = omega arith; line = line_means (text_of (tape_refusal faults.Full)) refl }
-tape_line faults.EndOrMark = record { number = omega arith; short = omega arith; line = line_means (text_of (tape_refusal faults.EndOrMark)) refl }
-tape_line faults.BadOperation = record { number = omega arith; short = omega arith; line = line_means (text_of (tape_refusal faults.BadOperation)) refl }
-tape_line faults.OutOfMemory = record { number = omega arith; short = omega arith; line = line_means (text_of (tape_refusal faults.OutOfMemory)) refl }
+tape_line why = record { number = omega arith; short = omega arith; line = line_means (text_of (tape_refusal why)) refl }
 
 drive_line : (why : DriveFault) → IsErrorLine (number_of (drive_refusal why)) (text_of (drive_refusal why))
 unfolding is_line
 drive_line NoSuchDrive = record { number = omega arith; short = omega arith; line = line_means (text_of (drive_refusal NoSuchDrive)) refl }
-drive_line (Taken n) = record { number = omega arith; short = omega arith; line = line_means (text_of (drive_refusal (Taken n))) refl }
-drive_line NoReel = record { number = omega arith; short = omega arith; line = line_means (text_of (drive_refusal NoReel)) refl }
-drive_line Device = record { number = omega arith; short = omega arith; line = line_means (text_of (drive_refusal Device)) refl }
-drive_line OutOfMemory = record { number = omega arith; short = omega arith; line = line_means (text_of (drive_refusal OutOfMemory)) refl }
-drive_line NameTaken = record { number = omega arith; short = omega arith; line = line_means (text_of (drive_refusal NameTaken)) refl }
+drive_line why = record { number = omega arith; short = omega arith; line = line_means (text_of (drive_refusal why)) refl }
 
 ten_digits : (n : ℕ) → n ≤ 2147483647 → length (decimal n) ≤ 10
 ten_digits n small = length-decimal-le 10 n (omega arith) (omega arith) (omega arith)
@@ -98,30 +92,6 @@ error_brief g n text is =
 pub plain_brief : ReplyTexts → (reply : PlainReply) → IsPlain reply → IsBrief reply
 plain_brief g reply (inl (n, small, is)) = subst IsBrief (sym is) (done_brief g n small)
 plain_brief g reply (inr (n, text, line, is)) = subst IsBrief (sym is) (error_brief g n text line)
-
--- what a call of the open reel makes of the session
-record Called (trouble : Trouble) (drive : ℕ) (reel : PlainReel) (request : PlainRequest) (reply : PlainReply) (after : Scene) : Type 0 where
-  answer : TapeAnswer
-  tape : Tape
-  replies : reply ≡ reel_reply request answer
-  session : after.session ≡ Online drive Both (plain_reel tape reel.capacity)
-  device : DeviceStep reel.capacity trouble reel.tape (tape_request request) answer tape
-
-reel_called : (trouble : Trouble) (before : Scene) (request : PlainRequest) (reply : PlainReply) (after : Scene) (drive : ℕ) (reel : PlainReel)
-    → before.session ≡ Online drive Both reel → TroubledReelStep trouble before request reply after → Called trouble drive reel request reply after
-reel_called trouble before request reply after drive reel was (e, access, x, answer, t, online, device, replies, is) =
-    let same : Online drive Both reel ≡ Online e access x = sym was ∙ online in
-    let drives : e ≡ drive = cc in
-    let accesses : access ≡ Both = cc in
-    let reels : x ≡ reel = cc in
-    record {
-      answer = answer;
-      tape = t;
-      replies = replies;
-      session = ap (λ (v : Scene). v.session) is ∙ ap (λ n. Online n access (plain_reel t x.capacity)) drives ∙ ap (λ a. Online drive a (plain_reel t x.capacity)) accesses
-          ∙ ap (λ (y : PlainReel). Online drive Both (plain_reel t y.capacity)) reels;
-      device = subst (λ (y : PlainReel). DeviceStep y.capacity trouble y.tape (tape_request request) answer t) reels device;
-    }
 
 -- the session stays online with its drive, for reading and writing
 abbrev pub StaysOnline : PlainReply → Scene → Type 0
@@ -150,8 +120,8 @@ write_called : (trouble : Trouble) (before : Scene) (bytes : List ℕ) (reply : 
 write_called trouble before bytes reply after drive reel true few was (replies, is) =
     (tape_plain faults.BadOperation reply replies, (reel, (drive, ap (λ (v : Scene). v.session) is ∙ was)))
 write_called trouble before bytes reply after drive reel false few was done =
-    let c = reel_called trouble before (Write bytes) reply after drive reel was done in
-    (write_answer trouble reel.capacity reel.tape c.tape bytes c.answer reply few c.device c.replies, (plain_reel c.tape reel.capacity, (drive, c.session)))
+    let c = called trouble before (Write bytes) reply after drive reel was done in
+    (write_answer trouble reel.capacity reel.tape c.now bytes c.answer reply few c.device c.replies, (plain_reel c.now reel.capacity, (drive, c.left.session)))
 
 pub write_online : (trouble : Trouble) (holders : List ℕ) (before : Scene) (bytes : List ℕ) (reply : PlainReply) (after : Scene) (drive : ℕ) (reel : PlainReel)
     → length bytes ≤ 2147483647 → before.session ≡ Online drive Both reel → TroubledServeStep trouble holders before (Write bytes) reply after → StaysOnline reply after
@@ -169,10 +139,10 @@ marks_answer trouble capacity t u (Fault why) reply step is = tape_plain why rep
 pub marks_online : (trouble : Trouble) (holders : List ℕ) (before : Scene) (reply : PlainReply) (after : Scene) (drive : ℕ) (reel : PlainReel)
     → before.session ≡ Online drive Both reel → TroubledServeStep trouble holders before (Op MTWEOF 1) reply after → StaysOnline reply after
 marks_online trouble holders before reply after drive reel was step =
-    let c = reel_called trouble before (Op MTWEOF 1) reply after drive reel was
+    let c = called trouble before (Op MTWEOF 1) reply after drive reel was
     (subst (λ s. MatchOption (refusal (status_of s) (Op MTWEOF 1)) (TroubledDoneStep trouble before (Op MTWEOF 1) reply after) (λ r. (reply ≡ refused r) × (after ≡ before)))
     was step) in
-    (marks_answer trouble reel.capacity reel.tape c.tape c.answer reply c.device c.replies, (plain_reel c.tape reel.capacity, (drive, c.session)))
+    (marks_answer trouble reel.capacity reel.tape c.now c.answer reply c.device c.replies, (plain_reel c.now reel.capacity, (drive, c.left.session)))
 
 -- the reel is at its beginning, where the request was done
 abbrev pub StandsFirst : PlainReply → Scene → Type 0
@@ -189,11 +159,11 @@ rewind_answer trouble capacity t u (Fault why) reply step is =
 pub rewind_first : (trouble : Trouble) (holders : List ℕ) (before : Scene) (reply : PlainReply) (after : Scene) (drive : ℕ) (reel : PlainReel)
     → before.session ≡ Online drive Both reel → TroubledServeStep trouble holders before (Op MTREW 1) reply after → StandsFirst reply after
 rewind_first trouble holders before reply after drive reel was step =
-    let c = reel_called trouble before (Op MTREW 1) reply after drive reel was
+    let c = called trouble before (Op MTREW 1) reply after drive reel was
     (subst (λ s. MatchOption (refusal (status_of s) (Op MTREW 1)) (TroubledDoneStep trouble before (Op MTREW 1) reply after) (λ r. (reply ≡ refused r) × (after ≡ before)))
     was step) in
-    let a = rewind_answer trouble reel.capacity reel.tape c.tape c.answer reply c.device c.replies in
-    (a.0, λ n is. (plain_reel c.tape reel.capacity, (drive, c.session), a.1 n is))
+    let a = rewind_answer trouble reel.capacity reel.tape c.now c.answer reply c.device c.replies in
+    (a.0, λ n is. (plain_reel c.now reel.capacity, (drive, c.left.session), a.1 n is))
 
 -- the reel is away, where the request was done
 abbrev pub StandsAway : PlainReply → Scene → Type 0

@@ -14,7 +14,7 @@ use Rattle.dump_run.specs.Run.{PlainRun, IsRun}
 use Rattle.dump_run.specs.Label.{label_lines}
 use Rattle.dump_client.specs.Standing.{checkpoint_after, checkpoint_of}
 use Rattle.dump_client.specs.Lawful.{AreVolumes}
-use Rattle.dump_client.specs.declared.count.VolumeCount.{VolumeCount}
+use Rattle.dump_run.specs.declared.count.VolumeCount.{VolumeCount}
 use Rattle.tape_events.proofs.SentSteps.{RequestTexts, ReplyTexts}
 use Rattle.tape_events.proofs.ToldSends.{ShortLabels}
 

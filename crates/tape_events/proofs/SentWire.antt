@@ -5,7 +5,7 @@ use Rattle.std.proofs.lemmas.Bool.Decides.{nat_tests}
 use Rattle.rmt_wire.specs.declared.limits.TheConstants.{RECORD_LIMIT}
 use Rattle.rmt_wire.specs.Number.{SpellsNumber, line_feed}
 use Rattle.rmt_wire.specs.Request.{PlainRequest, SpellsRequest}
-use Rattle.rmt_wire.specs.Request.PlainRequest.{Open, Close, Write, WriteDropped, Read, Op}
+use Rattle.rmt_wire.specs.Request.PlainRequest.{Open, WriteDropped}
 use Rattle.rmt_wire.specs.Reply.{PlainReply, Wanted, SpellsReply}
 use Rattle.rmt_wire.specs.ReplyFront.{text_len, kept_text, kept_behind, kept_of}
 use Rattle.rmt_wire.specs.ReplyParts.{ReplyGives}
@@ -104,11 +104,7 @@ gives_whole g text bytes way rest request found spelled is (front, spells, split
 -- nothing is given of no bytes
 nothing_spelled : (request : PlainRequest) → SpellsRequest [] request → ⊥
 nothing_spelled (Open device mode) (line, one, two, is) = cc
-nothing_spelled Close (line, one, is) = cc
-nothing_spelled (Write bytes) (number, one, two, is) = cc
-nothing_spelled (WriteDropped count) (number, dropped, one, two, three, is) = cc
-nothing_spelled (Read count) (number, one, is) = cc
-nothing_spelled (Op op count) (first, second, one, two, is) = cc
+nothing_spelled request spelled = cc
 
 pub nothing_given : (rest : List ℕ) (found : PlainRequest) → Gives [] (Ok (Some found)) rest → ⊥
 nothing_given rest found ([], spells, is) = nothing_spelled found spells

@@ -15,12 +15,12 @@ use Rattle.rmt_server.specs.Session.{PlainSession, scene}
 use Rattle.rmt_server.specs.TroubledServe.{TroubledServe}
 use Rattle.dump_client.specs.Standing.{standing}
 use Rattle.dump_client.specs.declared.step.Step.{Step}
-use Rattle.dump_client.specs.declared.step.Step.TheVariants.{Open, Rewind, Label, Block, Mark, Unload, Close}
+use Rattle.dump_client.specs.declared.step.Step.TheVariants.{Open}
 use Rattle.dump_client.specs.declared.stage.Stage.{Stage}
-use Rattle.dump_client.specs.declared.stage.Stage.TheVariants.{Ready, ToSend, Waiting, Asking, Finished, Abandoned}
+use Rattle.dump_client.specs.declared.stage.Stage.TheVariants.{Ready, ToSend, Waiting}
 use Rattle.tape_events.specs.World.{World, Link, Dumping, Begun, Caller, numbered}
 use Rattle.tape_events.specs.First.{PlainDriveSpec}
-use Rattle.tape_events.specs.Changes.{changed, changed_from, side_of, sent_on, answered, noted}
+use Rattle.tape_events.specs.Changes.{link_of, changed, changed_from, side_of, sent_on, answered, noted}
 use Rattle.tape_events.specs.Steps.{Finds, carried}
 use Rattle.tape_events.specs.Kept.{IsWorldKept}
 use Rattle.tape_events.specs.Owning.{is_in_attempt}
@@ -107,12 +107,7 @@ record Carries (w u : World) (k : ℕ) (c : Caller) (l : Link) (d : Dumping) (b 
 pub before_bin : (drive : PlainDriveSpec) (t : Stock) (k : ℕ) (b : Begun) (d : Dumping) (session : PlainSession) (step : Step) → StandsBefore step drive t k b d session
     → t.shop.bin ≡ volume_slots drive t
 before_bin drive t k b d session Open q = ap (λ (x : Shop). x.bin) q.0.shop
-before_bin drive t k b d session Rewind q = ap (λ (x : Shop). x.bin) q.shop
-before_bin drive t k b d session Label q = ap (λ (x : Shop). x.bin) q.shop
-before_bin drive t k b d session (Block number) q = ap (λ (x : Shop). x.bin) q.shop
-before_bin drive t k b d session (Mark next) q = ap (λ (x : Shop). x.bin) q.shop
-before_bin drive t k b d session (Unload next) q = ap (λ (x : Shop). x.bin) q.shop
-before_bin drive t k b d session Close q = ap (λ (x : Shop). x.bin) q.shop
+before_bin drive t k b d session step q = ap (λ (x : Shop). x.bin) q.shop
 
 carried_smooth : OneReading → DroppedWrites → (drive : PlainDriveSpec) (w u : World) (k : ℕ) (c : Caller) (l : Link) (d : Dumping) (b : Begun) (s : Side) (step : Step) → IsWorldKept w → IsSmooth drive w
     → IsStepUnanswered drive w (attempt_on k b d s.session) l step → Carries w u k c l d b s step → IsSmooth drive u
@@ -226,50 +221,71 @@ found_smooth g h drive w u k c l d b s step (Ok (Some request)) bytes rest kept 
       is = is;
     }
 
--- on the client's own connection, by its stage
-own_found : OneReading → DroppedWrites → (drive : PlainDriveSpec) (w u : World) (k : ℕ) (c : Caller) (s : Side) (stage : Stage) (found : Result (Option PlainRequest) WireFault)
-    (bytes rest : List ℕ) → IsWorldKept w → IsSmooth drive w → w.caller ≡ Some c → c.at.stage ≡ stage → w.own ≡ Some k → IsTrue (is_in_attempt stage) → ReelsStandAt stage drive w c
-    → side_of w.hall k ≡ Some s → Unread s.reached bytes → Gives bytes found rest → Finds w k NoTrouble s found rest u → IsSmooth drive u
-own_found g h drive w u k c s (ToSend step) found bytes rest kept sm there stage mine under (j, l, d, b, x, own, stands) live unread gives finds =
-    let at : j ≡ k = same_Some j k (sym own.own ∙ mine) in
-    let side : x ≡ s = same_Some x s (sym own.live ∙ ap (side_of w.hall) at ∙ live) in
-    let told = own_told w j l d b x c (ToSend step) kept own there stage in
-    absurd (nothing_found h w u k s l.toward bytes rest found (subst (λ y. AreUnserved (Some y) l.toward []) side told.2.settled.unserved) unread gives finds)
-own_found g h drive w u k c s (Waiting step) found bytes rest kept sm there stage mine under (j, l, d, b, x, own, inr done) live unread gives finds =
-    let at : j ≡ k = same_Some j k (sym own.own ∙ mine) in
-    let side : side_of w.hall j ≡ Some s = ap (side_of w.hall) at ∙ live in
-    absurd (nothing_found h w u k s l.toward bytes rest found (subst (λ o. AreUnserved o l.toward []) side done.served) unread gives finds)
-own_found g h drive w u k c s (Waiting step) found bytes rest kept sm there stage mine under (j, l, d, b, x, own, inl un) live unread gives finds =
-    let at : j ≡ k = same_Some j k (sym own.own ∙ mine) in
-    let side : x ≡ s = same_Some x s (sym own.live ∙ ap (side_of w.hall) at ∙ live) in
-    found_smooth g h drive w u j c l d b x step found bytes rest kept sm there stage own un (own_told w j l d b x c (Waiting step) kept own there stage)
-    (subst (λ (y : Side). Unread y.reached bytes) (sym side) unread) gives
-    (subst (λ n. Finds w n NoTrouble x found rest u) (sym at) (subst (λ y. Finds w k NoTrouble y found rest u) (sym side) finds))
-own_found g h drive w u k c s Ready found bytes rest kept sm there stage mine under stands live unread gives finds = absurd cc
-own_found g h drive w u k c s Asking found bytes rest kept sm there stage mine under stands live unread gives finds = absurd cc
-own_found g h drive w u k c s Finished found bytes rest kept sm there stage mine under stands live unread gives finds = absurd cc
-own_found g h drive w u k c s Abandoned found bytes rest kept sm there stage mine under stands live unread gives finds = absurd cc
+-- What may be unserved on a connection: nothing is, or it is the client's own, whose request was not carried out.
+pub data Unserved (drive : PlainDriveSpec) (w : World) (k : ℕ) (s : Side) (l : Link) : Type 0 where
+  none_left : AreUnserved (Some s) l.toward [] → Unserved drive w k s l
+  one_left : (c : Caller) (step : Step) (d : Dumping) (b : Begun) → w.caller ≡ Some c → c.at.stage ≡ Waiting step → IsOwnLink w k l d b s
+      → IsStepUnanswered drive w (attempt_on k b d s.session) l step → Unserved drive w k s l
 
--- the server carries a request out
-pub serve_smooth : OneReading → DroppedWrites → (drive : PlainDriveSpec) (w u : World) (k : ℕ) (s : Side) (found : Result (Option PlainRequest) WireFault) (bytes rest : List ℕ)
-    → IsWorldKept w → IsSmooth drive w → side_of w.hall k ≡ Some s → Unread s.reached bytes → Gives bytes found rest → Finds w k NoTrouble s found rest u → IsSmooth drive u
-serve_smooth g h drive w u k s found bytes rest kept sm live unread gives finds = by_own w.own refl
+-- on the client's own, by its stage
+unserved_at : (drive : PlainDriveSpec) (w : World) (k : ℕ) (s : Side) (l : Link) (c : Caller) (stage : Stage) → IsWorldKept w → side_of w.hall k ≡ Some s → link_of w k ≡ Some l
+    → w.own ≡ Some k → w.caller ≡ Some c → c.at.stage ≡ stage → IsTrue (is_in_attempt stage) → ReelsStandAt stage drive w c → Unserved drive w k s l
+unserved_at drive w k s l c (ToSend step) kept live link mine there at under (j, x, d, b, y, own, stands) =
+    let same : j ≡ k = same_Some j k (sym own.own ∙ mine) in
+    let links : x ≡ l = same_Some x l (sym own.there ∙ ap (link_of w) same ∙ link) in
+    let sides : y ≡ s = same_Some y s (sym own.live ∙ ap (side_of w.hall) same ∙ live) in
+    let told = own_told w j x d b y c (ToSend step) kept own there at in
+    none_left (subst (λ (z : Link). AreUnserved (Some s) z.toward []) links (subst (λ z. AreUnserved (Some z) x.toward []) sides told.2.settled.unserved))
+unserved_at drive w k s l c (Waiting step) kept live link mine there at under (j, x, d, b, y, own, inr done) =
+    let same : j ≡ k = same_Some j k (sym own.own ∙ mine) in
+    let links : x ≡ l = same_Some x l (sym own.there ∙ ap (link_of w) same ∙ link) in
+    none_left (subst (λ (z : Link). AreUnserved (Some s) z.toward []) links (subst (λ o. AreUnserved o x.toward []) (ap (side_of w.hall) same ∙ live) done.served))
+unserved_at drive w k s l c (Waiting step) kept live link mine there at under (j, x, d, b, y, own, inl un) =
+    let same : j ≡ k = same_Some j k (sym own.own ∙ mine) in
+    let links : l ≡ x = sym (same_Some x l (sym own.there ∙ ap (link_of w) same ∙ link)) in
+    let sides : y ≡ s = same_Some y s (sym own.live ∙ ap (side_of w.hall) same ∙ live) in
+    one_left c step d b there at
+    record {
+      own = mine;
+      there = link;
+      whole = ap (λ (z : Link). z.cut) links ∙ own.whole;
+      dump = ap (λ (z : Link). z.dump) links ∙ own.dump;
+      begun = own.begun;
+      live = live;
+    }
+    record {
+      back = ap (λ (z : Link). z.back) links ∙ un.back;
+      stands = subst (λ m. StandsBefore step drive (stock_of w) m b d s.session) same (subst (λ (z : Side). StandsBefore step drive (stock_of w) j b d z.session) sides un.stands);
+    }
+unserved_at drive w k s l c stage kept live link mine there at under stands = absurd cc
+
+pub unserved_on : (drive : PlainDriveSpec) (w : World) (k : ℕ) (s : Side) (l : Link) → IsWorldKept w → IsSmooth drive w → side_of w.hall k ≡ Some s → link_of w k ≡ Some l
+    → Unserved drive w k s l
+unserved_on drive w k s l kept sm live link = by_own w.own refl
   where
-    others : (w.own ≢ Some k) → IsSmooth drive u
-    others not_own =
-        let paired = kept.tidy.paired in
-        let here = side_there w.hall k s live in
-        let within = numbered_within w.hall.sides k (Some s) here in
-        let l = numbered_there w.links k (numbered_first w.hall.sides k (Some s) here) (omega (arith, paired, within)) in
-        absurd (nothing_found h w u k s l.0.toward bytes rest found (subst (λ o. AreUnserved o l.0.toward []) live (sm.still k l.0 l.1 not_own)) unread gives finds)
+    another : (w.own ≢ Some k) → Unserved drive w k s l
+    another not_own = none_left (subst (λ o. AreUnserved o l.toward []) live (sm.still k l link not_own))
 
-    by_own : (o : Option ℕ) → w.own ≡ o → IsSmooth drive u
-    by_own None is = others (λ mine. (let clash = sym is ∙ mine in absurd cc))
+    by_own : (o : Option ℕ) → w.own ≡ o → Unserved drive w k s l
+    by_own None is = another (λ mine. (let clash = sym is ∙ mine in absurd cc))
     by_own (Some j) is = elim (eqb_tells j k) [
       | inl (equal, same) ↦ (
           let mine : w.own ≡ Some k = is ∙ ap Some same in
           let client = (kept.owned.own k mine).1 in
-          own_found g h drive w u k client.0 s client.0.at.stage found bytes rest kept sm client.1 refl mine client.2
-          (subst (λ o. StandsWith o drive w) client.1 sm.stands) live unread gives finds)
-      | inr (unequal, other) ↦ others (λ mine. other (same_Some j k (sym is ∙ mine)))
+          unserved_at drive w k s l client.0 client.0.at.stage kept live link mine client.1 refl client.2 (subst (λ o. StandsWith o drive w) client.1 sm.stands))
+      | inr (unequal, other) ↦ another (λ mine. other (same_Some j k (sym is ∙ mine)))
+    ]
+
+-- the server carries a request out
+pub serve_smooth : OneReading → DroppedWrites → (drive : PlainDriveSpec) (w u : World) (k : ℕ) (s : Side) (found : Result (Option PlainRequest) WireFault) (bytes rest : List ℕ)
+    → IsWorldKept w → IsSmooth drive w → side_of w.hall k ≡ Some s → Unread s.reached bytes → Gives bytes found rest → Finds w k NoTrouble s found rest u → IsSmooth drive u
+serve_smooth g h drive w u k s found bytes rest kept sm live unread gives finds =
+    let paired = kept.tidy.paired in
+    let here = side_there w.hall k s live in
+    let within = numbered_within w.hall.sides k (Some s) here in
+    let l = numbered_there w.links k (numbered_first w.hall.sides k (Some s) here) (omega (arith, paired, within)) in
+    elim (unserved_on drive w k s l.0 kept sm live l.1) [
+      | none_left none ↦ absurd (nothing_found h w u k s l.0.toward bytes rest found none unread gives finds)
+      | one_left c step d b there at own un ↦
+          found_smooth g h drive w u k c l.0 d b s step found bytes rest kept sm there at own un (own_told w k l.0 d b s c (Waiting step) kept own there at) unread gives finds
     ]

@@ -1,7 +1,6 @@
 -- On a link without faults, a run that begins, an attempt that starts, and what is sent and reaches the server.
-use Rattle.std.proofs.Common.{◌≡◌, ℕ, suc, ◌+◌, ◌≤◌, IsTrue, List, [], ◌∷◌, ◌++◌, length, length-append, drop, Option, Some, None, refl, sym, ap, subst, ◌∙◌, inl, inr, arith}
+use Rattle.std.proofs.Common.{◌≡◌, ℕ, suc, ◌+◌, ◌≤◌, IsTrue, List, [], ◌∷◌, ◌++◌, length, length-append, drop, Some, refl, sym, ap, subst, ◌∙◌, inl, inr, arith}
 use Rattle.std.specs.Prelude.{option_map, option_and_then}
-use Rattle.std.proofs.lemmas.Bool.Decides.{eqb_tells}
 use Rattle.std.proofs.lemmas.Option.{same_Some}
 use Rattle.rmt_wire.specs.RequestReader.{RequestHeld, held}
 use Rattle.rmt_wire.specs.ReplyReader.{ReplyHeld}
@@ -12,9 +11,9 @@ use Rattle.rmt_server.specs.Session.PlainSession.{Idle}
 use Rattle.dump_run.specs.Run.{PlainRun}
 use Rattle.dump_run.specs.Blocks.{cut_blocks}
 use Rattle.dump_client.specs.declared.step.Step.{Step}
-use Rattle.dump_client.specs.declared.step.Step.TheVariants.{Open, Rewind, Label, Block, Mark, Unload, Close}
+use Rattle.dump_client.specs.declared.step.Step.TheVariants.{Open, Close}
 use Rattle.dump_client.specs.declared.stage.Stage.{Stage}
-use Rattle.dump_client.specs.declared.stage.Stage.TheVariants.{Ready, ToSend, Waiting, Asking, Finished, Abandoned}
+use Rattle.dump_client.specs.declared.stage.Stage.TheVariants.{Ready, ToSend, Waiting, Finished, Abandoned}
 use Rattle.tape_events.specs.World.{World, Link, Dumping, Begun, Caller}
 use Rattle.tape_events.specs.First.{PlainDriveSpec}
 use Rattle.tape_events.specs.Changes.{side_of, link_of, new_link, noted_sent}
@@ -27,7 +26,7 @@ use Rattle.tape_events.specs.Smooth.{Stock, stock_of, blanks, one_drive, names_l
 use Rattle.tape_events.proofs.Numbers.{pushed_is, numbered_more, numbered_last, numbered_there, numbered_within, numbered_first}
 use Rattle.tape_events.proofs.ToldEvents.{turned_here, turned_beside}
 use Rattle.tape_events.proofs.SmoothLists.{map_same}
-use Rattle.tape_events.proofs.SmoothCarried.{changed_here, own_told}
+use Rattle.tape_events.proofs.SmoothCarried.{changed_here, own_told, none_left, one_left, unserved_on}
 use Rattle.tape_events.proofs.SmoothHears.{changed_links, settles}
 
 -- without a run no session has the drive
@@ -35,9 +34,7 @@ free_stage : (drive : PlainDriveSpec) (w : World) (c : Caller) (stage : Stage) �
 free_stage drive w c Finished done free = free
 free_stage drive w c Abandoned done free = absurd free
 free_stage drive w c Ready done free = free
-free_stage drive w c Asking done free = absurd cc
-free_stage drive w c (ToSend step) done free = absurd cc
-free_stage drive w c (Waiting step) done free = absurd cc
+free_stage drive w c stage done free = absurd cc
 
 free_then : (drive : PlainDriveSpec) (w : World) → NoRun w → StandsWith w.caller drive w → IsFree drive (stock_of w)
 free_then drive w (inl none) stands = subst (λ o. StandsWith o drive w) none stands
@@ -131,12 +128,8 @@ sent_latched drive t k b d session q = record {
 sent_stands : (drive : PlainDriveSpec) (t : Stock) (k : ℕ) (b : Begun) (d : Dumping) (session : PlainSession) (step : Step) → StandsBefore step drive t k b d session
     → StandsBefore step drive t k b (noted_sent d) session
 sent_stands drive t k b d session Open q = q
-sent_stands drive t k b d session Rewind q = sent_latched drive t k b d session q
-sent_stands drive t k b d session Label q = sent_latched drive t k b d session q
-sent_stands drive t k b d session (Block number) q = sent_latched drive t k b d session q
-sent_stands drive t k b d session (Mark next) q = sent_latched drive t k b d session q
-sent_stands drive t k b d session (Unload next) q = sent_latched drive t k b d session q
 sent_stands drive t k b d session Close q = q
+sent_stands drive t k b d session step q = sent_latched drive t k b d session q
 
 -- the client sends its next request
 pub asked_smooth : (drive : PlainDriveSpec) (w : World) (k : ℕ) (c : Caller) (payload : List (List ℕ)) (step : Step) (reader : ReplyHeld) → IsWorldKept w → IsSmooth drive w
@@ -180,66 +173,34 @@ no_way s way n (reached, unread, is) first within =
 -- bytes reach the server
 pub reached_smooth : (drive : PlainDriveSpec) (w : World) (k n : ℕ) (s : Side) (l : Link) (reached : RequestHeld) → IsWorldKept w → IsSmooth drive w → side_of w.hall k ≡ Some s
     → link_of w k ≡ Some l → 1 ≤ n → n ≤ length l.toward → IsSmooth drive (reached_by w k n s reached)
-reached_smooth drive w k n s l reached kept sm live link first within = by_own w.own refl
+reached_smooth drive w k n s l reached kept sm live link first within = elim (unserved_on drive w k s l kept sm live link) [
+  | none_left none ↦ absurd (no_way s l.toward n none first within)
+  | one_left c step d b there stage own un ↦ moved_on d b c step there stage own un.back un.stands
+]
   where
-    none_there : AreUnserved (side_of w.hall k) l.toward [] → IsSmooth drive (reached_by w k n s reached)
-    none_there none = absurd (no_way s l.toward n (subst (λ o. AreUnserved o l.toward []) live none) first within)
-
-    moved_on : (j : ℕ) (x : Link) (d : Dumping) (b : Begun) (y : Side) (c : Caller) (step : Step) → j ≡ k → w.caller ≡ Some c → c.at.stage ≡ Waiting step → IsOwnLink w j x d b y
-        → x.back ≡ [] → StandsBefore step drive (stock_of w) j b d y.session → IsSmooth drive (reached_by w j n y reached)
-    moved_on j x d b y c step same there stage own back stands =
-        let u : World = reached_by w j n y reached in
-        let z : Side = side reached y.session in
-        let now : IsOwnLink u j (record x { toward = drop n x.toward }) d b z
+    moved_on : (d : Dumping) (b : Begun) (c : Caller) (step : Step) → w.caller ≡ Some c → c.at.stage ≡ Waiting step → IsOwnLink w k l d b s
+        → l.back ≡ [] → StandsBefore step drive (stock_of w) k b d s.session → IsSmooth drive (reached_by w k n s reached)
+    moved_on d b c step there stage own back stands =
+        let u : World = reached_by w k n s reached in
+        let z : Side = side reached s.session in
+        let now : IsOwnLink u k (record l { toward = drop n l.toward }) d b z
         = record {
           own = own.own;
-          there = changed_here (λ a. record a { toward = drop n a.toward }) w.links j x own.there;
+          there = changed_here (λ a. record a { toward = drop n a.toward }) w.links k l own.there;
           whole = own.whole;
           dump = own.dump;
           begun = own.begun;
-          live = turned_here w u j y (Some z) own.live refl;
+          live = turned_here w u k s (Some z) own.live refl;
         } in
         let at : ReelsStandAt (Waiting step) drive u c
-        = (j, record x { toward = drop n x.toward }, d, b, z, now, inl record { back = back; stands = stands }) in
-        settles drive w u j sm record {
+        = (k, record l { toward = drop n l.toward }, d, b, z, now, inl record { back = back; stands = stands }) in
+        settles drive w u k sm record {
           own = own.own;
-          links = changed_links w u j (λ a. record a { toward = drop n a.toward }) refl (λ a e is. (e, is));
-          sides = λ i other. turned_beside w u j (Some z) refl i other;
+          links = changed_links w u k (λ a. record a { toward = drop n a.toward }) refl (λ a e is. (e, is));
+          sides = λ i other. turned_beside w u k (Some z) refl i other;
           here = λ a is not_own. absurd (not_own own.own);
           begun = refl;
           reels = sm.reels;
           stands = subst (λ o. StandsWith o drive u) (sym there) (subst (λ a. ReelsStandAt a drive u c) (sym stage) at);
           failure = λ volume fault is. absurd cc;
         }
-
-    by_stage : (c : Caller) (stage : Stage) → w.own ≡ Some k → w.caller ≡ Some c → c.at.stage ≡ stage → IsTrue (is_in_attempt stage) → ReelsStandAt stage drive w c
-        → IsSmooth drive (reached_by w k n s reached)
-    by_stage c (ToSend step) mine there stage under (j, x, d, b, y, own, stands) =
-        let same : j ≡ k = same_Some j k (sym own.own ∙ mine) in
-        let links : x ≡ l = same_Some x l (sym own.there ∙ ap (link_of w) same ∙ link) in
-        let told = own_told w j x d b y c (ToSend step) kept own there stage in
-        none_there (subst (λ (a : Link). AreUnserved (side_of w.hall k) a.toward []) links
-        (subst (λ o. AreUnserved o x.toward []) (sym (ap (side_of w.hall) (sym same) ∙ own.live)) told.2.settled.unserved))
-    by_stage c (Waiting step) mine there stage under (j, x, d, b, y, own, inr done) =
-        let same : j ≡ k = same_Some j k (sym own.own ∙ mine) in
-        let links : x ≡ l = same_Some x l (sym own.there ∙ ap (link_of w) same ∙ link) in
-        none_there (subst (λ (a : Link). AreUnserved (side_of w.hall k) a.toward []) links (subst (λ m. AreUnserved (side_of w.hall m) x.toward []) same done.served))
-    by_stage c (Waiting step) mine there stage under (j, x, d, b, y, own, inl un) =
-        let same : j ≡ k = same_Some j k (sym own.own ∙ mine) in
-        let sides : y ≡ s = same_Some y s (sym own.live ∙ ap (side_of w.hall) same ∙ live) in
-        subst (λ m. IsSmooth drive (reached_by w m n s reached)) same (subst (λ a. IsSmooth drive (reached_by w j n a reached)) sides
-        (moved_on j x d b y c step same there stage own un.back un.stands))
-    by_stage c Ready mine there stage under stands = absurd cc
-    by_stage c Asking mine there stage under stands = absurd cc
-    by_stage c Finished mine there stage under stands = absurd cc
-    by_stage c Abandoned mine there stage under stands = absurd cc
-
-    by_own : (o : Option ℕ) → w.own ≡ o → IsSmooth drive (reached_by w k n s reached)
-    by_own None is = none_there (sm.still k l link (λ mine. (let clash = sym is ∙ mine in absurd cc)))
-    by_own (Some j) is = elim (eqb_tells j k) [
-      | inl (equal, same) ↦ (
-          let mine : w.own ≡ Some k = is ∙ ap Some same in
-          let client = (kept.owned.own k mine).1 in
-          by_stage client.0 client.0.at.stage mine client.1 refl client.2 (subst (λ o. StandsWith o drive w) client.1 sm.stands))
-      | inr (unequal, other) ↦ none_there (sm.still k l link (λ mine. other (same_Some j k (sym is ∙ mine))))
-    ]

@@ -1,24 +1,19 @@
 -- On a link without faults, bytes that reach the client.
-use Rattle.std.proofs.Common.{◌≡◌, ◌≢◌, ℕ, ◌+◌, ◌-◌, ◌≤◌, false, IsTrue, List, [], ◌∷◌, ◌++◌, length, length-append, append_assoc, map, take, drop, Option, Some, None, Result, Ok, Err, refl, sym, ap, subst, ◌∙◌, inl, inr, arith}
+use Rattle.std.proofs.Common.{◌≡◌, ◌≢◌, ℕ, ◌+◌, ◌-◌, ◌≤◌, IsTrue, List, [], ◌∷◌, ◌++◌, length, map, take, drop, Option, Some, None, refl, sym, ap, subst, ◌∙◌, inl, inr, arith}
 use Rattle.std.proofs.lemmas.Bool.Decides.{eqb_tells}
-use Rattle.std.proofs.lemmas.List.{append-nil, take-append-drop, map-append}
+use Rattle.std.proofs.lemmas.List.{append-nil, map-append}
 use Rattle.std.proofs.lemmas.Option.{same_Some}
-use Rattle.rmt_wire.specs.Reply.{PlainReply, reply_text}
-use Rattle.rmt_wire.specs.Reply.Wanted.{Number}
-use Rattle.rmt_wire.specs.ReplyParts.{ReplyGives}
+use Rattle.rmt_wire.specs.Reply.{reply_text}
 use Rattle.rmt_wire.specs.ReplyReader.{ReplyHeld}
-use Rattle.rmt_wire.specs.declared.fault.WireFault.{WireFault}
 use Rattle.drives.specs.Shop.{kept_reel, slot}
 use Rattle.rmt_server.specs.Hall.{Side}
-use Rattle.dump_client.specs.Position.Heard.{Reply}
-use Rattle.dump_client.specs.Standing.{Standing, checkpoint_of, count_to, counted_to, HearsAt, FedAt, Makes}
-use Rattle.dump_client.specs.Listening.{is_more}
+use Rattle.dump_client.specs.Standing.{Standing, checkpoint_of, count_to, counted_to, FedAt}
 use Rattle.dump_client.specs.Client.{HasFedAt, unanswered}
 use Rattle.dump_client.specs.declared.fault.AttemptFault.{AttemptFault}
 use Rattle.dump_client.specs.declared.step.Step.{Step}
 use Rattle.dump_client.specs.declared.step.Step.TheVariants.{Open, Rewind, Label, Block, Mark, Unload, Close}
 use Rattle.dump_client.specs.declared.stage.Stage.{Stage}
-use Rattle.dump_client.specs.declared.stage.Stage.TheVariants.{Ready, ToSend, Waiting, Asking, Finished, Abandoned}
+use Rattle.dump_client.specs.declared.stage.Stage.TheVariants.{Ready, ToSend, Waiting, Asking, Finished}
 use Rattle.dump_client.specs.declared.stage.Progress.{Progress}
 use Rattle.dump_client.specs.declared.stage.Progress.TheVariants as moved
 use Rattle.tape_events.specs.World.{World, Link, Dumping, Begun, Caller, Count, numbered}
@@ -32,7 +27,8 @@ use Rattle.tape_events.specs.Headline.{whole_volume}
 use Rattle.tape_events.specs.Smooth.{Stock, stock_of, blanks, one_drive, volume_slot, volume_slots, volume_by, IsFree, IsMoved, IsOffline, IsOwnLink, IsStepAnswered, StandsBefore, StandsThen, CountsThen, Leads, ReelsStandAt, StandsWith, FailsFaultless, IsFaultlessFailure, IsSmooth, attempt_on}
 use Rattle.tape_events.proofs.Numbers.{changed_is}
 use Rattle.tape_events.proofs.Booked.{Goings, drop_front}
-use Rattle.tape_events.proofs.SentWire.{OneReply, one_heard, reply_whole, reply_no_fault}
+use Rattle.tape_events.proofs.SentWire.{OneReply}
+use Rattle.tape_events.proofs.Pieces.{HearsPiece, waits, whole, hearing}
 use Rattle.tape_events.proofs.ToldHears.{open_attempt, unlike_close, some_way}
 use Rattle.tape_events.proofs.LabelledSingle.{one_reel}
 use Rattle.tape_events.proofs.SmoothLists.{next_of, length_push, reel_is}
@@ -96,13 +92,6 @@ with_counts t counts = record t { counts = counts }
 
 back_dumps : (n : ℕ) (l : Link) (d : Dumping) → l.dump ≡ Some d → (e : Dumping) × ((record l { back = drop n l.back }).dump ≡ Some e)
 back_dumps n l d is = (d, is)
-
--- What was heard, and by whom.
-record Hearing (drive : PlainDriveSpec) (w : World) (k n : ℕ) (c : Caller) (l : Link) (d : Dumping) (b : Begun) (s : Side) (step : Step) (at : Standing) (reader : ReplyHeld) : Type 0 where
-  caller : w.caller ≡ Some c
-  own : IsOwnLink w k l d b s
-  attempt : IsAttempt w.begun c d step b
-  served : AreUnserved (side_of w.hall k) l.toward []
 
 -- the client goes on
 goes_on : (drive : PlainDriveSpec) (w : World) (k n : ℕ) (c : Caller) (l : Link) (d : Dumping) (b : Begun) (s : Side) (at : Standing) (reader : ReplyHeld) (progress : Progress)
@@ -271,28 +260,13 @@ by_then drive w k n c l d b s step at reader moved.Send (ToSend (Mark next)) kep
     goes_to drive w k n c l d b s at reader (Mark next) sm own is counts stands
 by_then drive w k n c l d b s step at reader moved.Send (ToSend (Unload next)) kept sm own attempt served early run is stands counts =
     goes_to drive w k n c l d b s at reader (Unload next) sm own is counts stands
-by_then drive w k n c l d b s step at reader moved.Send (Waiting next) kept sm own attempt served early run is stands counts = absurd stands
-by_then drive w k n c l d b s step at reader moved.Send Ready kept sm own attempt served early run is stands counts = absurd stands
-by_then drive w k n c l d b s step at reader moved.Send Asking kept sm own attempt served early run is stands counts = absurd stands
-by_then drive w k n c l d b s step at reader moved.Send Finished kept sm own attempt served early run is stands counts = absurd stands
-by_then drive w k n c l d b s step at reader moved.Send Abandoned kept sm own attempt served early run is stands counts = absurd stands
 by_then drive w k n c l d b s step at reader (moved.Failed fault) Asking kept sm own attempt served early run is (why, bin) counts =
     has_failed drive w k n c l d b s step at reader fault sm own served is counts run why bin
-by_then drive w k n c l d b s step at reader (moved.Failed fault) (ToSend next) kept sm own attempt served early run is stands counts = absurd stands
-by_then drive w k n c l d b s step at reader (moved.Failed fault) (Waiting next) kept sm own attempt served early run is stands counts = absurd stands
-by_then drive w k n c l d b s step at reader (moved.Failed fault) Ready kept sm own attempt served early run is stands counts = absurd stands
-by_then drive w k n c l d b s step at reader (moved.Failed fault) Finished kept sm own attempt served early run is stands counts = absurd stands
-by_then drive w k n c l d b s step at reader (moved.Failed fault) Abandoned kept sm own attempt served early run is stands counts = absurd stands
 by_then drive w k n c l d b s step at reader moved.Ended Ready kept sm own attempt served early run is stands counts =
     has_ended drive w k n c l d b s at reader Ready sm own served is counts (λ u x free. free) stands
 by_then drive w k n c l d b s step at reader moved.Ended Finished kept sm own attempt served early run is stands counts =
     has_ended drive w k n c l d b s at reader Finished sm own served is counts (λ u x free. free) stands
-by_then drive w k n c l d b s step at reader moved.Ended (ToSend next) kept sm own attempt served early run is stands counts = absurd stands
-by_then drive w k n c l d b s step at reader moved.Ended (Waiting next) kept sm own attempt served early run is stands counts = absurd stands
-by_then drive w k n c l d b s step at reader moved.Ended Asking kept sm own attempt served early run is stands counts = absurd stands
-by_then drive w k n c l d b s step at reader moved.Ended Abandoned kept sm own attempt served early run is stands counts = absurd stands
-by_then drive w k n c l d b s step at reader moved.Idle stage kept sm own attempt served early run is stands counts = absurd stands
-by_then drive w k n c l d b s step at reader moved.Waiting stage kept sm own attempt served early run is stands counts = absurd stands
+by_then drive w k n c l d b s step at reader progress stage kept sm own attempt served early run is stands counts = absurd stands
 
 -- it waits for more
 waits_on : (drive : PlainDriveSpec) (w : World) (k n : ℕ) (c : Caller) (l : Link) (d : Dumping) (b : Begun) (s : Side) (step : Step) (at : Standing) (reader : ReplyHeld)
@@ -323,23 +297,17 @@ waits_on drive w k n c l d b s step at reader bytes sm own a was same text has =
       },
     ))
 
--- by what its reader makes of the bytes
-makes_smooth : OneReply → (drive : PlainDriveSpec) (w : World) (k n : ℕ) (c : Caller) (l : Link) (d : Dumping) (b : Begun) (s : Side) (step : Step) (at : Standing) (reader : ReplyHeld)
-    (bytes rest : List ℕ) (progress : Progress) (seen : Result (Option PlainReply) WireFault) → IsWorldKept w → IsSmooth drive w → IsOwnLink w k l d b s → IsAttempt w.begun c d step b
-    → (a : IsStepAnswered drive w (attempt_on k b d s.session) l c step) → c.at.stage ≡ Waiting step → at.run ≡ c.at.run → reply_text a.reply ≡ bytes ++ drop n l.back
-    → ReplyGives (Some Number) bytes seen rest → Makes c.at step bytes seen rest progress at → HasFedAt at.stage reader (unanswered at.stage bytes)
-    → IsSmooth drive (heard w k n c at reader progress)
-makes_smooth g drive w k n c l d b s step at reader bytes rest progress (Ok None) kept sm own attempt a was run text gives (moves, same) has =
+-- by what it makes of the bytes
+hearing_smooth : (drive : PlainDriveSpec) (w : World) (k n : ℕ) (c : Caller) (l : Link) (d : Dumping) (b : Begun) (s : Side) (step : Step) (at : Standing) (reader : ReplyHeld)
+    (bytes : List ℕ) (progress : Progress) → IsWorldKept w → IsSmooth drive w → IsOwnLink w k l d b s → IsAttempt w.begun c d step b
+    → (a : IsStepAnswered drive w (attempt_on k b d s.session) l c step) → c.at.stage ≡ Waiting step → at.run ≡ c.at.run → HearsPiece c.at step a.reply bytes (drop n l.back) progress at
+    → HasFedAt at.stage reader (unanswered at.stage bytes) → IsSmooth drive (heard w k n c at reader progress)
+hearing_smooth drive w k n c l d b s step at reader bytes progress kept sm own attempt a was run (waits moves same text) has =
     subst (λ p. IsSmooth drive (heard w k n c at reader p)) (sym moves) (waits_on drive w k n c l d b s step at reader bytes sm own a was same text has)
-makes_smooth g drive w k n c l d b s step at reader bytes rest progress (Ok (Some found)) kept sm own attempt a was run text gives hears has =
-    let whole = reply_whole g Number (reply_text a.reply) bytes (drop n l.back) rest a.reply found a.brief.spelled text gives in
-    let its : HearsAt c.at step (Reply a.reply) false progress at
-    = subst (λ r. HearsAt c.at step (Reply r) false progress at) whole.0 (subst (λ x. HearsAt c.at step (Reply found) (is_more x) progress at) whole.1 hears) in
+hearing_smooth drive w k n c l d b s step at reader bytes progress kept sm own attempt a was run (whole spelled none its) has =
     let led = a.leads progress at its in
     by_then drive w k n c l d b s step at reader progress at.stage kept sm own attempt a.served (λ next to. unlike_close c.at at step next a.reply progress its to)
     (attempt.run ∙ sym run) refl led.0 led.1
-makes_smooth g drive w k n c l d b s step at reader bytes rest progress (Err fault) kept sm own attempt a was run text gives hears has =
-    absurd (reply_no_fault Number (reply_text a.reply) bytes (drop n l.back) rest a.reply fault a.brief.spelled text gives)
 
 -- what reached the client that waits
 fed_smooth : OneReply → Goings → (drive : PlainDriveSpec) (w : World) (k n : ℕ) (c : Caller) (l : Link) (d : Dumping) (b : Begun) (s : Side) (step : Step) (at : Standing)
@@ -347,15 +315,9 @@ fed_smooth : OneReply → Goings → (drive : PlainDriveSpec) (w : World) (k n :
     → IsStepAnswered drive w (attempt_on k b d s.session) l c step → c.at.stage ≡ Waiting step → HasFedAt (Waiting step) c.reader fed
     → FedAt c.at.stage c.at fed (take n l.back) progress at → FedAt (Waiting step) c.at fed (take n l.back) progress at
     → HasFedAt at.stage reader (unanswered at.stage (fed ++ take n l.back)) → IsSmooth drive (heard w k n c at reader progress)
-fed_smooth g o drive w k n c l d b s step at reader fed progress kept sm own attempt a was had feeds (seen, rest, gives, makes) has =
-    let size = ap length a.text in
-    let both = length-append a.fed l.back in
-    let short = a.brief.short in
-    let same : a.fed ≡ fed = one_heard c.reader Number a.fed fed (omega (arith, size, both, short)) a.has.unread had.unread in
-    let text : reply_text a.reply ≡ (fed ++ take n l.back) ++ drop n l.back
-    = sym a.text ∙ ap (λ f. f ++ l.back) same ∙ ap (λ x. fed ++ x) (sym (take-append-drop n l.back)) ∙ sym (append_assoc fed (take n l.back) (drop n l.back)) in
-    makes_smooth g drive w k n c l d b s step at reader (fed ++ take n l.back) rest progress seen kept sm own attempt a was
-    ((o.0 c.at at fed (take n l.back) progress feeds).1.run) text gives makes has
+fed_smooth g o drive w k n c l d b s step at reader fed progress kept sm own attempt a was had feeds waited has =
+    hearing_smooth drive w k n c l d b s step at reader (fed ++ take n l.back) progress kept sm own attempt a was ((o.0 c.at at fed (take n l.back) progress feeds).1.run)
+    (hearing g c.reader c.at at step a.reply a.fed fed l.back n progress a.brief a.text a.has had waited) has
 
 stage_hears : OneReply → Goings → (drive : PlainDriveSpec) (w : World) (k n : ℕ) (l : Link) (c : Caller) (stage : Stage) (at : Standing) (reader : ReplyHeld) (fed : List ℕ)
     (progress : Progress) → IsWorldKept w → IsSmooth drive w → w.caller ≡ Some c → c.at.stage ≡ stage → w.own ≡ Some k → IsTrue (is_in_attempt stage) → link_of w k ≡ Some l
@@ -380,10 +342,7 @@ stage_hears g o drive w k n l c (Waiting step) at reader fed progress kept sm th
     (fed_smooth g o drive w j n c x d b s step at reader fed progress kept sm own (subst (λ y. IsAttempt w.begun c d step y) its told.1) done is
     (subst (λ y. HasFedAt y c.reader fed) is had) pieces (subst (λ y. FedAt y c.at fed (take n x.back) progress at) is pieces)
     (subst (λ (y : Link). HasFedAt at.stage reader (unanswered at.stage (fed ++ take n y.back))) (sym links) has))
-stage_hears g o drive w k n l c Ready at reader fed progress kept sm there is mine under link first within stands had feeds has = absurd cc
-stage_hears g o drive w k n l c Asking at reader fed progress kept sm there is mine under link first within stands had feeds has = absurd cc
-stage_hears g o drive w k n l c Finished at reader fed progress kept sm there is mine under link first within stands had feeds has = absurd cc
-stage_hears g o drive w k n l c Abandoned at reader fed progress kept sm there is mine under link first within stands had feeds has = absurd cc
+stage_hears g o drive w k n l c stage at reader fed progress kept sm there is mine under link first within stands had feeds has = absurd cc
 
 -- Bytes reach the side that is not the server's: on this link it is the client.
 pub hears_smooth : OneReply → Goings → (dump : Option Dumping) (drive : PlainDriveSpec) (w u : World) (k n : ℕ) (l : Link) → IsWorldKept w → IsSmooth drive w → link_of w k ≡ Some l

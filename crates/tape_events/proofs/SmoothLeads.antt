@@ -27,7 +27,7 @@ use Rattle.dump_client.specs.declared.stage.Stage.{Stage}
 use Rattle.dump_client.specs.declared.stage.Stage.TheVariants.{Ready, ToSend, Asking, Finished}
 use Rattle.dump_client.specs.declared.stage.Progress.{Progress}
 use Rattle.dump_client.specs.declared.stage.Progress.TheVariants as moved
-use Rattle.dump_client.specs.declared.count.VolumeCount.{VolumeCount}
+use Rattle.dump_run.specs.declared.count.VolumeCount.{VolumeCount}
 use Rattle.dump_client.specs.declared.fault.AttemptFault.TheVariants.{Refused as RefusedWith, ReelTooSmall}
 use Rattle.tape_events.specs.World.{Dumping, Begun, Opening}
 use Rattle.tape_events.specs.First.{PlainDriveSpec}

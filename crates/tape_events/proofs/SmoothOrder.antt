@@ -13,13 +13,14 @@ use Rattle.dump_client.specs.declared.stage.Stage.{Stage}
 use Rattle.dump_client.specs.declared.stage.Stage.TheVariants.{Ready, ToSend, Waiting, Asking, Finished, Abandoned}
 use Rattle.tape_events.specs.World.{World, Link, Begun, Caller, Count, numbered}
 use Rattle.tape_events.specs.Events.{PlainEvent}
-use Rattle.tape_events.specs.Events.PlainEvent.{StartRun, Connect, Send, ToServer, Serve, ToClient, Cut, EndAtServer, EndAtClient, ServerRestart, ClientRestart, Respond, Arrange, Stranger, Says, Enter}
+use Rattle.tape_events.specs.Events.PlainEvent.{StartRun, Connect, Send, ToServer, Serve, ToClient}
 use Rattle.tape_events.specs.First.{PlainDriveSpec, AreGoodDrives, first_world}
 use Rattle.tape_events.specs.Steps.{Happens, Runs, none, one_more, is_failing, Sends, Finds}
 use Rattle.tape_events.specs.Kept.{IsWorldKept, AreLaid}
 use Rattle.tape_events.specs.Standing.{AreHeld, ReelLiesIn, StandsOn}
 use Rattle.tape_events.specs.Headline.{whole_volume}
 use Rattle.tape_events.specs.Smooth.{IsFaultless, AreFaultless, IsSmooth, is_between, VolumesInOrder, ReelsStandAt, StandsWith, stock_of, volume_by, volume_slot, volume_slots}
+use Rattle.tape_events.proofs.Numbers.{no_number}
 use Rattle.tape_events.proofs.Booked.{among_at}
 use Rattle.tape_events.proofs.LabelledNames.{stands_one}
 use Rattle.tape_events.proofs.Staying.{Laws, first_kept, kept_after}
@@ -28,10 +29,6 @@ use Rattle.tape_events.proofs.SmoothBins.{Behind, same_bin}
 use Rattle.tape_events.proofs.SmoothCarried.{before_bin, serve_smooth}
 use Rattle.tape_events.proofs.SmoothHears.{hears_smooth}
 use Rattle.tape_events.proofs.SmoothEvents.{begun_smooth, connected_smooth, asked_smooth, reached_smooth}
-
-no_number : {X : Type 0} (k : ℕ) (x : X) → numbered {X = X} [] k ≡ Some x → ⊥
-no_number zero x is = cc
-no_number (suc k) x is = cc
 
 pub first_smooth : (drive : PlainDriveSpec) → IsSmooth drive (first_world (drive ∷ []))
 first_smooth drive = record {
@@ -59,16 +56,7 @@ smooth_after g drive w u (ToClient k n) kept sm whole ((l, (there, other), part)
     let links : l ≡ y = same_Some l y (sym there ∙ at) in
     hears_smooth g.reply g.goings y.dump drive w u k n y kept sm at (subst (λ (z : Link). IsTrue z.other) links other) refl part.0
     (subst (λ (z : Link). n ≤ length z.back) links part.1) hears
-smooth_after g drive w u (Cut k) kept sm whole happens = absurd whole
-smooth_after g drive w u (EndAtServer k) kept sm whole happens = absurd whole
-smooth_after g drive w u (EndAtClient k) kept sm whole happens = absurd whole
-smooth_after g drive w u ServerRestart kept sm whole happens = absurd whole
-smooth_after g drive w u ClientRestart kept sm whole happens = absurd whole
-smooth_after g drive w u (Respond answer) kept sm whole happens = absurd whole
-smooth_after g drive w u (Arrange name reels) kept sm whole happens = absurd whole
-smooth_after g drive w u Stranger kept sm whole happens = absurd whole
-smooth_after g drive w u (Says k bytes) kept sm whole happens = absurd whole
-smooth_after g drive w u Enter kept sm whole happens = absurd whole
+smooth_after g drive w u event kept sm whole happens = absurd whole
 
 -- a list without faults and an event without one
 last_faultless : (events : List PlainEvent) (event : PlainEvent) → AreFaultless (events ++ event ∷ []) → AreFaultless events × IsFaultless event
@@ -176,10 +164,7 @@ between_names : (drive : PlainDriveSpec) (w : World) (c : Caller) (stage : Stage
     → names_of w.hall.shop.bin ≡ map (λ (x : Count). x.reel) w.counts
 between_names drive w c Ready is free = ap (λ (x : Shop). names_of x.bin) free.shop ∙ slot_names drive.capacity w.begun w.counts
 between_names drive w c Finished is free = ap (λ (x : Shop). names_of x.bin) free.shop ∙ slot_names drive.capacity w.begun w.counts
-between_names drive w c (ToSend step) is stands = absurd cc
-between_names drive w c (Waiting step) is stands = absurd cc
-between_names drive w c Asking is stands = absurd cc
-between_names drive w c Abandoned is stands = absurd cc
+between_names drive w c stage is stands = absurd cc
 
 -- the volumes are in order
 pub in_order : (drive : PlainDriveSpec) (w : World) → IsWorldKept w → IsSmooth drive w → VolumesInOrder drive w

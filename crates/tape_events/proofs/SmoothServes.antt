@@ -6,7 +6,7 @@ use Rattle.std.proofs.lemmas.List.{append-nil}
 use Rattle.tape.specs.Tape.{PlainEntry, Tape, tape, TapeAnswer, offset_of, entries_of}
 use Rattle.rmt_wire.specs.declared.limits.TheConstants.{RECORD_LIMIT}
 use Rattle.tape.specs.Tape.PlainEntry.{Record, Mark}
-use Rattle.tape.specs.Tape.TapeAnswer.{Done as Did, Gave, Fault}
+use Rattle.tape.specs.Tape.TapeAnswer.{Done as Did, Fault}
 use Rattle.tape.specs.Trouble.{DeviceStep}
 use Rattle.tape.specs.declared.fault.TapeFault.TheVariants as faults
 use Rattle.tape.specs.declared.trouble.Trouble.TheVariants.{None as NoTrouble}
@@ -27,6 +27,7 @@ use Rattle.rmt_server.specs.Session.PlainSession.{Idle, Offline, Online}
 use Rattle.rmt_server.specs.TroubledServe.{holder_of, TroubledServeStep, TroubledReelStep, TroubledDoneStep}
 use Rattle.tape_events.specs.First.{PlainDriveSpec}
 use Rattle.tape_events.specs.Smooth.{blanks, one_drive}
+use Rattle.tape_events.proofs.Called.{IsLeftWith, Called, called}
 
 -- no drive or no reel
 pub record IsTurnedDown (reply : PlainReply) : Type 0 where
@@ -96,51 +97,33 @@ serve_open drive names bin device reply after (Err Device, asked, opens, cause, 
 serve_open drive names bin device reply after (Err OutOfMemory, asked, opens, cause, replies, session) = absurd cause
 serve_open drive names bin device reply after (Err NameTaken, asked, opens, cause, replies, session) = absurd cause
 
--- one call of the reel in the drive
-record Called (shop : Shop) (reel : PlainReel) (request : PlainRequest) (reply : PlainReply) (after : Scene) : Type 0 where
-  answer : TapeAnswer
-  tape : Tape
-  device : DeviceStep reel.capacity NoTrouble reel.tape (tape_request request) answer tape
-  replies : reply ≡ reel_reply request answer
-  is : after ≡ scene shop (Online 0 Both (plain_reel tape reel.capacity))
-
-called : (shop : Shop) (reel : PlainReel) (request : PlainRequest) (reply : PlainReply) (after : Scene)
-    → TroubledReelStep NoTrouble (scene shop (Online 0 Both reel)) request reply after → Called shop reel request reply after
-called shop reel request reply after (e, access, x, answer, t, online, device, replies, is) =
-    let drives : e ≡ 0 = cc in
-    let accesses : access ≡ Both = cc in
-    let reels : x ≡ reel = cc in
-    record {
-      answer = answer;
-      tape = t;
-      device = subst (λ (y : PlainReel). DeviceStep y.capacity NoTrouble y.tape (tape_request request) answer t) reels device;
-      replies = replies;
-      is = is ∙ ap (λ n. scene shop (Online n access (plain_reel t x.capacity))) drives ∙ ap (λ a. scene shop (Online 0 a (plain_reel t x.capacity))) accesses
-          ∙ ap (λ (y : PlainReel). scene shop (Online 0 Both (plain_reel t y.capacity))) reels;
-    }
-
 -- the reel stands so in the drive
 abbrev pub IsOnline : Shop → ℕ → Tape → Scene → Type 0
 IsOnline shop capacity t after = after ≡ scene shop (Online 0 Both (plain_reel t capacity))
+
+-- one call of the reel in the drive
+left_online : (shop : Shop) (reel : PlainReel) (t : Tape) (after : Scene) → IsLeftWith (scene shop (Online 0 Both reel)) after 0 reel t → IsOnline shop reel.capacity t after
+left_online shop reel t after left = ap (λ (s : Shop). scene s after.session) left.shop ∙ ap (scene shop) left.session
+
+in_drive : (shop : Shop) (reel : PlainReel) (request : PlainRequest) (reply : PlainReply) (after : Scene)
+    → TroubledReelStep NoTrouble (scene shop (Online 0 Both reel)) request reply after → Called NoTrouble (scene shop (Online 0 Both reel)) after 0 reel request reply
+in_drive shop reel request reply after step = called NoTrouble (scene shop (Online 0 Both reel)) request reply after 0 reel refl step
 
 -- a rewind of an empty reel
 pub serve_rewind : (shop : Shop) (capacity : ℕ) (reply : PlainReply) (holders : List ℕ) (after : Scene)
     → TroubledServeStep NoTrouble holders (scene shop (Online 0 Both (plain_reel (tape [] []) capacity))) (Op MTREW 1) reply after
     → (reply ≡ Done 1) × IsOnline shop capacity (tape [] []) after
-serve_rewind shop capacity reply holders after step = rewound (called shop (plain_reel (tape [] []) capacity) (Op MTREW 1) reply after step)
+serve_rewind shop capacity reply holders after step = rewound (in_drive shop (plain_reel (tape [] []) capacity) (Op MTREW 1) reply after step)
   where
     answered : (answer : TapeAnswer) (t : Tape) → DeviceStep capacity NoTrouble (tape [] []) (tape_request (Op MTREW 1)) answer t → reply ≡ reel_reply (Op MTREW 1) answer
         → after ≡ scene shop (Online 0 Both (plain_reel t capacity)) → (reply ≡ Done 1) × IsOnline shop capacity (tape [] []) after
     answered Did t device replies is = (replies, is ∙ ap (λ x. scene shop (Online 0 Both (plain_reel x capacity))) device.1)
-    answered (Gave bytes) t device replies is = absurd device.1
     answered (Fault faults.Device) t device replies is = absurd (device.0 refl)
-    answered (Fault faults.Full) t device replies is = absurd device.1
-    answered (Fault faults.EndOrMark) t device replies is = absurd device.1
-    answered (Fault faults.BadOperation) t device replies is = absurd device.1
     answered (Fault faults.OutOfMemory) t device replies is = absurd device
+    answered answer t device replies is = absurd device.1
 
-    rewound : Called shop (plain_reel (tape [] []) capacity) (Op MTREW 1) reply after → (reply ≡ Done 1) × IsOnline shop capacity (tape [] []) after
-    rewound c = answered c.answer c.tape c.device c.replies c.is
+    rewound : Called NoTrouble (scene shop (Online 0 Both (plain_reel (tape [] []) capacity))) after 0 (plain_reel (tape [] []) capacity) (Op MTREW 1) reply → (reply ≡ Done 1) × IsOnline shop capacity (tape [] []) after
+    rewound c = answered c.answer c.now c.device c.replies (left_online shop (plain_reel (tape [] []) capacity) c.now after c.left)
 
 -- the record was written, or there is no room for it, or no memory
 pub data Writes (shop : Shop) (capacity : ℕ) (before : List PlainEntry) (bytes : List ℕ) (reply : PlainReply) (after : Scene) : Type 0 where
@@ -157,7 +140,7 @@ not_refused n some few = grind (arith, nat_tests)
 pub serve_write : (shop : Shop) (capacity : ℕ) (before : List PlainEntry) (bytes : List ℕ) (reply : PlainReply) (holders : List ℕ) (after : Scene) → 0 < length bytes → length bytes ≤ RECORD_LIMIT
     → TroubledServeStep NoTrouble holders (scene shop (Online 0 Both (plain_reel (tape before []) capacity))) (Write bytes) reply after → Writes shop capacity before bytes reply after
 serve_write shop capacity before bytes reply holders after some few step =
-    wrote_by (called shop (plain_reel (tape before []) capacity) (Write bytes) reply after
+    wrote_by (in_drive shop (plain_reel (tape before []) capacity) (Write bytes) reply after
     (checked ((length bytes == 0) || nat_lt RECORD_LIMIT (length bytes)) (not_refused (length bytes) some few) step))
   where
     checked : (b : Bool) → b ≡ false
@@ -171,39 +154,35 @@ serve_write shop capacity before bytes reply holders after some few step =
     answered : (answer : TapeAnswer) (t : Tape) → DeviceStep capacity NoTrouble (tape before []) (tape_request (Write bytes)) answer t → reply ≡ reel_reply (Write bytes) answer
         → after ≡ scene shop (Online 0 Both (plain_reel t capacity)) → Writes shop capacity before bytes reply after
     answered Did t (spared, (fits, put)) replies is = wrote fits replies (is ∙ ap (λ x. scene shop (Online 0 Both (plain_reel x capacity))) put)
-    answered (Gave given) t device replies is = absurd device.1
     answered (Fault faults.Device) t device replies is = absurd (device.0 refl)
     answered (Fault faults.Full) t (spared, (tight, stays)) replies is = full tight replies (is ∙ ap (λ x. scene shop (Online 0 Both (plain_reel x capacity))) stays)
-    answered (Fault faults.EndOrMark) t device replies is = absurd device.1
-    answered (Fault faults.BadOperation) t device replies is = absurd device.1
     answered (Fault faults.OutOfMemory) t (fits, stays) replies is =
         scarce (_, replies) (is ∙ ap (λ x. scene shop (Online 0 Both (plain_reel x capacity))) stays)
+    answered answer t device replies is = absurd device.1
 
-    wrote_by : Called shop (plain_reel (tape before []) capacity) (Write bytes) reply after → Writes shop capacity before bytes reply after
-    wrote_by c = answered c.answer c.tape c.device c.replies c.is
+    wrote_by : Called NoTrouble (scene shop (Online 0 Both (plain_reel (tape before []) capacity))) after 0 (plain_reel (tape before []) capacity) (Write bytes) reply → Writes shop capacity before bytes reply after
+    wrote_by c = answered c.answer c.now c.device c.replies (left_online shop (plain_reel (tape before []) capacity) c.now after c.left)
 
 -- the mark was written, or there is no memory
 pub serve_mark : (shop : Shop) (capacity : ℕ) (before : List PlainEntry) (reply : PlainReply) (holders : List ℕ) (after : Scene) → offset_of before + 4 ≤ capacity
     → TroubledServeStep NoTrouble holders (scene shop (Online 0 Both (plain_reel (tape before []) capacity))) (Op MTWEOF 1) reply after
     → ((reply ≡ Done 1) × IsOnline shop capacity (tape (before ++ Mark ∷ []) []) after) ⊎ (IsScarce reply × IsOnline shop capacity (tape before []) after)
-serve_mark shop capacity before reply holders after room step = marked_by (called shop (plain_reel (tape before []) capacity) (Op MTWEOF 1) reply after step)
+serve_mark shop capacity before reply holders after room step = marked_by (in_drive shop (plain_reel (tape before []) capacity) (Op MTWEOF 1) reply after step)
   where
     answered : (answer : TapeAnswer) (t : Tape) → DeviceStep capacity NoTrouble (tape before []) (tape_request (Op MTWEOF 1)) answer t → reply ≡ reel_reply (Op MTWEOF 1) answer
         → after ≡ scene shop (Online 0 Both (plain_reel t capacity))
         → ((reply ≡ Done 1) × IsOnline shop capacity (tape (before ++ Mark ∷ []) []) after) ⊎ (IsScarce reply × IsOnline shop capacity (tape before []) after)
     answered Did t (spared, inl (none, put)) replies is = absurd (omega (arith, none))
     answered Did t (spared, inr (some, fits, put)) replies is = inl (replies, is ∙ ap (λ x. scene shop (Online 0 Both (plain_reel x capacity))) put)
-    answered (Gave given) t device replies is = absurd device.1
     answered (Fault faults.Device) t device replies is = absurd (device.0 refl)
     answered (Fault faults.Full) t (spared, (some, tight, stays)) replies is = absurd (omega (arith, room, tight))
-    answered (Fault faults.EndOrMark) t device replies is = absurd device.1
-    answered (Fault faults.BadOperation) t device replies is = absurd device.1
     answered (Fault faults.OutOfMemory) t (some, fits, stays) replies is =
         inr ((_, replies), is ∙ ap (λ x. scene shop (Online 0 Both (plain_reel x capacity))) stays)
+    answered answer t device replies is = absurd device.1
 
-    marked_by : Called shop (plain_reel (tape before []) capacity) (Op MTWEOF 1) reply after
+    marked_by : Called NoTrouble (scene shop (Online 0 Both (plain_reel (tape before []) capacity))) after 0 (plain_reel (tape before []) capacity) (Op MTWEOF 1) reply
         → ((reply ≡ Done 1) × IsOnline shop capacity (tape (before ++ Mark ∷ []) []) after) ⊎ (IsScarce reply × IsOnline shop capacity (tape before []) after)
-    marked_by c = answered c.answer c.tape c.device c.replies c.is
+    marked_by c = answered c.answer c.now c.device c.replies (left_online shop (plain_reel (tape before []) capacity) c.now after c.left)
 
 -- the reel went to the bin
 pub serve_unload : (drive : PlainDriveSpec) (stack bin : List (Slot KeptReel)) (name : List ℕ) (before : List PlainEntry) (reply : PlainReply) (holders : List ℕ) (after : Scene)
@@ -220,11 +199,7 @@ serve_unload drive stack bin name before reply holders after (e, access, x, Ok d
           ∙ ap (λ l. scene (one_drive drive stack (bin ++ slot name (Some (kept_reel l drive.capacity)) ∷ [])) (Offline 0 Both)) (append-nil before),
     )
 serve_unload drive stack bin name before reply holders after (e, access, x, Err Device, online, cause, replies, is) = absurd (cause refl)
-serve_unload drive stack bin name before reply holders after (e, access, x, Err OutOfMemory, online, cause, replies, is) = absurd cause
-serve_unload drive stack bin name before reply holders after (e, access, x, Err NameTaken, online, cause, replies, is) = absurd cause
-serve_unload drive stack bin name before reply holders after (e, access, x, Err NoSuchDrive, online, cause, replies, is) = absurd cause
-serve_unload drive stack bin name before reply holders after (e, access, x, Err (Taken n), online, cause, replies, is) = absurd cause
-serve_unload drive stack bin name before reply holders after (e, access, x, Err NoReel, online, cause, replies, is) = absurd cause
+serve_unload drive stack bin name before reply holders after (e, access, x, Err why, online, cause, replies, is) = absurd cause
 
 -- the drive is given back
 pub serve_close : (shop : Shop) (reply : PlainReply) (holders : List ℕ) (after : Scene) → TroubledServeStep NoTrouble holders (scene shop (Offline 0 Both)) Close reply after

@@ -1,11 +1,11 @@
 -- What stays so, in the first world and after each event.
-use Rattle.std.proofs.Common.{◌≡◌, ℕ, zero, suc, List, [], ◌∷◌, length, map, replicate, Contains, Some, refl, sym, ap, ◌∙◌, inl, inr, arith}
+use Rattle.std.proofs.Common.{◌≡◌, ℕ, zero, suc, List, [], ◌∷◌, length, map, replicate, Contains, Some, refl, sym, ap, subst, ◌∙◌, inl, inr, arith}
 use Rattle.std.specs.Prelude.{slice_get, slice_index_or}
 use Rattle.drives.specs.Shop.{kept_reel, slot, rack}
 use Rattle.std.proofs.lemmas.Bool.Decides.{eqb_tells}
 use Rattle.std.proofs.lemmas.List.{length-map, length-replicate}
 use Rattle.std.proofs.lemmas.Option.{same_Some}
-use Rattle.tape_events.specs.World.{World, numbered}
+use Rattle.tape_events.specs.World.{World}
 use Rattle.tape_events.specs.Events.{PlainEvent}
 use Rattle.tape_events.specs.First.{PlainDriveSpec, AreGoodDrives, blank_rack, first_world}
 use Rattle.tape_events.specs.Steps.{Happens, Runs, none, one_more}
@@ -14,23 +14,21 @@ use Rattle.tape_events.specs.Kept.{IsWorldKept}
 use Rattle.tape_events.specs.Headline.{NoTwoHolders, DumpdatesGained, Headline, CountedReels}
 use Rattle.tape_events.specs.Further.{SentRequests, LatchedReels, ClientsCounts, LabelledReels}
 use Rattle.tape_events.specs.Naming.{SameNames}
+use Rattle.tape_events.proofs.Numbers.{no_number}
 use Rattle.tape_events.proofs.SentWire.{OneReading, DroppedWrites, OneReply}
-use Rattle.tape_events.proofs.Lawfully.{Lawfully, lawful_after}
-use Rattle.tape_events.proofs.Owned.{Standings, owned_after, first_owned}
-use Rattle.tape_events.proofs.ToldAfter.{first_told, told_stays}
-use Rattle.tape_events.proofs.LabelledAfter.{first_single, first_labelled, first_earned, single_after, labelled_after, earned_after}
+use Rattle.tape_events.proofs.Lawfully.{Lawfully, lawful_moved}
+use Rattle.tape_events.proofs.Owned.{Standings, owned_moved, first_owned}
+use Rattle.tape_events.proofs.ToldAfter.{first_told, told_moved}
+use Rattle.tape_events.proofs.LabelledAfter.{first_single, first_labelled, first_earned, single_moved, labelled_moved, earned_moved}
 use Rattle.tape_events.proofs.Counted.{labelled_reels, counted_reels}
-use Rattle.tape_events.proofs.Tidy.{tidy_after}
-use Rattle.tape_events.proofs.Held.{held_after, side_there}
-use Rattle.tape_events.proofs.Laid.{laid_after, online_drive, drive_within}
-use Rattle.tape_events.proofs.Booked.{Goings, booked_after}
-use Rattle.tape_events.proofs.Named.{names_after, named_after, first_named}
-use Rattle.tape_events.proofs.Opened.{opened_after, first_opened, names_differ}
-use Rattle.tape_events.proofs.Readable.{readable_after}
-
-no_number : {X : Type 0} (k : ℕ) (x : X) → numbered {X = X} [] k ≡ Some x → ⊥
-no_number zero x is = cc
-no_number (suc k) x is = cc
+use Rattle.tape_events.proofs.Tidy.{tidy_moved}
+use Rattle.tape_events.proofs.Moves.{Move, happened, moved}
+use Rattle.tape_events.proofs.Held.{held_moved, side_there}
+use Rattle.tape_events.proofs.Laid.{laid_moved, online_drive, drive_within}
+use Rattle.tape_events.proofs.Booked.{Goings, booked_moved}
+use Rattle.tape_events.proofs.Named.{names_after, named_moved, first_named}
+use Rattle.tape_events.proofs.Opened.{opened_moved, first_opened, names_differ}
+use Rattle.tape_events.proofs.Readable.{readable_moved}
 
 no_member : {X : Type 0} (x : X) → Contains [] x → ⊥
 no_member x (k, within, is) = omega (arith, within)
@@ -74,6 +72,7 @@ first_kept drives good = record {
     last = λ c is. absurd cc;
     begun = λ c is. absurd cc;
     listed = λ c is. absurd cc;
+    kept = λ x is. absurd cc;
     none = λ run past. refl;
     earned = λ e among. absurd (no_member e among);
     once = λ i j e f one other same. absurd (no_number i e one);
@@ -94,26 +93,29 @@ pub record Laws : Type 0 where
   pub dropped : DroppedWrites
   pub reply : OneReply
 
-pub kept_after : Laws → (w u : World) (event : PlainEvent) → IsWorldKept w → Happens w event u → IsWorldKept u
-kept_after g w u event k happens =
-    let held = held_after w event u happens k.held in
-    let laid = laid_after w event u happens k.held k.laid in
-    let named = named_after w event u happens k.held held laid k.once in
+kept_moved : Laws → (w : World) (m : Move w) → IsWorldKept w → IsWorldKept (moved w m)
+kept_moved g w m k =
+    let held = held_moved w m k.held in
+    let laid = laid_moved w m k.held k.laid in
+    let named = named_moved w m k.held held laid k.once in
     record {
-      lawful = lawful_after g.lawfully w event u happens k.lawful;
-      owned = owned_after g.standings w event u happens k.owned;
-      told = told_stays g.reading g.dropped g.reply w u event k.lawful k.owned k.tidy k.booked k.told happens;
-      single = single_after g.reading g.dropped w event u happens k.held k.told k.opened k.single;
-      labelled = labelled_after g.reading g.dropped w event u happens k.held held laid named.once k.told k.opened k.single k.labelled;
-      counted = earned_after g.reading g.dropped g.reply w event u happens k.held k.owned k.told k.single k.counted;
-      tidy = tidy_after w event u happens k.tidy;
+      lawful = lawful_moved g.lawfully w m k.booked k.lawful;
+      owned = owned_moved g.standings w m k.owned;
+      told = told_moved g.reading g.dropped g.reply w m k.lawful k.owned k.tidy k.booked k.told;
+      single = single_moved g.reading g.dropped w m k.held k.told k.opened k.single;
+      labelled = labelled_moved g.reading g.dropped w m k.held held laid named.once k.told k.opened k.single k.labelled;
+      counted = earned_moved g.reading g.dropped g.reply w m k.held k.owned k.told k.single k.counted;
+      tidy = tidy_moved w m k.tidy;
       held = held;
       laid = laid;
-      booked = booked_after g.goings w event u k.lawful happens k.booked;
+      booked = booked_moved g.goings w m k.lawful k.booked;
       once = named;
-      opened = opened_after w event u happens k.tidy k.held held laid named.once k.opened;
-      readable = readable_after w event u happens k.readable;
+      opened = opened_moved w m k.tidy k.held held laid named.once k.opened;
+      readable = readable_moved w m k.readable;
     }
+
+pub kept_after : Laws → (w u : World) (event : PlainEvent) → IsWorldKept w → Happens w event u → IsWorldKept u
+kept_after g w u event k happens = let m = happened w event u happens in subst IsWorldKept (sym m.1) (kept_moved g w m.0 k)
 
 -- after every list of events
 pub runs_kept : Laws → (first w : World) (events : List PlainEvent) → IsWorldKept first → Runs first events w → IsWorldKept w

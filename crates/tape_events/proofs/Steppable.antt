@@ -15,19 +15,19 @@ use Rattle.dump_client.specs.Client.{HasFedAt, unanswered}
 use Rattle.dump_client.specs.Standing.{Standing, FedAt}
 use Rattle.dump_client.specs.declared.stage.Progress.{Progress}
 use Rattle.dump_client.specs.declared.stage.Stage.{Stage}
-use Rattle.dump_client.specs.declared.stage.Stage.TheVariants.{Ready, ToSend, Waiting, Asking, Finished, Abandoned}
+use Rattle.dump_client.specs.declared.stage.Stage.TheVariants.{ToSend, Waiting}
 use Rattle.dump_client.specs.declared.step.Step.{Step}
-use Rattle.tape_events.specs.World.{World, Link, Dumping, Caller}
+use Rattle.tape_events.specs.World.{World, Link, Dumping, Caller, Kept}
 use Rattle.tape_events.specs.Events.{PlainEvent}
-use Rattle.tape_events.specs.Events.PlainEvent.{StartRun, Connect, Send, ToServer, Serve, ToClient, Cut, EndAtServer, EndAtClient, ServerRestart, ClientRestart, Respond, Arrange, Stranger, Says, Enter}
+use Rattle.tape_events.specs.Events.PlainEvent.{StartRun, Connect, Send, ToServer, Serve, ToClient, EndAtClient, ClientRestart, Respond, Arrange, Enter, Save}
 use Rattle.tape_events.specs.Changes.{side_of, link_of}
 use Rattle.tape_events.specs.Kept.{IsWorldKept}
 use Rattle.tape_events.specs.Owning.{is_in_attempt}
 use Rattle.tape_events.specs.Rows.{Possible}
 use Rattle.tape_events.specs.Sending.{IsLinkToldAt}
-use Rattle.tape_events.specs.Steps.{Happens, Sends, Finds, Hears, SeesEnd, is_failing}
+use Rattle.tape_events.specs.Steps.{Happens, Sends, Finds, Hears, SeesEnd, ComesBack, is_failing}
 use Rattle.tape_events.proofs.SentWire.{DroppedWrites}
-use Rattle.tape_events.proofs.StepsHeard.{SomeAnswer, cut_can, waits_can, asks_can, held_can, pushed_can}
+use Rattle.tape_events.proofs.StepsHeard.{SomeAnswer, over_can, cut_can, waits_can, asks_can, held_can, pushed_can}
 use Rattle.tape_events.proofs.StepsServed.{serve_can}
 
 sends_can : SomeAnswer → (failing : Bool) (w : World) (k : ℕ) (c : Caller) (payload : List (List ℕ)) (step : Step) → (u : World) × Sends failing w k c payload step u
@@ -103,10 +103,7 @@ hears_at g w l k n d c (Waiting step) is attempt some within (b, mine, inr repli
         )
       ]
 ]
-hears_at g w l k n d c Ready is attempt some within told = absurd cc
-hears_at g w l k n d c Asking is attempt some within told = absurd cc
-hears_at g w l k n d c Finished is attempt some within told = absurd cc
-hears_at g w l k n d c Abandoned is attempt some within told = absurd cc
+hears_at g w l k n d c stage is attempt some within told = absurd cc
 
 hears_can : SomeAnswer → (w : World) (k n : ℕ) (l : Link) (o : Option Dumping) → l.dump ≡ o → IsWorldKept w → link_of w k ≡ Some l → IsTrue l.other → 1 ≤ n → n ≤ length l.back
     → (u : World) × Hears o w k n (take n l.back) u
@@ -122,6 +119,14 @@ sees_can w k l (Some d) is kept at other =
     let (own, (c, there, attempt)) = client_of w k l d kept at other is in
     let h = cut_can c.at c.at.stage attempt in
     (_, (c, h.1, reply_held None [], h.0, there, h.2, h.3.none, refl))
+
+-- a client comes back with what is kept, finished where that covers the run
+back_can : (w : World) (o : Option Kept) → w.kept ≡ o → IsWorldKept w → (u : World) × ComesBack o w u
+back_can w None is kept = (_, refl)
+back_can w (Some z) is kept =
+    let q = kept.booked.kept z is in
+    let over = over_can q.begun.run z.listed in
+    (_, (q.begun, over.0, reply_held None [], q.begun_as, over.1, refl))
 
 pub steps : SomeAnswer → DroppedWrites → (w : World) (event : PlainEvent) → IsWorldKept w → Possible w event → (u : World) × Happens w event u
 steps g h w (StartRun run payload) kept may = (_, (may, (reply_held None [], refl)))
@@ -139,14 +144,10 @@ steps g h w (Serve k trouble) kept may =
     let (s, found, live, (bytes, rest, unread, gives, some)) = may in
     let turn = finds_can w k trouble s found rest some in
     (turn.0, (may, (s, found, bytes, rest, live, unread, gives, turn.1)))
-steps g h w (Cut k) kept may = (_, (may, refl))
-steps g h w (EndAtServer k) kept may = (_, (may, refl))
-steps g h w ServerRestart kept may = (_, (may, refl))
-steps g h w ClientRestart kept may = (_, (may, refl))
+steps g h w ClientRestart kept may = let back = back_can w w.kept refl kept in (back.0, (may, back.1))
+steps g h w Save kept may = let (c, there, keeps) = may in (_, (may, (c, there, refl)))
 steps g h w (Respond answer) kept may = let (c, there, asks) = may in (_, (may, (c, reply_held None [], there, asks, refl)))
 steps g h w (Arrange drive reels) kept may = let (d, named, free, distinct, piled) = may in (_, (may, (d, named, refl)))
-steps g h w Stranger kept may = (_, (may, refl))
-steps g h w (Says k bytes) kept may = (_, (may, refl))
 steps g h w Enter kept may = let (c, there, finished, fresh) = may in (_, (may, (c, there, refl)))
 steps g h w (ToClient k n) kept may =
     let (l, (at, other), (some, within)) = may in
@@ -156,3 +157,4 @@ steps g h w (EndAtClient k) kept may =
     let (l, (at, other), cut) = may in
     let seen = sees_can w k l l.dump refl kept at other in
     (seen.0, (may, (l, at, seen.1)))
+steps g h w x kept may = (_, (may, refl))

@@ -20,13 +20,13 @@ use Rattle.dump_client.specs.Listening.{IsReaderWaiting, is_more}
 use Rattle.dump_client.specs.Position.{Heard, CoversFrom, Covers, after_step, leads_to, block_or_mark, at_end_of_reel}
 use Rattle.dump_client.specs.Position.Heard.{Reply, Noise, End}
 use Rattle.dump_client.specs.Standing.{Standing, standing, checkpoint_of, counted_to, IsOver, Becomes, HearsAt, FedAt, CutAt}
-use Rattle.dump_client.specs.declared.count.VolumeCount.{VolumeCount}
+use Rattle.dump_run.specs.declared.count.VolumeCount.{VolumeCount}
 use Rattle.dump_client.specs.declared.fault.AttemptFault.{AttemptFault}
 use Rattle.dump_client.specs.declared.fault.AttemptFault.TheVariants.{Refused, Botched, ConnectionEnded, ShortWrite, ReelTooSmall}
 use Rattle.dump_client.specs.declared.stage.Progress.{Progress}
 use Rattle.dump_client.specs.declared.stage.Progress.TheVariants as moved
 use Rattle.dump_client.specs.declared.stage.Stage.{Stage}
-use Rattle.dump_client.specs.declared.stage.Stage.TheVariants.{Ready, ToSend, Waiting, Asking, Finished, Abandoned}
+use Rattle.dump_client.specs.declared.stage.Stage.TheVariants.{Ready, ToSend, Waiting, Asking, Finished}
 use Rattle.dump_client.specs.declared.step.Step.{Step}
 use Rattle.dump_client.specs.declared.step.Step.TheVariants.{Open, Rewind, Label, Block, Mark, Unload, Close}
 use Rattle.tape_events.specs.Owning.{is_in_attempt}
@@ -72,15 +72,19 @@ to_send_rests step =
     record { fed = λ bytes. (unread, refl); none = (unread, refl) }
 
 -- the attempt is over
-over_can : (run : PlainRun) (counts : List VolumeCount) → (new : Standing) × IsOver run counts new × IsAtRest new.stage
+pub over_can : (run : PlainRun) (counts : List VolumeCount) → (new : Standing) × IsOver run counts new × IsAtRest new.stage
 over_can run counts = elim (covers_or_not run counts) [
   | inl covers ↦ (standing run counts Finished, inl (covers, refl), record { fed = λ bytes. refl; none = refl })
   | inr not ↦ (standing run counts Ready, inr (not, refl), record { fed = λ bytes. refl; none = refl })
 ]
 
-by_test : {X : Type 0} (P : X → Type 0) (b : Bool) (x y : X) → P x → P y → P (if b then x else y)
-by_test P true x y one other = one
-by_test P false x y one other = other
+-- what comes of a reply, by what it leads to
+abbrev Can : (Progress → Standing → Type 0) → Type 0
+Can becomes = (progress : Progress) × (new : Standing) × becomes progress new × IsAtRest new.stage
+
+by_test : {X : Type 0} (becomes : X → Progress → Standing → Type 0) (b : Bool) (x y : X) → Can (becomes x) → Can (becomes y) → Can (becomes (if b then x else y))
+by_test becomes true x y one other = one
+by_test becomes false x y one other = other
 
 -- it fails, goes on, counts, or ends
 failed_can : (old : Standing) (fault : AttemptFault) → (progress : Progress) × (new : Standing) × ((progress ≡ moved.Failed fault) × (new ≡ standing old.run old.counts Asking)) × IsAtRest new.stage
@@ -105,55 +109,28 @@ next_can old n true = failed_can old Botched
 end_can : (old : Standing) (number : ℕ) (more : Bool)
     → (progress : Progress) × (new : Standing) × Becomes old (at_end_of_reel (checkpoint_of old.counts).1 (Block number)) more progress new × IsAtRest new.stage
 end_can old number false =
-    by_test (λ out. (progress : Progress) × (new : Standing) × Becomes old out false progress new × IsAtRest new.stage) (nat_lt (checkpoint_of old.counts).1 number) _ _
+    by_test (λ out. Becomes old out false) (nat_lt (checkpoint_of old.counts).1 number) _ _
     (goes_can old (Mark number)) (failed_can old ReelTooSmall)
 end_can old number true =
-    by_test (λ out. (progress : Progress) × (new : Standing) × Becomes old out true progress new × IsAtRest new.stage) (nat_lt (checkpoint_of old.counts).1 number) _ _
+    by_test (λ out. Becomes old out true) (nat_lt (checkpoint_of old.counts).1 number) _ _
     (failed_can old Botched) (failed_can old ReelTooSmall)
 
 hears_can : (old : Standing) (step : Step) (heard : Heard) (more : Bool) → (progress : Progress) × (new : Standing) × HearsAt old step heard more progress new × IsAtRest new.stage
-hears_can old Open Noise more = failed_can old Botched
-hears_can old Open End more = failed_can old ConnectionEnded
-hears_can old Open (Reply (Data bytes)) more = failed_can old Botched
 hears_can old Open (Reply (Done n)) false = goes_can old Rewind
-hears_can old Open (Reply (Error n text)) false = failed_can old (Refused n)
-hears_can old Open (Reply (Done n)) true = failed_can old Botched
-hears_can old Open (Reply (Error n text)) true = failed_can old (Refused n)
-hears_can old Rewind Noise more = failed_can old Botched
-hears_can old Rewind End more = failed_can old ConnectionEnded
-hears_can old Rewind (Reply (Data bytes)) more = failed_can old Botched
-hears_can old Rewind (Reply (Done n)) false = by_test (λ out. (progress : Progress) × (new : Standing) × Becomes old out false progress new × IsAtRest new.stage) (n == 1) _ _ (goes_can old Label) (failed_can old Botched)
-hears_can old Rewind (Reply (Error n text)) false = failed_can old (Refused n)
-hears_can old Rewind (Reply (Done n)) true = by_test (λ out. (progress : Progress) × (new : Standing) × Becomes old out true progress new × IsAtRest new.stage) (n == 1) _ _ (failed_can old Botched) (failed_can old Botched)
-hears_can old Rewind (Reply (Error n text)) true = failed_can old (Refused n)
-hears_can old Label Noise more = failed_can old Botched
-hears_can old Label End more = failed_can old ConnectionEnded
-hears_can old Label (Reply (Data bytes)) more = failed_can old Botched
-hears_can old Label (Reply (Done n)) false = by_test (λ out. (progress : Progress) × (new : Standing) × Becomes old out false progress new × IsAtRest new.stage) (n == label_bytes) _ _ (next_can old ((checkpoint_of old.counts).1) false) (by_test (λ out. (progress : Progress) × (new : Standing) × Becomes old out false progress new × IsAtRest new.stage) (n == 0) _ _ (failed_can old ReelTooSmall) (failed_can old ShortWrite))
-hears_can old Label (Reply (Error n text)) false = by_test (λ out. (progress : Progress) × (new : Standing) × Becomes old out false progress new × IsAtRest new.stage) (n == ENOSPC) _ _ (failed_can old ReelTooSmall) (failed_can old (Refused n))
-hears_can old Label (Reply (Done n)) true = by_test (λ out. (progress : Progress) × (new : Standing) × Becomes old out true progress new × IsAtRest new.stage) (n == label_bytes) _ _ (next_can old ((checkpoint_of old.counts).1) true) (by_test (λ out. (progress : Progress) × (new : Standing) × Becomes old out true progress new × IsAtRest new.stage) (n == 0) _ _ (failed_can old ReelTooSmall) (failed_can old ShortWrite))
-hears_can old Label (Reply (Error n text)) true = by_test (λ out. (progress : Progress) × (new : Standing) × Becomes old out true progress new × IsAtRest new.stage) (n == ENOSPC) _ _ (failed_can old ReelTooSmall) (failed_can old (Refused n))
-hears_can old (Block number) Noise more = failed_can old Botched
-hears_can old (Block number) End more = failed_can old ConnectionEnded
-hears_can old (Block number) (Reply (Data bytes)) more = failed_can old Botched
-hears_can old (Block number) (Reply (Done n)) false = by_test (λ out. (progress : Progress) × (new : Standing) × Becomes old out false progress new × IsAtRest new.stage) (n == old.run.block_bytes) _ _ (next_can old (number + 1) false) (by_test (λ out. (progress : Progress) × (new : Standing) × Becomes old out false progress new × IsAtRest new.stage) (n == 0) _ _ (end_can old number false) (failed_can old ShortWrite))
-hears_can old (Block number) (Reply (Error n text)) false = by_test (λ out. (progress : Progress) × (new : Standing) × Becomes old out false progress new × IsAtRest new.stage) (n == ENOSPC) _ _ (end_can old number false) (failed_can old (Refused n))
-hears_can old (Block number) (Reply (Done n)) true = by_test (λ out. (progress : Progress) × (new : Standing) × Becomes old out true progress new × IsAtRest new.stage) (n == old.run.block_bytes) _ _ (next_can old (number + 1) true) (by_test (λ out. (progress : Progress) × (new : Standing) × Becomes old out true progress new × IsAtRest new.stage) (n == 0) _ _ (end_can old number true) (failed_can old ShortWrite))
-hears_can old (Block number) (Reply (Error n text)) true = by_test (λ out. (progress : Progress) × (new : Standing) × Becomes old out true progress new × IsAtRest new.stage) (n == ENOSPC) _ _ (end_can old number true) (failed_can old (Refused n))
-hears_can old (Mark next) Noise more = failed_can old Botched
-hears_can old (Mark next) End more = failed_can old ConnectionEnded
-hears_can old (Mark next) (Reply (Data bytes)) more = failed_can old Botched
-hears_can old (Mark next) (Reply (Done n)) false = by_test (λ out. (progress : Progress) × (new : Standing) × Becomes old out false progress new × IsAtRest new.stage) (n == 1) _ _ (goes_can old (Unload next)) (failed_can old Botched)
-hears_can old (Mark next) (Reply (Error n text)) false = failed_can old (Refused n)
-hears_can old (Mark next) (Reply (Done n)) true = by_test (λ out. (progress : Progress) × (new : Standing) × Becomes old out true progress new × IsAtRest new.stage) (n == 1) _ _ (failed_can old Botched) (failed_can old Botched)
-hears_can old (Mark next) (Reply (Error n text)) true = failed_can old (Refused n)
-hears_can old (Unload next) Noise more = failed_can old Botched
-hears_can old (Unload next) End more = failed_can old ConnectionEnded
-hears_can old (Unload next) (Reply (Data bytes)) more = failed_can old Botched
-hears_can old (Unload next) (Reply (Done n)) false = by_test (λ out. (progress : Progress) × (new : Standing) × Becomes old out false progress new × IsAtRest new.stage) (n == 1) _ _ (counted_can old next false) (failed_can old Botched)
-hears_can old (Unload next) (Reply (Error n text)) false = failed_can old (Refused n)
-hears_can old (Unload next) (Reply (Done n)) true = by_test (λ out. (progress : Progress) × (new : Standing) × Becomes old out true progress new × IsAtRest new.stage) (n == 1) _ _ (counted_can old next true) (failed_can old Botched)
-hears_can old (Unload next) (Reply (Error n text)) true = failed_can old (Refused n)
+hears_can old Rewind (Reply (Done n)) false = by_test (λ out. Becomes old out false) (n == 1) _ _ (goes_can old Label) (failed_can old Botched)
+hears_can old Rewind (Reply (Done n)) true = by_test (λ out. Becomes old out true) (n == 1) _ _ (failed_can old Botched) (failed_can old Botched)
+hears_can old Label (Reply (Done n)) false = by_test (λ out. Becomes old out false) (n == label_bytes) _ _ (next_can old ((checkpoint_of old.counts).1) false) (by_test (λ out. Becomes old out false) (n == 0) _ _ (failed_can old ReelTooSmall) (failed_can old ShortWrite))
+hears_can old Label (Reply (Error n text)) false = by_test (λ out. Becomes old out false) (n == ENOSPC) _ _ (failed_can old ReelTooSmall) (failed_can old (Refused n))
+hears_can old Label (Reply (Done n)) true = by_test (λ out. Becomes old out true) (n == label_bytes) _ _ (next_can old ((checkpoint_of old.counts).1) true) (by_test (λ out. Becomes old out true) (n == 0) _ _ (failed_can old ReelTooSmall) (failed_can old ShortWrite))
+hears_can old Label (Reply (Error n text)) true = by_test (λ out. Becomes old out true) (n == ENOSPC) _ _ (failed_can old ReelTooSmall) (failed_can old (Refused n))
+hears_can old (Block number) (Reply (Done n)) false = by_test (λ out. Becomes old out false) (n == old.run.block_bytes) _ _ (next_can old (number + 1) false) (by_test (λ out. Becomes old out false) (n == 0) _ _ (end_can old number false) (failed_can old ShortWrite))
+hears_can old (Block number) (Reply (Error n text)) false = by_test (λ out. Becomes old out false) (n == ENOSPC) _ _ (end_can old number false) (failed_can old (Refused n))
+hears_can old (Block number) (Reply (Done n)) true = by_test (λ out. Becomes old out true) (n == old.run.block_bytes) _ _ (next_can old (number + 1) true) (by_test (λ out. Becomes old out true) (n == 0) _ _ (end_can old number true) (failed_can old ShortWrite))
+hears_can old (Block number) (Reply (Error n text)) true = by_test (λ out. Becomes old out true) (n == ENOSPC) _ _ (end_can old number true) (failed_can old (Refused n))
+hears_can old (Mark next) (Reply (Done n)) false = by_test (λ out. Becomes old out false) (n == 1) _ _ (goes_can old (Unload next)) (failed_can old Botched)
+hears_can old (Mark next) (Reply (Done n)) true = by_test (λ out. Becomes old out true) (n == 1) _ _ (failed_can old Botched) (failed_can old Botched)
+hears_can old (Unload next) (Reply (Done n)) false = by_test (λ out. Becomes old out false) (n == 1) _ _ (counted_can old next false) (failed_can old Botched)
+hears_can old (Unload next) (Reply (Done n)) true = by_test (λ out. Becomes old out true) (n == 1) _ _ (counted_can old next true) (failed_can old Botched)
 hears_can old Close Noise more = ended_can old
 hears_can old Close End more = ended_can old
 hears_can old Close (Reply (Data bytes)) more = ended_can old
@@ -161,16 +138,16 @@ hears_can old Close (Reply (Done n)) false = ended_can old
 hears_can old Close (Reply (Error n text)) false = ended_can old
 hears_can old Close (Reply (Done n)) true = ended_can old
 hears_can old Close (Reply (Error n text)) true = ended_can old
+hears_can old step End more = failed_can old ConnectionEnded
+hears_can old step (Reply (Error n text)) more = failed_can old (Refused n)
+hears_can old step heard more = failed_can old Botched
 
 -- The connection ends.
 pub cut_can : (old : Standing) (stage : Stage) → IsTrue (is_in_attempt stage)
     → (progress : Progress) × (new : Standing) × CutAt stage old progress new × IsAtRest new.stage
 cut_can old (ToSend step) under = hears_can old step End false
 cut_can old (Waiting step) under = hears_can old step End false
-cut_can old Ready under = absurd cc
-cut_can old Asking under = absurd cc
-cut_can old Finished under = absurd cc
-cut_can old Abandoned under = absurd cc
+cut_can old stage under = absurd cc
 
 -- few bytes that a client waits for were fed: it waits on, or is at rest
 pub waits_can : SomeAnswer → (old : Standing) (step : Step) (fed piece : List ℕ) → length (fed ++ piece) < 255
@@ -203,10 +180,8 @@ waits_can g old step fed piece short = of_answer (g (Some Number) (fed ++ piece)
 
 -- a reader of which nothing was fed waits for a reply
 nothing_said : (text rest : List ℕ) (reply : PlainReply) → [] ≡ text ++ rest → SpellsReply text reply Number → ⊥
-nothing_said [] rest (Done n) is (number, spelled, same) = cc
 nothing_said [] rest (Data bytes) is spelled = spelled
-nothing_said [] rest (Error n text) is (number, line, one, two, three, same) = cc
-nothing_said (b ∷ text) rest reply is spelled = cc
+nothing_said x rest reply is y = cc
 
 not_empty : (seen later : List ℕ) (byte : ℕ) → [] ≡ seen ++ byte ∷ later → ⊥
 not_empty [] later byte is = cc

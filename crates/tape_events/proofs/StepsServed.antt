@@ -4,7 +4,7 @@ use Rattle.std.specs.Prelude.{slice_index_or}
 use Rattle.std.specs.Str.{bytes_eq}
 use Rattle.std.proofs.lemmas.Slice.Eq.{bytes_eq-Decides}
 use Rattle.rmt_wire.specs.Request.{PlainRequest}
-use Rattle.rmt_wire.specs.Request.PlainRequest.{Open, Close, Write, WriteDropped, Read, Op}
+use Rattle.rmt_wire.specs.Request.PlainRequest.{Open, Close, Op}
 use Rattle.rmt_wire.specs.Reply.{PlainReply}
 use Rattle.rmt_wire.specs.Reply.PlainReply.{Done}
 use Rattle.tape.specs.Tape.{PlainEntry, Tape, TapeRequest, TapeAnswer, TapeStep, Passes, SpaceStep, tape, entries_of, offset_of, stands_at}
@@ -36,9 +36,7 @@ or_above (suc a) (suc b) = elim (or_above a b) [
 
 none_or_set : (t : Trouble) → (t ≡ trouble.None) ⊎ ((t ≢ trouble.None) × IsTrue (is_set t))
 none_or_set trouble.None = inl refl
-none_or_set trouble.Kept = inr (λ e. cc, refl)
-none_or_set trouble.Lost = inr (λ e. cc, refl)
-none_or_set (trouble.Written n) = inr (λ e. cc, refl)
+none_or_set x = inr (λ e. cc, refl)
 
 -- a call of a tape has an answer
 CanCall : ℕ → Trouble → Tape → TapeRequest → Type 0
@@ -150,20 +148,12 @@ is_call request = true
 idle_refused : (request : PlainRequest) → is_call request ≡ true → refusal (status_of Idle) request ≡ None → ⊥
 unfolding is_call
 idle_refused (Open device mode) is none = cc
-idle_refused Close is none = cc
-idle_refused (Write bytes) is none = cc
-idle_refused (WriteDropped count) is none = cc
-idle_refused (Read count) is none = cc
-idle_refused (Op op count) is none = cc
+idle_refused request is none = cc
 
 away_refused : (request : PlainRequest) (d : ℕ) (access : Access) → is_call request ≡ true → refusal (status_of (Offline d access)) request ≡ None → ⊥
 unfolding is_call
 away_refused (Open device mode) d access is none = cc
-away_refused Close d access is none = cc
-away_refused (Write bytes) d access is none = cc
-away_refused (WriteDropped count) d access is none = cc
-away_refused (Read count) d access is none = cc
-away_refused (Op op count) d access is none = cc
+away_refused request d access is none = cc
 
 has_reel : (session : PlainSession) (request : PlainRequest) → is_call request ≡ true → refusal (status_of session) request ≡ None
     → (d : ℕ) × (access : Access) × (reel : PlainReel) × (session ≡ Online d access reel)
@@ -182,12 +172,10 @@ done_can : (set : Trouble) (before : Scene) (request : PlainRequest) → refusal
 unfolding is_call
 done_can set before (Open device mode) none is = absurd cc
 done_can set before Close none is = (Done 0, closed before, (refl, refl))
-done_can set before (Write bytes) none is = call_can set before (Write bytes) refl none
-done_can set before (WriteDropped count) none is = call_can set before (WriteDropped count) refl none
-done_can set before (Read count) none is = call_can set before (Read count) refl none
 done_can set before (Op op count) none is =
     let r = has_reel before.session (Op op count) refl none in
     op_can (is_offline op) set before op count r.0 r.1 r.2 r.3
+done_can set before request none is = call_can set before request refl none
 
 refused_can : {R : Type 0} (says : R → PlainReply) (set : Trouble) (before : Scene) (request : PlainRequest) (o : Option R)
     → (o ≡ None → (reply : PlainReply) × (after : Scene) × TroubledDoneStep set before request reply after)
@@ -263,8 +251,4 @@ open_can set holders before device (Some access) = named_can (find_named device 
 pub serve_can : (set : Trouble) (holders : List ℕ) (before : Scene) (request : PlainRequest)
     → (reply : PlainReply) × (after : Scene) × TroubledServeStep set holders before request reply after
 serve_can set holders before (Open device mode) = open_can set (with_holder (drive_in before.session) 0 holders) (closed before) device (access_of mode)
-serve_can set holders before Close = refused_can refused set before Close _ (λ none. done_can set before Close none refl)
-serve_can set holders before (Write bytes) = refused_can refused set before (Write bytes) _ (λ none. done_can set before (Write bytes) none refl)
-serve_can set holders before (WriteDropped count) = refused_can refused set before (WriteDropped count) _ (λ none. done_can set before (WriteDropped count) none refl)
-serve_can set holders before (Read count) = refused_can refused set before (Read count) _ (λ none. done_can set before (Read count) none refl)
-serve_can set holders before (Op op count) = refused_can refused set before (Op op count) _ (λ none. done_can set before (Op op count) none refl)
+serve_can set holders before request = refused_can refused set before request _ (λ none. done_can set before request none refl)

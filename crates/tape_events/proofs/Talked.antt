@@ -18,25 +18,25 @@ use Rattle.dump_client.specs.declared.step.Step.TheVariants.{Open, Rewind, Label
 use Rattle.dump_client.specs.declared.stage.Stage.TheVariants.{ToSend}
 use Rattle.dump_client.specs.declared.stage.Progress.{Progress}
 use Rattle.dump_client.specs.declared.stage.Progress.TheVariants as moved
-use Rattle.tape_events.specs.World.{World, Link, Dumping, Begun, Caller, numbered}
+use Rattle.tape_events.specs.World.{World, Link, Dumping, Begun, Caller, numbered, Kept}
 use Rattle.tape_events.specs.Events.{PlainEvent}
-use Rattle.tape_events.specs.Events.PlainEvent.{StartRun, Connect, Send, ToServer, Serve, ToClient, Cut, EndAtServer, EndAtClient, ServerRestart, ClientRestart, Respond, Arrange, Stranger, Says, Enter}
-use Rattle.tape_events.specs.Changes.{changed, side_of, new_link, over_there, over_here, noted_sent, answered, sent_on, came_to, calm}
+use Rattle.tape_events.specs.Events.PlainEvent.{StartRun, Connect, Send, ToServer, Serve, ToClient, Cut, EndAtServer, EndAtClient, ServerRestart, ClientRestart, Respond, Arrange, Stranger, Says, Enter, Save}
+use Rattle.tape_events.specs.Changes.{changed, side_of, new_link, over_there, over_here, noted_sent, sent_on, came_to, calm}
 use Rattle.tape_events.specs.First.{PlainDriveSpec, AreGoodDrives, first_world}
-use Rattle.tape_events.specs.Steps.{Happens, Sends, Finds, Hears, SeesEnd, Runs, none, one_more, forgotten_from, sent_link, is_failing, fresh}
+use Rattle.tape_events.specs.Steps.{Happens, Sends, Finds, Hears, SeesEnd, Runs, none, one_more, forgotten_from, sent_link, is_failing, fresh, ComesBack}
 use Rattle.tape_events.specs.Kept.{IsWorldKept}
 use Rattle.tape_events.specs.Sending.{is_labelled, VolumeHasBlocks, request_in, IsAttempt, IsItsTurn, IsLinkToldAt}
-use Rattle.tape_events.specs.Serving.{IsNextSent}
+use Rattle.tape_events.specs.Serving.{ServerTurn, IsNextSent}
 use Rattle.tape_events.specs.Talk as talk
 use Rattle.tape_events.specs.Talk.{Talks, IsBeginning, Sent, CarriedOut, one_if_here, sent_here, carried_here}
-use Rattle.tape_events.proofs.Numbers.{changed_is, length_changed, pushed_is, numbered_within}
+use Rattle.tape_events.proofs.Numbers.{no_number, map_at, changed_is, pushed_is, numbered_within}
 use Rattle.tape_events.proofs.Held.{side_there}
 use Rattle.tape_events.proofs.Sent.{steps_len, one_if, before_length, raised_one, done_few}
 use Rattle.tape_events.proofs.SentServe.{noted_same}
 use Rattle.tape_events.proofs.SentWire.{OneReading, DroppedWrites}
-use Rattle.tape_events.proofs.ToldEvents.{map_at, mapped}
+use Rattle.tape_events.proofs.ToldEvents.{mapped}
 use Rattle.tape_events.proofs.ToldSends.{same_request}
-use Rattle.tape_events.proofs.LabelledEvents.{Brings, quiet, listens, serves, Serves, event_brings}
+use Rattle.tape_events.proofs.Moves.{Turn, turned, turn_of, carries_turn, links_more, begun_more, happened}
 use Rattle.tape_events.proofs.LabelledServes.{served_dump, served_step}
 use Rattle.tape_events.proofs.LabelledSingle.{carried_more}
 use Rattle.tape_events.proofs.RequestMeets.{next_request}
@@ -146,9 +146,7 @@ joined_dumped k xs new bare l d at is = elim (pushed_is xs new k l at) [
 came_dumped : (k : ℕ) (xs : List Link) (v : World) (j : ℕ) (at : Standing) (progress : Progress) → Dumped k xs v.links → Dumped k xs (came_to v j at progress).links
 came_dumped k xs v j at (moved.Failed fault) t = changed_dumped k xs v.links over_there j (λ x. refl) t
 came_dumped k xs v j at moved.Ended t = changed_dumped k xs v.links over_there j (λ x. refl) t
-came_dumped k xs v j at moved.Idle t = t
-came_dumped k xs v j at moved.Waiting t = t
-came_dumped k xs v j at moved.Send t = t
+came_dumped k xs v j at progress t = t
 
 -- by the world after it
 dumped_as : (k : ℕ) (w u v : World) → u ≡ v → Dumped k w.links v.links → Dumped k w.links u.links
@@ -168,6 +166,10 @@ sees_dumped (Some dump) k w j u (c, at, reader, progress, there, cuts, has, is) 
 forgotten_dumped : (k : ℕ) (w : World) (o : Option ℕ) → Dumped k w.links (forgotten_from (calm w) o).links
 forgotten_dumped k w None = same_dumped k w.links
 forgotten_dumped k w (Some j) = changed_dumped k w.links w.links over_there j (λ x. refl) (same_dumped k w.links)
+
+back_dumped : (k : ℕ) (w : World) (o : Option Kept) (u : World) → ComesBack o w u → Dumped k w.links u.links
+back_dumped k w None u is = dumped_as k w u _ is (forgotten_dumped k w w.own)
+back_dumped k w (Some z) u (b, at, reader, begun, over, is) = dumped_as k w u _ is (forgotten_dumped k w w.own)
 
 -- neither end makes a request of it
 abbrev IsStill : PlainEvent → Type 0
@@ -192,7 +194,8 @@ still_dumped k w (EndAtServer j) u still (may, is) =
     dumped_as k w u _ is (changed_dumped k w.links w.links over_here j (λ x. refl) (same_dumped k w.links))
 still_dumped k w (EndAtClient j) u still (may, (l, at, sees)) = sees_dumped l.dump k w j u sees
 still_dumped k w ServerRestart u still (may, is) = dumped_as k w u _ is (mapped_dumped k w.links over_here (λ x. refl))
-still_dumped k w ClientRestart u still (may, is) = dumped_as k w u _ is (forgotten_dumped k w w.own)
+still_dumped k w ClientRestart u still (may, back) = back_dumped k w w.kept u back
+still_dumped k w Save u still (may, (c, there, is)) = dumped_as k w u _ is (same_dumped k w.links)
 still_dumped k w (Respond answer) u still (may, (c, reader, there, asks, is)) = dumped_as k w u _ is (same_dumped k w.links)
 still_dumped k w (Arrange drive reels) u still (may, (d, named, is)) = dumped_as k w u _ is (same_dumped k w.links)
 still_dumped k w Stranger u still (may, is) =
@@ -211,10 +214,8 @@ record GoesOn (w u : World) : Type 0 where
   begun : (n : ℕ) (b : Begun) → numbered w.begun n ≡ Some b → numbered u.begun n ≡ Some b
   links : length w.links ≤ length u.links
 
-goes_on : (w u : World) → Brings w u → GoesOn w u
-goes_on w u (quiet q counts) = record { begun = q.begun; links = (let more = q.links.more in omega (arith, more)) }
-goes_on w u (listens q heard) = record { begun = q.begun; links = (let more = q.links.more in omega (arith, more)) }
-goes_on w u (serves v) = subst (GoesOn w) (sym v.is) record { begun = λ n b at. at; links = (let many = length_changed (answered v.request v.reply) w.links v.k in omega (arith, many)) }
+goes_on : (w : World) (event : PlainEvent) (u : World) → Happens w event u → GoesOn w u
+goes_on w event u happens = let m = happened w event u happens in subst (GoesOn w) (sym m.1) record { begun = begun_more w m.0; links = links_more w m.0 }
 
 next_on : (w u : World) (d : Dumping) (request : PlainRequest) → GoesOn w u → IsNextSent w d request → IsNextSent u d request
 next_on w u d request on n = record {
@@ -319,19 +320,19 @@ sends_talked false w u k j c b step sent carried more done kept on own there sta
     request = request_of c.at.run b.payload (checkpoint_of c.at.counts).0 (checkpoint_of c.at.counts).1 step
 
 -- the server carries the next request out
-serves_talked : OneReading → DroppedWrites → (w u : World) (v : Serves w u) (sent carried : List PlainRequest) → IsWorldKept w → GoesOn w u → IsTalked w v.k sent carried
-    → IsTalked u v.k sent (carried ++ v.request ∷ [])
-serves_talked g h w u v sent carried kept on t = record {
+serves_talked : OneReading → DroppedWrites → (w : World) (v : Turn w) (sent carried : List PlainRequest) → IsWorldKept w → GoesOn w (turned w v) → IsTalked w v.k sent carried
+    → IsTalked (turned w v) v.k sent (carried ++ v.request ∷ [])
+serves_talked g h w v sent carried kept on t = record {
   absent = λ past. (
       let within = numbered_within w.hall.sides v.k (Some v.s) (side_there w.hall v.k v.s v.live) in
       let paired = kept.tidy.paired in
       let more = on.links in
       absurd (omega (arith, within, paired, more, past)));
-  told = λ d (l, at, is). elim (served_dump w u v v.k l d at is) [
+  told = λ d (l, at, is). elim (served_dump w v v.k l d at is) [
     | inr (other, was) ↦ absurd (other refl)
     | inl (same, (x, e, was, its, new)) ↦
-        let p = served_step g h w u v kept.told x e was its in
-        let n = next_request g h w u v x e kept.told was its in
+        let p = served_step g h w v kept.told x e was its in
+        let n = next_request g h w v x e kept.told was its in
         let keeps = (noted_same e v.request v.reply).sent in
         let more = carried_more e v.request v.reply p.few in
         let next = n.sent in
@@ -351,36 +352,21 @@ finds_talked : OneReading → DroppedWrites → (w u : World) (k j : ℕ) (troub
 finds_talked g h w u k j trouble s (Ok None) bytes rest sent carried more done kept on live unread gives finds nothing some t = absurd finds
 finds_talked g h w u k j trouble s (Err fault) bytes rest sent carried more done kept on live unread gives is nothing some t =
     still_talked w u k sent carried more done on (dumped_as k w u _ is (changed_dumped k w.links w.links over_here j (λ x. refl) (same_dumped k w.links))) nothing some t
-finds_talked g h w u k j trouble s (Ok (Some request)) bytes rest sent carried more done kept on live unread gives (reply, reached, shop, session, holders, left, served, is) nothing
-    some t = elim (eqb_tells j k) [
-      | inr (unequal, other) ↦
-          still_talked w u k sent carried more done on (dumped_as k w u _ is (other_dumped k w.links _ j other)) nothing (some ∙ ap (λ e. one_if_here e request) unequal) t
-      | inl (equal, same) ↦
-          subst (λ m. IsTalked u k m (carried ++ done)) (sym (ap (λ m. sent ++ m) nothing ∙ append-nil sent))
-          (subst (λ m. IsTalked u k sent (carried ++ m)) (sym (some ∙ ap (λ e. one_if_here e request) equal))
-          (subst (λ i. IsTalked u i sent (carried ++ request ∷ [])) same (serves_talked g h w u v sent carried kept on (subst (λ i. IsTalked w i sent carried) (sym same) t))))
-    ]
+finds_talked g h w u k j trouble s (Ok (Some request)) bytes rest sent carried more done kept on live unread gives finds nothing some t = elim (eqb_tells j k) [
+  | inr (unequal, other) ↦
+      still_talked w u k sent carried more done on (dumped_as k w u _ c.is (other_dumped k w.links _ j other)) nothing (some ∙ ap (λ e. one_if_here e request) unequal) t
+  | inl (equal, same) ↦
+      let next = serves_talked g h w v sent carried kept (subst (GoesOn w) c.is on) (subst (λ i. IsTalked w i sent carried) (sym same) t) in
+      subst (λ m. IsTalked u k m (carried ++ done)) (sym (ap (λ m. sent ++ m) nothing ∙ append-nil sent))
+      (subst (λ m. IsTalked u k sent (carried ++ m)) (sym (some ∙ ap (λ e. one_if_here e request) equal))
+      (subst (λ i. IsTalked u i sent (carried ++ request ∷ [])) same (subst (λ x. IsTalked x j sent (carried ++ request ∷ [])) (sym c.is) next)))
+]
   where
-    v : Serves w u
-    v = record {
-      k = j;
-      trouble = trouble;
-      s = s;
-      request = request;
-      bytes = bytes;
-      rest = rest;
-      reply = reply;
-      reached = reached;
-      shop = shop;
-      session = session;
-      holders = holders;
-      live = live;
-      unread = unread;
-      gives = gives;
-      left = left;
-      served = served;
-      is = is;
-    }
+    c : ServerTurn w j trouble u
+    c = turn_of w j trouble s request bytes rest u live unread gives finds
+
+    v : Turn w
+    v = carries_turn w u j trouble c
 
 talked_after : OneReading → DroppedWrites → (w u : World) (event : PlainEvent) (k : ℕ) (sent carried more done : List PlainRequest) → IsWorldKept w → Happens w event u → GoesOn w u
     → Sent k w event more → CarriedOut k w event u done → IsTalked w k sent carried → IsTalked u k (sent ++ more) (carried ++ done)
@@ -403,18 +389,14 @@ talked_after g h w u event k sent carried more done kept happens on some nothing
     still_talked w u k sent carried more done on (still_dumped k w event u tt happens) some nothing t
 
 -- after every list of events
-no_link : (k : ℕ) (l : Link) → numbered [] k ≡ Some l → ⊥
-no_link zero l is = cc
-no_link (suc k) l is = cc
-
 talks_kept : Laws → (k : ℕ) (drives : List PlainDriveSpec) (w : World) (events : List PlainEvent) (sent carried : List PlainRequest) → AreGoodDrives drives
     → Talks k (first_world drives) events w sent carried → IsWorldKept w × IsTalked w k sent carried
 talks_kept g k drives w events sent carried good talk.none =
-    (first_kept drives good, record { absent = λ past. (refl, refl); told = λ d (l, at, is). absurd (no_link k l at) })
+    (first_kept drives good, record { absent = λ past. (refl, refl); told = λ d (l, at, is). absurd (no_number k l at) })
 talks_kept g k drives w events sent carried good (talk.one_more {before = before} {sent = old} {carried = was} event more done talks happens asks does) =
     let t = talks_kept g k drives before _ old was good talks in (
       kept_after g before w event t.0 happens,
-      talked_after g.reading g.dropped before w event k old was more done t.0 happens (goes_on before w (event_brings before event w happens t.0.held)) asks does t.1,
+      talked_after g.reading g.dropped before w event k old was more done t.0 happens (goes_on before event w happens) asks does t.1,
     )
 
 pub requests : Laws → (k : ℕ) (drives : List PlainDriveSpec) (w : World) (events : List PlainEvent) (sent carried : List PlainRequest) → AreGoodDrives drives

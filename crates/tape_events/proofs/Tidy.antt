@@ -1,25 +1,16 @@
 -- Connections of which a side is over are cut, and lose what is on the way, whatever happens.
-use Rattle.std.proofs.Common.{◌≡◌, ℕ, zero, suc, ◌+◌, Bool, true, false, List, [], ◌∷◌, ◌++◌, length, map, drop, Option, Some, None, Result, Ok, Err, refl, sym, ap, subst, ◌∙◌, inl, inr, arith}
+use Rattle.std.proofs.Common.{◌≡◌, ℕ, zero, suc, ◌+◌, Bool, true, false, List, [], ◌∷◌, ◌++◌, length, map, drop, Option, Some, None, refl, sym, ap, subst, ◌∙◌, inl, inr, arith}
 use Rattle.std.specs.Prelude.{option_and_then}
 use Rattle.std.proofs.lemmas.List.{length-map, length-append}
-use Rattle.std.proofs.lemmas.Option.{same_Some}
-use Rattle.rmt_wire.specs.Request.{PlainRequest}
 use Rattle.rmt_wire.specs.RequestReader.{held}
-use Rattle.rmt_wire.specs.declared.fault.WireFault.{WireFault}
-use Rattle.tape.specs.declared.trouble.Trouble.{Trouble}
 use Rattle.rmt_server.specs.Hall.{Hall, Side, side}
 use Rattle.rmt_server.specs.Session.PlainSession.{Idle}
-use Rattle.dump_client.specs.Standing.{Standing}
-use Rattle.dump_client.specs.declared.step.Step.{Step}
-use Rattle.dump_client.specs.declared.stage.Progress.{Progress}
-use Rattle.dump_client.specs.declared.stage.Progress.TheVariants.{Idle as Resting, Waiting, Send as Sends, Failed, Ended}
-use Rattle.tape_events.specs.World.{World, Link, Dumping, Caller, numbered, with_numbered}
-use Rattle.tape_events.specs.Events.{PlainEvent}
-use Rattle.tape_events.specs.Events.PlainEvent.{StartRun, Connect, Send, ToServer, Serve, ToClient, Cut, EndAtServer, EndAtClient, ServerRestart, ClientRestart, Respond, Arrange, Stranger, Says, Enter}
-use Rattle.tape_events.specs.Changes.{changed, side_of, calm, new_link, with_side, sent_on, over_there, over_here, ended_from, ended, all_ended, answered, came_to}
-use Rattle.tape_events.specs.Steps.{Happens, Sends as SendsAt, Finds, Hears, SeesEnd, sent_link, forgotten_from}
+use Rattle.tape_events.specs.World.{World, Link, Dumping, numbered, with_numbered}
+use Rattle.tape_events.specs.Changes.{changed, side_of, new_link, with_side, sent_on, over_there, over_here, ended_from, ended, all_ended, answered}
+use Rattle.tape_events.specs.Steps.{sent_link, next_text}
 use Rattle.tape_events.specs.Kept.{IsTidy, AreTidy}
-use Rattle.tape_events.proofs.Numbers.{with_here, with_other, length_with, changed_is, length_changed, pushed_is, numbered_more, numbered_last, numbered_within, numbered_there, numbered_first}
+use Rattle.tape_events.proofs.Moves.{Talking, says, drops, leaves, talked, Move, connects, asks, fails, reaches, serves, ends, restarts, cuts, talks, hears, hears_last, sees, gives_up, joins, moved}
+use Rattle.tape_events.proofs.Numbers.{map_at, with_here, with_other, length_with, changed_is, length_changed, pushed_is, numbered_more, numbered_last, numbered_within, numbered_there, numbered_first}
 
 -- a change of a connection that leaves it tidy, beside whatever side
 abbrev pub KeepsTidy : (Link → Link) → Type 0
@@ -57,9 +48,6 @@ over_there_tidy s l t = record { here = λ e. refl; there = λ e. refl; nothing 
 
 sent_nothing : (cut : Bool) (way bytes : List ℕ) → cut ≡ true → sent_on cut way bytes ≡ way
 sent_nothing cut way bytes is = ap (λ c. sent_on c way bytes) is
-
-said_tidy : (bytes : List ℕ) → KeepsTidy (λ l. record l { toward = sent_on l.cut l.toward bytes })
-said_tidy bytes s l t = record { here = t.here; there = t.there; nothing = λ e. sent_nothing l.cut l.toward bytes (t.here e) ∙ t.nothing e }
 
 sent_tidy : (text : List ℕ) → KeepsTidy (sent_link text)
 sent_tidy text s l t = record { here = t.here; there = t.there; nothing = λ e. sent_nothing l.cut l.toward text (t.here e) ∙ t.nothing e }
@@ -112,21 +100,11 @@ all_ended_length : (h : Hall) (n : ℕ) → length (all_ended h n).sides ≡ len
 all_ended_length h zero = refl
 all_ended_length h (suc n) = ended_length (all_ended h n) (suc n) (side_of (all_ended h n) (suc n)) ∙ all_ended_length h n
 
--- a member of a mapped list
-map_get : (xs : List Link) (m : ℕ) (y : Link) → numbered (map over_here xs) (suc m) ≡ Some y → (x : Link) × (y ≡ over_here x)
-map_get [] m y is = absurd cc
-map_get (x ∷ xs) zero y is = (x, same_Some y (over_here x) (sym is))
-map_get (x ∷ xs) (suc m) y is = map_get xs m y is
-
-map_is : (xs : List Link) (k : ℕ) (y : Link) → numbered (map over_here xs) k ≡ Some y → (x : Link) × (y ≡ over_here x)
-map_is xs zero y is = absurd cc
-map_is xs (suc m) y is = map_get xs m y is
-
 restarted_tidy : (w u : World) → u.hall.sides ≡ (all_ended w.hall (length w.hall.sides)).sides → u.links ≡ map over_here w.links → AreTidy w → AreTidy u
 restarted_tidy w u sides links t = record {
   paired = ap length sides ∙ all_ended_length w.hall (length w.hall.sides) ∙ t.paired ∙ sym (ap length links ∙ length-map w.links over_here);
-  each = λ j l at. (let found = map_is w.links j l (ap (λ ls. numbered ls j) (sym links) ∙ at) in
-      subst (λ y. IsTidy (side_of u.hall j) y) (sym found.1) (over_here_tidy (side_of u.hall j) found.0));
+  each = λ j l at. (let found = map_at over_here w.links j l (ap (λ ls. numbered ls j) (sym links) ∙ at) in
+      subst (λ y. IsTidy (side_of u.hall j) y) (sym found.2) (over_here_tidy (side_of u.hall j) found.0));
 }
 
 -- a connection more
@@ -150,58 +128,26 @@ joined_tidy w u dump sides links t = record {
       ]);
 }
 
--- what comes of the client's call
-came_to_tidy : (w : World) (k : ℕ) (at : Standing) (progress : Progress) → AreTidy w → AreTidy (came_to w k at progress)
-came_to_tidy w k at (Failed fault) t = changed_tidy over_there over_there_tidy w _ k refl refl t
-came_to_tidy w k at Ended t = changed_tidy over_there over_there_tidy w _ k refl refl t
-came_to_tidy w k at Resting t = t
-came_to_tidy w k at Waiting t = t
-came_to_tidy w k at Sends t = t
+-- what happens on a stranger's connection
+talked_tidy : (t : Talking) → KeepsTidy (talked t)
+talked_tidy (says bytes) s l t = record { here = t.here; there = t.there; nothing = λ e. sent_nothing l.cut l.toward bytes (t.here e) ∙ t.nothing e }
+talked_tidy (drops n) s l t = record { here = t.here; there = t.there; nothing = t.nothing }
+talked_tidy leaves s l t = over_there_tidy s l t
 
-hears_tidy : (o : Option Dumping) (w : World) (k n : ℕ) (piece : List ℕ) (u : World) → Hears o w k n piece u → AreTidy w → AreTidy u
-hears_tidy None w k n piece u is t = changed_tidy (λ l. record l { back = drop n l.back }) (heard_tidy n) w u k (ap (λ x. x.hall.sides) is) (ap (λ x. x.links) is) t
-hears_tidy (Some dump) w k n piece u (c, fed, at, reader, progress, there, had, feeds, has, is) t =
-    subst AreTidy (sym is)
-    (came_to_tidy _ k at progress (changed_tidy (λ l. record l { back = drop n l.back }) (heard_tidy n) w _ k refl refl t))
-
-sees_tidy : (o : Option Dumping) (w : World) (k : ℕ) (u : World) → SeesEnd o w k u → AreTidy w → AreTidy u
-sees_tidy None w k u is t = changed_tidy over_there over_there_tidy w u k (ap (λ x. x.hall.sides) is) (ap (λ x. x.links) is) t
-sees_tidy (Some dump) w k u (c, at, reader, progress, there, cuts, has, is) t =
-    subst AreTidy (sym is) (came_to_tidy _ k at progress (changed_tidy over_there over_there_tidy w _ k refl refl t))
-
-sends_tidy : (failing : Bool) (w : World) (k : ℕ) (c : Caller) (payload : List (List ℕ)) (step : Step) (u : World) → SendsAt failing w k c payload step u
-    → AreTidy w → AreTidy u
-sends_tidy true w k c payload step u (reader, is) t = changed_tidy over_there over_there_tidy w u k (ap (λ x. x.hall.sides) is) (ap (λ x. x.links) is) t
-sends_tidy false w k c payload step u (reader, has, is) t = changed_tidy (sent_link _) (sent_tidy _) w u k (ap (λ x. x.hall.sides) is) (ap (λ x. x.links) is) t
-
-finds_tidy : (w : World) (k : ℕ) (trouble : Trouble) (s : Side) (found : Result (Option PlainRequest) WireFault) (rest : List ℕ) (u : World)
-    → side_of w.hall k ≡ Some s → Finds w k trouble s found rest u → AreTidy w → AreTidy u
-finds_tidy w k trouble s (Ok None) rest u live finds t = absurd finds
-finds_tidy w k trouble s (Ok (Some request)) rest u live (reply, reached, shop, session, holders, unread, served, is) t =
-    side_tidy (answered request reply) (λ l there. there) w u k s (side reached session) live (ap (λ x. x.hall.sides) is) (ap (λ x. x.links) is) t
-finds_tidy w k trouble s (Err fault) rest u live is t = ended_tidy w u k (ap (λ x. x.hall.sides) is) (ap (λ x. x.links) is) t
-
-forgotten_tidy : (w : World) (o : Option ℕ) → AreTidy w → AreTidy (record (forgotten_from (calm w) o) { caller = None })
-forgotten_tidy w None t = same_tidy w _ refl refl t
-forgotten_tidy w (Some k) t = changed_tidy over_there over_there_tidy w _ k refl refl t
-
--- the worlds of which all is said by what they are
-pub tidy_after : (w : World) (event : PlainEvent) (u : World) → Happens w event u → AreTidy w → AreTidy u
-tidy_after w (StartRun run payload) u (may, (reader, is)) t = same_tidy w u (ap (λ x. x.hall.sides) is) (ap (λ x. x.links) is) t
-tidy_after w Connect u (may, (c, there, ready, is)) t = joined_tidy w u _ (ap (λ x. x.hall.sides) is) (ap (λ x. x.links) is) t
-tidy_after w (Send fails) u (may, (c, step, k, b, there, stage, own, begun, sends)) t = sends_tidy _ w k c b.payload step u sends t
-tidy_after w (ToServer k n) u (may, (s, l, reached, live, at, grows, is)) t =
-    side_tidy (λ x. record x { toward = drop n x.toward }) (λ x there. there) w u k s (side reached s.session) live (ap (λ x. x.hall.sides) is) (ap (λ x. x.links) is) t
-tidy_after w (Serve k trouble) u (may, (s, found, bytes, rest, live, unread, gives, finds)) t = finds_tidy w k trouble s found rest u live finds t
-tidy_after w (ToClient k n) u (may, (l, at, hears)) t = hears_tidy l.dump w k n _ u hears t
-tidy_after w (Cut k) u (may, is) t = changed_tidy (λ l. record l { cut = true }) cut_tidy w u k (ap (λ x. x.hall.sides) is) (ap (λ x. x.links) is) t
-tidy_after w (EndAtServer k) u (may, is) t = ended_tidy w u k (ap (λ x. x.hall.sides) is) (ap (λ x. x.links) is) t
-tidy_after w (EndAtClient k) u (may, (l, at, sees)) t = sees_tidy l.dump w k u sees t
-tidy_after w ServerRestart u (may, is) t = restarted_tidy w u (ap (λ x. x.hall.sides) is) (ap (λ x. x.links) is) t
-tidy_after w ClientRestart u (may, is) t = subst AreTidy (sym is) (forgotten_tidy w w.own t)
-tidy_after w (Respond answer) u (may, (c, reader, there, asks, is)) t = same_tidy w u (ap (λ x. x.hall.sides) is) (ap (λ x. x.links) is) t
-tidy_after w (Arrange drive reels) u (may, (d, named, is)) t = same_tidy w u (ap (λ x. x.hall.sides) is) (ap (λ x. x.links) is) t
-tidy_after w Stranger u (may, is) t = joined_tidy w u None (ap (λ x. x.hall.sides) is) (ap (λ x. x.links) is) t
-tidy_after w (Says k bytes) u (may, is) t =
-    changed_tidy (λ l. record l { toward = sent_on l.cut l.toward bytes }) (said_tidy bytes) w u k (ap (λ x. x.hall.sides) is) (ap (λ x. x.links) is) t
-tidy_after w Enter u (may, (c, there, is)) t = same_tidy w u (ap (λ x. x.hall.sides) is) (ap (λ x. x.links) is) t
+pub tidy_moved : (w : World) (m : Move w) → AreTidy w → AreTidy (moved w m)
+tidy_moved w (connects c there ready) t = joined_tidy w _ _ refl refl t
+tidy_moved w joins t = joined_tidy w _ None refl refl t
+tidy_moved w (asks a) t = changed_tidy (sent_link (next_text a.c a.b.payload a.step)) (sent_tidy _) w _ a.k refl refl t
+tidy_moved w (fails k n c reader there stage own) t = changed_tidy over_there over_there_tidy w _ k refl refl t
+tidy_moved w (reaches k n s l reached live at grows) t =
+    side_tidy (λ x. record x { toward = drop n x.toward }) (λ x there. there) w _ k s (side reached s.session) live refl refl t
+tidy_moved w (serves v) t = side_tidy (answered v.request v.reply) (λ l there. there) w _ v.k v.s (side v.reached v.session) v.live refl refl t
+tidy_moved w (ends k) t = ended_tidy w _ k refl refl t
+tidy_moved w restarts t = restarted_tidy w _ refl refl t
+tidy_moved w (cuts k) t = changed_tidy (λ l. record l { cut = true }) cut_tidy w _ k refl refl t
+tidy_moved w (talks k l a at none) t = changed_tidy (talked a) (talked_tidy a) w _ k refl refl t
+tidy_moved w (hears a on) t = changed_tidy (λ l. record l { back = drop a.n l.back }) (heard_tidy a.n) w _ a.k refl refl t
+tidy_moved w (hears_last a failure over) t = changed_tidy over_there over_there_tidy w _ a.k refl refl t
+tidy_moved w (sees a failure) t = changed_tidy over_there over_there_tidy w _ a.k refl refl t
+tidy_moved w (gives_up x k own) t = changed_tidy over_there over_there_tidy w _ k refl refl t
+tidy_moved w m t = same_tidy w _ refl refl t

@@ -1,44 +1,38 @@
 -- What is told of each connection, when the client hears.
-use Rattle.std.proofs.Common.{◌≡◌, ◌≢◌, ℕ, ◌+◌, ◌-◌, ◌≤◌, false, List, [], ◌∷◌, ◌++◌, length, length-append, append_assoc, take, drop, Option, Some, None, Result, Ok, Err, IsTrue, refl, sym, ap, subst, ◌∙◌, inl, inr, arith}
+use Rattle.std.proofs.Common.{◌≡◌, ◌≢◌, ℕ, ◌+◌, ◌-◌, ◌≤◌, false, List, [], ◌∷◌, ◌++◌, length, length-append, take, drop, Option, Some, refl, sym, ap, subst, ◌∙◌, inl, inr, arith}
 use Rattle.std.proofs.lemmas.Option.{same_Some}
-use Rattle.std.proofs.lemmas.List.{append-nil, take-append-drop, take_at}
-use Rattle.rmt_wire.specs.Reply.{PlainReply, SpellsReply, reply_text}
+use Rattle.std.proofs.lemmas.List.{append-nil, take_at}
+use Rattle.rmt_wire.specs.Reply.{PlainReply, SpellsReply}
 use Rattle.rmt_wire.specs.Reply.PlainReply.{Done, Data, Error}
 use Rattle.rmt_wire.specs.Reply.Wanted.{Number}
-use Rattle.rmt_wire.specs.ReplyParts.{ReplyGives}
 use Rattle.rmt_wire.specs.ReplyReader.{ReplyHeld}
-use Rattle.rmt_wire.specs.declared.fault.WireFault.{WireFault}
 use Rattle.rmt_server.specs.Hall.{Side}
 use Rattle.dump_run.specs.Run.{PlainRun}
 use Rattle.dump_client.specs.Position.Heard.{Reply}
-use Rattle.dump_client.specs.Standing.{Standing, checkpoint_of, count_to, HearsAt, FedAt, Makes, IsOver}
-use Rattle.dump_client.specs.Listening.{is_more}
+use Rattle.dump_client.specs.Standing.{Standing, checkpoint_of, count_to, HearsAt, FedAt, IsOver}
 use Rattle.dump_client.specs.Lawful.{attempt_at}
 use Rattle.dump_client.specs.Client.{HasFedAt, unanswered}
-use Rattle.dump_client.specs.declared.count.VolumeCount.{VolumeCount}
+use Rattle.dump_run.specs.declared.count.VolumeCount.{VolumeCount}
 use Rattle.dump_client.specs.declared.step.Step.{Step}
-use Rattle.dump_client.specs.declared.step.Step.TheVariants.{Open, Rewind, Label, Block, Mark, Unload, Close}
+use Rattle.dump_client.specs.declared.step.Step.TheVariants.{Close}
 use Rattle.dump_client.specs.declared.stage.Stage.{Stage}
-use Rattle.dump_client.specs.declared.stage.Stage.TheVariants.{Ready, ToSend, Waiting, Asking, Finished, Abandoned}
+use Rattle.dump_client.specs.declared.stage.Stage.TheVariants.{Ready, ToSend, Waiting, Finished}
 use Rattle.dump_client.specs.declared.stage.Progress.{Progress}
 use Rattle.tape_events.specs.World.{World, Link, Dumping, Begun, Caller}
-use Rattle.tape_events.specs.Changes.{changed, side_of, link_of, calm, counted_from}
-use Rattle.tape_events.specs.Steps.{Hears, caller}
+use Rattle.tape_events.specs.Changes.{side_of}
+use Rattle.tape_events.specs.Steps.{caller}
 use Rattle.tape_events.specs.Owning.{IsOwned}
 use Rattle.tape_events.specs.Sending.{GoesTo, AreCounted, LeadsOn, IsBrief, IsStepReply, IsAttempt, IsStepReplied, IsLinkToldAt, AreTold}
-use Rattle.tape_events.proofs.SentWire.{OneReply, one_heard, reply_whole, reply_no_fault}
+use Rattle.tape_events.proofs.SentWire.{OneReply}
+use Rattle.tape_events.proofs.Pieces.{HearsPiece, waits, whole, hearing}
 use Rattle.tape_events.proofs.ToldMoves.{changed_told}
-use Rattle.tape_events.proofs.ToldEvents.{came_told}
+use Rattle.tape_events.proofs.Moves as move
+use Rattle.tape_events.proofs.Moves.{Listens, is_over}
 
 -- the checkpoint of an attempt before its close, and at the close of what is counted then
 pub open_attempt : (counts : List VolumeCount) (step : Step) → step ≢ Close → attempt_at step counts ≡ checkpoint_of counts
-open_attempt counts Open other = refl
-open_attempt counts Rewind other = refl
-open_attempt counts Label other = refl
-open_attempt counts (Block number) other = refl
-open_attempt counts (Mark next) other = refl
-open_attempt counts (Unload next) other = refl
 open_attempt counts Close other = absurd (other refl)
+open_attempt counts step other = refl
 
 pushed_attempt : (counts : List VolumeCount) (x : VolumeCount) → attempt_at Close (counts ++ x ∷ []) ≡ checkpoint_of counts
 pushed_attempt counts x =
@@ -47,13 +41,8 @@ pushed_attempt counts x =
     ap (λ n. checkpoint_of (take n (counts ++ x ∷ []))) same ∙ ap checkpoint_of (take_at counts (x ∷ []) (length counts) refl)
 
 next_attempt : (counts new : List VolumeCount) (d : Dumping) (next : Step) → AreCounted next counts d new → attempt_at next new ≡ checkpoint_of counts
-next_attempt counts new d Open is = ap checkpoint_of is
-next_attempt counts new d Rewind is = ap checkpoint_of is
-next_attempt counts new d Label is = ap checkpoint_of is
-next_attempt counts new d (Block number) is = ap checkpoint_of is
-next_attempt counts new d (Mark end) is = ap checkpoint_of is
-next_attempt counts new d (Unload end) is = ap checkpoint_of is
 next_attempt counts new d Close is = ap (attempt_at Close) is ∙ pushed_attempt counts (count_to (checkpoint_of counts) (d.first + d.blocks))
+next_attempt counts new d step is = ap checkpoint_of is
 
 -- behind the close the client goes on to no step
 over_stage : (run : PlainRun) (counts : List VolumeCount) (new : Standing) (next : Step) → IsOver run counts new → new.stage ≡ ToSend next → ⊥
@@ -97,18 +86,15 @@ whole_stage begun o l c d step b reader new way bytes reply progress (ToSend nex
     )
 whole_stage begun o l c d step b reader new way bytes reply progress (Waiting other) at has spelled hears leads replied attempt none =
     absurd (has.begun.1 bytes [] reply (sym (append-nil bytes)) spelled)
-whole_stage begun o l c d step b reader new way bytes reply progress Ready at has spelled hears leads replied attempt none = tt
-whole_stage begun o l c d step b reader new way bytes reply progress Asking at has spelled hears leads replied attempt none = tt
-whole_stage begun o l c d step b reader new way bytes reply progress Finished at has spelled hears leads replied attempt none = tt
-whole_stage begun o l c d step b reader new way bytes reply progress Abandoned at has spelled hears leads replied attempt none = tt
+whole_stage begun o l c d step b reader new way bytes reply progress stage at has spelled hears leads replied attempt none = tt
 
 -- what comes of the bytes that it heard
-makes_told : OneReply → (begun : List Begun) (o : Option Side) (l : Link) (c : Caller) (d : Dumping) (step : Step) (b : Begun) (reader : ReplyHeld) (new : Standing)
-    (bytes rest way : List ℕ) (reply : PlainReply) (progress : Progress) (seen : Result (Option PlainReply) WireFault) → c.at.stage ≡ Waiting step
-    → IsStepReplied b o l c d step → IsAttempt begun c d step b → reply_text reply ≡ bytes ++ way → IsBrief reply → LeadsOn b.run o c.at d step reply
-    → ReplyGives (Some Number) bytes seen rest → Makes c.at step bytes seen rest progress new → HasFedAt new.stage reader (unanswered new.stage bytes)
+hearing_told : (begun : List Begun) (o : Option Side) (l : Link) (c : Caller) (d : Dumping) (step : Step) (b : Begun) (reader : ReplyHeld) (new : Standing)
+    (bytes way : List ℕ) (reply : PlainReply) (progress : Progress) → c.at.stage ≡ Waiting step
+    → IsStepReplied b o l c d step → IsAttempt begun c d step b → IsBrief reply → LeadsOn b.run o c.at d step reply
+    → HearsPiece c.at step reply bytes way progress new → HasFedAt new.stage reader (unanswered new.stage bytes)
     → IsLinkToldAt new.stage begun o (record l { back = way }) (caller c.number new reader) d
-makes_told g begun o l c d step b reader new bytes rest way reply progress (Ok None) stage replied attempt text brief leads gives (moved, is) has =
+hearing_told begun o l c d step b reader new bytes way reply progress stage replied attempt brief leads (waits moved is text) has =
     let at : new.stage ≡ Waiting step = ap (λ (s : Standing). s.stage) is ∙ stage in
     subst (λ s. IsLinkToldAt s begun o (record l { back = way }) (caller c.number new reader) d) (sym at) (
       b,
@@ -126,16 +112,8 @@ makes_told g begun o l c d step b reader new bytes rest way reply progress (Ok N
         reply = inr (reply, sym text, brief, subst (λ s. LeadsOn b.run o s d step reply) (sym is) leads);
       },
     )
-makes_told g begun o l c d step b reader new bytes rest way reply progress (Ok (Some found)) stage replied attempt text brief leads gives hears has =
-    let whole = reply_whole g Number (reply_text reply) bytes way rest reply found brief.spelled text gives in
-    let spelled : SpellsReply bytes reply Number
-    = subst (λ t. SpellsReply t reply Number) (text ∙ ap (λ w. bytes ++ w) whole.2 ∙ append-nil bytes) brief.spelled in
-    whole_stage begun o l c d step b reader new way bytes reply progress new.stage refl has spelled
-    (subst (λ r. HearsAt c.at step (Reply r) false progress new) whole.0
-    (subst (λ x. HearsAt c.at step (Reply found) (is_more x) progress new) whole.1 hears))
-    leads replied attempt whole.2
-makes_told g begun o l c d step b reader new bytes rest way reply progress (Err fault) stage replied attempt text brief leads gives hears has =
-    absurd (reply_no_fault Number (reply_text reply) bytes way rest reply fault brief.spelled text gives)
+hearing_told begun o l c d step b reader new bytes way reply progress stage replied attempt brief leads (whole spelled none heard) has =
+    whole_stage begun o l c d step b reader new way bytes reply progress new.stage refl has spelled heard leads replied attempt none
 
 -- something is on the way
 pub some_way : (l : Link) (n : ℕ) → 1 ≤ n → n ≤ length l.back → l.back ≡ [] → ⊥
@@ -149,14 +127,9 @@ heard_reply g begun o l c d step b reader new fed n progress first within stage 
     let size : length (r.fed ++ l.back) ≡ 0 = ap length none in
     let both = length-append r.fed l.back in
     absurd (omega (arith, first, within, size, both))
-heard_reply g begun o l c d step b reader new fed n progress first within stage r (inr (reply, is, brief, leads)) attempt had (seen, rest, gives, makes) has =
-    let size = ap length is in
-    let both = length-append r.fed l.back in
-    let short = brief.short in
-    let same : r.fed ≡ fed = one_heard c.reader Number r.fed fed (omega (arith, size, both, short)) r.has.unread had.unread in
-    let text : reply_text reply ≡ (fed ++ take n l.back) ++ drop n l.back
-    = sym is ∙ ap (λ f. f ++ l.back) same ∙ ap (λ x. fed ++ x) (sym (take-append-drop n l.back)) ∙ sym (append_assoc fed (take n l.back) (drop n l.back)) in
-    makes_told g begun o l c d step b reader new (fed ++ take n l.back) rest (drop n l.back) reply progress seen stage r attempt text brief leads gives makes has
+heard_reply g begun o l c d step b reader new fed n progress first within stage r (inr (reply, is, brief, leads)) attempt had feeds has =
+    hearing_told begun o l c d step b reader new (fed ++ take n l.back) (drop n l.back) reply progress stage r attempt brief leads
+    (hearing g c.reader c.at new step reply r.fed fed l.back n progress brief is r.has had feeds) has
 
 rests : (begun : List Begun) (o : Option Side) (y : Link) (c : Caller) (d : Dumping) (reader : ReplyHeld) (new : Standing) (stage : Stage) → c.at.stage ≡ stage → new ≡ c.at
     → IsLinkToldAt stage begun o y (caller c.number new reader) d → IsLinkToldAt new.stage begun o y (caller c.number new reader) d
@@ -170,39 +143,25 @@ heard_told g (ToSend step) begun o l c d reader new fed n progress first within 
 heard_told g (Waiting step) begun o l c d reader new fed n progress first within at (b, attempt, inl asked) had feeds has = absurd (some_way l n first within asked.back)
 heard_told g (Waiting step) begun o l c d reader new fed n progress first within at (b, attempt, inr replied) had feeds has =
     heard_reply g begun o l c d step b reader new fed n progress first within at replied replied.reply attempt had feeds has
-heard_told g Ready begun o l c d reader new fed n progress first within at told had (moved, is) has = rests begun o _ c d reader new Ready at is tt
-heard_told g Asking begun o l c d reader new fed n progress first within at told had (moved, is) has = rests begun o _ c d reader new Asking at is tt
-heard_told g Finished begun o l c d reader new fed n progress first within at told had (moved, is) has = rests begun o _ c d reader new Finished at is tt
-heard_told g Abandoned begun o l c d reader new fed n progress first within at told had (moved, is) has = rests begun o _ c d reader new Abandoned at is tt
+heard_told g stage begun o l c d reader new fed n progress first within at told had (moved, is) has = rests begun o _ c d reader new stage at is tt
 
--- bytes reach the side that is not the server's
-pub hears_told : OneReply → (o : Option Dumping) (w : World) (k n : ℕ) (l : Link) (u : World) → IsOwned w → link_of w k ≡ Some l → l.dump ≡ o → IsTrue l.other → 1 ≤ n
-    → n ≤ length l.back → Hears o w k n (take n l.back) u → AreTold w → AreTold u
-hears_told g None w k n l u owned at none other first within is t =
-    subst AreTold (sym is)
-    (changed_told w _ k (λ x. record x { back = drop n x.back }) refl refl (λ j beside. refl) (λ j beside own. (own, refl))
-    (λ x there h. (
-    let dump : x.dump ≡ None = ap (λ (y : Link). y.dump) (same_Some x l (sym there ∙ at)) ∙ none in
-    record {
-      sent = λ d some. (let clash = sym dump ∙ some in absurd cc);
-      own = λ d c some mine now. (let clash = sym dump ∙ some in absurd cc);
-    })) t)
-hears_told g (Some dump) w k n l u owned at some other first within (c, fed, new, reader, progress, there, had, feeds, has, is) t =
-    let own : w.own ≡ Some k = owned.only k (l, dump, at, other, some) in
-    subst AreTold (sym is)
-    (came_told _ k new progress
-    (changed_told w
-    (counted_from (record (calm w) { links = changed (λ x. record x { back = drop n x.back }) w.links k; caller = Some (caller c.number new reader) }) c.number k
-    (drop (length c.at.counts) new.counts))
-    k (λ x. record x { back = drop n x.back }) refl refl (λ j beside. refl) (λ j beside mine. absurd (beside (same_Some j k (sym mine ∙ own))))
+-- the client hears, and goes on
+pub hears_told : OneReply → (w : World) (t : Listens w) (on : is_over t.progress ≡ false) → IsOwned w → AreTold w → AreTold (move.moved w (move.hears t on))
+hears_told g w t on owned told =
+    changed_told w _ t.k (λ x. record x { back = drop t.n x.back }) refl refl (λ j beside. refl)
+    (λ j beside mine. absurd (beside (same_Some j t.k (sym mine ∙ own))))
     (λ x here h. record {
       sent = h.sent;
       own = λ d y is_d mine now. (
-          let same : x ≡ l = same_Some x l (sym here ∙ at) in
-          let client = same_Some (caller c.number new reader) y now in
+          let same : t.l ≡ x = same_Some t.l x (sym t.there ∙ here) in
           let back = ap (λ (z : Link). length z.back) same in
-          subst (λ (z : Caller). IsLinkToldAt z.at.stage w.begun (side_of w.hall k) (record x { back = drop n x.back }) z d) client
-          (heard_told g c.at.stage w.begun (side_of w.hall k) x c d reader new fed n progress first (omega (arith, within, back)) refl (h.own d c is_d own there) had
-          (subst (λ (z : Link). FedAt c.at.stage c.at fed (take n z.back) progress new) (sym same) feeds)
-          (subst (λ (z : Link). HasFedAt new.stage reader (unanswered new.stage (fed ++ take n z.back))) (sym same) has)));
-    }) t))
+          let some = t.within in
+          subst (λ (z : Caller). IsLinkToldAt z.at.stage w.begun (side_of w.hall t.k) (record x { back = drop t.n x.back }) z d) (same_Some (caller t.c.number t.at t.reader) y now)
+          (heard_told g t.c.at.stage w.begun (side_of w.hall t.k) x t.c d t.reader t.at t.fed t.n t.progress t.some (omega (arith, some, back)) refl
+          (h.own d t.c is_d own t.client) t.had
+          (subst (λ (z : Link). FedAt t.c.at.stage t.c.at t.fed (take t.n z.back) t.progress t.at) same t.feeds)
+          (subst (λ (z : Link). HasFedAt t.at.stage t.reader (unanswered t.at.stage (t.fed ++ take t.n z.back))) same t.has)));
+    }) told
+  where
+    own : w.own ≡ Some t.k
+    own = owned.only t.k (t.l, t.d, t.there, t.other, t.dump)

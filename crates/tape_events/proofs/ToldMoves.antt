@@ -11,7 +11,7 @@ use Rattle.dump_run.specs.Run.{PlainRun}
 use Rattle.dump_client.specs.Standing.{Standing}
 use Rattle.dump_client.specs.declared.step.Step.{Step}
 use Rattle.dump_client.specs.declared.stage.Stage.{Stage}
-use Rattle.dump_client.specs.declared.stage.Stage.TheVariants.{Ready, ToSend, Waiting, Asking, Finished, Abandoned}
+use Rattle.dump_client.specs.declared.stage.Stage.TheVariants.{ToSend, Waiting}
 use Rattle.rmt_wire.specs.Reply.{PlainReply}
 use Rattle.tape_events.specs.World.{World, Link, Dumping, Begun, Caller, numbered}
 use Rattle.tape_events.specs.Changes.{changed, side_of, link_of, new_link, with_side}
@@ -89,10 +89,7 @@ told_moves (Waiting step) begun o p l y c d m back (b, attempt, inr replied) = (
         (reply_moves b.run o p c.at d step (replied.fed ++ l.back) m.session replied.reply);
   },
 )
-told_moves Ready begun o p l y c d m back told = tt
-told_moves Asking begun o p l y c d m back told = tt
-told_moves Finished begun o p l y c d m back told = tt
-told_moves Abandoned begun o p l y c d m back told = tt
+told_moves stage begun o p l y c d m back told = tt
 
 -- nothing changes
 pub no_move : (o : Option Side) (way : List ℕ) → Moves o o way way

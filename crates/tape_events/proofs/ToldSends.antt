@@ -16,15 +16,15 @@ use Rattle.dump_client.specs.Script.{request_of}
 use Rattle.dump_client.specs.Standing.{Standing, standing, checkpoint_of}
 use Rattle.dump_client.specs.Lawful.{IsLawful, StageFits, IsRunLeft, attempt_at}
 use Rattle.dump_client.specs.Client.{HasFedAt}
-use Rattle.dump_client.specs.declared.count.VolumeCount.{VolumeCount}
+use Rattle.dump_run.specs.declared.count.VolumeCount.{VolumeCount}
 use Rattle.dump_client.specs.declared.step.Step.{Step}
-use Rattle.dump_client.specs.declared.step.Step.TheVariants.{Open, Rewind, Label, Block, Mark, Unload, Close}
+use Rattle.dump_client.specs.declared.step.Step.TheVariants.{Open, Label, Block, Close}
 use Rattle.dump_client.specs.declared.stage.Stage.{Stage}
-use Rattle.dump_client.specs.declared.stage.Stage.TheVariants.{Ready, ToSend, Waiting, Asking, Finished, Abandoned}
+use Rattle.dump_client.specs.declared.stage.Stage.TheVariants.{Ready, ToSend, Waiting, Asking}
 use Rattle.tape_events.specs.World.{World, Link, Dumping, Begun, Caller, numbered}
 use Rattle.tape_events.specs.Changes.{side_of, link_of, new_link, sent_on, noted_sent}
 use Rattle.tape_events.specs.Rows.{NoRun, is_run_done}
-use Rattle.tape_events.specs.Steps.{Sends, begun, caller, fresh, client_connected, sent_link, next_text, asked}
+use Rattle.tape_events.specs.Steps.{caller, fresh, client_connected, sent_link, next_text}
 use Rattle.tape_events.specs.Kept.{AreTidy, AreBooked}
 use Rattle.tape_events.specs.Owning.{IsOwned, is_in_attempt}
 use Rattle.tape_events.specs.Sending.{HasDone, AreUnserved, request_in, IsPending, IsLinkSettled, IsLinkSent, IsAttempt, IsItsTurn, IsStepAsked, IsLinkToldAt, IsGood, AreTold}
@@ -33,7 +33,9 @@ use Rattle.tape_events.proofs.Sent.{raised_one, done_few}
 use Rattle.tape_events.proofs.SentWire.{fresh_unread}
 use Rattle.tape_events.proofs.SentSteps.{RequestTexts}
 use Rattle.tape_events.proofs.ToldMoves.{changed_told, joined_told}
-use Rattle.tape_events.proofs.ToldEvents.{left_told, mapped}
+use Rattle.tape_events.proofs.Moves as move
+use Rattle.tape_events.proofs.Moves.{Sender}
+use Rattle.tape_events.proofs.ToldEvents.{mapped}
 
 -- a client that has no run under way has no connection of its own
 idle_none : (w : World) → IsOwned w → ((c : Caller) → w.caller ≡ Some c → IsTrue (is_in_attempt c.at.stage) → ⊥) → (k : ℕ) → w.own ≡ Some k → ⊥
@@ -41,11 +43,7 @@ idle_none w o idle k own = let c = (o.own k own).1 in idle c.0 c.1 c.2
 
 done_idle : (stage : Stage) → IsTrue (is_run_done stage) → IsTrue (is_in_attempt stage) → ⊥
 done_idle Ready done attempt = cc
-done_idle (ToSend step) done attempt = cc
-done_idle (Waiting step) done attempt = cc
-done_idle Asking done attempt = cc
-done_idle Finished done attempt = cc
-done_idle Abandoned done attempt = cc
+done_idle stage done attempt = cc
 
 -- each block of a payload that is cut has at most that many bytes
 take_most : (n : ℕ) (xs : List ℕ) → length (take n xs) ≤ n
@@ -153,32 +151,20 @@ ShortLabels = (s : Standing) → IsLawful s → length (label s.run (checkpoint_
 pub same_request : (run : PlainRun) (payload : List (List ℕ)) (counts : List VolumeCount) (step : Step)
     → request_of run payload (checkpoint_of counts).0 (checkpoint_of counts).1 step ≡ request_of run payload (attempt_at step counts).0 (attempt_at step counts).1 step
 same_request run payload counts Open = refl
-same_request run payload counts Rewind = refl
-same_request run payload counts Label = refl
-same_request run payload counts (Block number) = refl
-same_request run payload counts (Mark next) = refl
-same_request run payload counts (Unload next) = refl
-same_request run payload counts Close = refl
+same_request run payload counts step = refl
 
 has_spelling : ShortLabels → (s : Standing) (payload : List (List ℕ)) (step : Step) → IsLawful s → ((n : ℕ) → length (get_or payload n []) ≤ RECORD_LIMIT)
     → HasSpelling (request_of s.run payload (checkpoint_of s.counts).0 (checkpoint_of s.counts).1 step)
 has_spelling g s payload Open lawful few = let device = lawful.run.device in ((device.0.1, device.1), omega arith)
-has_spelling g s payload Rewind lawful few = (omega arith, omega arith)
 has_spelling g s payload Label lawful few = g s lawful
 has_spelling g s payload (Block number) lawful few = few number
-has_spelling g s payload (Mark next) lawful few = (omega arith, omega arith)
-has_spelling g s payload (Unload next) lawful few = (omega arith, omega arith)
 has_spelling g s payload Close lawful few = tt
+has_spelling g s payload step lawful few = (omega arith, omega arith)
 
 -- no request of the client's leaves bytes to follow its text
 none_to_follow : (run : PlainRun) (payload : List (List ℕ)) (volume first : ℕ) (step : Step) → unsent (request_of run payload volume first step) ≡ 0
 none_to_follow run payload volume first Open = refl
-none_to_follow run payload volume first Rewind = refl
-none_to_follow run payload volume first Label = refl
-none_to_follow run payload volume first (Block number) = refl
-none_to_follow run payload volume first (Mark next) = refl
-none_to_follow run payload volume first (Unload next) = refl
-none_to_follow run payload volume first Close = refl
+none_to_follow run payload volume first step = refl
 
 pub next_spelled : RequestTexts → ShortLabels → (s : Standing) (payload : List (List ℕ)) (step : Step) → IsLawful s → ((n : ℕ) → length (get_or payload n []) ≤ RECORD_LIMIT)
     → SpellsRequest (request_text (request_of s.run payload (checkpoint_of s.counts).0 (checkpoint_of s.counts).1 step))
@@ -251,24 +237,24 @@ sends_pending t g w k l c x d step reader tidy lawful told own at dump there sta
       },
     )
 
--- the client sends, or a read of its payload fails
-pub sends_told : RequestTexts → ShortLabels → (failing : Bool) (w : World) (k : ℕ) (c : Caller) (x : Begun) (step : Step) (u : World) → AreTidy w → IsLawful c.at
-    → w.own ≡ Some k → w.caller ≡ Some c → c.at.stage ≡ ToSend step → numbered w.begun c.number ≡ Some x → Sends failing w k c x.payload step u → AreTold w → AreTold u
-sends_told t g true w k c x step u tidy lawful own there stage mine (reader, is) told = subst AreTold (sym is) (left_told w _ k refl refl refl refl told)
-sends_told t g false w k c x step u tidy lawful own there stage mine (reader, fed, is) told =
-    subst AreTold (sym is)
-    (changed_told w (asked w k c x.payload step reader) k (sent_link (next_text c x.payload step)) refl refl (λ j other. refl)
-    (λ j other now. absurd (other (same_Some j k (sym now ∙ own))))
+-- the client sends
+pub asked_told : RequestTexts → ShortLabels → (w : World) (a : Sender w) → AreTidy w → IsLawful a.c.at → AreTold w → AreTold (move.moved w (move.asks a))
+asked_told t g w a tidy lawful told =
+    changed_told w _ a.k (sent_link text) refl refl (λ j other. refl) (λ j other now. absurd (other (same_Some j a.k (sym now ∙ a.own))))
     (λ l at h. record {
       sent = λ d is. (
           let m = mapped noted_sent l.dump d is in
-          let p = sends_pending t g w k l c x m.0 step reader tidy lawful told own at m.1 there stage mine fed in
-          subst (IsLinkSent w.begun (side_of w.hall k) (sent_link (next_text c x.payload step) l)) (sym m.2) (inr (p.0, step, p.1.begun_as, p.2.pending)));
+          let p = sends_pending t g w a.k l a.c a.b m.0 a.step a.reader tidy lawful told a.own at m.1 a.there a.stage a.mine a.fed in
+          subst (IsLinkSent w.begun (side_of w.hall a.k) (sent_link text l)) (sym m.2) (inr (p.0, a.step, p.1.begun_as, p.2.pending)));
       own = λ d y is now here. (
           let m = mapped noted_sent l.dump d is in
-          let p = sends_pending t g w k l c x m.0 step reader tidy lawful told own at m.1 there stage mine fed in
-          let client = same_Some (caller c.number (standing c.at.run c.at.counts (Waiting step)) reader) y here in
-          subst (λ (z : Caller). IsLinkToldAt z.at.stage w.begun (side_of w.hall k) (sent_link (next_text c x.payload step) l) z d) client
-          (subst (IsLinkToldAt (Waiting step) w.begun (side_of w.hall k) (sent_link (next_text c x.payload step) l) (caller c.number (standing c.at.run c.at.counts (Waiting step)) reader))
-          (sym m.2) (p.0, p.1, inl p.2)));
-    }) told)
+          let p = sends_pending t g w a.k l a.c a.b m.0 a.step a.reader tidy lawful told a.own at m.1 a.there a.stage a.mine a.fed in
+          subst (λ (z : Caller). IsLinkToldAt z.at.stage w.begun (side_of w.hall a.k) (sent_link text l) z d) (same_Some waits y here)
+          (subst (IsLinkToldAt (Waiting a.step) w.begun (side_of w.hall a.k) (sent_link text l) waits) (sym m.2) (p.0, p.1, inl p.2)));
+    }) told
+  where
+    text : List ℕ
+    text = next_text a.c a.b.payload a.step
+
+    waits : Caller
+    waits = caller a.c.number (standing a.c.at.run a.c.at.counts (Waiting a.step)) a.reader

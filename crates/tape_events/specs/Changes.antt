@@ -15,7 +15,7 @@ use Rattle.rmt_server.specs.Session.PlainSession.{Idle, Online}
 use Rattle.rmt_server.specs.TroubledServe.{drive_in, with_holder}
 use Rattle.rmt_server.specs.Hall.{Hall, hall, Side, side}
 use Rattle.dump_client.specs.Standing.{Standing, checkpoint_of}
-use Rattle.dump_client.specs.declared.count.VolumeCount.{VolumeCount}
+use Rattle.dump_run.specs.declared.count.VolumeCount.{VolumeCount}
 use Rattle.dump_client.specs.declared.stage.Progress.{Progress}
 use Rattle.dump_client.specs.declared.stage.Progress.TheVariants.{Failed, Ended}
 use Rattle.tape_events.specs.World.{World, Link, Dumping, Count, Opening, numbered, with_numbered}

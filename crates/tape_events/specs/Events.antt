@@ -25,6 +25,7 @@ pub data PlainEvent : Type 0 where
   -- the other side sees it
   EndAtClient : (k : ℕ) → PlainEvent
   ServerRestart : PlainEvent
+  -- the client comes back with the run that is kept, or with none
   ClientRestart : PlainEvent
   -- the operator answers the client
   Respond : (answer : Answer) → PlainEvent
@@ -36,3 +37,5 @@ pub data PlainEvent : Type 0 where
   Says : (k : ℕ) → (bytes : List ℕ) → PlainEvent
   -- a finished run is entered in dumpdates
   Enter : PlainEvent
+  -- the run and the client's counts are kept outside of the client
+  Save : PlainEvent

@@ -37,6 +37,7 @@ first_world drives = record {
   counts = [];
   opens = [];
   entered = [];
+  kept = None;
   failure = None;
   dates = [];
 }

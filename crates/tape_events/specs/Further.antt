@@ -1,12 +1,16 @@
 -- What is told of each world beside the headline. Public contracts cite it.
-use Rattle.std.specs.Prelude.{◌≡◌, ◌⊎◌, ℕ, ◌+◌, ◌<◌, true, List, [], length, slice_get, Some}
+use Rattle.std.specs.Prelude.{◌≡◌, ◌⊎◌, ℕ, ◌+◌, ◌<◌, ◌++◌, true, List, [], length, map, slice_get, Some}
 use Rattle.drives.specs.Shop.{rack_at}
 use Rattle.rmt_server.specs.Hall.{Side}
 use Rattle.rmt_server.specs.Session.{PlainReel}
+use Rattle.dump_run.specs.declared.count.VolumeCount.{VolumeCount}
 use Rattle.tape_events.specs.World.{World, Dumping, Begun, Caller, numbered}
-use Rattle.tape_events.specs.Changes.{side_of, HasDump, first_name}
+use Rattle.tape_events.specs.Changes.{side_of, HasDump, first_name, counts_of}
+use Rattle.tape_events.specs.Events.{PlainEvent}
+use Rattle.tape_events.specs.Events.PlainEvent.{ToClient}
 use Rattle.tape_events.specs.Books.{counts_in}
 use Rattle.tape_events.specs.Standing.{ReelHoldsJust, IsFirstAway, IsOnlineWith, online_drive_in}
+use Rattle.tape_events.specs.Headline.{AreCountedIn}
 use Rattle.tape_events.specs.Written.{attempt_written, IsQuiet, IsBeforeOffline}
 
 -- As many requests were carried out of a client's connection as were sent there, or one fewer.
@@ -34,7 +38,24 @@ abbrev pub LabelledReels : World → Type 0
 LabelledReels w =
     (k : ℕ) (d : Dumping) (reel : List ℕ) → HasDump w k d → d.label ≡ true → IsQuiet w.opens k d reel → IsOnReel w k d reel
 
--- The counts of the client's number, in order, are those that the client has. No number above those of the runs begun has counts.
+-- Each volume that the client has was counted under its number. No number above those of the runs begun has counts.
 pub record ClientsCounts (w : World) : Type 0 where
-  pub listed : (c : Caller) → w.caller ≡ Some c → counts_in w.counts c.number ≡ c.at.counts
+  pub listed : (c : Caller) → w.caller ≡ Some c → AreCountedIn w c.number c.at.counts
   pub none : (run : ℕ) → length w.begun < run → counts_in w.counts run ≡ []
+
+-- The counts of the client, which hears on connection k, are told: by just what its own list grows by.
+pub record IsToldOf (w : World) (k : ℕ) (u : World) : Type 0 where
+  pub before : Caller
+  pub was : w.caller ≡ Some before
+  pub after : Caller
+  pub is : u.caller ≡ Some after
+  pub number : after.number ≡ before.number
+  pub more : List VolumeCount
+  pub list : after.at.counts ≡ before.at.counts ++ more
+  pub counts : u.counts ≡ w.counts ++ map (counts_of w before.number k) more
+
+-- The counts grow as bytes reach the client, by just what its own list grows by, and at no other event. Where a stranger's
+-- connection hears them, the client is as it was.
+abbrev pub CountsGrow : World → PlainEvent → World → Type 0
+CountsGrow w (ToClient k n) u = ((u.counts ≡ w.counts) × (u.caller ≡ w.caller)) ⊎ IsToldOf w k u
+CountsGrow w event u = u.counts ≡ w.counts

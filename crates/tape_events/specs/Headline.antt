@@ -5,6 +5,7 @@ use Rattle.tape.specs.Tape.PlainEntry.{Record, Mark}
 use Rattle.dump_run.specs.Run.{PlainRun}
 use Rattle.dump_run.specs.Label.{label}
 use Rattle.dump_client.specs.Position.{Covers}
+use Rattle.dump_run.specs.declared.count.VolumeCount.{VolumeCount}
 use Rattle.tape_events.specs.World.{World, Begun, Count, Opening, Entered, numbered}
 use Rattle.tape_events.specs.Changes.{opening}
 use Rattle.tape_events.specs.Books.{counts_in, dates_after}
@@ -41,13 +42,17 @@ CountedReels w = (x : Count) → Contains w.counts x → IsOnItsReel w x
 abbrev pub NoTwoHolders : World → Type 0
 NoTwoHolders w = (j k d : ℕ) → HasOpen w.hall j d → HasOpen w.hall k d → j ≡ k
 
--- 3. Every dump that was entered in dumpdates has all its blocks on counted volumes, in order. Each was entered once, and dumpdates
--- has their entries and no other.
+-- 3. Every dump that was entered in dumpdates has all its blocks on counted volumes, in order: those of the list that the client had
+-- then. Each was entered once, and dumpdates has their entries and no other.
 abbrev pub AreOnce : List Entered → Type 0
 AreOnce es = (i j : ℕ) (e f : Entered) → numbered es i ≡ Some e → numbered es j ≡ Some f → e.run ≡ f.run → i ≡ j
 
+-- each of these volumes stands among the counts of that run
+abbrev pub AreCountedIn : World → ℕ → List VolumeCount → Type 0
+AreCountedIn w run listed = (v : VolumeCount) → Contains listed v → Contains (counts_in w.counts run) v
+
 abbrev pub IsEarned : World → Entered → Type 0
-IsEarned w e = (b : Begun) × (numbered w.begun e.run ≡ Some b) × Covers b.run (counts_in w.counts e.run)
+IsEarned w e = (b : Begun) × (numbered w.begun e.run ≡ Some b) × Covers b.run e.listed × AreCountedIn w e.run e.listed
 
 pub record DumpdatesGained (w : World) : Type 0 where
   pub dates : w.dates ≡ dates_after w.begun [] w.entered

@@ -1,15 +1,17 @@
 -- How the headline is proved: all that stays so, whatever happens. No sentence of the headline names these points. Public contracts
 -- cite it.
-use Rattle.std.specs.Prelude.{◌≡◌, ℕ, ◌<◌, true, false, [], length, Contains, Option, Some, None}
+use Rattle.std.specs.Prelude.{◌≡◌, ◌≢◌, ℕ, ◌<◌, true, false, [], length, Contains, Option, Some, None}
 use Rattle.rmt_server.specs.Hall.{Hall, Side}
 use Rattle.drives.specs.Shop.{rack_at}
+use Rattle.dump_run.specs.Run.{IsRun}
+use Rattle.dump_run.specs.Counts.{AreVolumes}
 use Rattle.dump_client.specs.Lawful.{IsLawful}
 use Rattle.dump_client.specs.declared.stage.Stage.TheVariants.{Finished}
-use Rattle.tape_events.specs.World.{World, Link, Begun, Caller, Entered, numbered}
+use Rattle.tape_events.specs.World.{World, Link, Begun, Caller, Entered, Kept, numbered}
 use Rattle.tape_events.specs.Changes.{side_of, link_of}
 use Rattle.tape_events.specs.Books.{counts_in, dates_after}
 use Rattle.tape_events.specs.Standing.{AreHeld, AreThere, IsFirstAway, IsOnlineAt}
-use Rattle.tape_events.specs.Headline.{AreOnce, IsEarned}
+use Rattle.tape_events.specs.Headline.{AreOnce, AreCountedIn, IsEarned}
 use Rattle.tape_events.specs.Owning.{IsOwned}
 use Rattle.tape_events.specs.Sending.{AreTold}
 use Rattle.tape_events.specs.Attempts.{AreSingle, AreLabelled, AreCountsEarned}
@@ -33,13 +35,26 @@ pub record AreLaid (h : Hall) : Type 0 where
   pub lying : (d : ℕ) → (IsOnlineAt h d → ⊥) → AreThere (rack_at h.shop d).stack
   pub bin : AreThere h.shop.bin
 
--- What is kept of runs, counts and dumpdates. The client's run is the last that was begun, and the counts of its number are the
--- client's own. Each run that was entered is covered by its counts, and was entered once; the client's own is only once it is
--- finished. Dumpdates has those entries, and no other, in the order in which they were made.
+-- The run that is kept outside of the client is the last that was begun, and is not entered. Its list begins it, in order, and was
+-- counted.
+pub record IsKeptRun (w : World) (k : Kept) : Type 0 where
+  pub begun : Begun
+  pub begun_as : numbered w.begun k.run ≡ Some begun
+  pub limits : IsRun begun.run
+  pub last : k.run ≡ length w.begun
+  pub in_order : AreVolumes begun.run 1 0 k.listed
+  pub counted : AreCountedIn w k.run k.listed
+  pub unentered : (e : Entered) → Contains w.entered e → e.run ≢ k.run
+
+-- What is kept of runs, counts and dumpdates. The client's run is the last that was begun (a new one drops what is kept of an older),
+-- and each volume that the client has was counted under its number. Each run that was entered is covered by the list that the client
+-- had then, and was entered once; the client's own is only once it is finished. Dumpdates has those entries, and no other, in the
+-- order in which they were made.
 pub record AreBooked (w : World) : Type 0 where
   pub last : (c : Caller) → w.caller ≡ Some c → c.number ≡ length w.begun
   pub begun : (c : Caller) → w.caller ≡ Some c → (b : Begun) × (numbered w.begun c.number ≡ Some b) × (b.run ≡ c.at.run)
-  pub listed : (c : Caller) → w.caller ≡ Some c → counts_in w.counts c.number ≡ c.at.counts
+  pub listed : (c : Caller) → w.caller ≡ Some c → AreCountedIn w c.number c.at.counts
+  pub kept : (k : Kept) → w.kept ≡ Some k → IsKeptRun w k
   pub none : (run : ℕ) → length w.begun < run → counts_in w.counts run ≡ []
   pub earned : (e : Entered) → Contains w.entered e → IsEarned w e
   pub once : AreOnce w.entered

@@ -15,7 +15,7 @@ use Rattle.dump_client.specs.declared.stage.Stage.{Stage}
 use Rattle.dump_client.specs.declared.stage.Stage.TheVariants.{Ready, ToSend, Asking, Finished, Abandoned}
 use Rattle.tape_events.specs.World.{World, Link, Caller, Entered}
 use Rattle.tape_events.specs.Events.{PlainEvent}
-use Rattle.tape_events.specs.Events.PlainEvent.{StartRun, Connect, Send, ToServer, Serve, ToClient, Cut, EndAtServer, EndAtClient, ServerRestart, ClientRestart, Respond, Arrange, Stranger, Says, Enter}
+use Rattle.tape_events.specs.Events.PlainEvent.{StartRun, Connect, Send, ToServer, Serve, ToClient, Cut, EndAtServer, EndAtClient, ServerRestart, ClientRestart, Respond, Arrange, Stranger, Says, Enter, Save}
 use Rattle.tape_events.specs.Changes.{side_of, link_of}
 
 -- the client stands so
@@ -61,6 +61,10 @@ MayArrange h drive reels =
     (d : ℕ) × IsDriveNamed drive h.shop (Some d) × (slice_index_or h.holders d 0 ≡ 0)
     × IsTrue (are_distinct reels) × IsTrue (list_all (is_piled h.shop d) reels)
 
+-- its run is not abandoned, nor finished and entered
+abbrev pub MayBeKept : World → Caller → Type 0
+MayBeKept w c = (c.at.stage ≢ Abandoned) × (c.at.stage ≡ Finished → IsRunEntered w c.number → ⊥)
+
 abbrev pub Possible : World → PlainEvent → Type 0
 Possible w (StartRun run payload) = NoRun w × IsRun run × (length payload ≡ run.blocks * run.block_bytes)
 Possible w Connect = StandsIn w (λ stage. stage ≡ Ready)
@@ -81,3 +85,4 @@ Possible w Stranger = Unit {0}
 Possible w (Says k bytes) = (l : Link) × IsLiveThere w k l × (l.dump ≡ None)
 Possible w Enter =
     (c : Caller) × (w.caller ≡ Some c) × (c.at.stage ≡ Finished) × (IsRunEntered w c.number → ⊥)
+Possible w Save = (c : Caller) × (w.caller ≡ Some c) × MayBeKept w c

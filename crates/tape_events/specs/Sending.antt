@@ -18,7 +18,7 @@ use Rattle.dump_client.specs.Lawful.{steps_before, attempt_at}
 use Rattle.dump_client.specs.Client.{HasFedAt}
 use Rattle.dump_client.specs.declared.step.Step.{Step}
 use Rattle.dump_client.specs.declared.step.Step.TheVariants.{Open, Rewind, Label, Block, Mark, Unload, Close}
-use Rattle.dump_client.specs.declared.count.VolumeCount.{VolumeCount}
+use Rattle.dump_run.specs.declared.count.VolumeCount.{VolumeCount}
 use Rattle.dump_client.specs.declared.stage.Progress.{Progress}
 use Rattle.dump_client.specs.declared.stage.Stage.{Stage}
 use Rattle.dump_client.specs.declared.stage.Stage.TheVariants.{ToSend, Waiting}

@@ -17,27 +17,30 @@ use Rattle.dumpdates.specs.Dates.{entered}
 use Rattle.dump_run.specs.Run.{PlainRun}
 use Rattle.dump_run.specs.Blocks.{cut_blocks}
 use Rattle.dump_client.specs.Script.{request_of}
-use Rattle.dump_client.specs.Standing.{Standing, standing, checkpoint_of, FedAt, CutAt, stage_after}
+use Rattle.dump_client.specs.Standing.{Standing, standing, checkpoint_of, FedAt, CutAt, IsOver, stage_after}
 use Rattle.dump_client.specs.Client.{HasFedAt, unanswered}
 use Rattle.dump_client.specs.declared.step.Step.{Step}
 use Rattle.dump_client.specs.declared.step.Step.TheVariants.{Open, Block}
+use Rattle.dump_client.specs.declared.stage.Answer.{Answer}
+use Rattle.dump_client.specs.declared.stage.Answer.TheVariants.{Retry, Abandon}
 use Rattle.dump_client.specs.declared.stage.Stage.TheVariants.{Ready, ToSend, Waiting, Asking}
 use Rattle.dump_client.specs.declared.stage.Progress.{Progress}
 use Rattle.dump_client.specs.declared.fault.AttemptFault.TheVariants.{SourceFault}
-use Rattle.tape_events.specs.World.{World, Link, Dumping, Begun, Caller, numbered, with_numbered}
+use Rattle.tape_events.specs.World.{World, Link, Dumping, Begun, Caller, Kept, numbered, with_numbered}
 use Rattle.tape_events.specs.Events.{PlainEvent}
-use Rattle.tape_events.specs.Events.PlainEvent.{StartRun, Connect, Send, ToServer, Serve, ToClient, Cut, EndAtServer, EndAtClient, ServerRestart, ClientRestart, Respond, Arrange, Stranger, Says, Enter}
+use Rattle.tape_events.specs.Events.PlainEvent.{StartRun, Connect, Send, ToServer, Serve, ToClient, Cut, EndAtServer, EndAtClient, ServerRestart, ClientRestart, Respond, Arrange, Stranger, Says, Enter, Save}
 use Rattle.tape_events.specs.Rows.{Possible}
 use Rattle.tape_events.specs.Changes.{changed, side_of, link_of, calm, joined, sent_on, other_left, given_up, ended_at, restarted, opened_reel, opening, answered, noted_sent, counted_from, came_to}
 
 abbrev pub caller : ℕ → Standing → ReplyHeld → Caller
 caller number at reader = record { number = number; at = at; reader = reader }
 
--- a new run, the next number, and a client that is ready
+-- A new run, the next number, and a client that is ready. What was kept of another is dropped.
 abbrev pub begun : World → PlainRun → List ℕ → ReplyHeld → World
 begun w run payload reader = record w {
   begun = w.begun ++ record { run = run; payload = cut_blocks run.blocks run.block_bytes payload } ∷ [];
   caller = Some (caller (length w.begun + 1) (standing run [] Ready) reader);
+  kept = None;
   failure = None;
 }
 
@@ -149,20 +152,31 @@ SeesEnd (Some dump) w k u =
     × CutAt c.at.stage c.at progress at × HasFedAt at.stage reader []
     × (u ≡ came_to (record (given_up (calm w) k) { caller = Some (caller c.number at reader) }) k at progress)
 
--- the client forgets its run, and its connection is over
+-- the client's own connection, if it has one, is over on its side
 abbrev pub forgotten_from : World → Option ℕ → World
 forgotten_from w None = w
 forgotten_from w (Some k) = given_up w k
 
-abbrev pub forgotten : World → World
-forgotten w = record (forgotten_from (calm w) w.own) { caller = None }
+-- The client forgets its run; or, where a run is kept, it comes back with that and with the list that is kept, finished where this
+-- covers the run.
+abbrev pub ComesBack : Option Kept → World → World → Type 0
+ComesBack None w u = u ≡ record (forgotten_from (calm w) w.own) { caller = None }
+ComesBack (Some kept) w u =
+    (b : Begun) × (at : Standing) × (reader : ReplyHeld) × (numbered w.begun kept.run ≡ Some b) × IsOver b.run kept.listed at
+    × (u ≡ record (forgotten_from (calm w) w.own) { caller = Some (caller kept.run at reader) })
+
+-- an answer by which the run is given up drops what is kept
+abbrev pub kept_after : Answer → Option Kept → Option Kept
+kept_after Retry kept = kept
+kept_after Abandon kept = None
 
 abbrev pub entry_of : PlainRun → DatesEntry
 entry_of run = record { name = run.name; level = run.level; date = run.date }
 
 abbrev pub recorded : World → Caller → World
 recorded w c = record (calm w) {
-  entered = w.entered ++ record { run = c.number } ∷ [];
+  entered = w.entered ++ record { run = c.number; listed = c.at.counts } ∷ [];
+  kept = None;
   dates = entered w.dates (entry_of c.at.run);
 }
 
@@ -184,10 +198,13 @@ WorldStep w (Cut k) u = u ≡ record (calm w) { links = changed (λ l. record l 
 WorldStep w (EndAtServer k) u = u ≡ ended_at (calm w) k
 WorldStep w (EndAtClient k) u = (l : Link) × (link_of w k ≡ Some l) × SeesEnd l.dump w k u
 WorldStep w ServerRestart u = u ≡ restarted (calm w)
-WorldStep w ClientRestart u = u ≡ forgotten w
+WorldStep w ClientRestart u = ComesBack w.kept w u
 WorldStep w (Respond answer) u =
     (c : Caller) × (reader : ReplyHeld) × (w.caller ≡ Some c) × (c.at.stage ≡ Asking)
-    × (u ≡ record (calm w) { caller = Some (caller c.number (standing c.at.run c.at.counts (stage_after answer)) reader) })
+    × (u ≡ record (calm w) {
+      caller = Some (caller c.number (standing c.at.run c.at.counts (stage_after answer)) reader);
+      kept = kept_after answer w.kept;
+    })
 WorldStep w (Arrange drive reels) u =
     (d : ℕ) × IsDriveNamed drive w.hall.shop (Some d)
     × (u ≡ record (calm w) { hall = hall (arranged w.hall.shop d reels) w.hall.holders w.hall.sides })
@@ -195,6 +212,8 @@ WorldStep w Stranger u = u ≡ joined (calm w) None
 WorldStep w (Says k bytes) u =
     u ≡ record (calm w) { links = changed (λ l. record l { toward = sent_on l.cut l.toward bytes }) w.links k }
 WorldStep w Enter u = (c : Caller) × (w.caller ≡ Some c) × (u ≡ recorded w c)
+WorldStep w Save u =
+    (c : Caller) × (w.caller ≡ Some c) × (u ≡ record (calm w) { kept = Some (record { run = c.number; listed = c.at.counts }) })
 
 -- the event is possible, and this is the world after it
 abbrev pub Happens : World → PlainEvent → World → Type 0

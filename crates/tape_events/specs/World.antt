@@ -4,6 +4,7 @@ use Rattle.rmt_wire.specs.ReplyReader.{ReplyHeld}
 use Rattle.dumpdates.specs.Entry.{DatesEntry}
 use Rattle.dump_run.specs.Run.{PlainRun}
 use Rattle.dump_client.specs.Standing.{Standing}
+use Rattle.dump_run.specs.declared.count.VolumeCount.{VolumeCount}
 use Rattle.dump_client.specs.declared.fault.AttemptFault.{AttemptFault}
 use Rattle.rmt_server.specs.Hall.{Hall}
 
@@ -55,12 +56,19 @@ pub record Opening : Type 0 where
   pub connection : ℕ
   pub reel : List ℕ
 
--- a run of this number was entered in dumpdates
+-- a run of this number was entered in dumpdates, when the client had this list of counts
 pub record Entered : Type 0 where
   pub run : ℕ
+  pub listed : List VolumeCount
+
+-- A run of this number is kept outside of the client, with the list of counts that the client had then: what a checkpoint file has.
+pub record Kept : Type 0 where
+  pub run : ℕ
+  pub listed : List VolumeCount
 
 -- Runs, connections, counts, openings and entered runs stand in the order in which they came. `own` is the connection of the
--- client's attempt, while that is under way, and `failure` what the last event made fail: the volume, and why.
+-- client's attempt, while that is under way, `kept` what is kept of a run outside of the client, and `failure` what the last event
+-- made fail: the volume, and why.
 pub record World : Type 0 where
   pub hall : Hall
   pub links : List Link
@@ -70,6 +78,7 @@ pub record World : Type 0 where
   pub counts : List Count
   pub opens : List Opening
   pub entered : List Entered
+  pub kept : Option Kept
   pub failure : Option (ℕ × AttemptFault)
   pub dates : List DatesEntry
 

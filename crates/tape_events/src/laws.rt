@@ -11,7 +11,7 @@ ghost use Rattle.tape_events.specs.Rows.{Possible};
 ghost use Rattle.tape_events.specs.Steps.{Runs, Happens};
 ghost use Rattle.tape_events.specs.First.{PlainDriveSpec, AreGoodDrives, first_world, IsReached};
 ghost use Rattle.tape_events.specs.Headline.{Headline, CountedReels, NoTwoHolders, DumpdatesGained};
-ghost use Rattle.tape_events.specs.Further.{SentRequests, LatchedReels, LabelledReels, ClientsCounts};
+ghost use Rattle.tape_events.specs.Further.{SentRequests, LatchedReels, LabelledReels, ClientsCounts, CountsGrow};
 ghost use Rattle.tape_events.specs.Standing.{AreHeld};
 ghost use Rattle.tape_events.specs.Kept.{IsWorldKept};
 ghost use Rattle.tape_events.specs.Naming.{SameNames};
@@ -41,7 +41,9 @@ pub fn one_run()
 ///
 /// As many requests were carried out of a client's connection as were sent there, or one fewer: of all that its client sent,
 /// in order, those that its session carried out are a beginning, and at most the last is not among them. A latched reel is one
-/// session's, and first on the stack of the drive that this holds; and the counts of the client's number are its own.
+/// session's, and first on the stack of the drive that this holds; and each volume that the client has was counted under its number.
+/// Counts are made only as a reply reaches the client, by just what its own list grows by (`counts_grow`), also where it came back with
+/// a list that was kept.
 ///
 /// It does nothing: its contract is a law of the definitions.
 pub fn kept()
@@ -65,6 +67,7 @@ pub fn kept()
         (sent : List PlainRequest) × (carried : List PlainRequest) × Talks k first events w sent carried }
     ensures latched_reels { (w : World) → IsWorldKept w → LatchedReels w }
     ensures clients_counts { (w : World) → IsWorldKept w → ClientsCounts w }
+    ensures counts_grow { (w u : World) (event : PlainEvent) → Happens w event u → CountsGrow w event u }
 {
     same_run();
     one_reading();

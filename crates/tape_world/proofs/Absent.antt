@@ -10,7 +10,7 @@ use Rattle.tape_events.specs.World.{World, Link, numbered}
 use Rattle.tape_events.specs.Changes.{link_of}
 use Rattle.tape_world.specs.declared.link.Link.{Link as RealLink}
 use Rattle.tape_world.specs.Seen.{seen_link}
-use Rattle.tape_world.proofs.Sound.{no_link}
+use Rattle.tape_world.proofs.Linked.{no_link}
 
 pub none_found : (w : World) (items xs : List RealLink) (k : ℕ) (r : Option RealLink) (x : Link) → w.links ≡ map seen_link items → xs ≡ items
     → option_map seen_link r ≡ numbered (map seen_link xs) k → r ≡ None → link_of w k ≡ Some x → ⊥

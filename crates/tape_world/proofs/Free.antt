@@ -146,15 +146,6 @@ next_fault {U = U} f first now new d capacity names i x fault r is h l m same on
 
 -- ---- drives
 
--- a drive is refused for want of memory alone
-pub drive_fault : (old new : ListShop) (name : List ℕ) (fault : DriveFault) → IsDriveAdded old name (Err fault) new → IsDriveNamed name old.shop None → fault ≡ OutOfMemory
-drive_fault old new name NameTaken h free = absurd (free h.0.0 h.0.1.0 h.0.1.1)
-drive_fault old new name OutOfMemory h free = refl
-drive_fault old new name NoSuchDrive h free = absurd h
-drive_fault old new name (Busy n) h free = absurd h
-drive_fault old new name NoReel h free = absurd h
-drive_fault old new name Device h free = absurd h
-
 -- its reels will be there once
 pub reels_once : (old made : ListShop) (d : DriveSpec) (number : ℕ) → IsDriveAdded old d.name.now (Ok number) made → EachReelOnce (with_laid old.shop d)
     → EachReelOnce (with_slots made.shop number (blank_slots d.capacity (reels_of d)))

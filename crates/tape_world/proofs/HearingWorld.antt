@@ -1,11 +1,10 @@
 -- What a client that heard something leaves of a world.
-use Rattle.std.proofs.Common.{◌≡◌, Bool, true, false, List, [], ◌∷◌, ◌++◌, length, map, drop, option_map, Option, Some, None, refl, sym, ap, subst, ◌∙◌, ◌≤◌, ℕ, zero, suc, arith}
+use Rattle.std.proofs.Common.{◌≡◌, Bool, List, [], ◌∷◌, ◌++◌, length, map, drop, option_map, Option, Some, None, refl, sym, ap, subst, ◌∙◌, ◌≤◌, ℕ, zero, suc, arith}
 use Rattle.std.specs.Prelude.{IsTrue, slice_get, slice_set, option_to_list}
-use Rattle.std.proofs.Math.Bool.{not}
 use Rattle.std.proofs.lemmas.Option.{same_Some}
 use Rattle.std.proofs.lemmas.List.{set-set, length-map, map-append}
 use Rattle.dump_client.specs.Standing.{Standing, checkpoint_of}
-use Rattle.dump_client.specs.declared.count.VolumeCount.{VolumeCount}
+use Rattle.dump_run.specs.declared.count.VolumeCount.{VolumeCount}
 use Rattle.dump_client.specs.declared.stage.Progress.{Progress}
 use Rattle.dump_client.specs.declared.stage.Progress.TheVariants as moved
 use Rattle.dump_client.specs.declared.fault.AttemptFault.{AttemptFault}
@@ -17,13 +16,9 @@ use Rattle.tape_world.specs.declared.caller.Caller.{Caller as RealCaller}
 use Rattle.tape_world.specs.declared.books.Count.{Count as RealCount}
 use Rattle.tape_world.specs.declared.ends.hearing.PieceHeard.{PieceHeard}
 use Rattle.tape_world.specs.Seen.{seen_caller, seen_count, seen_link, name_at}
-use Rattle.tape_world.specs.Holding.{is_in_attempt, IsClients, IsOwned, IsSound}
+use Rattle.tape_world.specs.Holding.{is_in_attempt, IsClients, IsOwned}
 use Rattle.tape_world.specs.Calling.{failure_of}
 use Rattle.tape_world.specs.Hearing.{come_back, heard_on, own_after, is_over, IsAttempting, HasHeard, count_in}
-use Rattle.tape_world.proofs.Sound.{changed_clients, length_changed}
-use Rattle.tape_world.proofs.Clients.{client_sound, same_begun}
-use Rattle.tape_world.proofs.Ending.{gone_owned}
-use Rattle.tape_world.proofs.Hearing.{HasMoved, fed_moves, inside}
 
 -- a number of a connection that is there is within
 get_within : (xs : List Link) (i : ℕ) (x : Link) → slice_get xs i ≡ Some x → suc i ≤ length xs
@@ -47,37 +42,6 @@ attempts w None k was s clients = (let at = (s.own k (s.only k clients)).1 in le
 attempts w (Some c) k was s clients =
     let at = (s.own k (s.only k clients)).1 in
     (c, refl, subst (λ (x : Caller). IsTrue (is_in_attempt x.at.stage)) (same_Some at.0 (seen_caller c) (sym at.1 ∙ was)) at.2)
-
--- the own connection stays, or is over with the attempt
-heard_owned : (b : Bool) (w u : World) (k n : ℕ) (x : Caller) → IsClients w k → u.links ≡ changed (heard_on b n) w.links k → u.own ≡ own_after b w.own
-    → u.caller ≡ Some x → is_in_attempt x.at.stage ≡ not b → IsOwned w → IsOwned u
-heard_owned true w u k n x clients links own is stage s =
-    gone_owned w u (Some k) (s.only k clients) links own
-    (λ c at. ap (λ (y : Caller). is_in_attempt y.at.stage) (sym (same_Some x c (sym is ∙ at))) ∙ stage) s
-heard_owned false w u k n x clients links own is stage s =
-    let same = changed_clients (come_back n) (λ l o. o, λ l o. o) w u k links in
-    record {
-      own = λ j at. (let was = s.own j (sym own ∙ at) in (same.on j was.0, (x, is, stage)));
-      attempt = λ c at within. (k, own ∙ s.only k clients);
-      only = λ j theirs. own ∙ s.only j (same.back j theirs);
-    }
-
-pub heard_moves : (w : World) (o new : Option RealCaller) (piece : List ℕ) (k : ℕ) (h : PieceHeard) → w.caller ≡ option_map seen_caller o → IsOwned w → IsClients w k
-    → (e : HasHeard o piece h new) → HasMoved e.before.client.at e.after.client.at e.progress
-heard_moves w o new piece k h was s clients e =
-    fed_moves e.before.client.at e.after.client.at e.fed piece e.progress (inside o e.before e.was (attempts w o k was s clients)) e.moved
-
-pub heard_sound : (w u : World) (k n : ℕ) (o new : Option RealCaller) (piece : List ℕ) (h : PieceHeard) → IsClients w k → u.hall ≡ w.hall
-    → u.links ≡ changed (heard_on h.is_over n) w.links k → u.begun ≡ w.begun → u.own ≡ own_after h.is_over w.own → w.caller ≡ option_map seen_caller o
-    → u.caller ≡ option_map seen_caller new → HasHeard o piece h new → IsSound w → IsSound u
-heard_sound w u k n o new piece h clients hall links begun own was is e s =
-    let old : w.caller ≡ Some (seen_caller e.before) = was ∙ ap (option_map seen_caller) e.was in
-    let now : u.caller ≡ Some (seen_caller e.after) = is ∙ ap (option_map seen_caller) e.is in
-    let m = heard_moves w o new piece k h was s.owned clients e in
-    client_sound w u hall (ap length links ∙ length_changed (heard_on h.is_over n) w.links k)
-    (heard_owned h.is_over w u k n (seen_caller e.after) clients links own now (m.stage ∙ ap not (sym e.over)) s.owned)
-    (same_begun w u (seen_caller e.before) (seen_caller e.after) old now e.same.number m.run begun s.begun)
-    s
 
 -- bytes that arrive before the connection is over make no difference
 get_set : (xs : List Link) (i : ℕ) (x y : Link) → slice_get xs i ≡ Some x → slice_get (slice_set xs i y) i ≡ Some y

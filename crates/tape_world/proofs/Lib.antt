@@ -1,5 +1,4 @@
 pub mod Linked
-pub mod Sound
 pub mod Server
 pub mod Reached
 pub mod Clients
@@ -9,6 +8,7 @@ pub mod Starting
 pub mod Ending
 pub mod Talking
 pub mod Sending
+pub mod Saving
 pub mod Hearing
 pub mod HearingWorld
 pub mod Apart
@@ -17,7 +17,7 @@ pub mod RunningOn
 pub mod RunningInOrder
 pub mod Told
 pub mod Serving
-pub mod ServingStock
+pub mod Known
 pub mod ServingRow
 pub mod Free
 pub mod Online

@@ -1,11 +1,11 @@
--- Connections by their numbers, and which of them stay the client's.
-use Rattle.std.proofs.Common.{◌≡◌, ℕ, zero, suc, ◌+◌, ◌-◌, ◌<◌, ◌≤◌, List, [], ◌∷◌, length, map, option_map, Option, Some, refl, sym, ap, ◌∙◌, arith}
-use Rattle.std.specs.Prelude.{slice_get, slice_set, slice_index_or}
-use Rattle.std.proofs.lemmas.List.{map-set, set-get_or, length-map}
+-- Connections by their numbers, in memory and as they are seen.
+use Rattle.std.proofs.Common.{◌≡◌, ℕ, zero, suc, ◌+◌, ◌-◌, ◌<◌, ◌≤◌, List, [], ◌∷◌, length, map, option_map, Option, Some, refl, sym, ap, ◌∙◌, arith, ◌++◌, None}
+use Rattle.std.specs.Prelude.{slice_get, slice_set, slice_index_or, take, drop}
+use Rattle.std.proofs.lemmas.List.{map-set, set-get_or, length-map, length-set, take_all, drop_all, append-nil}
 use Rattle.std.proofs.Math.ListN.{get_or-map}
-use Rattle.std.proofs.lemmas.Option.{slice_get-map, slice_get-get_or}
-use Rattle.tape_events.specs.World.{Link, numbered, with_numbered}
-use Rattle.tape_events.specs.Changes.{changed, changed_from, over_here}
+use Rattle.std.proofs.lemmas.Option.{slice_get-map, slice_get-get_or, same_Some}
+use Rattle.tape_events.specs.World.{Link, numbered, with_numbered, World}
+use Rattle.tape_events.specs.Changes.{changed, changed_from, over_here, link_of}
 use Rattle.tape_world.specs.declared.link.Link.{Link as RealLink}
 use Rattle.tape_world.specs.Seen.{seen_link}
 
@@ -76,3 +76,55 @@ front_put links first i x d so within is =
 pub front_end : (links first : List RealLink) (i : ℕ) → map seen_link links ≡ ended_front i (map seen_link first) → length first ≤ i
     → map seen_link links ≡ map over_here (map seen_link first)
 front_end links first i so within = so ∙ front_all i (map seen_link first) (omega (arith, within, length-map first seen_link))
+
+-- ---- connections in a vector
+
+length_from : (f : Link → Link) (xs : List Link) (j : ℕ) (o : Option Link) → length (changed_from f xs j o) ≡ length xs
+length_from f xs j None = refl
+length_from f xs zero (Some x) = refl
+length_from f xs (suc i) (Some x) = length-set xs i (f x)
+
+pub length_changed : (f : Link → Link) (xs : List Link) (j : ℕ) → length (changed f xs j) ≡ length xs
+length_changed f xs j = length_from f xs j (numbered xs j)
+
+-- a vector's items after others of their number were written over them
+items_after : (n : ℕ) (items ws : List RealLink) → n ≡ length items → length ws ≡ length items → take n (ws ++ drop (length ws) items) ≡ ws
+items_after n items ws len same =
+    ap (λ l. take n (ws ++ l)) (drop_all (length ws) items (omega (arith, same))) ∙ ap (take n) (append-nil ws) ∙ take_all n ws (omega (arith, len, same))
+
+-- what is seen of the connections in a vector, of which one was changed
+pub links_after : (f : Link → Link) (n : ℕ) (items xs ws : List RealLink) (k : ℕ) → n ≡ length items → xs ≡ items → map seen_link ws ≡ changed f (map seen_link xs) k
+    → map seen_link (take n (ws ++ drop (length ws) items)) ≡ changed f (map seen_link items) k
+links_after f n items xs ws k len value is =
+    let here : map seen_link ws ≡ changed f (map seen_link items) k = is ∙ ap (λ l. changed f (map seen_link l) k) value in
+    let same : length ws ≡ length items
+    = sym (length-map ws seen_link) ∙ ap length here ∙ length_changed f (map seen_link items) k ∙ length-map items seen_link in
+    ap (map seen_link) (items_after n items ws len same) ∙ here
+
+pub links_over : (n : ℕ) (items xs ws : List RealLink) → n ≡ length items → xs ≡ items → map seen_link ws ≡ map over_here (map seen_link xs)
+    → map seen_link (take n (ws ++ drop (length ws) items)) ≡ map over_here (map seen_link items)
+links_over n items xs ws len value is =
+    let here : map seen_link ws ≡ map over_here (map seen_link items) = is ∙ ap (λ l. map over_here (map seen_link l)) value in
+    let same : length ws ≡ length items
+    = sym (length-map ws seen_link) ∙ ap length here ∙ length-map (map seen_link items) over_here ∙ length-map items seen_link in
+    ap (map seen_link) (items_after n items ws len same) ∙ here
+
+pub links_same : (n : ℕ) (items xs ws : List RealLink) → n ≡ length items → xs ≡ items → map seen_link ws ≡ map seen_link xs
+    → map seen_link (take n (ws ++ drop (length ws) items)) ≡ map seen_link items
+links_same n items xs ws len value is =
+    let here : map seen_link ws ≡ map seen_link items = is ∙ ap (map seen_link) value in
+    let same : length ws ≡ length items = sym (length-map ws seen_link) ∙ ap length here ∙ length-map items seen_link in
+    ap (map seen_link) (items_after n items ws len same) ∙ here
+
+-- the connection of that number, which was found
+pub link_is : (w : World) (items xs : List RealLink) (k : ℕ) (r : Option RealLink) (l : RealLink) → w.links ≡ map seen_link items → xs ≡ items
+    → option_map seen_link r ≡ numbered (map seen_link xs) k → r ≡ Some l → link_of w k ≡ Some (seen_link l)
+link_is w items xs k r l links value is some =
+    ap (λ ls. numbered ls k) (links ∙ ap (map seen_link) (sym value)) ∙ sym is ∙ ap (option_map seen_link) some
+
+-- there is one connection of a number
+pub same_link : (w : World) (k : ℕ) (x y : Link) → link_of w k ≡ Some x → link_of w k ≡ Some y → x ≡ y
+same_link w k x y one other = same_Some x y (sym one ∙ other)
+
+pub no_link : (w : World) (k : ℕ) (x : Link) → link_of w k ≡ None → link_of w k ≡ Some x → ⊥
+no_link w k x none some = cc

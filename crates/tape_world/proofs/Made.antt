@@ -1,22 +1,22 @@
 -- How a new world's stacks are laid.
-use Rattle.std.proofs.Common.{◌≡◌, ℕ, zero, suc, ◌+◌, ◌<◌, ◌≤◌, List, [], ◌∷◌, ◌++◌, length, take, drop, map, get_or, slice_set, slice_index_or, replicate, false, Some, None, Result, Ok, Err, OnOk, refl, sym, ap, subst, ◌∙◌, append_assoc, arith}
+use Rattle.std.proofs.Common.{Bool, true, ◌≡◌, ℕ, suc, ◌+◌, ◌<◌, List, [], ◌∷◌, ◌++◌, length, take, drop, map, get_or, slice_set, slice_index_or, replicate, false, Some, None, Result, Ok, Err, OnOk, refl, sym, ap, subst, ◌∙◌, append_assoc, arith}
 use Rattle.std.specs.Prelude.{is_err, Contains, Vec}
 use Rattle.std.specs.declared.alloc.Global.{Global}
 use Rattle.std.specs.List.{flat_map}
 use Rattle.std.proofs.lemmas.List.Concat.{flat_map-cons, flat_map-append}
-use Rattle.std.proofs.lemmas.List.Elements.{All-nil, All-cons, Contains-append_left, Contains-append_right}
+use Rattle.std.proofs.lemmas.List.Sums.{sum_by-cons}
+use Rattle.std.proofs.lemmas.Slice.Eq.{bytes_eq-Decides}
 use Rattle.drives.specs.declared.fault.DriveFault.{DriveFault}
-use Rattle.std.proofs.lemmas.List.{length-set, get_or-set_same, set-set, set-get_or, append-nil, length-append, length-map, length-replicate, drop_all, map-append, map_more, take_more}
+use Rattle.std.proofs.lemmas.List.{length-set, get_or-set_same, set-set, append-nil, length-map, map-append, map_more, take_more}
 use Rattle.std.proofs.lemmas.Result.{on_ok_weaker}
 use Rattle.tape.specs.Trouble.{TroubledTape}
-use Rattle.drives.specs.Shop.{KeptReel, kept_reel, Slot, slot, Rack, rack, ShopOf, Shop, shop, rack_at, with_rack}
+use Rattle.drives.specs.Shop.{KeptReel, kept_reel, Slot, slot, Rack, rack, ShopOf, Shop, shop, rack_at, with_rack, times, names_in}
 use Rattle.drives.specs.ListShop.{ListShop, shop_of, blank_reel, rest_slot, rest_rack, with_drive, with_reel, IsDriveAdded, IsReelAdded}
 use Rattle.drives.proofs.Arranging.{names_from}
+use Rattle.drives.proofs.Shops.{bit}
+use Rattle.std.specs.Str.{bytes_eq}
 use Rattle.dumpdates.specs.Entry.{DatesEntry}
-use Rattle.rmt_server.specs.Hall.{hall, Side}
-use Rattle.tape_events.specs.World.{numbered}
-use Rattle.tape_events.specs.Changes.{side_of}
-use Rattle.tape_world.specs.Holding.{IsSound}
+use Rattle.rmt_server.specs.Hall.{hall}
 use Rattle.tape_host.specs.Halls.{Hosted, hosted}
 use Rattle.tape_host.specs.Lying.{Lie, StacksLie, AllLie}
 use Rattle.tape_events.specs.First.{PlainDriveSpec, blank_rack, first_world}
@@ -25,13 +25,8 @@ use Rattle.tape_world.specs.declared.caller.Begun.{Begun as RealBegun}
 use Rattle.tape_world.specs.declared.books.Books.{Books}
 use Rattle.tape_world.specs.Seen.{seen_link, seen_begun, seen_count, seen_opening, seen_entered, book_names, world_of}
 use Rattle.tape_world.specs.declared.drive_spec.DriveSpec.{DriveSpec}
-use Rattle.tape_world.specs.Serving.{AreKnown, IsShopKnown}
+use Rattle.tape_world.specs.Serving.{IsShopKnown}
 use Rattle.tape_world.specs.Making.{plain_drive_spec, reels_of, blank_slots, laid_rack, laid_shop, with_laid, with_slots}
-
-no_slots : (s : ShopOf TroubledTape) (d : ℕ) → with_slots s d [] ≡ s
-no_slots s d =
-    ap (λ stack. with_rack s d (rack (rack_at s d).name stack)) (append-nil (rack_at s d).stack)
-    ∙ ap (λ racks. shop racks s.bin) (set-get_or s.racks d (rack [] []))
 
 one_slot : (s : ShopOf TroubledTape) (d : ℕ) (name : List ℕ) (capacity : ℕ) (slots : List (Slot TroubledTape)) → d < length s.racks
     → with_slots (with_reel s d name capacity) d slots ≡ with_slots s d (slot name (Some (blank_reel capacity)) ∷ slots)
@@ -73,12 +68,6 @@ pub next_reel : {A U : Type 0} (f : A → List ℕ) (first : ShopOf TroubledTape
 next_reel f first now new d capacity names i x r l m h e same =
     more_reels f first now.shop new.shop d capacity names i x l m (reel_added now new d (f (get_or names i x)) capacity r h e) same
 
-pub all_reels_in : {A : Type 0} (f : A → List ℕ) (first now : ShopOf TroubledTape) (d capacity : ℕ) (names : List A) (i : ℕ) → length names ≤ i
-    → with_slots now d (blank_slots capacity (map f (drop i names))) ≡ with_slots first d (blank_slots capacity (map f names))
-    → now ≡ with_slots first d (blank_slots capacity (map f names))
-all_reels_in f first now d capacity names i past same =
-    sym (no_slots now d) ∙ ap (λ ns. with_slots now d (blank_slots capacity (map f ns))) (sym (drop_all i names past)) ∙ same
-
 last_is : {X : Type 0} (racks : List (Rack X)) (r : Rack X) → slice_index_or (racks ++ r ∷ []) (length racks) (rack [] []) ≡ r
 last_is [] r = refl
 last_is (x ∷ racks) r = last_is racks r
@@ -97,28 +86,12 @@ laid_on s d =
 abbrev pub laid_after : ShopOf TroubledTape → List DriveSpec → ShopOf TroubledTape
 laid_after s drives = shop (s.racks ++ map laid_rack drives) s.bin
 
-pub more_drives : (now new : ShopOf TroubledTape) (drives : List DriveSpec) (i : ℕ) (x : DriveSpec) → new ≡ with_laid now x → drop i drives ≡ x ∷ drop (i + 1) drives
-    → laid_after now (drop i drives) ≡ laid_shop drives → laid_after new (drop (i + 1) drives) ≡ laid_shop drives
-more_drives now new drives i x made next same =
-    ap (λ (s : ShopOf TroubledTape). laid_after s (drop (i + 1) drives)) made
-    ∙ ap (λ racks. shop racks now.bin) (append_assoc now.racks (laid_rack x ∷ []) (map laid_rack (drop (i + 1) drives)))
-    ∙ ap (λ ds. laid_after now ds) (sym next) ∙ same
-
-pub all_drives_in : (now : ShopOf TroubledTape) (drives : List DriveSpec) (i : ℕ) → length drives ≤ i → laid_after now (drop i drives) ≡ laid_shop drives → now ≡ laid_shop drives
-all_drives_in now drives i past same =
-    ap (λ racks. shop racks now.bin) (sym (append-nil now.racks)) ∙ ap (laid_after now) (sym (drop_all i drives past)) ∙ same
-
 -- what an added drive came to, with its reels
 pub drive_laid : {U E : Type 0} (old made : ListShop) (new : ShopOf TroubledTape) (d : DriveSpec) (number : ℕ) (r : Result U E) → IsDriveAdded old d.name.now (Ok number) made
     → OnOk r (new ≡ with_slots made.shop number (blank_slots d.capacity (reels_of d))) → OnOk r (new ≡ with_laid old.shop d)
 drive_laid old made new d number r added laid =
     on_ok_weaker r (λ is. is ∙ ap (λ (s : ListShop). with_slots s.shop number (blank_slots d.capacity (reels_of d))) added.2
     ∙ ap (λ n. with_slots (with_drive old.shop d.name.now) n (blank_slots d.capacity (reels_of d))) added.1 ∙ laid_on old.shop d) laid
-
-pub drive_there : (old made : ListShop) (name : List ℕ) (number : ℕ) → IsDriveAdded old name (Ok number) made → number < length made.shop.racks
-drive_there old made name number added =
-    let racks = ap (λ (s : ListShop). length s.shop.racks) added.2 in
-    omega (arith, racks, added.1, length-append old.shop.racks (rack name [] ∷ []))
 
 -- ---- what is told of them
 
@@ -157,7 +130,7 @@ first_hall host s drives n laid is count =
 pub made_world : (host : Hosted) (drives : List DriveSpec) (links : List RealLink) (begun : List RealBegun) (books : Books) (dates : List DatesEntry)
     → host.hall ≡ hall (shop (map blank_rack (map plain_drive_spec drives)) []) (replicate (length (map plain_drive_spec drives)) 0) [] → links ≡ [] → begun ≡ []
     → books.counts.items ≡ [] → books.opens.items ≡ [] → books.entered.items ≡ [] → books.failure ≡ None → dates ≡ []
-    → world_of host.hall links begun None None books dates ≡ first_world (map plain_drive_spec drives)
+    → world_of host.hall links begun None None None books dates ≡ first_world (map plain_drive_spec drives)
 made_world host drives links begun books dates there no_links no_runs no_counts no_opens no_entered no_failure no_dates =
     let links_none : map seen_link links ≡ [] = ap (map seen_link) no_links in
     let begun_none : map seen_begun begun ≡ [] = ap (map seen_begun) no_runs in
@@ -186,54 +159,36 @@ names_more now new drives i d l added same =
 next_among : (x y : List ℕ) (xs : List (List ℕ)) → Contains xs y → Contains (x ∷ xs) y
 next_among x y xs (k, within, is) = (suc k, omega (arith, within), is)
 
-reels_known : (capacity : ℕ) (reels names : List (List ℕ)) → ((x : List ℕ) → Contains reels x → Contains names x)
-    → AreKnown names (map (λ name. slot name (Some (kept_reel [] capacity))) reels)
-reels_known capacity [] names among = All-nil (λ (s : Slot KeptReel). Contains names s.name)
-reels_known capacity (reel ∷ reels) names among =
-    All-cons (λ (s : Slot KeptReel). Contains names s.name) (slot reel (Some (kept_reel [] capacity))) (map (λ name. slot name (Some (kept_reel [] capacity))) reels)
-    (among reel (0, omega arith, refl)) (reels_known capacity reels names (λ x at. among x (next_among reel x reels at)))
+has_step : (name x : List ℕ) (xs : List (List ℕ)) (b : Bool) → bytes_eq name x ≡ b → 0 < times name (x ∷ xs) → (0 < times name xs → Contains xs name)
+    → Contains (x ∷ xs) name
+has_step name x xs true is some rest = (0, omega arith, sym ((bytes_eq-Decides name x).0 is))
+has_step name x xs false is some rest =
+    let all = sum_by-cons (λ n. bit (bytes_eq name n)) x xs in
+    let none : bit (bytes_eq name x) ≡ 0 = ap bit is in
+    next_among x name xs (rest (omega (arith, all, none, some)))
 
-stacks_known : (drives : List PlainDriveSpec) (names : List (List ℕ)) → ((x : List ℕ) → Contains (flat_map (λ d. d.reels) drives) x → Contains names x) → (d : ℕ)
-    → AreKnown names (slice_index_or (map blank_rack drives) d (rack [] [])).stack
-stacks_known [] names among d = All-nil (λ (s : Slot KeptReel). Contains names s.name)
-stacks_known (drive ∷ drives) names among zero = reels_known drive.capacity drive.reels names
-    (λ x at. among x (subst (λ l. Contains l x) (sym (flat_map-cons (λ (d : PlainDriveSpec). d.reels) drive drives))
-    (Contains-append_left drive.reels (flat_map (λ (d : PlainDriveSpec). d.reels) drives) x at)))
-stacks_known (drive ∷ drives) names among (suc d) = stacks_known drives names
-    (λ x at. among x (subst (λ l. Contains l x) (sym (flat_map-cons (λ (d : PlainDriveSpec). d.reels) drive drives))
-    (Contains-append_right drive.reels (flat_map (λ (d : PlainDriveSpec). d.reels) drives) x at))) d
+times_has : (name : List ℕ) (names : List (List ℕ)) → 0 < times name names → Contains names name
+times_has name [] some = absurd (omega (arith, some))
+times_has name (x ∷ xs) some = has_step name x xs (bytes_eq name x) refl some (times_has name xs)
 
-plain_reels : (drives : List DriveSpec) → flat_map (λ (d : PlainDriveSpec). d.reels) (map plain_drive_spec drives) ≡ flat_map reels_of drives
-plain_reels [] = refl
-plain_reels (d ∷ drives) =
-    flat_map-cons (λ (x : PlainDriveSpec). x.reels) (plain_drive_spec d) (map plain_drive_spec drives) ∙ ap (λ l. reels_of d ++ l) (plain_reels drives)
-    ∙ sym (flat_map-cons reels_of d drives)
+names_blank : (capacity : ℕ) (names : List (List ℕ)) → map (λ x. x.name) (map (λ name. slot name (Some (kept_reel [] capacity))) names) ≡ names
+names_blank capacity [] = refl
+names_blank capacity (name ∷ names) = ap (λ ns. name ∷ ns) (names_blank capacity names)
 
-pub stocked_new : (names : List (List ℕ)) (s : Shop) (drives : List DriveSpec) → names ≡ flat_map reels_of drives
+names_new : (drives : List DriveSpec) → map (λ x. x.name) (flat_map (λ (r : Rack KeptReel). r.stack) (map blank_rack (map plain_drive_spec drives))) ≡ flat_map reels_of drives
+names_new [] = refl
+names_new (d ∷ drives) =
+    let more = flat_map (λ (r : Rack KeptReel). r.stack) (map blank_rack (map plain_drive_spec drives)) in
+    ap (map (λ (x : Slot KeptReel). x.name)) (flat_map-cons (λ (r : Rack KeptReel). r.stack) (blank_rack (plain_drive_spec d)) (map blank_rack (map plain_drive_spec drives)))
+    ∙ map-append (λ (x : Slot KeptReel). x.name) (blank_rack (plain_drive_spec d)).stack more
+    ∙ ap (λ ns. ns ++ map (λ (x : Slot KeptReel). x.name) more) (names_blank d.capacity (reels_of d))
+    ∙ ap (λ ns. reels_of d ++ ns) (names_new drives) ∙ sym (flat_map-cons reels_of d drives)
+
+pub known_new : (names : List (List ℕ)) (s : Shop) (drives : List DriveSpec) → names ≡ flat_map reels_of drives
     → s ≡ shop (map blank_rack (map plain_drive_spec drives)) [] → IsShopKnown names s
-stocked_new names s drives is laid = record {
-  stacks = λ d. subst (λ (v : Shop). AreKnown names (rack_at v d).stack) (sym laid)
-      (stacks_known (map plain_drive_spec drives) names (λ x at. subst (λ l. Contains l x) (plain_reels drives ∙ sym is) at) d);
-  bin = subst (λ (v : Shop). AreKnown names v.bin) (sym laid) (All-nil (λ (x : Slot KeptReel). Contains names x.name));
-}
-
--- a world where nothing has happened is sound
-no_number : {X : Type 0} (k : ℕ) (x : X) → numbered {X = X} [] k ≡ Some x → ⊥
-no_number zero x is = cc
-no_number (suc k) x is = cc
-
-no_side : (drives : List PlainDriveSpec) (k : ℕ) (s : Side) → side_of (first_world drives).hall k ≡ Some s → ⊥
-no_side drives zero s is = cc
-no_side drives (suc k) s is = cc
-
-pub first_sound : (drives : List PlainDriveSpec) → IsSound (first_world drives)
-first_sound drives = record {
-  paired = record { links = refl; holders = length-replicate (length drives) 0 ∙ sym (length-map drives blank_rack) };
-  readable = λ k s at. absurd (no_side drives k s at);
-  owned = record {
-    own = λ k is. absurd cc;
-    attempt = λ c is inside. absurd cc;
-    only = λ k clients. absurd (no_number k clients.0 clients.2);
-  };
-  begun = λ c is. absurd cc;
-}
+known_new names s drives is laid name has =
+    let all : names_in s ≡ names
+    = ap (λ (v : Shop). names_in v) laid
+    ∙ ap (map (λ (x : Slot KeptReel). x.name)) (append-nil (flat_map (λ (r : Rack KeptReel). r.stack) (map blank_rack (map plain_drive_spec drives)))) ∙ names_new drives
+    ∙ sym is in
+    times_has name names (subst (λ l. 0 < times name l) all has)

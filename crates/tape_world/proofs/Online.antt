@@ -1,8 +1,7 @@
 -- Reels that live sides have online.
-use Rattle.std.proofs.Common.{◌≡◌, ℕ, zero, suc, ◌+◌, ◌<◌, ◌≤◌, List, [], ◌∷◌, length, take, option_map, Option, Some, None, refl, sym, ap, ◌∙◌, add-one, arith}
+use Rattle.std.proofs.Common.{◌≡◌, ℕ, zero, suc, ◌+◌, ◌<◌, List, [], ◌∷◌, length, take, option_map, Option, Some, None, refl, sym, ap, ◌∙◌, add-one, arith}
 use Rattle.std.specs.Prelude.{slice_index_or}
 use Rattle.std.specs.Option.{option_or}
-use Rattle.std.proofs.lemmas.List.{take_all}
 use Rattle.std.proofs.lemmas.Option.{slice_get_within}
 use Rattle.tape_events.specs.Standing.{AreHeld}
 use Rattle.tape.specs.Tape.{Tape}
@@ -10,7 +9,7 @@ use Rattle.drives.specs.Shop.{Shop}
 use Rattle.rmt_server.specs.Session.{PlainSession}
 use Rattle.rmt_server.specs.TroubledServe.{drive_in}
 use Rattle.rmt_server.specs.Hall.{Hall, Side}
-use Rattle.tape_host.specs.Halls.{side_at, drive_open_by, IsHeldOnce}
+use Rattle.tape_host.specs.Halls.{side_at}
 use Rattle.tape_events.specs.Changes.{side_of}
 use Rattle.tape_world.specs.Entries.{AreOpenThere, tape_online, first_tape_online}
 use Rattle.tape_world.proofs.Server.{side_found}
@@ -24,16 +23,6 @@ there_by h k d (Some x) s there at told is = let same : x.session ≡ s = cc in 
 pub drive_there : (h : Hall) (k d : ℕ) (s : PlainSession) → AreOpenThere h → option_map (λ (x : Side). x.session) (side_at h.sides k) ≡ Some s
     → drive_in s ≡ Some d → d < length h.shop.racks
 drive_there h k d s there told is = there_by h k d (side_at h.sides k) s there (sym (side_found h k)) told is
-
-open_by : (h : Hall) (k : ℕ) (x : Side) → side_of h k ≡ Some x → drive_open_by (side_at h.sides k) ≡ drive_in x.session
-open_by h k x at = ap drive_open_by (side_found h k ∙ at)
-
--- where holders are told of live sides, each drive that one has open is there
-pub there_once : (h : Hall) → IsHeldOnce h → length h.holders ≡ length h.shop.racks → AreOpenThere h
-there_once h once paired zero d s at is = absurd cc
-there_once h once paired (suc i) d s at is =
-    let held = (once d (suc i) (omega arith)).1 (open_by h (suc i) s at ∙ is) in
-    omega (arith, held.0, paired)
 
 or_none : {T : Type 0} (a b : Option T) → option_or a b ≡ None → (a ≡ None) × (b ≡ None)
 or_none None b is = (refl, is)
@@ -71,10 +60,6 @@ pub none_more : (name : List ℕ) (s : Shop) (sides : List (Option Side)) (i : �
 none_more name s sides i o none is here =
     ap (λ n. first_tape_online name s (take n sides)) (add-one i)
     ∙ none_here name s sides i none (sym (ap (tape_online name s) (side_here sides i)) ∙ sym is ∙ here)
-
-pub none_at_all : (name : List ℕ) (s : Shop) (sides : List (Option Side)) (i : ℕ) → length sides ≤ i → first_tape_online name s (take i sides) ≡ None
-    → first_tape_online name s sides ≡ None
-none_at_all name s sides i all none = sym (ap (first_tape_online name s) (take_all i sides all)) ∙ none
 
 -- each drive that a live side has open is there, where holders are those that have them open
 pub held_there : (h : Hall) → AreHeld h → AreOpenThere h

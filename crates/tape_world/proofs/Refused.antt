@@ -11,11 +11,13 @@ use Rattle.tape_world.specs.declared.caller.Begun.{Begun as RealBegun}
 use Rattle.tape_world.specs.declared.caller.Caller.{Caller as RealCaller}
 use Rattle.tape_world.specs.Seen.{seen_caller}
 use Rattle.tape_world.specs.Calling.{Starts}
-use Rattle.tape_world.specs.Holding.{IsEvent, IsSound, IsSourced}
+use Rattle.tape_world.specs.Holding.{IsEvent, IsSourced}
 use Rattle.tape_world.proofs.Clients.{sourced_same}
 
-pub sound_same : (w u : World) → u ≡ w → IsSound w → IsSound u
-sound_same w u is s = subst IsSound (sym is) s
+-- memory was refused, and nothing changed
+pub refused_event : (w u : World) (event : PlainEvent) (r : Result Unit EventStop) → IsErrAnd r (λ stop. stop ≡ OutOfMemory) → u ≡ w → IsEvent w event r u
+refused_event w u event (Ok x) refused same = absurd refused
+refused_event w u event (Err stop) refused same = subst (λ s. IsEvent w event (Err s) u) (sym refused) same
 
 -- a client that started no attempt is seen as before
 pub unstarted_seen : (o new : Option RealCaller) (stop : EventStop) → Starts o (Err stop) new → option_map seen_caller new ≡ option_map seen_caller o

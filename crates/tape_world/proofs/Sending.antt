@@ -1,7 +1,7 @@
 -- What the client's next request leaves of a world.
 use Rattle.std.proofs.Common.{◌≡◌, ◌≤◌, Bool, true, false, List, [], ◌∷◌, length, map, option_map, Option, Some, None, refl, sym, ap, subst, ◌∙◌, ℕ, zero, suc, arith}
 use Rattle.std.specs.Option.{is_some}
-use Rattle.std.specs.Prelude.{IsTrue, slice_get}
+use Rattle.std.specs.Prelude.{slice_get}
 use Rattle.std.proofs.lemmas.Option.{same_Some, slice_get-map}
 use Rattle.std.proofs.lemmas.List.{length-map}
 use Rattle.rmt_wire.specs.Request.{request_text}
@@ -15,20 +15,18 @@ use Rattle.dump_client.specs.declared.stage.Stage.TheVariants.{Ready, ToSend, Wa
 use Rattle.dump_client.specs.declared.stage.State.TheVariants as told
 use Rattle.dump_client.specs.declared.fault.AttemptFault.{AttemptFault}
 use Rattle.dump_client.specs.declared.fault.AttemptFault.TheVariants.{SourceFault}
-use Rattle.tape_events.specs.World.{World, Link, Dumping, Caller, numbered}
-use Rattle.tape_events.specs.Changes.{changed, noted_sent, over_there}
+use Rattle.tape_events.specs.World.{World, Link, Caller, numbered}
+use Rattle.tape_events.specs.Changes.{changed, over_there}
 use Rattle.tape_events.specs.Events.PlainEvent.{Send}
 use Rattle.tape_events.specs.Rows.{StandsIn}
-use Rattle.tape_events.specs.Steps.{Happens, Sends, caller, is_failing, sent_link}
+use Rattle.tape_events.specs.Steps.{Happens, Sends, caller, is_failing}
 use Rattle.tape_world.specs.declared.link.Link.{Link as RealLink}
 use Rattle.tape_world.specs.declared.caller.Begun.{Begun as RealBegun}
 use Rattle.tape_world.specs.declared.caller.Caller.{Caller as RealCaller}
 use Rattle.tape_world.specs.Seen.{seen_begun, seen_caller, seen_link}
+use Rattle.tape_world.specs.Calling.{IsPlaced}
 use Rattle.tape_world.specs.Talking.{Asks, AskedOf, IsToSend, talked}
-use Rattle.tape_world.specs.Holding.{is_in_attempt, IsOwned, IsSound, IsSourced}
-use Rattle.tape_world.proofs.Sound.{KeepsOurs, SameClients, changed_clients, length_changed}
-use Rattle.tape_world.proofs.Clients.{client_sound, same_begun}
-use Rattle.tape_world.proofs.Ending.{gone_owned}
+use Rattle.tape_world.specs.Holding.{is_in_attempt, IsOwned, IsSourced}
 
 told_to_send : (stage : Stage) → state_of stage ≡ told.ToSend → (step : Step) × (stage ≡ ToSend step)
 told_to_send Ready is = absurd cc
@@ -44,9 +42,6 @@ to_send w None is (x, at, tells) = (let clash = sym is ∙ at in absurd cc)
 to_send w (Some c) is (x, at, tells) =
     let stage = told_to_send x.at.stage tells in
     (c, stage.0, refl, ap (λ (y : Caller). y.at.stage) (same_Some (seen_caller c) x (sym is ∙ at)) ∙ stage.1)
-
-pub tells_to_send : (w : World) → StandsIn w (λ stage. (step : Step) × (stage ≡ ToSend step)) → StandsIn w (λ stage. state_of stage ≡ told.ToSend)
-tells_to_send w (x, is, (step, stage)) = (x, is, ap state_of stage)
 
 -- a client that is to send has a connection of its own
 pub has_own : (w : World) → IsOwned w → w.own ≡ None → StandsIn w (λ stage. (step : Step) × (stage ≡ ToSend step)) → ⊥
@@ -69,6 +64,10 @@ own_within w items k links own o =
     let (l, d, at, other, dump) = (o.own k own).0 in
     let within = numbered_within w.links k l at in
     (within.0, subst (λ n. k ≤ n) (ap length links ∙ length-map items seen_link) within.1)
+
+pub own_placed : (w : World) (items : List RealLink) (o : Option ℕ) → w.links ≡ map seen_link items → w.own ≡ o → IsOwned w → IsPlaced o (length items)
+own_placed w items None links own owned = tt
+own_placed w items (Some k) links own owned = own_within w items k links own owned
 
 -- its own connection after that
 abbrev pub own_after : Option (ℕ × AttemptFault) → Option ℕ → Option ℕ
@@ -94,47 +93,6 @@ asked_fails : (b : Bool) (c : RealCaller) (step : Step) (text : List ℕ) (failu
     → (b ≡ true) × (Some failure ≡ Some ((checkpoint_of c.client.at.counts).0, SourceFault)) × (d.client.at ≡ standing c.client.at.run c.client.at.counts Asking)
 asked_fails true c step text failure d (fails, at) = (refl, fails, at)
 asked_fails false c step text failure d (none, at, fed, is) = absurd cc
-
--- the client's connection stays its own
-sent_dump : (o : Option Dumping) (d : Dumping) → option_map noted_sent o ≡ Some d → (e : Dumping) × (o ≡ Some e)
-sent_dump None d is = absurd cc
-sent_dump (Some e) d is = (e, refl)
-
-sent_keeps : (text : List ℕ) → KeepsOurs (sent_link text)
-sent_keeps text = (
-  λ l (other, (d, is)). (other, (noted_sent d, ap (option_map noted_sent) is)),
-  λ l (other, (d, is)). (other, sent_dump l.dump d is),
-)
-
-still_owned : (w u : World) (x : Caller) (k : ℕ) → u.own ≡ w.own → w.own ≡ Some k → u.caller ≡ Some x → IsTrue (is_in_attempt x.at.stage) → SameClients w u
-    → IsOwned w → IsOwned u
-still_owned w u x k same own is inside clients o = record {
-  own = λ j at. (clients.on j (o.own j (sym same ∙ at)).0, (x, is, inside));
-  attempt = λ c at within. (k, same ∙ own);
-  only = λ j ours. same ∙ o.only j (clients.back j ours);
-}
-
-pub talked_sound : (w u : World) (k : ℕ) (o new : Option RealCaller) (fails : Bool) (text : List ℕ) (failure : Option (ℕ × AttemptFault)) → w.own ≡ Some k
-    → u.hall ≡ w.hall → u.links ≡ changed (talked text failure) w.links k → u.begun ≡ w.begun → u.own ≡ own_after failure w.own
-    → w.caller ≡ option_map seen_caller o → u.caller ≡ option_map seen_caller new → Asks o fails text failure new → IsSound w → IsSound u
-talked_sound w u k o new fails text None own hall links begun after was is a s =
-    let old : w.caller ≡ Some (seen_caller a.before) = was ∙ ap (option_map seen_caller) a.was in
-    let now : u.caller ≡ Some (seen_caller a.after) = is ∙ ap (option_map seen_caller) a.is in
-    let at = (asked_sends (is_failing fails a.step) a.before a.step text a.after a.asked).1 in
-    client_sound w u hall (ap length links ∙ length_changed (sent_link text) w.links k)
-    (still_owned w u (seen_caller a.after) k after own now (ap (λ (z : Standing). is_in_attempt z.stage) at)
-    (changed_clients (sent_link text) (sent_keeps text) w u k links) s.owned)
-    (same_begun w u (seen_caller a.before) (seen_caller a.after) old now a.number (ap (λ z. z.run) at) begun s.begun)
-    s
-talked_sound w u k o new fails text (Some failure) own hall links begun after was is a s =
-    let old : w.caller ≡ Some (seen_caller a.before) = was ∙ ap (option_map seen_caller) a.was in
-    let now : u.caller ≡ Some (seen_caller a.after) = is ∙ ap (option_map seen_caller) a.is in
-    let at = (asked_fails (is_failing fails a.step) a.before a.step text failure a.after a.asked).2 in
-    client_sound w u hall (ap length links ∙ length_changed over_there w.links k)
-    (gone_owned w u (Some k) own links after
-    (λ c there. ap (λ (x : Caller). is_in_attempt x.at.stage) (sym (same_Some (seen_caller a.after) c (sym now ∙ there))) ∙ ap (λ z. is_in_attempt z.stage) at) s.owned)
-    (same_begun w u (seen_caller a.before) (seen_caller a.after) old now a.number (ap (λ z. z.run) at) begun s.begun)
-    s
 
 -- its payload is that of its run, as before
 pub talked_sourced : (begun : List RealBegun) (o new : Option RealCaller) (fails : Bool) (text : List ℕ) (failure : Option (ℕ × AttemptFault)) → Asks o fails text failure new

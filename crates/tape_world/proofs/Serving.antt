@@ -1,6 +1,6 @@
 -- What a turn of the server's side makes of a connection.
-use Rattle.std.proofs.Common.{◌≡◌, ℕ, zero, suc, ◌-◌, ◌≤◌, Bool, true, false, not, List, [], ◌∷◌, ◌++◌, length, drop, map, Option, Some, None, refl, sym, ap, subst, ◌∙◌, inl, inr, arith, Vec, Global}
-use Rattle.std.specs.Prelude.{Result, Ok, Err, IfOk, slice_index_or, slice_set, option_map, cond, if◌then◌else◌, ◌==◌, ◌+◌}
+use Rattle.std.proofs.Common.{◌≡◌, ℕ, zero, suc, ◌-◌, ◌≤◌, Bool, true, false, not, List, [], ◌∷◌, ◌++◌, length, drop, map, Option, Some, None, refl, sym, ap, subst, ◌∙◌, arith, Vec, Global}
+use Rattle.std.specs.Prelude.{Contains, Result, Ok, Err, IfOk, slice_index_or, slice_set, option_map, cond, if◌then◌else◌, ◌==◌, ◌+◌}
 use Rattle.std.specs.List.{position_or_len}
 use Rattle.std.specs.Option.{option_to_list}
 use Rattle.std.proofs.lemmas.List.{map-append}
@@ -26,7 +26,7 @@ use Rattle.tape_events.specs.Changes.{changed, sent_on, noted, noted_by, noted_w
 use Rattle.tape_world.specs.declared.link.Link.{Link as RealLink}
 use Rattle.tape_world.specs.declared.books.Opening.{Opening as RealOpening}
 use Rattle.tape_world.specs.Seen.{seen_link, seen_opening, name_at}
-use Rattle.tape_world.specs.Serving.{IsKnown, TurnServes, noted_record, noted_mark, noted_asked, noted_carried, noted_turn}
+use Rattle.tape_world.specs.Serving.{TurnServes, noted_record, noted_mark, noted_asked, noted_carried, noted_turn}
 use Rattle.tape_world.proofs.Linked.{put_link}
 
 -- ---- what is on the way back
@@ -140,29 +140,27 @@ serves_links {E} trouble old new links k x d first last (Err e) t = tt
 
 -- ---- the place of a name
 
-known_tail : (x name : List ℕ) (names : List (List ℕ)) → bytes_eq name x ≡ false → IsKnown (x ∷ names) name → IsKnown names name
-known_tail x name names apart (inl (zero, within, at)) = absurd (let same = (bytes_eq-Decides name x).1 (sym at) in cc)
-known_tail x name names apart (inl (suc i, within, at)) = inl (i, omega (arith, within), at)
-known_tail x name names apart (inr none) = inr none
+known_tail : (x name : List ℕ) (names : List (List ℕ)) → bytes_eq name x ≡ false → Contains (x ∷ names) name → Contains names name
+known_tail x name names apart (zero, within, at) = absurd (let same = (bytes_eq-Decides name x).1 (sym at) in cc)
+known_tail x name names apart (suc i, within, at) = (i, omega (arith, within), at)
 
 next : (p : ℕ) → 1 + p ≡ suc p
 next p = omega arith
 
-place_step : (x name : List ℕ) (names : List (List ℕ)) (p : ℕ) (b : Bool) → bytes_eq name x ≡ b → (IsKnown names name → name_at names p ≡ name) → IsKnown (x ∷ names) name
+place_step : (x name : List ℕ) (names : List (List ℕ)) (p : ℕ) (b : Bool) → bytes_eq name x ≡ b → (Contains names name → name_at names p ≡ name) → Contains (x ∷ names) name
     → name_at (x ∷ names) (cond (not b) (1 + p) 0) ≡ name
 place_step x name names p true is rest known = sym ((bytes_eq-Decides name x).0 is)
 place_step x name names p false is rest known = ap (name_at (x ∷ names)) (next p) ∙ rest (known_tail x name names is known)
 
-pub place_found : (names : List (Vec ℕ Global)) (name : List ℕ) → IsKnown (map (λ n. n.items) names) name
+pub place_found : (names : List (Vec ℕ Global)) (name : List ℕ) → Contains (map (λ n. n.items) names) name
     → name_at (map (λ n. n.items) names) (position_or_len (λ n. bytes_eq name n.items) names) ≡ name
-place_found [] name (inl (k, within, at)) = absurd (omega (arith, within))
-place_found [] name (inr none) = sym none
+place_found [] name (k, within, at) = absurd (omega (arith, within))
 place_found (x ∷ xs) name known =
     place_step x.items name (map (λ n. n.items) xs) (position_or_len (λ n. bytes_eq name n.items) xs) (bytes_eq name x.items) refl (place_found xs name) known
 
 -- one opening more
 pub opening_noted : (names : List (Vec ℕ Global)) (opens new : List RealOpening) (k place : ℕ) (name : List ℕ) (o : Option (List ℕ)) → o ≡ Some name
-    → IsKnown (map (λ n. n.items) names) name → place ≡ position_or_len (λ n. bytes_eq name n.items) names → new ≡ opens ++ record { connection = k; reel = place } ∷ []
+    → Contains (map (λ n. n.items) names) name → place ≡ position_or_len (λ n. bytes_eq name n.items) names → new ≡ opens ++ record { connection = k; reel = place } ∷ []
     → map (seen_opening (map (λ n. n.items) names)) new ≡ map (seen_opening (map (λ n. n.items) names)) opens ++ option_to_list (option_map (opening k) o)
 opening_noted names opens new k place name o some known at is =
     let all = map (λ (n : Vec ℕ Global). n.items) names in

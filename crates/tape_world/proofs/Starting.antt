@@ -1,9 +1,8 @@
 -- What a run that is begun, and an attempt that starts, leave of a world.
-use Rattle.std.proofs.Common.{◌≡◌, true, false, List, [], ◌∷◌, ◌++◌, length, option_map, Option, Some, None, refl, sym, ap, subst, ◌∙◌, inl, inr, ◌⊎◌, ◌+◌, ℕ, zero, suc, arith}
+use Rattle.std.proofs.Common.{◌≡◌, true, false, List, [], ◌∷◌, ◌++◌, length, option_map, Option, Some, None, refl, sym, ap, subst, ◌∙◌, ◌+◌, ℕ, suc, arith}
 use Rattle.std.specs.Result.{is_err}
-use Rattle.std.specs.Prelude.{IsTrue, Result, Ok, Err, slice_get}
+use Rattle.std.specs.Prelude.{Result, Ok, Err, slice_get}
 use Rattle.std.proofs.lemmas.Option.{same_Some}
-use Rattle.std.proofs.lemmas.List.{length-append}
 use Rattle.dump_run.specs.Run.{PlainRun}
 use Rattle.dump_run.specs.Blocks.{cut_blocks, listed}
 use Rattle.dump_client.specs.Standing.{Standing, standing, state_of, checkpoint_of, StartedAt}
@@ -15,23 +14,16 @@ use Rattle.dump_client.specs.declared.stage.State.TheVariants as told
 use Rattle.dump_client.specs.declared.fault.StartFault.{StartFault}
 use Rattle.dump_client.specs.declared.fault.StartFault.TheVariants as refused
 use Rattle.rmt_wire.specs.ReplyReader.{ReplyHeld, ReplyUnread, reply_held}
-use Rattle.rmt_wire.specs.RequestReader.{held}
-use Rattle.rmt_server.specs.Session.PlainSession.{Idle}
-use Rattle.rmt_server.specs.Hall.{side}
-use Rattle.tape_host.specs.Halls.{joined}
 use Rattle.tape_world.specs.Parts.{new_dumping}
 use Rattle.tape_world.specs.declared.stop.EventStop.TheVariants.{OutOfMemory}
-use Rattle.tape_events.specs.World.{World, Link, Dumping, Begun, Caller, numbered}
-use Rattle.tape_events.specs.Changes.{side_of, new_link}
-use Rattle.tape_events.specs.Rows.{StandsIn, NoRun, is_run_done}
+use Rattle.tape_events.specs.World.{World, Dumping, Begun, numbered}
+use Rattle.tape_events.specs.Rows.{StandsIn}
 use Rattle.tape_events.specs.Steps.{caller, fresh}
 use Rattle.tape_world.specs.declared.caller.Begun.{Begun as RealBegun}
 use Rattle.tape_world.specs.declared.caller.Caller.{Caller as RealCaller}
 use Rattle.tape_world.specs.Seen.{seen_begun, seen_caller}
 use Rattle.tape_world.specs.Calling.{IsBegunWith, IsSameRun, IsReady, Starts}
-use Rattle.tape_world.specs.Holding.{is_in_attempt, IsClients, IsOwned, IsSound, IsSourced}
-use Rattle.tape_world.proofs.Sound.{readable_joined}
-use Rattle.tape_world.proofs.Clients.{Rests, not_both, resting_owned, client_sound, same_begun}
+use Rattle.tape_world.specs.Holding.{IsSourced}
 
 -- the last of a list
 get_last : {X : Type 0} (xs : List X) (x : X) → slice_get (xs ++ x ∷ []) (length xs) ≡ Some x
@@ -40,34 +32,6 @@ get_last (y ∷ xs) x = get_last xs x
 
 numbered_last : {X : Type 0} (xs : List X) (x : X) (n : ℕ) → n ≡ length xs + 1 → numbered (xs ++ x ∷ []) n ≡ Some x
 numbered_last xs x n is = (let next : n ≡ suc (length xs) = omega (arith, is) in ap (numbered (xs ++ x ∷ [])) next ∙ get_last xs x)
-
--- no run is under way
-done_rests : (stage : Stage) → IsTrue (is_run_done stage) → is_in_attempt stage ≡ false
-done_rests Ready done = refl
-done_rests (ToSend step) done = absurd cc
-done_rests (Waiting step) done = absurd cc
-done_rests Asking done = refl
-done_rests Finished done = refl
-done_rests Abandoned done = refl
-
-none_rests : (w : World) → NoRun w → Rests w
-none_rests w (inl none) c at = let clash = sym none ∙ at in absurd cc
-none_rests w (inr (x, is, done)) c at =
-    subst (λ (y : Caller). is_in_attempt y.at.stage ≡ false) (same_Some x c (sym is ∙ at)) (done_rests x.at.stage done)
-
-pub begun_sound : (w u : World) (x : Caller) (b : Begun) → NoRun w → u.hall ≡ w.hall → u.links ≡ w.links → u.own ≡ w.own → u.begun ≡ w.begun ++ b ∷ []
-    → u.caller ≡ Some x → x.number ≡ length w.begun + 1 → b.run ≡ x.at.run → is_in_attempt x.at.stage ≡ false → IsSound w → IsSound u
-begun_sound w u x b idle hall links own begun is number run rests s =
-    client_sound w u hall (ap length links)
-    (resting_owned w u links own (none_rests w idle)
-    (λ c at. subst (λ (y : Caller). is_in_attempt y.at.stage ≡ false) (same_Some x c (sym is ∙ at)) rests) s.owned)
-    (λ c at. (
-    let same : x ≡ c = same_Some x c (sym is ∙ at) in (
-      b,
-      ap (λ (y : Caller). numbered u.begun y.number) (sym same) ∙ ap (λ xs. numbered xs x.number) begun ∙ numbered_last w.begun b x.number number,
-      run ∙ ap (λ (y : Caller). y.at.run) same,
-    )))
-    s
 
 abbrev pub plain_begun : PlainRun → List (List ℕ) → Begun
 plain_begun run payload = record { run = run; payload = payload }
@@ -156,62 +120,6 @@ started_caller o new dump i =
     ap (option_map seen_caller) i.is ∙ ap (λ n. Some (caller n i.after.client.at i.after.client.reader)) i.same.number
     ∙ ap (λ at. Some (caller i.before.number at i.after.client.reader)) i.at
     ∙ ap (λ r. Some (caller i.before.number (standing i.before.client.at.run i.before.client.at.counts (ToSend Open)) r)) i.reader
-
--- where a connection stands, after one was made
-get_where : (xs : List Link) (x : Link) (m : ℕ) (y : Link) → slice_get (xs ++ x ∷ []) m ≡ Some y → (slice_get xs m ≡ Some y) ⊎ (m ≡ length xs)
-get_where [] x zero y is = inr refl
-get_where [] x (suc m) y is = absurd cc
-get_where (z ∷ xs) x zero y is = inl is
-get_where (z ∷ xs) x (suc m) y is = elim (get_where xs x m y is) [
-  | inl before ↦ inl before
-  | inr last ↦ inr (ap suc last)
-]
-
-numbered_where : (xs : List Link) (x : Link) (k : ℕ) (y : Link) → numbered (xs ++ x ∷ []) k ≡ Some y → (numbered xs k ≡ Some y) ⊎ (k ≡ length xs + 1)
-numbered_where xs x zero y is = inl is
-numbered_where xs x (suc m) y is = elim (get_where xs x m y is) [
-  | inl before ↦ inl before
-  | inr last ↦ inr (omega (arith, last))
-]
-
-ready_alone : (w : World) → Rests w → IsOwned w → (k : ℕ) → IsClients w k → ⊥
-ready_alone w rests s k clients =
-    let at = (s.own k (s.only k clients)).1 in not_both (is_in_attempt at.0.at.stage) (rests at.0 at.1) at.2
-
-connected_owned : (w u : World) (x : Caller) (dump : Dumping) (n : ℕ) → Rests w → u.links ≡ w.links ++ new_link (Some dump) ∷ [] → u.caller ≡ Some x
-    → x.at.stage ≡ ToSend Open → u.own ≡ Some n → n ≡ length w.links + 1 → IsOwned w → IsOwned u
-connected_owned w u x dump n rests links is stage own number s = record {
-  own = λ k at. (
-      let last : k ≡ length w.links + 1 = same_Some k n (sym at ∙ own) ∙ number in (
-        (new_link (Some dump), dump, ap (λ xs. numbered xs k) links ∙ numbered_last w.links (new_link (Some dump)) k last, refl, refl),
-        (x, is, ap is_in_attempt stage),
-      ));
-  attempt = λ c at inside. (n, own);
-  only = λ k (l, d, at, other, mine). elim (numbered_where w.links (new_link (Some dump)) k l (sym (ap (λ xs. numbered xs k) links) ∙ at)) [
-    | inl before ↦ absurd (ready_alone w rests s k (l, d, before, other, mine))
-    | inr last ↦ own ∙ ap Some (number ∙ sym last)
-  ];
-}
-
-ready_rests : (w : World) → StandsIn w (λ stage. stage ≡ Ready) → Rests w
-ready_rests w (x, is, ready) c at = ap (λ (y : Caller). is_in_attempt y.at.stage) (same_Some c x (sym at ∙ is)) ∙ ap is_in_attempt ready
-
-pub connected_sound : (w u : World) (o new : Option RealCaller) (dump : Dumping) (n : ℕ) → StandsIn w (λ stage. stage ≡ Ready) → u.hall ≡ joined w.hall
-    → u.links ≡ w.links ++ new_link (Some dump) ∷ [] → u.begun ≡ w.begun → u.own ≡ Some n → n ≡ length w.links + 1 → w.caller ≡ option_map seen_caller o
-    → u.caller ≡ option_map seen_caller new → IsStarted o dump new → IsSound w → IsSound u
-connected_sound w u o new dump n ready hall links begun own number was is i s =
-    let old : w.caller ≡ Some (seen_caller i.before) = was ∙ ap (option_map seen_caller) i.was in
-    let now : u.caller ≡ Some (seen_caller i.after) = is ∙ ap (option_map seen_caller) i.is in
-    record {
-      paired = record {
-        links = ap (λ h. length h.sides) hall ∙ length-append w.hall.sides (Some (side (held [] 0) Idle) ∷ []) ∙ ap (λ n. n + 1) s.paired.links
-            ∙ sym (ap length links ∙ length-append w.links (new_link (Some dump) ∷ []));
-        holders = ap (λ h. length h.holders) hall ∙ s.paired.holders ∙ sym (ap (λ h. length h.shop.racks) hall);
-      };
-      readable = λ k x at. readable_joined w.hall s.readable k x (ap (λ h. side_of h k) (sym hall) ∙ at);
-      owned = connected_owned w u (seen_caller i.after) dump n (ready_rests w ready) links now (ap (λ at. at.stage) i.at) own number s.owned;
-      begun = same_begun w u (seen_caller i.before) (seen_caller i.after) old now i.same.number (ap (λ at. at.run) i.at) begun s.begun;
-    }
 
 pub stands_ready : (w : World) → StandsIn w (λ stage. state_of stage ≡ told.Ready) → StandsIn w (λ stage. stage ≡ Ready)
 stands_ready w (x, is, ready) = (x, is, told_ready x.at.stage ready)

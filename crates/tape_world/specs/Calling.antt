@@ -3,7 +3,7 @@ use Rattle.std.specs.Prelude.{◌≡◌, ◌≤◌, ℕ, List, [], Option, Some,
 use Rattle.dump_run.specs.Run.{PlainRun}
 use Rattle.dump_run.specs.Blocks.{cut_blocks}
 use Rattle.dump_client.specs.Standing.{Standing, standing, checkpoint_of, AnsweredAt, CutAt}
-use Rattle.dump_client.specs.Client.{HasFedAt}
+use Rattle.dump_client.specs.Client.{HasFedAt, IsPayload}
 use Rattle.dump_client.specs.declared.step.Step.TheVariants.{Open}
 use Rattle.dump_client.specs.declared.stage.Stage.TheVariants.{Ready, ToSend}
 use Rattle.dump_client.specs.declared.stage.Answer.{Answer}
@@ -58,6 +58,7 @@ ClientSeesEnd (Some c) failure new =
 pub record IsBegunWith (r : PlainRun) (bytes : List ℕ) (b : Begun) : Type 0 where
   pub run : b.run ≡ r
   pub payload : b.payload.blocks ≡ cut_blocks r.blocks r.block_bytes bytes
+  pub shaped : IsPayload b.run b.payload.blocks
 
 -- an attempt can start
 abbrev pub IsReady : Option Caller → Type 0

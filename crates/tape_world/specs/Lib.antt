@@ -8,6 +8,7 @@ pub mod Talking
 pub mod Hearing
 pub mod Making
 pub mod Running
+pub mod Saving
 pub mod Telling
 pub mod Serving
 pub mod Entries

@@ -2,7 +2,7 @@
 use Rattle.std.specs.Prelude.{◌≡◌, ℕ, ◌<◌, List, [], ◌∷◌, length, map, take, slice_get, Some}
 use Rattle.tape_events.specs.World.{World}
 use Rattle.tape_events.specs.Events.{PlainEvent}
-use Rattle.tape_events.specs.Events.PlainEvent.{StartRun, Connect, Send, ToServer, Serve, ToClient, Cut, EndAtServer, EndAtClient, ServerRestart, ClientRestart, Respond, Arrange, Stranger, Says, Enter}
+use Rattle.tape_events.specs.Events.PlainEvent.{StartRun, Connect, Send, ToServer, Serve, ToClient, Cut, EndAtServer, EndAtClient, ServerRestart, ClientRestart, Respond, Arrange, Stranger, Says, Enter, Save}
 use Rattle.tape_events.specs.Rows.{Possible}
 use Rattle.tape_events.specs.Steps.{Runs}
 use Rattle.tape_events.specs.First.{PlainDriveSpec, AreGoodDrives, first_world}
@@ -32,6 +32,7 @@ plain_event (lent.Arrange drive reels) = Arrange drive.now (map (λ name. name.n
 plain_event lent.Stranger = Stranger
 plain_event (lent.Says k bytes) = Says k bytes.now
 plain_event lent.Enter = Enter
+plain_event lent.Save = Save
 
 -- the place of the event that was not made
 abbrev pub fault_place : WorldFault → ℕ

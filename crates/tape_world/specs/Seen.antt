@@ -3,12 +3,14 @@ use Rattle.std.specs.Prelude.{ℕ, List, [], map, get_or, option_map, Option, Ve
 use Rattle.std.specs.Global.{Global}
 use Rattle.dumpdates.specs.Entry.{DatesEntry}
 use Rattle.rmt_server.specs.Hall.{Hall}
-use Rattle.tape_events.specs.World.{Link, Begun, Caller, Count, Opening, Entered, World}
+use Rattle.tape_events.specs.World.{Link, Begun, Caller, Count, Opening, Entered, Kept, World}
 use Rattle.tape_world.specs.declared.link.Link.{Link as RealLink}
 use Rattle.tape_world.specs.declared.caller.Begun.{Begun as RealBegun}
 use Rattle.tape_world.specs.declared.caller.Caller.{Caller as RealCaller}
+use Rattle.tape_world.specs.declared.caller.KeptRun.{KeptRun}
 use Rattle.tape_world.specs.declared.books.Count.{Count as RealCount}
 use Rattle.tape_world.specs.declared.books.Opening.{Opening as RealOpening}
+use Rattle.tape_world.specs.declared.books.Entered.{Entered as RealEntered}
 use Rattle.tape_world.specs.declared.books.Books.{Books}
 
 abbrev pub seen_link : RealLink → Link
@@ -35,14 +37,17 @@ seen_opening names o = record { connection = o.connection; reel = name_at names 
 abbrev pub seen_openings : List (Vec ℕ Global) → List RealOpening → List Opening
 seen_openings names opens = map (seen_opening (map (λ n. n.items) names)) opens
 
-abbrev pub seen_entered : ℕ → Entered
-seen_entered run = record { run = run }
+abbrev pub seen_entered : RealEntered → Entered
+seen_entered e = record { run = e.run; listed = e.counts.items }
+
+abbrev pub seen_kept : KeptRun → Kept
+seen_kept k = record { run = k.run; listed = k.counts.items }
 
 abbrev pub book_names : Books → List (List ℕ)
 book_names b = map (λ name. name.items) b.names.items
 
-abbrev pub world_of : Hall → List RealLink → List RealBegun → Option RealCaller → Option ℕ → Books → List DatesEntry → World
-world_of h links begun caller own books dates = record {
+abbrev pub world_of : Hall → List RealLink → List RealBegun → Option RealCaller → Option ℕ → Option KeptRun → Books → List DatesEntry → World
+world_of h links begun caller own kept books dates = record {
   hall = h;
   links = map seen_link links;
   begun = map seen_begun begun;
@@ -51,6 +56,7 @@ world_of h links begun caller own books dates = record {
   counts = map (seen_count (book_names books)) books.counts.items;
   opens = map (seen_opening (book_names books)) books.opens.items;
   entered = map seen_entered books.entered.items;
+  kept = option_map seen_kept kept;
   failure = books.failure;
   dates = dates;
 }

@@ -1,10 +1,10 @@
 -- What a turn of the server makes of a connection, and which reel it opened for writing. No public contract needs it.
-use Rattle.std.specs.Prelude.{◌≡◌, ◌⊎◌, ℕ, zero, suc, ◌<◌, true, List, [], length, All, Contains, option_map, Option, Some, None}
+use Rattle.std.specs.Prelude.{◌≡◌, ℕ, zero, suc, ◌<◌, true, List, length, Contains, option_map, Option, Some, None}
 use Rattle.rmt_wire.specs.Counted.{raised}
 use Rattle.rmt_wire.specs.Request.{PlainRequest}
 use Rattle.rmt_wire.specs.Reply.{PlainReply}
 use Rattle.tape.specs.declared.trouble.Trouble.{Trouble}
-use Rattle.drives.specs.Shop.{Slot, Shop, rack_at}
+use Rattle.drives.specs.Shop.{Shop, rack_at}
 use Rattle.rmt_server.specs.Session.{PlainReel, PlainSession}
 use Rattle.rmt_server.specs.Session.PlainSession.{Online}
 use Rattle.rmt_server.specs.declared.access.Access.{Access}
@@ -19,6 +19,7 @@ use Rattle.tape_host.specs.declared.turn.Turn.TheVariants as turns
 use Rattle.tape_host.specs.Halls.{Hosted, hosted, side_at, ended}
 use Rattle.tape_host.specs.Turns.{carried_of, Carries, GivesNothing, GivesFault}
 use Rattle.tape_events.specs.World.{Link, Dumping}
+use Rattle.tape_events.specs.Standing.{HasReel}
 use Rattle.tape_events.specs.Changes.{accepted, noted_error, answered, over_here, first_name}
 
 -- what an attempt came to once a write of it was answered so
@@ -85,18 +86,6 @@ abbrev pub opened_in : Hall → ℕ → Turn → Option (List ℕ)
 opened_in h k (turns.Carried c) = name_opened_by c.asked h k
 opened_in h k turn = None
 
--- where it opened one, the drive is there
-abbrev pub IsOpenedIn : Hall → ℕ → Turn → Type 0
-IsOpenedIn h k turn = (c : Carried) → turn ≡ turns.Carried c → c.asked ≡ asked.Open true → IsOnlineIn h k
-
--- that name is among these, or it is none
-abbrev pub IsKnown : List (List ℕ) → List ℕ → Type 0
-IsKnown names name = Contains names name ⊎ (name ≡ [])
-
-abbrev pub AreKnown : {X : Type 0} → List (List ℕ) → List (Slot X) → Type 0
-AreKnown names slots = All (λ x. Contains names x.name) slots
-
 -- the name of each reel is among these
-pub record IsShopKnown (names : List (List ℕ)) (s : Shop) : Type 0 where
-  pub stacks : (d : ℕ) → AreKnown names (rack_at s d).stack
-  pub bin : AreKnown names s.bin
+abbrev pub IsShopKnown : List (List ℕ) → Shop → Type 0
+IsShopKnown names s = (name : List ℕ) → HasReel s name → Contains names name

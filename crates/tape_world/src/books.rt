@@ -1,6 +1,6 @@
 //! What is kept of all that passed in a world.
 
-use dump_client::AttemptFault;
+use dump_client::{AttemptFault, VolumeCount};
 
 /// A volume that was counted: of the run of this number, by this connection. The reel is told by its place among all names.
 #[derive(Clone, Copy)]
@@ -20,6 +20,15 @@ pub(crate) struct Opening {
     pub(crate) reel: usize,
 }
 
+/// A run that was entered in dumpdates.
+#[derive(Drop)]
+pub(crate) struct Entered {
+    /// The number of the run.
+    pub(crate) run: usize,
+    /// What the client had counted then.
+    pub(crate) counts: Vec<VolumeCount>,
+}
+
 /// What is kept of all that passed, in the order in which it came.
 #[derive(Drop)]
 pub(crate) struct Books {
@@ -27,8 +36,7 @@ pub(crate) struct Books {
     pub(crate) names: Vec<Vec<u8>>,
     pub(crate) counts: Vec<Count>,
     pub(crate) opens: Vec<Opening>,
-    /// The numbers of the runs that were entered.
-    pub(crate) entered: Vec<usize>,
+    pub(crate) entered: Vec<Entered>,
     /// What the last event made fail: the volume, and why.
     pub(crate) failure: Option<(u32, AttemptFault)>,
 }

@@ -1,6 +1,6 @@
-//! The client of a world, and the runs that were begun.
+//! The client of a world, the runs that were begun, and what is kept of one outside of the client.
 
-use dump_client::{Client, ListBlocks, Run};
+use dump_client::{Client, ListBlocks, Run, VolumeCount};
 
 /// A run that was begun, and its payload.
 #[derive(Drop)]
@@ -14,4 +14,15 @@ pub(crate) struct Begun {
 pub(crate) struct Caller {
     pub(crate) number: usize,
     pub(crate) client: Client<ListBlocks>,
+}
+
+/// What is kept of a run outside of the client, as a checkpoint file keeps it.
+#[derive(Drop)]
+pub(crate) struct KeptRun {
+    /// The number of the run.
+    pub(crate) run: usize,
+    /// What the client had counted.
+    pub(crate) counts: Vec<VolumeCount>,
+    /// The text of the checkpoint.
+    pub(crate) text: Vec<u8>,
 }

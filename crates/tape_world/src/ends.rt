@@ -2,16 +2,18 @@
 
 mod client;
 mod connection;
+mod entering;
 mod event;
 mod hearing;
 mod making;
 mod operator;
+mod saving;
 mod server;
 mod serving;
 mod talk;
 
 use crate::books::Books;
-use crate::caller::{Begun, Caller};
+use crate::caller::{Begun, Caller, KeptRun};
 use crate::link::Link;
 use dumpdates::Dates;
 use std::alloc::Global;
@@ -27,6 +29,7 @@ pub(crate) struct Ends {
     begun: Vec<Begun>,
     pub(crate) caller: Option<Caller>,
     pub(crate) own: Option<usize>,
+    kept: Option<KeptRun>,
     pub(crate) books: Books,
     pub(crate) dates: Dates,
 }
@@ -34,13 +37,12 @@ pub(crate) struct Ends {
 impl Model for Ends {
     ghost use Rattle.tape_events.specs.World.{World};
     ghost use Rattle.tape_world.specs.Seen.{book_names, world_of};
-    ghost use Rattle.tape_world.specs.Holding.{IsSound, IsSourced};
+    ghost use Rattle.tape_world.specs.Holding.{IsBacked, IsSourced};
     ghost use Rattle.tape_world.specs.Serving.{IsShopKnown};
 
     ghost Value = { World };
 
-    ghost view = { λ w. world_of w.host.hall w.links.items w.begun.items w.caller w.own w.books w.dates };
+    ghost view = { λ w. world_of w.host.hall w.links.items w.begun.items w.caller w.own w.kept w.books w.dates };
 
-    ghost invariant = { λ w. IsSound (world_of w.host.hall w.links.items w.begun.items w.caller w.own w.books w.dates)
-        × IsSourced w.begun.items w.caller × IsShopKnown (book_names w.books) w.host.hall.shop };
+    ghost invariant = { λ w. (IsSourced w.begun.items w.caller × IsBacked w.begun.items w.kept) × IsShopKnown (book_names w.books) w.host.hall.shop };
 }

@@ -49,7 +49,7 @@ pub enum Event<'a> {
     },
     /// The server's sides of all connections are over.
     ServerRestart,
-    /// The client forgets its run.
+    /// The client comes back with the run that is kept, or with none.
     ClientRestart,
     /// The operator answers the client, which asks after an attempt failed.
     Respond {
@@ -69,4 +69,6 @@ pub enum Event<'a> {
     },
     /// The finished run is entered in dumpdates.
     Enter,
+    /// The client's run is kept outside of it, with what is counted, as a checkpoint file keeps it.
+    Save,
 }

@@ -62,8 +62,8 @@ impl World {
     /// Beside it: the holder of a drive is the connection whose live side has it open. Of a connection of the client's as many
     /// requests were carried out as were sent, or one fewer. A latched reel is one session's, and first on the stack of the drive
     /// that this holds. From the accepted label of an attempt on its reel holds what its accepted writes wrote, until one of them
-    /// meets a device fault or a session opens the reel for writing; until MTOFFL the place of its session is the reel's end. The
-    /// counts of the client's number are those that the client has.
+    /// meets a device fault or a session opens the reel for writing; until MTOFFL the place of its session is the reel's end. Each
+    /// volume that the client has was counted under its number.
     ///
     /// Some events made it of the first world of some drives (`reached`), and all of it follows from what stays so (`kept`): who holds the drives, where reels lie, whose openings are last, what each
     /// attempt wrote, which counts are the client's own, and what dumpdates gained.
@@ -91,6 +91,7 @@ impl World {
     pub(crate) fn make(&mut self, event: &Event<'_>) -> Result<(), EventStop>
         ensures { IsEvent self.old (plain_event event.now) result self.new }
     {
+        self.kept();
         self.ends.make(event)
     }
 }

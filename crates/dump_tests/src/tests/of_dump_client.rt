@@ -1,5 +1,6 @@
 //! A client's attempts against what was written by hand.
 
+mod checkpoint;
 mod client;
 mod client_cut;
 mod client_ends;

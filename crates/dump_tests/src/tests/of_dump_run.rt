@@ -1,4 +1,6 @@
-//! Runs, labels and blocks that were worked out by hand, and the names of faults.
+//! Runs, labels, blocks and texts of checkpoints that were worked out by hand, and the names of faults.
 
 mod blocks;
+mod checkpoint;
+mod decoder;
 mod run;

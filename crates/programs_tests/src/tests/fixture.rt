@@ -33,6 +33,7 @@ pub(super) fn line(block: u64) -> DumpLine<'static>
         block,
         dumpdates: "dumpdates",
         date: None,
+        checkpoint: None,
         update: true,
     }
 }

@@ -12,12 +12,12 @@ use rmt_wire::Counted;
 use std::alloc::Global;
 
 /// Two blocks of two bytes, and no room for the third.
-const FULL: Replies = &[
+pub(super) const FULL: Replies = &[
     b"A0\n", b"A1\n", b"A1024\n", b"A2\n", b"A2\n", b"A0\n", b"A1\n", b"A1\n", b"A0\n",
 ];
 
 /// One block, which is the last.
-const LAST: Replies = &[
+pub(super) const LAST: Replies = &[
     b"A0\n", b"A1\n", b"A1024\n", b"A2\n", b"A1\n", b"A1\n", b"A0\n",
 ];
 
@@ -25,7 +25,7 @@ const LAST: Replies = &[
 const SMALL: Replies = &[b"A0\n", b"A1\n", b"A1024\n", b"A0\n"];
 
 /// A drive without a reel.
-const EMPTY: Replies = &[b"E6\nDevice not configured\n"];
+pub(super) const EMPTY: Replies = &[b"E6\nDevice not configured\n"];
 
 /// A dump of three blocks: the replies of each connection, what the operator says, what a read of the dumpdates file gives, what is
 /// printed, the status, why the dump is not entered, and what is put in place of the file.

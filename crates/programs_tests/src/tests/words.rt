@@ -43,9 +43,10 @@ static ROWS: [Row; 5] = [
             "1024",
             "--dumpdates=f",
             "--date=9223372036854775807",
+            "--checkpoint=c",
             "--update",
         ],
-        "Ok(Dump(DumpLine { to: \"h:1\", device: \"d\", fs: \"/usr\", level: 1, payload: \"p\", block: 1024, dumpdates: \"f\", date: Some(9223372036854775807), update: true }))",
+        "Ok(Dump(DumpLine { to: \"h:1\", device: \"d\", fs: \"/usr\", level: 1, payload: \"p\", block: 1024, dumpdates: \"f\", date: Some(9223372036854775807), checkpoint: Some(\"c\"), update: true }))",
     ),
     (
         &[

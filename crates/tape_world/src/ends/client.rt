@@ -5,14 +5,15 @@ ghost use Rattle.dump_run.specs.Run.{IsRun};
 ghost use Rattle.dump_client.specs.Client.{IsPayload};
 ghost use Rattle.dump_client.specs.Standing.{standing, state_of};
 ghost use Rattle.dump_client.specs.declared.stage.Stage.TheVariants.{Ready};
-ghost use Rattle.tape_events.specs.Events.PlainEvent.{StartRun, Connect, Respond, ClientRestart, EndAtClient, Enter};
+ghost use Rattle.tape_events.specs.Events.PlainEvent.{StartRun, Connect, Respond, EndAtClient};
 ghost use Rattle.tape_events.specs.Rows.{NoRun, StandsIn};
+ghost use Rattle.tape_events.specs.Kept.{IsWorldKept};
 ghost use Rattle.tape_world.specs.Holding.{IsEvent};
-ghost use Rattle.tape_world.specs.Calling.{ClientAnswers, ClientSeesEnd, IsBegunWith, IsReady, Starts, IsPlaced, over_own};
-ghost use Rattle.tape_world.specs.Seen.{seen_link};
+ghost use Rattle.tape_world.specs.Calling.{ClientAnswers, ClientSeesEnd, IsBegunWith, IsReady, Starts};
 ghost use Rattle.tape_world.specs.declared.caller.Begun.{Begun as RealBegun};
 
 use super::Ends;
+use super::saving::{change_kept, drop_kept};
 use crate::caller::{Begun, Caller};
 use crate::dumping::Dumping;
 use crate::link::{self, Link, find};
@@ -95,7 +96,7 @@ fn begin(
 }
 
 /// The client is this one now, or there is none.
-fn change_caller(caller: &mut Option<Caller>, new: Option<Caller>)
+pub(super) fn change_caller(caller: &mut Option<Caller>, new: Option<Caller>)
     ensures { caller.new ≡ new }
 {
     *caller = new;
@@ -124,16 +125,6 @@ fn give_answer(caller: &mut Option<Caller>, answer: Answer)
 {
     if let Some(caller) = caller {
         let _ = caller.client.answer(answer);
-    }
-}
-
-/// The client's own connection, if it has one, is over on its side.
-fn end_own(links: &mut [Link], own: Option<usize>)
-    requires { IsPlaced own (length links.old) }
-    ensures { map seen_link links.new ≡ over_own own (map seen_link links.old) }
-{
-    if let Some(own) = own {
-        link::end_there(links, own);
     }
 }
 
@@ -185,6 +176,7 @@ impl Ends {
             client,
         };
         change_caller(&mut self.caller, Some(caller));
+        change_kept(&mut self.kept, None);
         self.books.failure = None;
         Ok(())
     }
@@ -215,26 +207,14 @@ impl Ends {
             return Err(EventStop::NotPossible);
         }
         give_answer(&mut self.caller, answer);
-        self.books.failure = None;
-        Ok(())
-    }
-
-    /// The client forgets its run. Its own connection, if it has one, is over on its side.
-    pub(crate) fn client_restart(&mut self) -> Result<(), EventStop>
-        ensures { IsEvent self.old ClientRestart result self.new }
-    {
-        if self.caller.is_none() {
-            return Err(EventStop::NotPossible);
-        }
-        end_own(&mut self.links, self.own);
-        self.own = None;
-        change_caller(&mut self.caller, None);
+        drop_kept(&mut self.kept, answer);
         self.books.failure = None;
         Ok(())
     }
 
     /// The side that is not the server's sees that the connection ended.
     pub(crate) fn end_at_client(&mut self, connection: usize) -> Result<(), EventStop>
+        requires { IsWorldKept self.old }
         ensures { IsEvent self.old (EndAtClient connection) result self.new }
     {
         let Some(link) = find(&self.links, connection) else {
@@ -251,28 +231,6 @@ impl Ends {
         }
         self.own = None;
         self.books.failure = end_attempt(&mut self.caller);
-        Ok(())
-    }
-
-    /// The finished run is entered in dumpdates.
-    pub(crate) fn enter(&mut self) -> Result<(), EventStop>
-        ensures { IsEvent self.old Enter result self.new }
-    {
-        let Some(caller) = &self.caller else {
-            return Err(EventStop::NotPossible);
-        };
-        let Some(entry) = caller.client.finished() else {
-            return Err(EventStop::NotPossible);
-        };
-        if self.books.entered.contains(&caller.number) {
-            return Err(EventStop::NotPossible);
-        }
-        self.books.entered.reserve(1)?;
-        if self.dates.enter(entry).is_err() {
-            return Err(EventStop::OutOfMemory);
-        }
-        self.books.entered.push_reserved(caller.number);
-        self.books.failure = None;
         Ok(())
     }
 }

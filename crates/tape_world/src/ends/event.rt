@@ -1,4 +1,5 @@
 //! One event, of whatever kind.
+ghost use Rattle.tape_events.specs.Kept.{IsWorldKept};
 ghost use Rattle.tape_world.specs.Holding.{IsEvent};
 ghost use Rattle.tape_world.specs.Running.{plain_event};
 
@@ -9,6 +10,7 @@ use crate::stop::EventStop;
 impl Ends {
     /// Makes one event.
     pub(crate) fn make(&mut self, event: &Event<'_>) -> Result<(), EventStop>
+        requires { IsWorldKept self.old }
         ensures { IsEvent self.old (plain_event event.now) result self.new }
     {
         match *event {
@@ -31,6 +33,7 @@ impl Ends {
             Event::Stranger => self.stranger(),
             Event::Says { connection, bytes } => self.says(connection, bytes),
             Event::Enter => self.enter(),
+            Event::Save => self.save(),
         }
     }
 }

@@ -3,6 +3,7 @@ ghost use Rattle.std.specs.Prelude.{◌≡◌, ◌==◌, ◌<◌, ◌≤◌, ◌
 ghost use Rattle.std.specs.Vec.{vec_capacity, vec_len};
 ghost use Rattle.tape_events.specs.Changes.{changed, reel_opened_by};
 ghost use Rattle.tape_events.specs.Events.PlainEvent.{ToClient};
+ghost use Rattle.tape_events.specs.Kept.{IsWorldKept};
 ghost use Rattle.tape_world.specs.Calling.{failure_of};
 ghost use Rattle.tape_world.specs.Hearing.{HasHeard, IsAttempting, count_in, heard_on, is_over, own_after};
 ghost use Rattle.tape_world.specs.Holding.{IsEvent};
@@ -131,6 +132,7 @@ fn settle(
 impl Ends {
     /// So many of the bytes on the way reach the other side.
     pub(crate) fn to_client(&mut self, connection: usize, count: usize) -> Result<(), EventStop>
+        requires { IsWorldKept self.old }
         ensures { IsEvent self.old (ToClient connection count) result self.new }
     {
         let Some(link) = find(&self.links, connection) else {

@@ -135,6 +135,7 @@ impl Ends {
             begun: Vec::new(alloc),
             caller: None,
             own: None,
+            kept: None,
             books,
             dates: Dates::new(alloc),
         })

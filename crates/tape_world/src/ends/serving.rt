@@ -1,5 +1,5 @@
 //! What the server does with what reached it.
-ghost use Rattle.std.specs.Prelude.{◌≡◌, ◌≤◌, ◌<◌, ◌++◌, List, ℕ, IfOk, OnErr, Some, length, map, option_map, vec_len, vec_capacity};
+ghost use Rattle.std.specs.Prelude.{◌≡◌, ◌≤◌, ◌<◌, ◌++◌, Contains, List, ℕ, IfOk, OnErr, Some, length, map, option_map, vec_len, vec_capacity};
 ghost use Rattle.std.specs.List.{position_or_len};
 ghost use Rattle.std.specs.Option.{option_copied, option_to_list};
 ghost use Rattle.std.specs.Str.{bytes_eq};
@@ -7,9 +7,10 @@ ghost use Rattle.drives.specs.ListShop.{rest_slot};
 ghost use Rattle.tape_host.specs.Halls.{side_at};
 ghost use Rattle.tape_events.specs.Changes.{changed, first_name, opening};
 ghost use Rattle.tape_events.specs.Events.PlainEvent.{Serve};
+ghost use Rattle.tape_events.specs.Kept.{IsWorldKept};
 ghost use Rattle.tape_world.specs.Holding.{IsEvent};
 ghost use Rattle.tape_world.specs.Seen.{seen_link, seen_openings};
-ghost use Rattle.tape_world.specs.Serving.{IsKnown, IsOnlineIn, IsOpenedIn, TurnServes, name_online_at, opened_in};
+ghost use Rattle.tape_world.specs.Serving.{IsOnlineIn, TurnServes, name_online_at, opened_in};
 
 use super::Ends;
 use crate::books::Opening;
@@ -19,6 +20,7 @@ use drives::ListedReel;
 use rmt_wire::READER_LIMIT;
 use std::alloc::AllocError;
 use tape::Trouble;
+use tape_events::kept;
 use tape_host::{Host, RequestKind, Turn};
 
 /// The server's side of a connection takes one turn, and what came of it is noted.
@@ -78,7 +80,7 @@ fn name_online(host: &Host, connection: usize) -> Option<&[u8]>
 
 /// The name of the reel that a turn of a connection opened for writing, if it did.
 fn name_opened(host: &Host, connection: usize, turn: Turn) -> Option<&[u8]>
-    requires { IsOpenedIn host.now.hall connection turn }
+    requires { IsOnlineIn host.now.hall connection }
     ensures { option_copied result ≡ opened_in host.now.hall connection turn }
 {
     let Turn::Carried(carried) = turn else {
@@ -111,9 +113,9 @@ fn note_opening(
     turn: Turn,
 )
     requires room { vec_len opens.old < vec_capacity opens.old }
-    requires there { IsOpenedIn host.now.hall connection turn }
+    requires there { IsOnlineIn host.now.hall connection }
     requires known { (name : List ℕ) → opened_in host.now.hall connection turn ≡ Some name
-        → IsKnown (map (λ n. n.items) names.now) name }
+        → Contains (map (λ n. n.items) names.now) name }
     ensures { seen_openings names.now opens.new.items ≡ seen_openings names.now opens.old.items
         ++ option_to_list (option_map (opening connection) (opened_in host.now.hall connection turn)) }
 {
@@ -128,11 +130,13 @@ impl Ends {
     /// The server carries out one request that reached it, whose device call fails so, or finds that what reached it is
     /// none.
     pub(crate) fn serve(&mut self, connection: usize, trouble: Trouble) -> Result<(), EventStop>
+        requires { IsWorldKept self.old }
         ensures { IsEvent self.old (Serve connection trouble) result self.new }
     {
         if find(&self.links, connection).is_none() {
             return Err(EventStop::NotPossible);
         }
+        kept();
         self.books.opens.reserve(1)?;
         let turn = take_turn_at(&mut self.host, &mut self.links, connection, trouble)?;
         if let Turn::Nothing = turn {

@@ -4,6 +4,7 @@ ghost use Rattle.std.specs.Vec.{vec_capacity};
 ghost use Rattle.rmt_wire.specs.declared.limits.TheConstants.{READER_LIMIT};
 ghost use Rattle.tape_events.specs.Changes.{changed};
 ghost use Rattle.tape_events.specs.Events.PlainEvent.{Send};
+ghost use Rattle.tape_events.specs.Kept.{IsWorldKept};
 ghost use Rattle.tape_world.specs.Holding.{IsEvent};
 ghost use Rattle.tape_world.specs.Seen.{seen_link};
 ghost use Rattle.tape_world.specs.Talking.{Asks, IsToSend, talked};
@@ -86,6 +87,7 @@ impl Ends {
     /// The client sends its next request. Where `fails` is true, and the request is a block's write, the read of the block
     /// fails.
     pub(crate) fn send(&mut self, fails: bool) -> Result<(), EventStop>
+        requires { IsWorldKept self.old }
         ensures { IsEvent self.old (Send fails) result self.new }
     {
         if !self.stands_in(State::ToSend) {

@@ -51,6 +51,7 @@ impl World {
         ensures told { option_map client_told (option_copied result) ≡ option_map caller_told self.now.caller }
         ensures payload { IfSome (option_copied result) (λ client. TellsPayload self.now client.source) }
     {
+        self.kept();
         let caller = self.ends.caller.as_ref()?;
         Some(&caller.client)
     }
@@ -69,6 +70,7 @@ impl World {
     pub fn on_way(&self, connection: usize) -> Option<(usize, usize)>
         ensures { TellsWay self.now connection result }
     {
+        self.kept();
         let link = find(&self.ends.links, connection)?;
         let room = self.ends.host.room(connection).unwrap_or(0);
         let toward = link.toward.bytes().len().min(room);

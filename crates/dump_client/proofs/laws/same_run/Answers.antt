@@ -1,5 +1,5 @@
 use Rattle.dump_client.proofs.Going.{fed_goes_on, cut_goes_on}
-use Rattle.dump_client.proofs.Lawfully.{fed_lawful, cut_lawful}
+use Rattle.dump_client.proofs.Lawfully.{fed_lawful, cut_lawful, over_lawful}
 use Rattle.dump_client.proofs.Telling.{fed_stands, cut_stands}
 use Rattle.dump_client.proofs.laws.same_run.Goals as goal
 
@@ -20,3 +20,6 @@ returns-clause-fed_stands c = fed_stands
 
 pub returns-clause-cut_stands : goal.returns-clause-cut_stands
 returns-clause-cut_stands c = cut_stands
+
+pub returns-clause-over_lawful : goal.returns-clause-over_lawful
+returns-clause-over_lawful c = λ run counts at of volumes over. over_lawful run counts at over of volumes

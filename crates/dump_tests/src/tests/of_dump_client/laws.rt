@@ -1,8 +1,8 @@
 //! The laws are functions, too: they can be called.
 
 use dump_client::{
-    after_the_count, fed_in_pieces, granted_replies, lawful_positions, same_run, sent_in_order,
-    wanted_replies,
+    after_the_count, comes_back, fed_in_pieces, granted_replies, lawful_positions, same_run,
+    sent_in_order, wanted_replies,
 };
 
 #[test]
@@ -12,6 +12,7 @@ fn laws_are_called() {
     lawful_positions();
     sent_in_order();
     after_the_count();
+    comes_back();
     fed_in_pieces();
     same_run();
 }

@@ -33,6 +33,8 @@ pub(crate) enum Move {
     Trouble(bool),
     /// It is in this state, with these counts, and this volume and block come next.
     Stands(State, &'static [VolumeCount], (u32, u32)),
+    /// The text of its checkpoint is this, behind what the buffer holds.
+    Saves(&'static [u8]),
     /// This name, level and date are told.
     Tells(&'static str, u8, u64),
 }
@@ -74,7 +76,7 @@ struct Play {
 }
 
 /// So many blocks of this size.
-fn payload(alloc: Global, blocks: u32, size: usize) -> Result<Vec<u8>, Fail> {
+pub(crate) fn payload(alloc: Global, blocks: u32, size: usize) -> Result<Vec<u8>, Fail> {
     let mut payload = Vec::new(alloc);
     for number in 0..blocks {
         let end = payload.len().saturating_add(size);
@@ -191,6 +193,14 @@ impl Play {
         }
     }
 
+    /// It appends this text of its checkpoint.
+    fn saves(&mut self, text: &[u8]) -> bool {
+        self.asked.clear();
+        self.asked.extend_from_slice(b"before").is_ok()
+            && self.client.checkpoint_text(&mut self.asked).is_ok()
+            && self.asked.as_slice().strip_prefix(b"before") == Some(text)
+    }
+
     /// From here on the script is that of this volume.
     fn turns_to(&mut self, volume: &Volume) -> bool {
         self.script = script_of(volume);
@@ -226,6 +236,7 @@ impl Play {
             Move::Takes(answer, told) => self.client.answer(*answer) == *told,
             Move::Trouble(fails) => self.has_trouble(*fails),
             Move::Stands(state, counts, next) => self.stands(*state, counts, *next),
+            Move::Saves(text) => self.saves(text),
             Move::Tells(name, level, date) => self.tells(name, *level, *date),
             _ => false,
         }

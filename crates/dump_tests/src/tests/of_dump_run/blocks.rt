@@ -23,3 +23,13 @@ fn reads_in_trouble_fail(rt: HostRuntime) {
     let payload = Vec::from_slice(rt.alloc(), b"abcdefghi").expect(&rt, "memory");
     assert!(rt; reads_are_met(&mut ListBlocks::new(payload, 3, 3)));
 }
+
+#[test]
+#[tactic(auto, using(dump_run::proofs::Cut::has_block))]
+fn a_copy_is_read_as_the_payload(rt: HostRuntime) {
+    let payload = Vec::from_slice(rt.alloc(), b"abcdefghi").expect(&rt, "memory");
+    let source = ListBlocks::new(payload, 3, 3);
+    let mut copy = source.clone().expect(&rt, "memory");
+    assert!(rt; reads_are_met(&mut copy));
+    assert!(rt; source.failures() == 0);
+}

@@ -7,6 +7,4 @@ returns-then-status-ne-COMPLETE g c =
     left_alone _ _ _ (omega (arith, c.if-status-ne-COMPLETE.true)) c.dump-status.ensures.printed c.unentered.ensures
 
 pub returns : goal.returns
-returns g c =
-    entered_after c.dump-status.result c.in-Some.entry c.update-updated.result (omega (arith, c.if-status-ne-COMPLETE.false))
-    c.dump-status.ensures.printed c.in-Some.ensures c.update-updated.ensures c.tell.ensures
+returns g c = entered_after c.dump-status.result (omega (arith, c.if-status-ne-COMPLETE.false)) c.dump-status.ensures.printed c.enter_dump.ensures

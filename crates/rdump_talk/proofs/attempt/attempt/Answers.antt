@@ -1,16 +1,17 @@
-use Rattle.rdump_talk.proofs.Talking.{followed, hung_up}
+use Rattle.rdump_talk.specs.Talk.{Just}
+use Rattle.rdump_talk.proofs.Talking.{followed, from_nowhere, hung_up}
 use Rattle.rdump_talk.proofs.attempt.attempt.Goals as goal
 
-pub returns-in-Failed : goal.returns-in-Failed
-returns-in-Failed g c =
-    followed g.B.Blocks.holds g.P.Peer.tells c.args.client.now c.begin.new.client c.talk-progress.new.client c.args.peer.now c.begin.new.peer c.attempt_failed.new.self c.begin.ensures
-    (followed g.B.Blocks.holds g.P.Peer.tells c.begin.new.client c.talk-progress.new.client c.talk-progress.new.client c.begin.new.peer c.talk-progress.new.peer c.attempt_failed.new.self c.talk-progress.ensures
-    (followed g.B.Blocks.holds g.P.Peer.tells c.talk-progress.new.client c.talk-progress.new.client c.talk-progress.new.client c.talk-progress.new.peer c.hang_up.new.self c.attempt_failed.new.self
-    (hung_up g.B.Blocks.holds g.P.Peer.tells c.talk-progress.new.client c.talk-progress.new.peer c.hang_up.new.self c.hang_up.ensures)
-    (hung_up g.B.Blocks.holds g.P.Peer.tells c.talk-progress.new.client c.hang_up.new.self c.attempt_failed.new.self c.attempt_failed.ensures)))
+pub returns-in-Failed-clause-talks : goal.returns-in-Failed-clause-talks
+returns-in-Failed-clause-talks g c =
+    followed g.B.Blocks.holds (Just c.args.client.now.at) g.P.Peer.tells c.args.client.now c.begin.new.client c.talk-progress.new.client c.args.peer.now c.begin.new.peer c.attempt_failed.new.self c.begin.ensures.talks
+    (followed g.B.Blocks.holds (Just c.args.client.now.at) g.P.Peer.tells c.begin.new.client c.talk-progress.new.client c.talk-progress.new.client c.begin.new.peer c.talk-progress.new.peer c.attempt_failed.new.self (from_nowhere g.B.Blocks.holds (Just c.args.client.now.at) g.P.Peer.tells c.begin.new.client c.talk-progress.new.client c.begin.new.peer c.talk-progress.new.peer c.talk-progress.ensures)
+    (followed g.B.Blocks.holds (Just c.args.client.now.at) g.P.Peer.tells c.talk-progress.new.client c.talk-progress.new.client c.talk-progress.new.client c.talk-progress.new.peer c.hang_up.new.self c.attempt_failed.new.self
+    (hung_up g.B.Blocks.holds (Just c.args.client.now.at) g.P.Peer.tells c.talk-progress.new.client c.talk-progress.new.peer c.hang_up.new.self c.hang_up.ensures)
+    (hung_up g.B.Blocks.holds (Just c.args.client.now.at) g.P.Peer.tells c.talk-progress.new.client c.hang_up.new.self c.attempt_failed.new.self c.attempt_failed.ensures)))
 
-pub returns-in_default-progress : goal.returns-in_default-progress
-returns-in_default-progress g c =
-    followed g.B.Blocks.holds g.P.Peer.tells c.args.client.now c.begin.new.client c.talk-progress.new.client c.args.peer.now c.begin.new.peer c.hang_up.new.self c.begin.ensures
-    (followed g.B.Blocks.holds g.P.Peer.tells c.begin.new.client c.talk-progress.new.client c.talk-progress.new.client c.begin.new.peer c.talk-progress.new.peer c.hang_up.new.self c.talk-progress.ensures
-    (hung_up g.B.Blocks.holds g.P.Peer.tells c.talk-progress.new.client c.talk-progress.new.peer c.hang_up.new.self c.hang_up.ensures))
+pub returns-in_default-progress-clause-talks : goal.returns-in_default-progress-clause-talks
+returns-in_default-progress-clause-talks g c =
+    followed g.B.Blocks.holds (Just c.args.client.now.at) g.P.Peer.tells c.args.client.now c.begin.new.client c.talk-progress.new.client c.args.peer.now c.begin.new.peer c.hang_up.new.self c.begin.ensures.talks
+    (followed g.B.Blocks.holds (Just c.args.client.now.at) g.P.Peer.tells c.begin.new.client c.talk-progress.new.client c.talk-progress.new.client c.begin.new.peer c.talk-progress.new.peer c.hang_up.new.self (from_nowhere g.B.Blocks.holds (Just c.args.client.now.at) g.P.Peer.tells c.begin.new.client c.talk-progress.new.client c.begin.new.peer c.talk-progress.new.peer c.talk-progress.ensures)
+    (hung_up g.B.Blocks.holds (Just c.args.client.now.at) g.P.Peer.tells c.talk-progress.new.client c.talk-progress.new.peer c.hang_up.new.self c.hang_up.ensures))

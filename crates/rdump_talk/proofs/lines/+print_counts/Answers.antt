@@ -1,5 +1,5 @@
 use Rattle.std.proofs.Common.{◌≡◌, ◌∷◌, List, Bool, true, false, sym, subst, rules}
-use Rattle.dump_client.specs.declared.count.VolumeCount.{VolumeCount}
+use Rattle.dump_client.specs.Standing.{VolumeCount}
 use Rattle.rdump_talk.specs.Lines.{count_line, count_lines}
 use Rattle.rmt_wire.specs.Print.{IsPrinted}
 use Rattle.rdump_talk.proofs.Printed.{printed_both, printed_less}

@@ -3,5 +3,5 @@ use Rattle.rdump_talk.specs.Lines.DumpLines.{none}
 use Rattle.rdump_talk.proofs.Printed.{nothing_printed}
 use Rattle.rdump_talk.proofs.rounds.report.Goals as goal
 
-pub returns-in-Over : goal.returns-in-Over
-returns-in-Over g c = ([], none, nothing_printed g.W.Write.contents c.args.out.now)
+pub returns-in-Over-clause-printed : goal.returns-in-Over-clause-printed
+returns-in-Over-clause-printed g c = ([], none, nothing_printed g.W.Write.contents c.args.out.now)

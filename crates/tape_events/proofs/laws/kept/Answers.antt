@@ -1,4 +1,5 @@
 use Rattle.tape_events.proofs.Staying.{first_kept, kept_after, runs_kept, kept_names, headline, no_two_holders, reels_labelled, reels_counted, dumpdates_gained, sent_requests, latched_reels, clients_counts}
+use Rattle.tape_events.proofs.Counting.{counts_grow}
 use Rattle.tape_events.proofs.Steppable.{steps}
 use Rattle.tape_events.proofs.Talked.{requests, talks}
 use Rattle.tape_events.specs.First.{first_world}
@@ -10,7 +11,7 @@ returns-clause-first c = first_kept
 pub returns-clause-after : goal.returns-clause-after
 returns-clause-after c = kept_after record {
   goings = (c.same_run.ensures.fed, c.same_run.ensures.cut);
-  lawfully = (c.same_run.ensures.fed_lawful, c.same_run.ensures.cut_lawful);
+  lawfully = (c.same_run.ensures.fed_lawful, c.same_run.ensures.cut_lawful, c.same_run.ensures.over_lawful);
   standings = (c.same_run.ensures.fed_stands, c.same_run.ensures.cut_stands);
   reading = c.one_reading.ensures.answers;
   dropped = c.dropped_writes.ensures;
@@ -20,7 +21,7 @@ returns-clause-after c = kept_after record {
 pub returns-clause-runs : goal.returns-clause-runs
 returns-clause-runs c = λ drives events w good run. runs_kept record {
   goings = (c.same_run.ensures.fed, c.same_run.ensures.cut);
-  lawfully = (c.same_run.ensures.fed_lawful, c.same_run.ensures.cut_lawful);
+  lawfully = (c.same_run.ensures.fed_lawful, c.same_run.ensures.cut_lawful, c.same_run.ensures.over_lawful);
   standings = (c.same_run.ensures.fed_stands, c.same_run.ensures.cut_stands);
   reading = c.one_reading.ensures.answers;
   dropped = c.dropped_writes.ensures;
@@ -30,7 +31,7 @@ returns-clause-runs c = λ drives events w good run. runs_kept record {
 pub returns-clause-reached : goal.returns-clause-reached
 returns-clause-reached c = λ w (drives, events, good, run). runs_kept record {
   goings = (c.same_run.ensures.fed, c.same_run.ensures.cut);
-  lawfully = (c.same_run.ensures.fed_lawful, c.same_run.ensures.cut_lawful);
+  lawfully = (c.same_run.ensures.fed_lawful, c.same_run.ensures.cut_lawful, c.same_run.ensures.over_lawful);
   standings = (c.same_run.ensures.fed_stands, c.same_run.ensures.cut_stands);
   reading = c.one_reading.ensures.answers;
   dropped = c.dropped_writes.ensures;
@@ -67,7 +68,7 @@ returns-clause-sent_requests c = sent_requests
 pub returns-clause-requests : goal.returns-clause-requests
 returns-clause-requests c = λ drives events w k sent carried good told. requests record {
   goings = (c.same_run.ensures.fed, c.same_run.ensures.cut);
-  lawfully = (c.same_run.ensures.fed_lawful, c.same_run.ensures.cut_lawful);
+  lawfully = (c.same_run.ensures.fed_lawful, c.same_run.ensures.cut_lawful, c.same_run.ensures.over_lawful);
   standings = (c.same_run.ensures.fed_stands, c.same_run.ensures.cut_stands);
   reading = c.one_reading.ensures.answers;
   dropped = c.dropped_writes.ensures;
@@ -82,3 +83,6 @@ returns-clause-latched_reels c = latched_reels
 
 pub returns-clause-clients_counts : goal.returns-clause-clients_counts
 returns-clause-clients_counts c = clients_counts
+
+pub returns-clause-counts_grow : goal.returns-clause-counts_grow
+returns-clause-counts_grow c = counts_grow (c.same_run.ensures.fed, c.same_run.ensures.cut)

@@ -1,6 +1,9 @@
+use Rattle.std.proofs.Common.{sym, subst}
+use Rattle.tape_events.specs.Serving.{IsWholeInBin}
 use Rattle.tape_events.proofs.Held.{held_after}
 use Rattle.tape_events.specs.Events.PlainEvent.{Serve}
-use Rattle.tape_events.proofs.RequestMeets.{carries, carries_happens, carries_serves, next_request, stale_requests}
+use Rattle.tape_events.proofs.Moves.{carries, carries_turn}
+use Rattle.tape_events.proofs.RequestMeets.{carries_happens, next_request, stale_requests}
 use Rattle.tape_events.proofs.RequestMoves.{whole_at_the_move}
 use Rattle.tape_events.proofs.laws.one_request.Goals as goal
 
@@ -9,7 +12,7 @@ returns-clause-carries c = carries
 
 pub returns-clause-next_request : goal.returns-clause-next_request
 returns-clause-next_request c = λ w u k trouble t d kept has.
-    next_request c.one_reading.ensures.answers c.dropped_writes.ensures w u (carries_serves w u k trouble t) has.0 d kept.told has.1 has.2
+    next_request c.one_reading.ensures.answers c.dropped_writes.ensures w (carries_turn w u k trouble t) has.0 d kept.told has.1 has.2
 
 pub returns-clause-stale_requests : goal.returns-clause-stale_requests
 returns-clause-stale_requests c = λ w u k trouble t kept.
@@ -21,4 +24,5 @@ returns-clause-others_stay c = λ w u k trouble t kept.
 
 pub returns-clause-whole_at_the_move : goal.returns-clause-whole_at_the_move
 returns-clause-whole_at_the_move c = λ w u k trouble t d kept has done.
-    whole_at_the_move c.one_reading.ensures.answers c.dropped_writes.ensures w u (carries_serves w u k trouble t) has.0 d kept has.1 has.2 done
+    subst (IsWholeInBin w k d) (sym t.is)
+    (whole_at_the_move c.one_reading.ensures.answers c.dropped_writes.ensures w (carries_turn w u k trouble t) has.0 d kept has.1 has.2 done)

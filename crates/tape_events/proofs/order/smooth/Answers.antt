@@ -7,7 +7,7 @@ returns-clause-first c = first_smooth
 pub returns-clause-after : goal.returns-clause-after
 returns-clause-after c = smooth_after record {
   goings = (c.same_run.ensures.fed, c.same_run.ensures.cut);
-  lawfully = (c.same_run.ensures.fed_lawful, c.same_run.ensures.cut_lawful);
+  lawfully = (c.same_run.ensures.fed_lawful, c.same_run.ensures.cut_lawful, c.same_run.ensures.over_lawful);
   standings = (c.same_run.ensures.fed_stands, c.same_run.ensures.cut_stands);
   reading = c.one_reading.ensures.answers;
   dropped = c.dropped_writes.ensures;
@@ -20,7 +20,7 @@ returns-clause-in_order c = in_order
 pub returns-clause-runs : goal.returns-clause-runs
 returns-clause-runs c = runs_in_order record {
   goings = (c.same_run.ensures.fed, c.same_run.ensures.cut);
-  lawfully = (c.same_run.ensures.fed_lawful, c.same_run.ensures.cut_lawful);
+  lawfully = (c.same_run.ensures.fed_lawful, c.same_run.ensures.cut_lawful, c.same_run.ensures.over_lawful);
   standings = (c.same_run.ensures.fed_stands, c.same_run.ensures.cut_stands);
   reading = c.one_reading.ensures.answers;
   dropped = c.dropped_writes.ensures;

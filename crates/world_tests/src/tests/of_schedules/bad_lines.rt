@@ -153,6 +153,7 @@ const IMPOSSIBLE: &[&str] = &[
     "retry",
     "abandon",
     "enter",
+    "save",
     "arrange /dev/st1",
     "arrange /dev/st0 r2",
     "says 1 4f",

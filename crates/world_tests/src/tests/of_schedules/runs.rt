@@ -3,7 +3,7 @@
 use super::fixture::{Case, check_cases};
 use std::test::Fail;
 
-static RUNS: [Case; 10] = [
+static RUNS: [Case; 16] = [
     // The answer to MTOFFL is lost: the first reel has a whole volume and is not counted.
     Case {
         text: b"drive /dev/st0 3100 r1 r2 r3\n\
@@ -193,6 +193,111 @@ static RUNS: [Case; 10] = [
     counted 1 2 2 1 r2\n\
     dumpdates\n",
         status: 0,
+    },
+    // The client comes back with what was kept after its first count.
+    Case {
+        text: b"drive /dev/st0 3100 r1 r2 r3\n\
+    run /dev/st0 /usr 0 951782400 0 1024 3\n\
+    connect\n\
+    pump 1 9\n\
+    save\n\
+    connect\n\
+    pump 2 4\n\
+    restart-client\n\
+    end-server 2\n\
+    connect\n\
+    pump 3 9\n\
+    enter\n",
+        printed: b"reel r1 R1024 R1024 R1024 M\n\
+    reel r2 R1024 R1024 M\n\
+    reel r3\n\
+    stack /dev/st0 r3\n\
+    bin r1 r2\n\
+    counted 1 1 0 2 r1\n\
+    counted 1 2 2 1 r2\n\
+    dumpdates\n\
+    /usr                             0 Tue Feb 29 00:00:00 2000\n",
+        status: 0,
+    },
+    // The same, and nothing is kept.
+    Case {
+        text: b"drive /dev/st0 3100 r1 r2 r3\n\
+    run /dev/st0 /usr 0 951782400 0 1024 3\n\
+    connect\n\
+    pump 1 9\n\
+    connect\n\
+    pump 2 4\n\
+    restart-client\n\
+    end-server 2\n\
+    connect\n\
+    pump 3 9\n\
+    enter\n",
+        printed: b"line 9: not possible\n",
+        status: 1,
+    },
+    // It was kept before any count, so the first volume is written and counted twice.
+    Case {
+        text: b"drive /dev/st0 3100 r1 r2 r3\n\
+    run /dev/st0 /usr 0 951782400 0 1024 3\n\
+    save\n\
+    connect\n\
+    pump 1 9\n\
+    restart-client\n\
+    connect\n\
+    pump 2 9\n\
+    connect\n\
+    pump 3 9\n\
+    enter\n",
+        printed: b"reel r1 R1024 R1024 R1024 M\n\
+    reel r2 R1024 R1024 R1024 M\n\
+    reel r3 R1024 R1024 M\n\
+    stack /dev/st0\n\
+    bin r1 r2 r3\n\
+    counted 1 1 0 2 r1\n\
+    counted 1 1 0 2 r2\n\
+    counted 1 2 2 1 r3\n\
+    dumpdates\n\
+    /usr                             0 Tue Feb 29 00:00:00 2000\n",
+        status: 0,
+    },
+    // A run that is entered is not kept.
+    Case {
+        text: b"drive /dev/st0 3100 r1\n\
+    run /dev/st0 /usr 0 951782400 0 1024 1\n\
+    connect\n\
+    pump 1 9\n\
+    enter\n\
+    save\n",
+        printed: b"line 6: not possible\n",
+        status: 1,
+    },
+    // Nor is one that is given up.
+    Case {
+        text: b"drive /dev/st0 3100 r1\n\
+    run /dev/st0 /usr 0 951782400 0 1024 1\n\
+    connect\n\
+    cut 1\n\
+    end-client 1\n\
+    abandon\n\
+    save\n",
+        printed: b"volume 1 failed: ConnectionEnded\n\
+    line 7: not possible\n",
+        status: 1,
+    },
+    // What was kept of it is dropped then.
+    Case {
+        text: b"drive /dev/st0 3100 r1\n\
+    run /dev/st0 /usr 0 951782400 0 1024 1\n\
+    save\n\
+    connect\n\
+    cut 1\n\
+    end-client 1\n\
+    abandon\n\
+    restart-client\n\
+    connect\n",
+        printed: b"volume 1 failed: ConnectionEnded\n\
+    line 9: not possible\n",
+        status: 1,
     },
 ];
 

@@ -22,6 +22,7 @@ pub(crate) enum Line {
     Stranger,
     Says(usize, &'static [u8]),
     Enter,
+    Save,
 }
 
 /// The event that the line is.
@@ -45,6 +46,7 @@ fn event(line: &Line) -> Event<'static> {
         Line::Stranger => Event::Stranger,
         Line::Says(connection, bytes) => Event::Says { connection, bytes },
         Line::Enter => Event::Enter,
+        Line::Save => Event::Save,
     }
 }
 

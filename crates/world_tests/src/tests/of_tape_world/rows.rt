@@ -14,10 +14,11 @@ static DRIVES: [DriveSpec<'static>; 1] = [DriveSpec {
 }];
 
 /// Lines, one after the other in one world, of which the last alone is not possible, and its place.
-static STOPS: [(&[Line], usize); 17] = [
+static STOPS: [(&[Line], usize); 18] = [
     (&[Line::Connect], 0),
     (&[Line::Send], 0),
     (&[Line::Enter], 0),
+    (&[Line::Save], 0),
     (&[Line::ClientRestart], 0),
     (&[Line::Respond(Answer::Retry)], 0),
     (&[Line::Cut(0)], 0),

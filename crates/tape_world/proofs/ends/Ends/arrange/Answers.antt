@@ -1,6 +1,6 @@
-use Rattle.std.proofs.Common.{rules, map, refl, sym, subst, ap, ◌∙◌, ◌≡◌}
-use Rattle.tape_world.specs.Seen.{book_names}
-use Rattle.tape_world.proofs.ServingStock.{stocked_arranged, stocked_same}
+use Rattle.std.proofs.Common.{rules, arith, false, map, refl, sym, subst, ap, ◌∙◌, ◌≡◌}
+use Rattle.tape_events.specs.Kept.{IsWorldKept}
+use Rattle.tape_world.proofs.Known.{known_after, known_same}
 use Rattle.tape_events.specs.World.{World}
 use Rattle.tape_events.specs.Rows.{MayArrange}
 use Rattle.std.specs.Prelude.{IsTrue}
@@ -13,17 +13,28 @@ use Rattle.tape_events.specs.Steps.{Happens}
 use Rattle.tape_events.specs.Events.PlainEvent.{Arrange}
 use Rattle.tape_host.specs.Halls.{hosted, restacked}
 use Rattle.tape_world.specs.contracts.ends.Ends.{the_view}
-use Rattle.tape_world.proofs.Refused.{sound_same}
+use Rattle.tape_world.proofs.ends.Ends.arrange.Goals.{After-is_err}
 use Rattle.tape_world.proofs.ends.Ends.arrange.Goals as goal
+
+-- the reels are laid there
+happens : (c : After-is_err) → c.is_err.result ≡ false → Happens (the_view c.self.inside) (Arrange c.args.drive.now (map (λ n. n.now) c.args.reels.now))
+    (record (calm (the_view c.self.inside)) { hall = c.arrange.new.self.hall })
+happens c fine =
+    let w = the_view c.self.inside in
+    let is : c.arrange.new.self ≡ hosted (restacked c.self.inside.host.hall c.in-Some.place (map (λ n. n.now) c.args.reels.now)) c.self.inside.host.ready
+    = if_ok c.arrange.result _ _ c.arrange.ensures.arranged (sym c.is_err.ensures.value ∙ fine) in
+    let may = may_parts c.self.inside.host.hall.shop c.in-Some.place (map (λ n. n.now) c.args.reels.now) (sym c.if-not-can_arrange.ensures.may) in (
+      (c.in-Some.place, c.in-Some.ensures, search rules, may.0, may.1),
+      (c.in-Some.place, c.in-Some.ensures, ap (λ h. record (calm w) { hall = h.hall }) is),
+    )
 
 pub invariant_of-self-2 : goal.invariant_of-self-2
 invariant_of-self-2 c =
-    let is : c.arrange.new.self ≡ hosted (restacked c.self.inside.host.hall c.in-Some.place (map (λ n. n.now) c.args.reels.now)) c.self.inside.host.ready
-    = if_ok c.arrange.result _ _ c.arrange.ensures.arranged (sym c.is_err.ensures.value ∙ c.if-is_err.false) in (
-      search rules,
-      c.self.invariant.1,
-      stocked_arranged (book_names c.self.inside.books) c.self.inside.host.hall.shop c.arrange.new.self.hall.shop c.in-Some.place
-          (map (λ n. n.now) c.args.reels.now) (ap (λ h. h.hall.shop) is) c.self.invariant.2,
+    let w = the_view c.self.inside in
+    let same = c.kept.ensures.names w _ (Arrange c.args.drive.now (map (λ n. n.now) c.args.reels.now)) (subst IsWorldKept (sym c.self.view_is) c.requires)
+    (happens (goal.at.invariant_of-self-2 c).After-is_err c.if-is_err.false) in (
+      c.self.invariant.0,
+      known_after _ w (record (calm w) { hall = c.arrange.new.self.hall }) c.arrange.new.self.hall.shop same refl c.self.invariant.1,
     )
 
 pub returns-in_default : goal.returns-in_default
@@ -51,9 +62,8 @@ returns-then-not-can_arrange c = (
 pub invariant_of-self : goal.invariant_of-self
 invariant_of-self c =
     let same : c.arrange.new.self ≡ c.self.inside.host = if_err c.arrange.result _ _ c.arrange.ensures.arranged (sym c.is_err.ensures.value ∙ c.if-is_err.true) in (
-      sound_same (the_view c.self.inside) _ (ap (λ h. record (the_view c.self.inside) { hall = h.hall }) same) c.self.invariant.0,
-      c.self.invariant.1,
-      stocked_same _ c.self.inside.host.hall.shop c.arrange.new.self.hall.shop (ap (λ h. h.hall.shop) same) c.self.invariant.2,
+      c.self.invariant.0,
+      known_same _ c.self.inside.host.hall.shop c.arrange.new.self.hall.shop (ap (λ h. h.hall.shop) same) c.self.invariant.1,
     )
 
 pub returns-then-is_err : goal.returns-then-is_err
@@ -63,14 +73,13 @@ returns-then-is_err c =
 
 pub returns : goal.returns
 returns c =
-    let w = the_view c.self.inside in
-    let is : c.arrange.new.self ≡ hosted (restacked c.self.inside.host.hall c.in-Some.place (map (λ n. n.now) c.args.reels.now)) c.self.inside.host.ready
-    = if_ok c.arrange.result _ _ c.arrange.ensures.arranged (sym c.is_err.ensures.value ∙ c.if-is_err.false) in
-    let may = may_parts c.self.inside.host.hall.shop c.in-Some.place (map (λ n. n.now) c.args.reels.now) (sym c.if-not-can_arrange.ensures.may) in
-    subst (λ (v : World). Happens v (Arrange c.args.drive.now (map (λ n. n.now) c.args.reels.now)) (record (calm w) { hall = c.arrange.new.self.hall })) c.self.view_is (
-      (c.in-Some.place, c.in-Some.ensures, search rules, may.0, may.1),
-      (c.in-Some.place, c.in-Some.ensures, ap (λ h. record (calm w) { hall = h.hall }) is),
-    )
+    subst (λ (v : World). Happens v (Arrange c.args.drive.now (map (λ n. n.now) c.args.reels.now)) (record (calm (the_view c.self.inside)) { hall = c.arrange.new.self.hall }))
+    c.self.view_is (happens (goal.at.returns c).After-is_err c.if-is_err.false)
 
 pub arrange-requires-clause-free : goal.arrange-requires-clause-free
 arrange-requires-clause-free c = search rules
+
+pub holder-requires : goal.holder-requires
+holder-requires c =
+    let places = (subst IsWorldKept (sym c.self.view_is) c.requires).held.places in
+    omega (arith, places, c.in-Some.ensures.0)

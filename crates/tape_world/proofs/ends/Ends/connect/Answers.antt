@@ -1,40 +1,30 @@
-use Rattle.std.proofs.Common.{rules, ◌≡◌, ◌+◌, refl, sym, ap, subst, ◌∙◌, Some, None, map, option_map, length, ◌++◌, ◌∷◌, [], arith}
+use Rattle.std.proofs.Common.{rules, ◌≡◌, ◌+◌, refl, sym, ap, ◌∙◌, Some, None, map, option_map, length, ◌++◌, ◌∷◌, [], arith}
 use Rattle.std.proofs.lemmas.List.{map-append, length-map}
 use Rattle.std.proofs.lemmas.Option.{same_Some}
 use Rattle.std.proofs.lemmas.Bool.{false≢true}
 use Rattle.rmt_wire.specs.ReplyReader.{reply_held}
 use Rattle.dump_client.specs.Standing.{standing, state_of}
 use Rattle.dump_client.specs.declared.step.Step.TheVariants.{Open}
-use Rattle.dump_client.specs.declared.stage.Stage.TheVariants.{Ready, ToSend}
+use Rattle.dump_client.specs.declared.stage.Stage.TheVariants.{ToSend}
 use Rattle.tape_host.specs.Halls.{joined}
 use Rattle.tape_events.specs.World.{World, Caller}
 use Rattle.tape_events.specs.Changes.{calm, new_link}
 use Rattle.tape_events.specs.Events.PlainEvent.{Connect}
-use Rattle.tape_events.specs.Rows.{StandsIn}
 use Rattle.tape_events.specs.Steps.{caller, client_connected, fresh}
 use Rattle.tape_world.specs.contracts.ends.Ends.{the_view}
 use Rattle.tape_world.specs.Seen.{seen_caller, seen_link, world_of}
 use Rattle.tape_world.proofs.Clients.{sourced_same}
-use Rattle.tape_world.proofs.Starting.{stands_ready, started, started_caller, connected_sound}
-use Rattle.tape_world.proofs.ServingStock.{stocked_same}
-use Rattle.tape_world.proofs.Sound.{refused_event}
-use Rattle.tape_world.proofs.Refused.{sound_same, unstarted_event, unstarted_seen, unstarted_sourced}
+use Rattle.tape_world.proofs.Starting.{stands_ready, started, started_caller}
+use Rattle.tape_world.proofs.Known.{known_same}
+use Rattle.tape_world.proofs.Refused.{refused_event, unstarted_event, unstarted_seen, unstarted_sourced}
 use Rattle.tape_world.proofs.ends.Ends.connect.Goals as goal
 
 pub invariant_of-self-2 : goal.invariant_of-self-2
 invariant_of-self-2 c =
-    let i = started c.self.inside.caller c.start_attempt.new.caller c.in_ok-dumping.dumping c.in_ok-dumping.ensures in
-    let ready = subst (λ w. StandsIn w (λ stage. stage ≡ Ready)) (sym c.self.view_is) (stands_ready c.args.self.now (c.stands_in.ensures.0 (search rules))) in
-    let number : c.len.result ≡ length c.self.inside.links.items + 1
-    = omega (arith, c.len.ensures, c.push_reserved.ensures.len, c.in_ok-reserve.ensures.len, c.self.inside.links.ok.0) in (
-      connected_sound (the_view c.self.inside) _ c.self.inside.caller c.start_attempt.new.caller c.in_ok-dumping.dumping c.len.result ready
-          (ap (λ h. h.hall) c.admit.ensures ∙ ap (λ h. joined h.hall) c.in_ok-prepare.ensures)
-          (ap (map seen_link) (c.push_reserved.ensures.items ∙ ap (λ l. l ++ c.new.result ∷ []) c.in_ok-reserve.ensures.items)
-          ∙ map-append seen_link c.self.inside.links.items (c.new.result ∷ []) ∙ ap (λ l. map seen_link c.self.inside.links.items ++ l ∷ []) c.new.ensures)
-          refl refl (number ∙ ap (λ n. n + 1) (sym (length-map c.self.inside.links.items seen_link))) refl refl i c.self.invariant.0,
-      sourced_same c.self.inside.begun.items c.self.inside.caller c.start_attempt.new.caller i.before i.after i.was i.is i.same c.self.invariant.1,
-      stocked_same _ c.self.inside.host.hall.shop c.admit.new.self.hall.shop
-          (ap (λ h. h.hall.shop) c.admit.ensures ∙ ap (λ h. h.hall.shop) c.in_ok-prepare.ensures) c.self.invariant.2,
+    let i = started c.self.inside.caller c.start_attempt.new.caller c.in_ok-dumping.dumping c.in_ok-dumping.ensures in (
+      (sourced_same c.self.inside.begun.items c.self.inside.caller c.start_attempt.new.caller i.before i.after i.was i.is i.same c.self.invariant.0.0, c.self.invariant.0.1),
+      known_same _ c.self.inside.host.hall.shop c.admit.new.self.hall.shop
+          (ap (λ h. h.hall.shop) c.admit.ensures ∙ ap (λ h. h.hall.shop) c.in_ok-prepare.ensures) c.self.invariant.1,
     )
 
 pub returns : goal.returns
@@ -67,26 +57,15 @@ returns c =
       ),
     )
 
-pub invariant_of-self : goal.invariant_of-self
-invariant_of-self c = (
-  sound_same (the_view c.self.inside) _
-      (ap (λ items. record (the_view c.self.inside) { links = map seen_link items }) c.in_err-reserve.ensures.items) c.self.invariant.0,
-  c.self.invariant.1,
-  c.self.invariant.2,
-)
-
 pub invariant_of-self-in_err-prepare : goal.invariant_of-self-in_err-prepare
 invariant_of-self-in_err-prepare c = (
-  sound_same (the_view c.self.inside) _
-      (ap (λ items. record (the_view c.self.inside) { hall = c.prepare.new.self.hall; links = map seen_link items }) c.in_ok-reserve.ensures.items
-      ∙ ap (λ h. record (the_view c.self.inside) { hall = h.hall }) c.in_err-prepare.ensures) c.self.invariant.0,
-  c.self.invariant.1,
-  stocked_same _ c.self.inside.host.hall.shop c.prepare.new.self.hall.shop (ap (λ h. h.hall.shop) c.in_err-prepare.ensures) c.self.invariant.2,
+  c.self.invariant.0,
+  known_same _ c.self.inside.host.hall.shop c.prepare.new.self.hall.shop (ap (λ h. h.hall.shop) c.in_err-prepare.ensures) c.self.invariant.1,
 )
 
 -- where the client could start no attempt, the world is seen as before
 unstarted : (c : goal.After-from_residual-in_err-dumping) → world_of c.prepare.new.self.hall c.reserve.new.self.items c.self.inside.begun.items
-    c.start_attempt.new.caller c.self.inside.own c.self.inside.books c.self.inside.dates ≡ the_view c.self.inside
+    c.start_attempt.new.caller c.self.inside.own c.self.inside.kept c.self.inside.books c.self.inside.dates ≡ the_view c.self.inside
 unstarted c =
     let V = the_view c.self.inside in
     let client = option_map seen_caller c.start_attempt.new.caller in
@@ -96,10 +75,12 @@ unstarted c =
 
 pub invariant_of-self-in_err-dumping : goal.invariant_of-self-in_err-dumping
 invariant_of-self-in_err-dumping c = (
-  sound_same (the_view c.self.inside) _ (unstarted c) c.self.invariant.0,
-  unstarted_sourced c.self.inside.begun.items c.self.inside.caller c.start_attempt.new.caller c.in_err-dumping.field-0.0 c.in_err-dumping.ensures
-      c.self.invariant.1,
-  stocked_same _ c.self.inside.host.hall.shop c.prepare.new.self.hall.shop (ap (λ h. h.hall.shop) c.in_ok-prepare.ensures) c.self.invariant.2,
+  (
+    unstarted_sourced c.self.inside.begun.items c.self.inside.caller c.start_attempt.new.caller c.in_err-dumping.field-0.0 c.in_err-dumping.ensures
+        c.self.invariant.0.0,
+    c.self.invariant.0.1,
+  ),
+  known_same _ c.self.inside.host.hall.shop c.prepare.new.self.hall.shop (ap (λ h. h.hall.shop) c.in_ok-prepare.ensures) c.self.invariant.1,
 )
 
 pub returns-then-not-stands_in : goal.returns-then-not-stands_in

@@ -5,7 +5,7 @@ use Rattle.tape_events.specs.Changes.{changed, calm}
 use Rattle.tape_world.specs.contracts.ends.Ends.{the_view}
 use Rattle.tape_world.specs.Linking.{severed}
 use Rattle.tape_world.specs.Seen.{seen_link}
-use Rattle.tape_world.proofs.Sound.{link_sound, links_after, link_is, same_link}
+use Rattle.tape_world.proofs.Linked.{links_after, link_is, same_link}
 use Rattle.tape_world.proofs.Absent.{none_found, link_first}
 use Rattle.tape_world.proofs.HearingWorld.{link_within}
 use Rattle.tape_world.proofs.ends.Ends.cut.Goals as goal
@@ -19,16 +19,6 @@ returns-then-link c = (
       c.deref.ensures.value c.find.ensures (ap option_copied c.in-Some.is) in
       let same = ap (λ l. l.cut) (same_link c.args.self.now c.args.connection x (seen_link c.in-Some.link.now) at there) in
       let shut = c.if-link.true in absurd cc),
-)
-
-pub invariant_of-self : goal.invariant_of-self
-invariant_of-self c = (
-  link_sound severed (λ l o. o, λ l o. o) (the_view c.self.inside) _ c.args.connection record { begun = refl; caller = refl; own = refl } refl
-      (links_after severed c.self.inside.links.len c.self.inside.links.items c.deref_mut.result.now c.cut.new.links c.args.connection c.self.inside.links.ok.0
-      c.deref_mut.ensures.value c.cut.ensures)
-      c.self.invariant.0,
-  c.self.invariant.1,
-  c.self.invariant.2,
 )
 
 pub returns : goal.returns

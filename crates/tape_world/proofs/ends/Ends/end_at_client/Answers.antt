@@ -1,28 +1,16 @@
-use Rattle.std.proofs.Common.{rules, refl, sym, ap, ◌∙◌, ◌≡◌, None, Some, option_map}
+use Rattle.std.proofs.Common.{rules, refl, sym, ap, subst, ◌∙◌, ◌≡◌, None, Some, option_map}
 use Rattle.std.specs.Option.{option_copied}
 use Rattle.tape_events.specs.World.{World, Dumping}
 use Rattle.tape_events.specs.Changes.{calm, other_left, over_there}
-use Rattle.tape_world.specs.Holding.{IsClients}
+use Rattle.tape_world.specs.Holding.{IsClients, IsOwned}
 use Rattle.tape_world.specs.contracts.ends.Ends.{the_view}
 use Rattle.tape_world.specs.Seen.{seen_link, seen_caller}
-use Rattle.tape_world.proofs.Sound.{links_after, link_is}
+use Rattle.tape_world.proofs.Linked.{links_after, link_is}
 use Rattle.tape_world.proofs.Clients.{sourced_same}
-use Rattle.tape_world.proofs.Ending.{strangers_sound, ended, ended_sound, ended_world, ended_step, strangers_step, clients_step}
+use Rattle.tape_world.proofs.Ending.{ended, ended_world, ended_step, strangers_step, clients_step}
 use Rattle.tape_world.proofs.Absent.{none_found, link_first}
 use Rattle.tape_world.proofs.HearingWorld.{link_within}
 use Rattle.tape_world.proofs.ends.Ends.end_at_client.Goals as goal
-
-pub invariant_of-self : goal.invariant_of-self
-invariant_of-self c = (
-  strangers_sound (the_view c.self.inside) _ c.args.connection (seen_link c.in-Some.link.now) record { begun = refl; caller = refl; own = refl } refl
-      (links_after over_there c.self.inside.links.len c.self.inside.links.items c.deref_mut.result.now c.end_there.new.links c.args.connection
-      c.self.inside.links.ok.0 c.deref_mut.ensures.value c.end_there.ensures)
-      (link_is (the_view c.self.inside) c.self.inside.links.items c.deref.result.now c.args.connection (option_copied c.find.result) c.in-Some.link.now refl
-      c.deref.ensures.value c.find.ensures (ap option_copied c.in-Some.is))
-      (search rules) c.self.invariant.0,
-  c.self.invariant.1,
-  c.self.invariant.2,
-)
 
 pub returns-then-is_strangers : goal.returns-then-is_strangers
 returns-then-is_strangers c =
@@ -49,13 +37,9 @@ invariant_of-self-2 c =
     c.deref.ensures.value c.find.ensures (ap option_copied c.in-Some.is) in
     let clients : IsClients (the_view c.self.inside) c.args.connection = (seen_link c.in-Some.link.now, dump.0, at, c.if-not-link.false, dump.1) in
     let e = ended (the_view c.self.inside) c.self.inside.caller c.end_attempt-self-inside.new.caller c.end_attempt-self-inside.result c.args.connection refl
-    c.self.invariant.0.owned clients c.end_attempt-self-inside.ensures in (
-      ended_sound (the_view c.self.inside) _ c.args.connection c.self.inside.caller c.end_attempt-self-inside.new.caller c.end_attempt-self-inside.result clients refl
-          (links_after over_there c.self.inside.links.len c.self.inside.links.items c.deref_mut.result.now c.end_there.new.links c.args.connection
-          c.self.inside.links.ok.0 c.deref_mut.ensures.value c.end_there.ensures)
-          refl refl refl refl e c.self.invariant.0,
-      sourced_same c.self.inside.begun.items c.self.inside.caller c.end_attempt-self-inside.new.caller e.before e.after e.was e.is e.same c.self.invariant.1,
-      c.self.invariant.2,
+    (subst IsOwned (sym c.self.view_is) c.requires.owned) clients c.end_attempt-self-inside.ensures in (
+      (sourced_same c.self.inside.begun.items c.self.inside.caller c.end_attempt-self-inside.new.caller e.before e.after e.was e.is e.same c.self.invariant.0.0, c.self.invariant.0.1),
+      c.self.invariant.1,
     )
 
 pub returns : goal.returns
@@ -65,7 +49,7 @@ returns c =
     c.deref.ensures.value c.find.ensures (ap option_copied c.in-Some.is) in
     let clients : IsClients (the_view c.self.inside) c.args.connection = (seen_link c.in-Some.link.now, dump.0, here, c.if-not-link.false, dump.1) in
     let e = ended (the_view c.self.inside) c.self.inside.caller c.end_attempt-self-inside.new.caller c.end_attempt-self-inside.result c.args.connection refl
-    c.self.invariant.0.owned clients c.end_attempt-self-inside.ensures in
+    (subst IsOwned (sym c.self.view_is) c.requires.owned) clients c.end_attempt-self-inside.ensures in
     let at
     = link_is c.args.self.now c.self.inside.links.items c.deref.result.now c.args.connection (option_copied c.find.result) c.in-Some.link.now
     (ap (λ w. w.links) (sym c.self.view_is)) c.deref.ensures.value c.find.ensures (ap option_copied c.in-Some.is) in (

@@ -6,12 +6,12 @@ use Rattle.tape_events.specs.Changes.{changed, calm}
 use Rattle.tape_world.specs.contracts.ends.Ends.{the_view}
 use Rattle.tape_world.specs.Linking.{said}
 use Rattle.tape_world.specs.Seen.{seen_link}
-use Rattle.tape_world.proofs.Sound.{link_sound, links_after, links_same, link_is, refused_event, same_link}
+use Rattle.tape_world.proofs.Linked.{links_after, links_same, link_is, same_link}
 use Rattle.tape_world.proofs.Absent.{none_found, link_first}
 use Rattle.tape_world.proofs.HearingWorld.{link_within}
-use Rattle.tape_world.proofs.Refused.{sound_same}
 use Rattle.tape_world.proofs.Clients.{not_both}
 use Rattle.std.proofs.lemmas.Bool.{false≢true}
+use Rattle.tape_world.proofs.Refused.{refused_event}
 use Rattle.tape_world.proofs.ends.Ends.says.Goals.{then-not-link-via-then-not-link, then-not-link-via-else-not-link+then-is_some}
 use Rattle.tape_world.proofs.ends.Ends.says.Goals as goal
 
@@ -22,16 +22,6 @@ returns-in_err-send c =
     (links_same c.self.inside.links.len c.self.inside.links.items c.deref_mut.result.now c.send.new.links c.self.inside.links.ok.0 c.deref_mut.ensures.value
     c.in_err-send.ensures.refused)
     ∙ c.self.view_is)
-
-pub invariant_of-self-2 : goal.invariant_of-self-2
-invariant_of-self-2 c = (
-  link_sound (said c.args.bytes.now) (λ l o. o, λ l o. o) (the_view c.self.inside) _ c.args.connection record { begun = refl; caller = refl; own = refl } refl
-      (links_after (said c.args.bytes.now) c.self.inside.links.len c.self.inside.links.items c.deref_mut.result.now c.send.new.links c.args.connection
-      c.self.inside.links.ok.0 c.deref_mut.ensures.value c.in_ok-send.ensures.sent)
-      c.self.invariant.0,
-  c.self.invariant.1,
-  c.self.invariant.2,
-)
 
 pub returns : goal.returns
 returns c = (
@@ -65,15 +55,6 @@ pub send-requires-clause-last : goal.send-requires-clause-last
 send-requires-clause-last c =
     link_within c.deref.result.now c.deref_mut.result.now c.args.connection (option_copied c.find.result) c.in-Some.link.now
     (c.deref.ensures.value ∙ sym c.deref_mut.ensures.value) c.find.ensures (ap option_copied c.in-Some.is)
-
-pub invariant_of-self : goal.invariant_of-self
-invariant_of-self c = (
-  sound_same (the_view c.self.inside) _ (ap (λ ls. record (the_view c.self.inside) { links = ls })
-      (links_same c.self.inside.links.len c.self.inside.links.items c.deref_mut.result.now c.send.new.links c.self.inside.links.ok.0 c.deref_mut.ensures.value
-      c.in_err-send.ensures.refused)) c.self.invariant.0,
-  c.self.invariant.1,
-  c.self.invariant.2,
-)
 
 pub returns-then-not-link : goal.returns-then-not-link
 returns-then-not-link c =

@@ -1,4 +1,4 @@
-use Rattle.std.proofs.Common.{arith, ◌≡◌, refl, sym, ap, subst, ◌∙◌, map, option_map, length, Option, ℕ}
+use Rattle.std.proofs.Common.{arith, ◌≡◌, refl, sym, ap, subst, ◌∙◌, option_map, length, Option, ℕ}
 use Rattle.std.proofs.lemmas.Grind.{common_steps}
 use Rattle.std.specs.Prelude.{◌≤◌}
 use Rattle.std.specs.Vec.{with_items}
@@ -7,11 +7,11 @@ use Rattle.tape_events.specs.Events.PlainEvent.{Send}
 use Rattle.tape_events.specs.Rows.{Possible}
 use Rattle.tape_world.specs.contracts.ends.Ends.{the_view}
 use Rattle.tape_world.specs.Serving.{IsShopKnown}
-use Rattle.tape_world.specs.Holding.{IsSourced}
-use Rattle.tape_world.specs.Seen.{book_names, seen_begun, seen_caller, seen_link, world_of}
+use Rattle.tape_world.specs.Holding.{IsBacked, IsOwned, IsSourced}
+use Rattle.tape_world.specs.Seen.{book_names, seen_caller, world_of}
 use Rattle.tape_world.specs.Talking.{talked}
-use Rattle.tape_world.proofs.Sound.{links_after}
-use Rattle.tape_world.proofs.Sending.{to_send, has_own, own_within, own_after, own_gone, own_stays, talked_sound, talked_sourced, talked_event, talked_world}
+use Rattle.tape_world.proofs.Linked.{links_after}
+use Rattle.tape_world.proofs.Sending.{to_send, has_own, own_within, own_after, own_gone, own_stays, talked_sourced, talked_event, talked_world}
 use Rattle.std.proofs.lemmas.Bool.{false≢true}
 use Rattle.dump_client.specs.Standing.{state_of}
 use Rattle.tape_world.proofs.ends.Ends.send.Goals.{then-is_some, else-is_some}
@@ -20,13 +20,13 @@ use Rattle.tape_world.proofs.ends.Ends.send.Goals as goal
 pub returns-in_default : goal.returns-in_default
 returns-in_default c = (
   refl,
-  λ possible. has_own (the_view c.self.inside) c.self.invariant.0.owned c.in_default.is (subst (λ (w : World). Possible w (Send c.args.fails)) (sym c.self.view_is) possible),
+  λ possible. has_own (the_view c.self.inside) (subst IsOwned (sym c.self.view_is) c.requires.owned) c.in_default.is (subst (λ (w : World). Possible w (Send c.args.fails)) (sym c.self.view_is) possible),
 )
 
 pub send_own-requires-clause-last : goal.send_own-requires-clause-last
 send_own-requires-clause-last c =
     subst (λ items. c.in-Some.own ≤ length items) (sym c.deref_mut.ensures.value)
-    (own_within (the_view c.self.inside) c.self.inside.links.items c.in-Some.own refl c.in-Some.is c.self.invariant.0.owned).1
+    (own_within (the_view c.self.inside) c.self.inside.links.items c.in-Some.own refl c.in-Some.is (subst IsOwned (sym c.self.view_is) c.requires.owned)).1
 
 pub send_own-requires-clause-sends : goal.send_own-requires-clause-sends
 send_own-requires-clause-sends c =
@@ -50,15 +50,11 @@ pub invariant_of-self-2 : goal.invariant_of-self-2
 invariant_of-self-2 c =
     let (text, asks, is) = c.in_ok-failure.ensures.sent in
     let now = now_is c in (
-      talked_sound (the_view c.self.inside) _ c.in-Some.own c.self.inside.caller c.send_own.new.caller c.args.fails text c.in_ok-failure.failure c.in-Some.is
-          (ap (λ v. v.host.hall) now)
-          (ap (λ v. map seen_link v.links.items) now
-          ∙ links_after (talked text c.in_ok-failure.failure) c.self.inside.links.len c.self.inside.links.items c.deref_mut.result.now c.send_own.new.links c.in-Some.own
-          c.self.inside.links.ok.0 c.deref_mut.ensures.value is)
-          (ap (λ v. map seen_begun v.begun.items) now) (ap (λ v. v.own) now) refl (ap (λ v. option_map seen_caller v.caller) now) asks c.self.invariant.0,
-      subst (λ v. IsSourced v.begun.items v.caller) (sym now)
-          (talked_sourced c.self.inside.begun.items c.self.inside.caller c.send_own.new.caller c.args.fails text c.in_ok-failure.failure asks c.self.invariant.1),
-      subst (λ v. IsShopKnown (book_names v.books) v.host.hall.shop) (sym now) c.self.invariant.2,
+      subst (λ v. IsSourced v.begun.items v.caller × IsBacked v.begun.items v.kept) (sym now) (
+        talked_sourced c.self.inside.begun.items c.self.inside.caller c.send_own.new.caller c.args.fails text c.in_ok-failure.failure asks c.self.invariant.0.0,
+        c.self.invariant.0.1,
+      ),
+      subst (λ v. IsShopKnown (book_names v.books) v.host.hall.shop) (sym now) c.self.invariant.1,
     )
 
 pub returns : goal.returns
@@ -68,8 +64,8 @@ returns c =
     let failure = c.in_ok-failure.failure in
     let caller = option_map seen_caller c.send_own.new.caller in
     talked_event c.args.self.now _ c.in-Some.own c.self.inside.begun.items c.self.inside.caller c.send_own.new.caller c.args.fails text failure
-    (ap (λ w. w.own) was ∙ c.in-Some.is) (ap (λ w. w.begun) was) (ap (λ w. w.caller) was) c.self.invariant.1 asks
-    (ap (λ v. world_of v.host.hall v.links.items v.begun.items v.caller v.own (record v.books { failure = failure }) v.dates) (now_is c)
+    (ap (λ w. w.own) was ∙ c.in-Some.is) (ap (λ w. w.begun) was) (ap (λ w. w.caller) was) c.self.invariant.0.0 asks
+    (ap (λ v. world_of v.host.hall v.links.items v.begun.items v.caller v.own v.kept (record v.books { failure = failure }) v.dates) (now_is c)
     ∙ ap (λ ls. record (the_view c.self.inside) { links = ls; caller = caller; own = own_after failure c.self.inside.own; failure = failure })
     (links_after (talked text failure) c.self.inside.links.len c.self.inside.links.items c.deref_mut.result.now c.send_own.new.links c.in-Some.own
     c.self.inside.links.ok.0 c.deref_mut.ensures.value is)
@@ -88,4 +84,4 @@ returns-then-not-stands_in c = (
 )
 
 pub send_own-requires-clause-first : goal.send_own-requires-clause-first
-send_own-requires-clause-first c = (own_within (the_view c.self.inside) c.self.inside.links.items c.in-Some.own refl c.in-Some.is c.self.invariant.0.owned).0
+send_own-requires-clause-first c = (own_within (the_view c.self.inside) c.self.inside.links.items c.in-Some.own refl c.in-Some.is (subst IsOwned (sym c.self.view_is) c.requires.owned)).0

@@ -1,32 +1,32 @@
-use Rattle.std.proofs.Common.{rules, ◌≡◌, refl, sym, ap, subst, ◌∙◌}
+use Rattle.std.proofs.Common.{rules, ◌≡◌, ◌≢◌, List, refl, sym, ap, subst, ◌∙◌}
 use Rattle.std.specs.Prelude.{map, take, drop, length, ◌++◌, option_map}
 use Rattle.std.specs.Option.{option_to_list, option_copied}
-use Rattle.tape_events.specs.World.{World}
+use Rattle.tape_events.specs.World.{World, Link}
 use Rattle.tape_events.specs.Changes.{calm, changed, opening}
 use Rattle.tape_events.specs.Events.PlainEvent.{Serve}
 use Rattle.tape_events.specs.Steps.{Happens}
 use Rattle.tape_world.specs.contracts.ends.Ends.{the_view}
 use Rattle.tape_world.specs.Seen.{seen_link, seen_opening, book_names}
-use Rattle.tape_world.specs.Serving.{TurnServes, opened_in}
-use Rattle.tape_world.proofs.ServingStock.{stocked, stocked_same}
-use Rattle.tape_world.proofs.ServingRow.{serves_sound, serves_keeps, serves_opened_in, serves_happens, serves_world, nothing_there, same_links, opened_known, opens_after, known_in}
-use Rattle.tape_world.proofs.Refused.{sound_same}
-use Rattle.tape_world.proofs.Sound.{refused_event, links_same}
+use Rattle.tape_events.specs.Kept.{IsWorldKept}
+use Rattle.tape_world.specs.Serving.{TurnServes, IsShopKnown, opened_in}
+use Rattle.tape_world.proofs.Known.{known_after, known_same}
+use Rattle.tape_world.proofs.ServingRow.{turned, serves_happens, serves_world, nothing_served, nothing_there, same_links, opened_known, online_in, opens_after, known_in}
+use Rattle.tape_world.proofs.Linked.{links_same}
 use Rattle.tape_world.proofs.Absent.{link_first, some_found}
 use Rattle.tape_world.proofs.HearingWorld.{link_within}
+use Rattle.tape_world.proofs.Refused.{refused_event}
+use Rattle.tape_host.specs.declared.turn.Turn.TheVariants as turns
+use Rattle.tape_world.proofs.ends.Ends.serve.Goals.{In_ok-turn}
 use Rattle.tape_world.proofs.ends.Ends.serve.Goals as goal
 
 pub invariant_of-self-in-Nothing : goal.invariant_of-self-in-Nothing
-invariant_of-self-in-Nothing c =
-    let w = the_view c.self.inside in
-    let t = serves_world c.args.trouble c.args.connection c.self.inside.host c.take_turn_at.new.host c.in_ok-turn.turn c.self.inside.links.len c.self.inside.links.items
-    c.deref_mut.result.now c.take_turn_at.new.links c.self.inside.links.ok.0 c.deref_mut.ensures.value c.in_ok-turn.ensures.taken in (
-      serves_sound c.args.trouble c.args.connection w _ c.self.inside.host c.take_turn_at.new.host c.in_ok-turn.turn refl refl t
-          record { begun = refl; caller = refl; own = refl } c.self.invariant.0,
+invariant_of-self-in-Nothing c = (
+  c.self.invariant.0,
+  known_same _ c.self.inside.host.hall.shop c.take_turn_at.new.host.hall.shop
+      (ap (λ h. h.hall.shop) (nothing_served c.args.trouble c.args.connection c.self.inside.host c.take_turn_at.new.host c.in_ok-turn.turn _ c.in-Nothing.is
+      c.in_ok-turn.ensures.taken))
       c.self.invariant.1,
-      stocked (book_names c.self.inside.books) w.hall.shop c.take_turn_at.new.host.hall.shop
-          (serves_keeps c.args.trouble c.args.connection c.self.inside.host c.take_turn_at.new.host c.in_ok-turn.turn _ c.in_ok-turn.ensures.taken) c.self.invariant.2,
-    )
+)
 
 pub returns-in-Nothing : goal.returns-in-Nothing
 returns-in-Nothing c =
@@ -43,48 +43,56 @@ returns-in-Nothing c =
       nothing_there c.args.trouble c.args.connection c.args.self.now c.self.inside.host.hall (ap (λ v. v.hall) (sym c.self.view_is)) t.0,
     )
 
+-- the connections after the turn
+abbrev links_then : (c : In_ok-turn) → List Link
+links_then c = map seen_link (take c.self.inside.links.len (c.take_turn_at.new.links ++ drop (length c.take_turn_at.new.links) c.self.inside.links.items))
+
+-- a request or a fault was served: the opening is to be noted
+happens : (c : In_ok-turn) → c.in_ok-turn.turn ≢ turns.Nothing → Happens (the_view c.self.inside) (Serve c.args.connection c.args.trouble)
+    (turned (the_view c.self.inside) c.args.connection c.take_turn_at.new.host.hall c.in_ok-turn.turn (links_then c))
+happens c some =
+    serves_happens c.args.trouble c.args.connection (the_view c.self.inside) c.self.inside.host c.take_turn_at.new.host c.in_ok-turn.turn (links_then c) _ refl
+    (serves_world c.args.trouble c.args.connection c.self.inside.host c.take_turn_at.new.host c.in_ok-turn.turn c.self.inside.links.len c.self.inside.links.items
+    c.deref_mut.result.now c.take_turn_at.new.links c.self.inside.links.ok.0 c.deref_mut.ensures.value c.in_ok-turn.ensures.taken)
+    some refl
+
+-- so no reel came or went
+known : (c : In_ok-turn) → c.in_ok-turn.turn ≢ turns.Nothing → IsShopKnown (book_names c.self.inside.books) c.take_turn_at.new.host.hall.shop
+known c some =
+    let w = the_view c.self.inside in
+    let u = turned w c.args.connection c.take_turn_at.new.host.hall c.in_ok-turn.turn (links_then c) in
+    known_after (book_names c.self.inside.books) w u c.take_turn_at.new.host.hall.shop
+    (c.kept.ensures.names w u (Serve c.args.connection c.args.trouble) (subst IsWorldKept (sym c.self.view_is) c.requires) (happens c some)) refl c.self.invariant.1
+
 pub note_opening-requires : goal.note_opening-requires
 note_opening-requires c =
-    let stock = stocked (book_names c.self.inside.books) c.self.inside.host.hall.shop c.take_turn_at.new.host.hall.shop
-    (serves_keeps c.args.trouble c.args.connection c.self.inside.host c.take_turn_at.new.host c.in_ok-turn.turn _ c.in_ok-turn.ensures.taken) c.self.invariant.2 in
+    let names = book_names c.self.inside.books in
+    let w = the_view c.self.inside in
+    let at = (goal.at.note_opening-requires c).In_ok-turn in
+    let u = turned w c.args.connection c.take_turn_at.new.host.hall c.in_ok-turn.turn (links_then at) in
+    let kept = c.kept.ensures.after w u (Serve c.args.connection c.args.trouble) (subst IsWorldKept (sym c.self.view_is) c.requires)
+    (happens at c.in_default.not-Nothing) in
     record {
       room = search rules;
-      there = serves_opened_in c.args.trouble c.args.connection c.self.inside.host c.take_turn_at.new.host c.in_ok-turn.turn _ c.in_ok-turn.ensures.taken;
+      there = online_in c.take_turn_at.new.host.hall c.args.connection kept.held;
       known = λ name is. known_in c.self.inside.books.names.items c.deref-2.result.now name c.deref-2.ensures.value
-          (opened_known c.in_ok-turn.turn (book_names c.self.inside.books) c.take_turn_at.new.host.hall c.args.connection name stock.stacks is);
+          (opened_known names w c.args.connection c.take_turn_at.new.host.hall c.in_ok-turn.turn (links_then at) name kept (known at c.in_default.not-Nothing) is);
     }
 
 pub invariant_of-self-2 : goal.invariant_of-self-2
-invariant_of-self-2 c =
-    let w = the_view c.self.inside in
-    let t = serves_world c.args.trouble c.args.connection c.self.inside.host c.take_turn_at.new.host c.in_ok-turn.turn c.self.inside.links.len c.self.inside.links.items
-    c.deref_mut.result.now c.take_turn_at.new.links c.self.inside.links.ok.0 c.deref_mut.ensures.value c.in_ok-turn.ensures.taken in (
-      serves_sound c.args.trouble c.args.connection w _ c.self.inside.host c.take_turn_at.new.host c.in_ok-turn.turn refl refl t
-          record { begun = refl; caller = refl; own = refl } c.self.invariant.0,
-      c.self.invariant.1,
-      stocked (book_names c.self.inside.books) w.hall.shop c.take_turn_at.new.host.hall.shop
-          (serves_keeps c.args.trouble c.args.connection c.self.inside.host c.take_turn_at.new.host c.in_ok-turn.turn _ c.in_ok-turn.ensures.taken) c.self.invariant.2,
-    )
+invariant_of-self-2 c = (c.self.invariant.0, known (goal.at.invariant_of-self-2 c).In_ok-turn c.in_default.not-Nothing)
 
 pub returns : goal.returns
 returns c =
     let w = the_view c.self.inside in
-    let links = map seen_link (take c.self.inside.links.len (c.take_turn_at.new.links ++ drop (length c.take_turn_at.new.links) c.self.inside.links.items)) in
-    let opens = map (seen_opening (book_names c.self.inside.books)) c.note_opening.new.opens.items in
-    let t = serves_world c.args.trouble c.args.connection c.self.inside.host c.take_turn_at.new.host c.in_ok-turn.turn c.self.inside.links.len c.self.inside.links.items
-    c.deref_mut.result.now c.take_turn_at.new.links c.self.inside.links.ok.0 c.deref_mut.ensures.value c.in_ok-turn.ensures.taken in
-    subst (λ (v : World). Happens v (Serve c.args.connection c.args.trouble) (record (calm w) { hall = c.take_turn_at.new.host.hall; links = links; opens = opens })) c.self.view_is
-    (serves_happens c.args.trouble c.args.connection w c.self.inside.host c.take_turn_at.new.host c.in_ok-turn.turn links opens refl t c.in_default.not-Nothing
-    (opens_after c.self.inside.books.names.items c.deref-2.result.now c.self.inside.books.opens.items c.reserve.new.self.items c.note_opening.new.opens.items
+    let at = (goal.at.returns c).In_ok-turn in
+    subst (λ (v : World). Happens v (Serve c.args.connection c.args.trouble) (record (calm w) { hall = c.take_turn_at.new.host.hall; links = links_then at; opens = map (seen_opening (book_names c.self.inside.books)) c.note_opening.new.opens.items }))
+    c.self.view_is
+    (subst (λ o. Happens w (Serve c.args.connection c.args.trouble) (record (calm w) { hall = c.take_turn_at.new.host.hall; links = links_then at; opens = o }))
+    (sym (opens_after c.self.inside.books.names.items c.deref-2.result.now c.self.inside.books.opens.items c.reserve.new.self.items c.note_opening.new.opens.items
     (option_to_list (option_map (opening c.args.connection) (opened_in c.take_turn_at.new.host.hall c.args.connection c.in_ok-turn.turn)))
     c.deref-2.ensures.value c.in_ok-reserve.ensures.items c.note_opening.ensures))
-
-pub invariant_of-self : goal.invariant_of-self
-invariant_of-self c = (
-  sound_same (the_view c.self.inside) _ (ap (λ items. record (the_view c.self.inside) { opens = map (seen_opening (book_names c.self.inside.books)) items }) c.in_err-reserve.ensures.items) c.self.invariant.0,
-  c.self.invariant.1,
-  c.self.invariant.2,
-)
+    (happens at c.in_default.not-Nothing))
 
 pub returns-in_err-reserve : goal.returns-in_err-reserve
 returns-in_err-reserve c =
@@ -104,14 +112,8 @@ take_turn_at-requires-clause-last c =
 
 pub invariant_of-self-in_err-turn : goal.invariant_of-self-in_err-turn
 invariant_of-self-in_err-turn c = (
-  sound_same (the_view c.self.inside) _ (ap (λ ls. record (the_view c.self.inside) { hall = c.take_turn_at.new.host.hall; links = ls; opens = map (seen_opening (book_names c.self.inside.books)) c.reserve.new.self.items })
-      (links_same c.self.inside.links.len c.self.inside.links.items c.deref_mut.result.now c.take_turn_at.new.links c.self.inside.links.ok.0 c.deref_mut.ensures.value
-      c.in_err-turn.ensures.refused.0)
-      ∙ ap (λ h. record (the_view c.self.inside) { hall = h.hall; opens = map (seen_opening (book_names c.self.inside.books)) c.reserve.new.self.items })
-      c.in_err-turn.ensures.refused.1
-      ∙ ap (λ items. record (the_view c.self.inside) { opens = map (seen_opening (book_names c.self.inside.books)) items }) c.in_ok-reserve.ensures.items) c.self.invariant.0,
-  c.self.invariant.1,
-  stocked_same _ c.self.inside.host.hall.shop c.take_turn_at.new.host.hall.shop (ap (λ h. h.hall.shop) c.in_err-turn.ensures.refused.1) c.self.invariant.2,
+  c.self.invariant.0,
+  known_same _ c.self.inside.host.hall.shop c.take_turn_at.new.host.hall.shop (ap (λ h. h.hall.shop) c.in_err-turn.ensures.refused.1) c.self.invariant.1,
 )
 
 pub returns-in_err-turn : goal.returns-in_err-turn

@@ -1,4 +1,4 @@
-use Rattle.std.proofs.Common.{refl, ap, ◌∙◌, None}
+use Rattle.std.proofs.Common.{ap, ◌∙◌, None}
 use Rattle.std.specs.Prelude.{map, ◌++◌, ◌∷◌, []}
 use Rattle.std.proofs.lemmas.List.{map-append}
 use Rattle.tape_events.specs.World.{World}
@@ -7,9 +7,8 @@ use Rattle.tape_events.specs.Events.PlainEvent.{Stranger}
 use Rattle.tape_host.specs.Halls.{joined}
 use Rattle.tape_world.specs.contracts.ends.Ends.{the_view}
 use Rattle.tape_world.specs.Seen.{seen_link}
-use Rattle.tape_world.proofs.Sound.{stranger_sound, refused_event}
-use Rattle.tape_world.proofs.ServingStock.{stocked_same}
-use Rattle.tape_world.proofs.Refused.{sound_same}
+use Rattle.tape_world.proofs.Known.{known_same}
+use Rattle.tape_world.proofs.Refused.{refused_event}
 use Rattle.tape_world.proofs.ends.Ends.stranger.Goals as goal
 
 pub returns-in_err-reserve : goal.returns-in_err-reserve
@@ -25,31 +24,15 @@ returns-in_err-prepare c =
 
 pub invariant_of-self-2 : goal.invariant_of-self-2
 invariant_of-self-2 c = (
-  stranger_sound (the_view c.self.inside) _ record { begun = refl; caller = refl; own = refl }
-      (ap (λ h. h.hall) c.admit.ensures ∙ ap (λ h. joined h.hall) c.in_ok-prepare.ensures)
-      (ap (map seen_link) (c.push_reserved.ensures.items ∙ ap (λ l. l ++ c.new.result ∷ []) c.in_ok-reserve.ensures.items)
-      ∙ map-append seen_link c.self.inside.links.items (c.new.result ∷ []) ∙ ap (λ l. map seen_link c.self.inside.links.items ++ l ∷ []) c.new.ensures)
-      c.self.invariant.0,
-  c.self.invariant.1,
-  stocked_same _ c.self.inside.host.hall.shop c.admit.new.self.hall.shop
-      (ap (λ h. h.hall.shop) c.admit.ensures ∙ ap (λ h. h.hall.shop) c.in_ok-prepare.ensures) c.self.invariant.2,
-)
-
-pub invariant_of-self : goal.invariant_of-self
-invariant_of-self c = (
-  sound_same (the_view c.self.inside) _
-      (ap (λ items. record (the_view c.self.inside) { links = map seen_link items }) c.in_err-reserve.ensures.items) c.self.invariant.0,
-  c.self.invariant.1,
-  c.self.invariant.2,
+  c.self.invariant.0,
+  known_same _ c.self.inside.host.hall.shop c.admit.new.self.hall.shop
+      (ap (λ h. h.hall.shop) c.admit.ensures ∙ ap (λ h. h.hall.shop) c.in_ok-prepare.ensures) c.self.invariant.1,
 )
 
 pub invariant_of-self-in_err-prepare : goal.invariant_of-self-in_err-prepare
 invariant_of-self-in_err-prepare c = (
-  sound_same (the_view c.self.inside) _
-      (ap (λ items. record (the_view c.self.inside) { hall = c.prepare.new.self.hall; links = map seen_link items }) c.in_ok-reserve.ensures.items
-      ∙ ap (λ h. record (the_view c.self.inside) { hall = h.hall }) c.in_err-prepare.ensures) c.self.invariant.0,
-  c.self.invariant.1,
-  stocked_same _ c.self.inside.host.hall.shop c.prepare.new.self.hall.shop (ap (λ h. h.hall.shop) c.in_err-prepare.ensures) c.self.invariant.2,
+  c.self.invariant.0,
+  known_same _ c.self.inside.host.hall.shop c.prepare.new.self.hall.shop (ap (λ h. h.hall.shop) c.in_err-prepare.ensures) c.self.invariant.1,
 )
 
 pub returns : goal.returns

@@ -7,25 +7,15 @@ use Rattle.tape_events.specs.Events.PlainEvent.{ToClient}
 use Rattle.tape_events.specs.Steps.{Happens}
 use Rattle.tape_world.specs.contracts.ends.Ends.{the_view}
 use Rattle.tape_world.specs.Hearing.{come_back, heard_on, HasHeard}
-use Rattle.tape_world.specs.Holding.{IsClients}
+use Rattle.tape_world.specs.Holding.{IsOwned}
 use Rattle.tape_world.specs.Seen.{book_names, seen_caller, seen_count, seen_link}
 use Rattle.tape_world.proofs.Clients.{sourced_same, not_both}
-use Rattle.tape_world.proofs.HearingWorld.{attempts, counts_kept, dropped_step, heard_sound, heard_step, heard_world, link_within}
-use Rattle.tape_world.proofs.Sound.{link_is, link_sound, links_after, refused_event, same_link}
+use Rattle.tape_world.proofs.HearingWorld.{attempts, counts_kept, dropped_step, heard_step, heard_world, link_within}
+use Rattle.tape_world.proofs.Linked.{link_is, links_after, same_link}
 use Rattle.tape_world.proofs.Absent.{none_found, link_first, none_left, some_found}
-use Rattle.tape_world.proofs.Refused.{sound_same}
+use Rattle.tape_world.proofs.Refused.{refused_event}
 use Rattle.tape_world.proofs.ends.Ends.to_client.Goals.{then-not-link-via-then-not-link, then-not-link-via-else-not-link+then-count-eq0, then-not-link-via-else-not-link+else-count-eq0+then-way-count}
 use Rattle.tape_world.proofs.ends.Ends.to_client.Goals as goal
-
-pub invariant_of-self : goal.invariant_of-self
-invariant_of-self c = (
-  link_sound (come_back c.args.count) (λ l o. o, λ l o. o) (the_view c.self.inside) _ c.args.connection record { begun = refl; caller = refl; own = refl } refl
-      (links_after (come_back c.args.count) c.self.inside.links.len c.self.inside.links.items c.deref_mut.result.now c.come_back.new.links c.args.connection
-      c.self.inside.links.ok.0 c.deref_mut.ensures.value c.come_back.ensures)
-      c.self.invariant.0,
-  c.self.invariant.1,
-  c.self.invariant.2,
-)
 
 pub returns-then-is_none : goal.returns-then-is_none
 returns-then-is_none c =
@@ -56,7 +46,7 @@ hear-heard-requires c =
     let there
     = link_is w c.self.inside.links.items c.deref.result.now c.args.connection (option_copied c.find.result) c.in-Some.link.now refl c.deref.ensures.value
     c.find.ensures (ap option_copied c.in-Some.is) in
-    attempts w c.self.inside.caller c.args.connection refl c.self.invariant.0.owned
+    attempts w c.self.inside.caller c.args.connection refl (subst IsOwned (sym c.self.view_is) c.requires.owned)
     (seen_link c.in-Some.link.now, some.0, there, c.if-not-link.false, some.1)
 
 pub settle-requires-clause-last : goal.settle-requires-clause-last
@@ -66,19 +56,9 @@ settle-requires-clause-last c =
 
 pub invariant_of-self-2 : goal.invariant_of-self-2
 invariant_of-self-2 c =
-    let w = the_view c.self.inside in
-    let some = some_found c.in-Some.link.now.dump c.if-is_none.ensures in
-    let there
-    = link_is w c.self.inside.links.items c.deref.result.now c.args.connection (option_copied c.find.result) c.in-Some.link.now refl c.deref.ensures.value
-    c.find.ensures (ap option_copied c.in-Some.is) in
-    let clients : IsClients w c.args.connection = (seen_link c.in-Some.link.now, some.0, there, c.if-not-link.false, some.1) in
     let e = c.hear-heard.ensures in (
-      heard_sound w _ c.args.connection c.args.count c.self.inside.caller c.hear-heard.new.caller _ c.hear-heard.result clients refl
-          (links_after (heard_on c.hear-heard.result.is_over c.args.count) c.self.inside.links.len c.self.inside.links.items c.deref_mut-2.result.now c.settle.new.links
-          c.args.connection c.self.inside.links.ok.0 c.deref_mut-2.ensures.value c.settle.ensures.links)
-          refl c.settle.ensures.own refl refl e c.self.invariant.0,
-      sourced_same c.self.inside.begun.items c.self.inside.caller c.hear-heard.new.caller e.before e.after e.was e.is e.same c.self.invariant.1,
-      c.self.invariant.2,
+      (sourced_same c.self.inside.begun.items c.self.inside.caller c.hear-heard.new.caller e.before e.after e.was e.is e.same c.self.invariant.0.0, c.self.invariant.0.1),
+      c.self.invariant.1,
     )
 
 pub returns : goal.returns
@@ -138,13 +118,6 @@ pub come_back-requires-clause-last : goal.come_back-requires-clause-last
 come_back-requires-clause-last c =
     link_within c.deref.result.now c.deref_mut.result.now c.args.connection (option_copied c.find.result) c.in-Some.link.now
     (c.deref.ensures.value ∙ sym c.deref_mut.ensures.value) c.find.ensures (ap option_copied c.in-Some.is)
-
-pub invariant_of-self-in_err-reserve : goal.invariant_of-self-in_err-reserve
-invariant_of-self-in_err-reserve c = (
-  sound_same (the_view c.self.inside) _ (ap (λ items. record (the_view c.self.inside) { counts = map (seen_count (book_names c.self.inside.books)) items }) c.in_err-reserve.ensures.items) c.self.invariant.0,
-  c.self.invariant.1,
-  c.self.invariant.2,
-)
 
 pub returns-in_err-reserve : goal.returns-in_err-reserve
 returns-in_err-reserve c =

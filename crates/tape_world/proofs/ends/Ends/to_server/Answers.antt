@@ -7,30 +7,23 @@ use Rattle.tape_events.specs.World.{World}
 use Rattle.tape_events.specs.Changes.{calm, changed}
 use Rattle.tape_events.specs.Events.PlainEvent.{ToServer}
 use Rattle.tape_events.specs.Steps.{Happens}
+use Rattle.tape_events.specs.First.{IsReadable}
 use Rattle.tape_world.specs.contracts.ends.Ends.{the_view}
 use Rattle.tape_world.specs.Linking.{arrived}
 use Rattle.tape_world.specs.Seen.{seen_link}
-use Rattle.tape_world.proofs.Sound.{links_after, link_is, length_changed, changed_clients}
-use Rattle.tape_world.proofs.Server.{hall_sound}
-use Rattle.tape_world.proofs.Reached.{reaches, reaches_stays}
-use Rattle.tape_world.proofs.ServingStock.{stocked_same}
+use Rattle.tape_world.proofs.Linked.{links_after, link_is}
+use Rattle.tape_world.proofs.Reached.{reaches}
+use Rattle.tape_world.proofs.Known.{known_same}
 use Rattle.tape_world.proofs.Absent.{none_found, link_first}
 use Rattle.tape_world.proofs.HearingWorld.{link_within}
 use Rattle.tape_world.proofs.ends.Ends.to_server.Goals as goal
 
 pub invariant_of-self : goal.invariant_of-self
 invariant_of-self c =
-    let w = the_view c.self.inside in
-    let links
-    = links_after (arrived c.args.count) c.self.inside.links.len c.self.inside.links.items c.deref_mut.result.now c.arrive.new.links c.args.connection c.self.inside.links.ok.0
-    c.deref_mut.ensures.value c.arrive.ensures in
     let push = reaches c.self.inside.host c.args.connection c.args.count c.bytes-way.result.now c.in-Some.room c.push.result c.room.result c.push.new.self c.room.ensures c.in-Some.is
     c.if-way-count.false c.if-room-count.false c.push.ensures in (
-      hall_sound w _ (reaches_stays w.hall c.args.connection c.args.count c.bytes-way.result.now c.push.new.self.hall push c.self.invariant.0.readable)
-          (ap length links ∙ length_changed (arrived c.args.count) w.links c.args.connection)
-          (changed_clients (arrived c.args.count) (λ l o. o, λ l o. o) w _ c.args.connection links) record { begun = refl; caller = refl; own = refl } c.self.invariant.0,
-      c.self.invariant.1,
-      stocked_same _ w.hall.shop c.push.new.self.hall.shop (ap (λ h. h.shop) push.hall_is) c.self.invariant.2,
+      c.self.invariant.0,
+      known_same _ c.self.inside.host.hall.shop c.push.new.self.hall.shop (ap (λ h. h.shop) push.hall_is) c.self.invariant.1,
     )
 
 pub returns : goal.returns
@@ -58,7 +51,7 @@ returns c =
         push.reached,
         push.live,
         there,
-        (c.self.invariant.0.readable c.args.connection push.side_is push.live, λ bytes unread. subst (λ b. Unread push.reached (bytes ++ take c.args.count b)) c.bytes-way.ensures (push.unread bytes unread)),
+        ((subst IsReadable (sym c.self.view_is) c.requires.readable) c.args.connection push.side_is push.live, λ bytes unread. subst (λ b. Unread push.reached (bytes ++ take c.args.count b)) c.bytes-way.ensures (push.unread bytes unread)),
         ap (λ ls. record (calm w) { hall = c.push.new.self.hall; links = ls }) links
             ∙ ap (λ h. record (calm w) { hall = h; links = changed (arrived c.args.count) w.links c.args.connection }) push.hall_is,
       ),

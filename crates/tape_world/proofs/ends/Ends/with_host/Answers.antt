@@ -1,7 +1,5 @@
-use Rattle.std.proofs.Common.{rules, map, sym, ap, subst}
-use Rattle.tape_world.proofs.Made.{made_world, first_sound, stocked_new}
-use Rattle.tape_world.specs.Making.{plain_drive_spec}
-use Rattle.tape_world.specs.Holding.{IsSound}
+use Rattle.std.proofs.Common.{rules, ap}
+use Rattle.tape_world.proofs.Made.{made_world, known_new}
 use Rattle.tape_world.specs.Seen.{book_names}
 use Rattle.tape_world.proofs.ends.Ends.with_host.Goals as goal
 
@@ -13,9 +11,6 @@ returns c =
 
 pub invariant_of-result : goal.invariant_of-result
 invariant_of-result c = (
-  subst IsSound (sym (made_world c.args.host c.args.drives.now c.new.result.items c.new-2.result.items c.in_ok-books.books c.new-3.result
-      c.requires c.new.ensures.items c.new-2.ensures.items c.in_ok-books.ensures.counts c.in_ok-books.ensures.opens c.in_ok-books.ensures.entered
-      c.in_ok-books.ensures.failure c.new-3.ensures)) (first_sound (map plain_drive_spec c.args.drives.now)),
   search rules,
-  stocked_new (book_names c.in_ok-books.books) c.args.host.hall.shop c.args.drives.now c.in_ok-books.ensures.names (ap (λ h. h.shop) c.requires),
+  known_new (book_names c.in_ok-books.books) c.args.host.hall.shop c.args.drives.now c.in_ok-books.ensures.names (ap (λ h. h.shop) c.requires),
 )

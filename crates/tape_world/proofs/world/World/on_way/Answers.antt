@@ -1,12 +1,13 @@
-use Rattle.std.proofs.Common.{rules, ◌≡◌, Option, Some, length, refl, subst, ap, ◌∙◌}
+use Rattle.std.proofs.Common.{rules, ◌≡◌, Option, Some, length, refl, sym, subst, ap, ◌∙◌}
 use Rattle.std.specs.Option.{option_copied}
 use Rattle.tape_host.specs.Halls.{HasRoom}
 use Rattle.rmt_server.specs.Hall.{Side}
 use Rattle.tape_events.specs.World.{World}
+use Rattle.tape_events.specs.First.{IsReadable}
 use Rattle.tape_world.specs.Seen.{seen_link}
 use Rattle.tape_world.specs.Telling.{TellsWay}
 use Rattle.tape_world.specs.contracts.ends.Ends.{the_view}
-use Rattle.tape_world.proofs.Sound.{link_is}
+use Rattle.tape_world.proofs.Linked.{link_is}
 use Rattle.tape_world.proofs.Server.{side_found}
 use Rattle.tape_world.proofs.Told.{can_arrive, can_come, cannot_come}
 use Rattle.tape_world.proofs.world.World.on_way.Goals as goal
@@ -21,7 +22,7 @@ returns-then-not-link c =
     subst (λ (v : World). TellsWay v c.args.connection (Some (c.min-toward.result, 0))) (ap (λ i. i.ends) c.self-inside.view_is ∙ c.self.view_is) (
       l,
       at,
-      can_arrive w c.args.connection l c.room.result c.unwrap_or-room.result c.min-toward.result c.bytes.result.now c.self-inside.invariant.0.readable at room
+      can_arrive w c.args.connection l c.room.result c.unwrap_or-room.result c.min-toward.result c.bytes.result.now (subst IsReadable (sym (ap (λ i. i.ends) c.self-inside.view_is ∙ c.self.view_is)) c.kept.ensures.kept.readable) at room
           c.unwrap_or-room.ensures c.bytes.ensures c.min-toward.ensures,
       cannot_come w c.args.connection l at c.if-not-link.true,
     )
@@ -36,7 +37,7 @@ returns c =
     subst (λ (v : World). TellsWay v c.args.connection (Some (c.min-toward.result, length c.bytes-2.result.now))) (ap (λ i. i.ends) c.self-inside.view_is ∙ c.self.view_is) (
       l,
       at,
-      can_arrive w c.args.connection l c.room.result c.unwrap_or-room.result c.min-toward.result c.bytes.result.now c.self-inside.invariant.0.readable at room
+      can_arrive w c.args.connection l c.room.result c.unwrap_or-room.result c.min-toward.result c.bytes.result.now (subst IsReadable (sym (ap (λ i. i.ends) c.self-inside.view_is ∙ c.self.view_is)) c.kept.ensures.kept.readable) at room
           c.unwrap_or-room.ensures c.bytes.ensures c.min-toward.ensures,
       can_come w c.args.connection l c.bytes-2.result.now at c.if-not-link.false c.bytes-2.ensures,
     )

@@ -1,0 +1,90 @@
+//! Fields of a checkpoint: a line of a word and a text each.
+ghost use Rattle.std.specs.Prelude.{◌<◌, ◌^◌, IfSome, IsUtf8, codes};
+ghost use Rattle.dumpdates.specs.Entry.{IsName};
+ghost use Rattle.dump_run.specs.Run.{IsDevice};
+ghost use Rattle.dump_run.specs.CheckpointParts.{FindsText, FindsNumber, FindsCount, FindsTitle, IsCountText, NoFeed};
+
+use super::first_byte::cut;
+use super::number::number;
+use crate::run::is_device;
+use crate::{BLOCKS_LIMIT, VolumeCount};
+use dumpdates::is_name;
+
+/// The greatest number of a count.
+const COUNT_LIMIT: u64 = BLOCKS_LIMIT as u64;
+
+/// The text after this word in the first line, and what stands behind that line. None where it begins otherwise, or has no
+/// end.
+fn text_field<'a>(bytes: &'a [u8], word: &[u8]) -> Option<(&'a [u8], &'a [u8])>
+    ensures { FindsText word.now NoFeed bytes.now result }
+{
+    let after = bytes.strip_prefix(word)?;
+    cut(after, b'\n')
+}
+
+/// The number after this word in the first line, in this range, and what stands behind that line.
+pub(super) fn number_field<'a>(
+    bytes: &'a [u8],
+    word: &[u8],
+    least: u64,
+    most: u64,
+) -> Option<(u64, &'a [u8])>
+    requires { most < 2 ^ 64 }
+    ensures { FindsNumber word.now least most bytes.now result }
+{
+    let (text, more) = text_field(bytes, word)?;
+    let n = number(text, least, most)?;
+    Some((n, more))
+}
+
+/// What stands behind the title.
+pub(super) fn title(bytes: &[u8]) -> Option<&[u8]>
+    ensures { FindsTitle bytes.now result }
+{
+    bytes.strip_prefix(b"rdump 1\n")
+}
+
+/// The device in the first line, and what stands behind that.
+pub(super) fn device_field(bytes: &[u8]) -> Option<(&[u8], &[u8])>
+    ensures { FindsText (codes "device ") IsDevice bytes.now result }
+{
+    let (device, more) = text_field(bytes, b"device ")?;
+    if !is_device(device) {
+        return None;
+    }
+    Some((device, more))
+}
+
+/// The name in the first line, and what stands behind that.
+pub(super) fn name_field(bytes: &[u8]) -> Option<(&[u8], &[u8])>
+    ensures found { FindsText (codes "fs ") IsName bytes.now result }
+    ensures text { IfSome result (λ p. IsUtf8 p.0.now) }
+{
+    let (name, more) = text_field(bytes, b"fs ")?;
+    if !is_name(name) {
+        return None;
+    }
+    Some((name, more))
+}
+
+/// The numbers of a count.
+fn count_of(text: &[u8]) -> Option<VolumeCount>
+    ensures { IsCountText text.now result }
+{
+    let (volume, after) = cut(text, b' ')?;
+    let (first, count) = cut(after, b' ')?;
+    Some(VolumeCount {
+        volume: number(volume, 0, COUNT_LIMIT)? as u32,
+        first: number(first, 0, COUNT_LIMIT)? as u32,
+        count: number(count, 0, COUNT_LIMIT)? as u32,
+    })
+}
+
+/// The count in the first line, and what stands behind that.
+pub(super) fn count_field(bytes: &[u8]) -> Option<(VolumeCount, &[u8])>
+    ensures { FindsCount bytes.now result }
+{
+    let (text, more) = text_field(bytes, b"counted ")?;
+    let count = count_of(text)?;
+    Some((count, more))
+}

@@ -1,0 +1,33 @@
+//! Numbers of a checkpoint.
+ghost use Rattle.std.specs.Prelude.{◌≡◌, ◌^◌, ◌<◌, ◌↔◌, ℕ, decimal, true, Some};
+ghost use Rattle.dump_run.specs.CheckpointParts.{IsNumber};
+
+use itoa::Buffer;
+
+/// What a text is parsed as: a number, where it writes one without leading zeros.
+fn parsed(text: &[u8]) -> Option<u64>
+    ensures { (n : ℕ) → n < 2 ^ 64 → text.now ≡ decimal n → result ≡ Some n }
+{
+    match str::from_utf8(text) {
+        Ok(text) => text.parse::<u64>().ok(),
+        Err(_) => None,
+    }
+}
+
+/// Whether this is how a number is written.
+fn is_written(n: u64, text: &[u8]) -> bool
+    ensures { (result ≡ true) ↔ (text.now ≡ decimal n) }
+{
+    let mut digits = Buffer::new();
+    digits.format(n).as_bytes() == text
+}
+
+/// The number that a text writes, without leading zeros. None where it writes none in this range.
+pub(super) fn number(text: &[u8], least: u64, most: u64) -> Option<u64>
+    ensures { IsNumber least most text.now result }
+{
+    match parsed(text) {
+        Some(n) if least <= n && n <= most && is_written(n, text) => Some(n),
+        _ => None,
+    }
+}

@@ -1,0 +1,21 @@
+//! Laws of the text of a checkpoint, each the contract of a call that does nothing.
+
+ghost use Rattle.std.specs.Prelude.{◌≡◌, ℕ, List};
+ghost use Rattle.dump_run.specs.Run.{PlainRun};
+ghost use Rattle.dump_run.specs.Checkpoint.{SpellsCheckpoint, HasResumeFault};
+ghost use Rattle.dump_run.specs.declared.count.VolumeCount.{VolumeCount};
+ghost use Rattle.dump_run.specs.declared.fault.ResumeFault.{ResumeFault};
+ghost use Rattle.dump_run.specs.declared.fault.ResumeFault.TheVariants.{OutOfMemory};
+
+/// A text spells one run and one list of counts at most. Of one that spells them no line is at fault, so that it is refused
+/// for want of memory alone.
+///
+/// It does nothing: its contract is a law of the definitions.
+pub fn one_checkpoint()
+    ensures run { (bytes : List ℕ) (r s : PlainRun) (counts others : List VolumeCount) → SpellsCheckpoint bytes r counts →
+        SpellsCheckpoint bytes s others → r ≡ s }
+    ensures counts { (bytes : List ℕ) (r s : PlainRun) (counts others : List VolumeCount) → SpellsCheckpoint bytes r counts →
+        SpellsCheckpoint bytes s others → counts ≡ others }
+    ensures fault { (bytes : List ℕ) (r : PlainRun) (counts : List VolumeCount) (fault : ResumeFault) →
+        SpellsCheckpoint bytes r counts → HasResumeFault bytes fault → fault ≡ OutOfMemory }
+{}

@@ -1,0 +1,260 @@
+//! Dumps whose checkpoint is kept: the texts that are put, what is printed, and what comes back of them.
+
+use super::check_row;
+use super::fake::{FakePeer, Replies};
+use super::fixture::{PayloadDumper, TWO_BYTES, client, line, payload};
+use super::lines::{EMPTY, FULL, LAST};
+use super::progress::Seen;
+use dump_client::ResumeFault;
+use rdump_commands::run_words;
+use rdump_files::{ComebackFault, ReplacedFile, WholeFile, come_back, run_of};
+use rdump_talk::{Conclusion, Keeper, dump_kept};
+use rmt_wire::Counted;
+use std::alloc::Global;
+use std::fs;
+use std::io::Stderr;
+use std::test::Fail;
+
+/// A keeper in memory, which takes so many texts. It keeps the last, and counts them.
+#[derive(Drop)]
+struct Texts {
+    last: Vec<u8>,
+    count: usize,
+    most: usize,
+}
+
+impl Texts {
+    /// One that has none.
+    fn new(alloc: Global, most: usize) -> Self {
+        Texts {
+            last: Vec::new(alloc),
+            count: 0,
+            most,
+        }
+    }
+}
+
+impl Keeper for Texts {
+    ghost puts = { λ _ _. ⊥ };
+
+    fn keep(&mut self, text: &[u8]) -> bool {
+        if self.count >= self.most {
+            return false;
+        }
+        self.count = self.count.saturating_add(1);
+        self.last.clear();
+        self.last.extend_from_slice(text).is_ok()
+    }
+}
+
+/// The checkpoint of three blocks before the first attempt, after one volume, and after both.
+const NONE: &[u8] =
+    b"rdump 1\ndevice /dev/st0\nfs /usr\nlevel 1\ndate 951868800\nsince 951782400\nblock 2\nblocks 3\n";
+
+const ONE: &[u8] =
+    b"rdump 1\ndevice /dev/st0\nfs /usr\nlevel 1\ndate 951868800\nsince 951782400\nblock 2\nblocks 3\ncounted 1 0 2\n";
+
+const BOTH: &[u8] =
+    b"rdump 1\ndevice /dev/st0\nfs /usr\nlevel 1\ndate 951868800\nsince 951782400\nblock 2\nblocks 3\ncounted 1 0 2\ncounted 2 2 1\n";
+
+/// The replies of each connection, how many texts are taken, what is printed, how the dump ends, how many were put, and the last.
+struct Row {
+    connections: &'static [Replies],
+    most: usize,
+    printed: &'static [u8],
+    end: Conclusion,
+    count: usize,
+    last: &'static [u8],
+}
+
+/// Two volumes; an abandon; a keeper that takes nothing, one that takes the first text alone, and one that takes all but the last.
+static ROWS: [Row; 5] = [
+    Row {
+        connections: &[FULL, LAST],
+        most: 3,
+        printed: b"volume 1: 2 blocks from 0\nvolume 2: 1 blocks from 2\ndump complete: 2 volumes, 3 blocks\n",
+        end: Conclusion::Complete,
+        count: 3,
+        last: BOTH,
+    },
+    Row {
+        connections: &[FULL, EMPTY],
+        most: 3,
+        printed: b"volume 1: 2 blocks from 0\nvolume 2 failed: Refused 6\nretry?\ndump abandoned\n",
+        end: Conclusion::Abandoned,
+        count: 2,
+        last: ONE,
+    },
+    Row {
+        connections: &[FULL, LAST],
+        most: 0,
+        printed: b"checkpoint not written\n",
+        end: Conclusion::Unkept,
+        count: 0,
+        last: b"",
+    },
+    Row {
+        connections: &[FULL, LAST],
+        most: 1,
+        printed: b"volume 1: 2 blocks from 0\ncheckpoint not written\n",
+        end: Conclusion::Unkept,
+        count: 1,
+        last: NONE,
+    },
+    Row {
+        connections: &[FULL, LAST],
+        most: 2,
+        printed: b"volume 1: 2 blocks from 0\nvolume 2: 1 blocks from 2\ncheckpoint not written\n",
+        end: Conclusion::Unkept,
+        count: 2,
+        last: ONE,
+    },
+];
+
+/// Whether that comes of a dump by this client.
+fn goes(alloc: Global, client: &mut PayloadDumper, row: &Row) -> bool {
+    let mut peer = FakePeer::new(alloc, row.connections);
+    let mut keeper = Texts::new(alloc, row.most);
+    let mut operator: &[u8] = b"";
+    let mut printed = Vec::new(alloc);
+    let mut out = Counted::new(&mut printed);
+    let end = dump_kept(
+        alloc,
+        client,
+        &mut peer,
+        &mut operator,
+        &mut out,
+        &mut keeper,
+    );
+    let is_put = keeper.count == row.count && keeper.last.as_slice() == row.last;
+    end == row.end
+        && is_put
+        && printed.as_slice() == row.printed
+        && peer.sent.is_empty() == (row.most == 0)
+}
+
+/// The same with a new client.
+fn is_kept(alloc: Global, row: &Row) -> bool {
+    match client(alloc, TWO_BYTES) {
+        Some(mut client) => goes(alloc, &mut client, row),
+        None => false,
+    }
+}
+
+#[test]
+fn checkpoints_that_are_kept(rt: HostRuntime) {
+    for (at, row) in ROWS.iter().enumerate() {
+        check_row(&rt, at, is_kept(rt.alloc(), row));
+    }
+}
+
+/// What comes back of these bytes: the volumes and the blocks that are counted.
+fn comes_back(alloc: Global, bytes: &[u8]) -> Option<Result<(usize, u32), ComebackFault>> {
+    let payload = payload(alloc, TWO_BYTES)?;
+    let run = run_of(&line(TWO_BYTES), 0, 0, &payload).ok()?;
+    Some(match come_back(alloc, &run, bytes, payload, Seen::new()) {
+        Ok(client) => Ok((client.counted().len(), client.checkpoint().1)),
+        Err(fault) => Err(fault),
+    })
+}
+
+/// The text of another level, of no run, and of counts out of order.
+const ANOTHER: &[u8] =
+    b"rdump 1\ndevice /dev/st0\nfs /usr\nlevel 2\ndate 951868800\nsince 951782400\nblock 2\nblocks 3\n";
+
+const TWICE: &[u8] =
+    b"rdump 1\ndevice /dev/st0\nfs /usr\nlevel 1\ndate 951868800\nsince 951782400\nblock 2\nblocks 3\ncounted 1 0 2\ncounted 1 0 2\n";
+
+/// Bytes, and what comes back of them.
+static TEXTS: [(&[u8], Result<(usize, u32), ComebackFault>); 6] = [
+    (NONE, Ok((0, 0))),
+    (ONE, Ok((1, 2))),
+    (BOTH, Ok((2, 3))),
+    (b"", Err(ComebackFault::Unread(ResumeFault::BadLine(1)))),
+    (
+        TWICE,
+        Err(ComebackFault::Unread(ResumeFault::NotInOrder(10))),
+    ),
+    (ANOTHER, Err(ComebackFault::OfAnother)),
+];
+
+#[test]
+fn clients_that_come_back(rt: HostRuntime) {
+    for (at, (bytes, wanted)) in TEXTS.iter().enumerate() {
+        check_row(&rt, at, comes_back(rt.alloc(), bytes) == Some(*wanted));
+    }
+}
+
+/// No terminal, on which progress would be shown.
+const NO_TERMINAL: Option<Stderr> = None;
+
+/// A dump with a checkpoint, to where no server is.
+static WORDS: [&str; 20] = [
+    "rdump",
+    "dump",
+    "--to",
+    "127.0.0.1:1",
+    "--device",
+    "/dev/st0",
+    "--fs",
+    "/usr",
+    "--level",
+    "1",
+    "--payload",
+    "payload-of-three",
+    "--block",
+    "2",
+    "--dumpdates",
+    "no-dumpdates",
+    "--date",
+    "951868800",
+    "--checkpoint",
+    "checkpoint",
+];
+
+/// What the checkpoint file holds at the start, the status, and whether the file is there at the end.
+static STARTS: [(&[u8], u8, bool); 4] = [
+    (b"", 1, true),
+    (ANOTHER, 1, true),
+    (ONE, 3, false),
+    (BOTH, 0, false),
+];
+
+/// Whether that comes of a dump with such a file.
+fn starts_so(rt: &HostRuntime, text: &[u8], status: u8, stays: bool) -> Result<bool, Fail> {
+    fs::write(rt, "checkpoint", text)?;
+    let ended = run_words(rt, &WORDS, NO_TERMINAL);
+    let is_left = fs::exists(rt, "checkpoint")?;
+    if is_left {
+        fs::remove_file(rt, "checkpoint")?;
+    }
+    Ok(ended == status && is_left == stays)
+}
+
+/// A file that is no checkpoint, and one of another dump, stay; that of a dump that is abandoned goes, and so does that of one
+/// that is complete, without a server.
+#[test]
+fn dumps_from_a_checkpoint_file(rt: HostRuntime) -> Result<(), Fail> {
+    fs::write(&rt, "payload-of-three", b"abcdef")?;
+    for (at, (text, status, stays)) in STARTS.iter().enumerate() {
+        let right = starts_so(&rt, text, *status, *stays)?;
+        check_row(&rt, at, right);
+    }
+    fs::remove_file(&rt, "payload-of-three")?;
+    Ok(())
+}
+
+/// A file that one run holds is not read by another; and what one made is not replaced by another that found none.
+#[test]
+fn a_file_that_is_held(rt: HostRuntime) -> Result<(), Fail> {
+    let mut one = ReplacedFile::held(&rt, rt.alloc(), "held");
+    let mut other = ReplacedFile::held(&rt, rt.alloc(), "held");
+    let empty = one.read(rt.alloc()).is_ok() && other.read(rt.alloc()).is_ok();
+    let kept = one.keep(NONE) && one.keep(ONE);
+    let refused = !other.keep(NONE) && other.read(rt.alloc()).is_err();
+    let read = fs::read(&rt, "held")?;
+    let removed = one.remove().is_ok() && !fs::exists(&rt, "held").unwrap_or(true);
+    assert!(rt; empty && kept && refused && removed);
+    assert!(rt; read.as_slice() == ONE && other.keep(NONE) && other.remove().is_ok());
+    Ok(())
+}

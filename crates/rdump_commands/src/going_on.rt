@@ -1,0 +1,146 @@
+//! A dump with a checkpoint file, up to its client.
+ghost use Rattle.std.specs.Prelude.{◌≡◌};
+ghost use Rattle.rdump_commands.specs.Status.{IsStatus};
+ghost use Rattle.rdump_files.specs.Payload.{IsRunsPayload};
+
+use crate::System;
+use crate::dump_command::tell_first;
+use crate::dumping::run_kept;
+use crate::fault::{FAILED, refuse_run, say, tell, tell_failed, tell_no_memory};
+use dump_client::{Blocks, Client, ResumeFault, Run};
+use rdump_files::{
+    ComebackFault, FileFailed, PayloadFile, ProgressLine, ReplacedFile, WholeFile, come_back,
+    dumper_of, run_of,
+};
+use rdump_words::DumpLine;
+use std::io::{self, Write};
+use tape::Medium;
+
+/// Dumps a payload at this date, from the checkpoint at this path on if there is one, and answers the status.
+pub(crate) fn dump_from<R: System, M: Medium + Drop, T: Write + Copy + Drop>(
+    rt: &R,
+    line: &DumpLine<'_>,
+    path: &str,
+    payload: PayloadFile<M>,
+    since: u64,
+    date: u64,
+    terminal: Option<T>,
+) -> u8
+    requires { payload.size ≡ line.now.block }
+    ensures { IsStatus result }
+{
+    let run = match run_of(line, date, since, &payload) {
+        Ok(run) => run,
+        Err(fault) => return refuse_run(rt, line, date, fault),
+    };
+    let mut file = ReplacedFile::held(rt, rt.alloc(), path);
+    match file.read(rt.alloc()) {
+        Ok(None) => dump_anew(rt, line, run, payload, &mut file, terminal),
+        Ok(Some(bytes)) => dump_on(rt, line, &run, &bytes, payload, &mut file, terminal),
+        Err(FileFailed) => tell_unread(rt, path, file.failure()),
+    }
+}
+
+/// Dumps a payload from its begin on, and answers the status.
+fn dump_anew<R: System, M: Medium + Drop, T: Write + Copy + Drop>(
+    rt: &R,
+    line: &DumpLine<'_>,
+    run: Run,
+    payload: PayloadFile<M>,
+    file: &mut ReplacedFile<'_, R>,
+    terminal: Option<T>,
+) -> u8
+    requires { IsRunsPayload run payload }
+    ensures { IsStatus result }
+{
+    let since = run.since();
+    let gauge = terminal.map(|it| ProgressLine::new(rt, it));
+    match dumper_of(rt.alloc(), run, payload, gauge) {
+        Ok(mut client) => dump_told(rt, line, since, &mut client, file, terminal),
+        Err(_) => tell_no_memory(rt),
+    }
+}
+
+/// Dumps a payload from this checkpoint on, and answers the status.
+fn dump_on<R: System, M: Medium + Drop, T: Write + Copy + Drop>(
+    rt: &R,
+    line: &DumpLine<'_>,
+    run: &Run,
+    bytes: &[u8],
+    payload: PayloadFile<M>,
+    file: &mut ReplacedFile<'_, R>,
+    terminal: Option<T>,
+) -> u8
+    requires { IsRunsPayload run.now payload }
+    ensures { IsStatus result }
+{
+    let path = line.checkpoint.unwrap_or("");
+    let since = match Run::spelled(rt.alloc(), bytes) {
+        Ok(kept) => kept.since(),
+        Err(fault) => return refuse_checkpoint(rt, path, ComebackFault::Unread(fault)),
+    };
+    let gauge = terminal.map(|it| ProgressLine::new(rt, it));
+    match come_back(rt.alloc(), run, bytes, payload, gauge) {
+        Ok(mut client) => {
+            tell_going_on(rt, &client, run.blocks());
+            dump_told(rt, line, since, &mut client, file, terminal)
+        }
+        Err(fault) => refuse_checkpoint(rt, path, fault),
+    }
+}
+
+/// Has a client dump that keeps its checkpoint in this file, after what is told before the first attempt, and answers the status.
+fn dump_told<R: System, B: Blocks, T: Write + Copy + Drop>(
+    rt: &R,
+    line: &DumpLine<'_>,
+    since: u64,
+    client: &mut Client<B>,
+    file: &mut ReplacedFile<'_, R>,
+    terminal: Option<T>,
+) -> u8
+    ensures { IsStatus result }
+{
+    match tell_first(rt, line, since, terminal.is_some()) {
+        Ok(()) => run_kept(rt, line, client, file, terminal),
+        Err(error) => tell(rt, line.dumpdates, error),
+    }
+}
+
+/// Tells what a dump goes on with, among so many blocks.
+fn tell_going_on<R: Eprint, B: Blocks>(rt: &R, client: &Client<B>, blocks: u32) {
+    let volumes = client.counted().len();
+    let (_, counted) = client.checkpoint();
+    let _ = eprintln!(rt; "going on: {volumes} volumes, {counted} blocks of {blocks} counted");
+}
+
+/// Tells why no dump goes on from the checkpoint at this path, and answers the status.
+fn refuse_checkpoint<R: System>(rt: &R, path: &str, fault: ComebackFault) -> u8
+    ensures { result ≡ 1 }
+{
+    match fault {
+        ComebackFault::Unread(ResumeFault::OutOfMemory) => tell_no_memory(rt),
+        ComebackFault::Unread(fault) => {
+            let _ = println!(rt; "{fault}");
+            say(rt, path, "it is no checkpoint")
+        }
+        ComebackFault::OfAnother => {
+            let _ = println!(rt; "checkpoint is of another dump");
+            say(
+                rt,
+                path,
+                "it has another device, name, level, block size or number of blocks",
+            )
+        }
+    }
+}
+
+/// Tells why the checkpoint file at this path could not be read, and answers the status.
+fn tell_unread<R: System>(rt: &R, path: &str, failure: Option<&io::Error>) -> u8
+    ensures { result ≡ 1 }
+{
+    match failure {
+        Some(error) if error.kind() == io::ErrorKind::OutOfMemory => tell_no_memory(rt),
+        Some(error) => tell_failed(rt, path, error, FAILED),
+        None => say(rt, path, "it could not be read"),
+    }
+}
