@@ -12,13 +12,14 @@ from typing import Collection, Iterator, NamedTuple
 
 from headline import BESIDE, HEADLINE, SENTENCES, broken
 from model_session import KEEPS_THE_OLD_TAIL, STAYS_HELD, TAKES_FROM_A_HOLDER, WRITES_A_PART
-from model_world import A_COUNT_MORE, COUNTS_AT_THE_MARK, ENTERS_A_PART, KEEPS_AN_ENTERED_RUN, KEEPS_OVER_A_NEW_RUN, LISTS_NO_OPEN
+from model_world import A_COUNT_MORE, COUNTS_AT_THE_MARK, ENTERS_A_PART, KEEPS_AN_ENTERED_RUN, KEEPS_OVER_A_NEW_RUN, LISTS_NO_OPEN, LISTS_NO_WRITE
 from model_world import TAKES_A_SMALLER_NUMBER, BadLine, NotPossible, Schedule
 from random_schedules import DUMPING, Profile, Walk
 
 # Each rule that can be turned off, and what the server, the client or the world does then.
 RULES = {
     LISTS_NO_OPEN: "an accepted open to write only is not listed",
+    LISTS_NO_WRITE: "a write of a stranger is not listed",
     COUNTS_AT_THE_MARK: "the client counts at the answer to the mark",
     WRITES_A_PART: "the server writes what came of a record when the connection is over",
     TAKES_FROM_A_HOLDER: "an open of a held drive is not refused",
@@ -31,9 +32,9 @@ RULES = {
     KEEPS_OVER_A_NEW_RUN: "a run comes back in place of one that was begun after it",
 }
 
-# A part of a record can come onto a reel only before it is counted, and an older run that comes back is one that was counted too: the headline alone
-# does not tell these.
-LOOKED_AT = {rule: HEADLINE for rule in RULES} | {WRITES_A_PART: BESIDE, KEEPS_OVER_A_NEW_RUN: BESIDE, "": SENTENCES}
+# A part of a record can come onto a reel only before it is counted, an older run that comes back is one that was counted too, and of writes the
+# headline does not speak: it alone does not tell these.
+LOOKED_AT = {rule: HEADLINE for rule in RULES} | {it: BESIDE for it in (LISTS_NO_WRITE, WRITES_A_PART, KEEPS_OVER_A_NEW_RUN)} | {"": SENTENCES}
 
 PUMPED = Profile(
     "pumped",

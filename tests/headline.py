@@ -4,7 +4,7 @@ The headline: each counted reel that no session opened for writing since holds e
 hold one drive; dumpdates gained only runs of which the client's list, as they were entered, is all their blocks in order, and each volume of that stands
 among the counts; and the counts are exactly those of what the client sent and was answered. Beside it: what the client lists, and what is kept of a
 run, was counted, in order, and the run that is kept is the last that was begun, and not entered; from the label on a client's reel holds the writes that
-were accepted and nothing else, until one met a device fault or another session opened the reel for writing; and a client sends one request at a time.
+were accepted and nothing else, until one met a device fault or another session wrote on the reel; and a client sends one request at a time.
 """
 
 from __future__ import annotations
@@ -27,6 +27,12 @@ def opened_since(world: World, reel: Reel, link: int) -> bool:
     """Whether the reel was opened for writing after this connection opened it."""
     openers = [by for by, opened in world.opens if opened is reel]
     return openers[-1:] not in ([], [link])
+
+
+def written_since(world: World, reel: Reel, link: int) -> bool:
+    """Whether another connection wrote on the reel after this one opened it."""
+    opened = world.opens.index((link, reel)) + 1 if (link, reel) in world.opens else 0
+    return any(it.reel is reel and it.link != link and opened <= it.after for it in world.writings)
 
 
 def counted_reels(world: World) -> Iterator[str]:
@@ -117,7 +123,7 @@ def counts_of_positions(world: World) -> Iterator[str]:
 
 def accepted_writes(world: World) -> Iterator[str]:
     for link in world.links:
-        if link.is_mine and link.accepted and not link.write_failed and not opened_since(world, link.reel, link.number):
+        if link.is_mine and link.accepted and not link.write_failed and not written_since(world, link.reel, link.number):
             if link.reel.entries != link.accepted:
                 held = [[it and len(it) for it in entries] for entries in (link.accepted, link.reel.entries)]
                 yield f"of connection {link.number} were accepted {held[0]}, reel {link.reel.name.decode()} holds {held[1]}"

@@ -47,6 +47,7 @@ MONTHS = "Jan Feb Mar Apr May Jun Jul Aug Sep Oct Nov Dec".split()
 COUNTS_AT_THE_MARK = "counts-at-the-mark"
 ENTERS_A_PART = "enters-an-unfinished-run"
 LISTS_NO_OPEN = "does-not-list-an-open"
+LISTS_NO_WRITE = "does-not-list-a-write"
 TAKES_A_SMALLER_NUMBER = "takes-a-smaller-number"
 A_COUNT_MORE = "comes-back-with-a-count-more"
 KEEPS_AN_ENTERED_RUN = "keeps-a-run-that-was-entered"
@@ -257,6 +258,14 @@ class Count(NamedTuple):
     link: int
 
 
+class Writing(NamedTuple):
+    """A session that had this reel open for writing wrote on it, when so many opens for writing were listed."""
+
+    link: int
+    reel: Reel
+    after: int
+
+
 class Listed(NamedTuple):
     """A run by its number, and what its client had counted: as it was entered, or as it was kept."""
 
@@ -278,6 +287,7 @@ class World:
         self.own: Link | None = None
         self.counts: list[Count] = []
         self.opens: list[tuple[int, Reel]] = []
+        self.writings: list[Writing] = []
         self.entered: list[Listed] = []
         self.kept: Listed | None = None
         self.dates: list[tuple[bytes, int, int]] = []
@@ -520,7 +530,7 @@ class World:
             link.back += reply
 
     def note_request(self, link: Link, request: Request, reply: bytes) -> None:
-        """Writes down an open for writing and, of the client's, what was written."""
+        """Writes down an open for writing, who wrote on which reel and, of the client's, what was written."""
         session = link.session
         letter, number = first_reply(reply)[0]
         asked = request.letter + (str(min(request.numbers[0], 8)) if request.letter == "I" else "")
@@ -530,6 +540,9 @@ class World:
             if listed:
                 self.opens.append((link.number, session.reel))
             link.reel = session.reel
+        if (request.letter == "W" or asked == "I0") and session.reel and session.access:
+            if LISTS_NO_WRITE not in self.off or link.is_mine:
+                self.writings.append(Writing(link.number, session.reel, len(self.opens)))
         link.carried += 1
         if not link.is_mine:
             return

@@ -9,13 +9,14 @@ use Rattle.tape_events.specs.World.{World, Link, Dumping, Begun, Count, numbered
 use Rattle.tape_events.specs.Changes.{opening}
 use Rattle.tape_events.specs.Standing.{AreHeld, StandsOn}
 use Rattle.tape_events.specs.Kept.{AreLaid}
-use Rattle.tape_events.specs.Naming.{AreNamed}
+use Rattle.tape_events.specs.Naming.{AreNamed, AreWritersLast}
 use Rattle.tape_events.specs.Headline.{IsUnopenedSince, block_records, whole_volume, CountedReels}
 use Rattle.tape_events.specs.Written.{label_if, mark_if, attempt_written}
 use Rattle.tape_events.specs.Attempts.{AreLabelled, AreCountsEarned, IsEarnedBy}
 use Rattle.tape_events.specs.Further.{LabelledReels}
 use Rattle.tape_events.proofs.Booked.{among_at}
 use Rattle.tape_events.proofs.LabelledThere.{stands_somewhere}
+use Rattle.tape_events.proofs.Writers.{last_alone}
 
 -- what an attempt wrote that was counted is its volume
 written_whole : (w : World) (run : PlainRun) (payload : List (List ℕ)) (x : Count) (l : Link) (d : Dumping) (b : Begun) → IsEarnedBy w x l d b
@@ -27,15 +28,17 @@ written_whole w run payload x l d b e =
     ∙ ap (λ n. whole_volume run payload x.volume n d.blocks) e.first
     ∙ ap (λ n. whole_volume run payload x.volume x.first n) e.count
 
-pub counted_reels : (w : World) → AreHeld w.hall → AreLaid w.hall → AreNamed w → AreLabelled w → AreCountsEarned w → CountedReels w
-counted_reels w held laid named labelled earned x among =
+pub counted_reels : (w : World) → AreHeld w.hall → AreLaid w.hall → AreNamed w → AreWritersLast w → AreLabelled w → AreCountsEarned w → CountedReels w
+counted_reels w held laid named writers labelled earned x among =
     let e = earned x among in
     let p = e.3 in
     let a = labelled x.connection e.0 e.1 p.there p.dump p.label in
     let same : a.0 ≡ e.2 = same_Some a.0 e.2 (sym a.1 ∙ ap (numbered w.begun) p.run ∙ p.begun) in
     let just : IsUnopenedSince w.opens x.connection x.reel → (entries : List PlainEntry) → StandsOn w.hall x.reel entries
     → entries ≡ whole_volume a.0.run a.0.payload x.volume x.first x.count
-    = λ last entries stands. (a.2 x.reel (p.fault, last)).stands entries stands ∙ written_whole w a.0.run a.0.payload x e.0 e.1 e.2 p in
+    = λ last entries stands.
+    (a.2 x.reel (p.fault, last_alone w x.connection x.reel writers last)).stands entries stands
+    ∙ written_whole w a.0.run a.0.payload x e.0 e.1 e.2 p in
     let on = stands_somewhere w.hall x.reel held laid (named.opened _ p.opened) in
     record {
       begun = a.0;

@@ -110,6 +110,7 @@ pub record Quietly (w u : World) : Type 0 where
   pub stands : StoodIn w.hall u.hall
   pub sides : SidesStay w.hall u.hall
   pub opens : u.opens ≡ w.opens
+  pub writings : u.writings ≡ w.writings
   pub begun : (n : ℕ) (b : Begun) → numbered w.begun n ≡ Some b → numbered u.begun n ≡ Some b
   pub links : LinksLike w.links u.links
 
@@ -178,11 +179,16 @@ same_opens : (w : World) (m : Move w) → IsNoRequest w.hall (hall_move w m) →
 same_opens w (move.serves t) none = absurd none
 same_opens w m none = refl
 
+same_writings : (w : World) (m : Move w) → IsNoRequest w.hall (hall_move w m) → (moved w m).writings ≡ w.writings
+same_writings w (move.serves t) none = absurd none
+same_writings w m none = refl
+
 pub quiet_moved : (w : World) (m : Move w) → IsNoRequest w.hall (hall_move w m) → AreHeld w.hall → Quietly w (moved w m)
 quiet_moved w m none a = record {
   stands = subst (StoodIn w.hall) (sym (hall_moved w m)) (hall_stands w.hall (hall_move w m) none a);
   sides = subst (SidesStay w.hall) (sym (hall_moved w m)) (hall_sides w.hall (hall_move w m) none);
   opens = same_opens w m none;
+  writings = same_writings w m none;
   begun = begun_more w m;
   links = links_like w m none;
 }

@@ -1,9 +1,7 @@
 -- What an attempt wrote stands on its reel, whatever happens but a request of its own.
-use Rattle.std.proofs.Common.{◌≡◌, ◌≢◌, ℕ, ◌+◌, List, [], ◌∷◌, ◌++◌, length, option_map, Option, Some, None, refl, sym, ap, subst, ◌∙◌, inl, inr, arith}
+use Rattle.std.proofs.Common.{◌≡◌, ◌≢◌, ℕ, ◌+◌, List, ◌++◌, length, option_map, Contains, Option, Some, None, refl, sym, ap, subst, ◌∙◌, inl, inr, arith}
 use Rattle.std.specs.Prelude.{option_to_list}
 use Rattle.std.proofs.lemmas.List.{append-nil}
-use Rattle.std.proofs.lemmas.Bool.Decides.{eqb_tells}
-use Rattle.std.proofs.lemmas.Option.{same_Some}
 use Rattle.tape.specs.Tape.{PlainEntry}
 use Rattle.rmt_server.specs.Hall.{Hall, hall, Side, side}
 use Rattle.rmt_server.specs.Session.{PlainReel}
@@ -11,18 +9,18 @@ use Rattle.dump_run.specs.Run.{PlainRun}
 use Rattle.dump_client.specs.Lawful.{steps_before}
 use Rattle.dump_client.specs.declared.step.Step.TheVariants.{Unload}
 use Rattle.tape_events.specs.World.{World, Dumping, Begun, Opening, numbered, with_numbered}
-use Rattle.tape_events.specs.Changes.{side_of, opening, opened_reel}
+use Rattle.tape_events.specs.Changes.{side_of, opening, opened_reel, writing}
 use Rattle.tape_events.specs.Standing.{online_drive_in, AreHeld, IsOnlineWith, StandsOn}
-use Rattle.tape_events.specs.Headline.{IsUnopenedSince, block_records}
-use Rattle.tape_events.specs.Naming.{AreOpened}
-use Rattle.tape_events.specs.Written.{attempt_written, label_if, mark_if, IsBeforeOffline}
+use Rattle.tape_events.specs.Headline.{block_records}
+use Rattle.tape_events.specs.Written.{attempt_written, label_if, mark_if, IsAlone, IsBeforeOffline}
 use Rattle.tape_events.specs.Attempts.{IsReelWritten, IsLabelled, AreLabelled}
-use Rattle.tape_events.proofs.Numbers.{pushed_is, numbered_more, less_or_more}
+use Rattle.tape_events.proofs.Numbers.{pushed_is, numbered_within}
 use Rattle.tape_events.proofs.Sides.{Sits, sits_other}
 use Rattle.tape_events.proofs.LabelledHalls.{served_stands}
 use Rattle.tape_events.proofs.LabelledEvents.{SameNotes, same_notes, IsFresh, Quietly}
 use Rattle.tape_events.proofs.Moves.{Turn, turned}
 use Rattle.tape_events.proofs.LabelledSingle.{like_back}
+use Rattle.tape_events.proofs.Writers.{writing_there, writings_after}
 
 -- the same was written
 written_same : (run : PlainRun) (payload : List (List ℕ)) (d e : Dumping) → SameNotes d e → attempt_written run payload d ≡ attempt_written run payload e
@@ -55,6 +53,11 @@ still_written w u k b d e reel s t was = record {
       was.behind x.0 r x.1 (subst (λ z. IsOnlineWith z r) x.2 on) (before_same b.run d e s before));
 }
 
+-- the same openings and writings
+alone_back : (w u : World) → Quietly w u → (k : ℕ) (reel : List ℕ) → IsAlone u k reel → IsAlone w k reel
+alone_back w u q k reel (i, at, alone) =
+    (i, ap (λ os. numbered os i) (sym q.opens) ∙ at, λ x among. alone x (subst (λ xs. Contains xs x) (sym q.writings) among))
+
 pub quiet_labelled : (w u : World) → Quietly w u → AreLabelled w → AreLabelled u
 quiet_labelled w u q labelled k l d at dump label = elim (q.links.at k l at) [
   | inl (x, was, like) ↦
@@ -68,50 +71,41 @@ quiet_labelled w u q labelled k l d at dump label = elim (q.links.at k l at) [
               stands = λ entries on. q.stands reel entries on;
               sides = λ s r here on. q.sides k on.0 s here (ap online_drive_in on.1);
             }
-            (a.2 reel (sym e.2.fault ∙ quiet.0, subst (λ os. IsUnopenedSince os k reel) q.opens quiet.1)),
+            (a.2 reel (sym e.2.fault ∙ quiet.0, alone_back w u q k reel quiet.1)),
       )
   | inr (new, fresh) ↦ (let f = subst IsFresh dump fresh in let clash = sym f.0 ∙ label in absurd cc)
 ]
 
--- one connection has the last opening of a reel
-pub last_same : (opens : List Opening) (j k : ℕ) (reel : List ℕ) → IsUnopenedSince opens j reel → IsUnopenedSince opens k reel → j ≡ k
-last_same opens j k reel (i, at, behind) (m, its, after) = elim (eqb_tells i m) [
-  | inl (equal, same) ↦ ap (λ (o : Opening). o.connection) (same_Some (opening j reel) (opening k reel) (sym at ∙ ap (numbered opens) same ∙ its))
-  | inr (unequal, other) ↦ absurd (elim (less_or_more i m other) [
-    | inl less ↦ behind m (opening k reel) less its refl
-    | inr more ↦ after i (opening j reel) more at refl
-  ])
-]
-
--- an opening by another was none of its
-last_before : (opens : List Opening) (j k : ℕ) (reel : List ℕ) (opened : Option (List ℕ)) → j ≢ k → IsUnopenedSince (opens ++ option_to_list (option_map (opening k) opened)) j reel
-    → IsUnopenedSince opens j reel
-last_before opens j k reel None other last = subst (λ os. IsUnopenedSince os j reel) (append-nil opens) last
-last_before opens j k reel (Some r) other (i, at, behind) = elim (pushed_is opens (opening k r) i (opening j reel) at) [
-  | inl was ↦ (i, was, λ m o less there. behind m o less (numbered_more opens (opening k r ∷ []) m o there))
+-- an opening of one connection is none by the request of another
+opening_before : (opens : List Opening) (j k i : ℕ) (reel : List ℕ) (opened : Option (List ℕ)) → j ≢ k
+    → numbered (opens ++ option_to_list (option_map (opening k) opened)) i ≡ Some (opening j reel) → numbered opens i ≡ Some (opening j reel)
+opening_before opens j k i reel None other at = ap (λ os. numbered os i) (sym (append-nil opens)) ∙ at
+opening_before opens j k i reel (Some r) other at = elim (pushed_is opens (opening k r) i (opening j reel) at) [
+  | inl was ↦ was
   | inr (last, is) ↦ absurd (other (ap (λ (o : Opening). o.connection) is))
 ]
 
 -- a request of another connection
-pub others_labelled : (w : World) (v : Turn w) (j : ℕ) (d : Dumping) → j ≢ v.k → AreHeld w.hall → AreHeld (turned w v).hall → AreOpened w → IsLabelled w j d → IsLabelled (turned w v) j d
-others_labelled w v j d other a b opened labelled label =
+pub others_labelled : (w : World) (v : Turn w) (j : ℕ) (d : Dumping) → j ≢ v.k → AreHeld w.hall → AreHeld (turned w v).hall → IsLabelled w j d
+    → IsLabelled (turned w v) j d
+others_labelled w v j d other a b labelled label =
     let p = labelled label in
     let h : Hall = hall v.shop v.holders (with_numbered w.hall.sides v.k (Some (side v.reached v.session))) in
     let sits : Sits w.hall v.k v.s (Some (side v.reached v.session)) h = record { was = v.live; sides = refl } in (
       p.0,
       p.1,
-      λ reel quiet.
-          (let last : IsUnopenedSince w.opens j reel
-          = last_before w.opens j v.k reel (opened_reel v.request v.shop v.session) other quiet.1 in
+      λ reel (fault, (i, now, alone)).
+          (let at = opening_before w.opens j v.k i reel (opened_reel v.request v.shop v.session) other now in
           still_written w (turned w v) j p.0 d d reel (same_notes d)
           record {
             stands = λ entries on.
                 elim (served_stands v.trouble w.hall.holders w.hall h v.k v.s (side v.reached v.session) v.request v.reply sits a b v.served.step reel entries
                 on) [
                   | inl before ↦ before
-                  | inr wrote ↦ absurd (other (last_same w.opens j v.k reel last (opened.last v.k v.s reel v.live wrote.1)))
+                  | inr wrote ↦ absurd (other (sym (alone (writing v.k (length w.opens) reel) (writing_there w v reel wrote) refl
+                      (numbered_within w.opens i (opening j reel) at))))
                 ];
             sides = λ s r here on. (s, sym (sits_other w.hall v.k j v.s (Some (side v.reached v.session)) h sits other) ∙ here, refl);
           }
-          (p.2 reel (quiet.0, last))),
+          (p.2 reel (fault, (i, at, λ x among. alone x (writings_after w v x among))))),
     )

@@ -24,10 +24,10 @@ use Rattle.tape_events.specs.World.{World, Link, Dumping, Begun, numbered, with_
 use Rattle.tape_events.specs.Changes.{side_of, first_name, written_reel, opening, opened_reel, noted}
 use Rattle.tape_events.specs.Standing.{AreHeld}
 use Rattle.tape_events.specs.Kept.{AreLaid}
-use Rattle.tape_events.specs.Headline.{IsUnopenedSince, block_records}
+use Rattle.tape_events.specs.Headline.{block_records}
 use Rattle.tape_events.specs.Naming.{AreOpened}
 use Rattle.tape_events.specs.Sending.{HasDone, request_in, IsGood, AreTold}
-use Rattle.tape_events.specs.Written.{label_if, mark_if, attempt_written, IsQuiet}
+use Rattle.tape_events.specs.Written.{label_if, mark_if, attempt_written, IsAlone, IsQuiet}
 use Rattle.tape_events.specs.Attempts.{IsReelWritten, IsLabelled, AreLabelled, IsSingle, AreSingle}
 use Rattle.tape_events.proofs.Booked.{among_at}
 use Rattle.tape_events.proofs.Sides.{Sits, sits_here}
@@ -39,6 +39,7 @@ use Rattle.tape_events.proofs.SentWire.{OneReading, DroppedWrites}
 use Rattle.tape_events.proofs.LabelledSingle.{one_reel}
 use Rattle.tape_events.proofs.LabelledServes.{IsServed, served_dump, served_step}
 use Rattle.tape_events.proofs.LabelledOthers.{others_labelled}
+use Rattle.tape_events.proofs.Writers.{writings_after}
 use Rattle.tape_events.proofs.LabelledNames.{stands_one}
 use Rattle.tape_events.proofs.LabelledOwn.{marked_stands}
 use Rattle.tape_events.proofs.Called.{IsLeftWith}
@@ -72,14 +73,16 @@ pub record Own (w : World) (v : Turn w) (l : Link) (d : Dumping) : Type 0 where
   pub labelled : IsLabelled w v.k d
 
 -- no request but an open changes the openings
-last_was : (w : World) (v : Turn w) (reel : List ℕ) → opened_reel v.request v.shop v.session ≡ None → IsUnopenedSince (turned w v).opens v.k reel → IsUnopenedSince w.opens v.k reel
-last_was w v reel none last =
-    subst (λ os. IsUnopenedSince os v.k reel)
-    (ap (λ o. w.opens ++ option_to_list (option_map (opening v.k) o)) none ∙ append-nil w.opens) last
+alone_was : (w : World) (v : Turn w) (reel : List ℕ) → opened_reel v.request v.shop v.session ≡ None → IsAlone (turned w v) v.k reel
+    → IsAlone w v.k reel
+alone_was w v reel none (i, at, alone) =
+    let same : (turned w v).opens ≡ w.opens
+    = ap (λ o. w.opens ++ option_to_list (option_map (opening v.k) o)) none ∙ append-nil w.opens in
+    (i, ap (λ os. numbered os i) (sym same) ∙ at, λ x among. alone x (writings_after w v x among))
 
 -- the reel in the drive is that of the attempt's last opening
 its_name : (w : World) (v : Turn w) (l : Link) (d : Dumping) → Own w v l d → (drive : ℕ) (reel : PlainReel) (name : List ℕ)
-    → v.s.session ≡ Online drive Both reel → IsUnopenedSince w.opens v.k name → first_name (rack_at w.hall.shop drive).stack ≡ name
+    → v.s.session ≡ Online drive Both reel → IsAlone w v.k name → first_name (rack_at w.hall.shop drive).stack ≡ name
 its_name w v l d o drive reel name online last =
     let first = first_name (rack_at w.hall.shop drive).stack in
     let mine = o.opened.last v.k v.s first v.live (ap (written_reel w.hall.shop) online) in
@@ -87,7 +90,7 @@ its_name w v l d o drive reel name online last =
 
 -- what was written stands on the tape of the session
 now_written : (w : World) (v : Turn w) (l : Link) (d e : Dumping) → Own w v l d → (b : Begun) (drive : ℕ) (reel : PlainReel) (name : List ℕ) (t : Tape)
-    → v.s.session ≡ Online drive Both reel → IsUnopenedSince w.opens v.k name
+    → v.s.session ≡ Online drive Both reel → IsAlone w v.k name
     → IsLeftWith (scene w.hall.shop v.s.session) (scene v.shop v.session) drive reel t → entries_of t ≡ attempt_written b.run b.payload e → t.after ≡ [] → IsReelWritten (turned w v) v.k b e name
 now_written w v l d e o b drive reel name t online last left same none =
     let h : Hall = hall v.shop v.holders (with_numbered w.hall.sides v.k (Some (side v.reached v.session))) in
@@ -114,7 +117,7 @@ record WasThere (b : Begun) (d : Dumping) (reel : PlainReel) : Type 0 where
   none : reel.tape.after ≡ []
 
 was_there : (w : World) (v : Turn w) (l : Link) (d : Dumping) → Own w v l d → (b : Begun) (drive : ℕ) (reel : PlainReel) (name : List ℕ) → v.s.session ≡ Online drive Both reel
-    → IsUnopenedSince w.opens v.k name → d.mark ≡ false → IsReelWritten w v.k b d name → WasThere b d reel
+    → IsAlone w v.k name → d.mark ≡ false → IsReelWritten w v.k b d name → WasThere b d reel
 was_there w v l d o b drive reel name online last unmarked was = record {
   stood = was.stands (entries_of reel.tape) (inr (v.k, v.s, v.live, (drive, Both, reel, online, its_name w v l d o drive reel name online last, refl)));
   none = was.behind v.s reel v.live (drive, online) (λ marked. (let clash = sym unmarked ∙ marked in absurd cc));
@@ -156,7 +159,7 @@ label_written run payload d none unmarked =
     ∙ sym (labelled_as run payload (record d { label = true }) false refl unmarked)
 
 -- what was written before, while the attempt is quiet
-was_written : (w : World) (v : Turn w) (l : Link) (d : Dumping) (o : Own w v l d) → d.label ≡ true → d.fault ≡ false → (reel : List ℕ) → IsUnopenedSince w.opens v.k reel
+was_written : (w : World) (v : Turn w) (l : Link) (d : Dumping) (o : Own w v l d) → d.label ≡ true → d.fault ≡ false → (reel : List ℕ) → IsAlone w v.k reel
     → IsReelWritten w v.k o.p.b d reel
 was_written w v l d o labelled fault reel last =
     let a = o.labelled labelled in
@@ -164,7 +167,7 @@ was_written w v l d o labelled fault reel last =
 
 -- the run is the same
 labelled_so : (w : World) (v : Turn w) (l : Link) (d : Dumping) (o : Own w v l d)
-    → ((noted v.request v.reply d).label ≡ true → (reel : List ℕ) → IsQuiet (turned w v).opens v.k (noted v.request v.reply d) reel → IsReelWritten (turned w v) v.k o.p.b (noted v.request v.reply d) reel)
+    → ((noted v.request v.reply d).label ≡ true → (reel : List ℕ) → IsQuiet (turned w v) v.k (noted v.request v.reply d) reel → IsReelWritten (turned w v) v.k o.p.b (noted v.request v.reply d) reel)
     → IsLabelled (turned w v) v.k (noted v.request v.reply d)
 labelled_so w v l d o all labelled = (
   o.p.b,
@@ -175,7 +178,7 @@ labelled_so w v l d o all labelled = (
 -- the request of a write that was accepted, or was not
 abbrev IsNow : (w : World) (v : Turn w) → Begun → Dumping → PlainRequest → Type 0
 IsNow w v b d request =
-    (noted request v.reply d).label ≡ true → (reel : List ℕ) → (noted request v.reply d).fault ≡ false → IsUnopenedSince w.opens v.k reel → IsReelWritten (turned w v) v.k b (noted request v.reply d) reel
+    (noted request v.reply d).label ≡ true → (reel : List ℕ) → (noted request v.reply d).fault ≡ false → IsAlone w v.k reel → IsReelWritten (turned w v) v.k b (noted request v.reply d) reel
 
 -- the label
 own_label : (w : World) (v : Turn w) (l : Link) (d : Dumping) (o : Own w v l d) (drive : ℕ) (reel : PlainReel) → v.s.session ≡ Online drive Both reel → reel.tape.before ≡ []
@@ -233,7 +236,7 @@ own_mark w v l d o drive reel next online done (fails fault) labelled name quiet
 own_marked : (w : World) (v : Turn w) (l : Link) (d e : Dumping) (o : Own w v l d) → d.label ≡ true → d.fault ≡ false → d.mark ≡ true
     → length (steps_before o.p.b.run d.first (d.first + d.blocks) (Unload (d.first + d.blocks))) < e.carried
     → (e.mark ≡ d.mark) → (e.first ≡ d.first) → (e.blocks ≡ d.blocks) → (attempt_written o.p.b.run o.p.b.payload e ≡ attempt_written o.p.b.run o.p.b.payload d) → (name : List ℕ)
-    → IsUnopenedSince w.opens v.k name → IsReelWritten (turned w v) v.k o.p.b e name
+    → IsAlone w v.k name → IsReelWritten (turned w v) v.k o.p.b e name
 own_marked w v l d e o labelled fault marked more mark first blocks same name last = record {
   stands = λ entries on.
       marked_stands w v l d o.p marked o.held o.held_after o.p.b name (was_written w v l d o labelled fault name last) entries on ∙ sym same;
@@ -291,7 +294,7 @@ pub own_labelled : (w : World) (v : Turn w) (l : Link) (d : Dumping) → Own w v
 own_labelled w v l d o =
     labelled_so w v l d o (λ labelled reel quiet.
     (let now = subst (IsNow w v o.p.b d) (sym o.p.asks) (now_by w v l d o o.p.step o.p.done o.p.asks) in
-    now labelled reel quiet.0 (last_was w v reel (not_opened w v o.p.b d o.p.step o.p.done o.p.asks labelled) quiet.1)))
+    now labelled reel quiet.0 (alone_was w v reel (not_opened w v o.p.b d o.p.step o.p.done o.p.asks labelled) quiet.1)))
 
 pub served_labelled : OneReading → DroppedWrites → (w : World) (v : Turn w) → AreHeld w.hall → AreHeld (turned w v).hall → AreLaid (turned w v).hall → EachReelOnce (turned w v).hall.shop → AreTold w → AreOpened w
     → AreSingle w → AreLabelled w → AreLabelled (turned w v)
@@ -310,5 +313,5 @@ served_labelled g h w v held held_after laid_after once_after told opened single
         single = single v.k x e was its;
         labelled = labelled v.k x e was its;
       }))
-  | inr (other, was) ↦ others_labelled w v j d other held held_after opened (labelled j l d was dump)
+  | inr (other, was) ↦ others_labelled w v j d other held held_after (labelled j l d was dump)
 ]

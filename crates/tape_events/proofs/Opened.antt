@@ -126,7 +126,7 @@ comes_else holders h k s after opened was a apart (moves drive access reel onlin
     ∙ rack_other h.shop.racks drive d _ (rack [] []) (λ same. alone_at h k s drive a was (ap drive_in online) (subst (IsOpenElse h k) same elsewhere))
 
 -- what the session itself may write on then, it could before, or it was opened
-comes_own : (holders : List ℕ) (before after : Scene) (opened : Option (List ℕ)) (reel : List ℕ) → Comes holders before after opened → written_reel after.shop after.session ≡ Some reel
+pub comes_own : (holders : List ℕ) (before after : Scene) (opened : Option (List ℕ)) (reel : List ℕ) → Comes holders before after opened → written_reel after.shop after.session ≡ Some reel
     → ((written_reel before.shop before.session ≡ Some reel) × (opened ≡ None)) ⊎ (opened ≡ Some reel)
 comes_own holders before after opened reel (stays shop session drive none) written =
     inl (

@@ -29,6 +29,7 @@ use Rattle.tape_events.proofs.SentWire.{OneReading, DroppedWrites}
 use Rattle.tape_events.proofs.Moves.{Turn, turned}
 use Rattle.tape_events.proofs.LabelledServes.{IsServed, served_step}
 use Rattle.tape_events.proofs.LabelledServed.{labelled_as}
+use Rattle.tape_events.proofs.Writers.{last_alone}
 
 -- the number of an operation
 op_of : PlainRequest → ℕ
@@ -83,7 +84,8 @@ moved_whole w v l d p next n kept at dump done asks replies =
     let last = kept.opened.last v.k v.s name v.live (ap (written_reel w.hall.shop) on.1.1) in
     let a = kept.labelled v.k l d at dump done.label in
     let same : a.0 ≡ p.b = same_Some a.0 p.b (sym a.1 ∙ p.begun) in
-    let written : IsReelWritten w v.k p.b d name = subst (λ b. IsReelWritten w v.k b d name) same (a.2 name (done.fault, last)) in
+    let alone = last_alone w v.k name kept.writers last in
+    let written : IsReelWritten w v.k p.b d name = subst (λ b. IsReelWritten w v.k b d name) same (a.2 name (done.fault, alone)) in
     let whole = stands_whole w v.k v.s p.b d drive reel v.live on.1.1 done.label done.mark written in
     let served : TroubledServeStep v.trouble w.hall.holders (scene w.hall.shop v.s.session) (Op MTOFFL 1) (Done n) (scene v.shop v.session)
     = subst (λ r. TroubledServeStep v.trouble w.hall.holders (scene w.hall.shop v.s.session) (Op MTOFFL 1) r (scene v.shop v.session)) replies

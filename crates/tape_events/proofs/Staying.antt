@@ -28,6 +28,7 @@ use Rattle.tape_events.proofs.Laid.{laid_moved, online_drive, drive_within}
 use Rattle.tape_events.proofs.Booked.{Goings, booked_moved}
 use Rattle.tape_events.proofs.Named.{names_after, named_moved, first_named}
 use Rattle.tape_events.proofs.Opened.{opened_moved, first_opened, names_differ}
+use Rattle.tape_events.proofs.Writers.{writers_moved, first_writers}
 use Rattle.tape_events.proofs.Readable.{readable_moved}
 
 no_member : {X : Type 0} (x : X) → Contains [] x → ⊥
@@ -81,6 +82,7 @@ first_kept drives good = record {
   };
   once = first_named drives good;
   opened = first_opened drives;
+  writers = first_writers drives;
   readable = λ k s at. absurd (no_number k (Some s) (side_there (first_world drives).hall k s at));
 }
 
@@ -111,6 +113,7 @@ kept_moved g w m k =
       booked = booked_moved g.goings w m k.lawful k.booked;
       once = named;
       opened = opened_moved w m k.tidy k.held held laid named.once k.opened;
+      writers = writers_moved w m k.opened k.writers;
       readable = readable_moved w m k.readable;
     }
 
@@ -133,7 +136,7 @@ pub dumpdates_gained : (w : World) → IsWorldKept w → DumpdatesGained w
 dumpdates_gained w kept = record { dates = kept.booked.dates; once = kept.booked.once; earned = kept.booked.earned }
 
 pub reels_counted : (w : World) → IsWorldKept w → CountedReels w
-reels_counted w kept = counted_reels w kept.held kept.laid kept.once kept.labelled kept.counted
+reels_counted w kept = counted_reels w kept.held kept.laid kept.once kept.writers kept.labelled kept.counted
 
 pub reels_labelled : (w : World) → IsWorldKept w → LabelledReels w
 reels_labelled w kept = labelled_reels w kept.held kept.laid kept.once kept.labelled

@@ -22,7 +22,7 @@ pub record IsReelWritten (w : World) (k : ℕ) (b : Begun) (d : Dumping) (reel :
 abbrev pub IsLabelled : World → ℕ → Dumping → Type 0
 IsLabelled w k d =
     d.label ≡ true → (b : Begun) × (numbered w.begun d.run ≡ Some b)
-    × ((reel : List ℕ) → IsQuiet w.opens k d reel → IsReelWritten w k b d reel)
+    × ((reel : List ℕ) → IsQuiet w k d reel → IsReelWritten w k b d reel)
 
 -- each attempt is so
 abbrev pub AreLabelled : World → Type 0

@@ -2,7 +2,7 @@
 use Rattle.std.specs.Prelude.{◌≡◌, ℕ, zero, suc, ◌==◌, Bool, true, false, if◌then◌else◌, List, [], ◌∷◌, ◌++◌, length, map, option_and_then, option_map, Option, Some, None}
 use Rattle.rmt_wire.specs.Counted.{raised}
 use Rattle.rmt_wire.specs.Request.{PlainRequest}
-use Rattle.rmt_wire.specs.Request.PlainRequest.{Open, Write, Op}
+use Rattle.rmt_wire.specs.Request.PlainRequest.{Open, Write, WriteDropped, Op}
 use Rattle.rmt_wire.specs.Reply.{PlainReply, reply_text}
 use Rattle.rmt_wire.specs.Reply.PlainReply.{Done, Data, Error}
 use Rattle.rmt_wire.specs.RequestReader.{held}
@@ -18,7 +18,7 @@ use Rattle.dump_client.specs.Standing.{Standing, checkpoint_of}
 use Rattle.dump_run.specs.declared.count.VolumeCount.{VolumeCount}
 use Rattle.dump_client.specs.declared.stage.Progress.{Progress}
 use Rattle.dump_client.specs.declared.stage.Progress.TheVariants.{Failed, Ended}
-use Rattle.tape_events.specs.World.{World, Link, Dumping, Count, Opening, numbered, with_numbered}
+use Rattle.tape_events.specs.World.{World, Link, Dumping, Count, Opening, Writing, numbered, with_numbered}
 
 -- the list with the member of this number changed, if there is one
 abbrev pub changed_from : {X : Type 0} → (X → X) → List X → ℕ → Option X → List X
@@ -110,6 +110,20 @@ opened_reel request s session = None
 
 abbrev pub opening : ℕ → List ℕ → Opening
 opening k reel = record { connection = k; reel = reel }
+
+-- the request writes: a record, or marks
+abbrev pub is_writing : PlainRequest → Bool
+is_writing (Write bytes) = true
+is_writing (WriteDropped count) = true
+is_writing (Op op count) = op == MTWEOF
+is_writing request = false
+
+-- the reel on which this request writes, if the session has one open for writing
+abbrev pub reel_written : PlainRequest → Shop → PlainSession → Option (List ℕ)
+reel_written request s session = if is_writing request then written_reel s session else None
+
+abbrev pub writing : ℕ → ℕ → List ℕ → Writing
+writing k after reel = record { connection = k; reel = reel; after = after }
 
 -- A write of an attempt was answered: the first that is accepted is the label's, and others are blocks'; the answer of a device
 -- fault is noted.

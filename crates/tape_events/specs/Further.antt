@@ -33,10 +33,10 @@ pub record IsOnReel (w : World) (k : ℕ) (d : Dumping) (reel : List ℕ) : Type
   pub at_end : (s : Side) (r : PlainReel) → side_of w.hall k ≡ Some s → IsOnlineWith s.session r → IsBeforeOffline begun.run d
       → r.tape.after ≡ []
 
--- each attempt whose label was accepted, while no write of it met a device fault and no session opened its reel since
+-- each attempt whose label was accepted, while no write of it met a device fault and no other session wrote on its reel since
 abbrev pub LabelledReels : World → Type 0
 LabelledReels w =
-    (k : ℕ) (d : Dumping) (reel : List ℕ) → HasDump w k d → d.label ≡ true → IsQuiet w.opens k d reel → IsOnReel w k d reel
+    (k : ℕ) (d : Dumping) (reel : List ℕ) → HasDump w k d → d.label ≡ true → IsQuiet w k d reel → IsOnReel w k d reel
 
 -- Each volume that the client has was counted under its number. No number above those of the runs begun has counts.
 pub record ClientsCounts (w : World) : Type 0 where

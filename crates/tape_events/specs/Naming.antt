@@ -1,9 +1,9 @@
--- How the headline is proved: what stays so of the names of reels, and of the openings. No sentence of it names these points. Public
--- contracts stand on it (through Kept).
-use Rattle.std.specs.Prelude.{◌≡◌, ℕ, ◌≤◌, List, length, Contains, Some}
+-- How the headline is proved: what stays so of the names of reels, of the openings and of the writings. No sentence of it names these
+-- points. Public contracts stand on it (through Kept).
+use Rattle.std.specs.Prelude.{◌≡◌, ℕ, ◌≤◌, List, length, take, Contains, Some}
 use Rattle.drives.specs.Shop.{Shop, names_in, times, EachReelOnce}
 use Rattle.rmt_server.specs.Hall.{Side}
-use Rattle.tape_events.specs.World.{World, Opening}
+use Rattle.tape_events.specs.World.{World, Opening, Writing}
 use Rattle.tape_events.specs.Changes.{side_of, written_reel}
 use Rattle.tape_events.specs.Standing.{HasReel}
 use Rattle.tape_events.specs.Headline.{IsUnopenedSince}
@@ -22,3 +22,8 @@ pub record AreOpened (w : World) : Type 0 where
   pub there : (o : Opening) → Contains w.opens o → (1 ≤ o.connection) × (o.connection ≤ length w.links)
   pub last : (k : ℕ) (s : Side) (reel : List ℕ) → side_of w.hall k ≡ Some s
       → written_reel w.hall.shop s.session ≡ Some reel → IsUnopenedSince w.opens k reel
+
+-- Each writing was by the connection that opened its reel last, of the opens for writing that had been accepted by then.
+abbrev pub AreWritersLast : World → Type 0
+AreWritersLast w =
+    (x : Writing) → Contains w.writings x → (x.after ≤ length w.opens) × IsUnopenedSince (take x.after w.opens) x.connection x.reel

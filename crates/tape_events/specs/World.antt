@@ -56,6 +56,13 @@ pub record Opening : Type 0 where
   pub connection : ℕ
   pub reel : List ℕ
 
+-- A session that had this reel open for writing carried out a write on it, of a record or of marks, and whatever it answered. So many
+-- opens for writing had been accepted by then.
+pub record Writing : Type 0 where
+  pub connection : ℕ
+  pub reel : List ℕ
+  pub after : ℕ
+
 -- a run of this number was entered in dumpdates, when the client had this list of counts
 pub record Entered : Type 0 where
   pub run : ℕ
@@ -66,9 +73,9 @@ pub record Kept : Type 0 where
   pub run : ℕ
   pub listed : List VolumeCount
 
--- Runs, connections, counts, openings and entered runs stand in the order in which they came. `own` is the connection of the
--- client's attempt, while that is under way, `kept` what is kept of a run outside of the client, and `failure` what the last event
--- made fail: the volume, and why.
+-- Runs, connections, counts, openings, writings and entered runs stand in the order in which they came. `own` is the connection of
+-- the client's attempt, while that is under way, `kept` what is kept of a run outside of the client, and `failure` what the last
+-- event made fail: the volume, and why.
 pub record World : Type 0 where
   pub hall : Hall
   pub links : List Link
@@ -77,6 +84,7 @@ pub record World : Type 0 where
   pub own : Option ℕ
   pub counts : List Count
   pub opens : List Opening
+  pub writings : List Writing
   pub entered : List Entered
   pub kept : Option Kept
   pub failure : Option (ℕ × AttemptFault)

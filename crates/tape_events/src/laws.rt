@@ -36,7 +36,7 @@ pub fn one_run()
 /// volume; and dumpdates gained only dumps whose counted volumes are all their blocks in order.
 ///
 /// Where the label of an attempt was accepted and no write of it met a device fault, what it wrote stands on its reel, and
-/// nothing else, while no session opened that reel for writing since. While its session has the reel in its drive and was not
+/// nothing else, while no other session wrote on that reel since. While its session has the reel in its drive and was not
 /// asked for MTOFFL, the place is the reel's end.
 ///
 /// As many requests were carried out of a client's connection as were sent there, or one fewer: of all that its client sent,

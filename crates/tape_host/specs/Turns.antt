@@ -1,7 +1,7 @@
 -- One turn of a connection: one request of what was pushed there, with its reply. Public contracts cite it.
 use Rattle.std.specs.Prelude.{◌≡◌, ℕ, ◌==◌, Bool, true, false, if◌then◌else◌, List, ◌++◌, Option, Some, None, Result, Ok, Err}
 use Rattle.rmt_wire.specs.Request.{PlainRequest}
-use Rattle.rmt_wire.specs.Request.PlainRequest.{Open, Write, Op}
+use Rattle.rmt_wire.specs.Request.PlainRequest.{Open, Write, WriteDropped, Op}
 use Rattle.rmt_wire.specs.Reply.{PlainReply, reply_text}
 use Rattle.rmt_wire.specs.Reply.PlainReply.{Done, Data, Error}
 use Rattle.rmt_wire.specs.RequestParts.{Gives}
@@ -33,6 +33,7 @@ writes_for (Some access) = writes access
 abbrev pub asked_of : PlainRequest → RequestKind
 asked_of (Open device mode) = asked.Open (writes_for (access_of mode))
 asked_of (Write bytes) = asked.Write
+asked_of (WriteDropped count) = asked.WriteDropped
 asked_of (Op op count) = if op == MTWEOF then asked.Marks else asked.Other
 asked_of request = asked.Other
 

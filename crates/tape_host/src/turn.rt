@@ -15,9 +15,11 @@ pub enum RequestKind {
     Open { writes: bool },
     /// To write a record.
     Write,
+    /// To write more than a record has, whose data were dropped.
+    WriteDropped,
     /// To write marks, which is `MTWEOF`.
     Marks,
-    /// Anything else: among these a write of more than a record has, whose data were dropped.
+    /// Anything else.
     Other,
 }
 
@@ -67,11 +69,9 @@ impl RequestKind {
                 writes: opens_to_write(mode),
             },
             Request::Write { .. } => RequestKind::Write,
+            Request::WriteDropped { .. } => RequestKind::WriteDropped,
             Request::Op { op, .. } if op == MTWEOF => RequestKind::Marks,
-            Request::Op { .. }
-            | Request::Close
-            | Request::WriteDropped { .. }
-            | Request::Read { .. } => RequestKind::Other,
+            Request::Op { .. } | Request::Close | Request::Read { .. } => RequestKind::Other,
         }
     }
 }

@@ -17,6 +17,7 @@ pub mod RunningOn
 pub mod RunningInOrder
 pub mod Told
 pub mod Serving
+pub mod Wrote
 pub mod Known
 pub mod ServingRow
 pub mod Free

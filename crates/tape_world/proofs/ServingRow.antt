@@ -2,9 +2,9 @@
 use Rattle.std.proofs.Common.{◌≡◌, ◌≢◌, ℕ, zero, suc, Bool, true, false, List, [], ◌∷◌, ◌++◌, length, map, option_map, Option, Some, None, refl, sym, ap, subst, ◌∙◌, Vec, Global}
 use Rattle.std.specs.Prelude.{Result, Ok, Err, take, drop, Contains, if◌then◌else◌, ◌==◌, slice_get, slice_set, slice_index_or}
 use Rattle.std.specs.Option.{option_to_list}
-use Rattle.std.proofs.lemmas.List.{append-nil}
-use Rattle.std.proofs.lemmas.List.Elements.{Contains-push}
-use Rattle.std.proofs.lemmas.Option.{same_Some}
+use Rattle.std.proofs.lemmas.List.{append-nil, take-append-drop}
+use Rattle.std.proofs.lemmas.List.Elements.{Contains-push, Contains-get_or, Contains-append_left}
+use Rattle.std.proofs.lemmas.Option.{same_Some, slice_get_within, get_or_from_slice_get}
 use Rattle.rmt_wire.specs.Request.{PlainRequest}
 use Rattle.rmt_wire.specs.Request.PlainRequest.{Open, Close, Write, WriteDropped, Read, Op}
 use Rattle.rmt_wire.specs.Reply.{PlainReply}
@@ -25,23 +25,25 @@ use Rattle.tape_host.specs.declared.turn.Turn.{Turn}
 use Rattle.tape_host.specs.declared.turn.Turn.TheVariants as turns
 use Rattle.tape_host.specs.Halls as host
 use Rattle.tape_host.specs.Halls.{Hosted, side_at, with_side_at}
-use Rattle.tape_host.specs.Turns.{Carries, GivesNothing, GivesFault, asked_of, writes_for}
-use Rattle.tape_events.specs.World.{World, Link, Opening, numbered, with_numbered}
+use Rattle.tape_host.specs.Turns.{Carries, GivesNothing, GivesFault, asked_of, carried_of, writes_for}
+use Rattle.tape_events.specs.World.{World, Link, Opening, Writing, numbered, with_numbered}
 use Rattle.tape_events.specs.Events.PlainEvent.{Serve}
-use Rattle.tape_events.specs.Changes.{calm, changed, changed_from, ended, side_of, written_reel, opened_reel, opening, answered, over_here}
+use Rattle.tape_events.specs.Changes.{calm, changed, changed_from, ended, side_of, written_reel, opened_reel, opening, writing, answered, over_here}
 use Rattle.tape_events.specs.Rows.{Possible}
 use Rattle.tape_events.specs.Steps.{Happens}
 use Rattle.tape_events.specs.Standing.{AreHeld}
 use Rattle.tape_events.specs.Kept.{IsWorldKept}
 use Rattle.tape_world.specs.declared.link.Link.{Link as RealLink}
 use Rattle.tape_world.specs.declared.books.Opening.{Opening as RealOpening}
-use Rattle.tape_world.specs.Seen.{seen_link, seen_opening}
-use Rattle.tape_world.specs.Serving.{TurnServes, IsShopKnown, IsOnlineIn, name_online, name_online_at, name_opened_by, opened_in}
+use Rattle.tape_world.specs.declared.books.Writing.{Writing as RealWriting}
+use Rattle.tape_world.specs.Seen.{seen_link, seen_opening, seen_writing, seen_writings}
+use Rattle.tape_world.specs.Serving.{TurnServes, IsShopKnown, IsOnlineIn, name_online, name_online_at, name_opened_by, opened_in, written_in}
 use Rattle.tape_world.proofs.Linked.{links_after}
 use Rattle.tape_world.proofs.Serving.{serves_as}
 use Rattle.tape_world.proofs.Server.{side_found, ended_is}
 use Rattle.tape_world.proofs.Reached.{put_side}
 use Rattle.tape_world.proofs.Online.{held_there}
+use Rattle.tape_world.proofs.Wrote.{written_is}
 
 -- ---- nothing to serve
 
@@ -141,15 +143,41 @@ after_side trouble h k s request reply new c live =
 
 -- ---- the row
 
-carried_happens : (trouble : Trouble) (k : ℕ) (w : World) (s : Side) (request : PlainRequest) (reply : PlainReply) (new : Hall) (links : List Link) (opens : List Opening)
+-- a member of the front of a list
+front_has : (xs : List Opening) (n i : ℕ) (y : Opening) → numbered (take n xs) i ≡ Some y → Contains xs y
+front_has xs n i y at =
+    subst (λ l. Contains l y) (take-append-drop n xs) (Contains-append_left (take n xs) (drop n xs) y (numbered_in (take n xs) i y at))
+  where
+    numbered_in : (xs : List Opening) (i : ℕ) (y : Opening) → numbered xs i ≡ Some y → Contains xs y
+    numbered_in xs zero y at = absurd cc
+    numbered_in xs (suc i) y at = subst (Contains xs) (get_or_from_slice_get xs i y y at) (Contains-get_or xs i y (slice_get_within xs i y at))
+
+-- the world with this hall, and these connections, openings and writings
+abbrev pub left_with : World → Hall → List Link → List Opening → List Writing → World
+left_with w h links opens writings = record (calm w) { hall = h; links = links; opens = opens; writings = writings }
+
+-- what a turn may have noted
+abbrev pub more_opens : World → ℕ → Hall → Turn → List Opening
+more_opens w k h turn = w.opens ++ option_to_list (option_map (opening k) (opened_in h k turn))
+
+abbrev pub more_writings : World → ℕ → Hall → Turn → List Writing
+more_writings w k h turn = w.writings ++ option_to_list (option_map (writing k (length w.opens)) (written_in h k turn))
+
+carried_happens : (trouble : Trouble) (k : ℕ) (w : World) (s : Side) (request : PlainRequest) (reply : PlainReply) (new : Hall) (links : List Link)
     → side_at w.hall.sides k ≡ Some s → Carries trouble w.hall k s request reply new → links ≡ changed (answered request reply) w.links k
-    → opens ≡ w.opens ++ option_to_list (option_map (opening k) (name_opened_by (asked_of request) new k))
-    → Happens w (Serve k trouble) (record (calm w) { hall = new; links = links; opens = opens })
-carried_happens trouble k w s request reply new links opens live c is opened =
+    → Happens w (Serve k trouble)
+    (left_with w new links (more_opens w k new (turns.Carried (carried_of request reply))) (more_writings w k new (turns.Carried (carried_of request reply))))
+carried_happens trouble k w s request reply new links live c is =
+    let turn = turns.Carried (carried_of request reply) in
     let here = sym (side_found w.hall k) ∙ live in
-    let hallis = c.after ∙ ap (hall c.shop c.holders) (put_side w.hall.sides k (Some (side c.reached c.session))) in
-    let reel = opened_is trouble w.hall.holders (scene w.hall.shop s.session) request reply (scene c.shop c.session) new k (side c.reached c.session) c.served.step
-    (ap (λ x. x.shop) c.after) refl (after_side trouble w.hall k s request reply new c live) in (
+    let h = hall c.shop c.holders (with_numbered w.hall.sides k (Some (side c.reached c.session))) in
+    let hallis : new ≡ h = c.after ∙ ap (hall c.shop c.holders) (put_side w.hall.sides k (Some (side c.reached c.session))) in
+    let next = after_side trouble w.hall k s request reply new c live in
+    let shop : new.shop ≡ c.shop = ap (λ x. x.shop) c.after in
+    let opened = opened_is trouble w.hall.holders (scene w.hall.shop s.session) request reply (scene c.shop c.session) new k
+    (side c.reached c.session) c.served.step shop refl next in
+    let wrote = written_is trouble w.hall.holders (scene w.hall.shop s.session) request reply (scene c.shop c.session) new k
+    (side c.reached c.session) c.served.step shop refl next in (
       (s, Ok (Some request), here, (c.given.0, c.given.1, c.given.2, c.given.3, λ is. cc)),
       (
         s,
@@ -167,18 +195,22 @@ carried_happens trouble k w s request reply new links opens live c is opened =
           c.holders,
           c.given.4,
           c.served,
-          ap (λ h. record (calm w) { hall = h; links = links; opens = opens }) hallis
-              ∙ ap (λ l. record (calm w) { hall = hall c.shop c.holders (with_numbered w.hall.sides k (Some (side c.reached c.session))); links = l; opens = opens }) is
-              ∙ ap (λ o. record (calm w) { hall = hall c.shop c.holders (with_numbered w.hall.sides k (Some (side c.reached c.session))); links = changed (answered request reply) w.links k; opens = o })
-              (opened ∙ ap (λ r. w.opens ++ option_to_list (option_map (opening k) r)) reel),
+          ap (λ x. left_with w x links (more_opens w k new turn) (more_writings w k new turn)) hallis
+              ∙ ap (λ l. left_with w h l (more_opens w k new turn) (more_writings w k new turn)) is
+              ∙ ap (λ r. left_with w h (changed (answered request reply) w.links k)
+              (w.opens ++ option_to_list (option_map (opening k) r)) (more_writings w k new turn))
+              opened
+              ∙ ap (λ r. left_with w h (changed (answered request reply) w.links k)
+              (w.opens ++ option_to_list (option_map (opening k) (opened_reel request c.shop c.session)))
+              (w.writings ++ option_to_list (option_map (writing k (length w.opens)) r))) wrote,
         ),
       ),
     )
 
-broken_happens : (trouble : Trouble) (k : ℕ) (w : World) (s : Side) (fault : WireFault) (new : Hall) (links : List Link) (opens : List Opening)
-    → side_at w.hall.sides k ≡ Some s → GivesFault s.reached fault → new ≡ host.ended w.hall k → links ≡ changed over_here w.links k → opens ≡ w.opens ++ []
-    → Happens w (Serve k trouble) (record (calm w) { hall = new; links = links; opens = opens })
-broken_happens trouble k w s fault new links opens live (bytes, rest, unread, gives) after is opened =
+broken_happens : (trouble : Trouble) (k : ℕ) (w : World) (s : Side) (fault : WireFault) (new : Hall) (links : List Link)
+    → side_at w.hall.sides k ≡ Some s → GivesFault s.reached fault → new ≡ host.ended w.hall k → links ≡ changed over_here w.links k
+    → Happens w (Serve k trouble) (left_with w new links (w.opens ++ []) (w.writings ++ []))
+broken_happens trouble k w s fault new links live (bytes, rest, unread, gives) after is =
     let here = sym (side_found w.hall k) ∙ live in (
       (s, Err fault, here, (bytes, rest, unread, gives, λ is. cc)),
       (
@@ -189,29 +221,28 @@ broken_happens trouble k w s fault new links opens live (bytes, rest, unread, gi
         here,
         unread,
         gives,
-        ap (λ h. record (calm w) { hall = h; links = links; opens = opens }) (after ∙ ended_is w.hall k)
-            ∙ ap (λ l. record (calm w) { hall = ended w.hall k; links = l; opens = opens }) is
-            ∙ ap (λ o. record (calm w) { hall = ended w.hall k; links = changed over_here w.links k; opens = o }) (opened ∙ append-nil w.opens),
+        ap (λ h. left_with w h links (w.opens ++ []) (w.writings ++ [])) (after ∙ ended_is w.hall k)
+            ∙ ap (λ l. left_with w (ended w.hall k) l (w.opens ++ []) (w.writings ++ [])) is
+            ∙ ap (λ o. left_with w (ended w.hall k) (changed over_here w.links k) o (w.writings ++ [])) (append-nil w.opens)
+            ∙ ap (λ x. left_with w (ended w.hall k) (changed over_here w.links k) w.opens x) (append-nil w.writings),
       ),
     )
 
-pub serves_happens : (trouble : Trouble) (k : ℕ) (w : World) (old new : Hosted) (turn : Turn) (links : List Link) (opens : List Opening) → w.hall ≡ old.hall
-    → TurnServes trouble old k turn new (λ f. links ≡ changed f w.links k) → turn ≢ turns.Nothing
-    → opens ≡ w.opens ++ option_to_list (option_map (opening k) (opened_in new.hall k turn))
-    → Happens w (Serve k trouble) (record (calm w) { hall = new.hall; links = links; opens = opens })
-serves_happens trouble k w old new turns.Nothing links opens was t some opened = absurd (some refl)
-serves_happens trouble k w old new (turns.Carried c) links opens was (s, request, reply, live, carries, told, is) some opened =
-    carried_happens trouble k w s request reply new.hall links opens (ap (λ (h : Hall). side_at h.sides k) was ∙ live)
-    (subst (λ h. Carries trouble h k s request reply new.hall) (sym was) carries) is
-    (opened ∙ ap (λ (x : Carried). w.opens ++ option_to_list (option_map (opening k) (name_opened_by x.asked new.hall k))) told)
-serves_happens trouble k w old new (turns.Broken fault) links opens was (s, live, gives, after, is) some opened =
-    broken_happens trouble k w s fault new.hall links opens (ap (λ (h : Hall). side_at h.sides k) was ∙ live) gives
-    (ap (λ (h : Hosted). h.hall) after ∙ ap (λ h. host.ended h k) (sym was)) is opened
-
--- the world after a turn, with the opening that is to be noted
+-- the world after a turn, with the opening or the writing that is to be noted
 abbrev pub turned : World → ℕ → Hall → Turn → List Link → World
-turned w k h turn links =
-    record (calm w) { hall = h; links = links; opens = w.opens ++ option_to_list (option_map (opening k) (opened_in h k turn)) }
+turned w k h turn links = left_with w h links (more_opens w k h turn) (more_writings w k h turn)
+
+pub serves_happens : (trouble : Trouble) (k : ℕ) (w : World) (old new : Hosted) (turn : Turn) (links : List Link) → w.hall ≡ old.hall
+    → TurnServes trouble old k turn new (λ f. links ≡ changed f w.links k) → turn ≢ turns.Nothing
+    → Happens w (Serve k trouble) (turned w k new.hall turn links)
+serves_happens trouble k w old new turns.Nothing links was t some = absurd (some refl)
+serves_happens trouble k w old new (turns.Carried c) links was (s, request, reply, live, carries, told, is) some =
+    subst (λ (x : Carried). Happens w (Serve k trouble) (turned w k new.hall (turns.Carried x) links)) (sym told)
+    (carried_happens trouble k w s request reply new.hall links (ap (λ (h : Hall). side_at h.sides k) was ∙ live)
+    (subst (λ h. Carries trouble h k s request reply new.hall) (sym was) carries) is)
+serves_happens trouble k w old new (turns.Broken fault) links was (s, live, gives, after, is) some =
+    broken_happens trouble k w s fault new.hall links (ap (λ (h : Hall). side_at h.sides k) was ∙ live) gives
+    (ap (λ (h : Hosted). h.hall) after ∙ ap (λ h. host.ended h k) (sym was)) is
 
 -- the reel that was opened is there, so its name is known
 pub opened_known : (names : List (List ℕ)) (w : World) (k : ℕ) (h : Hall) (turn : Turn) (links : List Link) (name : List ℕ) → IsWorldKept (turned w k h turn links)
@@ -219,6 +250,15 @@ pub opened_known : (names : List (List ℕ)) (w : World) (k : ℕ) (h : Hall) (t
 opened_known names w k h turn links name kept known is =
     known name (kept.once.opened (opening k name)
     (subst (λ o. Contains (w.opens ++ option_to_list (option_map (opening k) o)) (opening k name)) (sym is) (Contains-push w.opens (opening k name))))
+
+-- so is one that was written on, which was opened before
+pub written_known : (names : List (List ℕ)) (w : World) (k : ℕ) (h : Hall) (turn : Turn) (links : List Link) (name : List ℕ) → IsWorldKept (turned w k h turn links)
+    → IsShopKnown names h.shop → written_in h k turn ≡ Some name → Contains names name
+written_known names w k h turn links name kept known is =
+    let x = writing k (length w.opens) name in
+    let its = kept.writers x
+    (subst (λ o. Contains (w.writings ++ option_to_list (option_map (writing k (length w.opens)) o)) x) (sym is) (Contains-push w.writings x)) in
+    known name (kept.once.opened (opening k name) (front_has (more_opens w k h turn) (length w.opens) its.1.0 (opening k name) its.1.1))
 
 pub online_in : (h : Hall) (k : ℕ) → AreHeld h → IsOnlineIn h k
 online_in h k held s drive access reel at online = held_there h held k drive s (sym (side_found h k) ∙ at) (ap drive_in online)
@@ -230,12 +270,28 @@ pub serves_world : (trouble : Trouble) (k : ℕ) (old new : Hosted) (turn : Turn
     → TurnServes trouble old k turn new (λ f. map seen_link (take n (ws ++ drop (length ws) items)) ≡ changed f (map seen_link items) k)
 serves_world trouble k old new turn n items xs ws len value t = serves_as trouble old new k turn _ _ (λ f is. links_after f n items xs ws k len value is) t
 
+-- what is noted in memory, which holds the same
+abbrev pub with_items : World → List (List ℕ) → List RealOpening → List RealWriting → World
+with_items w names opens writings = record w { opens = map (seen_opening names) opens; writings = map (seen_writing names) writings }
+
+pub same_items : (w : World) (names : List (List ℕ)) (o opens : List RealOpening) (x writings : List RealWriting) → o ≡ opens → x ≡ writings
+    → with_items w names o x ≡ with_items w names opens writings
+same_items w names o opens x writings one other = ap (λ l. with_items w names l x) one ∙ ap (with_items w names opens) other
+
 pub opens_after : (names ns : List (Vec ℕ Global)) (items opens new : List RealOpening) (more : List Opening) → ns ≡ names → opens ≡ items
     → map (seen_opening (map (λ n. n.items) ns)) new ≡ map (seen_opening (map (λ n. n.items) ns)) opens ++ more
     → map (seen_opening (map (λ n. n.items) names)) new ≡ map (seen_opening (map (λ n. n.items) names)) items ++ more
 opens_after names ns items opens new more value same is =
     subst (λ l. map (seen_opening (map (λ n. n.items) l)) new ≡ map (seen_opening (map (λ n. n.items) l)) opens ++ more) value is
     ∙ ap (λ l. map (seen_opening (map (λ n. n.items) names)) l ++ more) same
+
+pub writings_after : (names ns : List (Vec ℕ Global)) (items writings new : List RealWriting) (n m k : ℕ) (o : Option (List ℕ)) → ns ≡ names → writings ≡ items
+    → n ≡ m → seen_writings ns new ≡ seen_writings ns writings ++ option_to_list (option_map (writing k n) o)
+    → seen_writings names new ≡ seen_writings names items ++ option_to_list (option_map (writing k m) o)
+writings_after names ns items writings new n m k o value same long is =
+    subst (λ l. seen_writings l new ≡ seen_writings l writings ++ option_to_list (option_map (writing k n) o)) value is
+    ∙ ap (λ l. seen_writings names l ++ option_to_list (option_map (writing k n) o)) same
+    ∙ ap (λ j. seen_writings names items ++ option_to_list (option_map (writing k j) o)) long
 
 pub known_in : (names ns : List (Vec ℕ Global)) (name : List ℕ) → ns ≡ names → Contains (map (λ n. n.items) names) name → Contains (map (λ n. n.items) ns) name
 known_in names ns name value known = subst (λ l. Contains (map (λ n. n.items) l) name) (sym value) known

@@ -3,13 +3,14 @@ use Rattle.std.specs.Prelude.{ℕ, List, [], map, get_or, option_map, Option, Ve
 use Rattle.std.specs.Global.{Global}
 use Rattle.dumpdates.specs.Entry.{DatesEntry}
 use Rattle.rmt_server.specs.Hall.{Hall}
-use Rattle.tape_events.specs.World.{Link, Begun, Caller, Count, Opening, Entered, Kept, World}
+use Rattle.tape_events.specs.World.{Link, Begun, Caller, Count, Opening, Writing, Entered, Kept, World}
 use Rattle.tape_world.specs.declared.link.Link.{Link as RealLink}
 use Rattle.tape_world.specs.declared.caller.Begun.{Begun as RealBegun}
 use Rattle.tape_world.specs.declared.caller.Caller.{Caller as RealCaller}
 use Rattle.tape_world.specs.declared.caller.KeptRun.{KeptRun}
 use Rattle.tape_world.specs.declared.books.Count.{Count as RealCount}
 use Rattle.tape_world.specs.declared.books.Opening.{Opening as RealOpening}
+use Rattle.tape_world.specs.declared.books.Writing.{Writing as RealWriting}
 use Rattle.tape_world.specs.declared.books.Entered.{Entered as RealEntered}
 use Rattle.tape_world.specs.declared.books.Books.{Books}
 
@@ -37,6 +38,13 @@ seen_opening names o = record { connection = o.connection; reel = name_at names 
 abbrev pub seen_openings : List (Vec ℕ Global) → List RealOpening → List Opening
 seen_openings names opens = map (seen_opening (map (λ n. n.items) names)) opens
 
+abbrev pub seen_writing : List (List ℕ) → RealWriting → Writing
+seen_writing names x = record { connection = x.connection; reel = name_at names x.reel; after = x.after }
+
+-- writings, by these names of reels
+abbrev pub seen_writings : List (Vec ℕ Global) → List RealWriting → List Writing
+seen_writings names writings = map (seen_writing (map (λ n. n.items) names)) writings
+
 abbrev pub seen_entered : RealEntered → Entered
 seen_entered e = record { run = e.run; listed = e.counts.items }
 
@@ -55,6 +63,7 @@ world_of h links begun caller own kept books dates = record {
   own = own;
   counts = map (seen_count (book_names books)) books.counts.items;
   opens = map (seen_opening (book_names books)) books.opens.items;
+  writings = map (seen_writing (book_names books)) books.writings.items;
   entered = map seen_entered books.entered.items;
   kept = option_map seen_kept kept;
   failure = books.failure;

@@ -1,8 +1,9 @@
--- What a turn of the server makes of a connection, and which reel it opened for writing. No public contract needs it.
-use Rattle.std.specs.Prelude.{◌≡◌, ℕ, zero, suc, ◌<◌, true, List, length, Contains, option_map, Option, Some, None}
+-- What a turn of the server makes of a connection, and which reel it opened for writing or wrote on. No public contract needs it.
+use Rattle.std.specs.Prelude.{◌≡◌, ℕ, zero, suc, ◌<◌, ◌==◌, Bool, true, false, not, ◌||◌, if◌then◌else◌, List, length, Contains, option_map, Option, Some, None}
 use Rattle.rmt_wire.specs.Counted.{raised}
 use Rattle.rmt_wire.specs.Request.{PlainRequest}
 use Rattle.rmt_wire.specs.Reply.{PlainReply}
+use Rattle.rmt_wire.specs.declared.errno.TheConstants.{EBADF, EACCES}
 use Rattle.tape.specs.declared.trouble.Trouble.{Trouble}
 use Rattle.drives.specs.Shop.{Shop, rack_at}
 use Rattle.rmt_server.specs.Session.{PlainReel, PlainSession}
@@ -38,6 +39,7 @@ noted_mark d (said.Error n) = noted_error d n
 abbrev pub noted_asked : Dumping → RequestKind → Answered → Dumping
 noted_asked d (asked.Open writes) answer = d
 noted_asked d asked.Write answer = noted_record d answer
+noted_asked d asked.WriteDropped answer = d
 noted_asked d asked.Marks answer = noted_mark d answer
 noted_asked d asked.Other answer = d
 
@@ -85,6 +87,30 @@ name_opened_by _ h k = None
 abbrev pub opened_in : Hall → ℕ → Turn → Option (List ℕ)
 opened_in h k (turns.Carried c) = name_opened_by c.asked h k
 opened_in h k turn = None
+
+-- it is to write a record, or marks
+abbrev pub is_to_write : RequestKind → Bool
+is_to_write asked.Write = true
+is_to_write asked.WriteDropped = true
+is_to_write asked.Marks = true
+is_to_write kind = false
+
+-- the answer to a write where the device is open to read alone: to a record, and to marks
+abbrev pub is_barred : Answered → Bool
+is_barred (said.Error n) = (n == EBADF) || (n == EACCES)
+is_barred answer = false
+
+-- a session wrote that had its device open for writing
+abbrev pub is_write : Carried → Bool
+is_write c = if is_to_write c.asked then not (is_barred c.answered) else false
+
+abbrev pub name_written_by : Carried → Hall → ℕ → Option (List ℕ)
+name_written_by c h k = if is_write c then name_online_at h.shop (side_at h.sides k) else None
+
+-- the name of the reel that a turn wrote on, if it did
+abbrev pub written_in : Hall → ℕ → Turn → Option (List ℕ)
+written_in h k (turns.Carried c) = name_written_by c h k
+written_in h k turn = None
 
 -- the name of each reel is among these
 abbrev pub IsShopKnown : List (List ℕ) → Shop → Type 0

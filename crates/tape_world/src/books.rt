@@ -20,6 +20,14 @@ pub(crate) struct Opening {
     pub(crate) reel: usize,
 }
 
+/// A write of a session that had this reel open for writing. So many opens were listed before it.
+#[derive(Clone, Copy)]
+pub(crate) struct Writing {
+    pub(crate) connection: usize,
+    pub(crate) reel: usize,
+    pub(crate) after: usize,
+}
+
 /// A run that was entered in dumpdates.
 #[derive(Drop)]
 pub(crate) struct Entered {
@@ -36,6 +44,7 @@ pub(crate) struct Books {
     pub(crate) names: Vec<Vec<u8>>,
     pub(crate) counts: Vec<Count>,
     pub(crate) opens: Vec<Opening>,
+    pub(crate) writings: Vec<Writing>,
     pub(crate) entered: Vec<Entered>,
     /// What the last event made fail: the volume, and why.
     pub(crate) failure: Option<(u32, AttemptFault)>,

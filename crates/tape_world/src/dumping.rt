@@ -72,7 +72,7 @@ impl Dumping {
         ensures { self.new ≡ noted_carried carried self.old }
     {
         match carried.asked {
-            RequestKind::Open { .. } | RequestKind::Other => {}
+            RequestKind::Open { .. } | RequestKind::WriteDropped | RequestKind::Other => {}
             RequestKind::Write => self.note_write(carried.answered),
             RequestKind::Marks => self.note_marks(carried.answered),
         }

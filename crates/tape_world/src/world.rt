@@ -62,11 +62,12 @@ impl World {
     /// Beside it: the holder of a drive is the connection whose live side has it open. Of a connection of the client's as many
     /// requests were carried out as were sent, or one fewer. A latched reel is one session's, and first on the stack of the drive
     /// that this holds. From the accepted label of an attempt on its reel holds what its accepted writes wrote, until one of them
-    /// meets a device fault or a session opens the reel for writing; until MTOFFL the place of its session is the reel's end. Each
+    /// meets a device fault or another session writes on the reel; until MTOFFL the place of its session is the reel's end. Each
     /// volume that the client has was counted under its number.
     ///
-    /// Some events made it of the first world of some drives (`reached`), and all of it follows from what stays so (`kept`): who holds the drives, where reels lie, whose openings are last, what each
-    /// attempt wrote, which counts are the client's own, and what dumpdates gained.
+    /// Some events made it of the first world of some drives (`reached`), and all of it follows from what stays so (`kept`):
+    /// who holds the drives, where reels lie, whose openings are last, who wrote on which reel, what each attempt wrote, which
+    /// counts are the client's own, and what dumpdates gained.
     ///
     /// It does nothing: its contract is what is told.
     pub fn kept(&self)

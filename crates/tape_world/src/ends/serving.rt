@@ -5,23 +5,24 @@ ghost use Rattle.std.specs.Option.{option_copied, option_to_list};
 ghost use Rattle.std.specs.Str.{bytes_eq};
 ghost use Rattle.drives.specs.ListShop.{rest_slot};
 ghost use Rattle.tape_host.specs.Halls.{side_at};
-ghost use Rattle.tape_events.specs.Changes.{changed, first_name, opening};
+ghost use Rattle.tape_events.specs.Changes.{changed, first_name, opening, writing};
 ghost use Rattle.tape_events.specs.Events.PlainEvent.{Serve};
 ghost use Rattle.tape_events.specs.Kept.{IsWorldKept};
 ghost use Rattle.tape_world.specs.Holding.{IsEvent};
-ghost use Rattle.tape_world.specs.Seen.{seen_link, seen_openings};
-ghost use Rattle.tape_world.specs.Serving.{IsOnlineIn, TurnServes, name_online_at, opened_in};
+ghost use Rattle.tape_world.specs.Seen.{seen_link, seen_openings, seen_writings};
+ghost use Rattle.tape_world.specs.Serving.{IsOnlineIn, TurnServes, is_write, name_online_at, opened_in, written_in};
 
 use super::Ends;
-use crate::books::Opening;
+use crate::books::{Opening, Writing};
 use crate::link::{Link, find};
 use crate::stop::EventStop;
 use drives::ListedReel;
 use rmt_wire::READER_LIMIT;
+use rmt_wire::errno::{EACCES, EBADF};
 use std::alloc::AllocError;
 use tape::Trouble;
 use tape_events::kept;
-use tape_host::{Host, RequestKind, Turn};
+use tape_host::{Answered, Carried, Host, RequestKind, Turn};
 
 /// The server's side of a connection takes one turn, and what came of it is noted.
 ///
@@ -92,6 +93,33 @@ fn name_opened(host: &Host, connection: usize, turn: Turn) -> Option<&[u8]>
     name_online(host, connection)
 }
 
+/// Whether a session wrote that had its device open for writing. One that has it open to read
+/// alone answers `EBADF` to a record, and `EACCES` to marks.
+fn is_write(carried: Carried) -> bool
+    ensures { result ≡ is_write carried }
+{
+    match carried.asked {
+        RequestKind::Write | RequestKind::WriteDropped | RequestKind::Marks => {
+            !matches!(carried.answered, Answered::Error(EBADF | EACCES))
+        }
+        RequestKind::Open { .. } | RequestKind::Other => false,
+    }
+}
+
+/// The name of the reel that a turn of a connection wrote on, if it did.
+fn name_written(host: &Host, connection: usize, turn: Turn) -> Option<&[u8]>
+    requires { IsOnlineIn host.now.hall connection }
+    ensures { option_copied result ≡ written_in host.now.hall connection turn }
+{
+    let Turn::Carried(carried) = turn else {
+        return None;
+    };
+    if !is_write(carried) {
+        return None;
+    }
+    name_online(host, connection)
+}
+
 /// The first place of a name among these, or the place past the end.
 fn place_of(names: &[Vec<u8>], name: &[u8]) -> usize
     ensures { result ≡ position_or_len (λ n. bytes_eq name.now n.items) names.now }
@@ -126,6 +154,35 @@ fn note_opening(
     opens.push_reserved(Opening { connection, reel });
 }
 
+/// Where a turn of a connection wrote on a reel, that is listed by the place of the reel's name.
+/// So many opens for writing were listed before it.
+fn note_writing(
+    writings: &mut Vec<Writing>,
+    after: usize,
+    names: &[Vec<u8>],
+    host: &Host,
+    connection: usize,
+    turn: Turn,
+)
+    requires room { vec_len writings.old < vec_capacity writings.old }
+    requires there { IsOnlineIn host.now.hall connection }
+    requires known { (name : List ℕ) → written_in host.now.hall connection turn ≡ Some name
+        → Contains (map (λ n. n.items) names.now) name }
+    ensures { seen_writings names.now writings.new.items ≡ seen_writings names.now writings.old.items
+        ++ option_to_list (option_map (writing connection after) (written_in host.now.hall connection turn)) }
+{
+    let Some(name) = name_written(host, connection, turn) else {
+        return;
+    };
+    let reel = place_of(names, name);
+    let writing = Writing {
+        connection,
+        reel,
+        after,
+    };
+    writings.push_reserved(writing);
+}
+
 impl Ends {
     /// The server carries out one request that reached it, whose device call fails so, or finds that what reached it is
     /// none.
@@ -138,10 +195,19 @@ impl Ends {
         }
         kept();
         self.books.opens.reserve(1)?;
+        self.books.writings.reserve(1)?;
         let turn = take_turn_at(&mut self.host, &mut self.links, connection, trouble)?;
         if let Turn::Nothing = turn {
             return Err(EventStop::NotPossible);
         }
+        note_writing(
+            &mut self.books.writings,
+            self.books.opens.len(),
+            &self.books.names,
+            &self.host,
+            connection,
+            turn,
+        );
         note_opening(
             &mut self.books.opens,
             &self.books.names,
