@@ -3,7 +3,7 @@ use Rattle.std.proofs.Common.{◌≡◌, inr, ℕ, true, false, List, length, re
 use Rattle.rmt_wire.specs.Request.{PlainRequest}
 use Rattle.rmt_wire.specs.Request.PlainRequest.{Write}
 use Rattle.dump_client.specs.Standing.{Standing, checkpoint_of}
-use Rattle.dump_client.specs.Client.{IsRequestOf, IsRequestPushed, AppendedBy, ReadBy, IsRequestGiven, is_source_fault, has_failed, failures_after}
+use Rattle.dump_client.specs.Client.{IsRequestOf, IsRequestPushed, AppendedBy, ReadBy, IsRequestGiven, is_source_fault, has_failed}
 use Rattle.dump_run.specs.declared.blocks.SourceFailed.{SourceFailed}
 use Rattle.dump_client.specs.declared.step.Step.{Step}
 use Rattle.dump_client.specs.declared.step.Step.TheVariants.{Block}
@@ -20,19 +20,6 @@ pub appended_at : (told : List (List ℕ) → Type 0) (at : Standing) (step this
     → step ≡ this → IsRequestOf told at.run (checkpoint_of at.counts) this request → IsRequestPushed request capacity before result now → AppendedBy told at step capacity before result now
 appended_at told at step this request capacity before result now same is h =
     subst (λ s. AppendedBy told at s capacity before result now) (sym same) (appended told at this request capacity before result now is h)
-
--- where a request was to be pushed no read failed
-pub pushed_counted : (request : PlainRequest) (capacity : ℕ) (before : List ℕ) (result : Result Unit AttemptFault) (now : List ℕ) (failures : ℕ)
-    → IsRequestPushed request capacity before result now → failures ≡ failures_after result failures
-pushed_counted request capacity before (Ok x) now failures h = refl
-pushed_counted request capacity before (Err fault) now failures h = subst (λ f. failures ≡ failures_after {T = Unit {0}} (Err f) failures) (sym h.0) refl
-
-pub pushed_able : (request : PlainRequest) (capacity : ℕ) (before : List ℕ) (result : Result Unit AttemptFault) (now : List ℕ) (A : Type 0)
-    → IsRequestPushed request capacity before result now → is_source_fault result ≡ true → A
-pushed_able request capacity before (Ok x) now A h fails = absurd cc
-pushed_able request capacity before (Err fault) now A h fails =
-    let none : is_source_fault {T = Unit {0}} (Err fault) ≡ false = subst (λ f. is_source_fault {T = Unit {0}} (Err f) ≡ false) (sym h.0) refl in
-    absurd cc
 
 -- a block that was read
 pub block_read : (B : Type 0) (size : ℕ) (reads : B → ℕ → List ℕ → Result Unit SourceFailed → B → List ℕ → Type 0) (step : Step) (number : ℕ) (old new : B) (into given : List ℕ) (read : Result Unit SourceFailed)

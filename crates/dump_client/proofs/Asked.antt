@@ -6,14 +6,9 @@ use Rattle.dump_client.specs.Standing.{checkpoint_of}
 use Rattle.dump_client.specs.Lawful.{attempt_request}
 use Rattle.dump_run.specs.declared.count.VolumeCount.{VolumeCount}
 use Rattle.dump_client.specs.declared.step.Step.{Step}
-use Rattle.dump_client.specs.declared.step.Step.TheVariants.{Open, Rewind, Label, Block, Mark, Unload, Close}
+use Rattle.dump_client.specs.declared.step.Step.TheVariants.{Close}
 
 pub asked : (run : PlainRun) (payload : List (List ℕ)) (counts : List VolumeCount) (step : Step)
     → request_of run payload (checkpoint_of counts).0 (checkpoint_of counts).1 step ≡ attempt_request run payload counts step
-asked run payload counts Open = refl
-asked run payload counts Rewind = refl
-asked run payload counts Label = refl
-asked run payload counts (Block number) = refl
-asked run payload counts (Mark next) = refl
-asked run payload counts (Unload next) = refl
 asked run payload counts Close = refl
+asked run payload counts step = refl

@@ -7,7 +7,7 @@ use Rattle.dump_client.specs.Standing.{checkpoint_after, checkpoint_of, count_to
 use Rattle.dump_client.specs.Lawful.{AreVolumes, IsRunLeft}
 use Rattle.dump_run.specs.declared.count.VolumeCount.{VolumeCount}
 
--- the checkpoint is behind the last count
+-- the checkpoint is after the last count
 pub checkpoint_behind : (volume first : ℕ) (rest : List VolumeCount) (c : VolumeCount) → checkpoint_after volume first (rest ++ c ∷ []) ≡ (c.volume + 1, c.first + c.count)
 checkpoint_behind volume first [] c = refl
 checkpoint_behind volume first (r ∷ rest) c = checkpoint_behind (r.volume + 1) (r.first + r.count) rest c
@@ -15,7 +15,7 @@ checkpoint_behind volume first (r ∷ rest) c = checkpoint_behind (r.volume + 1)
 pub behind_last : (counts : List VolumeCount) (c : VolumeCount) (rest : List VolumeCount) → counts ≡ rest ++ c ∷ [] → checkpoint_of counts ≡ (c.volume + 1, c.first + c.count)
 behind_last counts c rest h = subst (λ l. checkpoint_of l ≡ (c.volume + 1, c.first + c.count)) (sym h) (checkpoint_behind 1 0 rest c)
 
--- the counts behind the first one go on from its end
+-- the counts after the first one go on from its end
 pub volumes_behind : (run : PlainRun) (volume first : ℕ) (c : VolumeCount) (counts : List VolumeCount) → AreVolumes run volume first (c ∷ counts)
     → AreVolumes run (c.volume + 1) (c.first + c.count) counts
 volumes_behind run volume first c counts v =
@@ -88,7 +88,7 @@ left_of run (c ∷ counts) v h = inr (below (last_within run (c ∷ counts) v) (
     below : ((checkpoint_of (c ∷ counts)).0 ≤ run.blocks + 2) × ((checkpoint_of (c ∷ counts)).1 ≤ run.blocks) → ((checkpoint_of (c ∷ counts)).1 ≡ run.blocks → ⊥) → (checkpoint_of (c ∷ counts)).1 < run.blocks
     below within other = omega (arith, within.1, other)
 
--- blocks are left behind the first volume, where they are left at the checkpoint
+-- blocks are left after the first volume, where they are left at the checkpoint
 left_at_all : (run : PlainRun) (first at : ℕ) (c : VolumeCount) (counts : List VolumeCount) → (c ∷ counts ≡ []) ⊎ (at < run.blocks) → at < run.blocks
 left_at_all run first at c counts (inl none) = let no : length (c ∷ counts) ≡ 0 = ap length none in absurd (omega (arith, no))
 left_at_all run first at c counts (inr some) = some
@@ -104,7 +104,7 @@ at_next : (volume first : ℕ) (c : VolumeCount) (counts : List VolumeCount) →
 at_next volume first c counts v f =
     ap (λ w. checkpoint_after (w + 1) (c.first + c.count) counts) v ∙ ap (λ g. checkpoint_after (volume + 1) (g + c.count) counts) f
 
--- one more volume behind the checkpoint
+-- one more volume after the checkpoint
 volumes_with : (run : PlainRun) (volume first : ℕ) (counts : List VolumeCount) (next : ℕ) → AreVolumes run volume first counts
     → (counts ≡ []) ⊎ ((checkpoint_after volume first counts).1 < run.blocks)
     → IsCount run (checkpoint_after volume first counts).1 (next - (checkpoint_after volume first counts).1)

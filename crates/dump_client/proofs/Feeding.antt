@@ -1,10 +1,10 @@
 -- What comes of a piece, by what all the bytes are that came since the request.
 use Rattle.std.proofs.Common.{◌≡◌, ◌≢◌, ◌⊎◌, inl, inr, ℕ, Bool, true, false, List, [], ◌++◌, length, length-append, take, drop, arith, refl, sym, ap, ◌∙◌, subst, Some, None, Result, Ok, Err}
 use Rattle.std.proofs.lemmas.List.{length-take-le}
-use Rattle.rmt_wire.specs.Reply.{PlainReply}
+use Rattle.rmt_wire.specs.Reply.{PlainReply, Wanted}
 use Rattle.rmt_wire.specs.ReplyReader as reader
 use Rattle.rmt_wire.specs.ReplyReader.{ReplyUnread}
-use Rattle.rmt_wire.specs.Reply.Wanted.{Number}
+use Rattle.dump_client.specs.Script.{wanted_of}
 use Rattle.dump_client.specs.Position.Heard.{Reply, Noise, End}
 use Rattle.dump_client.specs.Listening.{IsReaderWaiting, IsSaid, IsListened}
 use Rattle.rmt_wire.specs.Request.PlainRequest.{Close as CloseDevice}
@@ -14,17 +14,17 @@ use Rattle.dump_run.specs.Run.{PlainRun}
 use Rattle.dump_run.specs.declared.count.VolumeCount.{VolumeCount}
 use Rattle.dump_run.specs.declared.blocks.SourceFailed.{SourceFailed}
 use Rattle.dump_client.specs.declared.fault.AttemptFault.{AttemptFault}
-use Rattle.dump_client.specs.declared.fault.AttemptFault.TheVariants.{Refused, Botched, ConnectionEnded, ShortWrite, ReelTooSmall, SourceFault, OutOfMemory}
+use Rattle.dump_client.specs.declared.fault.AttemptFault.TheVariants.{SourceFault}
 use Rattle.dump_client.specs.declared.fault.StartFault.{StartFault}
 use Rattle.dump_client.specs.declared.fault.StartFault.TheVariants as starts
 use Rattle.dump_client.specs.declared.listen.Said.{Said}
 use Rattle.dump_client.specs.declared.listen.Listened.TheVariants as listened
 use Rattle.dump_client.specs.declared.stage.Stage.{Stage}
-use Rattle.dump_client.specs.declared.stage.Stage.TheVariants.{Ready, ToSend, Waiting, Asking, Finished, Abandoned}
+use Rattle.dump_client.specs.declared.stage.Stage.TheVariants.{Ready, ToSend, Waiting, Asking}
 use Rattle.dump_client.specs.declared.stage.Progress.{Progress}
 use Rattle.dump_client.specs.declared.stage.Progress.TheVariants as moved
 use Rattle.dump_client.specs.declared.step.Step.{Step}
-use Rattle.dump_client.specs.declared.step.Step.TheVariants.{Open, Rewind, Label, Block, Mark, Unload, Close}
+use Rattle.dump_client.specs.declared.step.Step.TheVariants.{Open, Block, Close}
 use Rattle.dump_client.proofs.Listening.{waiting_anew}
 
 -- what a client keeps of its invariant where it stands there
@@ -53,51 +53,43 @@ over_keeps holds source block r run counts new (inr h) size told = subst (Keeps 
 pub start_refused : (stage : Stage) (old : Standing) (room : ℕ) (fault : StartFault) (new : Standing) → StartedAt stage old room (Err fault) new → new ≡ old
 start_refused Ready old room starts.OutOfMemory new h = h.1
 start_refused Ready old room starts.WrongState new h = absurd h
-start_refused (ToSend step) old room fault new h = h.1
-start_refused (Waiting step) old room fault new h = h.1
-start_refused Asking old room fault new h = h.1
-start_refused Finished old room fault new h = h.1
-start_refused Abandoned old room fault new h = h.1
+start_refused stage old room fault new h = h.1
 
 -- one that starts was at rest, and has its first request to send
 pub start_done : (stage : Stage) (old : Standing) (room : ℕ) (new : Standing) → StartedAt stage old room (Ok tt) new
     → (stage ≡ Ready) × (new ≡ standing old.run old.counts (ToSend Open))
 start_done Ready old room new h = (refl, h)
-start_done (ToSend step) old room new h = let e = h.0 in absurd cc
-start_done (Waiting step) old room new h = let e = h.0 in absurd cc
-start_done Asking old room new h = let e = h.0 in absurd cc
-start_done Finished old room new h = let e = h.0 in absurd cc
-start_done Abandoned old room new h = let e = h.0 in absurd cc
+start_done stage old room new h = let e = h.0 in absurd cc
 
 -- a beginning of a reply
-pub fed_waits : (old : Standing) (step : Step) (r new_reader : reader.ReplyHeld) (bytes piece : List ℕ) → Waiting step ≡ old.stage → (IsReaderWaiting Number r bytes → IsListened Number (bytes ++ piece) listened.Waits new_reader)
+pub fed_waits : (run : PlainRun) (counts : List VolumeCount) (old : Standing) (step : Step) (r new_reader : reader.ReplyHeld) (bytes piece : List ℕ) → Waiting step ≡ old.stage → (IsReaderWaiting (wanted_of step) r bytes → IsListened run counts (wanted_of step) (bytes ++ piece) listened.Waits new_reader)
     → HasFedAt old.stage r bytes → FedAt old.stage old bytes piece moved.Waiting old
-fed_waits old step r new_reader bytes piece at seen h =
+fed_waits run counts old step r new_reader bytes piece at seen h =
     subst (λ s. HasFedAt s r bytes → FedAt s old bytes piece moved.Waiting old) at
     (λ w. let l = seen w in (Ok None, bytes ++ piece, l.begun, (refl, refl))) h
 
 -- a reply
-pub fed_reply : (old : Standing) (step : Step) (r new_reader : reader.ReplyHeld) (bytes piece : List ℕ) (said : Said) (more : Bool) (progress : Progress) (new : Standing) → Waiting step ≡ old.stage
-    → (IsReaderWaiting Number r bytes → IsListened Number (bytes ++ piece) (listened.Reply said more) new_reader)
-    → ((reply : PlainReply) → IsSaid reply said → HearsAt old step (Reply reply) more progress new)
+pub fed_reply : (run : PlainRun) (counts : List VolumeCount) (old : Standing) (step : Step) (r new_reader : reader.ReplyHeld) (bytes piece : List ℕ) (said : Said) (more : Bool) (progress : Progress) (new : Standing) → Waiting step ≡ old.stage
+    → (IsReaderWaiting (wanted_of step) r bytes → IsListened run counts (wanted_of step) (bytes ++ piece) (listened.Reply said more) new_reader)
+    → ((reply : PlainReply) → IsSaid run counts reply said → HearsAt old step (Reply reply) more progress new)
     → HasFedAt old.stage r bytes → FedAt old.stage old bytes piece progress new
-fed_reply old step r new_reader bytes piece said more progress new at seen heard h =
+fed_reply run counts old step r new_reader bytes piece said more progress new at seen heard h =
     subst (λ s. HasFedAt s r bytes → FedAt s old bytes piece progress new) at
     (λ w. let l = seen w in (Ok (Some l.0), l.1, l.2, subst (λ m. HearsAt old step (Reply l.0) m progress new) l.4 (heard l.0 l.3))) h
 
 -- no reply
-pub fed_noise : (old : Standing) (step : Step) (r new_reader : reader.ReplyHeld) (bytes piece : List ℕ) (progress : Progress) (new : Standing) → Waiting step ≡ old.stage
-    → (IsReaderWaiting Number r bytes → IsListened Number (bytes ++ piece) listened.Noise new_reader) → HearsAt old step Noise false progress new
+pub fed_noise : (run : PlainRun) (counts : List VolumeCount) (old : Standing) (step : Step) (r new_reader : reader.ReplyHeld) (bytes piece : List ℕ) (progress : Progress) (new : Standing) → Waiting step ≡ old.stage
+    → (IsReaderWaiting (wanted_of step) r bytes → IsListened run counts (wanted_of step) (bytes ++ piece) listened.Noise new_reader) → HearsAt old step Noise false progress new
     → HasFedAt old.stage r bytes → FedAt old.stage old bytes piece progress new
-fed_noise old step r new_reader bytes piece progress new at seen heard h =
+fed_noise run counts old step r new_reader bytes piece progress new at seen heard h =
     subst (λ s. HasFedAt s r bytes → FedAt s old bytes piece progress new) at
     (λ w. let l = seen w in (Err l.0, bytes ++ piece, l.1, heard)) h
 
 -- the bytes that were fed where a reply is waited for
-pub waiting_at : (stage : Stage) (step : Step) (r : reader.ReplyHeld) (bytes : List ℕ) → Waiting step ≡ stage → HasFedAt stage r bytes → IsReaderWaiting Number r bytes
-waiting_at stage step r bytes at h = subst (λ s. HasFedAt s r bytes → IsReaderWaiting Number r bytes) at (λ w. w) h
+pub waiting_at : (stage : Stage) (step : Step) (r : reader.ReplyHeld) (bytes : List ℕ) → Waiting step ≡ stage → HasFedAt stage r bytes → IsReaderWaiting (wanted_of step) r bytes
+waiting_at stage step r bytes at h = subst (λ s. HasFedAt s r bytes → IsReaderWaiting (wanted_of step) r bytes) at (λ w. w) h
 
-pub fed_at_waiting : (stage : Stage) (step : Step) (r : reader.ReplyHeld) (bytes : List ℕ) → Waiting step ≡ stage → IsReaderWaiting Number r bytes → HasFedAt stage r bytes
+pub fed_at_waiting : (stage : Stage) (step : Step) (r : reader.ReplyHeld) (bytes : List ℕ) → Waiting step ≡ stage → IsReaderWaiting (wanted_of step) r bytes → HasFedAt stage r bytes
 fed_at_waiting stage step r bytes at w = subst (λ s. HasFedAt s r bytes) at w
 
 -- bytes that nobody waits for
@@ -105,7 +97,7 @@ pub fed_unasked : (old : Standing) (step : Step) (bytes piece : List ℕ) (progr
     → HearsAt old step Noise false progress new → FedAt old.stage old bytes piece progress new
 fed_unasked old step bytes piece progress new at some heard = subst (λ s. FedAt s old bytes piece progress new) at (inr (some, heard))
 
-pub unanswered_waiting : (stage : Stage) (step : Step) (r : reader.ReplyHeld) (bytes : List ℕ) → Waiting step ≡ stage → IsReaderWaiting Number r bytes
+pub unanswered_waiting : (stage : Stage) (step : Step) (r : reader.ReplyHeld) (bytes : List ℕ) → Waiting step ≡ stage → IsReaderWaiting (wanted_of step) r bytes
     → HasFedAt stage r (unanswered stage bytes)
 unanswered_waiting stage step r bytes at w = subst (λ s. HasFedAt s r (unanswered s bytes)) at w
 
@@ -153,42 +145,28 @@ cut_in old stage step progress new at (inl is) heard = subst (λ s. CutAt s old 
 cut_in old stage step progress new at (inr is) heard = subst (λ s. CutAt s old progress new) (sym is ∙ at) heard
 
 -- a reply is waited for anew, where none was
-pub fed_anew : (stage new_stage : Stage) (step : Step) (r new_reader : reader.ReplyHeld) (bytes : List ℕ) → ToSend step ≡ stage → new_stage ≡ Waiting step
-    → (ReplyUnread r None [] → ReplyUnread new_reader (Some Number) []) → HasFedAt stage r bytes → HasFedAt new_stage new_reader bytes
-fed_anew stage new_stage step r new_reader bytes at then_at expects h =
+pub fed_anew : (stage new_stage : Stage) (step : Step) (wanted : Wanted) (r new_reader : reader.ReplyHeld) (bytes : List ℕ) → ToSend step ≡ stage → new_stage ≡ Waiting step
+    → wanted ≡ wanted_of step → (ReplyUnread r None [] → ReplyUnread new_reader (Some wanted) []) → HasFedAt stage r bytes → HasFedAt new_stage new_reader bytes
+fed_anew stage new_stage step wanted r new_reader bytes at then_at kind expects h =
     subst (λ s. HasFedAt s new_reader bytes) (sym then_at)
-    (subst (λ s. HasFedAt s r bytes → IsReaderWaiting Number new_reader bytes) at
-    (λ k. subst (λ b. IsReaderWaiting Number new_reader b) (sym k.1) (waiting_anew new_reader (expects k.0))) h)
+    (subst (λ s. HasFedAt s r bytes → IsReaderWaiting (wanted_of step) new_reader bytes) at
+    (λ k. subst (λ b. IsReaderWaiting (wanted_of step) new_reader b) (sym k.1)
+    (waiting_anew (wanted_of step) new_reader (subst (λ w. ReplyUnread new_reader (Some w) []) kind (expects k.0)))) h)
 
 -- what is read is told of an answer with a truth value as of one without
 pub read_done : (B : Type 0) (size : ℕ) (reads : B → ℕ → List ℕ → Result Unit SourceFailed → B → List ℕ → Type 0) (step : Step) (old new : B) (before now : List ℕ)
     → ReadBy {B = B} {T = Unit {0}} step size reads old before (Ok tt) new now → ReadBy {B = B} {T = Bool} step size reads old before (Ok true) new now
-read_done B size reads Open old new before now h = h
-read_done B size reads Rewind old new before now h = h
-read_done B size reads Label old new before now h = h
 read_done B size reads (Block number) old new before now h = h
-read_done B size reads (Mark next) old new before now h = h
-read_done B size reads (Unload next) old new before now h = h
-read_done B size reads Close old new before now h = h
+read_done B size reads step old new before now h = h
 
 same_fault : (fault : AttemptFault) → is_source_fault {T = Bool} (Err fault) ≡ is_source_fault {T = Unit {0}} (Err fault)
-same_fault (Refused n) = refl
-same_fault Botched = refl
-same_fault ConnectionEnded = refl
-same_fault ShortWrite = refl
-same_fault ReelTooSmall = refl
 same_fault SourceFault = refl
-same_fault OutOfMemory = refl
+same_fault fault = refl
 
 pub read_failed : (B : Type 0) (size : ℕ) (reads : B → ℕ → List ℕ → Result Unit SourceFailed → B → List ℕ → Type 0) (step : Step) (old new : B) (before now : List ℕ) (fault : AttemptFault)
     → ReadBy {B = B} {T = Unit {0}} step size reads old before (Err fault) new now → ReadBy {B = B} {T = Bool} step size reads old before (Err fault) new now
-read_failed B size reads Open old new before now fault h = h
-read_failed B size reads Rewind old new before now fault h = h
-read_failed B size reads Label old new before now fault h = h
 read_failed B size reads (Block number) old new before now fault h = (h.0, h.1, h.2, h.3, h.4, same_fault fault ∙ h.5, tt)
-read_failed B size reads (Mark next) old new before now fault h = h
-read_failed B size reads (Unload next) old new before now fault h = h
-read_failed B size reads Close old new before now fault h = h
+read_failed B size reads step old new before now fault h = h
 
 -- a row of bytes that was written over has its length still
 pub length_over : (len : ℕ) (new old : List ℕ) (n : ℕ) → len ≡ n → length new ≡ n → length (take len (new ++ drop (length new) old)) ≡ n

@@ -10,35 +10,23 @@ use Rattle.dump_client.specs.declared.outcome.Outcome.{Outcome}
 use Rattle.dump_client.specs.declared.outcome.Outcome.TheVariants.{GoesOn, Fails, Counted, Ended}
 use Rattle.dump_client.specs.declared.stage.Progress.{Progress}
 use Rattle.dump_client.specs.declared.stage.Stage.{Stage}
-use Rattle.dump_client.specs.declared.stage.Stage.TheVariants.{Ready, ToSend, Waiting, Asking, Finished, Abandoned}
+use Rattle.dump_client.specs.declared.stage.Stage.TheVariants.{Ready, ToSend, Waiting, Asking, Finished}
 use Rattle.dump_client.specs.declared.step.Step.{Step}
-use Rattle.dump_client.specs.declared.step.Step.TheVariants.{Open, Rewind, Label, Block, Mark, Unload, Close}
+use Rattle.dump_client.specs.declared.step.Step.TheVariants.{Close}
 use Rattle.dump_client.proofs.Checkpoint.{left_of, volumes_to, counted_some}
 use Rattle.dump_client.proofs.Fits.{reply_at, noise_at, end_at}
 
 -- there is always room for one count
 one_room : (stage : Stage) → RoomFits stage 1
-one_room Ready = tt
-one_room (ToSend Open) = omega arith
-one_room (ToSend Rewind) = omega arith
-one_room (ToSend Label) = omega arith
-one_room (ToSend (Block n)) = omega arith
-one_room (ToSend (Mark n)) = omega arith
-one_room (ToSend (Unload n)) = omega arith
 one_room (ToSend Close) = tt
-one_room (Waiting Open) = omega arith
-one_room (Waiting Rewind) = omega arith
-one_room (Waiting Label) = omega arith
-one_room (Waiting (Block n)) = omega arith
-one_room (Waiting (Mark n)) = omega arith
-one_room (Waiting (Unload n)) = omega arith
+one_room (ToSend step) = omega arith
 one_room (Waiting Close) = tt
-one_room Asking = tt
-one_room Finished = tt
-one_room Abandoned = tt
+one_room (Waiting step) = omega arith
+one_room stage = tt
 
 -- a client that stands so is lawful
-stands_lawful : (run : PlainRun) (counts : List VolumeCount) (stage : Stage) (new : Standing) → new ≡ standing run counts stage → IsRun run → AreVolumes run 1 0 counts
+stands_lawful : (run : PlainRun) (counts : List VolumeCount) (stage : Stage) (new : Standing) → new ≡ standing run counts stage → IsRun run
+    → AreVolumes run 1 0 counts
     → StageFits run counts stage → IsLawful new
 stands_lawful run counts stage new is of volumes fits = subst IsLawful (sym is) (record { run = of; counts = volumes; stage = fits })
 
@@ -52,10 +40,10 @@ becomes_lawful old new (GoesOn step) false progress l fits (tells, is) = stands_
 becomes_lawful old new (GoesOn step) true progress l fits (tells, is) = stands_lawful old.run old.counts Asking new is l.run l.counts fits.0
 becomes_lawful old new (Fails fault) more progress l fits (tells, is) = stands_lawful old.run old.counts Asking new is l.run l.counts fits
 becomes_lawful old new (Counted next) false progress l fits (tells, is) =
-    let volumes = volumes_to old.run old.counts next l.counts fits.0.0 fits.0.2 in
+    let volumes = volumes_to old.run old.counts next l.counts fits.0.0 fits.0.1.1 in
     stands_lawful old.run (counted_to old.counts next) (ToSend Close) new is l.run volumes (counted_some old.counts next)
 becomes_lawful old new (Counted next) true progress l fits (tells, over) =
-    over_lawful old.run (counted_to old.counts next) new over l.run (volumes_to old.run old.counts next l.counts fits.0.0 fits.0.2)
+    over_lawful old.run (counted_to old.counts next) new over l.run (volumes_to old.run old.counts next l.counts fits.0.0 fits.0.1.1)
 becomes_lawful old new Ended more progress l fits (tells, over) = over_lawful old.run old.counts new over l.run l.counts
 
 -- it is at that step
@@ -69,20 +57,18 @@ made_lawful : (old new : Standing) (step : Step) (bytes : List ℕ) (seen : Resu
     → IsLawful old → IsAtStep old.stage step → Makes old step bytes seen rest progress new → IsLawful new
 made_lawful old new step bytes (Ok None) rest progress l at (tells, is) = subst IsLawful (sym is) l
 made_lawful old new step bytes (Ok (Some reply)) rest progress l at hears =
-    becomes_lawful old new _ _ progress l (reply_at old 1 step reply l (one_room old.stage) at) hears
+    becomes_lawful old new _ _ progress l (reply_at old old.counts 1 step reply l (one_room old.stage) at) hears
 made_lawful old new step bytes (Err fault) rest progress l at hears = becomes_lawful old new _ _ progress l (noise_at old 1 step l (one_room old.stage) at) hears
 
-fed_at : (stage : Stage) (old new : Standing) (bytes piece : List ℕ) (progress : Progress) → old.stage ≡ stage → IsLawful old → FedAt stage old bytes piece progress new
+fed_at : (stage : Stage) (old new : Standing) (bytes piece : List ℕ) (progress : Progress) → old.stage ≡ stage → IsLawful old
+    → FedAt stage old bytes piece progress new
     → IsLawful new
 fed_at (ToSend step) old new bytes piece progress at l (inl (none, tells, is)) = subst IsLawful (sym is) l
 fed_at (ToSend step) old new bytes piece progress at l (inr (some, hears)) =
     becomes_lawful old new _ _ progress l (noise_at old 1 step l (one_room old.stage) (at_sent old.stage step at)) hears
 fed_at (Waiting step) old new bytes piece progress at l (seen, rest, gives, made) =
     made_lawful old new step (bytes ++ piece) seen rest progress l (at_awaited old.stage step at) made
-fed_at Ready old new bytes piece progress at l (tells, is) = subst IsLawful (sym is) l
-fed_at Asking old new bytes piece progress at l (tells, is) = subst IsLawful (sym is) l
-fed_at Finished old new bytes piece progress at l (tells, is) = subst IsLawful (sym is) l
-fed_at Abandoned old new bytes piece progress at l (tells, is) = subst IsLawful (sym is) l
+fed_at stage old new bytes piece progress at l h = subst IsLawful (sym h.1) l
 
 pub fed_lawful : (old new : Standing) (bytes piece : List ℕ) (progress : Progress) → IsLawful old → FedAt old.stage old bytes piece progress new → IsLawful new
 fed_lawful old new bytes piece progress l fed = fed_at old.stage old new bytes piece progress refl l fed
@@ -92,10 +78,7 @@ cut_at (ToSend step) old new progress at l hears =
     becomes_lawful old new _ _ progress l (end_at old 1 step l (one_room old.stage) (at_sent old.stage step at)) hears
 cut_at (Waiting step) old new progress at l hears =
     becomes_lawful old new _ _ progress l (end_at old 1 step l (one_room old.stage) (at_awaited old.stage step at)) hears
-cut_at Ready old new progress at l (tells, is) = subst IsLawful (sym is) l
-cut_at Asking old new progress at l (tells, is) = subst IsLawful (sym is) l
-cut_at Finished old new progress at l (tells, is) = subst IsLawful (sym is) l
-cut_at Abandoned old new progress at l (tells, is) = subst IsLawful (sym is) l
+cut_at stage old new progress at l (tells, is) = subst IsLawful (sym is) l
 
 pub cut_lawful : (old new : Standing) (progress : Progress) → IsLawful old → CutAt old.stage old progress new → IsLawful new
 cut_lawful old new progress l cut = cut_at old.stage old new progress refl l cut

@@ -1,12 +1,12 @@
--- What came to a client that waits for a number.
+-- What came to a client that waits for a reply.
 use Rattle.std.proofs.Common.{◌≡◌, ℕ, ◌+◌, ◌-◌, ◌<◌, ◌≤◌, ◌↔◌, Bool, true, false, not, nat_lt, min, List, [], ◌∷◌, ◌++◌, length, take, drop, Option, Some, None, Result, Ok, Err, refl, sym, ap, subst, ◌∙◌, arith, append_assoc, rules}
 use Rattle.std.proofs.lemmas.Bool.Decides.{nat_tests}
 use Rattle.std.specs.Result.{IsErrAnd}
 use Rattle.std.proofs.lemmas.List.{take-append-drop, length-drop}
 use Rattle.std.proofs.Math.Seq.{take-add}
-use Rattle.rmt_wire.specs.Reply.{PlainReply, SpellsReply, AnswersTo}
+use Rattle.rmt_wire.specs.Reply.{Wanted}
 use Rattle.rmt_wire.specs.Reply.PlainReply.{Done, Data, Error}
-use Rattle.rmt_wire.specs.Reply.Wanted.{Number}
+use Rattle.rmt_wire.specs.Reply.Wanted.{Number, DataUpTo}
 use Rattle.rmt_wire.specs.Lent.{plain_reply}
 use Rattle.rmt_wire.specs.declared.limits.TheConstants.{READER_LIMIT}
 use Rattle.rmt_wire.specs.Number.{SpellsNumber}
@@ -15,38 +15,11 @@ use Rattle.rmt_wire.specs.ReplyFront.{kept_of}
 use Rattle.rmt_wire.specs.ReplyReader.{ReplyHeld, ReplyUnread, reply_taken_of, reply_told, ReplyIsNext, ReplyStaysFaulty}
 use Rattle.rmt_wire.specs.declared.reply.Reply.{Reply}
 use Rattle.rmt_wire.specs.declared.fault.WireFault.{WireFault}
+use Rattle.dump_run.specs.Run.{PlainRun}
+use Rattle.dump_run.specs.declared.count.VolumeCount.{VolumeCount}
 use Rattle.dump_client.specs.Listening.{IsReaderWaiting, IsReplyHeard, IsListened, is_more}
 use Rattle.dump_client.specs.declared.listen.Said.{Said}
 use Rattle.dump_client.specs.declared.listen.Listened.TheVariants as listened
-
--- one call of `next`, by what it answered
-pub next_none : (old new : ReplyHeld) (result : Result (Option Reply) WireFault) → ReplyIsNext old (reply_told result) new → result ≡ Ok None → (bytes : List ℕ) → ReplyUnread old (Some Number) bytes → IsReaderWaiting Number new bytes
-next_none old new result n e bytes u =
-    let m = subst (λ a. ReplyIsNext old (reply_told a) new) e n in
-    let w = m.continues (Some Number) bytes u in
-    let held : ReplyUnread new (Some Number) bytes = subst (ReplyUnread new (Some Number)) w.2.2 w.1 in
-    record { unread = held; begun = (w.2.0, w.2.1, refl); room = subst (λ l. length l < READER_LIMIT) (sym held.keeps) (m.room (Some Number) bytes held) }
-
-pub next_some : (old new : ReplyHeld) (result : Result (Option Reply) WireFault) (reply : Reply) → ReplyIsNext old (reply_told result) new → result ≡ Ok (Some reply) → (bytes : List ℕ) → ReplyUnread old (Some Number) bytes
-    → (rest : List ℕ) × ReplyUnread new None rest × ReplyGives (Some Number) bytes (Ok (Some (plain_reply reply))) rest
-next_some old new result reply n e bytes u = (subst (λ a. ReplyIsNext old (reply_told a) new) e n).continues (Some Number) bytes u
-
-pub next_fault : (old new : ReplyHeld) (fault : WireFault) (result : Result (Option Said) WireFault) → ReplyStaysFaulty old (Err fault) → IsErrAnd result (λ e. e ≡ fault) → (bytes : List ℕ) → ReplyUnread old (Some Number) bytes
-    → IsReplyHeard Number bytes result new
-next_fault old new fault (Ok answer) stays is bytes u = absurd is
-next_fault old new fault (Err e) stays is bytes u = λ more. subst (λ f. ReplyGives (Some Number) (bytes ++ more) (Err f) (bytes ++ more)) (sym is) (stays (Some Number) bytes more u)
-
--- what is spelled to one who waits for a number answers that
-pub spelled_answers : (text : List ℕ) (reply : PlainReply) → SpellsReply text reply Number → AnswersTo reply Number
-spelled_answers text (Done n) s = tt
-spelled_answers text (Data bytes) s = s
-spelled_answers text (Error n words) s = tt
-
--- a reader that waits takes some of a piece that is not empty
-pub push_some : (h : ReplyHeld) (bytes : List ℕ) (count len : ℕ) → IsReaderWaiting Number h bytes → count ≡ min len (READER_LIMIT - reply_taken_of (Some Number) bytes) → 0 < len → (0 < count) × (count ≤ len)
-push_some h bytes count len w e some =
-    let room : reply_taken_of (Some Number) bytes < READER_LIMIT = subst (λ l. length l < READER_LIMIT) w.unread.keeps w.room in
-    (omega arith, omega arith)
 
 -- the bytes so far and a piece of the rest
 piece_then : (bytes text part : List ℕ) (at count : ℕ) → part ≡ drop at text → (bytes ++ take at text) ++ take count part ≡ bytes ++ take (at + count) text
@@ -55,15 +28,6 @@ piece_then bytes text part at count same =
 
 piece_all : (bytes text : List ℕ) (at : ℕ) → (bytes ++ take at text) ++ drop at text ≡ bytes ++ text
 piece_all bytes text at = append_assoc bytes (take at text) (drop at text) ∙ ap (λ l. bytes ++ l) (take-append-drop at text)
-
--- what is heard of the bytes so far, with a piece of the rest
-pub so_far : (bytes text part : List ℕ) (at count : ℕ) (result : Result (Option Said) WireFault) (new : ReplyHeld) → part ≡ drop at text → IsReplyHeard Number ((bytes ++ take at text) ++ take count part) result new
-    → IsReplyHeard Number (bytes ++ take (at + count) text) result new
-so_far bytes text part at count result new same h = subst (λ b. IsReplyHeard Number b result new) (piece_then bytes text part at count same) h
-
--- none yet
-pub none_yet : (bytes : List ℕ) (result : Result (Option Said) WireFault) (new : ReplyHeld) → IsReplyHeard Number bytes result new → result ≡ Ok None → IsReaderWaiting Number new bytes
-none_yet bytes result new h e = subst (λ r. IsReplyHeard Number bytes r new) e h
 
 -- where bytes are unread, more follow the reply
 some_more : (rest later : List ℕ) → (rest ≡ [] → ⊥) → is_more (rest ++ later) ≡ true
@@ -81,33 +45,77 @@ rest_goes_on text at =
     let same : nat_lt at (length text) ≡ nat_lt 0 (length (drop at text)) = grind (arith, nat_tests) in
     same ∙ sym (goes_on (drop at text))
 
--- a reply comes, with bytes behind it that are unread
-pub reply_then : (bytes text : List ℕ) (at : ℕ) (result : Result (Option Said) WireFault) (s : Said) (new : ReplyHeld) (empty : Bool) → IsReplyHeard Number (bytes ++ take at text) result new → result ≡ Ok (Some s)
-    → ((rest : List ℕ) → ReplyUnread new None rest → (empty ≡ true) ↔ (rest ≡ [])) → empty ≡ false → IsListened Number (bytes ++ text) (listened.Reply s (not empty)) new
-reply_then bytes text at result s new empty h e seen some =
-    let more : not empty ≡ true = ap not some in
-    let w = subst (λ r. IsReplyHeard Number (bytes ++ take at text) r new) e h in
-    let whole : bytes ++ text ≡ w.2.0 ++ (w.1 ++ drop at text) =
-    sym (piece_all bytes text at) ∙ ap (λ l. l ++ drop at text) w.2.2 ∙ append_assoc w.2.0 w.1 (drop at text) in
-    let unread : w.1 ≡ [] → ⊥ = λ none. let full = (seen w.1 w.4).1 none in cc in
-    (w.0, w.1 ++ drop at text, (w.2.0, w.2.1, whole), w.3, more ∙ sym (some_more w.1 (drop at text) unread), λ none. absurd (cc))
+module _ (run : PlainRun) (counts : List VolumeCount) (wanted : Wanted) where
+  -- one call of `next`, by what it answered
+  pub next_none : (old new : ReplyHeld) (result : Result (Option Reply) WireFault) → ReplyIsNext old (reply_told result) new → result ≡ Ok None
+      → (bytes : List ℕ) → ReplyUnread old (Some wanted) bytes → IsReaderWaiting wanted new bytes
+  next_none old new result n e bytes u =
+      let m = subst (λ a. ReplyIsNext old (reply_told a) new) e n in
+      let w = m.continues (Some wanted) bytes u in
+      let held : ReplyUnread new (Some wanted) bytes = subst (ReplyUnread new (Some wanted)) w.2.2 w.1 in
+      record { unread = held; begun = (w.2.0, w.2.1, refl); room = subst (λ l. length l < READER_LIMIT) (sym held.keeps) (m.room (Some wanted) bytes held) }
 
--- a reply comes, and all of the bytes that were pushed are given
-pub reply_last : (bytes text : List ℕ) (at : ℕ) (result : Result (Option Said) WireFault) (s : Said) (new : ReplyHeld) (empty : Bool) → IsReplyHeard Number (bytes ++ take at text) result new → result ≡ Ok (Some s)
-    → ((rest : List ℕ) → ReplyUnread new None rest → (empty ≡ true) ↔ (rest ≡ [])) → empty ≡ true → IsListened Number (bytes ++ text) (listened.Reply s (nat_lt at (length text))) new
-reply_last bytes text at result s new empty h e seen full =
-    let w = subst (λ r. IsReplyHeard Number (bytes ++ take at text) r new) e h in
-    let whole : bytes ++ text ≡ w.2.0 ++ (w.1 ++ drop at text) =
-    sym (piece_all bytes text at) ∙ ap (λ l. l ++ drop at text) w.2.2 ∙ append_assoc w.2.0 w.1 (drop at text) in
-    let given : w.1 ≡ [] = (seen w.1 w.4).0 full in
-    (w.0, w.1 ++ drop at text, (w.2.0, w.2.1, whole), w.3, rest_goes_on text at ∙ ap (λ l. is_more (l ++ drop at text)) (sym given), λ last. subst (ReplyUnread new None) given w.4)
+  pub next_some : (old new : ReplyHeld) (result : Result (Option Reply) WireFault) (reply : Reply) → ReplyIsNext old (reply_told result) new
+      → result ≡ Ok (Some reply) → (bytes : List ℕ) → ReplyUnread old (Some wanted) bytes
+      → (rest : List ℕ) × ReplyUnread new None rest × ReplyGives (Some wanted) bytes (Ok (Some (plain_reply reply))) rest
+  next_some old new result reply n e bytes u = (subst (λ a. ReplyIsNext old (reply_told a) new) e n).continues (Some wanted) bytes u
 
--- a fault of the bytes so far is one of all of them
-pub noise : (bytes text : List ℕ) (at : ℕ) (result : Result (Option Said) WireFault) (fault : WireFault) (new : ReplyHeld) → IsReplyHeard Number (bytes ++ take at text) result new → result ≡ Err fault
-    → IsListened Number (bytes ++ text) listened.Noise new
-noise bytes text at result fault new h e =
-    let f = subst (λ r. IsReplyHeard Number (bytes ++ take at text) r new) e h in
-    (fault, subst (λ b. ReplyGives (Some Number) b (Err fault) b) (piece_all bytes text at) (f (drop at text)))
+  pub next_fault : (old new : ReplyHeld) (fault : WireFault) (result : Result (Option Said) WireFault) → ReplyStaysFaulty old (Err fault)
+      → IsErrAnd result (λ e. e ≡ fault) → (bytes : List ℕ) → ReplyUnread old (Some wanted) bytes
+      → IsReplyHeard run counts wanted bytes result new
+  next_fault old new fault (Ok answer) stays is bytes u = absurd is
+  next_fault old new fault (Err e) stays is bytes u = λ more. subst (λ f. ReplyGives (Some wanted) (bytes ++ more) (Err f) (bytes ++ more)) (sym is) (stays (Some wanted) bytes more u)
+
+  -- a reader that waits takes some of a piece that is not empty
+  pub push_some : (h : ReplyHeld) (bytes : List ℕ) (count len : ℕ) → IsReaderWaiting wanted h bytes
+      → count ≡ min len (READER_LIMIT - reply_taken_of (Some wanted) bytes) → 0 < len → (0 < count) × (count ≤ len)
+  push_some h bytes count len w e some =
+      let room : reply_taken_of (Some wanted) bytes < READER_LIMIT = subst (λ l. length l < READER_LIMIT) w.unread.keeps w.room in
+      (omega arith, omega arith)
+
+  -- what is heard of the bytes so far, with a piece of the rest
+  pub so_far : (bytes text part : List ℕ) (at count : ℕ) (result : Result (Option Said) WireFault) (new : ReplyHeld) → part ≡ drop at text
+      → IsReplyHeard run counts wanted ((bytes ++ take at text) ++ take count part) result new
+      → IsReplyHeard run counts wanted (bytes ++ take (at + count) text) result new
+  so_far bytes text part at count result new same h = subst (λ b. IsReplyHeard run counts wanted b result new) (piece_then bytes text part at count same) h
+
+  -- none yet
+  pub none_yet : (bytes : List ℕ) (result : Result (Option Said) WireFault) (new : ReplyHeld) → IsReplyHeard run counts wanted bytes result new
+      → result ≡ Ok None → IsReaderWaiting wanted new bytes
+  none_yet bytes result new h e = subst (λ r. IsReplyHeard run counts wanted bytes r new) e h
+
+  -- a reply comes, with bytes after it that are unread
+  pub reply_then : (bytes text : List ℕ) (at : ℕ) (result : Result (Option Said) WireFault) (s : Said) (new : ReplyHeld) (empty : Bool)
+      → IsReplyHeard run counts wanted (bytes ++ take at text) result new → result ≡ Ok (Some s)
+      → ((rest : List ℕ) → ReplyUnread new None rest → (empty ≡ true) ↔ (rest ≡ [])) → empty ≡ false
+      → IsListened run counts wanted (bytes ++ text) (listened.Reply s (not empty)) new
+  reply_then bytes text at result s new empty h e seen some =
+      let more : not empty ≡ true = ap not some in
+      let w = subst (λ r. IsReplyHeard run counts wanted (bytes ++ take at text) r new) e h in
+      let whole : bytes ++ text ≡ w.2.0 ++ (w.1 ++ drop at text) =
+      sym (piece_all bytes text at) ∙ ap (λ l. l ++ drop at text) w.2.2 ∙ append_assoc w.2.0 w.1 (drop at text) in
+      let unread : w.1 ≡ [] → ⊥ = λ none. let full = (seen w.1 w.4).1 none in cc in
+      (w.0, w.1 ++ drop at text, (w.2.0, w.2.1, whole), w.3, more ∙ sym (some_more w.1 (drop at text) unread), λ none. absurd (cc))
+
+  -- a reply comes, and all of the bytes that were pushed are given
+  pub reply_last : (bytes text : List ℕ) (at : ℕ) (result : Result (Option Said) WireFault) (s : Said) (new : ReplyHeld) (empty : Bool)
+      → IsReplyHeard run counts wanted (bytes ++ take at text) result new → result ≡ Ok (Some s)
+      → ((rest : List ℕ) → ReplyUnread new None rest → (empty ≡ true) ↔ (rest ≡ [])) → empty ≡ true
+      → IsListened run counts wanted (bytes ++ text) (listened.Reply s (nat_lt at (length text))) new
+  reply_last bytes text at result s new empty h e seen full =
+      let w = subst (λ r. IsReplyHeard run counts wanted (bytes ++ take at text) r new) e h in
+      let whole : bytes ++ text ≡ w.2.0 ++ (w.1 ++ drop at text) =
+      sym (piece_all bytes text at) ∙ ap (λ l. l ++ drop at text) w.2.2 ∙ append_assoc w.2.0 w.1 (drop at text) in
+      let given : w.1 ≡ [] = (seen w.1 w.4).0 full in
+      (w.0, w.1 ++ drop at text, (w.2.0, w.2.1, whole), w.3, rest_goes_on text at ∙ ap (λ l. is_more (l ++ drop at text)) (sym given), λ last. subst (ReplyUnread new None) given w.4)
+
+  -- a fault of the bytes so far is one of all of them
+  pub noise : (bytes text : List ℕ) (at : ℕ) (result : Result (Option Said) WireFault) (fault : WireFault) (new : ReplyHeld)
+      → IsReplyHeard run counts wanted (bytes ++ take at text) result new → result ≡ Err fault
+      → IsListened run counts wanted (bytes ++ text) listened.Noise new
+  noise bytes text at result fault new h e =
+      let f = subst (λ r. IsReplyHeard run counts wanted (bytes ++ take at text) r new) e h in
+      (fault, subst (λ b. ReplyGives (Some wanted) b (Err fault) b) (piece_all bytes text at) (f (drop at text)))
 
 -- where nothing came yet
 kept_none : kept_of [] ≡ []
@@ -117,14 +125,15 @@ kept_none = refl
 zero_digit : SpellsNumber (48 ∷ []) 0
 zero_digit = search rules
 
-no_reply_in_nothing : ReplyHasNoSpelling Number []
-no_reply_in_nothing text rest (Done n) e (number, spelled, is) = absurd (cc)
-no_reply_in_nothing text rest (Data bytes) e s = absurd s
-no_reply_in_nothing text rest (Error n words) e s = let is = s.5 in absurd (cc)
+no_reply_in_nothing : (wanted : Wanted) → ReplyHasNoSpelling wanted []
+no_reply_in_nothing Number text rest (Done n) e s = let is = s.2 in absurd cc
+no_reply_in_nothing (DataUpTo most) text rest (Data bytes) e s = let is = s.3 in absurd cc
+no_reply_in_nothing wanted text rest (Error n words) e s = let is = s.5 in absurd cc
+no_reply_in_nothing wanted text rest reply e s = absurd s
 
-pub waiting_anew : (h : ReplyHeld) → ReplyUnread h (Some Number) [] → IsReaderWaiting Number h []
-waiting_anew h u = record {
+pub waiting_anew : (wanted : Wanted) (h : ReplyHeld) → ReplyUnread h (Some wanted) [] → IsReaderWaiting wanted h []
+waiting_anew wanted h u = record {
   unread = u;
-  begun = ((65 ∷ 48 ∷ 10 ∷ [], Done 0, (48 ∷ [], zero_digit, refl)), no_reply_in_nothing, refl);
+  begun = ((69 ∷ 48 ∷ 10 ∷ 10 ∷ [], Error 0 [], (48 ∷ [], [], zero_digit, tt, refl, refl)), no_reply_in_nothing wanted, refl);
   room = let none : length h.kept ≡ 0 = ap (length {A = ℕ}) (u.keeps ∙ kept_none) in omega arith;
 }

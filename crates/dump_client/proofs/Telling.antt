@@ -11,16 +11,18 @@ use Rattle.dump_client.specs.declared.outcome.Outcome.TheVariants.{GoesOn, Fails
 use Rattle.dump_client.specs.declared.stage.Progress.{Progress}
 use Rattle.dump_client.specs.declared.stage.Progress.TheVariants as moved
 use Rattle.dump_client.specs.declared.stage.Stage.{Stage}
-use Rattle.dump_client.specs.declared.stage.Stage.TheVariants.{Ready, ToSend, Waiting, Asking, Finished, Abandoned}
+use Rattle.dump_client.specs.declared.stage.Stage.TheVariants.{Ready, ToSend, Waiting, Asking, Finished}
 use Rattle.dump_client.specs.declared.step.Step.{Step}
 use Rattle.dump_client.specs.declared.step.Step.TheVariants.{Close}
 
 -- it tells this, and stands there
-stands : (old new : Standing) (progress tells : Progress) (run : PlainRun) (counts : List VolumeCount) (stage : Stage) → progress ≡ tells → new ≡ standing run counts stage
+stands : (old new : Standing) (progress tells : Progress) (run : PlainRun) (counts : List VolumeCount) (stage : Stage) → progress ≡ tells
+    → new ≡ standing run counts stage
     → StandsAfter old tells (standing run counts stage) → StandsAfter old progress new
 stands old new progress tells run counts stage told is there = subst (λ p. StandsAfter old p new) (sym told) (subst (StandsAfter old tells) (sym is) there)
 
-over_stands : (old new : Standing) (progress : Progress) (run : PlainRun) (counts : List VolumeCount) → progress ≡ moved.Ended → IsOver run counts new → StandsAfter old progress new
+over_stands : (old new : Standing) (progress : Progress) (run : PlainRun) (counts : List VolumeCount) → progress ≡ moved.Ended
+    → IsOver run counts new → StandsAfter old progress new
 over_stands old new progress run counts told (inl (covers, is)) = stands old new progress moved.Ended run counts Finished told is (inl refl)
 over_stands old new progress run counts told (inr (left, is)) = stands old new progress moved.Ended run counts Ready told is (inr refl)
 
@@ -36,7 +38,8 @@ becomes_stands old new Ended more progress (tells, over) = over_stands old new p
 same_stands : (old new : Standing) (progress tells : Progress) → progress ≡ tells → new ≡ old → StandsAfter old tells old → StandsAfter old progress new
 same_stands old new progress tells told is there = subst (λ p. StandsAfter old p new) (sym told) (subst (StandsAfter old tells) (sym is) there)
 
-made_stands : (old new : Standing) (step : Step) (bytes : List ℕ) (seen : Result (Option PlainReply) WireFault) (rest : List ℕ) (progress : Progress) → old.stage ≡ Waiting step
+made_stands : (old new : Standing) (step : Step) (bytes : List ℕ) (seen : Result (Option PlainReply) WireFault) (rest : List ℕ) (progress : Progress)
+    → old.stage ≡ Waiting step
     → Makes old step bytes seen rest progress new → StandsAfter old progress new
 made_stands old new step bytes (Ok None) rest progress at (tells, is) = same_stands old new progress moved.Waiting tells is (step, at)
 made_stands old new step bytes (Ok (Some reply)) rest progress at hears = becomes_stands old new _ _ progress hears
@@ -51,10 +54,7 @@ fed_at : (stage : Stage) (old new : Standing) (bytes piece : List ℕ) (progress
 fed_at (ToSend step) old new bytes piece progress at (inl (none, tells, is)) = same_stands old new progress moved.Send tells is (step, at)
 fed_at (ToSend step) old new bytes piece progress at (inr (some, hears)) = becomes_stands old new _ _ progress hears
 fed_at (Waiting step) old new bytes piece progress at (seen, rest, gives, made) = made_stands old new step (bytes ++ piece) seen rest progress at made
-fed_at Ready old new bytes piece progress at (tells, is) = same_stands old new progress moved.Idle tells is (rests old Ready at (λ step. (λ e. cc, λ e. cc)))
-fed_at Asking old new bytes piece progress at (tells, is) = same_stands old new progress moved.Idle tells is (rests old Asking at (λ step. (λ e. cc, λ e. cc)))
-fed_at Finished old new bytes piece progress at (tells, is) = same_stands old new progress moved.Idle tells is (rests old Finished at (λ step. (λ e. cc, λ e. cc)))
-fed_at Abandoned old new bytes piece progress at (tells, is) = same_stands old new progress moved.Idle tells is (rests old Abandoned at (λ step. (λ e. cc, λ e. cc)))
+fed_at stage old new bytes piece progress at h = same_stands old new progress moved.Idle h.0 h.1 (rests old stage at (λ step. (λ e. cc, λ e. cc)))
 
 pub fed_stands : (old new : Standing) (bytes piece : List ℕ) (progress : Progress) → FedAt old.stage old bytes piece progress new → StandsAfter old progress new
 fed_stands old new bytes piece progress fed = fed_at old.stage old new bytes piece progress refl fed
@@ -62,10 +62,7 @@ fed_stands old new bytes piece progress fed = fed_at old.stage old new bytes pie
 cut_at : (stage : Stage) (old new : Standing) (progress : Progress) → old.stage ≡ stage → CutAt stage old progress new → StandsAfter old progress new
 cut_at (ToSend step) old new progress at hears = becomes_stands old new _ _ progress hears
 cut_at (Waiting step) old new progress at hears = becomes_stands old new _ _ progress hears
-cut_at Ready old new progress at (tells, is) = same_stands old new progress moved.Idle tells is (rests old Ready at (λ step. (λ e. cc, λ e. cc)))
-cut_at Asking old new progress at (tells, is) = same_stands old new progress moved.Idle tells is (rests old Asking at (λ step. (λ e. cc, λ e. cc)))
-cut_at Finished old new progress at (tells, is) = same_stands old new progress moved.Idle tells is (rests old Finished at (λ step. (λ e. cc, λ e. cc)))
-cut_at Abandoned old new progress at (tells, is) = same_stands old new progress moved.Idle tells is (rests old Abandoned at (λ step. (λ e. cc, λ e. cc)))
+cut_at stage old new progress at (tells, is) = same_stands old new progress moved.Idle tells is (rests old stage at (λ step. (λ e. cc, λ e. cc)))
 
 pub cut_stands : (old new : Standing) (progress : Progress) → CutAt old.stage old progress new → StandsAfter old progress new
 cut_stands old new progress cut = cut_at old.stage old new progress refl cut

@@ -9,6 +9,9 @@ use Rattle.dump_run.specs.Run.{PlainRun}
 use Rattle.dump_client.specs.Client.{IsShapedAs}
 use Rattle.dump_client.specs.declared.step.Step.{Step}
 use Rattle.dump_client.specs.declared.step.Step.TheVariants as steps
+use Rattle.dump_client.specs.declared.step.TapeOp.{TapeOp}
+use Rattle.dump_client.specs.declared.step.TapeOp.TheVariants.{Rewind}
+use Rattle.dump_client.specs.Script.{number_of}
 
 ten_digits : (n : ℕ) → n ≤ 2147483647 → length (decimal n) ≤ 10
 ten_digits n small = length-decimal-le 10 n (omega arith) (omega arith) (omega arith)
@@ -38,14 +41,17 @@ write_shaped : (request : PlainRequest) (bytes : List ℕ) → request ≡ Write
 write_shaped request bytes same is =
     subst (λ r. IsTextOf (request_text r) r → HasSpelling r) (sym same) (λ text. write_spelled _ bytes (text [] refl)) is
 
+pub small_op : (op : TapeOp) → number_of op ≤ 7
+small_op Rewind = omega arith
+small_op op = omega arith
+
 shaped : (run : PlainRun) (at : ℕ × ℕ) (step : Step) (request : PlainRequest) → IsShapedAs run at step request → IsTextOf (request_text request) request → HasSpelling request
 shaped run at steps.Open request same is =
     subst (λ r. IsTextOf (request_text r) r → HasSpelling r) (sym same) (λ text. open_spelled _ run.device (text [] refl)) is
-shaped run at steps.Rewind request same is = subst HasSpelling (sym same) (omega arith, omega arith)
+shaped run at (steps.Operation op) request same is = subst HasSpelling (sym same) (let small = small_op op in omega arith, omega arith)
+shaped run at steps.Look request same is = subst HasSpelling (sym same) (omega arith)
 shaped run at steps.Label request same is = write_shaped request _ same is
 shaped run at (steps.Block n) request same is = write_shaped request same.0 same.1 is
-shaped run at (steps.Mark n) request same is = subst HasSpelling (sym same) (omega arith, omega arith)
-shaped run at (steps.Unload n) request same is = subst HasSpelling (sym same) (omega arith, omega arith)
 shaped run at steps.Close request same is = subst HasSpelling (sym same) tt
 
 pub short_request : (run : PlainRun) (at : ℕ × ℕ) (step : Step) (request : PlainRequest) → IsShapedAs run at step request → IsTextOf (request_text request) request

@@ -10,7 +10,9 @@ use Rattle.dump_client.specs.Script.{IsCount, request_of}
 use Rattle.dump_client.specs.Position.{Covers, Position, CountsVolume, after_reply}
 use Rattle.dump_client.specs.Standing.{Standing, checkpoint_of, counted_to}
 use Rattle.dump_client.specs.declared.step.Step.{Step}
-use Rattle.dump_client.specs.declared.step.Step.TheVariants.{Open, Rewind, Label, Block, Mark, Unload, Close}
+use Rattle.dump_client.specs.declared.step.Step.TheVariants.{Open, Operation, Look, Label, Block, Close}
+use Rattle.dump_client.specs.declared.step.TapeOp.{TapeOp}
+use Rattle.dump_client.specs.declared.step.TapeOp.TheVariants.{Rewind, RewindAgain, Mark, Unload}
 use Rattle.dump_client.specs.declared.outcome.Outcome.{Outcome}
 use Rattle.dump_client.specs.declared.outcome.Outcome.TheVariants.{GoesOn, Fails, Counted, Ended}
 use Rattle.dump_client.specs.declared.stage.Stage.{Stage}
@@ -21,13 +23,20 @@ use Rattle.dump_run.specs.declared.count.VolumeCount.{VolumeCount}
 abbrev pub IsRunLeft : PlainRun → List VolumeCount → Type 0
 IsRunLeft run counts = (counts ≡ []) ⊎ ((checkpoint_of counts).1 < run.blocks)
 
--- the step is one of the volume that begins at this block; the close comes after a count
+-- the volume at the checkpoint can end before this block
+abbrev pub IsEnd : PlainRun → List VolumeCount → ℕ → Type 0
+IsEnd run counts next = ((checkpoint_of counts).1 ≤ next) × IsCount run (checkpoint_of counts).1 (next - (checkpoint_of counts).1)
+
+-- the mark and MTOFFL say where the volume ends
+abbrev pub OpFits : PlainRun → List VolumeCount → TapeOp → Type 0
+OpFits run counts (Mark next) = IsEnd run counts next
+OpFits run counts (Unload next) = IsEnd run counts next
+OpFits run counts op = Unit {0}
+
+-- the step is one of the volume at the checkpoint; the close comes after a count
 abbrev pub StepFits : PlainRun → List VolumeCount → Step → Type 0
+StepFits run counts (Operation op) = IsRunLeft run counts × OpFits run counts op
 StepFits run counts (Block number) = IsRunLeft run counts × ((checkpoint_of counts).1 ≤ number) × (number < run.blocks)
-StepFits run counts (Mark next) =
-    IsRunLeft run counts × ((checkpoint_of counts).1 ≤ next) × IsCount run (checkpoint_of counts).1 (next - (checkpoint_of counts).1)
-StepFits run counts (Unload next) =
-    IsRunLeft run counts × ((checkpoint_of counts).1 ≤ next) × IsCount run (checkpoint_of counts).1 (next - (checkpoint_of counts).1)
 StepFits run counts Close = 0 < length counts
 StepFits run counts step = IsRunLeft run counts
 
@@ -54,7 +63,7 @@ RoomFits stage room = Unit {0}
 abbrev pub OutcomeFits : PlainRun → List VolumeCount → ℕ → Outcome → Type 0
 OutcomeFits run counts room (GoesOn step) = IsRunLeft run counts × StepFits run counts step × (0 < room)
 OutcomeFits run counts room (Fails fault) = IsRunLeft run counts
-OutcomeFits run counts room (Counted next) = StepFits run counts (Unload next) × (0 < room)
+OutcomeFits run counts room (Counted next) = StepFits run counts (Operation (Unload next)) × (0 < room)
 OutcomeFits run counts room Ended = 0 < length counts
 
 -- the blocks from this one on
@@ -62,20 +71,26 @@ abbrev pub blocks_from : ℕ → ℕ → List Step
 blocks_from first zero = []
 blocks_from first (suc count) = Block first ∷ blocks_from (suc first) count
 
--- what is sent before a mark: the open, the rewind, the label, the blocks up to `next`, and the one that was refused, if any is left
+-- what is sent before a block: the open, the look at the first record between two rewinds, the label, and the blocks up to it
+abbrev pub steps_to_block : ℕ → ℕ → List Step
+steps_to_block first number =
+    Open ∷ Operation Rewind ∷ Look ∷ Operation RewindAgain ∷ Label ∷ blocks_from first (number - first)
+
+-- what is sent before a mark: the blocks up to `next`, and the one that was refused, if any is left
 abbrev pub steps_to : PlainRun → ℕ → ℕ → List Step
-steps_to run first next =
-    Open ∷ Rewind ∷ Label ∷ (blocks_from first (next - first) ++ (if nat_lt next run.blocks then Block next ∷ [] else []))
+steps_to run first next = steps_to_block first next ++ (if nat_lt next run.blocks then Block next ∷ [] else [])
 
 -- what is sent before a step of the volume that begins at `first`; a close follows the mark of a volume that ends before `next`
 abbrev pub steps_before : PlainRun → ℕ → ℕ → Step → List Step
 steps_before run first next Open = []
-steps_before run first next Rewind = Open ∷ []
-steps_before run first next Label = Open ∷ Rewind ∷ []
-steps_before run first next (Block number) = Open ∷ Rewind ∷ Label ∷ blocks_from first (number - first)
-steps_before run first next (Mark end) = steps_to run first end
-steps_before run first next (Unload end) = steps_to run first end ++ Mark end ∷ []
-steps_before run first next Close = steps_to run first next ++ Mark next ∷ Unload next ∷ []
+steps_before run first next (Operation Rewind) = Open ∷ []
+steps_before run first next Look = Open ∷ Operation Rewind ∷ []
+steps_before run first next (Operation RewindAgain) = Open ∷ Operation Rewind ∷ Look ∷ []
+steps_before run first next Label = Open ∷ Operation Rewind ∷ Look ∷ Operation RewindAgain ∷ []
+steps_before run first next (Block number) = steps_to_block first number
+steps_before run first next (Operation (Mark end)) = steps_to run first end
+steps_before run first next (Operation (Unload end)) = steps_to run first end ++ Operation (Mark end) ∷ []
+steps_before run first next Close = steps_to run first next ++ Operation (Mark next) ∷ Operation (Unload next) ∷ []
 
 -- the counts as they were when the attempt began: at the close its own is the last
 abbrev pub counts_before : Step → List VolumeCount → List VolumeCount
@@ -109,14 +124,14 @@ AsksAtCheckpoint run payload counts =
 abbrev pub SendsNext : PlainRun → List (List ℕ) → List VolumeCount → Type 0
 SendsNext run payload counts =
     (step next : Step) (reply : PlainReply) → StepFits run counts step
-    → after_reply run (checkpoint_of counts).1 step reply ≡ GoesOn next
+    → after_reply run counts (checkpoint_of counts).1 step reply ≡ GoesOn next
     → sent_before run payload counts next ≡ sent_with run payload counts step
 
 -- so also at the close, where the reply counts the volume
 abbrev pub SendsLast : PlainRun → List (List ℕ) → List VolumeCount → Type 0
 SendsLast run payload counts =
     (step : Step) (end : ℕ) (reply : PlainReply) → StepFits run counts step
-    → after_reply run (checkpoint_of counts).1 step reply ≡ Counted end
+    → after_reply run counts (checkpoint_of counts).1 step reply ≡ Counted end
     → sent_before run payload (counted_to counts end) Close ≡ sent_with run payload counts step
 
 -- the volume is counted at the close, as the last of the counts, and nowhere before

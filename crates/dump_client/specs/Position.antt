@@ -1,21 +1,24 @@
 -- Where an attempt stands: what was sent, the replies that came, and what comes next. Public contracts cite it.
-use Rattle.std.specs.Prelude.{◌≡◌, ◌⊎◌, ℕ, ◌+◌, ◌<◌, ◌≤◌, ◌==◌, if◌then◌else◌, nat_lt, List, [], ◌∷◌, ◌++◌, length, map, take, Contains}
+use Rattle.std.specs.Prelude.{◌≡◌, ◌⊎◌, ℕ, ◌+◌, ◌<◌, ◌≤◌, ◌==◌, if◌then◌else◌, nat_lt, List, [], ◌∷◌, ◌++◌, length, map, take, Contains, Option, Some, None}
 use Rattle.rmt_wire.specs.Request.{PlainRequest}
 use Rattle.rmt_wire.specs.Request.PlainRequest.{Op}
-use Rattle.rmt_wire.specs.Reply.{PlainReply}
+use Rattle.rmt_wire.specs.Reply.{PlainReply, AnswersTo, data_length}
 use Rattle.rmt_wire.specs.Reply.PlainReply.{Done, Data, Error}
 use Rattle.rmt_wire.specs.declared.errno.TheConstants.{ENOSPC}
 use Rattle.rmt_wire.specs.declared.mtio.TheConstants.{MTOFFL}
 use Rattle.dump_run.specs.Run.{PlainRun}
+use Rattle.dump_run.specs.declared.count.VolumeCount.{VolumeCount}
 pub use Rattle.dump_run.specs.Counts.{CoversFrom, Covers}
-use Rattle.dump_run.specs.Label.{label_bytes}
-use Rattle.dump_client.specs.Script.{Wish, Grants, IsCount, script}
-use Rattle.dump_client.specs.Script.Wish.{AnyNumber, Number, NoRoom, Anything}
+use Rattle.dump_run.specs.Label.{label, label_bytes}
+use Rattle.dump_client.specs.Script.{Wish, Grants, IsCount, wanted_of, counted_label, script}
+use Rattle.dump_client.specs.Script.Wish.{AnyNumber, Number, NoRoom, OtherLabel, Anything}
 use Rattle.dump_client.specs.declared.step.Step.{Step}
-use Rattle.dump_client.specs.declared.step.Step.TheVariants.{Open, Rewind, Label, Block, Mark, Unload, Close}
+use Rattle.dump_client.specs.declared.step.Step.TheVariants.{Open, Operation, Look, Label, Block, Close}
+use Rattle.dump_client.specs.declared.step.TapeOp.{TapeOp}
+use Rattle.dump_client.specs.declared.step.TapeOp.TheVariants.{Rewind, RewindAgain, Mark, Unload}
 use Rattle.dump_client.specs.declared.outcome.Outcome.{Outcome}
 use Rattle.dump_client.specs.declared.outcome.Outcome.TheVariants.{GoesOn, Fails, Counted, Ended}
-use Rattle.dump_client.specs.declared.fault.AttemptFault.TheVariants.{Refused, Botched, ConnectionEnded, ShortWrite, ReelTooSmall}
+use Rattle.dump_client.specs.declared.fault.AttemptFault.TheVariants.{Refused, Botched, ConnectionEnded, ShortWrite, ReelTooSmall, CountedReel}
 
 -- What was sent begins the script of a volume of so many blocks, and so many wanted replies to it came. At most one request has no
 -- reply yet.
@@ -44,21 +47,27 @@ IsBelow run step = Unit {0}
 
 -- the next block, or the mark where none is left
 abbrev pub block_or_mark : PlainRun → ℕ → Step
-block_or_mark run number = if nat_lt number run.blocks then Block number else Mark number
+block_or_mark run number = if nat_lt number run.blocks then Block number else Operation (Mark number)
 
--- the order of the requests; with the reply to MTOFFL the volume is counted, up to the first block that is not written
+-- what follows an operation; with the reply to MTOFFL the volume is counted, up to the first block that is not written
+abbrev pub after_done : TapeOp → Outcome
+after_done Rewind = GoesOn Look
+after_done RewindAgain = GoesOn Label
+after_done (Mark next) = GoesOn (Operation (Unload next))
+after_done (Unload next) = Counted next
+
+-- the order of the requests
 abbrev pub after_step : PlainRun → ℕ → Step → Outcome
-after_step run first Open = GoesOn Rewind
-after_step run first Rewind = GoesOn Label
+after_step run first Open = GoesOn (Operation Rewind)
+after_step run first (Operation op) = after_done op
+after_step run first Look = GoesOn (Operation RewindAgain)
 after_step run first Label = GoesOn (block_or_mark run first)
 after_step run first (Block number) = GoesOn (block_or_mark run (number + 1))
-after_step run first (Mark next) = GoesOn (Unload next)
-after_step run first (Unload next) = Counted next
 after_step run first Close = Ended
 
 -- no room for the label, or for a block: the reel's end, once a block was written
 abbrev pub at_end_of_reel : ℕ → Step → Outcome
-at_end_of_reel first (Block number) = if nat_lt first number then GoesOn (Mark number) else Fails ReelTooSmall
+at_end_of_reel first (Block number) = if nat_lt first number then GoesOn (Operation (Mark number)) else Fails ReelTooSmall
 at_end_of_reel first step = Fails ReelTooSmall
 
 -- a number in reply to a write of so many bytes
@@ -75,11 +84,10 @@ after_op run first step n = if n == 1 then after_step run first step else Fails 
 -- what a number in reply to a step leads to
 abbrev pub after_number : PlainRun → ℕ → Step → ℕ → Outcome
 after_number run first Open n = after_step run first Open
-after_number run first Rewind n = after_op run first Rewind n
+after_number run first (Operation op) n = after_op run first (Operation op) n
+after_number run first Look n = Fails Botched
 after_number run first Label n = after_write run first Label label_bytes n
 after_number run first (Block number) n = after_write run first (Block number) run.block_bytes n
-after_number run first (Mark next) n = after_op run first (Mark next) n
-after_number run first (Unload next) n = after_op run first (Unload next) n
 after_number run first Close n = Ended
 
 -- an error in reply to a write
@@ -103,38 +111,67 @@ abbrev pub after_end : Step → Outcome
 after_end Close = Ended
 after_end step = Fails ConnectionEnded
 
--- what a reply to a step leads to; data are none that anyone waits for
-abbrev pub after_reply : PlainRun → ℕ → Step → PlainReply → Outcome
-after_reply run first step (Done n) = after_number run first step n
-after_reply run first step (Data bytes) = after_noise step
-after_reply run first step (Error n text) = after_error first step n
+-- what the look shows: the label of this volume, which is counted, or of no counted one
+abbrev pub after_label : PlainRun → ℕ → Option ℕ → Outcome
+after_label run first None = after_step run first Look
+after_label run first (Some volume) = Fails (CountedReel volume)
+
+-- the bytes of a record in reply to a step: the look alone waits for them
+abbrev pub after_data : PlainRun → List VolumeCount → ℕ → Step → List ℕ → Outcome
+after_data run counts first Look bytes = after_label run first (counted_label run counts bytes)
+after_data run counts first step bytes = after_noise step
+
+-- what a reply to a step leads to, where these volumes of the run are counted
+abbrev pub after_reply : PlainRun → List VolumeCount → ℕ → Step → PlainReply → Outcome
+after_reply run counts first step (Done n) = after_number run first step n
+after_reply run counts first step (Data bytes) = after_data run counts first step bytes
+after_reply run counts first step (Error n text) = after_error first step n
 
 -- what a client hears at a step, which it waits for the reply to or has still to send
-abbrev pub outcome : PlainRun → ℕ → Step → Heard → Outcome
-outcome run first step (Reply reply) = after_reply run first step reply
-outcome run first step Noise = after_noise step
-outcome run first step End = after_end step
+abbrev pub outcome : PlainRun → List VolumeCount → ℕ → Step → Heard → Outcome
+outcome run counts first step (Reply reply) = after_reply run counts first step reply
+outcome run counts first step Noise = after_noise step
+outcome run counts first step End = after_end step
 
 -- what the wanted reply to a step leads to, where the first of these follows it: to the close, that the volume is counted
 abbrev pub leads_to : Step → Step → Outcome
-leads_to Close (Unload next) = Counted next
+leads_to Close (Operation (Unload next)) = Counted next
 leads_to following step = GoesOn following
 
 -- each reply that is wanted leads to the next step, that to MTOFFL to the count, and the last one to the end
-abbrev pub RepliesFollow : PlainRun → ℕ → List (Step × Wish) → Type 0
-RepliesFollow run first [] = Unit {0}
-RepliesFollow run first (s ∷ []) = (reply : PlainReply) → Grants s.1 reply → after_reply run first s.0 reply ≡ Ended
-RepliesFollow run first (s ∷ t ∷ steps) =
-    ((reply : PlainReply) → Grants s.1 reply → after_reply run first s.0 reply ≡ leads_to t.0 s.0) × RepliesFollow run first (t ∷ steps)
+abbrev pub RepliesFollow : PlainRun → List VolumeCount → ℕ → List (Step × Wish) → Type 0
+RepliesFollow run counts first [] = Unit {0}
+RepliesFollow run counts first (s ∷ []) =
+    (reply : PlainReply) → Grants run counts s.1 reply → after_reply run counts first s.0 reply ≡ Ended
+RepliesFollow run counts first (s ∷ t ∷ steps) =
+    ((reply : PlainReply) → Grants run counts s.1 reply → after_reply run counts first s.0 reply ≡ leads_to t.0 s.0)
+    × RepliesFollow run counts first (t ∷ steps)
 
 -- the replies that are wanted at a step; at a block also that there is no room, once one was written
-abbrev pub IsWantedAt : PlainRun → ℕ → Step → PlainReply → Type 0
-IsWantedAt run first Open reply = Grants AnyNumber reply
-IsWantedAt run first Label reply = Grants (Number label_bytes) reply
-IsWantedAt run first (Block number) reply = Grants (Number run.block_bytes) reply ⊎ ((first < number) × Grants NoRoom reply)
-IsWantedAt run first Close reply = Grants Anything reply
-IsWantedAt run first step reply = Grants (Number 1) reply
+abbrev pub IsWantedAt : PlainRun → List VolumeCount → ℕ → Step → PlainReply → Type 0
+IsWantedAt run counts first Open reply = Grants run counts AnyNumber reply
+IsWantedAt run counts first (Operation op) reply = Grants run counts (Number 1) reply
+IsWantedAt run counts first Look reply = Grants run counts OtherLabel reply
+IsWantedAt run counts first Label reply = Grants run counts (Number label_bytes) reply
+IsWantedAt run counts first (Block number) reply =
+    Grants run counts (Number run.block_bytes) reply ⊎ ((first < number) × Grants run counts NoRoom reply)
+IsWantedAt run counts first Close reply = Grants run counts Anything reply
+
+-- A reply that is wanted at a step, of no more bytes than a label has, is of the kind that is waited for there. The close wants any.
+abbrev pub CanBeHeard : PlainRun → List VolumeCount → ℕ → Step → PlainReply → Type 0
+CanBeHeard run counts first Close reply = Unit {0}
+CanBeHeard run counts first step reply =
+    IsWantedAt run counts first step reply → data_length reply ≤ label_bytes → AnswersTo reply (wanted_of step)
 
 abbrev pub IsFailure : Outcome → Type 0
 IsFailure (Fails fault) = Unit {0}
 IsFailure outcome = ⊥
+
+-- the look at this reply fails by the label of that volume
+abbrev pub FailsAsCounted : PlainRun → List VolumeCount → ℕ → ℕ → PlainReply → Type 0
+FailsAsCounted run counts first volume reply = after_reply run counts first Look reply ≡ Fails (CountedReel volume)
+
+-- the reply is the label of a volume that is counted
+abbrev pub ShowsCounted : PlainRun → List VolumeCount → ℕ → PlainReply → Type 0
+ShowsCounted run counts volume reply =
+    (c : VolumeCount) × Contains counts c × (c.volume ≡ volume) × (reply ≡ Data (label run c.volume c.first))

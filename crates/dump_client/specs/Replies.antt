@@ -2,55 +2,58 @@
 use Rattle.std.specs.Prelude.{◌≡◌, ◌⊎◌, ℕ, ◌+◌, ◌-◌, ◌<◌, ◌≤◌, List, [], ◌∷◌, ◌++◌, length, map}
 use Rattle.rmt_wire.specs.Reply.{PlainReply}
 use Rattle.dump_run.specs.Run.{PlainRun}
+use Rattle.dump_run.specs.declared.count.VolumeCount.{VolumeCount}
 use Rattle.dump_client.specs.Script.{Wish, Grants, IsCount, steps_of}
 use Rattle.dump_client.specs.Position.{after_reply}
 use Rattle.dump_client.specs.Lawful.{steps_before}
 use Rattle.dump_client.specs.declared.step.Step.{Step}
-use Rattle.dump_client.specs.declared.step.Step.TheVariants.{Open, Mark, Unload, Close}
+use Rattle.dump_client.specs.declared.step.Step.TheVariants.{Open, Operation, Close}
+use Rattle.dump_client.specs.declared.step.TapeOp.TheVariants.{Mark, Unload}
 use Rattle.dump_client.specs.declared.outcome.Outcome.{Outcome}
 use Rattle.dump_client.specs.declared.outcome.Outcome.TheVariants.{GoesOn, Counted}
 
--- where replies lead: each is heard at the step that those before it led to, and behind the count at the close
-abbrev pub led_on : PlainRun → ℕ → Outcome → List PlainReply → Outcome
-led_on run first from [] = from
-led_on run first (GoesOn step) (reply ∷ replies) = led_on run first (after_reply run first step reply) replies
-led_on run first (Counted next) (reply ∷ replies) = led_on run first (after_reply run first Close reply) replies
-led_on run first from (reply ∷ replies) = from
+-- Where replies lead, in an attempt that begins with these counts: each is heard at the step that those before it led to, and after
+-- the count at the close.
+abbrev pub led_on : PlainRun → List VolumeCount → ℕ → Outcome → List PlainReply → Outcome
+led_on run had first from [] = from
+led_on run had first (GoesOn step) (reply ∷ replies) = led_on run had first (after_reply run had first step reply) replies
+led_on run had first (Counted next) (reply ∷ replies) = led_on run had first (after_reply run had first Close reply) replies
+led_on run had first from (reply ∷ replies) = from
 
-abbrev pub led_by : PlainRun → ℕ → Step → List PlainReply → Outcome
-led_by run first step replies = led_on run first (GoesOn step) replies
+abbrev pub led_by : PlainRun → List VolumeCount → ℕ → Step → List PlainReply → Outcome
+led_by run had first step replies = led_on run had first (GoesOn step) replies
 
 -- the replies are those that are wanted first
-abbrev pub AreGranted : List Wish → List PlainReply → Type 0
-AreGranted wishes [] = Unit {0}
-AreGranted [] (reply ∷ replies) = ⊥
-AreGranted (wish ∷ wishes) (reply ∷ replies) = Grants wish reply × AreGranted wishes replies
+abbrev pub AreGranted : PlainRun → List VolumeCount → List Wish → List PlainReply → Type 0
+AreGranted run had wishes [] = Unit {0}
+AreGranted run had [] (reply ∷ replies) = ⊥
+AreGranted run had (wish ∷ wishes) (reply ∷ replies) = Grants run had wish reply × AreGranted run had wishes replies
 
 -- The volume has so many blocks. This is known from its mark on; `next` is the block that it ended before, once it is counted.
 abbrev pub EndsAt : ℕ → ℕ → Step → ℕ → Type 0
-EndsAt first next (Mark end) count = end ≡ first + count
-EndsAt first next (Unload end) count = end ≡ first + count
+EndsAt first next (Operation (Mark end)) count = end ≡ first + count
+EndsAt first next (Operation (Unload end)) count = end ≡ first + count
 EndsAt first next Close count = next ≡ first + count
 EndsAt first next step count = Unit {0}
 
 -- The replies are those that the script of a volume of so many blocks wants first, one to each step before this one, and this
 -- one is the script's next.
-pub record Granted (run : PlainRun) (first next count : ℕ) (step : Step) (replies : List PlainReply) : Type 0 where
+pub record Granted (run : PlainRun) (had : List VolumeCount) (first next count : ℕ) (step : Step) (replies : List PlainReply) : Type 0 where
   pub counts : IsCount run first count
   pub ends : EndsAt first next step count
-  pub granted : AreGranted (map (λ s. s.1) (steps_of run first count)) replies
+  pub granted : AreGranted run had (map (λ s. s.1) (steps_of run first count)) replies
   pub answered : length replies ≡ length (steps_before run first next step)
   pub rest : List Step
   pub goes_on : map (λ s. s.0) (steps_of run first count) ≡ steps_before run first next step ++ step ∷ rest
 
 -- Where a volume may begin at this block, and these replies lead from the open to this step, they are those that a script wants.
-abbrev pub GrantedOnTheWay : PlainRun → ℕ → Step → List PlainReply → Type 0
-GrantedOnTheWay run first step replies =
-    first ≤ run.blocks → (first < run.blocks) ⊎ (run.blocks ≡ 0) → led_by run first Open replies ≡ GoesOn step
-    → (count : ℕ) × Granted run first first count step replies
+abbrev pub GrantedOnTheWay : PlainRun → List VolumeCount → ℕ → Step → List PlainReply → Type 0
+GrantedOnTheWay run had first step replies =
+    first ≤ run.blocks → (first < run.blocks) ⊎ (run.blocks ≡ 0) → led_by run had first Open replies ≡ GoesOn step
+    → (count : ℕ) × Granted run had first first count step replies
 
 -- so also where they lead to the count, of the blocks up to `next`
-abbrev pub GrantedAtTheCount : PlainRun → ℕ → ℕ → List PlainReply → Type 0
-GrantedAtTheCount run first next replies =
-    first ≤ run.blocks → (first < run.blocks) ⊎ (run.blocks ≡ 0) → led_by run first Open replies ≡ Counted next
-    → Granted run first next (next - first) Close replies
+abbrev pub GrantedAtTheCount : PlainRun → List VolumeCount → ℕ → ℕ → List PlainReply → Type 0
+GrantedAtTheCount run had first next replies =
+    first ≤ run.blocks → (first < run.blocks) ⊎ (run.blocks ≡ 0) → led_by run had first Open replies ≡ Counted next
+    → Granted run had first next (next - first) Close replies

@@ -1,48 +1,70 @@
 -- What a client sends in one attempt, which writes one volume, and the replies that keep it going. Public contracts cite it.
-use Rattle.std.specs.Prelude.{◌≡◌, ℕ, zero, suc, ◌+◌, if◌then◌else◌, nat_lt, List, [], ◌∷◌, ◌++◌, map, get_or}
+use Rattle.std.specs.Prelude.{◌≡◌, ℕ, zero, suc, ◌+◌, if◌then◌else◌, nat_lt, List, [], ◌∷◌, ◌++◌, map, get_or, Option, Some, None}
+use Rattle.std.specs.Str.{bytes_eq}
 use Rattle.rmt_wire.specs.Request.{PlainRequest}
-use Rattle.rmt_wire.specs.Request.PlainRequest.{Open as OpenDevice, Op, Write, Close as CloseDevice}
+use Rattle.rmt_wire.specs.Request.PlainRequest.{Open as OpenDevice, Op, Write, Read, Close as CloseDevice}
 use Rattle.rmt_wire.specs.Reply.{PlainReply, Wanted}
-use Rattle.rmt_wire.specs.Reply.Wanted.{Number as NumberReply}
-use Rattle.rmt_wire.specs.Reply.PlainReply.{Done, Error}
+use Rattle.rmt_wire.specs.Reply.Wanted.{Number as NumberReply, DataUpTo}
+use Rattle.rmt_wire.specs.Reply.PlainReply.{Done, Data, Error}
 use Rattle.rmt_wire.specs.declared.errno.TheConstants.{ENOSPC}
 use Rattle.rmt_wire.specs.declared.fcntl.TheConstants.{O_RDWR}
 use Rattle.rmt_wire.specs.declared.mtio.TheConstants.{MTOFFL, MTREW, MTWEOF}
 use Rattle.dump_run.specs.Run.{PlainRun}
 pub use Rattle.dump_run.specs.Counts.{IsCount}
 use Rattle.dump_run.specs.Label.{label, label_bytes}
+use Rattle.dump_run.specs.declared.count.VolumeCount.{VolumeCount}
 use Rattle.dump_client.specs.declared.step.Step.{Step}
-use Rattle.dump_client.specs.declared.step.Step.TheVariants.{Open, Rewind, Label, Block, Mark, Unload, Close}
+use Rattle.dump_client.specs.declared.step.Step.TheVariants.{Open, Operation, Look, Label, Block, Close}
+use Rattle.dump_client.specs.declared.step.TapeOp.{TapeOp}
+use Rattle.dump_client.specs.declared.step.TapeOp.TheVariants.{Rewind, RewindAgain, Mark, Unload}
 
--- volume `volume` from block `first` on: an open for reading and writing, MTREW, the label, blocks, MTWEOF, MTOFFL, a close
+-- the number of an operation of the tape
+abbrev pub number_of : TapeOp → ℕ
+number_of Rewind = MTREW
+number_of RewindAgain = MTREW
+number_of (Mark next) = MTWEOF
+number_of (Unload next) = MTOFFL
+
+-- Volume `volume` from block `first` on: an open for reading and writing, MTREW, a read of the first record, MTREW again, the label,
+-- blocks, MTWEOF, MTOFFL, a close.
 abbrev pub request_of : PlainRun → List (List ℕ) → ℕ → ℕ → Step → PlainRequest
 request_of run payload volume first Open = OpenDevice run.device O_RDWR
-request_of run payload volume first Rewind = Op MTREW 1
+request_of run payload volume first (Operation op) = Op (number_of op) 1
+request_of run payload volume first Look = Read label_bytes
 request_of run payload volume first Label = Write (label run volume first)
 request_of run payload volume first (Block number) = Write (get_or payload number [])
-request_of run payload volume first (Mark next) = Op MTWEOF 1
-request_of run payload volume first (Unload next) = Op MTOFFL 1
 request_of run payload volume first Close = CloseDevice
 
--- the kind of reply that a step wants: a number, at each of them
+-- the kind of reply that a step wants: the look the bytes of a record, of as many as a label has; each other a number
 abbrev pub wanted_of : Step → Wanted
+wanted_of Look = DataUpTo label_bytes
 wanted_of step = NumberReply
+
+-- the volume of the first of these counts of the run whose label the bytes are
+abbrev pub counted_label : PlainRun → List VolumeCount → List ℕ → Option ℕ
+counted_label run [] bytes = None
+counted_label run (c ∷ counts) bytes =
+    if bytes_eq bytes (label run c.volume c.first) then Some c.volume else counted_label run counts bytes
 
 -- the reply that is wanted
 pub data Wish : Type 0 where
   AnyNumber : Wish
   Number : (number : ℕ) → Wish
   NoRoom : Wish
+  -- bytes, perhaps none, that are the label of no volume that is counted
+  OtherLabel : Wish
   Anything : Wish
 
--- a write that does not fit is answered by 0 bytes, or ENOSPC
-abbrev pub Grants : Wish → PlainReply → Type 0
-Grants AnyNumber (Done n) = Unit {0}
-Grants (Number number) (Done n) = n ≡ number
-Grants NoRoom (Done n) = n ≡ 0
-Grants NoRoom (Error n text) = n ≡ ENOSPC
-Grants Anything reply = Unit {0}
-Grants wish reply = ⊥
+-- The reply grants the wish of a client that has counted these volumes of the run. A write that does not fit is answered by 0 bytes,
+-- or ENOSPC.
+abbrev pub Grants : PlainRun → List VolumeCount → Wish → PlainReply → Type 0
+Grants run counts AnyNumber (Done n) = Unit {0}
+Grants run counts (Number number) (Done n) = n ≡ number
+Grants run counts NoRoom (Done n) = n ≡ 0
+Grants run counts NoRoom (Error n text) = n ≡ ENOSPC
+Grants run counts OtherLabel (Data bytes) = counted_label run counts bytes ≡ None
+Grants run counts Anything reply = Unit {0}
+Grants run counts wish reply = ⊥
 
 -- so many blocks from this one on, each written whole
 abbrev pub block_steps : PlainRun → ℕ → ℕ → List (Step × Wish)
@@ -55,13 +77,18 @@ refused_step run next = if nat_lt next run.blocks then (Block next, NoRoom) ∷ 
 
 -- what closes a volume that ends before block `next`
 abbrev pub last_steps : ℕ → List (Step × Wish)
-last_steps next = (Mark next, Number 1) ∷ (Unload next, Number 1) ∷ (Close, Anything) ∷ []
+last_steps next = (Operation (Mark next), Number 1) ∷ (Operation (Unload next), Number 1) ∷ (Close, Anything) ∷ []
+
+-- what comes before the blocks
+abbrev pub first_steps : List (Step × Wish)
+first_steps =
+    (Open, AnyNumber) ∷ (Operation Rewind, Number 1) ∷ (Look, OtherLabel) ∷ (Operation RewindAgain, Number 1)
+    ∷ (Label, Number label_bytes) ∷ []
 
 -- the steps of a volume of so many blocks
 abbrev pub steps_of : PlainRun → ℕ → ℕ → List (Step × Wish)
 steps_of run first count =
-    (Open, AnyNumber) ∷ (Rewind, Number 1) ∷ (Label, Number label_bytes)
-    ∷ (block_steps run first count ++ (refused_step run (first + count) ++ last_steps (first + count)))
+    first_steps ++ (block_steps run first count ++ (refused_step run (first + count) ++ last_steps (first + count)))
 
 -- the same with the requests that are sent
 abbrev pub script : PlainRun → List (List ℕ) → ℕ → ℕ → ℕ → List (PlainRequest × Wish)

@@ -70,7 +70,7 @@ IsOver run counts new =
     ⊎ ((Covers run counts → ⊥) × (new ≡ standing run counts Ready))
 
 -- What an outcome makes of a client in an attempt, and what it tells. `more` says that bytes follow the reply: nobody waits for
--- them, so that the attempt fails before the count, and ends behind it.
+-- them, so that the attempt fails before the count, and ends after it.
 abbrev pub Becomes : Standing → Outcome → Bool → Progress → Standing → Type 0
 Becomes old (GoesOn step) false progress new = (progress ≡ moved.Send) × (new ≡ standing old.run old.counts (ToSend step))
 Becomes old (GoesOn step) true progress new = (progress ≡ moved.Failed Botched) × (new ≡ standing old.run old.counts Asking)
@@ -82,7 +82,8 @@ Becomes old Ended more progress new = (progress ≡ moved.Ended) × IsOver old.r
 
 -- it is at this step, and hears this
 abbrev pub HearsAt : Standing → Step → Heard → Bool → Progress → Standing → Type 0
-HearsAt old step heard more progress new = Becomes old (outcome old.run (checkpoint_of old.counts).1 step heard) more progress new
+HearsAt old step heard more progress new =
+    Becomes old (outcome old.run old.counts (checkpoint_of old.counts).1 step heard) more progress new
 
 -- it waits for the reply to this step, and the bytes since are these: less than a reply, a reply and what follows, or none
 abbrev pub Makes : Standing → Step → List ℕ → Result (Option PlainReply) WireFault → List ℕ → Progress → Standing → Type 0

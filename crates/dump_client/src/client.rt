@@ -21,7 +21,7 @@ use crate::{
 };
 use dump_run::{Checkpoint, one_checkpoint, push_checkpoint};
 use dumpdates::Entry;
-use rmt_wire::{ReplyReader, Wanted};
+use rmt_wire::ReplyReader;
 use std::alloc::{AllocError, Global};
 use std::marker::Model;
 
@@ -196,7 +196,7 @@ impl<B: Blocks> Client<B> {
         };
         match push_step(&self.ledger, step, &mut self.source, &mut self.block, out) {
             Ok(()) => {
-                self.reader.expect(Wanted::Number);
+                self.reader.expect(step.wanted());
                 self.ledger.wait(step);
                 Ok(true)
             }
@@ -224,11 +224,14 @@ impl<B: Blocks> Client<B> {
         match self.ledger.stage() {
             Stage::ToSend(_) if piece.is_empty() => Progress::Send,
             Stage::ToSend(step) => self.ledger.noise(step),
-            Stage::Waiting(step) => match listen(&mut self.reader, piece) {
-                Listened::Waits => Progress::Waiting,
-                Listened::Reply { said, more } => self.ledger.reply(step, said, more),
-                Listened::Noise => self.ledger.noise(step),
-            },
+            Stage::Waiting(step) => {
+                let (run, counts) = (self.ledger.run(), self.ledger.counted());
+                match listen(&mut self.reader, run, counts, piece) {
+                    Listened::Waits => Progress::Waiting,
+                    Listened::Reply { said, more } => self.ledger.reply(step, said, more),
+                    Listened::Noise => self.ledger.noise(step),
+                }
+            }
             _ => Progress::Idle,
         }
     }

@@ -28,6 +28,10 @@ pub enum AttemptFault {
     /// A growth in memory was refused.
     #[error("OutOfMemory")]
     OutOfMemory,
+    /// The reel begins with the label of this volume, which is counted in this run. Nothing was written on it in this
+    /// attempt.
+    #[error("CountedReel {0}")]
+    CountedReel(u32),
 }
 
 /// Why a client did not do what it was asked. Nothing has changed.

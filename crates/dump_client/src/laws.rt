@@ -1,7 +1,8 @@
 //! Laws of an attempt and its counts, each the contract of a call that does nothing.
 
-ghost use Rattle.std.specs.Prelude.{◌≡◌, ◌≢◌, ◌⊎◌, ℕ, ◌≤◌, List, [], ◌++◌, length};
-ghost use Rattle.rmt_wire.specs.Reply.{PlainReply};
+ghost use Rattle.std.specs.Prelude.{◌≡◌, ◌≢◌, ◌⊎◌, ◌↔◌, ℕ, ◌+◌, ◌≤◌, List, [], ◌++◌, length};
+ghost use Rattle.rmt_wire.specs.Reply.{PlainReply, AnswersTo, data_length};
+ghost use Rattle.rmt_wire.specs.Reply.PlainReply.{Error};
 ghost use Rattle.rmt_wire.specs.Request.{PlainRequest, IsTextOf, request_text};
 ghost use Rattle.rmt_wire.specs.declared.limits.TheConstants.{READER_LIMIT};
 ghost use Rattle.dump_run.specs.Run.{PlainRun, IsRun};
@@ -9,8 +10,9 @@ ghost use Rattle.dump_run.specs.Counts.{AreVolumes};
 ghost use Rattle.dump_run.specs.Checkpoint.{SpellsCheckpoint, HasResumeFault, checkpoint_text};
 ghost use Rattle.dump_run.specs.declared.fault.ResumeFault.{ResumeFault};
 ghost use Rattle.dump_run.specs.declared.fault.ResumeFault.TheVariants.{OutOfMemory};
-ghost use Rattle.dump_client.specs.Script.{IsCount, steps_of};
-ghost use Rattle.dump_client.specs.Position.{RepliesFollow, Heard, IsWantedAt, IsFailure, after_reply, outcome};
+ghost use Rattle.dump_run.specs.Label.{label_bytes};
+ghost use Rattle.dump_client.specs.Script.{IsCount, steps_of, wanted_of};
+ghost use Rattle.dump_client.specs.Position.{RepliesFollow, Heard, IsWantedAt, CanBeHeard, IsFailure, FailsAsCounted, ShowsCounted, after_reply, outcome};
 ghost use Rattle.dump_client.specs.Position.Heard.{Noise, End};
 ghost use Rattle.dump_client.specs.Standing.{Standing, Feeds, CutAt, IsOver};
 ghost use Rattle.dump_client.specs.Client.{FeedsNext, IsShapedAs};
@@ -19,24 +21,43 @@ ghost use Rattle.dump_client.specs.declared.step.Step.{Step};
 ghost use Rattle.dump_client.specs.Lawful.{IsLawful, StandsAt, sent_before, AsksAtCheckpoint, SendsNext, SendsLast};
 ghost use Rattle.dump_client.specs.Replies.{GrantedOnTheWay, GrantedAtTheCount};
 ghost use Rattle.dump_run.specs.declared.count.VolumeCount.{VolumeCount};
-ghost use Rattle.dump_client.specs.declared.step.Step.TheVariants.{Open, Close};
+ghost use Rattle.dump_client.specs.declared.step.Step.TheVariants.{Open, Look, Close};
 ghost use Rattle.dump_client.specs.declared.outcome.Outcome.TheVariants.{Fails, Ended};
 ghost use Rattle.dump_client.specs.declared.stage.Progress.{Progress};
 ghost use Rattle.dump_client.specs.declared.stage.Progress.TheVariants.{Failed};
 ghost use Rattle.dump_client.specs.declared.fault.AttemptFault.{AttemptFault};
-ghost use Rattle.dump_client.specs.declared.fault.AttemptFault.TheVariants.{Botched, ConnectionEnded};
+ghost use Rattle.dump_client.specs.declared.fault.AttemptFault.TheVariants.{Refused, Botched, ConnectionEnded, CountedReel};
 
 use dump_run::one_checkpoint;
 
 /// What comes next follows the script: each reply that a script wants leads to its next request, the reply to MTOFFL to
-/// the count, and the reply to the close to the attempt's end. Any other reply fails the attempt.
+/// the count, and the reply to the close to the attempt's end. Any other reply fails the attempt. A wanted reply with no more
+/// bytes than a label has is of the kind that is waited for, and no reply of that kind has more.
 ///
 /// It does nothing: its contract is a law of the definitions.
 pub fn wanted_replies()
-    ensures next { (run : PlainRun) (first count : ℕ) → IsRun run → IsCount run first count →
-        RepliesFollow run first (steps_of run first count) }
-    ensures others { (run : PlainRun) (first : ℕ) (step : Step) (reply : PlainReply) →
-        IsWantedAt run first step reply ⊎ IsFailure (after_reply run first step reply) }
+    ensures next { (run : PlainRun) (counts : List VolumeCount) (first count : ℕ) → IsRun run → IsCount run first count →
+        RepliesFollow run counts first (steps_of run first count) }
+    ensures others { (run : PlainRun) (counts : List VolumeCount) (first : ℕ) (step : Step) (reply : PlainReply) →
+        IsWantedAt run counts first step reply ⊎ IsFailure (after_reply run counts first step reply) }
+    ensures heard { (run : PlainRun) (counts : List VolumeCount) (first : ℕ) (step : Step) (reply : PlainReply) →
+        CanBeHeard run counts first step reply }
+    ensures brief { (step : Step) (reply : PlainReply) → AnswersTo reply (wanted_of step) → data_length reply ≤ label_bytes }
+{}
+
+/// An attempt fails by `CountedReel` of a volume exactly where the look shows the label of that volume, which is counted in this
+/// run. With the label of a counted volume it never goes on, whatever else is counted, and an error at the look refuses it.
+///
+/// It does nothing: its contract is a law of the definitions.
+pub fn counted_reels()
+    ensures exactly { (run : PlainRun) (counts : List VolumeCount) (first volume : ℕ) (reply : PlainReply) → IsRun run →
+        AreVolumes run 1 0 counts → FailsAsCounted run counts first volume reply ↔ ShowsCounted run counts volume reply }
+    ensures stops { (run : PlainRun) (counts : List VolumeCount) (first volume : ℕ) (reply : PlainReply) →
+        ShowsCounted run counts volume reply → IsFailure (after_reply run counts first Look reply) }
+    ensures refused { (run : PlainRun) (counts : List VolumeCount) (first n : ℕ) (text : List ℕ) →
+        after_reply run counts first Look (Error n text) ≡ Fails (Refused n) }
+    ensures alone { (run : PlainRun) (counts : List VolumeCount) (first volume : ℕ) (step : Step) (heard : Heard) → step ≢ Look →
+        outcome run counts first step heard ≢ Fails (CountedReel volume) }
 {}
 
 /// The replies that led from the open to a step are those that the script of a volume of so many blocks wants before it, one
@@ -45,8 +66,10 @@ pub fn wanted_replies()
 ///
 /// It does nothing: its contract is a law of the definitions.
 pub fn granted_replies()
-    ensures on_the_way { (run : PlainRun) (first : ℕ) (step : Step) (replies : List PlainReply) → GrantedOnTheWay run first step replies }
-    ensures counted { (run : PlainRun) (first next : ℕ) (replies : List PlainReply) → GrantedAtTheCount run first next replies }
+    ensures on_the_way { (run : PlainRun) (had : List VolumeCount) (first : ℕ) (step : Step) (replies : List PlainReply) →
+        GrantedOnTheWay run had first step replies }
+    ensures counted { (run : PlainRun) (had : List VolumeCount) (first next : ℕ) (replies : List PlainReply) →
+        GrantedAtTheCount run had first next replies }
 {}
 
 /// A client in an attempt stands at a position of its volume. What it holds says what was sent, which begins the script of a
@@ -84,9 +107,12 @@ pub fn sent_in_order()
 ///
 /// It does nothing: its contract is a law of the definitions.
 pub fn after_the_count()
-    ensures close { (run : PlainRun) (first : ℕ) (heard : Heard) → outcome run first Close heard ≡ Ended }
-    ensures noise { (run : PlainRun) (first : ℕ) (step : Step) → step ≢ Close → outcome run first step Noise ≡ Fails Botched }
-    ensures cut { (run : PlainRun) (first : ℕ) (step : Step) → step ≢ Close → outcome run first step End ≡ Fails ConnectionEnded }
+    ensures close { (run : PlainRun) (counts : List VolumeCount) (first : ℕ) (heard : Heard) →
+        outcome run counts first Close heard ≡ Ended }
+    ensures noise { (run : PlainRun) (counts : List VolumeCount) (first : ℕ) (step : Step) → step ≢ Close →
+        outcome run counts first step Noise ≡ Fails Botched }
+    ensures cut { (run : PlainRun) (counts : List VolumeCount) (first : ℕ) (step : Step) → step ≢ Close →
+        outcome run counts first step End ≡ Fails ConnectionEnded }
 {}
 
 /// Bytes may come in any pieces: one piece and then another leave a client where the two as one would. An attempt that
@@ -101,14 +127,16 @@ pub fn fed_in_pieces()
     ensures cut { (old new : Standing) (fault : AttemptFault) → CutAt old.stage old (Failed fault) new → new.counts ≡ old.counts }
 {}
 
-/// Bytes that are fed and the end of a connection leave a client in its run, with what it had counted; the end counts
-/// nothing. A client that is finished stays so, and one that is lawful stays lawful. What is told is where it stands then. Between
-/// attempts one of a lawful run whose counts are in order is lawful.
+/// Bytes that are fed and the end of a connection leave a client in its run, with what it had counted, and bytes with one
+/// volume more at most; the end counts nothing. A client that is finished stays so, and one that is lawful stays lawful.
+/// What is told is where it stands then. Between attempts one of a lawful run whose counts are in order is lawful.
 ///
 /// It does nothing: its contract is a law of the definitions.
 pub fn same_run()
     ensures fed { (old new : Standing) (bytes piece : List ℕ) (progress : Progress) → Feeds old bytes piece progress new →
         (more : List VolumeCount) × GoesOnWith old new more }
+    ensures one_count { (old new : Standing) (bytes piece : List ℕ) (progress : Progress) → Feeds old bytes piece progress new →
+        length new.counts ≤ length old.counts + 1 }
     ensures cut { (old new : Standing) (progress : Progress) → CutAt old.stage old progress new → GoesOnWith old new [] }
     ensures fed_lawful { (old new : Standing) (bytes piece : List ℕ) (progress : Progress) → IsLawful old →
         Feeds old bytes piece progress new → IsLawful new }

@@ -143,7 +143,8 @@ impl Ledger {
         requires at { IsAtStep self.old.at.stage step }
         requires lawful { IsLawful self.old.at }
         requires room { RoomFits self.old.at.stage self.old.room }
-        ensures heard { (reply : PlainReply) → IsSaid reply said → HearsAt self.old.at step (Reply reply) more result self.new.at }
+        ensures heard { (reply : PlainReply) → IsSaid self.old.at.run self.old.at.counts reply said →
+            HearsAt self.old.at step (Reply reply) more result self.new.at }
         ensures slots { self.new.room + length self.new.at.counts ≡ self.old.room + length self.old.at.counts }
         ensures fed { (reader : readers.ReplyHeld) (bytes : List ℕ) → (more ≡ false → ReplyUnread reader None []) →
             HasFedAt self.new.at.stage reader (unanswered self.new.at.stage bytes) }

@@ -1,12 +1,14 @@
 //! What comes next in an attempt.
-ghost use Rattle.std.specs.Prelude.{◌≡◌, ◌<◌};
+ghost use Rattle.std.specs.Prelude.{◌≡◌, ◌<◌, ℕ, List};
 ghost use Rattle.rmt_wire.specs.Reply.{PlainReply};
 ghost use Rattle.dump_client.specs.Listening.{IsSaid};
 ghost use Rattle.dump_client.specs.Position as spec;
+ghost use Rattle.dump_client.specs.Script.{counted_label};
+ghost use Rattle.dump_run.specs.declared.count.VolumeCount.{VolumeCount};
 ghost use Rattle.dump_run.specs.Run.{IsRun};
 
 use crate::listen::Said;
-use crate::step::Step;
+use crate::step::{Step, TapeOp};
 use crate::{AttemptFault, Run};
 use dump_run::LABEL_BYTES;
 use rmt_wire::errno::ENOSPC;
@@ -28,23 +30,34 @@ fn block_or_mark(run: &Run, number: u32) -> Step
     if number < run.blocks() {
         Step::Block(number)
     } else {
-        Step::Mark(number)
+        Step::Operation(TapeOp::Mark(number))
     }
 }
 
-/// What follows a step that was done: the one place that knows the order of the requests.
+/// What follows an operation of the tape that was done.
+fn after_done(op: TapeOp) -> Outcome
+    ensures { result ≡ spec.after_done op }
+{
+    match op {
+        TapeOp::Rewind => Outcome::GoesOn(Step::Look),
+        TapeOp::RewindAgain => Outcome::GoesOn(Step::Label),
+        TapeOp::Mark(next) => Outcome::GoesOn(Step::Operation(TapeOp::Unload(next))),
+        TapeOp::Unload(next) => Outcome::Counted(next),
+    }
+}
+
+/// What follows a step that was done: this and `after_done` alone know the order of the requests.
 fn after_step(run: &Run, first: u32, step: Step) -> Outcome
     requires run { IsRun run.now }
     requires block { spec.IsBelow run.now step }
     ensures { result ≡ spec.after_step run.now first step }
 {
     match step {
-        Step::Open => Outcome::GoesOn(Step::Rewind),
-        Step::Rewind => Outcome::GoesOn(Step::Label),
+        Step::Open => Outcome::GoesOn(Step::Operation(TapeOp::Rewind)),
+        Step::Operation(op) => after_done(op),
+        Step::Look => Outcome::GoesOn(Step::Operation(TapeOp::RewindAgain)),
         Step::Label => Outcome::GoesOn(block_or_mark(run, first)),
         Step::Block(number) => Outcome::GoesOn(block_or_mark(run, number + 1)),
-        Step::Mark(next) => Outcome::GoesOn(Step::Unload(next)),
-        Step::Unload(next) => Outcome::Counted(next),
         Step::Close => Outcome::Ended,
     }
 }
@@ -54,7 +67,9 @@ fn at_end_of_reel(first: u32, step: Step) -> Outcome
     ensures { result ≡ spec.at_end_of_reel first step }
 {
     match step {
-        Step::Block(number) if first < number => Outcome::GoesOn(Step::Mark(number)),
+        Step::Block(number) if first < number => Outcome::GoesOn(Step::Operation(TapeOp::Mark(
+            number,
+        ))),
         _ => Outcome::Fails(AttemptFault::ReelTooSmall),
     }
 }
@@ -84,8 +99,8 @@ fn after_number(run: &Run, first: u32, step: Step, n: u32) -> Outcome
         Step::Open | Step::Close => after_step(run, first, step),
         Step::Label => after_write(run, first, step, LABEL_BYTES, n),
         Step::Block(_) => after_write(run, first, step, run.block_bytes(), n),
-        Step::Rewind | Step::Mark(_) | Step::Unload(_) if n == 1 => after_step(run, first, step),
-        Step::Rewind | Step::Mark(_) | Step::Unload(_) => Outcome::Fails(AttemptFault::Botched),
+        Step::Operation(_) if n == 1 => after_step(run, first, step),
+        Step::Operation(_) | Step::Look => Outcome::Fails(AttemptFault::Botched),
     }
 }
 
@@ -100,14 +115,29 @@ fn after_error(first: u32, step: Step, n: u32) -> Outcome
     }
 }
 
+/// What follows the bytes of a record: at the look, where they are the label of no counted volume, the attempt goes on.
+fn after_data(run: &Run, first: u32, step: Step, counted: Option<u32>) -> Outcome
+    requires run { IsRun run.now }
+    ensures { (counts : List VolumeCount) (bytes : List ℕ) → counted ≡ counted_label run.now counts bytes →
+        result ≡ spec.after_data run.now counts first step bytes }
+{
+    match (step, counted) {
+        (Step::Look, None) => after_step(run, first, step),
+        (Step::Look, Some(volume)) => Outcome::Fails(AttemptFault::CountedReel(volume)),
+        _ => after_noise(step),
+    }
+}
+
 /// What follows a reply.
 pub(crate) fn after_reply(run: &Run, first: u32, step: Step, said: Said) -> Outcome
     requires run { IsRun run.now }
     requires block { spec.IsBelow run.now step }
-    ensures { (reply : PlainReply) → IsSaid reply said → result ≡ spec.after_reply run.now first step reply }
+    ensures { (counts : List VolumeCount) (reply : PlainReply) → IsSaid run.now counts reply said →
+        result ≡ spec.after_reply run.now counts first step reply }
 {
     match said {
         Said::Number(n) => after_number(run, first, step, n),
+        Said::Looked(counted) => after_data(run, first, step, counted),
         Said::Error(n) => after_error(first, step, n),
     }
 }

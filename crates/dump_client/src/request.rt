@@ -3,16 +3,16 @@ ghost use Rattle.std.specs.Prelude.{◌≡◌, ◌↔◌, ℕ, ◌≤◌, true, 
 ghost use Rattle.std.specs.Vec.{vec_capacity};
 ghost use Rattle.rmt_wire.specs.Lent.{plain_request};
 ghost use Rattle.rmt_wire.specs.Request as requests;
-ghost use Rattle.rmt_wire.specs.Request.PlainRequest.{Open, Op};
+ghost use Rattle.rmt_wire.specs.Request.PlainRequest.{Open, Op, Read};
+ghost use Rattle.dump_run.specs.Label.{label_bytes};
 ghost use Rattle.dump_client.specs.Client.{IsPayload, IsRequestPushed, AppendedBy, ReadBy, failures_after, is_source_fault, label_request};
 ghost use Rattle.dump_client.specs.Lawful.{IsLawful, StepFits};
 
 use crate::ledger::Ledger;
 use crate::step::Step;
 use crate::{AttemptFault, Blocks, Run};
-use dump_run::label;
+use dump_run::{LABEL_BYTES, label};
 use rmt_wire::fcntl::O_RDWR;
-use rmt_wire::mtio::{MTOFFL, MTREW, MTWEOF};
 use rmt_wire::{Request, push_request};
 
 /// Appends the request of a step: a block is read from the source, which is told of a volume where its label is
@@ -38,14 +38,13 @@ pub(crate) fn push_step<B: Blocks>(
 {
     match step {
         Step::Open => push_open(ledger.run(), out),
-        Step::Rewind => push_op(MTREW, out),
+        Step::Operation(op) => push_op(op.number(), out),
+        Step::Look => push_look(out),
         Step::Label => push_label(ledger, source, out),
         Step::Block(number) => match source.read(number, block) {
             Ok(()) => push(&Request::Write { bytes: block }, out),
             Err(_) => Err(AttemptFault::SourceFault),
         },
-        Step::Mark(_) => push_op(MTWEOF, out),
-        Step::Unload(_) => push_op(MTOFFL, out),
         Step::Close => push(&Request::Close, out),
     }
 }
@@ -59,6 +58,14 @@ fn push_open(run: &Run, out: &mut Vec<u8>) -> Result<(), AttemptFault>
         mode: O_RDWR,
     };
     push(&request, out)
+}
+
+/// Appends the read of the first record, of as many bytes as a label has.
+fn push_look(out: &mut Vec<u8>) -> Result<(), AttemptFault>
+    ensures { IsRequestPushed (Read label_bytes) (vec_capacity out.old) out.old.items result out.new.items }
+{
+    let count = LABEL_BYTES as u32;
+    push(&Request::Read { count }, out)
 }
 
 /// Appends the write of the next volume's label, and tells the source of the volume.

@@ -1,14 +1,54 @@
 //! The steps of an attempt, a request each.
+ghost use Rattle.std.specs.Prelude.{◌≡◌};
+ghost use Rattle.rmt_wire.specs.Lent.{plain_wanted};
+ghost use Rattle.dump_client.specs.Script.{number_of, wanted_of};
 
-/// A request of an attempt to write a volume, in their order. Blocks are numbered from 0 in the run; `Mark` and
-/// `Unload` carry the first block that is not written, with which the volume ends.
+use dump_run::LABEL_BYTES;
+use rmt_wire::Wanted;
+use rmt_wire::mtio::{MTOFFL, MTREW, MTWEOF};
+
+/// An operation of the tape (mtio), of count 1. The tape is rewound before the first record is looked at, and again after
+/// it. `Mark` and `Unload` carry the first block that is not written, with which the volume ends.
+#[derive(Clone, Copy, PartialEq, Eq)]
+pub(crate) enum TapeOp {
+    Rewind,
+    RewindAgain,
+    Mark(u32),
+    Unload(u32),
+}
+
+impl TapeOp {
+    /// The number of the operation.
+    pub(crate) fn number(self) -> u32
+        ensures { result ≡ number_of self }
+    {
+        match self {
+            TapeOp::Rewind | TapeOp::RewindAgain => MTREW,
+            TapeOp::Mark(_) => MTWEOF,
+            TapeOp::Unload(_) => MTOFFL,
+        }
+    }
+}
+
+/// A request of an attempt to write a volume. Blocks are numbered from 0 in the run.
 #[derive(Clone, Copy, PartialEq, Eq)]
 pub(crate) enum Step {
     Open,
-    Rewind,
+    Operation(TapeOp),
+    Look,
     Label,
     Block(u32),
-    Mark(u32),
-    Unload(u32),
     Close,
+}
+
+impl Step {
+    /// The kind of reply that is waited for.
+    pub(crate) fn wanted(self) -> Wanted
+        ensures { plain_wanted result ≡ wanted_of self }
+    {
+        match self {
+            Step::Look => Wanted::Data(LABEL_BYTES as u32),
+            _ => Wanted::Number,
+        }
+    }
 }

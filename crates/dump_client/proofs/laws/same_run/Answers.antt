@@ -1,10 +1,13 @@
-use Rattle.dump_client.proofs.Going.{fed_goes_on, cut_goes_on}
+use Rattle.dump_client.proofs.Going.{fed_goes_on, one_count, cut_goes_on}
 use Rattle.dump_client.proofs.Lawfully.{fed_lawful, cut_lawful, over_lawful}
 use Rattle.dump_client.proofs.Telling.{fed_stands, cut_stands}
 use Rattle.dump_client.proofs.laws.same_run.Goals as goal
 
 pub returns-clause-fed : goal.returns-clause-fed
 returns-clause-fed c = fed_goes_on
+
+pub returns-clause-one_count : goal.returns-clause-one_count
+returns-clause-one_count c = one_count
 
 pub returns-clause-cut : goal.returns-clause-cut
 returns-clause-cut c = cut_goes_on

@@ -1,6 +1,5 @@
 use Rattle.std.proofs.Common.{Ok, ◌∙◌, ap, sym, subst, arith, ◌++◌, ◌+◌, ◌-◌, drop, length}
 use Rattle.std.proofs.lemmas.List.{append-nil, take_all, take_rest, length-drop, length-take}
-use Rattle.rmt_wire.specs.Reply.Wanted.{Number}
 use Rattle.dump_client.specs.Listening.{IsReaderWaiting}
 use Rattle.dump_client.proofs.Listening.{push_some, so_far, none_yet, reply_then, reply_last, noise}
 use Rattle.dump_client.proofs.listen.listen.Goals as goal
@@ -10,18 +9,15 @@ overflow_add-at c =
     let now = c.loop-at.invariant.1 in
     let slice = length-take (length c.args.piece.now - c.loop-at.at) (drop c.loop-at.at c.args.piece.now) in
     let rest = length-drop c.loop-at.at c.args.piece.now in
-    let some = push_some c.loop-at.reader now.0 c.push-at.result _ now.1 (c.push-at.ensures.count _ now.0 now.1.unread) (omega arith) in
+    let some = push_some c.args.run.now c.args.counts.now now.0 c.loop-at.reader now.1 c.push-at.result _ now.2 (c.push-at.ensures.count _ now.1 now.2.unread) (omega arith) in
     omega arith
-
-pub hear-requires : goal.hear-requires
-hear-requires c = let now = c.loop-at.invariant.1 in record { held = (_, c.push-at.ensures.unread _ now.0 now.1.unread) }
 
 pub loop-at-smaller : goal.loop-at-smaller
 loop-at-smaller c =
     let now = c.loop-at.invariant.1 in
     let slice = length-take (length c.args.piece.now - c.loop-at.at) (drop c.loop-at.at c.args.piece.now) in
     let rest = length-drop c.loop-at.at c.args.piece.now in
-    let some = push_some c.loop-at.reader now.0 c.push-at.result _ now.1 (c.push-at.ensures.count _ now.0 now.1.unread) (omega arith) in
+    let some = push_some c.args.run.now c.args.counts.now now.0 c.loop-at.reader now.1 c.push-at.result _ now.2 (c.push-at.ensures.count _ now.1 now.2.unread) (omega arith) in
     omega arith
 
 pub loop-at-preserved : goal.loop-at-preserved
@@ -29,47 +25,47 @@ loop-at-preserved c =
     let now = c.loop-at.invariant.1 in
     let slice = length-take (length c.args.piece.now - c.loop-at.at) (drop c.loop-at.at c.args.piece.now) in
     let rest = length-drop c.loop-at.at c.args.piece.now in
-    let counts = c.push-at.ensures.count _ now.0 now.1.unread in
+    let counts = c.push-at.ensures.count _ now.1 now.2.unread in
     let at_none = c.in-Ok-None.is ∙ ap Ok c.in-Ok-None.field-0-is in (
       omega arith,
-      (_, none_yet _ c.hear.result c.hear.new.reader (c.hear.ensures.heard _ (c.push-at.ensures.unread _ now.0 now.1.unread)) at_none),
-      λ bytes u.
-          none_yet _ c.hear.result c.hear.new.reader
-          (so_far bytes c.args.piece.now _ c.loop-at.at c.push-at.result c.hear.result c.hear.new.reader (take_rest c.args.piece.now c.loop-at.at)
-          (c.hear.ensures.heard _ (c.push-at.ensures.unread _ _ (c.loop-at.invariant.2 bytes u).unread))) at_none,
+      (_, _, none_yet c.args.run.now c.args.counts.now now.0 _ c.hear.result c.hear.new.reader (c.hear.ensures.heard _ _ (c.push-at.ensures.unread _ now.1 now.2.unread)) at_none),
+      λ wanted bytes u.
+          none_yet c.args.run.now c.args.counts.now wanted _ c.hear.result c.hear.new.reader
+          (so_far c.args.run.now c.args.counts.now wanted bytes c.args.piece.now _ c.loop-at.at c.push-at.result c.hear.result c.hear.new.reader (take_rest c.args.piece.now c.loop-at.at)
+          (c.hear.ensures.heard wanted _ (c.push-at.ensures.unread _ _ (c.loop-at.invariant.2 wanted bytes u).unread))) at_none,
     )
 
 pub returns-then-not-is_empty : goal.returns-then-not-is_empty
 returns-then-not-is_empty c = record {
-  listened = λ bytes u.
-      reply_then bytes c.args.piece.now (c.loop-at.at + c.push-at.result) c.hear.result c.in-Ok-Some.said c.hear.new.reader c.is_empty.result
-      (so_far bytes c.args.piece.now _ c.loop-at.at c.push-at.result c.hear.result c.hear.new.reader (take_rest c.args.piece.now c.loop-at.at)
-      (c.hear.ensures.heard _ (c.push-at.ensures.unread _ _ (c.loop-at.invariant.2 bytes u).unread)))
+  listened = λ wanted bytes u.
+      reply_then c.args.run.now c.args.counts.now wanted bytes c.args.piece.now (c.loop-at.at + c.push-at.result) c.hear.result c.in-Ok-Some.said c.hear.new.reader c.is_empty.result
+      (so_far c.args.run.now c.args.counts.now wanted bytes c.args.piece.now _ c.loop-at.at c.push-at.result c.hear.result c.hear.new.reader (take_rest c.args.piece.now c.loop-at.at)
+      (c.hear.ensures.heard wanted _ (c.push-at.ensures.unread _ _ (c.loop-at.invariant.2 wanted bytes u).unread)))
       (c.in-Ok-Some.is ∙ ap Ok c.in-Ok-Some.field-0-is) (λ rest held. c.is_empty.ensures.value _ rest held) c.if-not-is_empty.true;
 }
 
 pub returns-else-not-is_empty : goal.returns-else-not-is_empty
 returns-else-not-is_empty c = record {
-  listened = λ bytes u.
-      reply_last bytes c.args.piece.now (c.loop-at.at + c.push-at.result) c.hear.result c.in-Ok-Some.said c.hear.new.reader c.is_empty.result
-      (so_far bytes c.args.piece.now _ c.loop-at.at c.push-at.result c.hear.result c.hear.new.reader (take_rest c.args.piece.now c.loop-at.at)
-      (c.hear.ensures.heard _ (c.push-at.ensures.unread _ _ (c.loop-at.invariant.2 bytes u).unread)))
+  listened = λ wanted bytes u.
+      reply_last c.args.run.now c.args.counts.now wanted bytes c.args.piece.now (c.loop-at.at + c.push-at.result) c.hear.result c.in-Ok-Some.said c.hear.new.reader c.is_empty.result
+      (so_far c.args.run.now c.args.counts.now wanted bytes c.args.piece.now _ c.loop-at.at c.push-at.result c.hear.result c.hear.new.reader (take_rest c.args.piece.now c.loop-at.at)
+      (c.hear.ensures.heard wanted _ (c.push-at.ensures.unread _ _ (c.loop-at.invariant.2 wanted bytes u).unread)))
       (c.in-Ok-Some.is ∙ ap Ok c.in-Ok-Some.field-0-is) (λ rest held. c.is_empty.ensures.value _ rest held) c.if-not-is_empty.false;
 }
 
 pub returns-in-Err : goal.returns-in-Err
 returns-in-Err c = record {
-  listened = λ bytes u.
-      noise bytes c.args.piece.now (c.loop-at.at + c.push-at.result) c.hear.result c.in-Err.field-0 c.hear.new.reader
-      (so_far bytes c.args.piece.now _ c.loop-at.at c.push-at.result c.hear.result c.hear.new.reader (take_rest c.args.piece.now c.loop-at.at)
-      (c.hear.ensures.heard _ (c.push-at.ensures.unread _ _ (c.loop-at.invariant.2 bytes u).unread))) c.in-Err.is;
+  listened = λ wanted bytes u.
+      noise c.args.run.now c.args.counts.now wanted bytes c.args.piece.now (c.loop-at.at + c.push-at.result) c.hear.result c.in-Err.field-0 c.hear.new.reader
+      (so_far c.args.run.now c.args.counts.now wanted bytes c.args.piece.now _ c.loop-at.at c.push-at.result c.hear.result c.hear.new.reader (take_rest c.args.piece.now c.loop-at.at)
+      (c.hear.ensures.heard wanted _ (c.push-at.ensures.unread _ _ (c.loop-at.invariant.2 wanted bytes u).unread))) c.in-Err.is;
 }
 
 pub loop-at-init : goal.loop-at-init
-loop-at-init c = (omega arith, c.requires.waiting, λ bytes u. subst (IsReaderWaiting Number c.args.reader.now) (sym (append-nil bytes)) u)
+loop-at-init c = (omega arith, c.requires.waiting, λ wanted bytes u. subst (IsReaderWaiting wanted c.args.reader.now) (sym (append-nil bytes)) u)
 
 pub returns : goal.returns
 returns c = record {
-  listened = λ bytes u.
-      subst (λ l. IsReaderWaiting Number c.loop-at.reader (bytes ++ l)) (take_all c.loop-at.at c.args.piece.now c.loop-at-test.false) (c.loop-at.invariant.2 bytes u);
+  listened = λ wanted bytes u.
+      subst (λ l. IsReaderWaiting wanted c.loop-at.reader (bytes ++ l)) (take_all c.loop-at.at c.args.piece.now c.loop-at-test.false) (c.loop-at.invariant.2 wanted bytes u);
 }
