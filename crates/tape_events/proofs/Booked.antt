@@ -25,7 +25,8 @@ use Rattle.tape_events.specs.Changes.{calm, counts_of}
 use Rattle.tape_events.specs.Rows.{IsRunEntered, MayBeKept}
 use Rattle.tape_events.specs.Steps.{kept_after, entry_of, caller, recorded}
 use Rattle.tape_events.specs.Books.{volume_of, counted_if, counts_in, dates_with, dates_after}
-use Rattle.tape_events.specs.Headline.{AreCountedIn, IsEarned, AreOnce}
+use Rattle.tape_events.specs.Headline.{IsEarned, AreOnce}
+use Rattle.tape_events.specs.Books.{AreCountedIn}
 use Rattle.tape_events.specs.Kept.{IsKeptRun, AreBooked, HasLawful}
 use Rattle.tape_events.proofs.Numbers.{pushed_is, numbered_more, numbered_last, numbered_within}
 use Rattle.tape_events.proofs.Moves.{Listens, told_counts, Move, begins, connects, asks, fails, hears, hears_last, sees, gone, comes, forgets, gives_up, answers, enters, saves, moved}

@@ -1,21 +1,17 @@
 -- What a client counts once it heard a reply.
-use Rattle.std.proofs.Common.{◌≡◌, ◌≢◌, ◌⊎◌, ℕ, ◌≤◌, ◌==◌, nat_lt, if◌then◌else◌, Bool, true, false, List, ◌++◌, length, length-append, take, drop, Option, ap, inl, inr, arith}
+use Rattle.std.proofs.Common.{◌≡◌, ◌≢◌, ◌⊎◌, ℕ, ◌≤◌, false, List, ◌++◌, length, length-append, take, drop, Option, ap, inl, inr, arith}
 use Rattle.rmt_wire.specs.Reply.{PlainReply}
-use Rattle.rmt_wire.specs.Reply.PlainReply.{Done, Data, Error}
-use Rattle.rmt_wire.specs.declared.errno.TheConstants.{ENOSPC}
 use Rattle.rmt_server.specs.Hall.{Side}
 use Rattle.dump_run.specs.Run.{PlainRun}
-use Rattle.dump_run.specs.Label.{label_bytes}
-use Rattle.dump_client.specs.Position.{at_end_of_reel}
-use Rattle.dump_client.specs.Position.Heard.{Reply}
-use Rattle.dump_client.specs.Standing.{Standing, standing, checkpoint_of, IsOver, Becomes, HearsAt, FedAt}
+use Rattle.dump_client.specs.Standing.{Standing, IsOver, FedAt}
 use Rattle.dump_client.specs.Client.{HasFedAt}
 use Rattle.dump_run.specs.declared.count.VolumeCount.{VolumeCount}
 use Rattle.dump_client.specs.declared.step.Step.{Step}
-use Rattle.dump_client.specs.declared.step.Step.TheVariants.{Open, Rewind, Label, Block, Mark, Unload, Close}
+use Rattle.dump_client.specs.declared.step.Step.TheVariants.{Close}
 use Rattle.dump_client.specs.declared.stage.Stage.{Stage}
 use Rattle.dump_client.specs.declared.stage.Stage.TheVariants.{ToSend, Waiting}
 use Rattle.dump_client.specs.declared.stage.Progress.{Progress}
+use Rattle.dump_client.proofs.Heard.{HeardAs, has_failed, goes_to, has_counted, has_ended, counted_last, heard_as}
 use Rattle.tape_events.specs.World.{Link, Dumping, Begun, Caller}
 use Rattle.tape_events.specs.Sending.{GoesTo, LeadsOn, IsStepReply, IsAttempt, IsStepReplied, IsLinkToldAt}
 use Rattle.tape_events.proofs.SentWire.{OneReply}
@@ -28,54 +24,12 @@ over_counts run counts new (inl (covers, is)) = ap (λ (s : Standing). s.counts)
 over_counts run counts new (inr (left, is)) = ap (λ (s : Standing). s.counts) is
 
 -- no count more, or the close comes next
-abbrev Counts : Standing → Standing → Type 0
-Counts old new = (new.counts ≡ old.counts) ⊎ (new.stage ≡ ToSend Close)
-
-by_test : {X : Type 0} (P : X → Type 0) (Q : Type 0) (b : Bool) (x y : X) → (P x → Q) → (P y → Q) → P (if b then x else y) → Q
-by_test P Q true x y one other h = one h
-by_test P Q false x y one other h = other h
-
-same_after : (old new : Standing) (stage : Stage) → new ≡ standing old.run old.counts stage → Counts old new
-same_after old new stage is = inl (ap (λ (s : Standing). s.counts) is)
-
--- where a block does not fit
-end_counts : (old new : Standing) (number first : ℕ) (progress : Progress) → Becomes old (at_end_of_reel first (Block number)) false progress new → Counts old new
-end_counts old new number first progress becomes =
-    by_test (λ out. Becomes old out false progress new) (Counts old new) (nat_lt first number) _ _ (λ h. same_after old new _ h.1) (λ h. same_after old new _ h.1) becomes
-
-becomes_counts : (old new : Standing) (step : Step) (reply : PlainReply) (progress : Progress) → HearsAt old step (Reply reply) false progress new → Counts old new
-becomes_counts old new Open (Done n) progress (moved, is) = same_after old new _ is
-becomes_counts old new Open (Data bytes) progress (moved, is) = same_after old new _ is
-becomes_counts old new Open (Error n text) progress (moved, is) = same_after old new _ is
-becomes_counts old new Rewind (Done n) progress becomes =
-    by_test (λ out. Becomes old out false progress new) (Counts old new) (n == 1) _ _ (λ h. same_after old new _ h.1) (λ h. same_after old new _ h.1) becomes
-becomes_counts old new Rewind (Data bytes) progress (moved, is) = same_after old new _ is
-becomes_counts old new Rewind (Error n text) progress (moved, is) = same_after old new _ is
-becomes_counts old new Label (Done n) progress becomes =
-    by_test (λ out. Becomes old out false progress new) (Counts old new) (n == label_bytes) _ _ (λ h. same_after old new _ h.1)
-    (λ h. by_test (λ out. Becomes old out false progress new) (Counts old new) (n == 0) _ _ (λ x. same_after old new _ x.1) (λ x. same_after old new _ x.1) h) becomes
-becomes_counts old new Label (Data bytes) progress (moved, is) = same_after old new _ is
-becomes_counts old new Label (Error n text) progress becomes =
-    by_test (λ out. Becomes old out false progress new) (Counts old new) (n == ENOSPC) _ _ (λ h. same_after old new _ h.1) (λ h. same_after old new _ h.1) becomes
-becomes_counts old new (Block number) (Done n) progress becomes =
-    by_test (λ out. Becomes old out false progress new) (Counts old new) (n == old.run.block_bytes) _ _ (λ h. same_after old new _ h.1)
-    (λ h. by_test (λ out. Becomes old out false progress new) (Counts old new) (n == 0) _ _ (end_counts old new number (checkpoint_of old.counts).1 progress)
-    (λ x. same_after old new _ x.1) h) becomes
-becomes_counts old new (Block number) (Data bytes) progress (moved, is) = same_after old new _ is
-becomes_counts old new (Block number) (Error n text) progress becomes =
-    by_test (λ out. Becomes old out false progress new) (Counts old new) (n == ENOSPC) _ _ (end_counts old new number (checkpoint_of old.counts).1 progress)
-    (λ h. same_after old new _ h.1) becomes
-becomes_counts old new (Mark next) (Done n) progress becomes =
-    by_test (λ out. Becomes old out false progress new) (Counts old new) (n == 1) _ _ (λ h. same_after old new _ h.1) (λ h. same_after old new _ h.1) becomes
-becomes_counts old new (Mark next) (Data bytes) progress (moved, is) = same_after old new _ is
-becomes_counts old new (Mark next) (Error n text) progress (moved, is) = same_after old new _ is
-becomes_counts old new (Unload next) (Done n) progress becomes =
-    by_test (λ out. Becomes old out false progress new) (Counts old new) (n == 1) _ _ (λ h. inr (ap (λ (s : Standing). s.stage) h.1)) (λ h. same_after old new _ h.1) becomes
-becomes_counts old new (Unload next) (Data bytes) progress (moved, is) = same_after old new _ is
-becomes_counts old new (Unload next) (Error n text) progress (moved, is) = same_after old new _ is
-becomes_counts old new Close (Done n) progress (moved, over) = inl (over_counts old.run old.counts new over)
-becomes_counts old new Close (Data bytes) progress (moved, over) = inl (over_counts old.run old.counts new over)
-becomes_counts old new Close (Error n text) progress (moved, over) = inl (over_counts old.run old.counts new over)
+pub becomes_counts : (old new : Standing) (progress : Progress) → HeardAs old new false progress → (new.counts ≡ old.counts) ⊎ (new.stage ≡ ToSend Close)
+becomes_counts old new progress (has_failed fault tells is) = inl (ap (λ (s : Standing). s.counts) is)
+becomes_counts old new progress (goes_to next alone tells is) = inl (ap (λ (s : Standing). s.counts) is)
+becomes_counts old new progress (has_counted end alone tells is) = inr (ap (λ (s : Standing). s.stage) is)
+becomes_counts old new progress (has_ended tells over) = inl (over_counts old.run old.counts new over)
+becomes_counts old new progress (counted_last end followed tells over) = absurd cc
 
 -- the client has counted, and goes on to its close
 pub record HasCounted (begun : List Begun) (o : Option Side) (c : Caller) (d : Dumping) (new : Standing) : Type 0 where
@@ -89,7 +43,7 @@ hearing_counts : (begun : List Begun) (o : Option Side) (c : Caller) (d : Dumpin
     (progress : Progress) → IsAttempt begun c d step b → LeadsOn b.run o c.at d step reply → HearsPiece c.at step reply bytes way progress new
     → (new.counts ≡ c.at.counts) ⊎ HasCounted begun o c d new
 hearing_counts begun o c d step b new bytes way reply progress attempt leads (waits moved is text) = inl (ap (λ (s : Standing). s.counts) is)
-hearing_counts begun o c d step b new bytes way reply progress attempt leads (whole spelled none heard) = elim (becomes_counts c.at new step reply progress heard) [
+hearing_counts begun o c d step b new bytes way reply progress attempt leads (whole spelled none heard) = elim (becomes_counts c.at new progress (heard_as c.at new _ false progress heard)) [
   | inl same ↦ inl same
   | inr at ↦ inr record {
     b = b;

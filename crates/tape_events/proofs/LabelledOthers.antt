@@ -7,11 +7,12 @@ use Rattle.rmt_server.specs.Hall.{Hall, hall, Side, side}
 use Rattle.rmt_server.specs.Session.{PlainReel}
 use Rattle.dump_run.specs.Run.{PlainRun}
 use Rattle.dump_client.specs.Lawful.{steps_before}
-use Rattle.dump_client.specs.declared.step.Step.TheVariants.{Unload}
+use Rattle.dump_client.specs.declared.step.Step.TheVariants.{Operation}
+use Rattle.dump_client.specs.declared.step.TapeOp.TheVariants.{Unload}
 use Rattle.tape_events.specs.World.{World, Dumping, Begun, Opening, numbered, with_numbered}
 use Rattle.tape_events.specs.Changes.{side_of, opening, opened_reel, writing}
 use Rattle.tape_events.specs.Standing.{online_drive_in, AreHeld, IsOnlineWith, StandsOn}
-use Rattle.tape_events.specs.Headline.{block_records}
+use Rattle.tape_events.specs.Written.{block_records}
 use Rattle.tape_events.specs.Written.{attempt_written, label_if, mark_if, IsAlone, IsBeforeOffline}
 use Rattle.tape_events.specs.Attempts.{IsReelWritten, IsLabelled, AreLabelled}
 use Rattle.tape_events.proofs.Numbers.{pushed_is, numbered_within}
@@ -34,9 +35,10 @@ written_same run payload d e s =
 before_same : (run : PlainRun) (d e : Dumping) → SameNotes d e → IsBeforeOffline run e → IsBeforeOffline run d
 before_same run d e s before marked =
     let less = before (s.mark ∙ marked) in
-    let many : length (steps_before run e.first (e.first + e.blocks) (Unload (e.first + e.blocks))) ≡ length (steps_before run d.first (d.first + d.blocks) (Unload (d.first + d.blocks)))
-    = ap (λ n. length (steps_before run n (n + e.blocks) (Unload (n + e.blocks)))) s.first
-    ∙ ap (λ n. length (steps_before run d.first (d.first + n) (Unload (d.first + n)))) s.blocks in
+    let many : length (steps_before run e.first (e.first + e.blocks) (Operation (Unload (e.first + e.blocks))))
+    ≡ length (steps_before run d.first (d.first + d.blocks) (Operation (Unload (d.first + d.blocks))))
+    = ap (λ n. length (steps_before run n (n + e.blocks) (Operation (Unload (n + e.blocks))))) s.first
+    ∙ ap (λ n. length (steps_before run d.first (d.first + n) (Operation (Unload (d.first + n))))) s.blocks in
     let carried = s.carried in
     omega (arith, less, many, carried)
 

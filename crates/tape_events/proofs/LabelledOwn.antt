@@ -4,7 +4,8 @@ use Rattle.rmt_server.specs.Hall.{Hall, hall, Side, side}
 use Rattle.rmt_server.specs.Session.{tape_request}
 use Rattle.tape.specs.Tape.{PlainEntry}
 use Rattle.dump_client.specs.declared.step.Step.{Step}
-use Rattle.dump_client.specs.declared.step.Step.TheVariants.{Unload, Close}
+use Rattle.dump_client.specs.declared.step.Step.TheVariants.{Operation, Close}
+use Rattle.dump_client.specs.declared.step.TapeOp.TheVariants.{Unload}
 use Rattle.tape_events.specs.World.{World, Link, Dumping, Begun, with_numbered}
 use Rattle.tape_events.specs.Standing.{AreHeld, StandsOn}
 use Rattle.tape_events.specs.Sending.{HasDone, request_in}
@@ -18,7 +19,7 @@ use Rattle.tape_events.proofs.LabelledServes.{IsServed}
 
 -- behind the mark no request asks for a write
 marked_reads : (b : Begun) (o : Option Side) (d : Dumping) (step : Step) → HasDone b.run o d step → d.mark ≡ true → is_write (tape_request (request_in b d step)) ≡ false
-marked_reads b o d (Unload next) done marked = refl
+marked_reads b o d (Operation (Unload next)) done marked = refl
 marked_reads b o d Close done marked = refl
 marked_reads b o d step done marked = let clash = sym done.mark ∙ marked in absurd cc
 

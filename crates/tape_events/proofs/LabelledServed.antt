@@ -19,12 +19,13 @@ use Rattle.dump_run.specs.Run.{PlainRun}
 use Rattle.dump_run.specs.Label.{label}
 use Rattle.dump_client.specs.Lawful.{steps_before}
 use Rattle.dump_client.specs.declared.step.Step.{Step}
-use Rattle.dump_client.specs.declared.step.Step.TheVariants.{Open, Rewind, Label, Block, Mark as MarkStep, Unload, Close}
+use Rattle.dump_client.specs.declared.step.Step.TheVariants.{Open, Operation, Look, Label, Block, Close}
+use Rattle.dump_client.specs.declared.step.TapeOp.TheVariants.{Rewind, RewindAgain, Mark as MarkTape, Unload}
 use Rattle.tape_events.specs.World.{World, Link, Dumping, Begun, numbered, with_numbered}
 use Rattle.tape_events.specs.Changes.{side_of, first_name, written_reel, opening, opened_reel, noted}
 use Rattle.tape_events.specs.Standing.{AreHeld}
 use Rattle.tape_events.specs.Kept.{AreLaid}
-use Rattle.tape_events.specs.Headline.{block_records}
+use Rattle.tape_events.specs.Written.{block_records}
 use Rattle.tape_events.specs.Naming.{AreOpened}
 use Rattle.tape_events.specs.Sending.{HasDone, request_in, IsGood, AreTold}
 use Rattle.tape_events.specs.Written.{label_if, mark_if, attempt_written, IsAlone, IsQuiet}
@@ -218,7 +219,7 @@ own_block w v l d o drive reel number online done (fails fault) labelled name qu
 
 -- the mark
 own_mark : (w : World) (v : Turn w) (l : Link) (d : Dumping) (o : Own w v l d) (drive : ℕ) (reel : PlainReel) (next : ℕ) → v.s.session ≡ Online drive Both reel
-    → HasDone o.p.b.run (Some v.s) d (MarkStep next)
+    → HasDone o.p.b.run (Some v.s) d (Operation (MarkTape next))
     → Puts (scene w.hall.shop v.s.session) (scene v.shop v.session) drive reel (Mark ∷ []) (Op MTWEOF 1) v.reply → IsNow w v o.p.b d (Op MTWEOF 1)
 own_mark w v l d o drive reel next online done (puts n is left) labelled name quiet last =
     let becomes : noted (Op MTWEOF 1) v.reply d ≡ on_by_one (record d { mark = true }) = ap (λ r. noted (Op MTWEOF 1) r d) is in
@@ -234,7 +235,7 @@ own_mark w v l d o drive reel next online done (fails fault) labelled name quiet
 
 -- behind the mark nothing is written, and more was carried out than up to it
 own_marked : (w : World) (v : Turn w) (l : Link) (d e : Dumping) (o : Own w v l d) → d.label ≡ true → d.fault ≡ false → d.mark ≡ true
-    → length (steps_before o.p.b.run d.first (d.first + d.blocks) (Unload (d.first + d.blocks))) < e.carried
+    → length (steps_before o.p.b.run d.first (d.first + d.blocks) (Operation (Unload (d.first + d.blocks)))) < e.carried
     → (e.mark ≡ d.mark) → (e.first ≡ d.first) → (e.blocks ≡ d.blocks) → (attempt_written o.p.b.run o.p.b.payload e ≡ attempt_written o.p.b.run o.p.b.payload d) → (name : List ℕ)
     → IsAlone w v.k name → IsReelWritten (turned w v) v.k o.p.b e name
 own_marked w v l d e o labelled fault marked more mark first blocks same name last = record {
@@ -242,17 +243,19 @@ own_marked w v l d e o labelled fault marked more mark first blocks same name la
       marked_stands w v l d o.p marked o.held o.held_after o.p.b name (was_written w v l d o labelled fault name last) entries on ∙ sym same;
   behind = λ s r at online before. (
       let less = before (mark ∙ marked) in
-      let many : length (steps_before o.p.b.run e.first (e.first + e.blocks) (Unload (e.first + e.blocks)))
-      ≡ length (steps_before o.p.b.run d.first (d.first + d.blocks) (Unload (d.first + d.blocks)))
-      = ap (λ n. length (steps_before o.p.b.run n (n + e.blocks) (Unload (n + e.blocks)))) first
-      ∙ ap (λ n. length (steps_before o.p.b.run d.first (d.first + n) (Unload (d.first + n)))) blocks in
+      let many : length (steps_before o.p.b.run e.first (e.first + e.blocks) (Operation (Unload (e.first + e.blocks))))
+      ≡ length (steps_before o.p.b.run d.first (d.first + d.blocks) (Operation (Unload (d.first + d.blocks))))
+      = ap (λ n. length (steps_before o.p.b.run n (n + e.blocks) (Operation (Unload (n + e.blocks))))) first
+      ∙ ap (λ n. length (steps_before o.p.b.run d.first (d.first + n) (Operation (Unload (d.first + n))))) blocks in
       absurd (omega (arith, less, many, more)));
 }
 
 now_by : (w : World) (v : Turn w) (l : Link) (d : Dumping) (o : Own w v l d) (step : Step) → HasDone o.p.b.run (Some v.s) d step → v.request ≡ request_in o.p.b d step
     → IsNow w v o.p.b d (request_in o.p.b d step)
 now_by w v l d o Open done asks labelled = let clash = sym done.label ∙ labelled in absurd cc
-now_by w v l d o Rewind done asks labelled = let clash = sym done.label ∙ labelled in absurd cc
+now_by w v l d o (Operation Rewind) done asks labelled = let clash = sym done.label ∙ labelled in absurd cc
+now_by w v l d o Look done asks labelled = let clash = sym done.label ∙ labelled in absurd cc
+now_by w v l d o (Operation RewindAgain) done asks labelled = let clash = sym done.label ∙ labelled in absurd cc
 now_by w v l d o Label done asks labelled =
     let on = done.stands v.s refl in
     own_label w v l d o on.1.0 on.0 on.1.1 on.2 done
@@ -265,22 +268,22 @@ now_by w v l d o (Block number) done asks labelled =
     (write_puts v.trouble w.hall.holders (scene w.hall.shop v.s.session) (get_or o.p.b.payload number []) v.reply (scene v.shop v.session) on.1.0 on.0 on.1.1
     (subst (λ r. TroubledServeStep v.trouble w.hall.holders (scene w.hall.shop v.s.session) r v.reply (scene v.shop v.session)) asks v.served.step))
     labelled
-now_by w v l d o (MarkStep next) done asks labelled =
+now_by w v l d o (Operation (MarkTape next)) done asks labelled =
     let on = done.stands v.s refl in
     own_mark w v l d o on.1.0 on.0 next on.1.1 done
     (mark_puts v.trouble w.hall.holders (scene w.hall.shop v.s.session) v.reply (scene v.shop v.session) on.1.0 on.0 on.1.1
     (subst (λ r. TroubledServeStep v.trouble w.hall.holders (scene w.hall.shop v.s.session) r v.reply (scene v.shop v.session)) asks v.served.step))
     labelled
-now_by w v l d o (Unload next) done asks labelled = λ name quiet last. (
+now_by w v l d o (Operation (Unload next)) done asks labelled = λ name quiet last. (
     let one = raised_one d.carried o.p.few in
     let was = done.carried in
-    let at = ap (λ n. length (steps_before o.p.b.run d.first (d.first + d.blocks) (Unload n))) done.blocks in
+    let at = ap (λ n. length (steps_before o.p.b.run d.first (d.first + d.blocks) (Operation (Unload n)))) done.blocks in
     own_marked w v l d (on_by_one d) o done.label done.fault done.mark (omega (arith, one, was, at)) refl refl refl refl name last)
 now_by w v l d o Close done asks labelled = λ name quiet last. (
     let one = raised_one d.carried o.p.few in
     let was = done.carried in
     let all = before_length o.p.b.run d.first (d.first + d.blocks) Close in
-    let some = before_length o.p.b.run d.first (d.first + d.blocks) (Unload (d.first + d.blocks)) in
+    let some = before_length o.p.b.run d.first (d.first + d.blocks) (Operation (Unload (d.first + d.blocks))) in
     own_marked w v l d (on_by_one d) o done.label done.fault done.mark (omega (arith, one, was, all, some)) refl refl refl refl name last)
 
 -- an open comes before the label

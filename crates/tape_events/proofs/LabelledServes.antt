@@ -2,7 +2,8 @@
 use Rattle.std.proofs.Common.{◌≡◌, ◌≢◌, ◌⊎◌, ℕ, ◌+◌, ◌^◌, ◌<◌, ◌≤◌, true, option_map, Some, Contains, refl, sym, ap, subst, ◌∙◌, inl, inr, arith}
 use Rattle.std.proofs.lemmas.List.Elements.{Contains-append_left}
 use Rattle.dump_client.specs.declared.step.Step.{Step}
-use Rattle.dump_client.specs.declared.step.Step.TheVariants.{Unload, Close}
+use Rattle.dump_client.specs.declared.step.Step.TheVariants.{Operation, Close}
+use Rattle.dump_client.specs.declared.step.TapeOp.TheVariants.{Unload}
 use Rattle.tape_events.specs.World.{World, Link, Dumping, Begun, Count, Opening, numbered}
 use Rattle.tape_events.specs.Changes.{link_of, opening, noted, answered}
 use Rattle.tape_events.specs.Sending.{HasDone, request_in, IsLinkSent, AreTold}
@@ -67,7 +68,7 @@ pub record SameWrites (d e : Dumping) : Type 0 where
 -- once the mark was accepted no request changes what was
 pub marked_writes : (w : World) (v : Turn w) (b : Begun) (d : Dumping) (step : Step) → HasDone b.run (Some v.s) d step → v.request ≡ request_in b d step → d.mark ≡ true
     → SameWrites d (noted v.request v.reply d)
-marked_writes w v b d (Unload next) done asks marked =
+marked_writes w v b d (Operation (Unload next)) done asks marked =
     subst (λ r. SameWrites d (noted r v.reply d)) (sym asks) record { run = refl; volume = refl; first = refl; label = refl; blocks = refl; mark = refl; fault = refl; more = omega arith }
 marked_writes w v b d Close done asks marked =
     subst (λ r. SameWrites d (noted r v.reply d)) (sym asks) record { run = refl; volume = refl; first = refl; label = refl; blocks = refl; mark = refl; fault = refl; more = omega arith }

@@ -11,7 +11,8 @@ use Rattle.drives.specs.Shop.{Shop, rack_at}
 use Rattle.rmt_server.specs.Hall.{Side}
 use Rattle.rmt_server.specs.Session.{PlainSession}
 use Rattle.dump_client.specs.declared.step.Step.{Step}
-use Rattle.dump_client.specs.declared.step.Step.TheVariants.{Open, Rewind, Label}
+use Rattle.dump_client.specs.declared.step.Step.TheVariants.{Open, Operation, Look, Label}
+use Rattle.dump_client.specs.declared.step.TapeOp.TheVariants.{Rewind, RewindAgain}
 use Rattle.tape_events.specs.World.{World, Link, Dumping, Begun, Opening, numbered}
 use Rattle.tape_events.specs.Changes.{opening, opened_reel, written_reel, first_name, noted}
 use Rattle.tape_events.specs.Naming.{AreOpened}
@@ -53,7 +54,7 @@ quiet_single w u q opened single k l d at dump = elim (q.links.at k l at) [
 ]
 
 -- only an open opens a reel
-open_step : (b : Begun) (d : Dumping) (step : Step) (s : Shop) (session : PlainSession) (reel : List ℕ) → opened_reel (request_in b d step) s session ≡ Some reel → step ≡ Open
+pub open_step : (b : Begun) (d : Dumping) (step : Step) (s : Shop) (session : PlainSession) (reel : List ℕ) → opened_reel (request_in b d step) s session ≡ Some reel → step ≡ Open
 open_step b d Open s session reel is = refl
 open_step b d step s session reel is = absurd cc
 
@@ -61,7 +62,9 @@ open_step b d step s session reel is = absurd cc
 pub label_step : (b : Begun) (o : Option Side) (d : Dumping) (step : Step) (reply : PlainReply) → HasDone b.run o d step → d.label ≡ false
     → (noted (request_in b d step) reply d).label ≡ true → step ≡ Label
 label_step b o d Open reply done none is = let clash = sym none ∙ is in absurd cc
-label_step b o d Rewind reply done none is = let clash = sym none ∙ is in absurd cc
+label_step b o d (Operation Rewind) reply done none is = let clash = sym none ∙ is in absurd cc
+label_step b o d Look reply done none is = let clash = sym none ∙ is in absurd cc
+label_step b o d (Operation RewindAgain) reply done none is = let clash = sym none ∙ is in absurd cc
 label_step b o d Label reply done none is = refl
 label_step b o d step reply done none is = let clash = sym none ∙ done.label in absurd cc
 
@@ -98,7 +101,7 @@ placed all k (Some reel) i o at = elim (pushed_is all (opening k reel) i o at) [
   | inr (last, new) ↦ inr (last, (reel, refl, new))
 ]
 
-was_placed_new : (w : World) (v : Turn w) (i : ℕ) (o : Opening) → numbered (turned w v).opens i ≡ Some o
+pub was_placed_new : (w : World) (v : Turn w) (i : ℕ) (o : Opening) → numbered (turned w v).opens i ≡ Some o
     → (numbered w.opens i ≡ Some o)
     ⊎ ((i ≡ suc (length w.opens)) × ((reel : List ℕ) × (opened_reel v.request v.shop v.session ≡ Some reel) × (o ≡ opening v.k reel)))
 was_placed_new w v i o at =

@@ -20,7 +20,7 @@ use Rattle.tape_events.specs.Changes.{side_of, with_side, ended_from, first_name
 use Rattle.tape_events.specs.First.{PlainDriveSpec, first_world}
 use Rattle.tape_events.specs.Kept.{AreTidy, AreLaid}
 use Rattle.tape_events.specs.Standing.{IsFirstAway, online_drive_in, AreHeld}
-use Rattle.tape_events.specs.Headline.{IsUnopenedSince}
+use Rattle.tape_events.specs.Naming.{IsUnopenedSince}
 use Rattle.tape_events.specs.Naming.{AreOpened}
 use Rattle.tape_events.proofs.Numbers.{no_number, length_changed, pushed_is, numbered_more, numbered_last, numbered_within, numbered_first}
 use Rattle.tape_events.proofs.Sides.{side_there, Sits, sits_here, sits_other, sits_is, joined_is}

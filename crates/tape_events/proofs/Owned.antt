@@ -249,7 +249,7 @@ cut_rests stage old new progress at (tells, is) = stands_so new old is (ap is_in
 idle_owned : (w u : World) → u.links ≡ w.links → u.own ≡ w.own → (Attempts w → ⊥) → (Attempts u → ⊥) → IsOwned w → IsOwned u
 idle_owned w u links own before after o = same_links w u links own (λ a. absurd (before a)) (λ a. absurd (after a)) o
 
-answer_rests : (answer : Answer) → is_in_attempt (stage_after answer) ≡ false
+pub answer_rests : (answer : Answer) → is_in_attempt (stage_after answer) ≡ false
 answer_rests Retry = refl
 answer_rests Abandon = refl
 

@@ -15,13 +15,14 @@ use Rattle.rmt_server.specs.Session.{PlainReel, Scene, scene, status_of, refusal
 use Rattle.rmt_server.specs.Session.PlainSession.{Online}
 use Rattle.rmt_server.specs.TroubledServe.{TroubledServeStep, TroubledMoveStep, TroubledDoneStep}
 use Rattle.dump_client.specs.declared.step.Step.{Step}
-use Rattle.dump_client.specs.declared.step.Step.TheVariants.{Rewind, Mark, Unload}
+use Rattle.dump_client.specs.declared.step.Step.TheVariants.{Operation}
+use Rattle.dump_client.specs.declared.step.TapeOp.TheVariants.{Rewind, RewindAgain, Mark, Unload}
 use Rattle.tape_events.specs.World.{World, Link, Dumping, Begun}
 use Rattle.tape_events.specs.Changes.{side_of, link_of, first_name, written_reel, opening}
 use Rattle.tape_events.specs.Standing.{IsFirstAway, online_drive_in}
 use Rattle.tape_events.specs.Kept.{IsWorldKept}
 use Rattle.tape_events.specs.Sending.{HasDone, request_in}
-use Rattle.tape_events.specs.Headline.{whole_volume}
+use Rattle.tape_events.specs.Written.{whole_volume}
 use Rattle.tape_events.specs.Attempts.{IsReelWritten}
 use Rattle.tape_events.specs.Serving.{IsWholeInBin, IsMoveDone}
 use Rattle.tape_events.proofs.Booked.{among_at}
@@ -37,11 +38,12 @@ op_of (Op op count) = op
 op_of request = 0
 
 -- the step is that of the MTOFFL
-move_step : (b : Begun) (d : Dumping) (step : Step) (count : ℕ) → request_in b d step ≡ Op MTOFFL count → (next : ℕ) × (step ≡ Unload next)
+move_step : (b : Begun) (d : Dumping) (step : Step) (count : ℕ) → request_in b d step ≡ Op MTOFFL count → (next : ℕ) × (step ≡ Operation (Unload next))
 unfolding op_of
-move_step b d Rewind count is = let clash : 5 ≡ 6 = ap op_of is in absurd (omega (arith, clash))
-move_step b d (Mark next) count is = let clash : 0 ≡ 6 = ap op_of is in absurd (omega (arith, clash))
-move_step b d (Unload next) count is = (next, refl)
+move_step b d (Operation Rewind) count is = let clash : 5 ≡ 6 = ap op_of is in absurd (omega (arith, clash))
+move_step b d (Operation RewindAgain) count is = let clash : 5 ≡ 6 = ap op_of is in absurd (omega (arith, clash))
+move_step b d (Operation (Mark next)) count is = let clash : 0 ≡ 6 = ap op_of is in absurd (omega (arith, clash))
+move_step b d (Operation (Unload next)) count is = (next, refl)
 move_step b d step count is = absurd cc
 
 -- the reel lies last in the bin
@@ -75,7 +77,7 @@ stands_whole w k s b d drive reel live online labelled marked written =
     written.stands (entries_of reel.tape) (inr (k, s, live, (drive, Both, reel, online, refl, refl))) ∙ labelled_as b.run b.payload d true labelled marked
 
 moved_whole : (w : World) (v : Turn w) (l : Link) (d : Dumping) (p : IsServed w v l d) (next n : ℕ) → IsWorldKept w → link_of w v.k ≡ Some l → l.dump ≡ Some d
-    → HasDone p.b.run (Some v.s) d (Unload next) → v.request ≡ Op MTOFFL 1 → v.reply ≡ Done n → IsWholeInBin w v.k d (turned w v)
+    → HasDone p.b.run (Some v.s) d (Operation (Unload next)) → v.request ≡ Op MTOFFL 1 → v.reply ≡ Done n → IsWholeInBin w v.k d (turned w v)
 moved_whole w v l d p next n kept at dump done asks replies =
     let on = done.stands v.s refl in
     let drive = on.1.0 in

@@ -4,9 +4,10 @@ use Rattle.std.proofs.lemmas.List.{length-append}
 use Rattle.rmt_wire.specs.Counted.{raised}
 use Rattle.rmt_server.specs.Hall.{Side}
 use Rattle.dump_run.specs.Run.{PlainRun, IsRun}
-use Rattle.dump_client.specs.Lawful.{steps_before, steps_to, blocks_from}
+use Rattle.dump_client.specs.Lawful.{steps_before, steps_to, steps_to_block, blocks_from}
 use Rattle.dump_client.specs.declared.step.Step.{Step}
-use Rattle.dump_client.specs.declared.step.Step.TheVariants.{Open, Rewind, Label, Block, Mark, Unload, Close}
+use Rattle.dump_client.specs.declared.step.Step.TheVariants.{Open, Operation, Look, Label, Block, Close}
+use Rattle.dump_client.specs.declared.step.TapeOp.TheVariants.{Rewind, RewindAgain, Mark, Unload}
 use Rattle.tape_events.specs.World.{Dumping}
 use Rattle.tape_events.specs.Sending.{HasDone, VolumeHasBlocks, StandsFor}
 
@@ -17,12 +18,14 @@ one_if false = 0
 
 abbrev pub steps_len : PlainRun → ℕ → ℕ → Step → ℕ
 steps_len run first next Open = 0
-steps_len run first next Rewind = 1
-steps_len run first next Label = 2
-steps_len run first next (Block number) = 3 + (number - first)
-steps_len run first next (Mark end) = 3 + (end - first) + one_if (nat_lt end run.blocks)
-steps_len run first next (Unload end) = 4 + (end - first) + one_if (nat_lt end run.blocks)
-steps_len run first next Close = 5 + (next - first) + one_if (nat_lt next run.blocks)
+steps_len run first next (Operation Rewind) = 1
+steps_len run first next Look = 2
+steps_len run first next (Operation RewindAgain) = 3
+steps_len run first next Label = 4
+steps_len run first next (Block number) = 5 + (number - first)
+steps_len run first next (Operation (Mark end)) = 5 + (end - first) + one_if (nat_lt end run.blocks)
+steps_len run first next (Operation (Unload end)) = 6 + (end - first) + one_if (nat_lt end run.blocks)
+steps_len run first next Close = 7 + (next - first) + one_if (nat_lt next run.blocks)
 
 blocks_length : (first count : ℕ) → length (blocks_from first count) ≡ count
 blocks_length first zero = refl
@@ -32,25 +35,29 @@ if_length : (b : Bool) (step : Step) → length (if b then step ∷ [] else []) 
 if_length true step = refl
 if_length false step = refl
 
-to_length : (run : PlainRun) (first next : ℕ) → length (steps_to run first next) ≡ 3 + (next - first) + one_if (nat_lt next run.blocks)
+to_length : (run : PlainRun) (first next : ℕ) → length (steps_to run first next) ≡ 5 + (next - first) + one_if (nat_lt next run.blocks)
 to_length run first next =
-    let all = length-append (blocks_from first (next - first)) (if nat_lt next run.blocks then Block next ∷ [] else []) in
+    let all = length-append (steps_to_block first next) (if nat_lt next run.blocks then Block next ∷ [] else []) in
     let many = blocks_length first (next - first) in
     let last = if_length (nat_lt next run.blocks) (Block next) in
     omega (arith, all, many, last)
 
 pub before_length : (run : PlainRun) (first next : ℕ) (step : Step) → length (steps_before run first next step) ≡ steps_len run first next step
+before_length run first next Open = refl
+before_length run first next (Operation Rewind) = refl
+before_length run first next Look = refl
+before_length run first next (Operation RewindAgain) = refl
+before_length run first next Label = refl
 before_length run first next (Block number) = let many = blocks_length first (number - first) in omega (arith, many)
-before_length run first next (Mark end) = to_length run first end
-before_length run first next (Unload end) =
-    let all = length-append (steps_to run first end) (Mark end ∷ []) in
+before_length run first next (Operation (Mark end)) = to_length run first end
+before_length run first next (Operation (Unload end)) =
+    let all = length-append (steps_to run first end) (Operation (Mark end) ∷ []) in
     let many = to_length run first end in
     omega (arith, all, many)
 before_length run first next Close =
-    let all = length-append (steps_to run first next) (Mark next ∷ Unload next ∷ []) in
+    let all = length-append (steps_to run first next) (Operation (Mark next) ∷ Operation (Unload next) ∷ []) in
     let many = to_length run first next in
     omega (arith, all, many)
-before_length run first next step = refl
 
 -- what comes before the close was carried out still
 pub still_unloaded : (run : PlainRun) (d e : Dumping) → e.first ≡ d.first → e.blocks ≡ d.blocks → d.carried ≤ e.carried
@@ -69,13 +76,15 @@ one_at_most true = omega arith
 one_at_most false = omega arith
 
 few_steps : (run : PlainRun) (first blocks : ℕ) (step : Step) → VolumeHasBlocks run first step blocks → first + blocks ≤ run.blocks
-    → steps_len run first (first + blocks) step ≤ run.blocks + 6
+    → steps_len run first (first + blocks) step ≤ run.blocks + 8
 few_steps run first blocks Open has within = omega arith
-few_steps run first blocks Rewind has within = omega arith
+few_steps run first blocks (Operation Rewind) has within = omega arith
+few_steps run first blocks Look has within = omega arith
+few_steps run first blocks (Operation RewindAgain) has within = omega arith
 few_steps run first blocks Label has within = omega arith
 few_steps run first blocks (Block number) has within = let at = has.0 in omega (arith, at, within)
-few_steps run first blocks (Mark end) has within = let most = one_at_most (nat_lt end run.blocks) in omega (arith, has, within, most)
-few_steps run first blocks (Unload end) has within = let most = one_at_most (nat_lt end run.blocks) in omega (arith, has, within, most)
+few_steps run first blocks (Operation (Mark end)) has within = let most = one_at_most (nat_lt end run.blocks) in omega (arith, has, within, most)
+few_steps run first blocks (Operation (Unload end)) has within = let most = one_at_most (nat_lt end run.blocks) in omega (arith, has, within, most)
 few_steps run first blocks Close has within = let most = one_at_most (nat_lt (first + blocks) run.blocks) in omega (arith, within, most)
 
 -- an attempt has few steps

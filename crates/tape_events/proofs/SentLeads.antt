@@ -1,5 +1,5 @@
 -- Where the reply to each request of an attempt leads the client on, all was done before the step that it leads to.
-use Rattle.std.proofs.Common.{◌≡◌, ℕ, zero, suc, ◌+◌, ◌-◌, ◌^◌, ◌<◌, ◌≤◌, ◌==◌, Bool, true, false, if◌then◌else◌, nat_lt, List, [], length, Option, Some, refl, sym, ap, subst, ◌∙◌, inl, inr, arith}
+use Rattle.std.proofs.Common.{◌≡◌, ℕ, zero, suc, ◌+◌, ◌-◌, ◌^◌, ◌<◌, ◌≤◌, ◌==◌, Bool, true, false, if◌then◌else◌, nat_lt, List, [], length, Option, Some, None, refl, sym, ap, subst, ◌∙◌, inl, inr, arith}
 use Rattle.std.proofs.lemmas.Bool.Decides.{nat_tests}
 use Rattle.std.proofs.lemmas.Option.{same_Some}
 use Rattle.rmt_wire.specs.Counted.{raised}
@@ -8,24 +8,25 @@ use Rattle.rmt_wire.specs.Reply.{PlainReply}
 use Rattle.rmt_wire.specs.Reply.PlainReply.{Done, Data, Error}
 use Rattle.rmt_wire.specs.declared.errno.TheConstants.{EIO, ENOSPC}
 use Rattle.rmt_wire.specs.declared.fcntl.TheConstants.{O_RDWR}
-use Rattle.rmt_wire.specs.declared.mtio.TheConstants.{MTOFFL, MTREW, MTWEOF}
+use Rattle.rmt_wire.specs.declared.mtio.TheConstants.{MTWEOF}
 use Rattle.rmt_server.specs.Hall.{Side}
 use Rattle.rmt_server.specs.Session.{PlainReel}
-use Rattle.rmt_server.specs.Session.PlainSession.{Offline}
-use Rattle.rmt_server.specs.declared.access.Access.TheVariants.{Both}
 use Rattle.dump_run.specs.Run.{PlainRun, IsRun}
 use Rattle.dump_run.specs.Label.{label_bytes}
-use Rattle.dump_client.specs.Position.{after_reply, after_step, after_noise, after_write, after_error, at_end_of_reel, block_or_mark, leads_to}
+use Rattle.dump_client.specs.Script.{counted_label}
+use Rattle.dump_client.specs.Position.{after_reply, after_done, after_step, after_label, after_noise, after_write, after_error, at_end_of_reel, block_or_mark, leads_to}
 use Rattle.dump_client.specs.Standing.{Standing, standing, counted_to, Becomes, IsOver}
 use Rattle.dump_client.specs.Lawful.{steps_before}
 use Rattle.dump_client.specs.declared.step.Step.{Step}
-use Rattle.dump_client.specs.declared.step.Step.TheVariants.{Open, Rewind, Label, Block, Mark, Unload, Close}
+use Rattle.dump_client.specs.declared.step.Step.TheVariants.{Open, Operation, Look, Label, Block, Close}
+use Rattle.dump_client.specs.declared.step.TapeOp.{TapeOp}
+use Rattle.dump_client.specs.declared.step.TapeOp.TheVariants.{Rewind, RewindAgain, Mark, Unload}
 use Rattle.dump_client.specs.declared.stage.Stage.TheVariants.{ToSend, Asking, Ready, Finished}
 use Rattle.dump_client.specs.declared.stage.Progress.{Progress}
 use Rattle.dump_run.specs.declared.count.VolumeCount.{VolumeCount}
 use Rattle.tape_events.specs.World.{Dumping}
 use Rattle.tape_events.specs.Changes.{noted, noted_error, accepted}
-use Rattle.tape_events.specs.Sending.{HasDone, StandsFor, GoesTo, AreCounted}
+use Rattle.tape_events.specs.Sending.{HasDone, is_labelled, is_marked, VolumeHasBlocks, StandsFor, GoesTo, AreCounted}
 use Rattle.tape_events.specs.Standing.{IsOnlineWith}
 use Rattle.tape_events.proofs.Sent.{steps_len, one_if, before_length, raised_one}
 
@@ -53,60 +54,90 @@ one_further carried run first a b step next few was more =
 -- Where the client goes on once it hears this, by what the reply makes of it.
 abbrev pub LeadsFrom : Option Side → Standing → Dumping → Dumping → Step → PlainReply → Type 0
 LeadsFrom o old d noted step reply =
-    (progress : Progress) (new : Standing) (next : Step) → Becomes old (after_reply old.run d.first step reply) false progress new
+    (progress : Progress) (new : Standing) (next : Step) → Becomes old (after_reply old.run old.counts d.first step reply) false progress new
     → new.stage ≡ ToSend next → GoesTo old.run o old noted new next
+
+-- the numbers with a request more
+abbrev pub on_by_one : Dumping → Dumping
+on_by_one d = record d { carried = raised d.carried }
+
+-- The client goes on to a step, of which no write comes between: the numbers stay but for the request that was carried out.
+goes_on : (old : Standing) (s x : Side) (d : Dumping) (step next : Step) (counts : List VolumeCount) (new : Standing) → d.carried + 1 < 2 ^ 64
+    → HasDone old.run (Some s) d step → new ≡ standing old.run counts (ToSend next)
+    → steps_len old.run d.first (d.first + d.blocks) next ≡ steps_len old.run d.first (d.first + d.blocks) step + 1
+    → is_labelled step ≡ is_labelled next → is_marked step ≡ is_marked next → VolumeHasBlocks old.run d.first next d.blocks
+    → StandsFor next x.session → AreCounted next old.counts (on_by_one d) counts → GoesTo old.run (Some x) old (on_by_one d) new next
+goes_on old s x d step next counts new few h is more label mark blocks stands counted = record {
+  done = record {
+    carried = one_further d.carried old.run d.first (d.first + d.blocks) (d.first + d.blocks) step next few h.carried more;
+    fault = h.fault;
+    label = h.label ∙ label;
+    blocks = blocks;
+    within = h.within;
+    mark = h.mark ∙ mark;
+    stands = λ y here. subst (λ (z : Side). StandsFor next z.session) (same_Some x y here) stands;
+  };
+  same_run = ap (λ (z : Standing). z.run) is;
+  counts = subst (λ c. AreCounted next old.counts (on_by_one d) c) (sym (ap (λ (z : Standing). z.counts) is)) counted;
+}
 
 -- nothing is open before, and the drive afterwards
 pub open_leads : (old : Standing) (s x : Side) (d : Dumping) (device : List ℕ) (reply : PlainReply) → HasDone old.run (Some s) d Open → d.carried + 1 < 2 ^ 64
     → ((n : ℕ) → reply ≡ Done n → (reel : PlainReel) × IsOnlineWith x.session reel × (reel.tape.before ≡ []))
     → LeadsFrom (Some x) old d (noted (OpenDevice device O_RDWR) reply d) Open reply
 open_leads old s x d device (Done n) h few stands progress new next (moved, is) at =
-    subst (GoesTo old.run (Some x) old (noted (OpenDevice device O_RDWR) (Done n) d) new) (arrives old.run old.counts new Rewind next is at) record {
-      done = record {
-        carried = one_further d.carried old.run d.first (d.first + d.blocks) (d.first + d.blocks) Open Rewind few h.carried refl;
-        fault = h.fault;
-        label = h.label;
-        blocks = h.blocks;
-        within = h.within;
-        mark = h.mark;
-        stands = λ y here. (let r = stands n refl in subst (λ (z : Side). StandsFor Rewind z.session) (same_Some x y here) r);
-      };
-      same_run = ap (λ (z : Standing). z.run) is;
-      counts = ap (λ (z : Standing). z.counts) is;
-    }
+    subst (GoesTo old.run (Some x) old (noted (OpenDevice device O_RDWR) (Done n) d) new) (arrives old.run old.counts new (Operation Rewind) next is at)
+    (goes_on old s x d Open (Operation Rewind) old.counts new few h is refl refl refl h.blocks (stands n refl) refl)
 open_leads old s x d device (Data bytes) h few stands progress new next (moved, is) at = absurd (not_asking old.run old.counts new next is at)
 open_leads old s x d device (Error n text) h few stands progress new next (moved, is) at = absurd (not_asking old.run old.counts new next is at)
 
-rewind_tested : (old : Standing) (s x : Side) (d : Dumping) (n : ℕ) (b : Bool) → HasDone old.run (Some s) d Rewind → d.carried + 1 < 2 ^ 64
-    → ((reel : PlainReel) × IsOnlineWith x.session reel × (reel.tape.before ≡ []))
-    → (progress : Progress) (new : Standing) (next : Step) → Becomes old (if b then after_step old.run d.first Rewind else after_noise Rewind) false progress new
-    → new.stage ≡ ToSend next → GoesTo old.run (Some x) old (noted (Op MTREW 1) (Done n) d) new next
-rewind_tested old s x d n true h few stands progress new next (moved, is) at =
-    subst (GoesTo old.run (Some x) old (noted (Op MTREW 1) (Done n) d) new) (arrives old.run old.counts new Label next is at) record {
-      done = record {
-        carried = one_further d.carried old.run d.first (d.first + d.blocks) (d.first + d.blocks) Rewind Label few h.carried refl;
-        fault = h.fault;
-        label = h.label;
-        blocks = h.blocks;
-        within = h.within;
-        mark = h.mark;
-        stands = λ y here. subst (λ (z : Side). StandsFor Label z.session) (same_Some x y here) stands;
-      };
-      same_run = ap (λ (z : Standing). z.run) is;
-      counts = ap (λ (z : Standing). z.counts) is;
-    }
-rewind_tested old s x d n false h few stands progress new next (moved, is) at = absurd (not_asking old.run old.counts new next is at)
+-- after an operation that was done once
+op_tested : (old : Standing) (o : Option Side) (noted : Dumping) (op : TapeOp) (b : Bool)
+    → ((progress : Progress) (new : Standing) (next : Step) → Becomes old (after_done op) false progress new → new.stage ≡ ToSend next → GoesTo old.run o old noted new next)
+    → (progress : Progress) (new : Standing) (next : Step) → Becomes old (if b then after_done op else after_noise (Operation op)) false progress new
+    → new.stage ≡ ToSend next → GoesTo old.run o old noted new next
+op_tested old o noted op true leads progress new next becomes at = leads progress new next becomes at
+op_tested old o noted op false leads progress new next (moved, is) at = absurd (not_asking old.run old.counts new next is at)
 
-pub rewind_leads : (old : Standing) (s x : Side) (d : Dumping) (reply : PlainReply) → HasDone old.run (Some s) d Rewind → d.carried + 1 < 2 ^ 64
-    → ((n : ℕ) → reply ≡ Done n → (reel : PlainReel) × IsOnlineWith x.session reel × (reel.tape.before ≡ []))
-    → LeadsFrom (Some x) old d (noted (Op MTREW 1) reply d) Rewind reply
-rewind_leads old s x d (Done n) h few stands progress new next becomes at = rewind_tested old s x d n (n == 1) h few (stands n refl) progress new next becomes at
-rewind_leads old s x d (Data bytes) h few stands progress new next (moved, is) at = absurd (not_asking old.run old.counts new next is at)
-rewind_leads old s x d (Error n text) h few stands progress new next (moved, is) at = absurd (not_asking old.run old.counts new next is at)
+-- any other reply to it fails
+op_leads : (old : Standing) (o : Option Side) (d noted : Dumping) (op : TapeOp) (reply : PlainReply)
+    → ((n : ℕ) → reply ≡ Done n → (progress : Progress) (new : Standing) (next : Step) → Becomes old (after_done op) false progress new → new.stage ≡ ToSend next
+    → GoesTo old.run o old noted new next) → LeadsFrom o old d noted (Operation op) reply
+op_leads old o d noted op (Done n) leads progress new next becomes at = op_tested old o noted op (n == 1) (leads n refl) progress new next becomes at
+op_leads old o d noted op (Data bytes) leads progress new next (moved, is) at = absurd (not_asking old.run old.counts new next is at)
+op_leads old o d noted op (Error n text) leads progress new next (moved, is) at = absurd (not_asking old.run old.counts new next is at)
+
+pub rewind_leads : (old : Standing) (s x : Side) (d : Dumping) (reply : PlainReply) → HasDone old.run (Some s) d (Operation Rewind) → d.carried + 1 < 2 ^ 64
+    → ((n : ℕ) → reply ≡ Done n → StandsFor Look x.session) → LeadsFrom (Some x) old d (on_by_one d) (Operation Rewind) reply
+rewind_leads old s x d reply h few stands = op_leads old (Some x) d (on_by_one d) Rewind reply (λ n is progress new next (moved, becomes) at.
+    subst (GoesTo old.run (Some x) old (on_by_one d) new) (arrives old.run old.counts new Look next becomes at)
+    (goes_on old s x d (Operation Rewind) Look old.counts new few h becomes refl refl refl h.blocks (stands n is) refl))
+
+pub again_leads : (old : Standing) (s x : Side) (d : Dumping) (reply : PlainReply) → HasDone old.run (Some s) d (Operation RewindAgain) → d.carried + 1 < 2 ^ 64
+    → ((n : ℕ) → reply ≡ Done n → StandsFor Label x.session) → LeadsFrom (Some x) old d (on_by_one d) (Operation RewindAgain) reply
+again_leads old s x d reply h few stands = op_leads old (Some x) d (on_by_one d) RewindAgain reply (λ n is progress new next (moved, becomes) at.
+    subst (GoesTo old.run (Some x) old (on_by_one d) new) (arrives old.run old.counts new Label next becomes at)
+    (goes_on old s x d (Operation RewindAgain) Label old.counts new few h becomes refl refl refl h.blocks (stands n is) refl))
+
+-- a first record that is the label of no counted volume
+shown_leads : (old : Standing) (s x : Side) (d : Dumping) (o : Option ℕ) → HasDone old.run (Some s) d Look → d.carried + 1 < 2 ^ 64
+    → ((reel : PlainReel) × IsOnlineWith x.session reel) → (progress : Progress) (new : Standing) (next : Step)
+    → Becomes old (after_label old.run d.first o) false progress new → new.stage ≡ ToSend next → GoesTo old.run (Some x) old (on_by_one d) new next
+shown_leads old s x d None h few stands progress new next (moved, is) at =
+    subst (GoesTo old.run (Some x) old (on_by_one d) new) (arrives old.run old.counts new (Operation RewindAgain) next is at)
+    (goes_on old s x d Look (Operation RewindAgain) old.counts new few h is refl refl refl h.blocks stands refl)
+shown_leads old s x d (Some volume) h few stands progress new next (moved, is) at = absurd (not_asking old.run old.counts new next is at)
+
+pub look_leads : (old : Standing) (s x : Side) (d : Dumping) (reply : PlainReply) → HasDone old.run (Some s) d Look → d.carried + 1 < 2 ^ 64
+    → ((reel : PlainReel) × IsOnlineWith x.session reel) → LeadsFrom (Some x) old d (on_by_one d) Look reply
+look_leads old s x d (Done n) h few stands progress new next (moved, is) at = absurd (not_asking old.run old.counts new next is at)
+look_leads old s x d (Data bytes) h few stands progress new next becomes at =
+    shown_leads old s x d (counted_label old.run old.counts bytes) h few stands progress new next becomes at
+look_leads old s x d (Error n text) h few stands progress new next (moved, is) at = absurd (not_asking old.run old.counts new next is at)
 
 -- The session stays online, and the numbers are those before a block, or before the mark where none is left.
 record StandsBefore (run : PlainRun) (x : Side) (d : Dumping) (number : ℕ) : Type 0 where
-  carried : d.carried ≡ 3 + (number - d.first)
+  carried : d.carried ≡ 5 + (number - d.first)
   fault : d.fault ≡ false
   label : d.label ≡ true
   at : number ≡ d.first + d.blocks
@@ -115,7 +146,7 @@ record StandsBefore (run : PlainRun) (x : Side) (d : Dumping) (number : ℕ) : T
   online : (reel : PlainReel) × IsOnlineWith x.session reel
 
 next_done : (run : PlainRun) (x : Side) (d : Dumping) (number : ℕ) (b : Bool) → nat_lt number run.blocks ≡ b → StandsBefore run x d number
-    → HasDone run (Some x) d (if b then Block number else Mark number)
+    → HasDone run (Some x) d (if b then Block number else Operation (Mark number))
 next_done run x d number true test h = record {
   carried = h.carried ∙ sym (before_length run d.first (d.first + d.blocks) (Block number));
   fault = h.fault;
@@ -129,17 +160,17 @@ next_done run x d number false test h = record {
   carried = (
       let was = h.carried in
       let none = ap one_if test in
-      let size = before_length run d.first (d.first + d.blocks) (Mark number) in
+      let size = before_length run d.first (d.first + d.blocks) (Operation (Mark number)) in
       omega (arith, was, none, size));
   fault = h.fault;
   label = h.label;
   blocks = h.at;
   within = (let at = h.at in let within = h.within in omega (arith, at, within));
   mark = h.mark;
-  stands = λ y here. subst (λ (z : Side). StandsFor (Mark number) z.session) (same_Some x y here) h.online;
+  stands = λ y here. subst (λ (z : Side). StandsFor (Operation (Mark number)) z.session) (same_Some x y here) h.online;
 }
 
-not_counted : (old new : Standing) (d : Dumping) (number : ℕ) (b : Bool) → new.counts ≡ old.counts → AreCounted (if b then Block number else Mark number) old.counts d new.counts
+not_counted : (old new : Standing) (d : Dumping) (number : ℕ) (b : Bool) → new.counts ≡ old.counts → AreCounted (if b then Block number else Operation (Mark number)) old.counts d new.counts
 not_counted old new d number true is = is
 not_counted old new d number false is = is
 
@@ -152,10 +183,6 @@ goes_next old new x d number next h is at =
       same_run = ap (λ (z : Standing). z.run) is;
       counts = not_counted old new d number (nat_lt number old.run.blocks) (ap (λ (z : Standing). z.counts) is);
     }
-
--- the numbers with a request more
-abbrev pub on_by_one : Dumping → Dumping
-on_by_one d = record d { carried = raised d.carried }
 
 pub label_accepted : (d : Dumping) → d.label ≡ false → accepted d ≡ record d { label = true }
 label_accepted d is = ap (λ b. if b then record d { blocks = raised d.blocks } else record d { label = true }) is
@@ -202,25 +229,13 @@ label_leads old s x d bytes (Error n text) h few stands progress new next become
 -- there is no room for a block, behind one that was written
 end_tested : (old : Standing) (s x : Side) (d : Dumping) (number : ℕ) (t : Bool) → HasDone old.run (Some s) d (Block number) → d.carried + 1 < 2 ^ 64
     → ((reel : PlainReel) × IsOnlineWith x.session reel) → (progress : Progress) (new : Standing) (next : Step)
-    → Becomes old (if t then leads_to (Mark number) Open else at_end_of_reel d.first Open) false progress new
+    → Becomes old (if t then leads_to (Operation (Mark number)) Open else at_end_of_reel d.first Open) false progress new
     → new.stage ≡ ToSend next → GoesTo old.run (Some x) old (on_by_one d) new next
 end_tested old s x d number true h few stands progress new next (moved, is) at =
     let more : nat_lt number old.run.blocks ≡ true = (let below = h.blocks.1 in grind (arith, nat_tests)) in
     let last = ap one_if more in
-    let size : steps_len old.run d.first (d.first + d.blocks) (Mark number) ≡ steps_len old.run d.first (d.first + d.blocks) (Block number) + 1 = omega (arith, last) in
-    subst (GoesTo old.run (Some x) old (on_by_one d) new) (arrives old.run old.counts new (Mark number) next is at) record {
-      done = record {
-        carried = one_further d.carried old.run d.first (d.first + d.blocks) (d.first + d.blocks) (Block number) (Mark number) few h.carried size;
-        fault = h.fault;
-        label = h.label;
-        blocks = h.blocks.0;
-        within = h.within;
-        mark = h.mark;
-        stands = λ y here. subst (λ (z : Side). StandsFor (Mark number) z.session) (same_Some x y here) stands;
-      };
-      same_run = ap (λ (z : Standing). z.run) is;
-      counts = ap (λ (z : Standing). z.counts) is;
-    }
+    subst (GoesTo old.run (Some x) old (on_by_one d) new) (arrives old.run old.counts new (Operation (Mark number)) next is at)
+    (goes_on old s x d (Block number) (Operation (Mark number)) old.counts new few h is (omega (arith, last)) refl refl h.blocks.0 stands refl)
 end_tested old s x d number false h few stands progress new next (moved, is) at = absurd (not_asking old.run old.counts new next is at)
 
 block_tested : (old : Standing) (s x : Side) (d : Dumping) (number m : ℕ) (b c : Bool) → (suc m == 0) ≡ c → IsRun old.run → HasDone old.run (Some s) d (Block number)
@@ -278,59 +293,31 @@ block_leads old s x d number bytes (Data given) good h few stands progress new n
 block_leads old s x d number bytes (Error n text) good h few stands progress new next becomes at =
     refused_tested old s x d number n (n == ENOSPC) refl h few stands progress new next becomes at
 
-mark_tested : (old : Standing) (s x : Side) (d : Dumping) (end : ℕ) (b : Bool) → HasDone old.run (Some s) d (Mark end) → d.carried + 1 < 2 ^ 64
-    → ((reel : PlainReel) × IsOnlineWith x.session reel) → (progress : Progress) (new : Standing) (next : Step)
-    → Becomes old (if b then after_step old.run d.first (Mark end) else after_noise (Mark end)) false progress new
-    → new.stage ≡ ToSend next → GoesTo old.run (Some x) old (on_by_one (record d { mark = true })) new next
-mark_tested old s x d end true h few stands progress new next (moved, is) at =
-    subst (GoesTo old.run (Some x) old (on_by_one (record d { mark = true })) new) (arrives old.run old.counts new (Unload end) next is at) record {
+pub mark_leads : (old : Standing) (s x : Side) (d : Dumping) (end : ℕ) (reply : PlainReply) → HasDone old.run (Some s) d (Operation (Mark end)) → d.carried + 1 < 2 ^ 64
+    → ((reel : PlainReel) × IsOnlineWith x.session reel) → LeadsFrom (Some x) old d (noted (Op MTWEOF 1) reply d) (Operation (Mark end)) reply
+mark_leads old s x d end reply h few stands = op_leads old (Some x) d (noted (Op MTWEOF 1) reply d) (Mark end) reply (λ n done progress new next (moved, is) at.
+    subst (λ r. GoesTo old.run (Some x) old (noted (Op MTWEOF 1) r d) new next) (sym done)
+    (subst (GoesTo old.run (Some x) old (on_by_one (record d { mark = true })) new) (arrives old.run old.counts new (Operation (Unload end)) next is at) record {
       done = record {
-        carried = one_further d.carried old.run d.first (d.first + d.blocks) (d.first + d.blocks) (Mark end) (Unload end) few h.carried (omega arith);
+        carried = one_further d.carried old.run d.first (d.first + d.blocks) (d.first + d.blocks) (Operation (Mark end)) (Operation (Unload end)) few h.carried (omega arith);
         fault = h.fault;
         label = h.label;
         blocks = h.blocks;
         within = h.within;
         mark = refl;
-        stands = λ y here. subst (λ (z : Side). StandsFor (Unload end) z.session) (same_Some x y here) stands;
+        stands = λ y here. subst (λ (z : Side). StandsFor (Operation (Unload end)) z.session) (same_Some x y here) stands;
       };
       same_run = ap (λ (z : Standing). z.run) is;
       counts = ap (λ (z : Standing). z.counts) is;
-    }
-mark_tested old s x d end false h few stands progress new next (moved, is) at = absurd (not_asking old.run old.counts new next is at)
+    }))
 
-pub mark_leads : (old : Standing) (s x : Side) (d : Dumping) (end : ℕ) (reply : PlainReply) → HasDone old.run (Some s) d (Mark end) → d.carried + 1 < 2 ^ 64
-    → ((reel : PlainReel) × IsOnlineWith x.session reel) → LeadsFrom (Some x) old d (noted (Op MTWEOF 1) reply d) (Mark end) reply
-mark_leads old s x d end (Done n) h few stands progress new next becomes at = mark_tested old s x d end (n == 1) h few stands progress new next becomes at
-mark_leads old s x d end (Data bytes) h few stands progress new next (moved, is) at = absurd (not_asking old.run old.counts new next is at)
-mark_leads old s x d end (Error n text) h few stands progress new next (moved, is) at = absurd (not_asking old.run old.counts new next is at)
-
-unload_tested : (old : Standing) (s x : Side) (d : Dumping) (end : ℕ) (b : Bool) → HasDone old.run (Some s) d (Unload end) → d.carried + 1 < 2 ^ 64
-    → ((drive : ℕ) × (x.session ≡ Offline drive Both)) → (progress : Progress) (new : Standing) (next : Step)
-    → Becomes old (if b then after_step old.run d.first (Unload end) else after_noise (Unload end)) false progress new
-    → new.stage ≡ ToSend next → GoesTo old.run (Some x) old (on_by_one d) new next
-unload_tested old s x d end true h few stands progress new next (moved, is) at =
-    let same = ap (λ n. one_if (nat_lt n old.run.blocks)) h.blocks in
+pub unload_leads : (old : Standing) (s x : Side) (d : Dumping) (end : ℕ) (reply : PlainReply) → HasDone old.run (Some s) d (Operation (Unload end)) → d.carried + 1 < 2 ^ 64
+    → ((n : ℕ) → reply ≡ Done n → StandsFor Close x.session) → LeadsFrom (Some x) old d (on_by_one d) (Operation (Unload end)) reply
+unload_leads old s x d end reply h few stands = op_leads old (Some x) d (on_by_one d) (Unload end) reply (λ n done progress new next (moved, is) at.
     let here = h.blocks in
-    subst (GoesTo old.run (Some x) old (on_by_one d) new) (arrives old.run (counted_to old.counts end) new Close next is at) record {
-      done = record {
-        carried = one_further d.carried old.run d.first (d.first + d.blocks) (d.first + d.blocks) (Unload end) Close few h.carried (omega (arith, same, here));
-        fault = h.fault;
-        label = h.label;
-        blocks = tt;
-        within = h.within;
-        mark = h.mark;
-        stands = λ y at_x. subst (λ (z : Side). StandsFor Close z.session) (same_Some x y at_x) stands;
-      };
-      same_run = ap (λ (z : Standing). z.run) is;
-      counts = ap (λ (z : Standing). z.counts) is ∙ ap (counted_to old.counts) h.blocks;
-    }
-unload_tested old s x d end false h few stands progress new next (moved, is) at = absurd (not_asking old.run old.counts new next is at)
-
-pub unload_leads : (old : Standing) (s x : Side) (d : Dumping) (end : ℕ) (reply : PlainReply) → HasDone old.run (Some s) d (Unload end) → d.carried + 1 < 2 ^ 64
-    → ((n : ℕ) → reply ≡ Done n → (drive : ℕ) × (x.session ≡ Offline drive Both)) → LeadsFrom (Some x) old d (noted (Op MTOFFL 1) reply d) (Unload end) reply
-unload_leads old s x d end (Done n) h few stands progress new next becomes at = unload_tested old s x d end (n == 1) h few (stands n refl) progress new next becomes at
-unload_leads old s x d end (Data bytes) h few stands progress new next (moved, is) at = absurd (not_asking old.run old.counts new next is at)
-unload_leads old s x d end (Error n text) h few stands progress new next (moved, is) at = absurd (not_asking old.run old.counts new next is at)
+    let same = ap (λ n. one_if (nat_lt n old.run.blocks)) h.blocks in
+    subst (GoesTo old.run (Some x) old (on_by_one d) new) (arrives old.run (counted_to old.counts end) new Close next is at)
+    (goes_on old s x d (Operation (Unload end)) Close (counted_to old.counts end) new few h is (omega (arith, same, here)) refl refl tt (stands n done) (ap (counted_to old.counts) here)))
 
 -- behind the close the attempt is over
 pub close_leads : (old : Standing) (x : Side) (d noted : Dumping) (reply : PlainReply) → LeadsFrom (Some x) old d noted Close reply

@@ -17,12 +17,13 @@ use Rattle.rmt_server.specs.Session.{PlainSession, scene}
 use Rattle.rmt_server.specs.TroubledServe.{TroubledServeStep}
 use Rattle.dump_run.specs.Run.{IsRun}
 use Rattle.dump_run.specs.Label.{label}
-use Rattle.dump_client.specs.Script.{request_of}
+use Rattle.dump_client.specs.Script.{request_of, wanted_of}
 use Rattle.dump_client.specs.Position.{after_reply}
 use Rattle.dump_client.specs.Standing.{Standing, checkpoint_of, Becomes}
 use Rattle.dump_client.specs.Lawful.{attempt_at}
 use Rattle.dump_client.specs.declared.step.Step.{Step}
-use Rattle.dump_client.specs.declared.step.Step.TheVariants.{Open, Rewind, Label, Block, Mark, Unload, Close}
+use Rattle.dump_client.specs.declared.step.Step.TheVariants.{Open, Operation, Look, Label, Block, Close}
+use Rattle.dump_client.specs.declared.step.TapeOp.TheVariants.{Rewind, RewindAgain, Mark, Unload}
 use Rattle.dump_client.specs.declared.stage.Stage.{Stage}
 use Rattle.dump_client.specs.declared.stage.Stage.TheVariants.{ToSend, Waiting}
 use Rattle.tape_events.specs.World.{Link, Dumping, Begun, Caller, numbered}
@@ -30,8 +31,8 @@ use Rattle.tape_events.specs.Changes.{sent_on, noted, noted_by, noted_write, not
 use Rattle.tape_events.specs.Sending.{HasDone, AreUnserved, request_in, IsPending, IsLinkSettled, IsLinkSent, LeadsOn, IsBrief, IsStepReply, IsAttempt, IsStepAsked, IsStepReplied, IsLinkToldAt, IsGood}
 use Rattle.tape_events.proofs.Sent.{raised_one}
 use Rattle.tape_events.proofs.SentWire.{OneReading, DroppedWrites, one_read, nothing_long, text_not_long, gives_whole, nothing_given}
-use Rattle.tape_events.proofs.SentSteps.{ReplyTexts, plain_brief, write_online, marks_online, rewind_first, unload_away, open_first, close_plain}
-use Rattle.tape_events.proofs.SentLeads.{LeadsFrom, open_leads, rewind_leads, label_leads, block_leads, mark_leads, unload_leads, close_leads}
+use Rattle.tape_events.proofs.SentSteps.{ReplyTexts, plain_brief, shown_brief, write_online, marks_online, look_online, rewind_first, unload_away, open_first, close_plain}
+use Rattle.tape_events.proofs.SentLeads.{LeadsFrom, open_leads, rewind_leads, look_leads, again_leads, label_leads, block_leads, mark_leads, unload_leads, close_leads}
 
 -- what a note of a request leaves
 pub record SameAttempt (d e : Dumping) : Type 0 where
@@ -128,14 +129,22 @@ pub served_leads : ReplyTexts → (old : Standing) (payload : List (List ℕ)) (
     (session : PlainSession) (d : Dumping) (step : Step) (reply : PlainReply) → IsRun old.run → HasDone old.run (Some s) d step → d.carried + 1 < 2 ^ 64
     → SpellsRequest (request_text (request_of old.run payload d.volume d.first step)) (request_of old.run payload d.volume d.first step)
     → TroubledServeStep trouble holders (scene shop s.session) (request_of old.run payload d.volume d.first step) reply (scene shop' session)
-    → IsBrief reply × LeadsFrom (Some (side reached session)) old d (noted (request_of old.run payload d.volume d.first step) reply d) step reply
+    → IsBrief (wanted_of step) reply × LeadsFrom (Some (side reached session)) old d (noted (request_of old.run payload d.volume d.first step) reply d) step reply
 served_leads t old payload trouble holders shop shop' s reached session d Open reply good h few spelled step =
     let r = open_first trouble holders (scene shop s.session) old.run.device reply (scene shop' session) step in
     (plain_brief t reply r.0, open_leads old s (side reached session) d old.run.device reply h few r.1)
-served_leads t old payload trouble holders shop shop' s reached session d Rewind reply good h few spelled step =
+served_leads t old payload trouble holders shop shop' s reached session d (Operation Rewind) reply good h few spelled step =
     let on = h.stands s refl in
     let r = rewind_first trouble holders (scene shop s.session) reply (scene shop' session) on.1.0 on.0 on.1.1 step in
     (plain_brief t reply r.0, rewind_leads old s (side reached session) d reply h few r.1)
+served_leads t old payload trouble holders shop shop' s reached session d Look reply good h few spelled step =
+    let on = h.stands s refl in
+    let r = look_online trouble holders (scene shop s.session) reply (scene shop' session) on.1.0 on.0 on.1.1 step in
+    (shown_brief t reply r.0, look_leads old s (side reached session) d reply h few r.1)
+served_leads t old payload trouble holders shop shop' s reached session d (Operation RewindAgain) reply good h few spelled step =
+    let on = h.stands s refl in
+    let r = rewind_first trouble holders (scene shop s.session) reply (scene shop' session) on.1.0 on.0 on.1.1 step in
+    (plain_brief t reply r.0, again_leads old s (side reached session) d reply h few r.1)
 served_leads t old payload trouble holders shop shop' s reached session d Label reply good h few spelled step =
     let on = h.stands s refl in
     let limit = spelled.2 in
@@ -146,11 +155,11 @@ served_leads t old payload trouble holders shop shop' s reached session d (Block
     let limit = spelled.2 in
     let r = write_online trouble holders (scene shop s.session) (get_or payload number []) reply (scene shop' session) on.1.0 on.0 (omega (arith, limit)) on.1.1 step in
     (plain_brief t reply r.0, block_leads old s (side reached session) d number (get_or payload number []) reply good h few r.1)
-served_leads t old payload trouble holders shop shop' s reached session d (Mark next) reply good h few spelled step =
+served_leads t old payload trouble holders shop shop' s reached session d (Operation (Mark next)) reply good h few spelled step =
     let on = h.stands s refl in
     let r = marks_online trouble holders (scene shop s.session) reply (scene shop' session) on.1.0 on.0 on.1.1 step in
     (plain_brief t reply r.0, mark_leads old s (side reached session) d next reply h few r.1)
-served_leads t old payload trouble holders shop shop' s reached session d (Unload next) reply good h few spelled step =
+served_leads t old payload trouble holders shop shop' s reached session d (Operation (Unload next)) reply good h few spelled step =
     let on = h.stands s refl in
     let r = unload_away trouble holders (scene shop s.session) reply (scene shop' session) on.1.0 on.0 on.1.1 step in
     (plain_brief t reply r.0, unload_leads old s (side reached session) d next reply h few r.1)
@@ -164,16 +173,15 @@ served_leads t old payload trouble holders shop shop' s reached session d Close 
 from_checkpoint : (o : Option Side) (old : Standing) (d noted : Dumping) (step : Step) (reply : PlainReply) → d.first ≡ (checkpoint_of old.counts).1
     → LeadsFrom o old d noted step reply → LeadsOn old.run o old noted step reply
 from_checkpoint o old d noted step reply first leads progress new next becomes at =
-    leads progress new next (subst (λ n. Becomes old (after_reply old.run n step reply) false progress new) (sym first) becomes) at
+    leads progress new next (subst (λ n. Becomes old (after_reply old.run old.counts n step reply) false progress new) (sym first) becomes) at
 
 at_checkpoint : (o : Option Side) (old : Standing) (d noted : Dumping) (step : Step) (reply : PlainReply) → d.first ≡ (attempt_at step old.counts).1
     → LeadsFrom o old d noted step reply → LeadsOn old.run o old noted step reply
 at_checkpoint o old d noted Open reply first leads = from_checkpoint o old d noted Open reply first leads
-at_checkpoint o old d noted Rewind reply first leads = from_checkpoint o old d noted Rewind reply first leads
+at_checkpoint o old d noted (Operation op) reply first leads = from_checkpoint o old d noted (Operation op) reply first leads
+at_checkpoint o old d noted Look reply first leads = from_checkpoint o old d noted Look reply first leads
 at_checkpoint o old d noted Label reply first leads = from_checkpoint o old d noted Label reply first leads
 at_checkpoint o old d noted (Block number) reply first leads = from_checkpoint o old d noted (Block number) reply first leads
-at_checkpoint o old d noted (Mark next) reply first leads = from_checkpoint o old d noted (Mark next) reply first leads
-at_checkpoint o old d noted (Unload next) reply first leads = from_checkpoint o old d noted (Unload next) reply first leads
 at_checkpoint o old d noted step reply first leads = leads
 
 -- the client's own connection, at which it waits
@@ -203,7 +211,7 @@ asked_replied t g h b s l c d step bytes rest found reply reached trouble holder
       reply = on_way l.cut leads led.0;
     }
   where
-    on_way : (cut : Bool) → LeadsOn b.run (Some (side reached session)) c.at (noted found reply d) step reply → IsBrief reply
+    on_way : (cut : Bool) → LeadsOn b.run (Some (side reached session)) c.at (noted found reply d) step reply → IsBrief (wanted_of step) reply
         → IsStepReply b.run (Some (side reached session)) c.at (noted found reply d) step ([] ++ sent_on cut l.back (reply_text reply))
     on_way true leads brief = inl a.back
     on_way false leads brief = inr (reply, ap (λ x. x ++ reply_text reply) a.back, brief, leads)

@@ -2,13 +2,15 @@
 use Rattle.std.proofs.Common.{◌≡◌, ◌⊎◌, ℕ, ◌≤◌, ◌==◌, ◌||◌, Bool, true, false, cond, if◌then◌else◌, nat_lt, List, [], ◌∷◌, ◌++◌, length, length-append, decimal, Some, None, Ok, Err, MatchOption, refl, sym, ap, subst, ◌∙◌, inl, inr, arith}
 use Rattle.std.proofs.lemmas.Bool.Decides.{nat_tests}
 use Rattle.std.proofs.lemmas.Fmt.{length-decimal-le}
+use Rattle.std.proofs.lemmas.List.{length-take}
 use Rattle.rmt_wire.specs.Number.{HasNoLineFeed, line_feed}
 use Rattle.rmt_wire.specs.Request.{PlainRequest, HasSpelling, IsTextOf, request_text}
-use Rattle.rmt_wire.specs.Request.PlainRequest.{Open, Close, Write, Op}
+use Rattle.rmt_wire.specs.Request.PlainRequest.{Open, Close, Write, Read, Op}
 use Rattle.rmt_wire.specs.Reply.{PlainReply, Wanted, AnswersTo, ReplyHasSpelling, SpellsReply, reply_text}
-use Rattle.rmt_wire.specs.Reply.PlainReply.{Done, Error}
-use Rattle.rmt_wire.specs.Reply.Wanted.{Number}
-use Rattle.tape.specs.Tape.{Tape, TapeAnswer}
+use Rattle.rmt_wire.specs.Reply.PlainReply.{Done, Data, Error}
+use Rattle.rmt_wire.specs.Reply.Wanted.{Number, DataUpTo}
+use Rattle.tape.specs.Tape.{PlainEntry, Tape, TapeAnswer, Passes}
+use Rattle.tape.specs.Tape.PlainEntry.{Record, Mark}
 use Rattle.rmt_wire.specs.declared.limits.TheConstants.{RECORD_LIMIT}
 use Rattle.rmt_wire.specs.declared.fcntl.TheConstants.{O_RDWR}
 use Rattle.rmt_wire.specs.declared.mtio.TheConstants.{MTOFFL, MTREW, MTWEOF}
@@ -24,6 +26,7 @@ use Rattle.rmt_server.specs.declared.access.Access.TheVariants.{Both}
 use Rattle.rmt_server.specs.Session.{PlainReel, plain_reel, Scene, status_of, refusal, tape_request, reel_reply}
 use Rattle.rmt_server.specs.Session.PlainSession.{Offline, Online}
 use Rattle.rmt_server.specs.TroubledServe.{TroubledServeStep, TroubledMoveStep, TroubledDoneStep}
+use Rattle.dump_run.specs.Label.{label_bytes}
 use Rattle.tape_events.specs.Standing.{IsOnlineWith}
 use Rattle.tape_events.specs.Sending.{IsBrief}
 use Rattle.tape_events.proofs.Called.{called}
@@ -74,24 +77,39 @@ drive_line why = record { number = omega arith; short = omega arith; line = line
 ten_digits : (n : ℕ) → n ≤ 2147483647 → length (decimal n) ≤ 10
 ten_digits n small = length-decimal-le 10 n (omega arith) (omega arith) (omega arith)
 
-done_brief : ReplyTexts → (n : ℕ) → n ≤ 2147483647 → IsBrief (Done n)
+done_brief : ReplyTexts → (n : ℕ) → n ≤ 2147483647 → IsBrief Number (Done n)
 done_brief g n small =
     let few = ten_digits n small in
     let size = length-append (decimal n) (line_feed ∷ []) in
     record { spelled = g (Done n) small Number tt; short = omega (arith, few, size) }
 
-error_brief : ReplyTexts → (n : ℕ) (text : List ℕ) → IsErrorLine n text → IsBrief (Error n text)
-error_brief g n text is =
+error_brief : ReplyTexts → (wanted : Wanted) (n : ℕ) (text : List ℕ) → IsErrorLine n text → IsBrief wanted (Error n text)
+error_brief g wanted n text is =
     let small = is.number in
     let line = is.short in
     let few = ten_digits n small in
     let size = length-append (decimal n) (line_feed ∷ (text ++ line_feed ∷ [])) in
     let behind = length-append text (line_feed ∷ []) in
-    record { spelled = g (Error n text) (small, omega (arith, line), is.line) Number tt; short = omega (arith, few, line, size, behind) }
+    record { spelled = g (Error n text) (small, omega (arith, line), is.line) wanted tt; short = omega (arith, few, line, size, behind) }
 
-pub plain_brief : ReplyTexts → (reply : PlainReply) → IsPlain reply → IsBrief reply
-plain_brief g reply (inl (n, small, is)) = subst IsBrief (sym is) (done_brief g n small)
-plain_brief g reply (inr (n, text, line, is)) = subst IsBrief (sym is) (error_brief g n text line)
+pub plain_brief : ReplyTexts → (reply : PlainReply) → IsPlain reply → IsBrief Number reply
+plain_brief g reply (inl (n, small, is)) = subst (IsBrief Number) (sym is) (done_brief g n small)
+plain_brief g reply (inr (n, text, line, is)) = subst (IsBrief Number) (sym is) (error_brief g Number n text line)
+
+-- the bytes of a record, of as many as a label has at most, or an error with a short line
+abbrev pub IsRecordShown : PlainReply → Type 0
+IsRecordShown reply =
+    ((bytes : List ℕ) × (length bytes ≤ label_bytes) × (reply ≡ Data bytes)) ⊎ ((n : ℕ) × (text : List ℕ) × IsErrorLine n text × (reply ≡ Error n text))
+
+data_brief : ReplyTexts → (bytes : List ℕ) → length bytes ≤ label_bytes → IsBrief (DataUpTo label_bytes) (Data bytes)
+data_brief g bytes few =
+    let digits = ten_digits (length bytes) (omega (arith, few)) in
+    let size = length-append (decimal (length bytes)) (line_feed ∷ bytes) in
+    record { spelled = g (Data bytes) (omega (arith, few)) (DataUpTo label_bytes) few; short = omega (arith, few, digits, size) }
+
+pub shown_brief : ReplyTexts → (reply : PlainReply) → IsRecordShown reply → IsBrief (DataUpTo label_bytes) reply
+shown_brief g reply (inl (bytes, few, is)) = subst (IsBrief (DataUpTo label_bytes)) (sym is) (data_brief g bytes few)
+shown_brief g reply (inr (n, text, line, is)) = subst (IsBrief (DataUpTo label_bytes)) (sym is) (error_brief g (DataUpTo label_bytes) n text line)
 
 -- the session stays online with its drive, for reading and writing
 abbrev pub StaysOnline : PlainReply → Scene → Type 0
@@ -143,6 +161,31 @@ marks_online trouble holders before reply after drive reel was step =
     (subst (λ s. MatchOption (refusal (status_of s) (Op MTWEOF 1)) (TroubledDoneStep trouble before (Op MTWEOF 1) reply after) (λ r. (reply ≡ refused r) × (after ≡ before)))
     was step) in
     (marks_answer trouble reel.capacity reel.tape c.now c.answer reply c.device c.replies, (plain_reel c.now reel.capacity, (drive, c.left.session)))
+
+-- of a record no more bytes are given than were asked for
+passed_few : (count : ℕ) (way : List PlainEntry) (t u : Tape) (bytes : List ℕ) → Passes count way t bytes u → length bytes ≤ count
+passed_few count [] t u bytes (none, same) = let size = ap length none in omega (arith, size)
+passed_few count (Record written ∷ rest) t u bytes (front, passed) =
+    let size = ap length front in
+    let few = length-take count written in
+    omega (arith, size, few)
+passed_few count (Mark ∷ rest) t u bytes (none, passed) = let size = ap length none in omega (arith, size)
+
+read_answer : (trouble : Trouble) (capacity : ℕ) (t u : Tape) (answer : TapeAnswer) (reply : PlainReply)
+    → DeviceStep capacity trouble t (tape_request (Read label_bytes)) answer u → reply ≡ reel_reply (Read label_bytes) answer → IsRecordShown reply
+read_answer trouble capacity t u Did reply step is = absurd (step.1)
+read_answer trouble capacity t u (Gave given) reply step is = inl (given, passed_few label_bytes t.after t u given step.1, is)
+read_answer trouble capacity t u (Fault why) reply step is = inr (number_of (tape_refusal why), text_of (tape_refusal why), tape_line why, is)
+
+-- the first record is looked at: the session stays online with its drive
+pub look_online : (trouble : Trouble) (holders : List ℕ) (before : Scene) (reply : PlainReply) (after : Scene) (drive : ℕ) (reel : PlainReel)
+    → before.session ≡ Online drive Both reel → TroubledServeStep trouble holders before (Read label_bytes) reply after
+    → IsRecordShown reply × ((reel : PlainReel) × IsOnlineWith after.session reel)
+look_online trouble holders before reply after drive reel was step =
+    let c = called trouble before (Read label_bytes) reply after drive reel was
+    (subst (λ s. MatchOption (refusal (status_of s) (Read label_bytes)) (TroubledDoneStep trouble before (Read label_bytes) reply after) (λ r. (reply ≡ refused r) × (after ≡ before)))
+    was step) in
+    (read_answer trouble reel.capacity reel.tape c.now c.answer reply c.device c.replies, (plain_reel c.now reel.capacity, (drive, c.left.session)))
 
 -- the reel is at its beginning, where the request was done
 abbrev pub StandsFirst : PlainReply → Scene → Type 0

@@ -65,7 +65,7 @@ request_texts (Read count) h = whole_text (Read count) refl (decimal count, deci
 request_texts (Op op count) h = whole_text (Op op count) refl (decimal op, decimal count, decimal_spells op h.0, decimal_spells count h.1, refl)
 
 -- volumes but the last have a block, so there are few
-volumes_from : (run : PlainRun) (volume first : ℕ) (c : VolumeCount) (counts : List VolumeCount) → AreVolumes run volume first (c ∷ counts)
+pub volumes_from : (run : PlainRun) (volume first : ℕ) (c : VolumeCount) (counts : List VolumeCount) → AreVolumes run volume first (c ∷ counts)
     → AreVolumes run (c.volume + 1) (c.first + c.count) counts
 volumes_from run volume first c counts v =
     subst (λ f. AreVolumes run (c.volume + 1) (f + c.count) counts) (sym v.1) (subst (λ w. AreVolumes run (w + 1) (first + c.count) counts) (sym v.0) v.4)

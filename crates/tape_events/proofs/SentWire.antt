@@ -1,12 +1,13 @@
 -- What a reader of requests has of a text that a client sent, and a reader of replies of a text that a server sent.
-use Rattle.std.proofs.Common.{◌≡◌, ◌≢◌, ◌↔◌, ℕ, suc, ◌+◌, ◌<◌, ◌≤◌, ◌==◌, Bool, true, false, if◌then◌else◌, nat_le, min, List, [], ◌∷◌, ◌++◌, length, length-append, take, drop, replicate, Option, Some, None, Result, Ok, Err, append_assoc, append-nil, refl, sym, ap, subst, ◌∙◌, arith}
+use Rattle.std.proofs.Common.{◌≡◌, ◌≢◌, ◌⊎◌, ◌↔◌, ℕ, suc, ◌+◌, ◌<◌, ◌≤◌, ◌==◌, Bool, true, false, if◌then◌else◌, nat_le, min, List, [], ◌∷◌, ◌++◌, length, length-append, take, drop, replicate, Option, Some, None, Result, Ok, Err, append_assoc, append-nil, refl, sym, ap, subst, ◌∙◌, inl, inr, arith}
 use Rattle.std.proofs.lemmas.List.{take_at, take-append-drop, length-replicate, length-take-le, nil_from_length, length-drop}
 use Rattle.std.proofs.lemmas.Bool.Decides.{nat_tests}
-use Rattle.rmt_wire.specs.declared.limits.TheConstants.{RECORD_LIMIT}
+use Rattle.rmt_wire.specs.declared.limits.TheConstants.{READER_LIMIT, RECORD_LIMIT}
 use Rattle.rmt_wire.specs.Number.{SpellsNumber, line_feed}
 use Rattle.rmt_wire.specs.Request.{PlainRequest, SpellsRequest}
 use Rattle.rmt_wire.specs.Request.PlainRequest.{Open, WriteDropped}
-use Rattle.rmt_wire.specs.Reply.{PlainReply, Wanted, SpellsReply}
+use Rattle.rmt_wire.specs.Reply.{PlainReply, Wanted, SpellsReply, reply_text}
+use Rattle.rmt_wire.specs.Reply.PlainReply.{Done, Data, Error}
 use Rattle.rmt_wire.specs.ReplyFront.{text_len, kept_text, kept_behind, kept_of}
 use Rattle.rmt_wire.specs.ReplyParts.{ReplyGives}
 use Rattle.rmt_wire.specs.ReplyReader.{ReplyHeld, ReplyUnread}
@@ -15,6 +16,7 @@ use Rattle.rmt_wire.specs.declared.number.Place.TheVariants as places
 use Rattle.rmt_wire.specs.RequestParts.{Gives, IsDroppedLine}
 use Rattle.rmt_wire.specs.RequestReader.{RequestHeld, held, Unread, UnreadAt, dropped_line}
 use Rattle.rmt_wire.specs.declared.fault.WireFault.{WireFault}
+use Rattle.tape_events.specs.Sending.{IsBrief}
 
 -- At each place a reader can give one thing only.
 abbrev pub OneReading : Type 0
@@ -193,14 +195,64 @@ unfolding kept_of
 no_more_kept [] = omega arith
 no_more_kept (letter ∷ bytes) = letter_no_more letter bytes (letter == 69) refl
 
--- where few bytes came, these alone
-pub one_heard : (h : ReplyHeld) (wanted : Wanted) (bytes other : List ℕ) → length bytes < 255 → ReplyUnread h (Some wanted) bytes → ReplyUnread h (Some wanted) other
-    → bytes ≡ other
-one_heard h wanted bytes other short one two =
+-- the bytes of no error are kept whole, and no others as they are
+abbrev pub IsNoError : List ℕ → Type 0
+IsNoError [] = Unit {0}
+IsNoError (letter ∷ bytes) = letter ≢ 69
+
+no_error_kept : (bytes : List ℕ) → IsNoError bytes → kept_of bytes ≡ bytes
+unfolding kept_of
+no_error_kept [] none = refl
+no_error_kept (letter ∷ bytes) other =
+    let test : (letter == 69) ≡ false = grind (arith, nat_tests) in
+    ap (λ b. if b then letter ∷ kept_behind (number_front places.Line bytes) bytes else letter ∷ bytes) test
+
+begins_kept : (bytes : List ℕ) (letter : ℕ) (b : Bool) → (letter == 69) ≡ b → IsNoError (kept_of (letter ∷ bytes)) → IsNoError (letter ∷ bytes)
+unfolding kept_of
+begins_kept bytes letter true is other =
+    subst IsNoError (ap (λ b. if b then letter ∷ kept_behind (number_front places.Line bytes) bytes else letter ∷ bytes) is) other
+begins_kept bytes letter false is other =
+    subst IsNoError (ap (λ b. if b then letter ∷ kept_behind (number_front places.Line bytes) bytes else letter ∷ bytes) is) other
+
+same_error : (bytes : List ℕ) → IsNoError (kept_of bytes) → IsNoError bytes
+same_error [] none = tt
+same_error (letter ∷ bytes) other = begins_kept bytes letter (letter == 69) refl other
+
+-- where few bytes came, or those of no error, these alone
+pub one_heard : (h : ReplyHeld) (wanted : Wanted) (bytes other : List ℕ) → (length bytes < 255) ⊎ IsNoError bytes → ReplyUnread h (Some wanted) bytes
+    → ReplyUnread h (Some wanted) other → bytes ≡ other
+one_heard h wanted bytes other (inl short) one two =
     let few = kept_short bytes short (no_more_kept bytes) in
     let same = sym one.keeps ∙ two.keeps in
     let size = ap length same in
     sym (kept_whole bytes few) ∙ same ∙ kept_whole other (omega (arith, few, size))
+one_heard h wanted bytes other (inr none) one two =
+    let all = no_error_kept bytes none in
+    let same = sym one.keeps ∙ two.keeps in
+    sym all ∙ same ∙ no_error_kept other (same_error other (subst IsNoError (sym all ∙ same) none))
+
+letter_begins : (letter : ℕ) (text bytes way : List ℕ) → letter ≢ 69 → letter ∷ text ≡ bytes ++ way → IsNoError bytes
+letter_begins letter text [] way other is = tt
+letter_begins letter text (b ∷ bytes) way other is = let same : letter ≡ b = cc in λ bad. other (same ∙ bad)
+
+-- Of a reply that is kept whole the bytes that came so far are few, or those of no error, and a reader has room for more.
+pub brief_begins : (wanted : Wanted) (reply : PlainReply) (bytes way : List ℕ) → IsBrief wanted reply → reply_text reply ≡ bytes ++ way
+    → ((length bytes < 255) ⊎ IsNoError bytes) × (length bytes < READER_LIMIT)
+brief_begins wanted (Data given) bytes way brief is =
+    let size = ap length is in
+    let both = length-append bytes way in
+    let short = brief.short in
+    (inr (letter_begins 65 _ bytes way (λ same. omega (arith, same)) is), omega (arith, size, both, short))
+brief_begins wanted (Done n) bytes way brief is =
+    let size = ap length is in
+    let both = length-append bytes way in
+    let short = brief.short in
+    (inl (omega (arith, size, both, short)), omega (arith, size, both, short))
+brief_begins wanted (Error n text) bytes way brief is =
+    let size = ap length is in
+    let both = length-append bytes way in
+    let short = brief.short in
+    (inl (omega (arith, size, both, short)), omega (arith, size, both, short))
 
 -- what spells no two replies
 abbrev pub OneReply : Type 0

@@ -13,6 +13,7 @@ use Rattle.drives.specs.Shop.{Shop}
 use Rattle.rmt_server.specs.Hall.{Side, side}
 use Rattle.rmt_server.specs.Session.{PlainSession, scene}
 use Rattle.rmt_server.specs.TroubledServe.{TroubledServe}
+use Rattle.dump_client.specs.Script.{wanted_of}
 use Rattle.dump_client.specs.Standing.{standing}
 use Rattle.dump_client.specs.declared.step.Step.{Step}
 use Rattle.dump_client.specs.declared.step.Step.TheVariants.{Open}
@@ -118,7 +119,7 @@ carried_smooth g h drive w u k c l d b s step kept sm un v =
     let served : TroubledServe NoTrouble w.hall.holders k (scene w.hall.shop s.session) (request_in b d step) v.reply (scene v.shop v.session) v.holders
     = subst (λ r. TroubledServe NoTrouble w.hall.holders k (scene w.hall.shop s.session) r v.reply (scene v.shop v.session) v.holders) all.0 v.served in
     let few = (let sent = p.sent in let many = p.few in let limit : d.carried + 1 ≡ d.sent = omega (arith, sent) in subst (λ n. suc n ≤ 18446744073709551616) (sym limit) many) in
-    let brief : IsBrief v.reply
+    let brief : IsBrief (wanted_of step) v.reply
     = (served_leads reply_texts (standing b.run [] Ready) b.payload NoTrouble w.hall.holders w.hall.shop v.shop s v.reached v.session d step v.reply good.run p.done few p.spelled
     served.step).0 in
     let leads : Leads drive (stock_then (stock_of w) k v.request v.shop v.session v.holders) (attempt_on k b (noted v.request v.reply d) v.session) c.at step v.reply

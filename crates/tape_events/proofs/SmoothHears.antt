@@ -11,7 +11,7 @@ use Rattle.dump_client.specs.Standing.{Standing, checkpoint_of, count_to, counte
 use Rattle.dump_client.specs.Client.{HasFedAt, unanswered}
 use Rattle.dump_client.specs.declared.fault.AttemptFault.{AttemptFault}
 use Rattle.dump_client.specs.declared.step.Step.{Step}
-use Rattle.dump_client.specs.declared.step.Step.TheVariants.{Open, Rewind, Label, Block, Mark, Unload, Close}
+use Rattle.dump_client.specs.declared.step.Step.TheVariants.{Open, Operation, Look, Label, Block, Close}
 use Rattle.dump_client.specs.declared.stage.Stage.{Stage}
 use Rattle.dump_client.specs.declared.stage.Stage.TheVariants.{Ready, ToSend, Waiting, Asking, Finished}
 use Rattle.dump_client.specs.declared.stage.Progress.{Progress}
@@ -23,7 +23,7 @@ use Rattle.tape_events.specs.Steps.{Hears, caller, heard}
 use Rattle.tape_events.specs.Kept.{IsWorldKept}
 use Rattle.tape_events.specs.Owning.{is_in_attempt}
 use Rattle.tape_events.specs.Sending.{AreUnserved, IsAttempt}
-use Rattle.tape_events.specs.Headline.{whole_volume}
+use Rattle.tape_events.specs.Written.{whole_volume}
 use Rattle.tape_events.specs.Smooth.{Stock, stock_of, blanks, one_drive, volume_slot, volume_slots, volume_by, IsFree, IsMoved, IsOffline, IsOwnLink, IsStepAnswered, StandsBefore, StandsThen, CountsThen, Leads, ReelsStandAt, StandsWith, FailsFaultless, IsFaultlessFailure, IsSmooth, attempt_on}
 use Rattle.tape_events.proofs.Numbers.{changed_is}
 use Rattle.tape_events.proofs.Booked.{Goings, drop_front}
@@ -250,16 +250,14 @@ by_then drive w k n c l d b s step at reader moved.Send (ToSend Close) kept sm o
     counts_now drive w k n c l d b s step at reader kept sm own attempt (early Close is) is counts stands
 by_then drive w k n c l d b s step at reader moved.Send (ToSend Open) kept sm own attempt served early run is stands counts =
     goes_to drive w k n c l d b s at reader Open sm own is counts stands
-by_then drive w k n c l d b s step at reader moved.Send (ToSend Rewind) kept sm own attempt served early run is stands counts =
-    goes_to drive w k n c l d b s at reader Rewind sm own is counts stands
+by_then drive w k n c l d b s step at reader moved.Send (ToSend (Operation op)) kept sm own attempt served early run is stands counts =
+    goes_to drive w k n c l d b s at reader (Operation op) sm own is counts stands
+by_then drive w k n c l d b s step at reader moved.Send (ToSend Look) kept sm own attempt served early run is stands counts =
+    goes_to drive w k n c l d b s at reader Look sm own is counts stands
 by_then drive w k n c l d b s step at reader moved.Send (ToSend Label) kept sm own attempt served early run is stands counts =
     goes_to drive w k n c l d b s at reader Label sm own is counts stands
 by_then drive w k n c l d b s step at reader moved.Send (ToSend (Block number)) kept sm own attempt served early run is stands counts =
     goes_to drive w k n c l d b s at reader (Block number) sm own is counts stands
-by_then drive w k n c l d b s step at reader moved.Send (ToSend (Mark next)) kept sm own attempt served early run is stands counts =
-    goes_to drive w k n c l d b s at reader (Mark next) sm own is counts stands
-by_then drive w k n c l d b s step at reader moved.Send (ToSend (Unload next)) kept sm own attempt served early run is stands counts =
-    goes_to drive w k n c l d b s at reader (Unload next) sm own is counts stands
 by_then drive w k n c l d b s step at reader (moved.Failed fault) Asking kept sm own attempt served early run is (why, bin) counts =
     has_failed drive w k n c l d b s step at reader fault sm own served is counts run why bin
 by_then drive w k n c l d b s step at reader moved.Ended Ready kept sm own attempt served early run is stands counts =

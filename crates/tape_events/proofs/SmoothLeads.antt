@@ -1,5 +1,5 @@
 -- Where the reply to each request of an attempt leads, on a link without faults.
-use Rattle.std.proofs.Common.{◌≡◌, ◌⊎◌, ℕ, zero, suc, ◌+◌, ◌<◌, ◌≤◌, ◌==◌, nat_lt, if◌then◌else◌, Bool, true, false, List, [], ◌∷◌, ◌++◌, length, append_assoc, Option, Some, Contains, refl, sym, ap, subst, ◌∙◌, inl, inr, arith}
+use Rattle.std.proofs.Common.{◌≡◌, ◌⊎◌, ℕ, zero, suc, ◌+◌, ◌<◌, ◌≤◌, ◌==◌, nat_lt, if◌then◌else◌, Bool, true, false, List, [], ◌∷◌, ◌++◌, length, append_assoc, Option, Some, None, Contains, refl, sym, ap, subst, ◌∙◌, inl, inr, arith}
 use Rattle.std.specs.Prelude.{get_or}
 use Rattle.std.proofs.lemmas.Bool.Decides.{nat_tests}
 use Rattle.std.proofs.lemmas.List.{append-nil}
@@ -7,9 +7,9 @@ use Rattle.std.proofs.lemmas.List.Sums.{sum_by-append}
 use Rattle.tape.specs.Tape.{PlainEntry, tape, offset_of, size_of}
 use Rattle.tape.specs.Tape.PlainEntry.{Record, Mark as TapeMark}
 use Rattle.rmt_wire.specs.Counted.{raised}
-use Rattle.rmt_wire.specs.Request.PlainRequest.{Open as OpenDevice, Write, Op, Close as CloseDevice}
+use Rattle.rmt_wire.specs.Request.PlainRequest.{Open as OpenDevice, Write, Read, Op, Close as CloseDevice}
 use Rattle.rmt_wire.specs.Reply.{PlainReply}
-use Rattle.rmt_wire.specs.Reply.PlainReply.{Done}
+use Rattle.rmt_wire.specs.Reply.PlainReply.{Done, Data}
 use Rattle.rmt_wire.specs.declared.errno.TheConstants.{ENOENT, ENOMEM, ENXIO}
 use Rattle.rmt_wire.specs.declared.fcntl.TheConstants.{O_RDWR}
 use Rattle.rmt_wire.specs.declared.mtio.TheConstants.{MTOFFL, MTREW, MTWEOF}
@@ -20,9 +20,11 @@ use Rattle.rmt_server.specs.Session.{plain_reel, PlainSession, Scene, scene}
 use Rattle.rmt_server.specs.Session.PlainSession.{Idle, Offline, Online}
 use Rattle.dump_run.specs.Run.{PlainRun, IsRun}
 use Rattle.dump_run.specs.Label.{label, label_bytes}
-use Rattle.dump_client.specs.Position.{after_step, after_write, at_end_of_reel, leads_to}
+use Rattle.dump_client.specs.Script.{counted_label}
+use Rattle.dump_client.specs.Position.{after_label, after_step, after_write, at_end_of_reel, leads_to}
 use Rattle.dump_client.specs.Standing.{Standing, standing, checkpoint_of, counted_to, Becomes, IsOver}
-use Rattle.dump_client.specs.declared.step.Step.TheVariants.{Open, Rewind, Label, Block, Mark, Unload, Close}
+use Rattle.dump_client.specs.declared.step.Step.TheVariants.{Open, Operation, Look, Label, Block, Close}
+use Rattle.dump_client.specs.declared.step.TapeOp.TheVariants.{Rewind, RewindAgain, Mark, Unload}
 use Rattle.dump_client.specs.declared.stage.Stage.{Stage}
 use Rattle.dump_client.specs.declared.stage.Stage.TheVariants.{Ready, ToSend, Asking, Finished}
 use Rattle.dump_client.specs.declared.stage.Progress.{Progress}
@@ -34,7 +36,7 @@ use Rattle.tape_events.specs.First.{PlainDriveSpec}
 use Rattle.tape_events.specs.Changes.{opening, noted, accepted}
 use Rattle.tape_events.specs.Sending.{HasDone, AreCounted}
 use Rattle.tape_events.specs.Written.{attempt_written, label_if, mark_if}
-use Rattle.tape_events.specs.Headline.{block_records, whole_volume}
+use Rattle.tape_events.specs.Written.{block_records, whole_volume}
 use Rattle.tape_events.specs.Smooth.{Stock, blanks, one_drive, volume_slots, names_left, IsFree, IsLatched, IsOffline, StandsThen, CountsThen, Leads, IsFaultlessFailure, attempt_on}
 use Rattle.tape_events.proofs.Sent.{raised_one}
 use Rattle.tape_events.proofs.SmoothLists.{blocks_more}
@@ -73,7 +75,7 @@ opened_leads drive t k old b d device o reply after holders opens h held q among
     let e : Dumping = record d { carried = raised d.carried } in
     let none = nothing_written b e h.label h.blocks h.mark in
     subst (λ r. Leads drive (then_stock t after.shop holders opens) (attempt_on k b (noted (OpenDevice device O_RDWR) r d) after.session) old Open r) (sym q.replies)
-    (λ progress new (moves, is). led drive (then_stock t after.shop holders opens) k old b e after.session (ToSend Rewind) old.counts moved.Send progress new moves is
+    (λ progress new (moves, is). led drive (then_stock t after.shop holders opens) k old b e after.session (ToSend (Operation Rewind)) old.counts moved.Send progress new moves is
     record {
       name = q.name;
       others = q.others;
@@ -118,16 +120,47 @@ latched_bin : (drive : PlainDriveSpec) (t : Stock) (k : ℕ) (b : Begun) (d : Du
     → after.shop ≡ t.shop → after.shop.bin ≡ volume_slots drive t
 latched_bin drive t k b d session after q same = ap (λ (x : Shop). x.bin) same ∙ ap (λ (x : Shop). x.bin) q.shop
 
+-- before the label the reel is blank still
+still_blank : (drive : PlainDriveSpec) (t : Stock) (k : ℕ) (b : Begun) (d : Dumping) (session : PlainSession) (after : Scene) (holders : List ℕ) (opens : List Opening)
+    → d.label ≡ false → d.blocks ≡ 0 → d.mark ≡ false → holders ≡ k ∷ [] → (q : IsLatched drive t k b d session) → Contains opens (opening k q.name)
+    → IsOnline t.shop drive.capacity (tape [] []) after → IsLatched drive (then_stock t after.shop holders opens) k b (record d { carried = raised d.carried }) after.session
+still_blank drive t k b d session after holders opens none few bare held q among online =
+    again drive t k b d (record d { carried = raised d.carried }) session after holders opens [] q online held among (nothing_written b d none few bare)
+    (λ labelled unmarked. (let clash = sym none ∙ labelled in absurd cc))
+
 pub rewound_leads : (drive : PlainDriveSpec) (t : Stock) (k : ℕ) (old : Standing) (b : Begun) (d : Dumping) (o : Option Side) (session : PlainSession) (reply : PlainReply) (after : Scene)
-    (holders : List ℕ) (opens : List Opening) → HasDone b.run o d Rewind → holders ≡ k ∷ [] → (q : IsLatched drive t k b d session) → Contains opens (opening k q.name)
+    (holders : List ℕ) (opens : List Opening) → HasDone b.run o d (Operation Rewind) → holders ≡ k ∷ [] → (q : IsLatched drive t k b d session) → Contains opens (opening k q.name)
     → (reply ≡ Done 1) × IsOnline t.shop drive.capacity (tape [] []) after
-    → Leads drive (then_stock t after.shop holders opens) (attempt_on k b (noted (Op MTREW 1) reply d) after.session) old Rewind reply
+    → Leads drive (then_stock t after.shop holders opens) (attempt_on k b (noted (Op MTREW 1) reply d) after.session) old (Operation Rewind) reply
 rewound_leads drive t k old b d o session reply after holders opens h held q among (replies, online) =
-    let e : Dumping = record d { carried = raised d.carried } in
-    subst (λ r. Leads drive (then_stock t after.shop holders opens) (attempt_on k b (noted (Op MTREW 1) r d) after.session) old Rewind r) (sym replies)
-    (λ progress new (moves, is). led drive (then_stock t after.shop holders opens) k old b e after.session (ToSend Label) old.counts moved.Send progress new moves is
-    (again drive t k b d e session after holders opens [] q online held among (nothing_written b e h.label h.blocks h.mark)
-    (λ labelled bare. (let clash = sym h.label ∙ labelled in absurd cc))) refl)
+    subst (λ r. Leads drive (then_stock t after.shop holders opens) (attempt_on k b (noted (Op MTREW 1) r d) after.session) old (Operation Rewind) r) (sym replies)
+    (λ progress new (moves, is). led drive (then_stock t after.shop holders opens) k old b (record d { carried = raised d.carried }) after.session (ToSend Look) old.counts moved.Send
+    progress new moves is (still_blank drive t k b d session after holders opens h.label h.blocks h.mark held q among online) refl)
+
+pub again_leads : (drive : PlainDriveSpec) (t : Stock) (k : ℕ) (old : Standing) (b : Begun) (d : Dumping) (o : Option Side) (session : PlainSession) (reply : PlainReply) (after : Scene)
+    (holders : List ℕ) (opens : List Opening) → HasDone b.run o d (Operation RewindAgain) → holders ≡ k ∷ [] → (q : IsLatched drive t k b d session)
+    → Contains opens (opening k q.name) → (reply ≡ Done 1) × IsOnline t.shop drive.capacity (tape [] []) after
+    → Leads drive (then_stock t after.shop holders opens) (attempt_on k b (noted (Op MTREW 1) reply d) after.session) old (Operation RewindAgain) reply
+again_leads drive t k old b d o session reply after holders opens h held q among (replies, online) =
+    subst (λ r. Leads drive (then_stock t after.shop holders opens) (attempt_on k b (noted (Op MTREW 1) r d) after.session) old (Operation RewindAgain) r) (sym replies)
+    (λ progress new (moves, is). led drive (then_stock t after.shop holders opens) k old b (record d { carried = raised d.carried }) after.session (ToSend Label) old.counts moved.Send
+    progress new moves is (still_blank drive t k b d session after holders opens h.label h.blocks h.mark held q among online) refl)
+
+-- a blank reel shows the label of no volume
+no_label : (run : PlainRun) (counts : List VolumeCount) → counted_label run counts [] ≡ None
+no_label run [] = refl
+no_label run (c ∷ counts) = no_label run counts
+
+pub look_leads : (drive : PlainDriveSpec) (t : Stock) (k : ℕ) (old : Standing) (b : Begun) (d : Dumping) (o : Option Side) (session : PlainSession) (reply : PlainReply) (after : Scene)
+    (holders : List ℕ) (opens : List Opening) → HasDone b.run o d Look → holders ≡ k ∷ [] → (q : IsLatched drive t k b d session) → Contains opens (opening k q.name)
+    → (reply ≡ Data []) × IsOnline t.shop drive.capacity (tape [] []) after
+    → Leads drive (then_stock t after.shop holders opens) (attempt_on k b (noted (Read label_bytes) reply d) after.session) old Look reply
+look_leads drive t k old b d o session reply after holders opens h held q among (replies, online) =
+    subst (λ r. Leads drive (then_stock t after.shop holders opens) (attempt_on k b (noted (Read label_bytes) r d) after.session) old Look r) (sym replies)
+    (λ progress new becomes. (
+    let goes = subst (λ o. Becomes old (after_label old.run (checkpoint_of old.counts).1 o) false progress new) (no_label old.run old.counts) becomes in
+    led drive (then_stock t after.shop holders opens) k old b (record d { carried = raised d.carried }) after.session (ToSend (Operation RewindAgain)) old.counts moved.Send
+    progress new goes.0 goes.1 (still_blank drive t k b d session after holders opens h.label h.blocks h.mark held q among online) refl))
 
 -- an entry more
 offset_more : (entries : List PlainEntry) (x : PlainEntry) → offset_of (entries ++ x ∷ []) ≡ offset_of entries + size_of x
@@ -135,20 +168,20 @@ offset_more entries x = let all = sum_by-append size_of entries (x ∷ []) in le
 
 -- a block, or the mark where none is left
 next_stands : (drive : PlainDriveSpec) (t : Stock) (k : ℕ) (b : Begun) (d : Dumping) (session : PlainSession) (number : ℕ) (more : Bool) → IsLatched drive t k b d session
-    → StandsThen moved.Send (ToSend (if more then Block number else Mark number)) drive t k b d session
+    → StandsThen moved.Send (ToSend (if more then Block number else Operation (Mark number))) drive t k b d session
 next_stands drive t k b d session number true q = q
 next_stands drive t k b d session number false q = q
 
-next_counts : (counts : List VolumeCount) (d : Dumping) (number : ℕ) (more : Bool) → AreCounted (if more then Block number else Mark number) counts d counts
+next_counts : (counts : List VolumeCount) (d : Dumping) (number : ℕ) (more : Bool) → AreCounted (if more then Block number else Operation (Mark number)) counts d counts
 next_counts counts d number true = refl
 next_counts counts d number false = refl
 
 goes_next : (drive : PlainDriveSpec) (t : Stock) (k : ℕ) (old : Standing) (b : Begun) (d : Dumping) (session : PlainSession) (number : ℕ) (progress : Progress) (new : Standing)
     → IsLatched drive t k b d session → progress ≡ moved.Send
-    → new ≡ standing old.run old.counts (ToSend (if nat_lt number old.run.blocks then Block number else Mark number))
+    → new ≡ standing old.run old.counts (ToSend (if nat_lt number old.run.blocks then Block number else Operation (Mark number)))
     → StandsThen progress new.stage drive t k b d session × CountsThen new.stage old.counts d new.counts
 goes_next drive t k old b d session number progress new q moves is =
-    led drive t k old b d session (ToSend (if nat_lt number old.run.blocks then Block number else Mark number)) old.counts moved.Send progress new moves is
+    led drive t k old b d session (ToSend (if nat_lt number old.run.blocks then Block number else Operation (Mark number))) old.counts moved.Send progress new moves is
     (next_stands drive t k b d session number (nat_lt number old.run.blocks) q) (next_counts old.counts d number (nat_lt number old.run.blocks))
 
 too_small : (drive : PlainDriveSpec) (t : Stock) (k : ℕ) (old : Standing) (b : Begun) (d : Dumping) (session : PlainSession) (progress : Progress) (new : Standing)
@@ -250,9 +283,9 @@ block_full drive t k old b d session number bytes some q small progress new beco
     else at_end_of_reel (checkpoint_of old.counts).1 (Block number)) false progress new) none becomes)
   where
     tested : (c : Bool) → nat_lt (checkpoint_of old.counts).1 number ≡ c
-        → Becomes old (if c then leads_to (Mark number) Open else at_end_of_reel (checkpoint_of old.counts).1 Open) false progress new
+        → Becomes old (if c then leads_to (Operation (Mark number)) Open else at_end_of_reel (checkpoint_of old.counts).1 Open) false progress new
         → StandsThen progress new.stage drive t k b (carried_on d) session × CountsThen new.stage old.counts (carried_on d) new.counts
-    tested true test (moves, is) = led drive t k old b (carried_on d) session (ToSend (Mark number)) old.counts moved.Send progress new moves is q refl
+    tested true test (moves, is) = led drive t k old b (carried_on d) session (ToSend (Operation (Mark number))) old.counts moved.Send progress new moves is q refl
     tested false test (moves, is) =
         let few : number ≤ (checkpoint_of old.counts).1 = grind (arith, nat_tests) in
         too_small drive t k old b (carried_on d) session progress new (small few) (ap (λ (x : Shop). x.bin) q.shop) moves is
@@ -302,19 +335,19 @@ mark_written b d bare =
     ∙ ap (λ t. (front ++ (blocks ++ mark_if t)) ++ TapeMark ∷ []) (sym bare)
 
 pub mark_leads : (drive : PlainDriveSpec) (t : Stock) (k : ℕ) (old : Standing) (b : Begun) (d : Dumping) (o : Option Side) (session : PlainSession) (next : ℕ) (reply : PlainReply)
-    (after : Scene) (holders : List ℕ) (opens : List Opening) → HasDone b.run o d (Mark next) → holders ≡ k ∷ [] → (q : IsLatched drive t k b d session)
+    (after : Scene) (holders : List ℕ) (opens : List Opening) → HasDone b.run o d (Operation (Mark next)) → holders ≡ k ∷ [] → (q : IsLatched drive t k b d session)
     → Contains opens (opening k q.name)
     → ((reply ≡ Done 1) × IsOnline t.shop drive.capacity (tape (attempt_written b.run b.payload d ++ TapeMark ∷ []) []) after)
     ⊎ (IsScarce reply × IsOnline t.shop drive.capacity (tape (attempt_written b.run b.payload d) []) after)
-    → Leads drive (then_stock t after.shop holders opens) (attempt_on k b (noted (Op MTWEOF 1) reply d) after.session) old (Mark next) reply
+    → Leads drive (then_stock t after.shop holders opens) (attempt_on k b (noted (Op MTWEOF 1) reply d) after.session) old (Operation (Mark next)) reply
 mark_leads drive t k old b d o session next reply after holders opens h held q among (inl (replies, online)) =
     let e : Dumping = record d { mark = true; carried = raised d.carried } in
-    subst (λ r. Leads drive (then_stock t after.shop holders opens) (attempt_on k b (noted (Op MTWEOF 1) r d) after.session) old (Mark next) r) (sym replies)
-    (λ progress new (moves, is). led drive (then_stock t after.shop holders opens) k old b e after.session (ToSend (Unload next)) old.counts moved.Send progress new moves is
+    subst (λ r. Leads drive (then_stock t after.shop holders opens) (attempt_on k b (noted (Op MTWEOF 1) r d) after.session) old (Operation (Mark next)) r) (sym replies)
+    (λ progress new (moves, is). led drive (then_stock t after.shop holders opens) k old b e after.session (ToSend (Operation (Unload next))) old.counts moved.Send progress new moves is
     (again drive t k b d e session after holders opens (attempt_written b.run b.payload d ++ TapeMark ∷ []) q online held among (mark_written b d h.mark)
     (λ labelled bare. (absurd cc))) refl)
 mark_leads drive t k old b d o session next reply after holders opens h held q among (inr ((words, replies), online)) =
-    subst (λ r. Leads drive (then_stock t after.shop holders opens) (attempt_on k b (noted (Op MTWEOF 1) r d) after.session) old (Mark next) r) (sym replies)
+    subst (λ r. Leads drive (then_stock t after.shop holders opens) (attempt_on k b (noted (Op MTWEOF 1) r d) after.session) old (Operation (Mark next)) r) (sym replies)
     (λ progress new (moves, is). fails_with drive (then_stock t after.shop holders opens) k old b (carried_on d) after.session progress new 12 (inr (inr refl))
     (latched_bin drive t k b d session after q (ap (λ (v : Scene). v.shop) online)) moves is)
 
@@ -325,14 +358,14 @@ volume_written b d labelled marked =
     ∙ ap (λ t. Record (label b.run d.volume d.first) ∷ (block_records b.payload d.first d.blocks ++ mark_if t)) marked
 
 pub unload_leads : (drive : PlainDriveSpec) (t : Stock) (k : ℕ) (old : Standing) (b : Begun) (d : Dumping) (o : Option Side) (session : PlainSession) (next : ℕ) (reply : PlainReply)
-    (after : Scene) (holders : List ℕ) (opens : List Opening) → HasDone b.run o d (Unload next) → (after.session ≡ Offline 0 Both → holders ≡ k ∷ [])
+    (after : Scene) (holders : List ℕ) (opens : List Opening) → HasDone b.run o d (Operation (Unload next)) → (after.session ≡ Offline 0 Both → holders ≡ k ∷ [])
     → (q : IsLatched drive t k b d session) → Contains opens (opening k q.name)
     → (reply ≡ Done 1)
     × (after ≡ scene (one_drive drive (blanks drive q.others) (volume_slots drive t ++ slot q.name (Some (kept_reel (attempt_written b.run b.payload d) drive.capacity)) ∷ [])) (Offline 0 Both))
-    → Leads drive (then_stock t after.shop holders opens) (attempt_on k b (noted (Op MTOFFL 1) reply d) after.session) old (Unload next) reply
+    → Leads drive (then_stock t after.shop holders opens) (attempt_on k b (noted (Op MTOFFL 1) reply d) after.session) old (Operation (Unload next)) reply
 unload_leads drive t k old b d o session next reply after holders opens h held q among (replies, is_after) =
     let off : after.session ≡ Offline 0 Both = ap (λ (v : Scene). v.session) is_after in
-    subst (λ r. Leads drive (then_stock t after.shop holders opens) (attempt_on k b (noted (Op MTOFFL 1) r d) after.session) old (Unload next) r) (sym replies)
+    subst (λ r. Leads drive (then_stock t after.shop holders opens) (attempt_on k b (noted (Op MTOFFL 1) r d) after.session) old (Operation (Unload next)) r) (sym replies)
     (λ progress new (moves, is). led drive (then_stock t after.shop holders opens) k old b (carried_on d) after.session (ToSend Close) (counted_to old.counts next) moved.Send progress new
     moves is
     record {

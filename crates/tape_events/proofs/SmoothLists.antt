@@ -8,7 +8,7 @@ use Rattle.tape.specs.Tape.PlainEntry.{Record}
 use Rattle.drives.specs.Shop.{names_of}
 use Rattle.tape_events.specs.World.{Begun, Count, Opening}
 use Rattle.tape_events.specs.Changes.{opening, reel_opened_by}
-use Rattle.tape_events.specs.Headline.{block_records}
+use Rattle.tape_events.specs.Written.{block_records}
 use Rattle.tape_events.specs.Smooth.{volume_slot}
 
 -- one reel further down the stack

@@ -18,7 +18,7 @@ use Rattle.tape_events.specs.First.{PlainDriveSpec, AreGoodDrives, first_world}
 use Rattle.tape_events.specs.Steps.{Happens, Runs, none, one_more, is_failing, Sends, Finds}
 use Rattle.tape_events.specs.Kept.{IsWorldKept, AreLaid}
 use Rattle.tape_events.specs.Standing.{AreHeld, ReelLiesIn, StandsOn}
-use Rattle.tape_events.specs.Headline.{whole_volume}
+use Rattle.tape_events.specs.Written.{whole_volume}
 use Rattle.tape_events.specs.Smooth.{IsFaultless, AreFaultless, IsSmooth, is_between, VolumesInOrder, ReelsStandAt, StandsWith, stock_of, volume_by, volume_slot, volume_slots}
 use Rattle.tape_events.proofs.Numbers.{no_number}
 use Rattle.tape_events.proofs.Booked.{among_at}

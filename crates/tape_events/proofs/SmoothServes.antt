@@ -6,14 +6,14 @@ use Rattle.std.proofs.lemmas.List.{append-nil}
 use Rattle.tape.specs.Tape.{PlainEntry, Tape, tape, TapeAnswer, offset_of, entries_of}
 use Rattle.rmt_wire.specs.declared.limits.TheConstants.{RECORD_LIMIT}
 use Rattle.tape.specs.Tape.PlainEntry.{Record, Mark}
-use Rattle.tape.specs.Tape.TapeAnswer.{Done as Did, Fault}
+use Rattle.tape.specs.Tape.TapeAnswer.{Done as Did, Gave, Fault}
 use Rattle.tape.specs.Trouble.{DeviceStep}
 use Rattle.tape.specs.declared.fault.TapeFault.TheVariants as faults
 use Rattle.tape.specs.declared.trouble.Trouble.TheVariants.{None as NoTrouble}
 use Rattle.rmt_wire.specs.Request.{PlainRequest}
-use Rattle.rmt_wire.specs.Request.PlainRequest.{Open, Close, Write, Op}
+use Rattle.rmt_wire.specs.Request.PlainRequest.{Open, Close, Write, Read, Op}
 use Rattle.rmt_wire.specs.Reply.{PlainReply}
-use Rattle.rmt_wire.specs.Reply.PlainReply.{Done, Error}
+use Rattle.rmt_wire.specs.Reply.PlainReply.{Done, Data, Error}
 use Rattle.rmt_wire.specs.declared.errno.TheConstants.{ENOENT, ENOMEM, ENXIO}
 use Rattle.rmt_wire.specs.declared.fcntl.TheConstants.{O_RDWR}
 use Rattle.rmt_wire.specs.declared.mtio.TheConstants.{MTOFFL, MTREW, MTWEOF}
@@ -25,6 +25,7 @@ use Rattle.rmt_server.specs.Refusals.{refused, tape_refusal}
 use Rattle.rmt_server.specs.Session.{PlainReel, plain_reel, Scene, scene, tape_request, reel_reply}
 use Rattle.rmt_server.specs.Session.PlainSession.{Idle, Offline, Online}
 use Rattle.rmt_server.specs.TroubledServe.{holder_of, TroubledServeStep, TroubledReelStep, TroubledDoneStep}
+use Rattle.dump_run.specs.Label.{label_bytes}
 use Rattle.tape_events.specs.First.{PlainDriveSpec}
 use Rattle.tape_events.specs.Smooth.{blanks, one_drive}
 use Rattle.tape_events.proofs.Called.{IsLeftWith, Called, called}
@@ -124,6 +125,23 @@ serve_rewind shop capacity reply holders after step = rewound (in_drive shop (pl
 
     rewound : Called NoTrouble (scene shop (Online 0 Both (plain_reel (tape [] []) capacity))) after 0 (plain_reel (tape [] []) capacity) (Op MTREW 1) reply → (reply ≡ Done 1) × IsOnline shop capacity (tape [] []) after
     rewound c = answered c.answer c.now c.device c.replies (left_online shop (plain_reel (tape [] []) capacity) c.now after c.left)
+
+-- a look at the first record of an empty reel
+pub serve_look : (shop : Shop) (capacity : ℕ) (reply : PlainReply) (holders : List ℕ) (after : Scene)
+    → TroubledServeStep NoTrouble holders (scene shop (Online 0 Both (plain_reel (tape [] []) capacity))) (Read label_bytes) reply after
+    → (reply ≡ Data []) × IsOnline shop capacity (tape [] []) after
+serve_look shop capacity reply holders after step = looked (in_drive shop (plain_reel (tape [] []) capacity) (Read label_bytes) reply after step)
+  where
+    answered : (answer : TapeAnswer) (t : Tape) → DeviceStep capacity NoTrouble (tape [] []) (tape_request (Read label_bytes)) answer t
+        → reply ≡ reel_reply (Read label_bytes) answer → after ≡ scene shop (Online 0 Both (plain_reel t capacity)) → (reply ≡ Data []) × IsOnline shop capacity (tape [] []) after
+    answered (Gave given) t (spared, (none, stays)) replies is = (replies ∙ ap Data none, is ∙ ap (λ x. scene shop (Online 0 Both (plain_reel x capacity))) stays)
+    answered (Fault faults.Device) t device replies is = absurd (device.0 refl)
+    answered (Fault faults.OutOfMemory) t device replies is = absurd device
+    answered answer t device replies is = absurd device.1
+
+    looked : Called NoTrouble (scene shop (Online 0 Both (plain_reel (tape [] []) capacity))) after 0 (plain_reel (tape [] []) capacity) (Read label_bytes) reply
+        → (reply ≡ Data []) × IsOnline shop capacity (tape [] []) after
+    looked c = answered c.answer c.now c.device c.replies (left_online shop (plain_reel (tape [] []) capacity) c.now after c.left)
 
 -- the record was written, or there is no room for it, or no memory
 pub data Writes (shop : Shop) (capacity : ℕ) (before : List PlainEntry) (bytes : List ℕ) (reply : PlainReply) (after : Scene) : Type 0 where

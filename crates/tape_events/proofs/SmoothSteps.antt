@@ -1,12 +1,12 @@
 -- Each request of an attempt, carried out at the only drive without a fault.
-use Rattle.std.proofs.Common.{◌≡◌, ℕ, ◌<◌, List, [], ◌∷◌, ◌++◌, length, length-append, option_map, option_to_list, Some, Contains, refl, sym, ap, subst, ◌∙◌, inl, inr, arith}
+use Rattle.std.proofs.Common.{◌≡◌, ℕ, ◌<◌, false, List, [], ◌∷◌, ◌++◌, length, length-append, option_map, option_to_list, Some, Contains, refl, sym, ap, subst, ◌∙◌, inl, inr, arith}
 use Rattle.std.specs.Prelude.{◌-◌, replicate, get_or, slice_set}
 use Rattle.std.proofs.lemmas.List.{length-replicate}
 use Rattle.std.proofs.lemmas.List.Elements.{Contains-append_left, Contains-push}
 use Rattle.tape.specs.Tape.{PlainEntry, tape}
 use Rattle.tape.specs.declared.trouble.Trouble.TheVariants.{None as NoTrouble}
 use Rattle.rmt_wire.specs.Request.{PlainRequest}
-use Rattle.rmt_wire.specs.Request.PlainRequest.{Open as OpenDevice, Write, Op, Close as CloseDevice}
+use Rattle.rmt_wire.specs.Request.PlainRequest.{Open as OpenDevice, Write, Read, Op, Close as CloseDevice}
 use Rattle.rmt_wire.specs.Reply.{PlainReply}
 use Rattle.rmt_wire.specs.declared.mtio.TheConstants.{MTOFFL, MTREW, MTWEOF}
 use Rattle.drives.specs.Shop.{Shop, rack_at}
@@ -20,7 +20,8 @@ use Rattle.dump_run.specs.Label.{label, label_lines, label_bytes}
 use Rattle.dump_client.specs.Lawful.{IsLawful, attempt_at}
 use Rattle.dump_client.specs.Standing.{Standing, checkpoint_of}
 use Rattle.dump_client.specs.declared.step.Step.{Step}
-use Rattle.dump_client.specs.declared.step.Step.TheVariants.{Open, Rewind, Label, Block, Mark, Unload, Close}
+use Rattle.dump_client.specs.declared.step.Step.TheVariants.{Open, Operation, Look, Label, Block, Close}
+use Rattle.dump_client.specs.declared.step.TapeOp.TheVariants.{Rewind, RewindAgain, Mark, Unload}
 use Rattle.tape_events.specs.World.{Dumping, Begun, Opening}
 use Rattle.tape_events.specs.First.{PlainDriveSpec}
 use Rattle.tape_events.specs.Changes.{opening, opened_reel, written_reel, first_name, noted}
@@ -28,8 +29,8 @@ use Rattle.tape_events.specs.Sending.{HasDone, request_in}
 use Rattle.tape_events.specs.Written.{attempt_written}
 use Rattle.tape_events.specs.Smooth.{Stock, blanks, one_drive, names_left, volume_slots, IsLatched, IsOffline, StandsBefore, Leads, attempt_on}
 use Rattle.tape_events.proofs.SentTexts.{few_volumes, label_short}
-use Rattle.tape_events.proofs.SmoothServes.{Writes, wrote, full, scarce, serve_open, serve_rewind, serve_write, serve_mark, serve_unload, serve_close}
-use Rattle.tape_events.proofs.SmoothLeads.{then_stock, nothing_written, opened_leads, refused_leads, rewound_leads, label_leads, block_leads, mark_leads, unload_leads, close_leads}
+use Rattle.tape_events.proofs.SmoothServes.{IsOnline, Writes, wrote, full, scarce, serve_open, serve_rewind, serve_look, serve_write, serve_mark, serve_unload, serve_close}
+use Rattle.tape_events.proofs.SmoothLeads.{then_stock, nothing_written, opened_leads, refused_leads, rewound_leads, look_leads, again_leads, label_leads, block_leads, mark_leads, unload_leads, close_leads}
 
 -- the label of a lawful client's next volume
 pub label_whole : (s : Standing) → IsLawful s → length (label s.run (checkpoint_of s.counts).0 (checkpoint_of s.counts).1) ≡ label_bytes
@@ -124,17 +125,48 @@ open_step drive t k old b d s reply shop session holders a (free, idle) served =
           (opens_then t k (OpenDevice b.run.device 2) shop session) q refl
     ]
 
+-- a step before the label, at a reel that is blank
+blank_step : (drive : PlainDriveSpec) (t : Stock) (k : ℕ) (b : Begun) (d : Dumping) (session after : PlainSession) (request : PlainRequest) (reply : PlainReply) (shop : Shop)
+    (holders : List ℕ) → d.label ≡ false → d.blocks ≡ 0 → d.mark ≡ false → IsLatched drive t k b d session → Served t k session request reply shop after holders
+    → TroubledServeStep NoTrouble t.holders (scene t.shop (Online 0 Both (plain_reel (tape [] []) drive.capacity))) request reply (scene shop after)
+blank_step drive t k b d session after request reply shop holders none few bare q served =
+    subst (λ l. TroubledServeStep NoTrouble t.holders (scene t.shop (Online 0 Both (plain_reel (tape l []) drive.capacity))) request reply (scene shop after))
+    (nothing_written b d none few bare) (latched_step drive t k b d session after request reply shop holders q served)
+
+-- the drive is held still by one whose reel is in it
+online_held : (drive : PlainDriveSpec) (t : Stock) (k : ℕ) (b : Begun) (d : Dumping) (session after : PlainSession) (request : PlainRequest) (reply : PlainReply) (shop : Shop)
+    (holders : List ℕ) → IsLatched drive t k b d session → Served t k session request reply shop after holders → IsOnline t.shop drive.capacity (tape [] []) (scene shop after)
+    → holders ≡ k ∷ []
+online_held drive t k b d session after request reply shop holders q served online =
+    latched_held drive t k b d session after request reply shop holders q served (ap (λ (v : Scene). drive_in v.session) online)
+
 rewind_step : (drive : PlainDriveSpec) (t : Stock) (k : ℕ) (old : Standing) (b : Begun) (d : Dumping) (s : Side) (reply : PlainReply) (shop : Shop) (session : PlainSession) (holders : List ℕ)
-    → Attempt t k old b d s Rewind → IsLatched drive t k b d s.session → Served t k s.session (request_in b d Rewind) reply shop session holders
-    → Leads drive (stock_then t k (request_in b d Rewind) shop session holders) (attempt_on k b (noted (request_in b d Rewind) reply d) session) old Rewind reply
+    → Attempt t k old b d s (Operation Rewind) → IsLatched drive t k b d s.session → Served t k s.session (request_in b d (Operation Rewind)) reply shop session holders
+    → Leads drive (stock_then t k (request_in b d (Operation Rewind)) shop session holders) (attempt_on k b (noted (request_in b d (Operation Rewind)) reply d) session) old (Operation Rewind) reply
 rewind_step drive t k old b d s reply shop session holders a q served =
-    let empty = nothing_written b d a.done.label a.done.blocks a.done.mark in
     let r = serve_rewind t.shop drive.capacity reply t.holders (scene shop session)
-    (subst (λ l. TroubledServeStep NoTrouble t.holders (scene t.shop (Online 0 Both (plain_reel (tape l []) drive.capacity))) (Op MTREW 1) reply (scene shop session)) empty
-    (latched_step drive t k b d s.session session (Op MTREW 1) reply shop holders q served)) in
+    (blank_step drive t k b d s.session session (Op MTREW 1) reply shop holders a.done.label a.done.blocks a.done.mark q served) in
     rewound_leads drive t k old b d (Some s) s.session reply (scene shop session) holders (opens_then t k (Op MTREW 1) shop session) a.done
-    (latched_held drive t k b d s.session session (Op MTREW 1) reply shop holders q served (ap (λ (v : Scene). drive_in v.session) r.1)) q
-    (still_opened t.opens [] (opening k q.name) q.opened) r
+    (online_held drive t k b d s.session session (Op MTREW 1) reply shop holders q served r.1) q (still_opened t.opens [] (opening k q.name) q.opened) r
+
+again_step : (drive : PlainDriveSpec) (t : Stock) (k : ℕ) (old : Standing) (b : Begun) (d : Dumping) (s : Side) (reply : PlainReply) (shop : Shop) (session : PlainSession) (holders : List ℕ)
+    → Attempt t k old b d s (Operation RewindAgain) → IsLatched drive t k b d s.session → Served t k s.session (request_in b d (Operation RewindAgain)) reply shop session holders
+    → Leads drive (stock_then t k (request_in b d (Operation RewindAgain)) shop session holders) (attempt_on k b (noted (request_in b d (Operation RewindAgain)) reply d) session) old
+    (Operation RewindAgain) reply
+again_step drive t k old b d s reply shop session holders a q served =
+    let r = serve_rewind t.shop drive.capacity reply t.holders (scene shop session)
+    (blank_step drive t k b d s.session session (Op MTREW 1) reply shop holders a.done.label a.done.blocks a.done.mark q served) in
+    again_leads drive t k old b d (Some s) s.session reply (scene shop session) holders (opens_then t k (Op MTREW 1) shop session) a.done
+    (online_held drive t k b d s.session session (Op MTREW 1) reply shop holders q served r.1) q (still_opened t.opens [] (opening k q.name) q.opened) r
+
+look_step : (drive : PlainDriveSpec) (t : Stock) (k : ℕ) (old : Standing) (b : Begun) (d : Dumping) (s : Side) (reply : PlainReply) (shop : Shop) (session : PlainSession) (holders : List ℕ)
+    → Attempt t k old b d s Look → IsLatched drive t k b d s.session → Served t k s.session (request_in b d Look) reply shop session holders
+    → Leads drive (stock_then t k (request_in b d Look) shop session holders) (attempt_on k b (noted (request_in b d Look) reply d) session) old Look reply
+look_step drive t k old b d s reply shop session holders a q served =
+    let r = serve_look t.shop drive.capacity reply t.holders (scene shop session)
+    (blank_step drive t k b d s.session session (Read label_bytes) reply shop holders a.done.label a.done.blocks a.done.mark q served) in
+    look_leads drive t k old b d (Some s) s.session reply (scene shop session) holders (opens_then t k (Read label_bytes) shop session) a.done
+    (online_held drive t k b d s.session session (Read label_bytes) reply shop holders q served r.1) q (still_opened t.opens [] (opening k q.name) q.opened) r
 
 label_step : (drive : PlainDriveSpec) (t : Stock) (k : ℕ) (old : Standing) (b : Begun) (d : Dumping) (s : Side) (reply : PlainReply) (shop : Shop) (session : PlainSession) (holders : List ℕ)
     → Attempt t k old b d s Label → IsLatched drive t k b d s.session → length (label b.run d.volume d.first) ≡ label_bytes
@@ -166,8 +198,8 @@ block_step drive t k old b d s number reply shop session holders a q label_size 
     a.good a.run a.first size label_size r
 
 mark_step : (drive : PlainDriveSpec) (t : Stock) (k : ℕ) (old : Standing) (b : Begun) (d : Dumping) (s : Side) (next : ℕ) (reply : PlainReply) (shop : Shop) (session : PlainSession)
-    (holders : List ℕ) → Attempt t k old b d s (Mark next) → IsLatched drive t k b d s.session → Served t k s.session (request_in b d (Mark next)) reply shop session holders
-    → Leads drive (stock_then t k (request_in b d (Mark next)) shop session holders) (attempt_on k b (noted (request_in b d (Mark next)) reply d) session) old (Mark next) reply
+    (holders : List ℕ) → Attempt t k old b d s (Operation (Mark next)) → IsLatched drive t k b d s.session → Served t k s.session (request_in b d (Operation (Mark next))) reply shop session holders
+    → Leads drive (stock_then t k (request_in b d (Operation (Mark next))) shop session holders) (attempt_on k b (noted (request_in b d (Operation (Mark next))) reply d) session) old (Operation (Mark next)) reply
 mark_step drive t k old b d s next reply shop session holders a q served =
     let r = serve_mark t.shop drive.capacity (attempt_written b.run b.payload d) reply t.holders (scene shop session) (q.room a.done.label a.done.mark)
     (latched_step drive t k b d s.session session (Op MTWEOF 1) reply shop holders q served) in
@@ -179,8 +211,8 @@ mark_step drive t k old b d s next reply shop session holders a q served =
     (latched_held drive t k b d s.session session (Op MTWEOF 1) reply shop holders q served on) q (still_opened t.opens [] (opening k q.name) q.opened) r
 
 unload_step : (drive : PlainDriveSpec) (t : Stock) (k : ℕ) (old : Standing) (b : Begun) (d : Dumping) (s : Side) (next : ℕ) (reply : PlainReply) (shop : Shop) (session : PlainSession)
-    (holders : List ℕ) → Attempt t k old b d s (Unload next) → IsLatched drive t k b d s.session → Served t k s.session (request_in b d (Unload next)) reply shop session holders
-    → Leads drive (stock_then t k (request_in b d (Unload next)) shop session holders) (attempt_on k b (noted (request_in b d (Unload next)) reply d) session) old (Unload next) reply
+    (holders : List ℕ) → Attempt t k old b d s (Operation (Unload next)) → IsLatched drive t k b d s.session → Served t k s.session (request_in b d (Operation (Unload next))) reply shop session holders
+    → Leads drive (stock_then t k (request_in b d (Operation (Unload next))) shop session holders) (attempt_on k b (noted (request_in b d (Operation (Unload next))) reply d) session) old (Operation (Unload next)) reply
 unload_step drive t k old b d s next reply shop session holders a q served =
     unload_leads drive t k old b d (Some s) s.session next reply (scene shop session) holders (opens_then t k (Op MTOFFL 1) shop session) a.done
     (λ off. latched_held drive t k b d s.session session (Op MTOFFL 1) reply shop holders q served (ap drive_in off)) q (still_opened t.opens [] (opening k q.name) q.opened)
@@ -204,11 +236,13 @@ pub step_leads : (drive : PlainDriveSpec) (t : Stock) (k : ℕ) (old : Standing)
     (holders : List ℕ) → Attempt t k old b d s step → StandsBefore step drive t k b d s.session → Served t k s.session (request_in b d step) reply shop session holders
     → Leads drive (stock_then t k (request_in b d step) shop session holders) (attempt_on k b (noted (request_in b d step) reply d) session) old step reply
 step_leads drive t k old b d s Open reply shop session holders a stands served = open_step drive t k old b d s reply shop session holders a stands served
-step_leads drive t k old b d s Rewind reply shop session holders a stands served = rewind_step drive t k old b d s reply shop session holders a stands served
+step_leads drive t k old b d s (Operation Rewind) reply shop session holders a stands served = rewind_step drive t k old b d s reply shop session holders a stands served
+step_leads drive t k old b d s Look reply shop session holders a stands served = look_step drive t k old b d s reply shop session holders a stands served
+step_leads drive t k old b d s (Operation RewindAgain) reply shop session holders a stands served = again_step drive t k old b d s reply shop session holders a stands served
 step_leads drive t k old b d s Label reply shop session holders a stands served =
     label_step drive t k old b d s reply shop session holders a stands (its_label old b d a.run a.volume a.first a.lawful) served
 step_leads drive t k old b d s (Block number) reply shop session holders a stands served =
     block_step drive t k old b d s number reply shop session holders a stands (its_label old b d a.run a.volume a.first a.lawful) served
-step_leads drive t k old b d s (Mark next) reply shop session holders a stands served = mark_step drive t k old b d s next reply shop session holders a stands served
-step_leads drive t k old b d s (Unload next) reply shop session holders a stands served = unload_step drive t k old b d s next reply shop session holders a stands served
+step_leads drive t k old b d s (Operation (Mark next)) reply shop session holders a stands served = mark_step drive t k old b d s next reply shop session holders a stands served
+step_leads drive t k old b d s (Operation (Unload next)) reply shop session holders a stands served = unload_step drive t k old b d s next reply shop session holders a stands served
 step_leads drive t k old b d s Close reply shop session holders a stands served = close_step drive t k old b d s reply shop session holders stands served

@@ -12,7 +12,7 @@ use Rattle.tape_events.specs.Steps.{Happens, Runs, none, one_more}
 use Rattle.tape_events.specs.Standing.{AreThere}
 use Rattle.tape_events.specs.Kept.{IsWorldKept}
 use Rattle.tape_events.specs.Headline.{NoTwoHolders, DumpdatesGained, Headline, CountedReels}
-use Rattle.tape_events.specs.Further.{SentRequests, LatchedReels, ClientsCounts, LabelledReels}
+use Rattle.tape_events.specs.Further.{SentRequests, LatchedReels, ClientsCounts, SparedReels, LabelledReels}
 use Rattle.tape_events.specs.Naming.{SameNames}
 use Rattle.tape_events.proofs.Numbers.{no_number}
 use Rattle.tape_events.proofs.SentWire.{OneReading, DroppedWrites, OneReply}
@@ -20,7 +20,9 @@ use Rattle.tape_events.proofs.Lawfully.{Lawfully, lawful_moved}
 use Rattle.tape_events.proofs.Owned.{Standings, owned_moved, first_owned}
 use Rattle.tape_events.proofs.ToldAfter.{first_told, told_moved}
 use Rattle.tape_events.proofs.LabelledAfter.{first_single, first_labelled, first_earned, single_moved, labelled_moved, earned_moved}
-use Rattle.tape_events.proofs.Counted.{labelled_reels, counted_reels}
+use Rattle.tape_events.proofs.Counted.{labelled_reels, counted_reels, spared_reels}
+use Rattle.tape_events.proofs.SparedLooks.{Grounds}
+use Rattle.tape_events.proofs.SparedAfter.{first_spared, spared_moved}
 use Rattle.tape_events.proofs.Tidy.{tidy_moved}
 use Rattle.tape_events.proofs.Moves.{Move, happened, moved}
 use Rattle.tape_events.proofs.Held.{held_moved, side_there}
@@ -83,6 +85,7 @@ first_kept drives good = record {
   once = first_named drives good;
   opened = first_opened drives;
   writers = first_writers drives;
+  spared = first_spared drives;
   readable = λ k s at. absurd (no_number k (Some s) (side_there (first_world drives).hall k s at));
 }
 
@@ -95,18 +98,36 @@ pub record Laws : Type 0 where
   pub dropped : DroppedWrites
   pub reply : OneReply
 
+grounds : (w : World) → IsWorldKept w → Grounds w
+grounds w k = record {
+  held = k.held;
+  laid = k.laid;
+  named = k.once;
+  opened = k.opened;
+  writers = k.writers;
+  told = k.told;
+  single = k.single;
+  labelled = k.labelled;
+  earned = k.counted;
+  spared = k.spared;
+}
+
 kept_moved : Laws → (w : World) (m : Move w) → IsWorldKept w → IsWorldKept (moved w m)
 kept_moved g w m k =
     let held = held_moved w m k.held in
     let laid = laid_moved w m k.held k.laid in
     let named = named_moved w m k.held held laid k.once in
+    let owned = owned_moved g.standings w m k.owned in
+    let told = told_moved g.reading g.dropped g.reply w m k.lawful k.owned k.tidy k.booked k.told in
+    let single = single_moved g.reading g.dropped w m k.held k.told k.opened k.single in
+    let earned = earned_moved g.reading g.dropped g.reply w m k.held k.owned k.told k.single k.counted in
     record {
       lawful = lawful_moved g.lawfully w m k.booked k.lawful;
-      owned = owned_moved g.standings w m k.owned;
-      told = told_moved g.reading g.dropped g.reply w m k.lawful k.owned k.tidy k.booked k.told;
-      single = single_moved g.reading g.dropped w m k.held k.told k.opened k.single;
+      owned = owned;
+      told = told;
+      single = single;
       labelled = labelled_moved g.reading g.dropped w m k.held held laid named.once k.told k.opened k.single k.labelled;
-      counted = earned_moved g.reading g.dropped g.reply w m k.held k.owned k.told k.single k.counted;
+      counted = earned;
       tidy = tidy_moved w m k.tidy;
       held = held;
       laid = laid;
@@ -114,6 +135,7 @@ kept_moved g w m k =
       once = named;
       opened = opened_moved w m k.tidy k.held held laid named.once k.opened;
       writers = writers_moved w m k.opened k.writers;
+      spared = spared_moved g.reading g.dropped g.reply w m (grounds w k) k.owned k.lawful record { owned = owned; told = told; single = single; earned = earned };
       readable = readable_moved w m k.readable;
     }
 
@@ -136,7 +158,10 @@ pub dumpdates_gained : (w : World) → IsWorldKept w → DumpdatesGained w
 dumpdates_gained w kept = record { dates = kept.booked.dates; once = kept.booked.once; earned = kept.booked.earned }
 
 pub reels_counted : (w : World) → IsWorldKept w → CountedReels w
-reels_counted w kept = counted_reels w kept.held kept.laid kept.once kept.writers kept.labelled kept.counted
+reels_counted w kept = counted_reels w kept.held kept.laid kept.once kept.writers kept.told kept.labelled kept.counted kept.spared
+
+pub reels_spared : (w : World) → IsWorldKept w → SparedReels w
+reels_spared w kept = spared_reels w kept.told kept.writers kept.spared
 
 pub reels_labelled : (w : World) → IsWorldKept w → LabelledReels w
 reels_labelled w kept = labelled_reels w kept.held kept.laid kept.once kept.labelled

@@ -1,8 +1,8 @@
 -- In a world where all is kept each possible event has a step.
-use Rattle.std.proofs.Common.{◌≡◌, IsTrue, ℕ, ◌≤◌, Bool, true, false, List, [], ◌++◌, length, take, length-append, Option, Some, None, Result, Ok, Err, refl, sym, ap, subst, ◌∙◌, inl, inr, arith}
-use Rattle.std.proofs.lemmas.List.{length-take-le}
+use Rattle.std.proofs.Common.{◌≡◌, IsTrue, ℕ, ◌≤◌, Bool, true, false, List, [], ◌++◌, append_assoc, length, take, drop, length-append, Option, Some, None, Result, Ok, Err, refl, sym, ap, subst, ◌∙◌, inl, inr, arith}
+use Rattle.std.proofs.lemmas.List.{take-append-drop}
 use Rattle.rmt_wire.specs.Request.{PlainRequest}
-use Rattle.rmt_wire.specs.Reply.Wanted.{Number}
+use Rattle.rmt_wire.specs.Reply.{reply_text}
 use Rattle.rmt_wire.specs.ReplyFront.{kept_of}
 use Rattle.rmt_wire.specs.ReplyReader.{ReplyHeld, reply_held}
 use Rattle.rmt_wire.specs.RequestReader.{held}
@@ -12,11 +12,13 @@ use Rattle.rmt_server.specs.Session.{scene}
 use Rattle.rmt_server.specs.TroubledServe.{drive_in, with_holder}
 use Rattle.tape.specs.declared.trouble.Trouble.{Trouble}
 use Rattle.dump_client.specs.Client.{HasFedAt, unanswered}
+use Rattle.dump_client.specs.Script.{wanted_of}
 use Rattle.dump_client.specs.Standing.{Standing, FedAt}
 use Rattle.dump_client.specs.declared.stage.Progress.{Progress}
 use Rattle.dump_client.specs.declared.stage.Stage.{Stage}
 use Rattle.dump_client.specs.declared.stage.Stage.TheVariants.{ToSend, Waiting}
 use Rattle.dump_client.specs.declared.step.Step.{Step}
+use Rattle.dump_client.proofs.Heard.{over_can}
 use Rattle.tape_events.specs.World.{World, Link, Dumping, Caller, Kept}
 use Rattle.tape_events.specs.Events.{PlainEvent}
 use Rattle.tape_events.specs.Events.PlainEvent.{StartRun, Connect, Send, ToServer, Serve, ToClient, EndAtClient, ClientRestart, Respond, Arrange, Enter, Save}
@@ -26,13 +28,13 @@ use Rattle.tape_events.specs.Owning.{is_in_attempt}
 use Rattle.tape_events.specs.Rows.{Possible}
 use Rattle.tape_events.specs.Sending.{IsLinkToldAt}
 use Rattle.tape_events.specs.Steps.{Happens, Sends, Finds, Hears, SeesEnd, ComesBack, is_failing}
-use Rattle.tape_events.proofs.SentWire.{DroppedWrites}
-use Rattle.tape_events.proofs.StepsHeard.{SomeAnswer, over_can, cut_can, waits_can, asks_can, held_can, pushed_can}
+use Rattle.tape_events.proofs.SentWire.{DroppedWrites, brief_begins}
+use Rattle.tape_events.proofs.StepsHeard.{SomeAnswer, cut_can, waits_can, asks_can, held_can, pushed_can}
 use Rattle.tape_events.proofs.StepsServed.{serve_can}
 
 sends_can : SomeAnswer → (failing : Bool) (w : World) (k : ℕ) (c : Caller) (payload : List (List ℕ)) (step : Step) → (u : World) × Sends failing w k c payload step u
 sends_can g true w k c payload step = (_, (reply_held None [], refl))
-sends_can g false w k c payload step = (_, (reply_held (Some Number) (kept_of []), asks_can g, refl))
+sends_can g false w k c payload step = (_, (reply_held (Some (wanted_of step)) (kept_of []), asks_can g (wanted_of step), refl))
 
 finds_can : (w : World) (k : ℕ) (trouble : Trouble) (s : Side) (found : Result (Option PlainRequest) WireFault) (rest : List ℕ) → (found ≡ Ok None → ⊥)
     → (u : World) × Finds w k trouble s found rest u
@@ -75,21 +77,19 @@ hears_at g w l k n d c (Waiting step) is attempt some within (b, mine, inr repli
       let size = length-append replied.fed l.back in
       absurd (omega (arith, none, size, some, within)))
   | inr (reply, text, brief, leads) ↦
-      let all = ap length text in
-      let size = length-append replied.fed l.back in
-      let part = length-append replied.fed (take n l.back) in
-      let few = length-take-le n l.back within in
-      let short = brief.short in
-      let heard = waits_can g c.at step replied.fed (take n l.back) (omega (arith, all, size, part, few, within, short)) in
+      let bytes : reply_text reply ≡ (replied.fed ++ take n l.back) ++ drop n l.back
+      = sym text ∙ ap (λ x. replied.fed ++ x) (sym (take-append-drop n l.back)) ∙ sym (append_assoc replied.fed (take n l.back) (drop n l.back)) in
+      let heard = waits_can g c.at step replied.fed (take n l.back)
+      (brief_begins (wanted_of step) reply (replied.fed ++ take n l.back) (drop n l.back) brief bytes).1 in
       elim heard.3 [
         | inl (same, waits) ↦ (
           replied.fed,
           heard.1,
-          reply_held (Some Number) (kept_of (replied.fed ++ take n l.back)),
+          reply_held (Some (wanted_of step)) (kept_of (replied.fed ++ take n l.back)),
           heard.0,
           replied.has,
           heard.2,
-          subst (λ s. HasFedAt s (reply_held (Some Number) (kept_of (replied.fed ++ take n l.back))) (unanswered s (replied.fed ++ take n l.back)))
+          subst (λ s. HasFedAt s (reply_held (Some (wanted_of step)) (kept_of (replied.fed ++ take n l.back))) (unanswered s (replied.fed ++ take n l.back)))
               (sym (ap (λ (x : Standing). x.stage) same ∙ is)) waits,
         )
         | inr rests ↦ (

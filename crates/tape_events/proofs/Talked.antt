@@ -14,7 +14,8 @@ use Rattle.dump_client.specs.Lawful.{attempt_at}
 use Rattle.dump_client.specs.Script.{request_of}
 use Rattle.dump_client.specs.Standing.{Standing, checkpoint_of}
 use Rattle.dump_client.specs.declared.step.Step.{Step}
-use Rattle.dump_client.specs.declared.step.Step.TheVariants.{Open, Rewind, Label, Block, Mark, Unload, Close}
+use Rattle.dump_client.specs.declared.step.Step.TheVariants.{Open, Operation, Look, Label, Block, Close}
+use Rattle.dump_client.specs.declared.step.TapeOp.TheVariants.{Rewind, RewindAgain, Mark, Unload}
 use Rattle.dump_client.specs.declared.stage.Stage.TheVariants.{ToSend}
 use Rattle.dump_client.specs.declared.stage.Progress.{Progress}
 use Rattle.dump_client.specs.declared.stage.Progress.TheVariants as moved
@@ -49,12 +50,14 @@ place_in true carried blocks more = carried + 1 - blocks - more
 
 step_from : ℕ → ℕ → Step
 step_from zero next = Open
-step_from (suc zero) next = Rewind
-step_from (suc (suc zero)) next = Label
-step_from (suc (suc (suc zero))) next = Block next
-step_from (suc (suc (suc (suc zero)))) next = Mark next
-step_from (suc (suc (suc (suc (suc zero))))) next = Unload next
-step_from (suc (suc (suc (suc (suc (suc n)))))) next = Close
+step_from (suc zero) next = Operation Rewind
+step_from (suc (suc zero)) next = Look
+step_from (suc (suc (suc zero))) next = Operation RewindAgain
+step_from (suc (suc (suc (suc zero)))) next = Label
+step_from (suc (suc (suc (suc (suc zero))))) next = Block next
+step_from (suc (suc (suc (suc (suc (suc zero)))))) next = Operation (Mark next)
+step_from (suc (suc (suc (suc (suc (suc (suc zero))))))) next = Operation (Unload next)
+step_from (suc (suc (suc (suc (suc (suc (suc (suc n)))))))) next = Close
 
 one_more_block : (n blocks : ℕ) → n < blocks → one_if (nat_lt n blocks) ≡ 1
 one_more_block n blocks less = by_test (nat_lt n blocks) refl
@@ -81,20 +84,22 @@ step_is : (run : PlainRun) (first blocks carried : ℕ) (label : Bool) (step : S
     → VolumeHasBlocks run first step blocks → step ≡ step_from (place_in label carried blocks (one_if (nat_lt (first + blocks) run.blocks))) (first + blocks)
 unfolding step_from
 step_is run first blocks carried label Open many is has = early label carried blocks _ 0 (first + blocks) Open is many refl
-step_is run first blocks carried label Rewind many is has = early label carried blocks _ 1 (first + blocks) Rewind is many refl
-step_is run first blocks carried label Label many is has = early label carried blocks _ 2 (first + blocks) Label is many refl
+step_is run first blocks carried label (Operation Rewind) many is has = early label carried blocks _ 1 (first + blocks) (Operation Rewind) is many refl
+step_is run first blocks carried label Look many is has = early label carried blocks _ 2 (first + blocks) Look is many refl
+step_is run first blocks carried label (Operation RewindAgain) many is has = early label carried blocks _ 3 (first + blocks) (Operation RewindAgain) is many refl
+step_is run first blocks carried label Label many is has = early label carried blocks _ 4 (first + blocks) Label is many refl
 step_is run first blocks carried label (Block number) many is has =
     let at = has.0 in
     let within = has.1 in
     let one = one_more_block (first + blocks) run.blocks (omega (arith, at, within)) in
-    placed label carried blocks _ 3 (first + blocks) (Block number) is (omega (arith, many, at, one)) (ap Block at)
-step_is run first blocks carried label (Mark next) many is has =
-    let all = many ∙ ap (λ n. 3 + (n - first) + one_if (nat_lt n run.blocks)) has in
-    placed label carried blocks _ 4 (first + blocks) (Mark next) is (omega (arith, all)) (ap Mark has)
-step_is run first blocks carried label (Unload next) many is has =
-    let all = many ∙ ap (λ n. 4 + (n - first) + one_if (nat_lt n run.blocks)) has in
-    placed label carried blocks _ 5 (first + blocks) (Unload next) is (omega (arith, all)) (ap Unload has)
-step_is run first blocks carried label Close many is has = placed label carried blocks _ 6 (first + blocks) Close is (omega (arith, many)) refl
+    placed label carried blocks _ 5 (first + blocks) (Block number) is (omega (arith, many, at, one)) (ap Block at)
+step_is run first blocks carried label (Operation (Mark next)) many is has =
+    let all = many ∙ ap (λ n. 5 + (n - first) + one_if (nat_lt n run.blocks)) has in
+    placed label carried blocks _ 6 (first + blocks) (Operation (Mark next)) is (omega (arith, all)) (ap (λ n. Operation (Mark n)) has)
+step_is run first blocks carried label (Operation (Unload next)) many is has =
+    let all = many ∙ ap (λ n. 6 + (n - first) + one_if (nat_lt n run.blocks)) has in
+    placed label carried blocks _ 7 (first + blocks) (Operation (Unload next)) is (omega (arith, all)) (ap (λ n. Operation (Unload n)) has)
+step_is run first blocks carried label Close many is has = placed label carried blocks _ 8 (first + blocks) Close is (omega (arith, many)) refl
 
 -- an attempt has one next request
 one_next : (w : World) (d : Dumping) (request other : PlainRequest) → IsNextSent w d request → IsNextSent w d other → request ≡ other

@@ -1,23 +1,24 @@
 -- What is told of each connection, when the client hears.
 use Rattle.std.proofs.Common.{◌≡◌, ◌≢◌, ℕ, ◌+◌, ◌-◌, ◌≤◌, false, List, [], ◌∷◌, ◌++◌, length, length-append, take, drop, Option, Some, refl, sym, ap, subst, ◌∙◌, inl, inr, arith}
 use Rattle.std.proofs.lemmas.Option.{same_Some}
-use Rattle.std.proofs.lemmas.List.{append-nil, take_at}
-use Rattle.rmt_wire.specs.Reply.{PlainReply, SpellsReply}
+use Rattle.std.proofs.lemmas.List.{take_at}
+use Rattle.rmt_wire.specs.Reply.{PlainReply}
 use Rattle.rmt_wire.specs.Reply.PlainReply.{Done, Data, Error}
-use Rattle.rmt_wire.specs.Reply.Wanted.{Number}
 use Rattle.rmt_wire.specs.ReplyReader.{ReplyHeld}
 use Rattle.rmt_server.specs.Hall.{Side}
 use Rattle.dump_run.specs.Run.{PlainRun}
+use Rattle.dump_client.specs.Script.{wanted_of}
 use Rattle.dump_client.specs.Position.Heard.{Reply}
-use Rattle.dump_client.specs.Standing.{Standing, checkpoint_of, count_to, HearsAt, FedAt, IsOver}
+use Rattle.dump_client.specs.Standing.{Standing, checkpoint_of, count_to, counted_to, HearsAt, FedAt, IsOver}
 use Rattle.dump_client.specs.Lawful.{attempt_at}
 use Rattle.dump_client.specs.Client.{HasFedAt, unanswered}
 use Rattle.dump_run.specs.declared.count.VolumeCount.{VolumeCount}
 use Rattle.dump_client.specs.declared.step.Step.{Step}
 use Rattle.dump_client.specs.declared.step.Step.TheVariants.{Close}
 use Rattle.dump_client.specs.declared.stage.Stage.{Stage}
-use Rattle.dump_client.specs.declared.stage.Stage.TheVariants.{Ready, ToSend, Waiting, Finished}
+use Rattle.dump_client.specs.declared.stage.Stage.TheVariants.{Ready, ToSend, Waiting, Asking, Finished}
 use Rattle.dump_client.specs.declared.stage.Progress.{Progress}
+use Rattle.dump_client.proofs.Heard.{HeardAs, has_failed, goes_to, has_counted, has_ended, counted_last, heard_as}
 use Rattle.tape_events.specs.World.{World, Link, Dumping, Begun, Caller}
 use Rattle.tape_events.specs.Changes.{side_of}
 use Rattle.tape_events.specs.Steps.{caller}
@@ -45,7 +46,7 @@ next_attempt counts new d Close is = ap (attempt_at Close) is ∙ pushed_attempt
 next_attempt counts new d step is = ap checkpoint_of is
 
 -- behind the close the client goes on to no step
-over_stage : (run : PlainRun) (counts : List VolumeCount) (new : Standing) (next : Step) → IsOver run counts new → new.stage ≡ ToSend next → ⊥
+pub over_stage : (run : PlainRun) (counts : List VolumeCount) (new : Standing) (next : Step) → IsOver run counts new → new.stage ≡ ToSend next → ⊥
 over_stage run counts new next (inl (covers, is)) at = let clash : Finished ≡ ToSend next = sym (ap (λ (s : Standing). s.stage) is) ∙ at in cc
 over_stage run counts new next (inr (left, is)) at = let clash : Ready ≡ ToSend next = sym (ap (λ (s : Standing). s.stage) is) ∙ at in cc
 
@@ -73,25 +74,37 @@ goes_attempt begun c reader new d o step next b other g a =
       first = a.first ∙ ap (λ p. p.1) same;
     }
 
+-- a client that heard a reply waits for none
+over_waits : (run : PlainRun) (counts : List VolumeCount) (new : Standing) (step : Step) → IsOver run counts new → new.stage ≡ Waiting step → ⊥
+over_waits run counts new step (inl (covers, is)) at = let clash : Finished ≡ Waiting step = sym (ap (λ (s : Standing). s.stage) is) ∙ at in cc
+over_waits run counts new step (inr (left, is)) at = let clash : Ready ≡ Waiting step = sym (ap (λ (s : Standing). s.stage) is) ∙ at in cc
+
+pub waits_no_more : (old new : Standing) (progress : Progress) (step : Step) → HeardAs old new false progress → new.stage ≡ Waiting step → ⊥
+waits_no_more old new progress step (has_failed fault tells is) at = let clash : Asking ≡ Waiting step = sym (ap (λ (s : Standing). s.stage) is) ∙ at in cc
+waits_no_more old new progress step (goes_to next alone tells is) at = let clash : ToSend next ≡ Waiting step = sym (ap (λ (s : Standing). s.stage) is) ∙ at in cc
+waits_no_more old new progress step (has_counted end alone tells is) at = let clash : ToSend Close ≡ Waiting step = sym (ap (λ (s : Standing). s.stage) is) ∙ at in cc
+waits_no_more old new progress step (has_ended tells over) at = over_waits old.run old.counts new step over at
+waits_no_more old new progress step (counted_last end followed tells over) at = over_waits old.run (counted_to old.counts end) new step over at
+
 -- it heard the whole reply, so it waits no more
 whole_stage : (begun : List Begun) (o : Option Side) (l : Link) (c : Caller) (d : Dumping) (step : Step) (b : Begun) (reader : ReplyHeld) (new : Standing) (way bytes : List ℕ)
-    (reply : PlainReply) (progress : Progress) (stage : Stage) → new.stage ≡ stage → HasFedAt stage reader (unanswered stage bytes) → SpellsReply bytes reply Number
+    (reply : PlainReply) (progress : Progress) (stage : Stage) → new.stage ≡ stage → HasFedAt stage reader (unanswered stage bytes)
     → HearsAt c.at step (Reply reply) false progress new → LeadsOn b.run o c.at d step reply → IsStepReplied b o l c d step → IsAttempt begun c d step b → way ≡ []
     → IsLinkToldAt stage begun o (record l { back = way }) (caller c.number new reader) d
-whole_stage begun o l c d step b reader new way bytes reply progress (ToSend next) at has spelled hears leads replied attempt none =
+whole_stage begun o l c d step b reader new way bytes reply progress (ToSend next) at has hears leads replied attempt none =
     let g = leads progress new next hears at in (
       b,
       goes_attempt begun c reader new d o step next b (unlike_close c.at new step next reply progress hears at) g attempt,
       record { done = g.done; settled = replied.settled; back = none; fed = has },
     )
-whole_stage begun o l c d step b reader new way bytes reply progress (Waiting other) at has spelled hears leads replied attempt none =
-    absurd (has.begun.1 bytes [] reply (sym (append-nil bytes)) spelled)
-whole_stage begun o l c d step b reader new way bytes reply progress stage at has spelled hears leads replied attempt none = tt
+whole_stage begun o l c d step b reader new way bytes reply progress (Waiting other) at has hears leads replied attempt none =
+    absurd (waits_no_more c.at new progress other (heard_as c.at new _ false progress hears) at)
+whole_stage begun o l c d step b reader new way bytes reply progress stage at has hears leads replied attempt none = tt
 
 -- what comes of the bytes that it heard
 hearing_told : (begun : List Begun) (o : Option Side) (l : Link) (c : Caller) (d : Dumping) (step : Step) (b : Begun) (reader : ReplyHeld) (new : Standing)
     (bytes way : List ℕ) (reply : PlainReply) (progress : Progress) → c.at.stage ≡ Waiting step
-    → IsStepReplied b o l c d step → IsAttempt begun c d step b → IsBrief reply → LeadsOn b.run o c.at d step reply
+    → IsStepReplied b o l c d step → IsAttempt begun c d step b → IsBrief (wanted_of step) reply → LeadsOn b.run o c.at d step reply
     → HearsPiece c.at step reply bytes way progress new → HasFedAt new.stage reader (unanswered new.stage bytes)
     → IsLinkToldAt new.stage begun o (record l { back = way }) (caller c.number new reader) d
 hearing_told begun o l c d step b reader new bytes way reply progress stage replied attempt brief leads (waits moved is text) has =
@@ -113,7 +126,7 @@ hearing_told begun o l c d step b reader new bytes way reply progress stage repl
       },
     )
 hearing_told begun o l c d step b reader new bytes way reply progress stage replied attempt brief leads (whole spelled none heard) has =
-    whole_stage begun o l c d step b reader new way bytes reply progress new.stage refl has spelled heard leads replied attempt none
+    whole_stage begun o l c d step b reader new way bytes reply progress new.stage refl has heard leads replied attempt none
 
 -- something is on the way
 pub some_way : (l : Link) (n : ℕ) → 1 ≤ n → n ≤ length l.back → l.back ≡ [] → ⊥

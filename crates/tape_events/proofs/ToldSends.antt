@@ -12,13 +12,15 @@ use Rattle.dump_run.specs.Run.{PlainRun, IsRun}
 use Rattle.dump_run.specs.Label.{label}
 use Rattle.dump_run.specs.Blocks.{cut_blocks}
 use Rattle.dump_run.proofs.Cut.{size_cut}
-use Rattle.dump_client.specs.Script.{request_of}
+use Rattle.dump_client.specs.Script.{request_of, number_of}
 use Rattle.dump_client.specs.Standing.{Standing, standing, checkpoint_of}
 use Rattle.dump_client.specs.Lawful.{IsLawful, StageFits, IsRunLeft, attempt_at}
 use Rattle.dump_client.specs.Client.{HasFedAt}
 use Rattle.dump_run.specs.declared.count.VolumeCount.{VolumeCount}
 use Rattle.dump_client.specs.declared.step.Step.{Step}
-use Rattle.dump_client.specs.declared.step.Step.TheVariants.{Open, Label, Block, Close}
+use Rattle.dump_client.specs.declared.step.Step.TheVariants.{Open, Operation, Look, Label, Block, Close}
+use Rattle.dump_client.specs.declared.step.TapeOp.{TapeOp}
+use Rattle.dump_client.specs.declared.step.TapeOp.TheVariants.{Rewind, RewindAgain, Mark, Unload}
 use Rattle.dump_client.specs.declared.stage.Stage.{Stage}
 use Rattle.dump_client.specs.declared.stage.Stage.TheVariants.{Ready, ToSend, Waiting, Asking}
 use Rattle.tape_events.specs.World.{World, Link, Dumping, Begun, Caller, numbered}
@@ -153,13 +155,21 @@ pub same_request : (run : PlainRun) (payload : List (List ℕ)) (counts : List V
 same_request run payload counts Open = refl
 same_request run payload counts step = refl
 
+-- the number of an operation is one that a request can have
+pub small_number : (op : TapeOp) → number_of op ≤ 2147483647
+small_number Rewind = omega arith
+small_number RewindAgain = omega arith
+small_number (Mark next) = omega arith
+small_number (Unload next) = omega arith
+
 has_spelling : ShortLabels → (s : Standing) (payload : List (List ℕ)) (step : Step) → IsLawful s → ((n : ℕ) → length (get_or payload n []) ≤ RECORD_LIMIT)
     → HasSpelling (request_of s.run payload (checkpoint_of s.counts).0 (checkpoint_of s.counts).1 step)
 has_spelling g s payload Open lawful few = let device = lawful.run.device in ((device.0.1, device.1), omega arith)
 has_spelling g s payload Label lawful few = g s lawful
 has_spelling g s payload (Block number) lawful few = few number
 has_spelling g s payload Close lawful few = tt
-has_spelling g s payload step lawful few = (omega arith, omega arith)
+has_spelling g s payload Look lawful few = omega arith
+has_spelling g s payload (Operation op) lawful few = (small_number op, omega arith)
 
 -- no request of the client's leaves bytes to follow its text
 none_to_follow : (run : PlainRun) (payload : List (List ℕ)) (volume first : ℕ) (step : Step) → unsent (request_of run payload volume first step) ≡ 0

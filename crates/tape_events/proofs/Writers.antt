@@ -18,7 +18,7 @@ use Rattle.rmt_server.specs.TroubledServe.{TroubledReelStep, TroubledServeStep}
 use Rattle.tape_events.specs.World.{World, Opening, Writing, numbered}
 use Rattle.tape_events.specs.Changes.{opening, opened_reel, writing, reel_written, written_reel}
 use Rattle.tape_events.specs.First.{PlainDriveSpec, first_world}
-use Rattle.tape_events.specs.Headline.{IsUnopenedSince}
+use Rattle.tape_events.specs.Naming.{IsUnopenedSince}
 use Rattle.tape_events.specs.Naming.{AreOpened, AreWritersLast}
 use Rattle.tape_events.specs.Written.{IsAlone}
 use Rattle.tape_events.proofs.Numbers.{numbered_more, numbered_there, numbered_first, less_or_more}
@@ -92,7 +92,7 @@ was_open trouble holders before request reply after name step is =
     ]
 
 -- a writing is one of those before, or that of the request
-writing_is : (all : List Writing) (k after : ℕ) (written : Option (List ℕ)) (x : Writing)
+pub writing_is : (all : List Writing) (k after : ℕ) (written : Option (List ℕ)) (x : Writing)
     → Contains (all ++ option_to_list (option_map (writing k after) written)) x
     → Contains all x ⊎ ((reel : List ℕ) × (written ≡ Some reel) × (x ≡ writing k after reel))
 writing_is all k after None x among = inl (subst (λ l. Contains l x) (append-nil all) among)
@@ -155,10 +155,10 @@ pub first_writers : (drives : List PlainDriveSpec) → AreWritersLast (first_wor
 first_writers drives x (i, within, is) = absurd (omega (arith, within))
 
 -- a member of the front of a list
-front_in : (xs : List Opening) (n i : ℕ) (y : Opening) → numbered (take n xs) i ≡ Some y → numbered xs i ≡ Some y
+pub front_in : (xs : List Opening) (n i : ℕ) (y : Opening) → numbered (take n xs) i ≡ Some y → numbered xs i ≡ Some y
 front_in xs n i y at = ap (λ l. numbered l i) (sym (take-append-drop n xs)) ∙ numbered_more (take n xs) (drop n xs) i y at
 
-in_front : (xs : List Opening) (n i : ℕ) (y : Opening) → n ≤ length xs → i ≤ n → numbered xs i ≡ Some y → numbered (take n xs) i ≡ Some y
+pub in_front : (xs : List Opening) (n i : ℕ) (y : Opening) → n ≤ length xs → i ≤ n → numbered xs i ≡ Some y → numbered (take n xs) i ≡ Some y
 in_front xs n i y long within at =
     let long_enough = length-take-le n xs long in
     let z = numbered_there (take n xs) i (numbered_first xs i y at) (omega (arith, long_enough, within)) in

@@ -1,9 +1,9 @@
 -- What the books of a world come to: the counts of a run, and dumpdates once runs were entered. Public contracts cite it.
-use Rattle.std.specs.Prelude.{ℕ, ◌==◌, Bool, true, false, List, [], ◌∷◌, Option, Some, None}
+use Rattle.std.specs.Prelude.{◌≡◌, ℕ, ◌==◌, Bool, true, false, List, [], ◌∷◌, Contains, Option, Some, None}
 use Rattle.dumpdates.specs.Entry.{DatesEntry}
 use Rattle.dumpdates.specs.Dates.{entered}
 use Rattle.dump_run.specs.declared.count.VolumeCount.{VolumeCount}
-use Rattle.tape_events.specs.World.{Begun, Count, Entered, numbered}
+use Rattle.tape_events.specs.World.{World, Begun, Count, Entered, numbered}
 use Rattle.tape_events.specs.Steps.{entry_of}
 
 -- a count as the client has it
@@ -18,6 +18,14 @@ counted_if false x counts = counts
 abbrev pub counts_in : List Count → ℕ → List VolumeCount
 counts_in [] run = []
 counts_in (x ∷ xs) run = counted_if (x.run == run) x (counts_in xs run)
+
+-- each of these volumes stands among the counts of that run
+abbrev pub AreCountedIn : World → ℕ → List VolumeCount → Type 0
+AreCountedIn w run listed = (v : VolumeCount) → Contains listed v → Contains (counts_in w.counts run) v
+
+-- the list has a count of that volume and first block
+abbrev pub HasCountOf : List VolumeCount → ℕ → ℕ → Type 0
+HasCountOf list volume first = (c : VolumeCount) × Contains list c × (c.volume ≡ volume) × (c.first ≡ first)
 
 -- dumpdates once a run, if it was begun, was entered in it
 abbrev pub dates_with : List DatesEntry → Option Begun → List DatesEntry

@@ -18,7 +18,7 @@ use Rattle.dump_client.specs.Standing.{Standing, checkpoint_of}
 use Rattle.dump_run.specs.declared.count.VolumeCount.{VolumeCount}
 use Rattle.dump_client.specs.declared.stage.Progress.{Progress}
 use Rattle.dump_client.specs.declared.stage.Progress.TheVariants.{Failed, Ended}
-use Rattle.tape_events.specs.World.{World, Link, Dumping, Count, Opening, Writing, numbered, with_numbered}
+use Rattle.tape_events.specs.World.{World, Link, Dumping, Caller, Count, Opening, Writing, numbered, with_numbered}
 
 -- the list with the member of this number changed, if there is one
 abbrev pub changed_from : {X : Type 0} → (X → X) → List X → ℕ → Option X → List X
@@ -110,6 +110,11 @@ opened_reel request s session = None
 
 abbrev pub opening : ℕ → List ℕ → Opening
 opening k reel = record { connection = k; reel = reel }
+
+-- the list of counts that the client has, if there is one
+abbrev pub list_in : Option Caller → List VolumeCount
+list_in None = []
+list_in (Some c) = c.at.counts
 
 -- the request writes: a record, or marks
 abbrev pub is_writing : PlainRequest → Bool

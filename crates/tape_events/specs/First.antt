@@ -36,6 +36,7 @@ first_world drives = record {
   own = None;
   counts = [];
   opens = [];
+  lists = [];
   writings = [];
   entered = [];
   kept = None;

@@ -1,16 +1,20 @@
 -- What is told of each world beside the headline. Public contracts cite it.
-use Rattle.std.specs.Prelude.{◌≡◌, ◌⊎◌, ℕ, ◌+◌, ◌<◌, ◌++◌, true, List, [], length, map, slice_get, Some}
+use Rattle.std.specs.Prelude.{◌≡◌, ◌≢◌, ◌⊎◌, ℕ, ◌+◌, ◌<◌, ◌≤◌, ◌++◌, true, List, [], length, map, slice_get, Contains, Some}
 use Rattle.drives.specs.Shop.{rack_at}
 use Rattle.rmt_server.specs.Hall.{Side}
 use Rattle.rmt_server.specs.Session.{PlainReel}
 use Rattle.dump_run.specs.declared.count.VolumeCount.{VolumeCount}
-use Rattle.tape_events.specs.World.{World, Dumping, Begun, Caller, numbered}
+use Rattle.dump_client.specs.Standing.{IsAtStep}
+use Rattle.dump_client.specs.declared.step.Step.{Step}
+use Rattle.dump_client.specs.declared.step.Step.TheVariants.{Close}
+use Rattle.tape_events.specs.World.{World, Dumping, Begun, Caller, Count, Opening, Writing, numbered}
 use Rattle.tape_events.specs.Changes.{side_of, HasDump, first_name, counts_of}
 use Rattle.tape_events.specs.Events.{PlainEvent}
 use Rattle.tape_events.specs.Events.PlainEvent.{ToClient}
 use Rattle.tape_events.specs.Books.{counts_in}
 use Rattle.tape_events.specs.Standing.{ReelHoldsJust, IsFirstAway, IsOnlineWith, online_drive_in}
-use Rattle.tape_events.specs.Headline.{AreCountedIn}
+use Rattle.tape_events.specs.Headline.{IsFamiliar, IsSpared}
+use Rattle.tape_events.specs.Books.{AreCountedIn}
 use Rattle.tape_events.specs.Written.{attempt_written, IsQuiet, IsBeforeOffline}
 
 -- As many requests were carried out of a client's connection as were sent there, or one fewer.
@@ -37,6 +41,20 @@ pub record IsOnReel (w : World) (k : ℕ) (d : Dumping) (reel : List ℕ) : Type
 abbrev pub LabelledReels : World → Type 0
 LabelledReels w =
     (k : ℕ) (d : Dumping) (reel : List ℕ) → HasDump w k d → d.label ≡ true → IsQuiet w k d reel → IsOnReel w k d reel
+
+-- As long as no foreign session opened the reel of a count since, nobody but the count's own session wrote on it since that session's
+-- open.
+abbrev pub SparedReels : World → Type 0
+SparedReels w =
+    (x : Count) (y : Writing) → Contains w.counts x → Contains w.writings y → (spared : IsSpared w x) → y.reel ≡ x.reel
+    → spared.0 ≤ y.after → y.connection ≡ x.connection
+
+-- What the client opens for writing in an attempt is foreign to no count of its run whose volume and first block its list has.
+abbrev pub FamiliarOpens : World → Type 0
+FamiliarOpens w =
+    (k i : ℕ) (c : Caller) (step : Step) (o : Opening) (x : Count) (v : VolumeCount) → w.own ≡ Some k → w.caller ≡ Some c
+    → IsAtStep c.at.stage step → step ≢ Close → numbered w.opens i ≡ Some o → o.connection ≡ k → x.run ≡ c.number
+    → Contains c.at.counts v → v.volume ≡ x.volume → v.first ≡ x.first → IsFamiliar w x i o
 
 -- Each volume that the client has was counted under its number. No number above those of the runs begun has counts.
 pub record ClientsCounts (w : World) : Type 0 where

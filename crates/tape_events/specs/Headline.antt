@@ -1,29 +1,27 @@
 -- The headline: three sentences that hold after every list of events, and what their words mean. Public contracts cite it.
-use Rattle.std.specs.Prelude.{◌≡◌, ◌≢◌, ℕ, zero, suc, ◌+◌, ◌<◌, ◌≤◌, List, [], ◌∷◌, ◌++◌, get_or, Contains, Some}
-use Rattle.tape.specs.Tape.{PlainEntry}
-use Rattle.tape.specs.Tape.PlainEntry.{Record, Mark}
-use Rattle.dump_run.specs.Run.{PlainRun}
-use Rattle.dump_run.specs.Label.{label}
+use Rattle.std.specs.Prelude.{◌≡◌, ℕ, ◌+◌, ◌<◌, ◌≤◌, List, [], Contains, Some}
 use Rattle.dump_client.specs.Position.{Covers}
 use Rattle.dump_run.specs.declared.count.VolumeCount.{VolumeCount}
-use Rattle.tape_events.specs.World.{World, Begun, Count, Opening, Entered, numbered}
-use Rattle.tape_events.specs.Changes.{opening}
-use Rattle.tape_events.specs.Books.{counts_in, dates_after}
+use Rattle.tape_events.specs.World.{World, Dumping, Begun, Count, Opening, Entered, numbered}
+use Rattle.tape_events.specs.Changes.{opening, HasDump}
+use Rattle.tape_events.specs.Books.{HasCountOf, AreCountedIn, dates_after}
 use Rattle.tape_events.specs.Standing.{HasReel, ReelHoldsJust, HasOpen}
+use Rattle.tape_events.specs.Written.{whole_volume}
 
--- 1. A reel that the client counted has its volume's records and one mark, and nothing else, unless a session opened it for writing
--- after the dump did. The volume's records are its label and so many blocks from its first on, by the run and the payload.
-abbrev pub block_records : List (List ℕ) → ℕ → ℕ → List PlainEntry
-block_records payload first zero = []
-block_records payload first (suc count) = Record (get_or payload first []) ∷ block_records payload (suc first) count
+-- 1. A reel that the client counted has its volume's records and one mark, and nothing else, unless a foreign session opened it for
+-- writing after the dump did.
 
-abbrev pub whole_volume : PlainRun → List (List ℕ) → ℕ → ℕ → ℕ → List PlainEntry
-whole_volume run payload volume first count = Record (label run volume first) ∷ (block_records payload first count ++ Mark ∷ [])
+-- The open for writing of this place is not foreign to the count: its session is the client's, of that run, and the list that the
+-- client had at that open has a count of that volume and first block.
+abbrev pub IsFamiliar : World → Count → ℕ → Opening → Type 0
+IsFamiliar w x m o =
+    (d : Dumping) × HasDump w o.connection d × (d.run ≡ x.run)
+    × (list : List VolumeCount) × (numbered w.lists m ≡ Some list) × HasCountOf list x.volume x.first
 
--- No session opened it since: of the opens for writing after that of connection k none is of this reel.
-abbrev pub IsUnopenedSince : List Opening → ℕ → List ℕ → Type 0
-IsUnopenedSince opens k reel = (i : ℕ) × (numbered opens i ≡ Some (opening k reel))
-    × ((j : ℕ) (o : Opening) → i < j → numbered opens j ≡ Some o → o.reel ≢ reel)
+-- No foreign session opened it since: none of the opens for writing of this reel after that of the count's connection is foreign.
+abbrev pub IsSpared : World → Count → Type 0
+IsSpared w x = (i : ℕ) × (numbered w.opens i ≡ Some (opening x.connection x.reel))
+    × ((m : ℕ) (o : Opening) → i < m → numbered w.opens m ≡ Some o → o.reel ≡ x.reel → IsFamiliar w x m o)
 
 -- The count's run was begun, and has its blocks; its connection opened the reel, and the reel is still there.
 pub record IsOnItsReel (w : World) (x : Count) : Type 0 where
@@ -32,8 +30,7 @@ pub record IsOnItsReel (w : World) (x : Count) : Type 0 where
   pub within : x.first + x.count ≤ begun.run.blocks
   pub opened : Contains w.opens (opening x.connection x.reel)
   pub there : HasReel w.hall.shop x.reel
-  pub whole : IsUnopenedSince w.opens x.connection x.reel
-      → ReelHoldsJust w.hall x.reel (whole_volume begun.run begun.payload x.volume x.first x.count)
+  pub whole : IsSpared w x → ReelHoldsJust w.hall x.reel (whole_volume begun.run begun.payload x.volume x.first x.count)
 
 abbrev pub CountedReels : World → Type 0
 CountedReels w = (x : Count) → Contains w.counts x → IsOnItsReel w x
@@ -46,10 +43,6 @@ NoTwoHolders w = (j k d : ℕ) → HasOpen w.hall j d → HasOpen w.hall k d →
 -- then. Each was entered once, and dumpdates has their entries and no other.
 abbrev pub AreOnce : List Entered → Type 0
 AreOnce es = (i j : ℕ) (e f : Entered) → numbered es i ≡ Some e → numbered es j ≡ Some f → e.run ≡ f.run → i ≡ j
-
--- each of these volumes stands among the counts of that run
-abbrev pub AreCountedIn : World → ℕ → List VolumeCount → Type 0
-AreCountedIn w run listed = (v : VolumeCount) → Contains listed v → Contains (counts_in w.counts run) v
 
 abbrev pub IsEarned : World → Entered → Type 0
 IsEarned w e = (b : Begun) × (numbered w.begun e.run ≡ Some b) × Covers b.run e.listed × AreCountedIn w e.run e.listed

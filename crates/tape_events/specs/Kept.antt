@@ -11,11 +11,13 @@ use Rattle.tape_events.specs.World.{World, Link, Begun, Caller, Entered, Kept, n
 use Rattle.tape_events.specs.Changes.{side_of, link_of}
 use Rattle.tape_events.specs.Books.{counts_in, dates_after}
 use Rattle.tape_events.specs.Standing.{AreHeld, AreThere, IsFirstAway, IsOnlineAt}
-use Rattle.tape_events.specs.Headline.{AreOnce, AreCountedIn, IsEarned}
+use Rattle.tape_events.specs.Headline.{AreOnce, IsEarned}
+use Rattle.tape_events.specs.Books.{AreCountedIn}
 use Rattle.tape_events.specs.Owning.{IsOwned}
 use Rattle.tape_events.specs.Sending.{AreTold}
 use Rattle.tape_events.specs.Attempts.{AreSingle, AreLabelled, AreCountsEarned}
 use Rattle.tape_events.specs.Naming.{AreNamed, AreOpened, AreWritersLast}
+use Rattle.tape_events.specs.Sparing.{AreSpared}
 use Rattle.tape_events.specs.First.{IsReadable}
 
 -- A connection of which either side is over is cut, and where the server's is, nothing is on the way to that.
@@ -80,4 +82,5 @@ pub record IsWorldKept (w : World) : Type 0 where
   pub once : AreNamed w
   pub opened : AreOpened w
   pub writers : AreWritersLast w
+  pub spared : AreSpared w
   pub readable : IsReadable w

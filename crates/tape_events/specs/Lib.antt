@@ -1,5 +1,5 @@
--- In reading order: World, Events, Changes, Rows, Steps, First; Books, Standing, Headline; Written, Further; Serving, Talk, Smooth. How it is
--- proved: Owning, Naming, Sending, Attempts, Kept.
+-- In reading order: World, Events, Changes, Rows, Steps, First; Books, Standing, Written, Headline; Further; Serving, Talk, Smooth. How it is
+-- proved: Owning, Naming, Sending, Attempts, Sparing, Kept.
 pub mod World
 pub mod Events
 pub mod Changes
@@ -8,14 +8,15 @@ pub mod Steps
 pub mod First
 pub mod Books
 pub mod Standing
-pub mod Headline
 pub mod Written
+pub mod Headline
 pub mod Further
 pub mod Naming
 pub mod Kept
 pub mod Owning
 pub mod Sending
 pub mod Attempts
+pub mod Sparing
 pub mod Serving
 pub mod Talk
 pub mod Smooth

@@ -1,12 +1,11 @@
 -- How the headline is proved: what stays so of the names of reels, of the openings and of the writings. No sentence of it names these
 -- points. Public contracts stand on it (through Kept).
-use Rattle.std.specs.Prelude.{◌≡◌, ℕ, ◌≤◌, List, length, take, Contains, Some}
+use Rattle.std.specs.Prelude.{◌≡◌, ◌≢◌, ℕ, ◌<◌, ◌≤◌, List, length, take, Contains, Some}
 use Rattle.drives.specs.Shop.{Shop, names_in, times, EachReelOnce}
 use Rattle.rmt_server.specs.Hall.{Side}
-use Rattle.tape_events.specs.World.{World, Opening, Writing}
-use Rattle.tape_events.specs.Changes.{side_of, written_reel}
+use Rattle.tape_events.specs.World.{World, Opening, Writing, numbered}
+use Rattle.tape_events.specs.Changes.{side_of, written_reel, opening}
 use Rattle.tape_events.specs.Standing.{HasReel}
-use Rattle.tape_events.specs.Headline.{IsUnopenedSince}
 
 -- no name of a reel comes or goes
 abbrev pub SameNames : Shop → Shop → Type 0
@@ -16,6 +15,11 @@ SameNames before after = (name : List ℕ) → times name (names_in after) ≡ t
 pub record AreNamed (w : World) : Type 0 where
   pub once : EachReelOnce w.hall.shop
   pub opened : (o : Opening) → Contains w.opens o → HasReel w.hall.shop o.reel
+
+-- Of the opens for writing after that of connection k none is of this reel.
+abbrev pub IsUnopenedSince : List Opening → ℕ → List ℕ → Type 0
+IsUnopenedSince opens k reel = (i : ℕ) × (numbered opens i ≡ Some (opening k reel))
+    × ((j : ℕ) (o : Opening) → i < j → numbered opens j ≡ Some o → o.reel ≢ reel)
 
 -- Each opening is that of a connection that is there. While a session may write on a reel, no other opened that reel since.
 pub record AreOpened (w : World) : Type 0 where

@@ -1,23 +1,24 @@
 -- How the headline is proved: what was sent on a connection of the client's, and what the server did of it. No sentence of it names
 -- these points. Public contracts stand on it (through Kept).
 use Rattle.std.specs.Prelude.{◌≡◌, ◌⊎◌, ℕ, ◌+◌, ◌^◌, ◌<◌, ◌≤◌, Bool, true, false, List, [], ◌++◌, length, get_or, Option, Some, None}
-use Rattle.rmt_wire.specs.declared.limits.TheConstants.{RECORD_LIMIT}
+use Rattle.rmt_wire.specs.declared.limits.TheConstants.{READER_LIMIT, RECORD_LIMIT}
 use Rattle.rmt_wire.specs.Request.{PlainRequest, SpellsRequest, request_text}
-use Rattle.rmt_wire.specs.Reply.{PlainReply, SpellsReply, reply_text}
-use Rattle.rmt_wire.specs.Reply.Wanted.{Number}
+use Rattle.rmt_wire.specs.Reply.{PlainReply, Wanted, SpellsReply, reply_text}
+use Rattle.rmt_wire.specs.Reply.PlainReply.{Data}
 use Rattle.rmt_wire.specs.RequestReader.{Unread}
 use Rattle.rmt_server.specs.Hall.{Side}
 use Rattle.rmt_server.specs.Session.{PlainReel, PlainSession}
 use Rattle.rmt_server.specs.Session.PlainSession.{Idle, Offline}
 use Rattle.rmt_server.specs.declared.access.Access.TheVariants.{Both}
 use Rattle.dump_run.specs.Run.{PlainRun, IsRun}
-use Rattle.dump_client.specs.Script.{request_of}
+use Rattle.dump_client.specs.Script.{request_of, wanted_of}
 use Rattle.dump_client.specs.Position.Heard.{Reply}
 use Rattle.dump_client.specs.Standing.{Standing, HearsAt, counted_to}
 use Rattle.dump_client.specs.Lawful.{steps_before, attempt_at}
 use Rattle.dump_client.specs.Client.{HasFedAt}
 use Rattle.dump_client.specs.declared.step.Step.{Step}
-use Rattle.dump_client.specs.declared.step.Step.TheVariants.{Open, Rewind, Label, Block, Mark, Unload, Close}
+use Rattle.dump_client.specs.declared.step.Step.TheVariants.{Open, Operation, Look, Label, Block, Close}
+use Rattle.dump_client.specs.declared.step.TapeOp.TheVariants.{Rewind, RewindAgain, Mark, Unload}
 use Rattle.dump_run.specs.declared.count.VolumeCount.{VolumeCount}
 use Rattle.dump_client.specs.declared.stage.Progress.{Progress}
 use Rattle.dump_client.specs.declared.stage.Stage.{Stage}
@@ -29,28 +30,31 @@ use Rattle.tape_events.specs.Standing.{IsOnlineWith}
 -- a step that comes after the label, and one that comes after the mark
 abbrev pub is_labelled : Step → Bool
 is_labelled Open = false
-is_labelled Rewind = false
+is_labelled (Operation Rewind) = false
+is_labelled Look = false
+is_labelled (Operation RewindAgain) = false
 is_labelled Label = false
 is_labelled step = true
 
 abbrev pub is_marked : Step → Bool
-is_marked (Unload next) = true
+is_marked (Operation (Unload next)) = true
 is_marked Close = true
 is_marked step = false
 
 -- so many blocks of the volume that begins at `first` are written before the step
 abbrev pub VolumeHasBlocks : PlainRun → ℕ → Step → ℕ → Type 0
 VolumeHasBlocks run first (Block number) blocks = (number ≡ first + blocks) × (number < run.blocks)
-VolumeHasBlocks run first (Mark next) blocks = next ≡ first + blocks
-VolumeHasBlocks run first (Unload next) blocks = next ≡ first + blocks
+VolumeHasBlocks run first (Operation (Mark next)) blocks = next ≡ first + blocks
+VolumeHasBlocks run first (Operation (Unload next)) blocks = next ≡ first + blocks
 VolumeHasBlocks run first Close blocks = Unit {0}
 VolumeHasBlocks run first step blocks = blocks ≡ 0
 
--- How the session stands before a step: nothing is open before the open; before the rewind and the label the reel is at its
--- beginning; after MTOFFL it is away.
+-- How the session stands before a step: nothing is open before the open; before the first rewind, the look and the label the reel is
+-- at its beginning; after the look and from the label on it is anywhere; after MTOFFL it is away.
 abbrev pub StandsFor : Step → PlainSession → Type 0
 StandsFor Open session = session ≡ Idle
-StandsFor Rewind session = (reel : PlainReel) × IsOnlineWith session reel × (reel.tape.before ≡ [])
+StandsFor (Operation Rewind) session = (reel : PlainReel) × IsOnlineWith session reel × (reel.tape.before ≡ [])
+StandsFor Look session = (reel : PlainReel) × IsOnlineWith session reel × (reel.tape.before ≡ [])
 StandsFor Label session = (reel : PlainReel) × IsOnlineWith session reel × (reel.tape.before ≡ [])
 StandsFor Close session = (drive : ℕ) × (session ≡ Offline drive Both)
 StandsFor step session = (reel : PlainReel) × IsOnlineWith session reel
@@ -112,15 +116,21 @@ LeadsOn run o old d step reply =
     (progress : Progress) (new : Standing) (next : Step) → HearsAt old step (Reply reply) false progress new
     → new.stage ≡ ToSend next → GoesTo run o old d new next
 
--- a reply that is kept whole by one who waits for it
-pub record IsBrief (reply : PlainReply) : Type 0 where
-  pub spelled : SpellsReply (reply_text reply) reply Number
-  pub short : length (reply_text reply) < 255
+-- So long a text is kept whole. Data are kept up to a reader's limit; of an error's text only its first 255 bytes are kept.
+abbrev pub whole_below : PlainReply → ℕ
+whole_below (Data bytes) = READER_LIMIT
+whole_below reply = 255
+
+-- a reply that is kept whole by one who waits for this
+pub record IsBrief (wanted : Wanted) (reply : PlainReply) : Type 0 where
+  pub spelled : SpellsReply (reply_text reply) reply wanted
+  pub short : length (reply_text reply) < whole_below reply
 
 -- What the client heard and what is on the way to it are the reply to this step, or nothing, where that was lost.
 abbrev pub IsStepReply : PlainRun → Option Side → Standing → Dumping → Step → List ℕ → Type 0
 IsStepReply run o at d step bytes =
-    (bytes ≡ []) ⊎ ((reply : PlainReply) × (bytes ≡ reply_text reply) × IsBrief reply × LeadsOn run o at d step reply)
+    (bytes ≡ []) ⊎ ((reply : PlainReply) × (bytes ≡ reply_text reply) × IsBrief (wanted_of step) reply
+    × LeadsOn run o at d step reply)
 
 -- the connection is that of the client's attempt
 pub record IsAttempt (begun : List Begun) (c : Caller) (d : Dumping) (step : Step) (b : Begun) : Type 0 where

@@ -18,7 +18,7 @@ use Rattle.tape_events.specs.World.{World, Dumping, Begun, numbered}
 use Rattle.tape_events.specs.Changes.{side_of, opening}
 use Rattle.tape_events.specs.Steps.{carried}
 use Rattle.tape_events.specs.Sending.{is_labelled, is_marked, VolumeHasBlocks, request_in}
-use Rattle.tape_events.specs.Headline.{whole_volume}
+use Rattle.tape_events.specs.Written.{whole_volume}
 
 -- The server carries out a request that reached it on connection k, and this is the world after it.
 pub record ServerTurn (w : World) (k : ℕ) (trouble : Trouble) (u : World) : Type 0 where

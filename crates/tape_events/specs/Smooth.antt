@@ -12,6 +12,7 @@ use Rattle.rmt_server.specs.declared.access.Access.TheVariants.{Both}
 use Rattle.dump_run.specs.Run.{PlainRun}
 use Rattle.dump_run.specs.Label.{label_bytes}
 use Rattle.dump_client.specs.Position.Heard.{Reply}
+use Rattle.dump_client.specs.Script.{wanted_of}
 use Rattle.dump_client.specs.Standing.{Standing, HearsAt}
 use Rattle.dump_client.specs.Client.{HasFedAt}
 use Rattle.dump_client.specs.declared.step.Step.{Step}
@@ -32,7 +33,7 @@ use Rattle.tape_events.specs.Rows.{StandsIn}
 use Rattle.tape_events.specs.Sending.{AreUnserved, AreCounted, IsBrief}
 use Rattle.tape_events.specs.Standing.{StandsOn}
 use Rattle.tape_events.specs.Written.{attempt_written}
-use Rattle.tape_events.specs.Headline.{whole_volume}
+use Rattle.tape_events.specs.Written.{whole_volume}
 
 -- An event without a fault: a run begins, the client connects and sends, bytes reach either end, and the server carries a request
 -- out whose device call does not fail.
@@ -215,7 +216,7 @@ pub record IsStepAnswered (drive : PlainDriveSpec) (w : World) (a : Attempt) (l 
   pub has : HasFedAt (Waiting step) c.reader fed
   pub reply : PlainReply
   pub text : fed ++ l.back ≡ reply_text reply
-  pub brief : IsBrief reply
+  pub brief : IsBrief (wanted_of step) reply
   pub bin : (more : List (Slot KeptReel)) × (w.hall.shop.bin ≡ volume_slots drive (stock_of w) ++ more)
   pub leads : Leads drive (stock_of w) a c.at step reply
 

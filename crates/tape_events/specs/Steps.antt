@@ -30,7 +30,7 @@ use Rattle.tape_events.specs.World.{World, Link, Dumping, Begun, Caller, Kept, n
 use Rattle.tape_events.specs.Events.{PlainEvent}
 use Rattle.tape_events.specs.Events.PlainEvent.{StartRun, Connect, Send, ToServer, Serve, ToClient, Cut, EndAtServer, EndAtClient, ServerRestart, ClientRestart, Respond, Arrange, Stranger, Says, Enter, Save}
 use Rattle.tape_events.specs.Rows.{Possible}
-use Rattle.tape_events.specs.Changes.{changed, side_of, link_of, calm, joined, sent_on, other_left, given_up, ended_at, restarted, opened_reel, opening, reel_written, writing, answered, noted_sent, counted_from, came_to}
+use Rattle.tape_events.specs.Changes.{changed, side_of, link_of, calm, joined, sent_on, other_left, given_up, ended_at, restarted, opened_reel, opening, list_in, reel_written, writing, answered, noted_sent, counted_from, came_to}
 
 abbrev pub caller : ℕ → Standing → ReplyHeld → Caller
 caller number at reader = record { number = number; at = at; reader = reader }
@@ -116,6 +116,7 @@ carried w k request reply reached shop session holders = record (calm w) {
   hall = hall shop holders (with_numbered w.hall.sides k (Some (side reached session)));
   links = changed (answered request reply) w.links k;
   opens = w.opens ++ option_to_list (option_map (opening k) (opened_reel request shop session));
+  lists = w.lists ++ option_to_list (option_map (λ reel. list_in w.caller) (opened_reel request shop session));
   writings = w.writings ++ option_to_list (option_map (writing k (length w.opens)) (reel_written request shop session));
 }
 

@@ -73,9 +73,10 @@ pub record Kept : Type 0 where
   pub run : ℕ
   pub listed : List VolumeCount
 
--- Runs, connections, counts, openings, writings and entered runs stand in the order in which they came. `own` is the connection of
--- the client's attempt, while that is under way, `kept` what is kept of a run outside of the client, and `failure` what the last
--- event made fail: the volume, and why.
+-- Runs, connections, counts, openings, writings and entered runs stand in the order in which they came. `lists` has for each opening
+-- the list of counts that the client had then; none, where there was no client. `own` is the connection of the client's attempt,
+-- while that is under way, `kept` what is kept of a run outside of the client, and `failure` what the last event made fail: the
+-- volume, and why.
 pub record World : Type 0 where
   pub hall : Hall
   pub links : List Link
@@ -84,6 +85,7 @@ pub record World : Type 0 where
   pub own : Option ℕ
   pub counts : List Count
   pub opens : List Opening
+  pub lists : List (List VolumeCount)
   pub writings : List Writing
   pub entered : List Entered
   pub kept : Option Kept

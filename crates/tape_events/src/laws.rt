@@ -3,18 +3,19 @@
 ghost use Rattle.std.specs.Prelude.{◌≡◌, ◌⊎◌, ℕ, List, ◌++◌};
 ghost use Rattle.rmt_wire.specs.Request.{PlainRequest};
 ghost use Rattle.tape.specs.declared.trouble.Trouble.{Trouble};
-ghost use Rattle.tape_events.specs.World.{World, Dumping};
+ghost use Rattle.tape_events.specs.World.{World, Dumping, Count};
 ghost use Rattle.tape_events.specs.Changes.{HasDump, calm, ended_at};
 ghost use Rattle.tape_events.specs.Events.{PlainEvent};
 ghost use Rattle.tape_events.specs.Events.PlainEvent.{Serve};
 ghost use Rattle.tape_events.specs.Rows.{Possible};
 ghost use Rattle.tape_events.specs.Steps.{Runs, Happens};
 ghost use Rattle.tape_events.specs.First.{PlainDriveSpec, AreGoodDrives, first_world, IsReached};
-ghost use Rattle.tape_events.specs.Headline.{Headline, CountedReels, NoTwoHolders, DumpdatesGained};
-ghost use Rattle.tape_events.specs.Further.{SentRequests, LatchedReels, LabelledReels, ClientsCounts, CountsGrow};
+ghost use Rattle.tape_events.specs.Headline.{Headline, CountedReels, IsSpared, NoTwoHolders, DumpdatesGained};
+ghost use Rattle.tape_events.specs.Written.{IsAlone};
+ghost use Rattle.tape_events.specs.Further.{SentRequests, LatchedReels, SparedReels, FamiliarOpens, LabelledReels, ClientsCounts, CountsGrow};
 ghost use Rattle.tape_events.specs.Standing.{AreHeld};
 ghost use Rattle.tape_events.specs.Kept.{IsWorldKept};
-ghost use Rattle.tape_events.specs.Naming.{SameNames};
+ghost use Rattle.tape_events.specs.Naming.{SameNames, IsUnopenedSince};
 ghost use Rattle.tape_events.specs.Talk.{Talks, IsBeginning};
 ghost use Rattle.tape_events.specs.Serving.{ServerTurn, IsNextSent, Meets, OthersStay, IsMoveDone, IsWholeInBin};
 
@@ -32,8 +33,13 @@ pub fn one_run()
 
 /// What stays so whatever happens: the first world of good drives has it, each event leaves it, and so it holds after every
 /// list of events. Each event that is possible has a world after it (`steps`). No event takes a reel away, or brings one. So the holder of a drive is the connection whose live side has
-/// it open, and no drive has two; each reel that was counted, and that no session opened for writing since, holds exactly its
-/// volume; and dumpdates gained only dumps whose counted volumes are all their blocks in order.
+/// it open, and no drive has two; each reel that was counted, and that no foreign session opened for writing since, holds exactly
+/// its volume; and dumpdates gained only dumps whose counted volumes are all their blocks in order.
+///
+/// A session is foreign to a count unless its connection is the client's, of the count's run, and the list that the client had as
+/// the open was accepted has a count of that volume and first block. So none is that opens in an attempt of the client, of which
+/// the list has them (`familiar_opens`). As long as no foreign session opened the reel of a count since, no session but the count's
+/// own wrote on it since its open. A reel that nobody opened since is spared (`unopened`), and nobody wrote on it (`unwritten`).
 ///
 /// Where the label of an attempt was accepted and no write of it met a device fault, what it wrote stands on its reel, and
 /// nothing else, while no other session wrote on that reel since. While its session has the reel in its drive and was not
@@ -57,6 +63,10 @@ pub fn kept()
     ensures headline { (w : World) → IsWorldKept w → Headline w }
     ensures holders { (w : World) → IsWorldKept w → AreHeld w.hall }
     ensures no_two_holders { (w : World) → IsWorldKept w → NoTwoHolders w }
+    ensures spared_reels { (w : World) → IsWorldKept w → SparedReels w }
+    ensures unopened { (w : World) (x : Count) → IsUnopenedSince w.opens x.connection x.reel → IsSpared w x }
+    ensures unwritten { (w : World) (k : ℕ) (reel : List ℕ) → IsWorldKept w → IsUnopenedSince w.opens k reel → IsAlone w k reel }
+    ensures familiar_opens { (w : World) → IsWorldKept w → FamiliarOpens w }
     ensures labelled_reels { (w : World) → IsWorldKept w → LabelledReels w }
     ensures counted_reels { (w : World) → IsWorldKept w → CountedReels w }
     ensures dumpdates_gained { (w : World) → IsWorldKept w → DumpdatesGained w }

@@ -1,5 +1,5 @@
 -- What the client hears, and what of a world that leaves.
-use Rattle.std.proofs.Common.{◌≡◌, ◌⊎◌, ◌==◌, ◌<◌, ◌≤◌, suc, nat_lt, drop-cons, Bool, true, false, List, [], ◌∷◌, ◌++◌, length, map, drop, cond, get_or, Option, Some, None, refl, sym, ap, subst, ◌∙◌, inl, inr, ℕ, arith}
+use Rattle.std.proofs.Common.{◌≡◌, ◌⊎◌, ◌==◌, ◌<◌, ◌≤◌, suc, drop-cons, Bool, true, false, List, [], ◌∷◌, ◌++◌, length, map, drop, cond, get_or, Option, Some, None, refl, sym, ap, subst, ◌∙◌, inl, inr, ℕ, arith}
 use Rattle.std.specs.Prelude.{IsTrue, slice_get, option_to_list, Result, Ok, Err}
 use Rattle.std.specs.List.{find}
 use Rattle.std.proofs.Math.Bool.{not}
@@ -7,22 +7,17 @@ use Rattle.std.proofs.lemmas.Option.{same_Some}
 use Rattle.std.proofs.lemmas.List.{get_or_past, drop_all}
 use Rattle.std.proofs.lemmas.Bool.Decides.{nat_tests}
 use Rattle.rmt_wire.specs.Reply.{PlainReply}
-use Rattle.rmt_wire.specs.Reply.PlainReply.{Done, Data, Error}
 use Rattle.rmt_wire.specs.declared.fault.WireFault.{WireFault}
-use Rattle.rmt_wire.specs.declared.errno.TheConstants.{ENOSPC}
-use Rattle.dump_run.specs.Run.{PlainRun}
-use Rattle.dump_run.specs.Label.{label_bytes}
-use Rattle.dump_client.specs.Position.{after_step, at_end_of_reel, after_write, after_op, after_number, after_refusal, after_error, after_noise, after_reply}
 use Rattle.dump_client.specs.Listening.{is_more}
-use Rattle.dump_client.specs.Standing.{Standing, standing, checkpoint_of, counted_to, count_to, FedAt, Becomes, Makes, IsOver}
+use Rattle.dump_client.specs.Standing.{Standing, standing, checkpoint_of, counted_to, count_to, FedAt, Makes, IsOver}
 use Rattle.dump_client.specs.declared.step.Step.{Step}
-use Rattle.dump_client.specs.declared.step.Step.TheVariants.{Open, Rewind, Label, Block, Mark, Unload, Close}
-use Rattle.dump_client.specs.declared.fault.AttemptFault.{AttemptFault}
+use Rattle.dump_client.specs.declared.step.Step.TheVariants.{Close}
 use Rattle.dump_run.specs.declared.count.VolumeCount.{VolumeCount}
 use Rattle.dump_client.specs.declared.stage.Stage.{Stage}
 use Rattle.dump_client.specs.declared.stage.Stage.TheVariants.{Ready, ToSend, Waiting, Asking, Finished, Abandoned}
 use Rattle.dump_client.specs.declared.stage.Progress.{Progress}
 use Rattle.dump_client.specs.declared.stage.Progress.TheVariants as moved
+use Rattle.dump_client.proofs.Heard.{HeardAs, has_failed, goes_to, has_counted, has_ended, counted_last, heard_as}
 use Rattle.tape_events.specs.Changes.{reel_opened_by}
 use Rattle.tape_world.specs.declared.books.Opening.{Opening as RealOpening}
 use Rattle.tape_world.specs.Seen.{name_at, seen_opening}
@@ -41,134 +36,32 @@ moves_to : (old at new : Standing) (tells progress : Progress) → progress ≡ 
 moves_to old at new tells progress told is moved =
     subst (λ p. HasMoved old new p) (sym told) (subst (λ s. HasMoved old s tells) (sym is) moved)
 
-over_moves : (old new : Standing) (counts : List VolumeCount) → IsOver old.run counts new
-    → (counts ≡ old.counts) ⊎ ((c : VolumeCount) × (counts ≡ old.counts ++ c ∷ [])) → HasMoved old new moved.Ended
-over_moves old new counts (inl (covers, is)) grown =
-    moves_to old (standing old.run counts Finished) new moved.Ended moved.Ended refl is record { run = refl; counts = grown; stage = refl }
-over_moves old new counts (inr (more, is)) grown =
-    moves_to old (standing old.run counts Ready) new moved.Ended moved.Ended refl is record { run = refl; counts = grown; stage = refl }
+-- the counts are those before, or with one more
+abbrev Grown : List VolumeCount → List VolumeCount → Type 0
+Grown old counts = (counts ≡ old) ⊎ ((c : VolumeCount) × (counts ≡ old ++ c ∷ []))
 
--- the next request is to be sent, the attempt failed, the volume was counted, or the attempt is over
-sends : (old new : Standing) (step : Step) (progress : Progress) → (progress ≡ moved.Send) × (new ≡ standing old.run old.counts (ToSend step))
+over_moves : (old new : Standing) (counts : List VolumeCount) (progress : Progress) → progress ≡ moved.Ended → IsOver old.run counts new → Grown old.counts counts
     → HasMoved old new progress
-sends old new step progress (told, is) =
-    moves_to old (standing old.run old.counts (ToSend step)) new moved.Send progress told is record { run = refl; counts = inl refl; stage = refl }
+over_moves old new counts progress told (inl (covers, is)) grown =
+    moves_to old (standing old.run counts Finished) new moved.Ended progress told is record { run = refl; counts = grown; stage = refl }
+over_moves old new counts progress told (inr (more, is)) grown =
+    moves_to old (standing old.run counts Ready) new moved.Ended progress told is record { run = refl; counts = grown; stage = refl }
 
-fails : (old new : Standing) (fault : AttemptFault) (progress : Progress)
-    → (progress ≡ moved.Failed fault) × (new ≡ standing old.run old.counts Asking) → HasMoved old new progress
-fails old new fault progress (told, is) =
+-- the count of the volume that is written
+one_more : (old : Standing) (end : ℕ) → Grown old.counts (counted_to old.counts end)
+one_more old end = inr (count_to (checkpoint_of old.counts) end, refl)
+
+-- the attempt failed, goes on, counted its volume, or is over
+heard_moves : (old new : Standing) (more : Bool) (progress : Progress) → HeardAs old new more progress → HasMoved old new progress
+heard_moves old new more progress (has_failed fault told is) =
     moves_to old (standing old.run old.counts Asking) new (moved.Failed fault) progress told is record { run = refl; counts = inl refl; stage = refl }
-
-counts : (old new : Standing) (next : ℕ) (progress : Progress)
-    → (progress ≡ moved.Send) × (new ≡ standing old.run (counted_to old.counts next) (ToSend Close)) → HasMoved old new progress
-counts old new next progress (told, is) =
-    moves_to old (standing old.run (counted_to old.counts next) (ToSend Close)) new moved.Send progress told is
-    record { run = refl; counts = inr (count_to (checkpoint_of old.counts) next, refl); stage = refl }
-
-ends : (old new : Standing) (progress : Progress) → (progress ≡ moved.Ended) × IsOver old.run old.counts new → HasMoved old new progress
-ends old new progress (told, over) = subst (λ p. HasMoved old new p) (sym told) (over_moves old new old.counts over (inl refl))
-
-counts_last : (old new : Standing) (next : ℕ) (progress : Progress) → (progress ≡ moved.Ended) × IsOver old.run (counted_to old.counts next) new
-    → HasMoved old new progress
-counts_last old new next progress (told, over) =
-    subst (λ p. HasMoved old new p) (sym told)
-    (over_moves old new (counted_to old.counts next) over (inr (count_to (checkpoint_of old.counts) next, refl)))
-
--- what holds of both holds of either
-either : {O : Type 0} (T : O → Type 0) (b : Bool) (x y : O) → T x → T y → T (cond b x y)
-either {O} T true x y p q = p
-either {O} T false x y p q = q
-
--- each outcome of what is heard at a step moves it so
-after_step_moves : (old new : Standing) (run : PlainRun) (first : ℕ) (step : Step) (more : Bool) (progress : Progress)
-    → Becomes old (after_step run first step) more progress new → HasMoved old new progress
-after_step_moves old new run first Open false progress h = sends old new _ progress h
-after_step_moves old new run first Open true progress h = fails old new _ progress h
-after_step_moves old new run first Rewind false progress h = sends old new _ progress h
-after_step_moves old new run first Rewind true progress h = fails old new _ progress h
-after_step_moves old new run first Label false progress h = sends old new _ progress h
-after_step_moves old new run first Label true progress h = fails old new _ progress h
-after_step_moves old new run first (Block n) false progress h = sends old new _ progress h
-after_step_moves old new run first (Block n) true progress h = fails old new _ progress h
-after_step_moves old new run first (Mark n) false progress h = sends old new _ progress h
-after_step_moves old new run first (Mark n) true progress h = fails old new _ progress h
-after_step_moves old new run first (Unload n) false progress h = counts old new n progress h
-after_step_moves old new run first (Unload n) true progress h = counts_last old new n progress h
-after_step_moves old new run first Close more progress h = ends old new progress h
-
-mark_moves : (old new : Standing) (first n : ℕ) (more : Bool) (progress : Progress) → Becomes old (at_end_of_reel first (Block n)) more progress new
-    → HasMoved old new progress
-mark_moves old new first n false progress =
-    either (λ o. Becomes old o false progress new → HasMoved old new progress) (nat_lt first n) _ _
-    (λ h. sends old new _ progress h) (λ h. fails old new _ progress h)
-mark_moves old new first n true progress =
-    either (λ o. Becomes old o true progress new → HasMoved old new progress) (nat_lt first n) _ _
-    (λ h. fails old new _ progress h) (λ h. fails old new _ progress h)
-
-reel_moves : (old new : Standing) (first : ℕ) (step : Step) (more : Bool) (progress : Progress) → Becomes old (at_end_of_reel first step) more progress new
-    → HasMoved old new progress
-reel_moves old new first Open more progress h = fails old new _ progress h
-reel_moves old new first Rewind more progress h = fails old new _ progress h
-reel_moves old new first Label more progress h = fails old new _ progress h
-reel_moves old new first (Block n) more progress h = mark_moves old new first n more progress h
-reel_moves old new first (Mark n) more progress h = fails old new _ progress h
-reel_moves old new first (Unload n) more progress h = fails old new _ progress h
-reel_moves old new first Close more progress h = fails old new _ progress h
-
-write_moves : (old new : Standing) (run : PlainRun) (first : ℕ) (step : Step) (size n : ℕ) (more : Bool) (progress : Progress)
-    → Becomes old (after_write run first step size n) more progress new → HasMoved old new progress
-write_moves old new run first step size n more progress =
-    either (λ o. Becomes old o more progress new → HasMoved old new progress) (n == size) _ _ (after_step_moves old new run first step more progress)
-    (either (λ o. Becomes old o more progress new → HasMoved old new progress) (n == 0) _ _ (reel_moves old new first step more progress)
-    (λ h. fails old new _ progress h))
-
-op_moves : (old new : Standing) (run : PlainRun) (first : ℕ) (step : Step) (n : ℕ) (more : Bool) (progress : Progress)
-    → Becomes old (after_op run first step n) more progress new → HasMoved old new progress
-op_moves old new run first step n more progress =
-    either (λ o. Becomes old o more progress new → HasMoved old new progress) (n == 1) _ _ (after_step_moves old new run first step more progress)
-    (λ h. fails old new _ progress h)
-
-refusal_moves : (old new : Standing) (first : ℕ) (step : Step) (n : ℕ) (more : Bool) (progress : Progress)
-    → Becomes old (after_refusal first step n) more progress new → HasMoved old new progress
-refusal_moves old new first step n more progress =
-    either (λ o. Becomes old o more progress new → HasMoved old new progress) (n == ENOSPC) _ _ (reel_moves old new first step more progress)
-    (λ h. fails old new _ progress h)
-
-number_moves : (old new : Standing) (run : PlainRun) (first : ℕ) (step : Step) (n : ℕ) (more : Bool) (progress : Progress)
-    → Becomes old (after_number run first step n) more progress new → HasMoved old new progress
-number_moves old new run first Open n more progress h = after_step_moves old new run first Open more progress h
-number_moves old new run first Rewind n more progress h = op_moves old new run first Rewind n more progress h
-number_moves old new run first Label n more progress h = write_moves old new run first Label label_bytes n more progress h
-number_moves old new run first (Block k) n more progress h = write_moves old new run first (Block k) run.block_bytes n more progress h
-number_moves old new run first (Mark k) n more progress h = op_moves old new run first (Mark k) n more progress h
-number_moves old new run first (Unload k) n more progress h = op_moves old new run first (Unload k) n more progress h
-number_moves old new run first Close n more progress h = ends old new progress h
-
-error_moves : (old new : Standing) (first : ℕ) (step : Step) (n : ℕ) (more : Bool) (progress : Progress)
-    → Becomes old (after_error first step n) more progress new → HasMoved old new progress
-error_moves old new first Open n more progress h = fails old new _ progress h
-error_moves old new first Rewind n more progress h = fails old new _ progress h
-error_moves old new first Label n more progress h = refusal_moves old new first Label n more progress h
-error_moves old new first (Block k) n more progress h = refusal_moves old new first (Block k) n more progress h
-error_moves old new first (Mark k) n more progress h = fails old new _ progress h
-error_moves old new first (Unload k) n more progress h = fails old new _ progress h
-error_moves old new first Close n more progress h = ends old new progress h
-
-noise_moves : (old new : Standing) (step : Step) (more : Bool) (progress : Progress) → Becomes old (after_noise step) more progress new
-    → HasMoved old new progress
-noise_moves old new Open more progress h = fails old new _ progress h
-noise_moves old new Rewind more progress h = fails old new _ progress h
-noise_moves old new Label more progress h = fails old new _ progress h
-noise_moves old new (Block n) more progress h = fails old new _ progress h
-noise_moves old new (Mark n) more progress h = fails old new _ progress h
-noise_moves old new (Unload n) more progress h = fails old new _ progress h
-noise_moves old new Close more progress h = ends old new progress h
-
-reply_moves : (old new : Standing) (run : PlainRun) (first : ℕ) (step : Step) (reply : PlainReply) (more : Bool) (progress : Progress)
-    → Becomes old (after_reply run first step reply) more progress new → HasMoved old new progress
-reply_moves old new run first step (Done n) more progress h = number_moves old new run first step n more progress h
-reply_moves old new run first step (Data bytes) more progress h = noise_moves old new step more progress h
-reply_moves old new run first step (Error n text) more progress h = error_moves old new first step n more progress h
+heard_moves old new more progress (goes_to step alone told is) =
+    moves_to old (standing old.run old.counts (ToSend step)) new moved.Send progress told is record { run = refl; counts = inl refl; stage = refl }
+heard_moves old new more progress (has_counted end alone told is) =
+    moves_to old (standing old.run (counted_to old.counts end) (ToSend Close)) new moved.Send progress told is
+    record { run = refl; counts = one_more old end; stage = refl }
+heard_moves old new more progress (has_ended told over) = over_moves old new old.counts progress told over (inl refl)
+heard_moves old new more progress (counted_last end followed told over) = over_moves old new (counted_to old.counts end) progress told over (one_more old end)
 
 still : (old new : Standing) (tells progress : Progress) → progress ≡ tells → is_over tells ≡ false → new ≡ old → IsTrue (is_in_attempt old.stage)
     → HasMoved old new progress
@@ -180,15 +73,16 @@ makes_moves : (old new : Standing) (step : Step) (bytes rest : List ℕ) (seen :
     → IsTrue (is_in_attempt old.stage) → Makes old step bytes seen rest progress new → HasMoved old new progress
 makes_moves old new step bytes rest (Ok None) progress inside (told, is) = still old new moved.Waiting progress told refl is inside
 makes_moves old new step bytes rest (Ok (Some reply)) progress inside made =
-    reply_moves old new old.run (checkpoint_of old.counts).1 step reply (is_more rest) progress made
-makes_moves old new step bytes rest (Err fault) progress inside made = noise_moves old new step false progress made
+    heard_moves old new (is_more rest) progress (heard_as old new _ (is_more rest) progress made)
+makes_moves old new step bytes rest (Err fault) progress inside made = heard_moves old new false progress (heard_as old new _ false progress made)
 
 fed_at : (stage : Stage) (old new : Standing) (bytes piece : List ℕ) (progress : Progress) → stage ≡ old.stage → IsTrue (is_in_attempt stage)
     → FedAt stage old bytes piece progress new → HasMoved old new progress
 fed_at Ready old new bytes piece progress same inside fed = absurd cc
 fed_at (ToSend step) old new bytes piece progress same inside (inl (none, told, is)) =
     still old new moved.Send progress told refl is (subst (λ s. IsTrue (is_in_attempt s)) same inside)
-fed_at (ToSend step) old new bytes piece progress same inside (inr (some, heard)) = noise_moves old new step false progress heard
+fed_at (ToSend step) old new bytes piece progress same inside (inr (some, heard)) =
+    heard_moves old new false progress (heard_as old new _ false progress heard)
 fed_at (Waiting step) old new bytes piece progress same inside (seen, rest, gives, made) =
     makes_moves old new step (bytes ++ piece) rest seen progress (subst (λ s. IsTrue (is_in_attempt s)) same inside) made
 fed_at Asking old new bytes piece progress same inside fed = absurd cc

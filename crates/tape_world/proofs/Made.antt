@@ -23,7 +23,7 @@ use Rattle.tape_events.specs.First.{PlainDriveSpec, blank_rack, first_world}
 use Rattle.tape_world.specs.declared.link.Link.{Link as RealLink}
 use Rattle.tape_world.specs.declared.caller.Begun.{Begun as RealBegun}
 use Rattle.tape_world.specs.declared.books.Books.{Books}
-use Rattle.tape_world.specs.Seen.{seen_link, seen_begun, seen_count, seen_opening, seen_writing, seen_entered, book_names, world_of}
+use Rattle.tape_world.specs.Seen.{seen_link, seen_begun, seen_count, seen_opening, seen_lists, seen_writing, seen_entered, book_names, world_of}
 use Rattle.tape_world.specs.declared.drive_spec.DriveSpec.{DriveSpec}
 use Rattle.tape_world.specs.Serving.{IsShopKnown}
 use Rattle.tape_world.specs.Making.{plain_drive_spec, reels_of, blank_slots, laid_rack, laid_shop, with_laid, with_slots}
@@ -129,13 +129,14 @@ first_hall host s drives n laid is count =
 
 pub made_world : (host : Hosted) (drives : List DriveSpec) (links : List RealLink) (begun : List RealBegun) (books : Books) (dates : List DatesEntry)
     → host.hall ≡ hall (shop (map blank_rack (map plain_drive_spec drives)) []) (replicate (length (map plain_drive_spec drives)) 0) [] → links ≡ [] → begun ≡ []
-    → books.counts.items ≡ [] → books.opens.items ≡ [] → books.writings.items ≡ [] → books.entered.items ≡ [] → books.failure ≡ None → dates ≡ []
+    → books.counts.items ≡ [] → books.opens.items ≡ [] → books.lists.items ≡ [] → books.writings.items ≡ [] → books.entered.items ≡ [] → books.failure ≡ None → dates ≡ []
     → world_of host.hall links begun None None None books dates ≡ first_world (map plain_drive_spec drives)
-made_world host drives links begun books dates there no_links no_runs no_counts no_opens no_writings no_entered no_failure no_dates =
+made_world host drives links begun books dates there no_links no_runs no_counts no_opens no_lists no_writings no_entered no_failure no_dates =
     let links_none : map seen_link links ≡ [] = ap (map seen_link) no_links in
     let begun_none : map seen_begun begun ≡ [] = ap (map seen_begun) no_runs in
     let counts_none : map (seen_count (book_names books)) books.counts.items ≡ [] = ap (map (seen_count (book_names books))) no_counts in
     let opens_none : map (seen_opening (book_names books)) books.opens.items ≡ [] = ap (map (seen_opening (book_names books))) no_opens in
+    let lists_none : seen_lists books.lists.items ≡ [] = ap seen_lists no_lists in
     let writings_none : map (seen_writing (book_names books)) books.writings.items ≡ [] = ap (map (seen_writing (book_names books))) no_writings in
     let entered_none : map seen_entered books.entered.items ≡ [] = ap (map seen_entered) no_entered in cc
 

@@ -2,7 +2,7 @@
 use Rattle.std.proofs.Common.{◌≡◌, ◌≢◌, ℕ, zero, suc, Bool, true, false, List, [], ◌∷◌, ◌++◌, length, map, option_map, Option, Some, None, refl, sym, ap, subst, ◌∙◌, Vec, Global}
 use Rattle.std.specs.Prelude.{Result, Ok, Err, take, drop, Contains, if◌then◌else◌, ◌==◌, slice_get, slice_set, slice_index_or}
 use Rattle.std.specs.Option.{option_to_list}
-use Rattle.std.proofs.lemmas.List.{append-nil, take-append-drop}
+use Rattle.std.proofs.lemmas.List.{append-nil, length-map, take-append-drop}
 use Rattle.std.proofs.lemmas.List.Elements.{Contains-push, Contains-get_or, Contains-append_left}
 use Rattle.std.proofs.lemmas.Option.{same_Some, slice_get_within, get_or_from_slice_get}
 use Rattle.rmt_wire.specs.Request.{PlainRequest}
@@ -26,18 +26,24 @@ use Rattle.tape_host.specs.declared.turn.Turn.TheVariants as turns
 use Rattle.tape_host.specs.Halls as host
 use Rattle.tape_host.specs.Halls.{Hosted, side_at, with_side_at}
 use Rattle.tape_host.specs.Turns.{Carries, GivesNothing, GivesFault, asked_of, carried_of, writes_for}
+use Rattle.dumpdates.specs.Entry.{DatesEntry}
+use Rattle.dump_run.specs.declared.count.VolumeCount.{VolumeCount}
 use Rattle.tape_events.specs.World.{World, Link, Opening, Writing, numbered, with_numbered}
 use Rattle.tape_events.specs.Events.PlainEvent.{Serve}
-use Rattle.tape_events.specs.Changes.{calm, changed, changed_from, ended, side_of, written_reel, opened_reel, opening, writing, answered, over_here}
+use Rattle.tape_events.specs.Changes.{calm, changed, changed_from, ended, side_of, written_reel, opened_reel, opening, list_in, writing, answered, over_here}
 use Rattle.tape_events.specs.Rows.{Possible}
 use Rattle.tape_events.specs.Steps.{Happens}
 use Rattle.tape_events.specs.Standing.{AreHeld}
 use Rattle.tape_events.specs.Kept.{IsWorldKept}
 use Rattle.tape_world.specs.declared.link.Link.{Link as RealLink}
-use Rattle.tape_world.specs.declared.books.Opening.{Opening as RealOpening}
-use Rattle.tape_world.specs.declared.books.Writing.{Writing as RealWriting}
-use Rattle.tape_world.specs.Seen.{seen_link, seen_opening, seen_writing, seen_writings}
-use Rattle.tape_world.specs.Serving.{TurnServes, IsShopKnown, IsOnlineIn, name_online, name_online_at, name_opened_by, opened_in, written_in}
+use Rattle.tape_world.specs.declared.books.Books.{Books}
+use Rattle.tape_world.specs.declared.books.Count.{Count as RealCount}
+use Rattle.tape_world.specs.declared.books.Entered.{Entered as RealEntered}
+use Rattle.tape_world.specs.declared.caller.Begun.{Begun as RealBegun}
+use Rattle.tape_world.specs.declared.caller.Caller.{Caller as RealCaller}
+use Rattle.tape_world.specs.declared.caller.KeptRun.{KeptRun}
+use Rattle.tape_world.specs.Seen.{seen_link, seen_caller, seen_count, seen_opening, seen_lists, seen_writing, seen_entered, book_names, world_of}
+use Rattle.tape_world.specs.Serving.{TurnServes, IsSameBooks, IsNoted, IsShopKnown, IsOnlineIn, name_online, name_online_at, name_opened_by, opened_in, written_in}
 use Rattle.tape_world.proofs.Linked.{links_after}
 use Rattle.tape_world.proofs.Serving.{serves_as}
 use Rattle.tape_world.proofs.Server.{side_found, ended_is}
@@ -152,21 +158,27 @@ front_has xs n i y at =
     numbered_in xs zero y at = absurd cc
     numbered_in xs (suc i) y at = subst (Contains xs) (get_or_from_slice_get xs i y y at) (Contains-get_or xs i y (slice_get_within xs i y at))
 
--- the world with this hall, and these connections, openings and writings
-abbrev pub left_with : World → Hall → List Link → List Opening → List Writing → World
-left_with w h links opens writings = record (calm w) { hall = h; links = links; opens = opens; writings = writings }
+-- the world with this hall, and these connections, openings with their lists, and writings
+abbrev pub left_with : World → Hall → List Link → List Opening → List (List VolumeCount) → List Writing → World
+left_with w h links opens lists writings = record (calm w) { hall = h; links = links; opens = opens; lists = lists; writings = writings }
 
 -- what a turn may have noted
 abbrev pub more_opens : World → ℕ → Hall → Turn → List Opening
 more_opens w k h turn = w.opens ++ option_to_list (option_map (opening k) (opened_in h k turn))
 
+abbrev pub more_lists : World → ℕ → Hall → Turn → List (List VolumeCount)
+more_lists w k h turn = w.lists ++ option_to_list (option_map (λ reel. list_in w.caller) (opened_in h k turn))
+
 abbrev pub more_writings : World → ℕ → Hall → Turn → List Writing
 more_writings w k h turn = w.writings ++ option_to_list (option_map (writing k (length w.opens)) (written_in h k turn))
 
+-- the world after a turn, with what is to be noted
+abbrev pub turned : World → ℕ → Hall → Turn → List Link → World
+turned w k h turn links = left_with w h links (more_opens w k h turn) (more_lists w k h turn) (more_writings w k h turn)
+
 carried_happens : (trouble : Trouble) (k : ℕ) (w : World) (s : Side) (request : PlainRequest) (reply : PlainReply) (new : Hall) (links : List Link)
     → side_at w.hall.sides k ≡ Some s → Carries trouble w.hall k s request reply new → links ≡ changed (answered request reply) w.links k
-    → Happens w (Serve k trouble)
-    (left_with w new links (more_opens w k new (turns.Carried (carried_of request reply))) (more_writings w k new (turns.Carried (carried_of request reply))))
+    → Happens w (Serve k trouble) (turned w k new (turns.Carried (carried_of request reply)) links)
 carried_happens trouble k w s request reply new links live c is =
     let turn = turns.Carried (carried_of request reply) in
     let here = sym (side_found w.hall k) ∙ live in
@@ -195,13 +207,15 @@ carried_happens trouble k w s request reply new links live c is =
           c.holders,
           c.given.4,
           c.served,
-          ap (λ x. left_with w x links (more_opens w k new turn) (more_writings w k new turn)) hallis
-              ∙ ap (λ l. left_with w h l (more_opens w k new turn) (more_writings w k new turn)) is
+          ap (λ x. left_with w x links (more_opens w k new turn) (more_lists w k new turn) (more_writings w k new turn)) hallis
+              ∙ ap (λ l. left_with w h l (more_opens w k new turn) (more_lists w k new turn) (more_writings w k new turn)) is
               ∙ ap (λ r. left_with w h (changed (answered request reply) w.links k)
-              (w.opens ++ option_to_list (option_map (opening k) r)) (more_writings w k new turn))
+              (w.opens ++ option_to_list (option_map (opening k) r))
+              (w.lists ++ option_to_list (option_map (λ reel. list_in w.caller) r)) (more_writings w k new turn))
               opened
               ∙ ap (λ r. left_with w h (changed (answered request reply) w.links k)
               (w.opens ++ option_to_list (option_map (opening k) (opened_reel request c.shop c.session)))
+              (w.lists ++ option_to_list (option_map (λ reel. list_in w.caller) (opened_reel request c.shop c.session)))
               (w.writings ++ option_to_list (option_map (writing k (length w.opens)) r))) wrote,
         ),
       ),
@@ -209,7 +223,7 @@ carried_happens trouble k w s request reply new links live c is =
 
 broken_happens : (trouble : Trouble) (k : ℕ) (w : World) (s : Side) (fault : WireFault) (new : Hall) (links : List Link)
     → side_at w.hall.sides k ≡ Some s → GivesFault s.reached fault → new ≡ host.ended w.hall k → links ≡ changed over_here w.links k
-    → Happens w (Serve k trouble) (left_with w new links (w.opens ++ []) (w.writings ++ []))
+    → Happens w (Serve k trouble) (left_with w new links (w.opens ++ []) (w.lists ++ []) (w.writings ++ []))
 broken_happens trouble k w s fault new links live (bytes, rest, unread, gives) after is =
     let here = sym (side_found w.hall k) ∙ live in (
       (s, Err fault, here, (bytes, rest, unread, gives, λ is. cc)),
@@ -221,16 +235,13 @@ broken_happens trouble k w s fault new links live (bytes, rest, unread, gives) a
         here,
         unread,
         gives,
-        ap (λ h. left_with w h links (w.opens ++ []) (w.writings ++ [])) (after ∙ ended_is w.hall k)
-            ∙ ap (λ l. left_with w (ended w.hall k) l (w.opens ++ []) (w.writings ++ [])) is
-            ∙ ap (λ o. left_with w (ended w.hall k) (changed over_here w.links k) o (w.writings ++ [])) (append-nil w.opens)
-            ∙ ap (λ x. left_with w (ended w.hall k) (changed over_here w.links k) w.opens x) (append-nil w.writings),
+        ap (λ h. left_with w h links (w.opens ++ []) (w.lists ++ []) (w.writings ++ [])) (after ∙ ended_is w.hall k)
+            ∙ ap (λ l. left_with w (ended w.hall k) l (w.opens ++ []) (w.lists ++ []) (w.writings ++ [])) is
+            ∙ ap (λ o. left_with w (ended w.hall k) (changed over_here w.links k) o (w.lists ++ []) (w.writings ++ [])) (append-nil w.opens)
+            ∙ ap (λ o. left_with w (ended w.hall k) (changed over_here w.links k) w.opens o (w.writings ++ [])) (append-nil w.lists)
+            ∙ ap (λ x. left_with w (ended w.hall k) (changed over_here w.links k) w.opens w.lists x) (append-nil w.writings),
       ),
     )
-
--- the world after a turn, with the opening or the writing that is to be noted
-abbrev pub turned : World → ℕ → Hall → Turn → List Link → World
-turned w k h turn links = left_with w h links (more_opens w k h turn) (more_writings w k h turn)
 
 pub serves_happens : (trouble : Trouble) (k : ℕ) (w : World) (old new : Hosted) (turn : Turn) (links : List Link) → w.hall ≡ old.hall
     → TurnServes trouble old k turn new (λ f. links ≡ changed f w.links k) → turn ≢ turns.Nothing
@@ -270,28 +281,47 @@ pub serves_world : (trouble : Trouble) (k : ℕ) (old new : Hosted) (turn : Turn
     → TurnServes trouble old k turn new (λ f. map seen_link (take n (ws ++ drop (length ws) items)) ≡ changed f (map seen_link items) k)
 serves_world trouble k old new turn n items xs ws len value t = serves_as trouble old new k turn _ _ (λ f is. links_after f n items xs ws k len value is) t
 
--- what is noted in memory, which holds the same
-abbrev pub with_items : World → List (List ℕ) → List RealOpening → List RealWriting → World
-with_items w names opens writings = record w { opens = map (seen_opening names) opens; writings = map (seen_writing names) writings }
+-- the same names
+pub same_names : (old new : Books) → new.names ≡ old.names → book_names new ≡ book_names old
+same_names old new is = ap (λ (n : Vec (Vec ℕ Global) Global). map (λ (name : Vec ℕ Global). name.items) n.items) is
 
-pub same_items : (w : World) (names : List (List ℕ)) (o opens : List RealOpening) (x writings : List RealWriting) → o ≡ opens → x ≡ writings
-    → with_items w names o x ≡ with_items w names opens writings
-same_items w names o opens x writings one other = ap (λ l. with_items w names l x) one ∙ ap (with_items w names opens) other
+pub still_known : (old new : Books) (s : Shop) → new.names ≡ old.names → IsShopKnown (book_names old) s → IsShopKnown (book_names new) s
+still_known old new s is known = subst (λ names. IsShopKnown names s) (sym (same_names old new is)) known
 
-pub opens_after : (names ns : List (Vec ℕ Global)) (items opens new : List RealOpening) (more : List Opening) → ns ≡ names → opens ≡ items
-    → map (seen_opening (map (λ n. n.items) ns)) new ≡ map (seen_opening (map (λ n. n.items) ns)) opens ++ more
-    → map (seen_opening (map (λ n. n.items) names)) new ≡ map (seen_opening (map (λ n. n.items) names)) items ++ more
-opens_after names ns items opens new more value same is =
-    subst (λ l. map (seen_opening (map (λ n. n.items) l)) new ≡ map (seen_opening (map (λ n. n.items) l)) opens ++ more) value is
-    ∙ ap (λ l. map (seen_opening (map (λ n. n.items) names)) l ++ more) same
+pub name_known : (old new : Books) (name : List ℕ) → new.names ≡ old.names → Contains (book_names old) name → Contains (book_names new) name
+name_known old new name is known = subst (λ names. Contains names name) (sym (same_names old new is)) known
 
-pub writings_after : (names ns : List (Vec ℕ Global)) (items writings new : List RealWriting) (n m k : ℕ) (o : Option (List ℕ)) → ns ≡ names → writings ≡ items
-    → n ≡ m → seen_writings ns new ≡ seen_writings ns writings ++ option_to_list (option_map (writing k n) o)
-    → seen_writings names new ≡ seen_writings names items ++ option_to_list (option_map (writing k m) o)
-writings_after names ns items writings new n m k o value same long is =
-    subst (λ l. seen_writings l new ≡ seen_writings l writings ++ option_to_list (option_map (writing k n) o)) value is
-    ∙ ap (λ l. seen_writings names l ++ option_to_list (option_map (writing k n) o)) same
-    ∙ ap (λ j. seen_writings names items ++ option_to_list (option_map (writing k j) o)) long
+-- books that hold the same
+pub same_books : (h : Hall) (links : List RealLink) (begun : List RealBegun) (caller : Option RealCaller) (own : Option ℕ) (kept : Option KeptRun) (dates : List DatesEntry)
+    (old new : Books) → IsSameBooks old new → world_of h links begun caller own kept new dates ≡ world_of h links begun caller own kept old dates
+same_books h links begun caller own kept dates old new s =
+    let names = same_names old new s.names in
+    let counts : map (seen_count (book_names new)) new.counts.items ≡ map (seen_count (book_names old)) old.counts.items
+    = ap (λ n. map (seen_count n) new.counts.items) names ∙ ap (λ (c : Vec RealCount Global). map (seen_count (book_names old)) c.items) s.counts in
+    let opens : map (seen_opening (book_names new)) new.opens.items ≡ map (seen_opening (book_names old)) old.opens.items
+    = ap (λ n. map (seen_opening n) new.opens.items) names ∙ ap (map (seen_opening (book_names old))) s.opens in
+    let lists : seen_lists new.lists.items ≡ seen_lists old.lists.items = ap seen_lists s.lists in
+    let writings : map (seen_writing (book_names new)) new.writings.items ≡ map (seen_writing (book_names old)) old.writings.items
+    = ap (λ n. map (seen_writing n) new.writings.items) names ∙ ap (map (seen_writing (book_names old))) s.writings in
+    let entered : map seen_entered new.entered.items ≡ map seen_entered old.entered.items = ap (λ (e : Vec RealEntered Global). map seen_entered e.items) s.entered in
+    let failure = s.failure in cc
 
-pub known_in : (names ns : List (Vec ℕ Global)) (name : List ℕ) → ns ≡ names → Contains (map (λ n. n.items) names) name → Contains (map (λ n. n.items) ns) name
-known_in names ns name value known = subst (λ l. Contains (map (λ n. n.items) l) name) (sym value) known
+-- books in which a turn is noted
+pub noted_books : (h : Hall) (links : List RealLink) (begun : List RealBegun) (caller : Option RealCaller) (own : Option ℕ) (kept : Option KeptRun) (dates : List DatesEntry)
+    (old new : Books) (list : List VolumeCount) (after : Hall) (now : List RealLink) (k : ℕ) (turn : Turn) → list ≡ list_in (option_map seen_caller caller)
+    → IsNoted old list after k turn new
+    → world_of after now begun caller own kept (record new { failure = None }) dates
+    ≡ turned (world_of h links begun caller own kept old dates) k after turn (map seen_link now)
+noted_books h links begun caller own kept dates old new list after now k turn is s =
+    let w = world_of h links begun caller own kept old dates in
+    let names = same_names old new s.names in
+    let counts : map (seen_count (book_names new)) new.counts.items ≡ w.counts
+    = ap (λ n. map (seen_count n) new.counts.items) names ∙ ap (λ (c : Vec RealCount Global). map (seen_count (book_names old)) c.items) s.counts in
+    let opens : map (seen_opening (book_names new)) new.opens.items ≡ more_opens w k after turn
+    = ap (λ n. map (seen_opening n) new.opens.items) names ∙ s.opens in
+    let lists : seen_lists new.lists.items ≡ more_lists w k after turn
+    = s.lists ∙ ap (λ l. w.lists ++ option_to_list (option_map (λ reel. l) (opened_in after k turn))) is in
+    let writings : map (seen_writing (book_names new)) new.writings.items ≡ more_writings w k after turn
+    = ap (λ n. map (seen_writing n) new.writings.items) names ∙ s.writings
+    ∙ ap (λ n. w.writings ++ option_to_list (option_map (writing k n) (written_in after k turn))) (sym (length-map old.opens.items (seen_opening (book_names old)))) in
+    let entered : map seen_entered new.entered.items ≡ w.entered = ap (λ (e : Vec RealEntered Global). map seen_entered e.items) s.entered in cc

@@ -2,6 +2,7 @@
 use Rattle.std.proofs.Common.{◌≡◌, inl, inr, ◌≤◌, ℕ, Bool, true, false, List, [], length, length-append, decimal, Option, Some, None, refl, sym, ap, subst, ◌∙◌, arith}
 use Rattle.std.specs.Prelude.{Result, Ok, Err, IfOk, slice_set, slice_index_or, map, ◌-◌}
 use Rattle.tape_events.specs.Changes.{changed}
+use Rattle.tape_events.proofs.ToldSends.{small_number}
 use Rattle.tape_world.specs.declared.link.Link.{Link as RealLink}
 use Rattle.tape_world.specs.Seen.{seen_link}
 use Rattle.tape_world.proofs.Linked.{put_link}
@@ -20,7 +21,7 @@ use Rattle.dump_client.specs.Client.{ClientHeld, HasFed, HasFedAt, AskedAt, Read
 use Rattle.tape_world.specs.declared.caller.Caller.{Caller as RealCaller}
 use Rattle.tape_world.specs.Talking.{Asks, AskedOf, IsToSend, talked}
 use Rattle.dump_client.specs.declared.step.Step.{Step}
-use Rattle.dump_client.specs.declared.step.Step.TheVariants.{Open, Rewind, Label, Block, Mark, Unload, Close}
+use Rattle.dump_client.specs.declared.step.Step.TheVariants.{Open, Operation, Look, Label, Block, Close}
 use Rattle.dump_client.specs.declared.stage.Stage.TheVariants.{ToSend, Waiting, Asking}
 use Rattle.dump_client.specs.declared.fault.AttemptFault.{AttemptFault}
 use Rattle.dump_client.specs.declared.fault.AttemptFault.TheVariants.{SourceFault}
@@ -53,11 +54,10 @@ open_spelled text device (line, isline, mode, is) = (isline, omega arith)
 spelled : (run : PlainRun) (blocks : List (List ℕ)) (v f : ℕ) (step : Step) → IsTextOf (request_text (request_of run blocks v f step)) (request_of run blocks v f step)
     → HasSpelling (request_of run blocks v f step)
 spelled run blocks v f Open is = open_spelled _ run.device (is [] refl)
-spelled run blocks v f Rewind is = (omega arith, omega arith)
+spelled run blocks v f (Operation op) is = (small_number op, omega arith)
+spelled run blocks v f Look is = omega arith
 spelled run blocks v f Label is = write_spelled _ _ (is [] refl)
 spelled run blocks v f (Block n) is = write_spelled _ _ (is [] refl)
-spelled run blocks v f (Mark n) is = (omega arith, omega arith)
-spelled run blocks v f (Unload n) is = (omega arith, omega arith)
 spelled run blocks v f Close is = tt
 
 short_text : (run : PlainRun) (blocks : List (List ℕ)) (v f : ℕ) (step : Step) (request : PlainRequest) → request ≡ request_of run blocks v f step
@@ -89,11 +89,10 @@ ok_fails : (fails : Bool) (step : Step) (size : ℕ) (old new : ListedBlocks) (t
     → ReadBy step size ListedRead old [] (Ok true) new text → is_failing fails step ≡ false
 ok_fails false step size old new text is read = refl
 ok_fails true Open size old new text is read = refl
-ok_fails true Rewind size old new text is read = refl
+ok_fails true (Operation op) size old new text is read = refl
+ok_fails true Look size old new text is read = refl
 ok_fails true Label size old new text is read = refl
 ok_fails true (Block n) size old new text is (into, given, r, len, reads, same, gave) = (let clash = sym is ∙ read_fails old new n into given r false reads same in absurd cc)
-ok_fails true (Mark n) size old new text is read = refl
-ok_fails true (Unload n) size old new text is read = refl
 ok_fails true Close size old new text is read = refl
 
 err_fails : (fails : Bool) (n size : ℕ) (old new : ListedBlocks) (text : List ℕ) → old.troubled ≡ fails

@@ -18,7 +18,8 @@ use Rattle.tape_events.specs.World.{World, Begun}
 use Rattle.tape_events.specs.Changes.{side_of, first_name}
 use Rattle.tape_events.specs.Standing.{IsFirstAway, online_drive_in, AreHeld, ReelLiesIn, ReelLiesOn, HasInDrive, StandsOn}
 use Rattle.tape_events.specs.Kept.{AreLaid, IsWorldKept}
-use Rattle.tape_events.specs.Headline.{CountedReels, whole_volume}
+use Rattle.tape_events.specs.Headline.{CountedReels}
+use Rattle.tape_events.specs.Written.{whole_volume}
 use Rattle.tape_events.proofs.Held.{side_there}
 use Rattle.tape_events.proofs.LabelledNames.{stands_one}
 use Rattle.tape_world.specs.Entries.{named_tape_in, tape_online, first_tape_online, entries_on}

@@ -3,6 +3,7 @@ use Rattle.std.specs.Prelude.{ℕ, List, [], map, get_or, option_map, Option, Ve
 use Rattle.std.specs.Global.{Global}
 use Rattle.dumpdates.specs.Entry.{DatesEntry}
 use Rattle.rmt_server.specs.Hall.{Hall}
+use Rattle.dump_run.specs.declared.count.VolumeCount.{VolumeCount}
 use Rattle.tape_events.specs.World.{Link, Begun, Caller, Count, Opening, Writing, Entered, Kept, World}
 use Rattle.tape_world.specs.declared.link.Link.{Link as RealLink}
 use Rattle.tape_world.specs.declared.caller.Begun.{Begun as RealBegun}
@@ -45,6 +46,10 @@ seen_writing names x = record { connection = x.connection; reel = name_at names 
 abbrev pub seen_writings : List (Vec ℕ Global) → List RealWriting → List Writing
 seen_writings names writings = map (seen_writing (map (λ n. n.items) names)) writings
 
+-- the list that the client had at each opening
+abbrev pub seen_lists : List (Vec VolumeCount Global) → List (List VolumeCount)
+seen_lists lists = map (λ l. l.items) lists
+
 abbrev pub seen_entered : RealEntered → Entered
 seen_entered e = record { run = e.run; listed = e.counts.items }
 
@@ -63,6 +68,7 @@ world_of h links begun caller own kept books dates = record {
   own = own;
   counts = map (seen_count (book_names books)) books.counts.items;
   opens = map (seen_opening (book_names books)) books.opens.items;
+  lists = seen_lists books.lists.items;
   writings = map (seen_writing (book_names books)) books.writings.items;
   entered = map seen_entered books.entered.items;
   kept = option_map seen_kept kept;

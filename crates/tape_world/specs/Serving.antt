@@ -1,5 +1,6 @@
 -- What a turn of the server makes of a connection, and which reel it opened for writing or wrote on. No public contract needs it.
-use Rattle.std.specs.Prelude.{◌≡◌, ℕ, zero, suc, ◌<◌, ◌==◌, Bool, true, false, not, ◌||◌, if◌then◌else◌, List, length, Contains, option_map, Option, Some, None}
+use Rattle.std.specs.Prelude.{◌≡◌, ℕ, zero, suc, ◌<◌, ◌==◌, Bool, true, false, not, ◌||◌, if◌then◌else◌, List, ◌++◌, length, Contains, option_map, Option, Some, None, vec_len, vec_capacity}
+use Rattle.std.specs.Option.{option_to_list}
 use Rattle.rmt_wire.specs.Counted.{raised}
 use Rattle.rmt_wire.specs.Request.{PlainRequest}
 use Rattle.rmt_wire.specs.Reply.{PlainReply}
@@ -10,6 +11,7 @@ use Rattle.rmt_server.specs.Session.{PlainReel, PlainSession}
 use Rattle.rmt_server.specs.Session.PlainSession.{Online}
 use Rattle.rmt_server.specs.declared.access.Access.{Access}
 use Rattle.rmt_server.specs.Hall.{Hall, Side}
+use Rattle.dump_run.specs.declared.count.VolumeCount.{VolumeCount}
 use Rattle.tape_host.specs.declared.turn.RequestKind.{RequestKind}
 use Rattle.tape_host.specs.declared.turn.RequestKind.TheVariants as asked
 use Rattle.tape_host.specs.declared.turn.Answered.{Answered}
@@ -21,7 +23,9 @@ use Rattle.tape_host.specs.Halls.{Hosted, hosted, side_at, ended}
 use Rattle.tape_host.specs.Turns.{carried_of, Carries, GivesNothing, GivesFault}
 use Rattle.tape_events.specs.World.{Link, Dumping}
 use Rattle.tape_events.specs.Standing.{HasReel}
-use Rattle.tape_events.specs.Changes.{accepted, noted_error, answered, over_here, first_name}
+use Rattle.tape_events.specs.Changes.{accepted, noted_error, answered, opening, over_here, first_name, writing}
+use Rattle.tape_world.specs.declared.books.Books.{Books}
+use Rattle.tape_world.specs.Seen.{seen_openings, seen_lists, seen_writings}
 
 -- what an attempt came to once a write of it was answered so
 abbrev pub noted_record : Dumping → Answered → Dumping
@@ -115,3 +119,32 @@ written_in h k turn = None
 -- the name of each reel is among these
 abbrev pub IsShopKnown : List (List ℕ) → Shop → Type 0
 IsShopKnown names s = (name : List ℕ) → HasReel s name → Contains names name
+
+-- there is room for what a turn may note
+pub record HasRoom (b : Books) : Type 0 where
+  pub opens : vec_len b.opens < vec_capacity b.opens
+  pub lists : vec_len b.lists < vec_capacity b.lists
+  pub writings : vec_len b.writings < vec_capacity b.writings
+
+-- nothing more is noted
+pub record IsSameBooks (old new : Books) : Type 0 where
+  pub names : new.names ≡ old.names
+  pub counts : new.counts ≡ old.counts
+  pub opens : new.opens.items ≡ old.opens.items
+  pub lists : new.lists.items ≡ old.lists.items
+  pub writings : new.writings.items ≡ old.writings.items
+  pub entered : new.entered ≡ old.entered
+  pub failure : new.failure ≡ old.failure
+
+-- A turn of connection k is noted, where the client has this list: what it opened for writing, with the list, and what it wrote on.
+pub record IsNoted (old : Books) (list : List VolumeCount) (h : Hall) (k : ℕ) (turn : Turn) (new : Books) : Type 0 where
+  pub names : new.names ≡ old.names
+  pub counts : new.counts ≡ old.counts
+  pub opens : seen_openings old.names.items new.opens.items
+      ≡ seen_openings old.names.items old.opens.items ++ option_to_list (option_map (opening k) (opened_in h k turn))
+  pub lists : seen_lists new.lists.items ≡ seen_lists old.lists.items ++ option_to_list (option_map (λ reel. list) (opened_in h k turn))
+  pub writings : seen_writings old.names.items new.writings.items
+      ≡ seen_writings old.names.items old.writings.items
+      ++ option_to_list (option_map (writing k (length old.opens.items)) (written_in h k turn))
+  pub entered : new.entered ≡ old.entered
+  pub failure : new.failure ≡ old.failure

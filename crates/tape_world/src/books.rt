@@ -44,6 +44,9 @@ pub(crate) struct Books {
     pub(crate) names: Vec<Vec<u8>>,
     pub(crate) counts: Vec<Count>,
     pub(crate) opens: Vec<Opening>,
+    /// For each open the list of counts that the client had then.
+    /// It is empty where there was no client.
+    pub(crate) lists: Vec<Vec<VolumeCount>>,
     pub(crate) writings: Vec<Writing>,
     pub(crate) entered: Vec<Entered>,
     /// What the last event made fail: the volume, and why.

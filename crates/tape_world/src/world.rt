@@ -6,7 +6,7 @@ mod telling;
 ghost use Rattle.std.specs.Prelude.{◌≡◌, IfOk, map};
 ghost use Rattle.tape_events.specs.First.{AreGoodDrives, first_world, IsReached};
 ghost use Rattle.tape_events.specs.Headline.{Headline, CountedReels, NoTwoHolders, DumpdatesGained};
-ghost use Rattle.tape_events.specs.Further.{SentRequests, LatchedReels, LabelledReels, ClientsCounts};
+ghost use Rattle.tape_events.specs.Further.{SentRequests, SparedReels, FamiliarOpens, LatchedReels, LabelledReels, ClientsCounts};
 ghost use Rattle.tape_events.specs.Standing.{AreHeld};
 ghost use Rattle.tape_events.specs.Kept.{IsWorldKept};
 ghost use Rattle.tape_world.specs.Holding.{IsEvent};
@@ -55,8 +55,8 @@ impl World {
         Ok(World { ends })
     }
 
-    /// What holds of each world, whatever happened: the headline. Each reel that was counted, and that no session opened for
-    /// writing since, holds exactly its volume's records and one file mark; no drive has two holders; and dumpdates gained only
+    /// What holds of each world, whatever happened: the headline. Each reel that was counted, and that no foreign session
+    /// opened for writing since, holds exactly its volume's records and one file mark; no drive has two holders; and dumpdates gained only
     /// dumps whose counted volumes are all their blocks in order. What `entry` tells of such a reel are the entries of its volume.
     ///
     /// Beside it: the holder of a drive is the connection whose live side has it open. Of a connection of the client's as many
@@ -80,6 +80,8 @@ impl World {
         ensures volumes_told { TellsVolumes self.now }
         ensures dumpdates_gained { DumpdatesGained self.now }
         ensures sent_requests { SentRequests self.now }
+        ensures spared_reels { SparedReels self.now }
+        ensures familiar_opens { FamiliarOpens self.now }
         ensures latched_reels { LatchedReels self.now }
         ensures labelled_reels { LabelledReels self.now }
         ensures clients_counts { ClientsCounts self.now }

@@ -97,6 +97,7 @@ fn books_of(alloc: Global, drives: &[DriveSpec<'_>]) -> Result<Books, AllocError
     ensures names { IfOk result (λ b. book_names b ≡ flat_map reels_of drives.now) }
     ensures counts { IfOk result (λ b. b.counts.items ≡ []) }
     ensures opens { IfOk result (λ b. b.opens.items ≡ []) }
+    ensures lists { IfOk result (λ b. b.lists.items ≡ []) }
     ensures writings { IfOk result (λ b. b.writings.items ≡ []) }
     ensures entered { IfOk result (λ b. b.entered.items ≡ []) }
     ensures failure { IfOk result (λ b. b.failure ≡ None) }
@@ -105,6 +106,7 @@ fn books_of(alloc: Global, drives: &[DriveSpec<'_>]) -> Result<Books, AllocError
         names: names_of(alloc, drives)?,
         counts: Vec::new(alloc),
         opens: Vec::new(alloc),
+        lists: Vec::new(alloc),
         writings: Vec::new(alloc),
         entered: Vec::new(alloc),
         failure: None,

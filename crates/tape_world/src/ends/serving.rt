@@ -5,21 +5,23 @@ ghost use Rattle.std.specs.Option.{option_copied, option_to_list};
 ghost use Rattle.std.specs.Str.{bytes_eq};
 ghost use Rattle.drives.specs.ListShop.{rest_slot};
 ghost use Rattle.tape_host.specs.Halls.{side_at};
-ghost use Rattle.tape_events.specs.Changes.{changed, first_name, opening, writing};
+ghost use Rattle.tape_events.specs.Changes.{changed, first_name, list_in, opening, writing};
 ghost use Rattle.tape_events.specs.Events.PlainEvent.{Serve};
 ghost use Rattle.tape_events.specs.Kept.{IsWorldKept};
 ghost use Rattle.tape_world.specs.Holding.{IsEvent};
-ghost use Rattle.tape_world.specs.Seen.{seen_link, seen_openings, seen_writings};
-ghost use Rattle.tape_world.specs.Serving.{IsOnlineIn, TurnServes, is_write, name_online_at, opened_in, written_in};
+ghost use Rattle.tape_world.specs.Seen.{book_names, seen_caller, seen_link, seen_lists, seen_openings, seen_writings};
+ghost use Rattle.tape_world.specs.Serving.{HasRoom, IsNoted, IsOnlineIn, IsSameBooks, TurnServes, is_write, name_online_at, opened_in, written_in};
 
 use super::Ends;
-use crate::books::{Opening, Writing};
+use crate::books::{Books, Opening, Writing};
+use crate::caller::Caller;
 use crate::link::{Link, find};
 use crate::stop::EventStop;
 use drives::ListedReel;
+use dump_client::VolumeCount;
 use rmt_wire::READER_LIMIT;
 use rmt_wire::errno::{EACCES, EBADF};
-use std::alloc::AllocError;
+use std::alloc::{AllocError, Global};
 use tape::Trouble;
 use tape_events::kept;
 use tape_host::{Answered, Carried, Host, RequestKind, Turn};
@@ -183,6 +185,73 @@ fn note_writing(
     writings.push_reserved(writing);
 }
 
+/// Where a turn of a connection opened a reel for writing, the list of counts that the client had
+/// then is listed beside it.
+fn note_list(
+    lists: &mut Vec<Vec<VolumeCount>>,
+    list: Vec<VolumeCount>,
+    host: &Host,
+    connection: usize,
+    turn: Turn,
+)
+    requires room { vec_len lists.old < vec_capacity lists.old }
+    requires there { IsOnlineIn host.now.hall connection }
+    ensures { seen_lists lists.new.items ≡ seen_lists lists.old.items
+        ++ option_to_list (option_map (λ reel. list.items) (opened_in host.now.hall connection turn)) }
+{
+    if name_opened(host, connection, turn).is_some() {
+        lists.push_reserved(list);
+    }
+}
+
+/// What the client has counted, in a list of its own; nothing, where there is no client.
+///
+/// Fails only where memory is refused.
+fn counted_now(alloc: Global, caller: &Option<Caller>) -> Result<Vec<VolumeCount>, AllocError>
+    ensures { IfOk result (λ list. list.items ≡ list_in (option_map seen_caller caller.now)) }
+{
+    match caller {
+        Some(caller) => Vec::from_slice(alloc, caller.client.counted()),
+        None => Ok(Vec::new(alloc)),
+    }
+}
+
+impl Books {
+    /// Makes room for what a turn may note.
+    ///
+    /// Fails only where memory is refused.
+    fn reserve_notes(&mut self) -> Result<(), AllocError>
+        ensures room { IfOk result (λ done. HasRoom self.new) }
+        ensures same { IsSameBooks self.old self.new }
+    {
+        self.opens.reserve(1)?;
+        self.lists.reserve(1)?;
+        self.writings.reserve(1)
+    }
+
+    /// What a turn of a connection opened for writing, with the list that the client has, and what
+    /// it wrote on is noted.
+    fn note_turn(&mut self, list: Vec<VolumeCount>, host: &Host, connection: usize, turn: Turn)
+        requires room { HasRoom self.old }
+        requires there { IsOnlineIn host.now.hall connection }
+        requires opened { (name : List ℕ) → opened_in host.now.hall connection turn ≡ Some name → Contains (book_names self.old) name }
+        requires written { (name : List ℕ) → written_in host.now.hall connection turn ≡ Some name → Contains (book_names self.old) name }
+        ensures { IsNoted self.old list.items host.now.hall connection turn self.new }
+    {
+        let after = self.opens.len();
+        note_writing(
+            &mut self.writings,
+            after,
+            &self.names,
+            host,
+            connection,
+            turn,
+        );
+        note_list(&mut self.lists, list, host, connection, turn);
+        note_opening(&mut self.opens, &self.names, host, connection, turn);
+    }
+}
+
 impl Ends {
     /// The server carries out one request that reached it, whose device call fails so, or finds that what reached it is
     /// none.
@@ -194,27 +263,13 @@ impl Ends {
             return Err(EventStop::NotPossible);
         }
         kept();
-        self.books.opens.reserve(1)?;
-        self.books.writings.reserve(1)?;
+        let list = counted_now(self.alloc, &self.caller)?;
+        self.books.reserve_notes()?;
         let turn = take_turn_at(&mut self.host, &mut self.links, connection, trouble)?;
         if let Turn::Nothing = turn {
             return Err(EventStop::NotPossible);
         }
-        note_writing(
-            &mut self.books.writings,
-            self.books.opens.len(),
-            &self.books.names,
-            &self.host,
-            connection,
-            turn,
-        );
-        note_opening(
-            &mut self.books.opens,
-            &self.books.names,
-            &self.host,
-            connection,
-            turn,
-        );
+        self.books.note_turn(list, &self.host, connection, turn);
         self.books.failure = None;
         Ok(())
     }

@@ -2,7 +2,7 @@ use Rattle.std.proofs.Common.{subst}
 use Rattle.tape_events.specs.World.{World}
 use Rattle.tape_events.specs.First.{IsReached}
 use Rattle.tape_events.specs.Headline.{Headline, NoTwoHolders, CountedReels, DumpdatesGained}
-use Rattle.tape_events.specs.Further.{SentRequests, LatchedReels, LabelledReels, ClientsCounts}
+use Rattle.tape_events.specs.Further.{SentRequests, SparedReels, FamiliarOpens, LatchedReels, LabelledReels, ClientsCounts}
 use Rattle.tape_events.specs.Kept.{IsWorldKept}
 use Rattle.tape_events.specs.Standing.{AreHeld}
 use Rattle.tape_world.specs.Volumes.{TellsVolumes}
@@ -26,6 +26,12 @@ returns-clause-dumpdates_gained c = subst DumpdatesGained c.self.view_is (c.kept
 
 pub returns-clause-sent_requests : goal.returns-clause-sent_requests
 returns-clause-sent_requests c = subst SentRequests c.self.view_is (c.kept.ensures.sent_requests c.self.inside.ends (c.kept.ensures.reached c.self.inside.ends c.self.invariant))
+
+pub returns-clause-spared_reels : goal.returns-clause-spared_reels
+returns-clause-spared_reels c = subst SparedReels c.self.view_is (c.kept.ensures.spared_reels c.self.inside.ends (c.kept.ensures.reached c.self.inside.ends c.self.invariant))
+
+pub returns-clause-familiar_opens : goal.returns-clause-familiar_opens
+returns-clause-familiar_opens c = subst FamiliarOpens c.self.view_is (c.kept.ensures.familiar_opens c.self.inside.ends (c.kept.ensures.reached c.self.inside.ends c.self.invariant))
 
 pub returns-clause-latched_reels : goal.returns-clause-latched_reels
 returns-clause-latched_reels c = subst LatchedReels c.self.view_is (c.kept.ensures.latched_reels c.self.inside.ends (c.kept.ensures.reached c.self.inside.ends c.self.invariant))
