@@ -33,7 +33,7 @@ pub fn run_client<R: System, B: Blocks, T: Write + Copy + Drop>(
 ) -> u8
     ensures { IsDumpStatus client.new.at result }
 {
-    let mut peer = ToldPeer::new(rt, line.to, terminal);
+    let mut peer = ToldPeer::new(rt, line, terminal);
     let mut operator = Asking::new(rt.reader(), terminal);
     let mut out = Counted::new(Clearing {
         lines: io::writer(rt),
@@ -96,7 +96,7 @@ pub(crate) fn run_kept<R: System, B: Blocks, T: Write + Copy + Drop>(
 ) -> u8
     ensures { IsDumpStatus client.new.at result }
 {
-    let mut peer = ToldPeer::new(rt, line.to, terminal);
+    let mut peer = ToldPeer::new(rt, line, terminal);
     let mut operator = Asking::new(rt.reader(), terminal);
     let mut out = Counted::new(Clearing {
         lines: io::writer(rt),

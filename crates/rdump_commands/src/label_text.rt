@@ -1,10 +1,6 @@
 //! The text of the label of a volume that is read back.
+use crate::label_lines::LabelLines;
 use std::io::{self, Write};
-
-/// What the lines of a label begin with, in order.
-static WORDS: [&[u8]; 6] = [
-    b"name ", b"level ", b"date ", b"since ", b"volume ", b"first ",
-];
 
 /// Where the text of a label goes, by one write. What it is, is kept.
 #[derive(Drop)]
@@ -39,35 +35,12 @@ impl<W: Write> Write for LabelText<W> {
     /// It takes all of the text.
     fn write(&mut self, buf: &[u8]) -> io::Result<usize> {
         self.has_come = true;
-        self.is_label = has_words(buf);
+        self.is_label = LabelLines::of(buf).is_some();
         self.out.write_all(buf)?;
         Ok(buf.len())
     }
 
     fn flush(&mut self) -> io::Result<()> {
         self.out.flush()
-    }
-}
-
-/// Whether a text has a line for each word of a label, in order, and nothing else.
-fn has_words(text: &[u8]) -> bool {
-    let mut rest = text;
-    for word in &WORDS {
-        match rest_after(rest, word) {
-            Some(after) => rest = after,
-            None => return false,
-        }
-    }
-    rest.is_empty()
-}
-
-/// What follows the line that a text begins with. None where that line does not begin with this word and have more.
-fn rest_after<'a>(text: &'a [u8], word: &[u8]) -> Option<&'a [u8]> {
-    let end = text.iter().position(|byte| *byte == b'\n')?;
-    let (line, rest) = text.split_at(end);
-    if line.len() > word.len() && line.starts_with(word) {
-        Some(&rest[1..])
-    } else {
-        None
     }
 }

@@ -11,13 +11,16 @@ mod dump_command;
 mod dumping;
 mod fault;
 mod going_on;
+mod label_lines;
 mod label_text;
+mod last_reply;
 mod mt_command;
 mod out_file;
 mod program;
 mod read_command;
 mod system;
 mod told_peer;
+mod volume_label;
 
 pub use dates_command::run_dates;
 pub use dump_command::run_dump;

@@ -2,28 +2,35 @@
 ghost use Rattle.std.specs.Prelude.{◌≤◌, length};
 
 use crate::System;
+use crate::last_reply::LastReply;
+use crate::volume_label::VolumeLabel;
 use dump_client::AttemptFault;
 use rdump_files::CLEAR;
 use rdump_talk::{Peer, SocketPeer};
+use rdump_words::DumpLine;
 use std::io::{self, Write};
 
-/// The server at an address. It tells nothing to clauses; on standard error it tells why an attempt failed, after the line of
-/// progress at a terminal was cleared, if there is one.
+/// The server of a dump. It tells nothing to clauses; on standard error it tells why an attempt failed, and at a terminal which
+/// label is written over, after the line of progress there was cleared.
 #[derive(Drop)]
 pub(crate) struct ToldPeer<'a, R: System, T> {
     rt: &'a R,
     address: &'a str,
+    device: &'a str,
     socket: SocketPeer<'a, R>,
+    reply: LastReply,
     terminal: Option<T>,
 }
 
 impl<'a, R: System, T: Write> ToldPeer<'a, R, T> {
-    /// The server at this address, with no connection.
-    pub(crate) fn new(rt: &'a R, address: &'a str, terminal: Option<T>) -> Self {
+    /// The server that this line names, with no connection.
+    pub(crate) fn new(rt: &'a R, line: &DumpLine<'a>, terminal: Option<T>) -> Self {
         ToldPeer {
             rt,
-            address,
-            socket: SocketPeer::new(rt, address),
+            address: line.to,
+            device: line.device,
+            socket: SocketPeer::new(rt, line.to),
+            reply: LastReply::new(),
             terminal,
         }
     }
@@ -31,7 +38,18 @@ impl<'a, R: System, T: Write> ToldPeer<'a, R, T> {
     /// Clears the line of progress.
     fn clear(&mut self) {
         if let Some(terminal) = &mut self.terminal {
-            let _ = terminal.write_all(CLEAR);
+            clear(terminal);
+        }
+    }
+
+    /// Tells at a terminal which label is written over, where the last reply has one: the dump goes on after it.
+    fn tell_label(&mut self) {
+        let (Some(terminal), Some(record)) = (&mut self.terminal, self.reply.record()) else {
+            return;
+        };
+        if let Some(label) = VolumeLabel::of(record) {
+            clear(terminal);
+            tell_reel(self.rt, &label);
         }
     }
 }
@@ -40,15 +58,20 @@ impl<'a, R: System, T: Write> Peer for ToldPeer<'a, R, T> {
     ghost tells = { λ _ _. ⊥ };
 
     fn connect(&mut self) -> bool {
+        self.reply.clear();
         self.socket.connect()
     }
 
     fn send(&mut self, bytes: &[u8]) -> bool {
+        self.tell_label();
+        self.reply.clear();
         self.socket.send(bytes)
     }
 
     fn receive(&mut self, into: &mut [u8]) -> usize {
-        self.socket.receive(into)
+        let count = self.socket.receive(into);
+        self.reply.push(&into[..count]);
+        count
     }
 
     fn hang_up(&mut self) {
@@ -66,9 +89,18 @@ impl<'a, R: System, T: Write> Peer for ToldPeer<'a, R, T> {
                 self.clear();
                 tell_refused(self.rt, self.address, number);
             }
+            AttemptFault::CountedReel(volume) => {
+                self.clear();
+                tell_counted(self.rt, self.address, self.device, volume);
+            }
             _ => {}
         }
     }
+}
+
+/// Clears a terminal's line.
+fn clear<T: Write>(terminal: &mut T) {
+    let _ = terminal.write_all(CLEAR);
 }
 
 /// Tells why the connection to an address could not be made or failed, or that it ended.
@@ -84,5 +116,24 @@ fn tell_refused<R: Eprint>(rt: &R, address: &str, number: u32) {
     if let Ok(code) = i32::try_from(number) {
         let error = io::Error::from_raw_os_error(code);
         let _ = eprintln!(rt; "rdump: {address}: Refused {number}: {error}");
+    }
+}
+
+/// Tells what to do with a reel that begins with the label of a counted volume.
+fn tell_counted<R: Eprint>(rt: &R, address: &str, device: &str, volume: u32) {
+    let _ = eprintln!(rt;
+        "rdump: {address}: CountedReel {volume}: the first reel of the stack of {device} begins \
+         with the label of volume {volume}, which this dump has counted; take it away \
+         (rdump mt --to {address} --device {device} offline 1) or lay another one first, then \
+         answer yes"
+    );
+}
+
+/// Tells which volume a reel has.
+fn tell_reel<R: Eprint>(rt: &R, label: &VolumeLabel<'_>) {
+    if let Some(day) = label.day() {
+        let (name, level) = (label.dump.name, label.dump.level);
+        let volume = label.volume;
+        let _ = eprintln!(rt; "this reel has: {name} level {level} {day}, volume {volume}");
     }
 }

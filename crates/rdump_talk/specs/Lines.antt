@@ -5,7 +5,7 @@ use Rattle.rmt_wire.specs.Counted.{Counting}
 use Rattle.dump_client.specs.Standing.{Standing, checkpoint_of}
 use Rattle.dump_client.specs.Standing.{VolumeCount}
 use Rattle.dump_client.specs.declared.fault.AttemptFault.{AttemptFault}
-use Rattle.dump_client.specs.declared.fault.AttemptFault.TheVariants.{Refused, Botched, ConnectionEnded, ShortWrite, ReelTooSmall, SourceFault, OutOfMemory}
+use Rattle.dump_client.specs.declared.fault.AttemptFault.TheVariants.{Refused, Botched, ConnectionEnded, ShortWrite, ReelTooSmall, SourceFault, OutOfMemory, CountedReel}
 use Rattle.dump_client.specs.declared.stage.Stage.TheVariants.{Finished}
 use Rattle.rmt_wire.specs.Print.{IsPrinted}
 use Rattle.rdump_talk.specs.declared.conclusion.Conclusion.{Conclusion}
@@ -19,7 +19,7 @@ count_line c =
 abbrev pub count_lines : List VolumeCount → List ℕ
 count_lines counts = flat_map count_line counts
 
--- a fault by its name; with a refusal alone goes its number
+-- a fault by its name; with a refusal goes its number, and with a counted reel its volume
 abbrev pub fault_text : AttemptFault → List ℕ
 fault_text (Refused number) = codes "Refused " ++ decimal number
 fault_text Botched = codes "Botched"
@@ -28,6 +28,7 @@ fault_text ShortWrite = codes "ShortWrite"
 fault_text ReelTooSmall = codes "ReelTooSmall"
 fault_text SourceFault = codes "SourceFault"
 fault_text OutOfMemory = codes "OutOfMemory"
+fault_text (CountedReel volume) = codes "CountedReel " ++ decimal volume
 
 -- an attempt that failed: its volume, and the fault
 abbrev pub failure_line : ℕ → AttemptFault → List ℕ

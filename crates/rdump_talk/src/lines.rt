@@ -42,7 +42,7 @@ fn line_of(count: VolumeCount) -> ArrayString<LINE_ROOM>
 }
 
 /// The line of an attempt that failed, with its line feed, of the volume of this number: `volume 1 failed: Refused 16`, with the
-/// fault's name, and the number of a refusal.
+/// fault's name, and the number of a refusal or of a counted volume.
 pub fn failure_line(volume: u32, fault: AttemptFault) -> ArrayString<LINE_ROOM>
     ensures text { result.bytes ≡ line_of_failure volume fault }
     ensures short { length result.bytes ≤ 73 }
@@ -86,7 +86,7 @@ pub(crate) fn push_part(line: &mut ArrayString<LINE_ROOM>, text: &str, number: u
     line.push_str(digits.format(number));
 }
 
-/// Appends a fault by its name, and with a refusal its number.
+/// Appends a fault by its name, and with it the number of a refusal or of a counted volume.
 fn push_fault(line: &mut ArrayString<LINE_ROOM>, fault: AttemptFault)
     requires { length line.old.bytes + 36 ≤ LINE_ROOM }
     ensures appended { line.new.bytes ≡ line.old.bytes ++ fault_text fault }
@@ -100,5 +100,6 @@ fn push_fault(line: &mut ArrayString<LINE_ROOM>, fault: AttemptFault)
         AttemptFault::ReelTooSmall => line.push_str("ReelTooSmall"),
         AttemptFault::SourceFault => line.push_str("SourceFault"),
         AttemptFault::OutOfMemory => line.push_str("OutOfMemory"),
+        AttemptFault::CountedReel(volume) => push_part(line, "CountedReel ", u64::from(volume)),
     }
 }
