@@ -12,12 +12,13 @@ from typing import Collection, Iterator, NamedTuple
 
 from headline import BESIDE, HEADLINE, SENTENCES, broken
 from model_session import KEEPS_THE_OLD_TAIL, STAYS_HELD, TAKES_FROM_A_HOLDER, WRITES_A_PART
-from model_world import A_COUNT_MORE, COUNTS_AT_THE_MARK, ENTERS_A_PART, KEEPS_AN_ENTERED_RUN, KEEPS_OVER_A_NEW_RUN, LISTS_NO_OPEN, LISTS_NO_WRITE
-from model_world import TAKES_A_SMALLER_NUMBER, BadLine, NotPossible, Schedule
+from model_world import A_COUNT_MORE, COUNTS_AT_THE_MARK, ENTERS_A_PART, KEEPS_AN_ENTERED_RUN, KEEPS_OVER_A_NEW_RUN, LISTS_NO_OPEN
+from model_world import LISTS_NO_WRITE, LOOKS_AT_NO_LABEL, TAKES_A_SMALLER_NUMBER, BadLine, NotPossible, Schedule
 from random_schedules import DUMPING, Profile, Walk
 
 # Each rule that can be turned off, and what the server, the client or the world does then.
 RULES = {
+    LOOKS_AT_NO_LABEL: "the client goes on whatever label it is shown",
     LISTS_NO_OPEN: "an accepted open to write only is not listed",
     LISTS_NO_WRITE: "a write of a stranger is not listed",
     COUNTS_AT_THE_MARK: "the client counts at the answer to the mark",
@@ -32,9 +33,9 @@ RULES = {
     KEEPS_OVER_A_NEW_RUN: "a run comes back in place of one that was begun after it",
 }
 
-# A part of a record can come onto a reel only before it is counted, an older run that comes back is one that was counted too, and of writes the
-# headline does not speak: it alone does not tell these.
-LOOKED_AT = {rule: HEADLINE for rule in RULES} | {it: BESIDE for it in (LISTS_NO_WRITE, WRITES_A_PART, KEEPS_OVER_A_NEW_RUN)} | {"": SENTENCES}
+# A part of a record can come onto a reel only before it is counted, an older run that comes back is one that was counted too, and a write follows an
+# open, which is listed: the headline alone does not tell these.
+LOOKED_AT = {rule: HEADLINE for rule in RULES} | {it: BESIDE for it in (WRITES_A_PART, KEEPS_OVER_A_NEW_RUN, LISTS_NO_WRITE)} | {"": SENTENCES}
 
 PUMPED = Profile(
     "pumped",
@@ -120,12 +121,23 @@ def joined(lines: list[bytes], at: int) -> list[bytes]:
     return [*lines[:at], b" ".join((*one[:2], last)), *lines[at + 2 :]]
 
 
+def pumped(lines: list[bytes], at: int) -> list[bytes]:
+    """The same with the lines of a request and its reply as a round, where they are that."""
+    words = [it.split(b" ") for it in lines[at : at + 4]]
+    number = words[-1][1:2]
+    if [it[0] for it in words] != [b"send", b"to-server", b"serve", b"to-client"] or any(it[1:2] != number for it in words[1:]):
+        return lines
+    return [*lines[:at], b"pump %s 1" % number[0], *lines[at + 4 :]]
+
+
 def shorter(lines: list[bytes]) -> Iterator[list[bytes]]:
-    """Shorter lists: without some lines in a row, with two lines as one, and, of few lines, without any lines in a row and any two lines."""
+    """Shorter lists: without some lines in a row, with two lines, or those of a request, as one, and, of few lines, without any lines in a row and any
+    two lines."""
     step = len(lines) // 2
     while step:
         yield from (without(lines, range(at - step, at)) for at in range(len(lines), 0, -step))
         step //= 2
+    yield from (pumped(lines, at) for at in range(len(lines) - 3))
     yield from (joined(lines, at) for at in range(len(lines) - 1))
     ends = range(len(lines) + 1 if len(lines) <= FEW else 0)
     yield from (without(lines, range(*piece)) for piece in itertools.combinations(ends, 2))

@@ -42,9 +42,9 @@ ONE = (Volume(1, 0, 2),)
 BOTH = (*ONE, Volume(2, 2, 1))
 LINES = TWO_VOLUMES.splitlines(keepends=True)
 ATTEMPTS = [requests_of(1, 0, BLOCKS), requests_of(2, 2, BLOCKS[2:])]
-# The requests of the first attempt, and of both; the first one whose reply is about the second volume.
+# The requests of the first attempt, and of both; the write of the label of the second volume.
 FIRST_REQUESTS, ALL_REQUESTS = len(ATTEMPTS[0]), sum(map(len, ATTEMPTS))
-SECOND = FIRST_REQUESTS + 3
+SECOND = FIRST_REQUESTS + 5
 
 NOWHERE = "127.0.0.1:1"
 NO_CONNECTION = "volume {0} failed: ConnectionEnded\nretry?\ndump abandoned\n"
@@ -199,7 +199,7 @@ def asked(p: Programs) -> None:
     ends("abandoned after it went on", p.dump(NOWHERE, *KEPT), NO_CONNECTION.format(2), ABNORMAL, going_on(ONE), NOWHERE)
     check("abandoned after it went on: the file is gone", lying(p) == [], lying(p))
     texts: list[bytes | None] = []
-    model = Model(*two(), Reel("r3", 3100), lost=(8,), acts={it: lambda: texts.append(kept(p)) for it in (1, 8, 9, 12)})
+    model = Model(*two(), Reel("r3", 3100), lost=(10,), acts={it: lambda: texts.append(kept(p)) for it in (1, 10, 11, 16)})
     got = p.dump(model.address, *KEPT, said="yes\n")
     ends("a volume that is tried again", got, "volume 1 failed: ConnectionEnded\nretry?\n" + TWO_VOLUMES, DONE, "ended")
     check("a volume that is tried again: the file", texts == [text_of(RUN)] * 4, texts)

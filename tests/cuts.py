@@ -43,6 +43,8 @@ class Request(NamedTuple):
 
 OPEN = Request(b"O/dev/st0\n2\n", b"A0\n")
 REWIND = Request(b"I5\n1\n", b"A1\n")
+# What a blank reel shows.
+LOOK = Request(b"R1024\n", b"A0\n")
 LABEL = BLOCK = Request(b"W1024\n", b"A1024\n", 1024, "R1024")
 NO_ROOM = Request(b"W1024\n", b"A0\n", 1024)
 MARK = Request(b"I0\n1\n", b"A1\n", 0, "M")
@@ -51,9 +53,14 @@ CLOSE = Request(b"C\n", b"A0\n")
 
 # The dump, where nothing is cut: what each attempt sends, and is answered. All that is expected in this file follows from this table.
 ATTEMPTS = (
-    (OPEN, REWIND, LABEL, BLOCK, BLOCK, NO_ROOM, MARK, OFFLINE, CLOSE),
-    (OPEN, REWIND, LABEL, BLOCK, MARK, OFFLINE, CLOSE),
+    (OPEN, REWIND, LOOK, REWIND, LABEL, BLOCK, BLOCK, NO_ROOM, MARK, OFFLINE, CLOSE),
+    (OPEN, REWIND, LOOK, REWIND, LABEL, BLOCK, MARK, OFFLINE, CLOSE),
 )
+
+# By hand: how many bytes each attempt sends, and is answered; and of the first one, up to the request for the move to the bin, and up to the replies
+# to the mark and to that request.
+TOTALS = ((4_160, 42), (2_100, 33))
+MOVED, MARKED, COUNTED = 4_158, 36, 39
 
 REELS = ("r1", "r2", "r3", "r4")
 DRIVE = "drive /dev/st0 3100 " + " ".join(REELS)
@@ -321,6 +328,16 @@ def ranges(rows: dict[int, set[str]]) -> Iterator[tuple[int, int, str]]:
     yield from found
 
 
+def check_numbers() -> None:
+    """The table comes to the numbers that were added up by hand."""
+    totals = tuple(tuple(Cut(attempt, way, 0).ends()[-1] for way in (True, False)) for attempt in range(1, len(ATTEMPTS) + 1))
+    check("the bytes of each attempt", totals == TOTALS, totals)
+    at = ATTEMPTS[0].index(OFFLINE)
+    sent, answered = (Cut(1, way, 0).ends() for way in (True, False))
+    numbers = sent[at], answered[at - 1], answered[at]
+    check("the bytes up to the move to the bin", numbers == (MOVED, MARKED, COUNTED), numbers)
+
+
 def title(case: Case) -> str:
     direction = "to the server" if case.cut.to_server else "of replies"
     late = ", the end seen after the next attempt" if case.is_late else ""
@@ -351,6 +368,7 @@ def main() -> int:
     parser.add_argument("--every", type=int, default=EVERY, help="cut after each multiple of so many bytes")
     asked = parser.parse_args()
     began = time.monotonic()
+    check_numbers()
     with tempfile.TemporaryDirectory(prefix="cuts-") as folder:
         table, count = try_all(Rsim(os.path.abspath(asked.rsim), Path(folder)), asked.every)
     table.tell()

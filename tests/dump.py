@@ -172,6 +172,8 @@ class Model:
             return b"E6\nDevice not configured\n"
         if letter == b"W":
             return self.write(request.split(b"\n", 1)[1])
+        if letter == b"R":
+            return self.read(int(words[0]))
         return self.operation(int(words[0]), int(words[1]))
 
     def write(self, data: bytes) -> bytes:
@@ -180,6 +182,13 @@ class Model:
         self.open.entries[self.place :] = [data]
         self.place += 1
         return b"A%d\n" % len(data)
+
+    def read(self, count: int) -> bytes:
+        if self.place == len(self.open.entries):
+            return b"A0\n"
+        data = (self.open.entries[self.place] or b"")[:count]
+        self.place += 1
+        return b"A%d\n" % len(data) + data
 
     def operation(self, op: int, count: int) -> bytes:
         if op == 0:
@@ -295,6 +304,8 @@ def requests_of(volume: int, first: int, blocks: list[bytes]) -> list[bytes]:
     return [
         b"O/dev/st0\n2\n",
         b"I5\n1\n",
+        b"R1024\n",
+        b"I5\n1\n",
         *(b"W%d\n" % len(it) + it for it in data),
         b"I0\n1\n",
         b"I6\n1\n",
@@ -344,15 +355,15 @@ def payloads(p: Programs) -> None:
         ("a payload that grows", lambda: os.truncate(payload, 9999), whole, DONE),
     ):
         p.file("payload", PAYLOAD)
-        # The fourth request is the first block.
-        model = Model(Reel("r1", 4200), acts={4: act})
+        # The sixth request is the first block.
+        model = Model(Reel("r1", 4200), acts={6: act})
         ends(title, p.dump(model.address), output, status)
         sent = [it for it in model.logs[0] if it.startswith(b"W")][1:]
         blocks = BLOCKS if status == DONE else BLOCKS[:1]
         check(f"{title}: the blocks", sent == [b"W1024\n" + it for it in blocks], sent)
         model.stop()
     p.file("payload", PAYLOAD)
-    model = Model(Reel("r1", 4200), acts={4: lambda: os.truncate(payload, 1024), 5: lambda: p.file("payload", PAYLOAD)})
+    model = Model(Reel("r1", 4200), acts={6: lambda: os.truncate(payload, 1024), 7: lambda: p.file("payload", PAYLOAD)})
     ends("a payload that is there again", p.dump(model.address, said="yes\n"), failed + whole, DONE)
     check("a payload that is there again: the volume", model.bin[0].entries == [label(1, 0), *BLOCKS, None])
     model.stop()
@@ -374,8 +385,8 @@ def peak(p: Programs, size: int) -> int:
         text = Path(f"/proc/{client.pid}/status").read_text()
         seen.append(int(re.search(r"VmHWM:\s+(\d+) kB", text)[1]))
 
-    # An open, a rewind, the label and the blocks are followed by the mark, the move to the bin and the close.
-    model = Model(Reel("r1", size + 8 * blocks + 65536), acts={blocks + 6: look})
+    # An open, a rewind, a look, a rewind, the label and the blocks are followed by the mark, the move to the bin and the close.
+    model = Model(Reel("r1", size + 8 * blocks + 65536), acts={blocks + 8: look})
     words = ["--to", model.address, "--device", DEVICE, "--fs", "/usr", "--level", "0", "--payload", "payload", "--block", "65536"]
     with subprocess.Popen((p.rdump, "dump", *words, "--dumpdates", "none"), cwd=p.folder, stdin=subprocess.DEVNULL, stdout=subprocess.PIPE) as client:
         printed = client.communicate(timeout=GUARD_SECONDS)[0].decode()
@@ -481,9 +492,11 @@ def retries(p: Programs) -> None:
             ends(f"answered by {title}", p.dump(address, "--update", said=said), want, ABNORMAL, "Refused 6")
     check("no dump is entered", p.text("dumpdates") == OLDER)
     for title, model, fault, *faults in (
-        ("a lost reply to the move", Model(Reel("r1", 3100), Reel("r2", 3100), Reel("r3", 3100), lost=(8,)), "ConnectionEnded", "ended"),
-        ("a wrong number", Model(Reel("r1", 3100), Reel("r2", 3100), said={3: b"A1023\n"}), "ShortWrite"),
+        ("a lost reply to the move", Model(Reel("r1", 3100), Reel("r2", 3100), Reel("r3", 3100), lost=(10,)), "ConnectionEnded", "ended"),
+        ("a wrong number", Model(Reel("r1", 3100), Reel("r2", 3100), said={5: b"A1023\n"}), "ShortWrite"),
         ("no reply by the grammar", Model(Reel("r1", 3100), Reel("r2", 3100), said={2: b"X\n"}), "Botched"),
+        ("more than a label", Model(Reel("r1", 3100), Reel("r2", 3100), said={3: b"A1025\n" + bytes(1025)}), "Botched"),
+        ("an error to the look", Model(Reel("r1", 3100), Reel("r2", 3100), said={3: b"E12\nmemory\n"}), "Refused 12", "Refused 12"),
         ("an error", Model(Reel("r1", 3100), Reel("r2", 3100), said={2: b"E5\nbroken\n"}), "Refused 5", "Refused 5"),
     ):
         want = f"volume 1 failed: {fault}\nretry?\n" + TWO_VOLUMES

@@ -715,7 +715,7 @@ def unprinted(p: Programs) -> None:
 def stopped_client(p: Programs) -> None:
     """A client that is stopped in mid volume keeps its drive, and ends well once it is continued."""
     with dump_site(p, THREE_BLOCKS) as (folder, words):
-        streams = {"stdin": subprocess.DEVNULL, "stdout": subprocess.PIPE, "env": p.shim.environment("recv:4:S")}
+        streams = {"stdin": subprocess.DEVNULL, "stdout": subprocess.PIPE, "env": p.shim.environment("recv:6:S")}
         with guarded(subprocess.Popen((*words, *DATED), **streams)) as client:
             os.waitid(os.P_PID, client.pid, os.WSTOPPED)
             for _ in range(3):

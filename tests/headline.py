@@ -1,10 +1,14 @@
 """What must hold in the world of `model_world.py` after every event, looked at from nothing: by no step of the model's own.
 
-The headline: each counted reel that no session opened for writing since holds exactly its volume, its label, its blocks and one mark; no two sessions
-hold one drive; dumpdates gained only runs of which the client's list, as they were entered, is all their blocks in order, and each volume of that stands
-among the counts; and the counts are exactly those of what the client sent and was answered. Beside it: what the client lists, and what is kept of a
-run, was counted, in order, and the run that is kept is the last that was begun, and not entered; from the label on a client's reel holds the writes that
-were accepted and nothing else, until one met a device fault or another session wrote on the reel; and a client sends one request at a time.
+The headline: each counted reel that no foreign session opened for writing since holds exactly its volume, its label, its blocks and one mark; no two
+sessions hold one drive; dumpdates gained only runs of which the client's list, as they were entered, is all their blocks in order, and each volume of
+that stands among the counts; and the counts are exactly those of what the client sent and was answered. A session is foreign to a count unless its
+connection is the client's, of the same run, and the client's list held that volume and first block as the open was accepted.
+
+Beside it: what the client lists, and what is kept of a run, was counted, in order, and the run that is kept is the last that was begun, and not
+entered; from the label on a client's reel holds the writes that were accepted and nothing else, until one met a device fault or another session that
+has the reel open for writing carried out a write on it; as long as no foreign session opened a counted reel for writing since, no session that opened
+it since carries out a write on it; a client that was shown the label of a volume that it has counted sends no more; and it sends one request at a time.
 """
 
 from __future__ import annotations
@@ -12,7 +16,7 @@ from __future__ import annotations
 from typing import Callable, Iterable, Iterator
 
 from model_session import Reel
-from model_world import Count, Link, Volume, World, entered
+from model_world import Count, Link, Opening, Volume, World, entered
 
 
 Sentence = Callable[[World], Iterator[str]]
@@ -23,23 +27,37 @@ def broken(world: World, sentences: Iterable[Sentence]) -> str | None:
     return next((told for sentence in sentences for told in sentence(world)), None)
 
 
-def opened_since(world: World, reel: Reel, link: int) -> bool:
-    """Whether the reel was opened for writing after this connection opened it."""
-    openers = [by for by, opened in world.opens if opened is reel]
-    return openers[-1:] not in ([], [link])
+def opened_at(world: World, reel: Reel, link: int) -> int | None:
+    """How many openings for writing there were once this connection had opened this reel; None where that is not listed."""
+    return next((at for at, it in enumerate(world.opens, 1) if it.link == link and it.reel is reel), None)
 
 
-def written_since(world: World, reel: Reel, link: int) -> bool:
-    """Whether another connection wrote on the reel after this one opened it."""
-    opened = world.opens.index((link, reel)) + 1 if (link, reel) in world.opens else 0
-    return any(it.reel is reel and it.link != link and opened <= it.after for it in world.writings)
+def is_foreign(world: World, opening: Opening, count: Count) -> bool:
+    """Whether the session that opened a reel is foreign to a count."""
+    link = world.links[opening.link - 1]
+    is_of_the_run = link.is_mine and link.run_number == count.run
+    return not is_of_the_run or count.volume[:2] not in [it[:2] for it in opening.listed]
+
+
+def is_spared(world: World, count: Count) -> bool:
+    """Whether no foreign session opened the reel of a count for writing after the count's own."""
+    at = opened_at(world, count.reel, count.link)
+    return at is not None and not any(it.reel is count.reel and is_foreign(world, it, count) for it in world.opens[at:])
+
+
+def writers_since(world: World, reel: Reel, link: int) -> list[int]:
+    """The other sessions that carried out a write on this reel after this connection opened it."""
+    at = opened_at(world, reel, link)
+    return [it.link for it in world.writings if it.reel is reel and it.link != link and at is not None and it.after >= at]
 
 
 def counted_reels(world: World) -> Iterator[str]:
     for count in world.counts:
         run = world.runs[count.run - 1]
         whole = run.volume(*count.volume)
-        if count.reel.entries != whole and not opened_since(world, count.reel, count.link):
+        if opened_at(world, count.reel, count.link) is None:
+            yield f"connection {count.link} counted volume {count.volume.volume} of run {count.run}, and its open of {count.reel.name.decode()} is not listed"
+        if count.reel.entries != whole and is_spared(world, count):
             held = [it and len(it) for it in count.reel.entries]
             yield f"reel {count.reel.name.decode()}, counted as volume {count.volume.volume} of run {count.run}, holds {held}"
 
@@ -90,7 +108,7 @@ def not_counted(world: World, run: int, listed: Iterable[Volume]) -> list[tuple[
 def position_of(link: Link, world: World) -> Volume | None:
     """The volume that is counted by what was sent and answered on a connection."""
     run = world.runs[link.run_number - 1]
-    requests = [f"O{run.device.decode()}\n2\n".encode(), b"I5\n1\n"]
+    requests = [f"O{run.device.decode()}\n2\n".encode(), b"I5\n1\n", b"R1024\n", b"I5\n1\n"]
     label = run.label(link.volume, link.first)
     requests.append(b"W%d\n%s" % (len(label), label))
     blocks = 0
@@ -98,7 +116,9 @@ def position_of(link: Link, world: World) -> Volume | None:
         block = run.record(link.first + blocks)
         requests.append(b"W%d\n%s" % (len(block), block))
         blocks += 1
-    wanted = [("A", link.got[0][1] if link.got else 0), ("A", 1), ("A", 1024), *[("A", run.block)] * blocks]
+    if link.shown is None or shows_a_counted_label(link, world):
+        return None
+    wanted = [("A", link.got[0][1]), ("A", 1), ("A", len(link.shown)), ("A", 1), ("A", 1024), *[("A", run.block)] * blocks]
     if link.first + blocks < run.blocks and link.got[len(requests) :][:1] in ([("A", 0)], [("E", 28)]) and blocks:
         block = run.record(link.first + blocks)
         wanted.append(link.got[len(requests)])
@@ -109,6 +129,13 @@ def position_of(link: Link, world: World) -> Volume | None:
     wanted += [("A", 1), ("A", 1)]
     whole = link.sent[: len(requests)] == requests and link.got[: len(wanted)] == wanted
     return Volume(link.volume, link.first, blocks) if whole else None
+
+
+def shows_a_counted_label(link: Link, world: World) -> bool:
+    """Whether the look of a connection showed the label of a volume that the client had counted as its open was accepted."""
+    run = world.runs[link.run_number - 1]
+    listed = [volume for it in world.opens if it.link == link.number for volume in it.listed]
+    return link.shown in [run.label(it.volume, it.first) for it in listed]
 
 
 def counts_of_positions(world: World) -> Iterator[str]:
@@ -123,10 +150,23 @@ def counts_of_positions(world: World) -> Iterator[str]:
 
 def accepted_writes(world: World) -> Iterator[str]:
     for link in world.links:
-        if link.is_mine and link.accepted and not link.write_failed and not written_since(world, link.reel, link.number):
+        if link.is_mine and link.accepted and not link.write_failed and not writers_since(world, link.reel, link.number):
             if link.reel.entries != link.accepted:
                 held = [[it and len(it) for it in entries] for entries in (link.accepted, link.reel.entries)]
                 yield f"of connection {link.number} were accepted {held[0]}, reel {link.reel.name.decode()} holds {held[1]}"
+
+
+def spared_reels(world: World) -> Iterator[str]:
+    for count in world.counts:
+        writers = writers_since(world, count.reel, count.link)
+        if writers and is_spared(world, count):
+            yield f"sessions {writers} wrote on reel {count.reel.name.decode()}, counted as volume {count.volume.volume} of run {count.run}"
+
+
+def stopped_attempts(world: World) -> Iterator[str]:
+    for link in world.links:
+        if link.is_mine and link.shown is not None and shows_a_counted_label(link, world) and link.sent[3:]:
+            yield f"connection {link.number} was shown the label of a counted volume, and sent {len(link.sent)} requests"
 
 
 def requests_ahead(world: World) -> Iterator[str]:
@@ -159,5 +199,5 @@ def listed_volumes(world: World) -> Iterator[str]:
 
 
 HEADLINE = (counted_reels, holders, entered_runs, counts_of_positions)
-BESIDE = (accepted_writes, requests_ahead, listed_volumes)
+BESIDE = (accepted_writes, spared_reels, stopped_attempts, requests_ahead, listed_volumes)
 SENTENCES = (*HEADLINE, *BESIDE)

@@ -53,14 +53,14 @@ def end_of_line(data: bytes, at: int, start: int) -> int:
     raise Fault if len(data) > start + LONGEST_LINE else Unfinished
 
 
-def number_at(data: bytes, start: int, mode: bool = False) -> tuple[int, int]:
-    """The number of a line, and where the next line begins. In a mode a space and any text may stand behind it."""
+def number_at(data: bytes, start: int, mode: bool = False, most: int = GREATEST_NUMBER) -> tuple[int, int]:
+    """The number of a line, at most so great, and where the next line begins. In a mode a space and any text may stand after it."""
     value = 0
     for at in range(start, len(data)):
         byte = data[at]
         if 48 <= byte <= 57:
             value = 10 * value + byte - 48
-            if at == start + 10 or value > GREATEST_NUMBER:
+            if at == start + 10 or value > most:
                 raise Fault
         elif at > start and byte == LINE_FEED:
             return value, at + 1
@@ -107,16 +107,21 @@ def room_beside(data: bytes) -> int:
     return ROOM - (len(data) - dropped)
 
 
-def first_reply(data: bytes) -> tuple[tuple[str, int], int]:
-    """The letter and the number of the reply that the bytes begin with, where a number is wanted, and its length."""
+def first_reply(data: bytes, most: int | None = None) -> tuple[tuple[str, int], int]:
+    """The letter and the number of the reply that the bytes begin with, and its length. A number is wanted, or at most so many bytes of data, which
+    are the last ones of the reply then."""
     if not data:
         raise Unfinished
     letter = chr(data[0])
     if letter not in "AE":
         raise Fault
-    number, at = number_at(data, 1)
+    wants_data = letter == "A" and most is not None
+    number, at = number_at(data, 1, most=most if wants_data else GREATEST_NUMBER)
     if letter == "A":
-        return (letter, number), at
+        length = at + number if wants_data else at
+        if len(data) < length:
+            raise Unfinished
+        return (letter, number), length
     end = data.find(b"\n", at)
     if end < 0:
         raise Unfinished

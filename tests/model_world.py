@@ -4,7 +4,8 @@
     model_world.py [--off RULE] FILE
 
 Bytes on the way are queues, an event is a method, and one that is not possible raises `NotPossible` and changes nothing. Of each client's
-connection it is written down what was sent and answered and which writes were accepted, so that `headline.py` can look at it afterwards.
+connection it is written down what was sent and answered and which writes were accepted; of each accepted open for writing what the client had
+counted then; and of each write in which session and on which reel it was carried out; so that `headline.py` can look at it afterwards.
 With `--off` the double breaks one rule, so that the checks themselves are tried on it.
 """
 
@@ -48,6 +49,7 @@ COUNTS_AT_THE_MARK = "counts-at-the-mark"
 ENTERS_A_PART = "enters-an-unfinished-run"
 LISTS_NO_OPEN = "does-not-list-an-open"
 LISTS_NO_WRITE = "does-not-list-a-write"
+LOOKS_AT_NO_LABEL = "looks-at-no-label"
 TAKES_A_SMALLER_NUMBER = "takes-a-smaller-number"
 A_COUNT_MORE = "comes-back-with-a-count-more"
 KEEPS_AN_ENTERED_RUN = "keeps-a-run-that-was-entered"
@@ -103,8 +105,9 @@ class Volume(NamedTuple):
     count: int
 
 
-# The requests of an attempt, in order.
-OPEN, REWIND, LABEL, BLOCK, MARK, OFFLINE, CLOSE = range(1, 8)
+# The requests of an attempt, in order, and their letters.
+OPEN, REWIND, LOOK, REWIND_AGAIN, LABEL, BLOCK, MARK, OFFLINE, CLOSE = range(1, 10)
+LETTERS = "OIRIWWIIC"
 
 
 class Client:
@@ -143,7 +146,13 @@ class Client:
             label = self.step == LABEL
             data = self.run.label(self.volume, self.first) if label else self.run.record(self.first + self.written)
             return b"W%d\n%s" % (len(data), data)
-        return {REWIND: b"I5\n1\n", MARK: b"I0\n1\n", OFFLINE: b"I6\n1\n", CLOSE: b"C\n"}[self.step]
+        if self.step == LOOK:
+            return b"R%d\n" % LABEL_LENGTH
+        return {REWIND: b"I5\n1\n", REWIND_AGAIN: b"I5\n1\n", MARK: b"I0\n1\n", OFFLINE: b"I6\n1\n", CLOSE: b"C\n"}[self.step]
+
+    def most(self) -> int | None:
+        """How many bytes of data the reply has at most that is wanted; None where a number is wanted."""
+        return LABEL_LENGTH if self.step == LOOK else None
 
     def feed(self, piece: bytes) -> str | None:
         """The bytes of answers: the fault where the attempt fails by them. The state tells all else."""
@@ -151,15 +160,15 @@ class Client:
             return self.over("Botched")
         self.heard += piece
         try:
-            (letter, number), length = first_reply(self.heard)
+            (letter, number), length = first_reply(self.heard, self.most())
         except Unfinished:
             return None
         except Fault:
             return self.over("Botched")
         if self.step == CLOSE:
             return self.over("")
-        rest, self.heard = self.heard[length:], b""
-        fault = self.answered(letter, number)
+        reply, rest, self.heard = self.heard[:length], self.heard[length:], b""
+        fault = self.shown(reply[length - number :]) if (self.step, letter) == (LOOK, "A") else self.answered(letter, number)
         if fault:
             return self.over(fault)
         self.state = "ToSend"
@@ -171,6 +180,14 @@ class Client:
             self.state = "Asking"
             return fault
         self.state = "Finished" if self.is_complete() else "Ready"
+        return None
+
+    def shown(self, data: bytes) -> str | None:
+        """The first record of the reel: the attempt fails where it is the label of a volume that is counted."""
+        for it in [] if LOOKS_AT_NO_LABEL in self.off else self.counted:
+            if data == self.run.label(it.volume, it.first):
+                return f"CountedReel {it.volume}"
+        self.step = REWIND_AGAIN
         return None
 
     def answered(self, letter: str, number: int) -> str | None:
@@ -220,7 +237,8 @@ class NotPossible(Exception):
 class Link:
     """A connection: the bytes on the way both ways, those that reached the session, the session, and which sides are live.
 
-    Of the client's it is written down of which run and volume it is, what was sent and answered, which writes were accepted, and which reel.
+    Of the client's it is written down of which run and volume it is, what was sent and answered, what the look showed, which writes were accepted,
+    and which reel.
     """
 
     def __init__(self, number: int, session: Session, client: Client | None) -> None:
@@ -234,6 +252,7 @@ class Link:
         self.volume, self.first = client.checkpoint() if client else (0, 0)
         self.sent: list[bytes] = []
         self.got: list[tuple[str, int]] = []
+        self.shown: bytes | None = None
         self.carried = 0
         self.reel: Reel | None = None
         self.accepted: list[Entry] = []
@@ -258,8 +277,16 @@ class Count(NamedTuple):
     link: int
 
 
+class Opening(NamedTuple):
+    """An accepted open for writing: of which connection and reel, and what the client had counted then."""
+
+    link: int
+    reel: Reel
+    listed: tuple[Volume, ...]
+
+
 class Writing(NamedTuple):
-    """A session that had this reel open for writing wrote on it, when so many opens for writing were listed."""
+    """A write, of a record or of marks, that a session carried out on the reel that it has open for writing, after so many of these openings."""
 
     link: int
     reel: Reel
@@ -286,7 +313,7 @@ class World:
         self.client: Client | None = None
         self.own: Link | None = None
         self.counts: list[Count] = []
-        self.opens: list[tuple[int, Reel]] = []
+        self.opens: list[Opening] = []
         self.writings: list[Writing] = []
         self.entered: list[Listed] = []
         self.kept: Listed | None = None
@@ -407,7 +434,7 @@ class World:
         """What follows where the client has moved: a failure, or the end of its attempt."""
         if fault:
             self.failures.append((self.client.volume, fault))
-            self.saw(f"failed {fault}")
+            self.saw("failed CountedReel" if fault.startswith("CountedReel") else f"failed {fault}")
         if self.client.state in ("Asking", "Ready", "Finished"):
             self.hang_up()
 
@@ -472,12 +499,15 @@ class World:
 
     def note_reply(self, link: Link, piece: bytes) -> None:
         """Writes down a reply that is waited for and is whole with this piece."""
+        heard = self.client.heard + piece if self.client.state == "Waiting" else b""
         try:
-            reply, _ = first_reply(self.client.heard + piece if self.client.state == "Waiting" else b"")
+            reply, length = first_reply(heard, self.client.most())
         except (Fault, Unfinished):
             return
         link.got.append(reply)
-        self.saw(f"told {'OIWWIIC'[self.client.step - 1]} {reply[0]}")
+        if (self.client.step, reply[0]) == (LOOK, "A"):
+            link.shown = heard[length - reply[1] : length]
+        self.saw(f"told {LETTERS[self.client.step - 1]} {reply[0]}")
 
     def cut(self, number: int) -> None:
         link = self.link(number)
@@ -530,7 +560,7 @@ class World:
             link.back += reply
 
     def note_request(self, link: Link, request: Request, reply: bytes) -> None:
-        """Writes down an open for writing, who wrote on which reel and, of the client's, what was written."""
+        """Writes down an open for writing, a write and, of the client's, what was accepted."""
         session = link.session
         letter, number = first_reply(reply)[0]
         asked = request.letter + (str(min(request.numbers[0], 8)) if request.letter == "I" else "")
@@ -538,11 +568,11 @@ class World:
         if request.letter == "O" and letter == "A":
             listed = request.numbers[0] % 4 != 0 and not (LISTS_NO_OPEN in self.off and session.access == 1)
             if listed:
-                self.opens.append((link.number, session.reel))
+                self.opens.append(Opening(link.number, session.reel, tuple(self.client.counted) if self.client else ()))
             link.reel = session.reel
-        if (request.letter == "W" or asked == "I0") and session.reel and session.access:
-            if LISTS_NO_WRITE not in self.off or link.is_mine:
-                self.writings.append(Writing(link.number, session.reel, len(self.opens)))
+        is_write = (request.letter == "W" or asked == "I0") and session.drive and session.reel and session.access in (1, 2)
+        if is_write and not (LISTS_NO_WRITE in self.off and not link.is_mine):
+            self.writings.append(Writing(link.number, session.reel, len(self.opens)))
         link.carried += 1
         if not link.is_mine:
             return

@@ -31,6 +31,7 @@ CHECKS = {
     "recipes.py": ("rmtd", "rdump", "rsim"),
     "dump.py": ("rmtd", "rdump"),
     "told.py": ("rmtd", "rdump"),
+    "again.py": ("rmtd", "rdump"),
     "checkpoint.py": ("rdump",),
     "updates.py": ("rdump",),
     "relay.py": ("rmtd", "rdump"),

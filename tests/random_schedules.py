@@ -182,7 +182,7 @@ class Walk:
 
     def pump(self) -> bytes:
         numbers = [*self.world.alive, *self.world.alive, len(self.world.links) + 1]
-        return b"pump %d %d" % (self.source.choice(numbers), self.source.choice((0, 1, 1, 2, 3, 5, 9)))
+        return b"pump %d %d" % (self.source.choice(numbers), self.source.choice((0, 1, 1, 2, 3, 5, 11)))
 
     def cut(self) -> bytes | None:
         link = self.some(lambda it: not it.cut)
@@ -239,10 +239,19 @@ class Walk:
         return self.source.choice((*self.devices * 8, NO_DEVICE, b""))
 
     def write(self) -> bytes:
+        if self.world.counts and self.source.random() < 0.1:
+            return self.counted_label()
         length = self.source.choice(LENGTHS)
         if self.source.random() < self.profile.long_writes:
             length = self.source.choice((65_535, 65_536, 65_537, 65_549, 100_000, 140_000))
         return b"W%d\n%s" % (length, self.source.randbytes(1) * length)
+
+    def counted_label(self) -> bytes:
+        """The write of a label that was counted, or of one with a byte less or more."""
+        count = self.source.choice(self.world.counts[-3:])
+        label = self.world.runs[count.run - 1].label(count.volume.volume, count.volume.first)
+        record = self.source.choice((label, label, label[:-1], label + b"\0"))
+        return b"W%d\n%s" % (len(record), record)
 
     def arrange(self) -> bytes | None:
         free = [it for it in self.world.shop.drives.values() if not it.holder]

@@ -433,7 +433,7 @@ def messages_of(row: Row) -> list[Message]:
 
 def is_of(command: Command, program: str) -> bool:
     """Whether a command runs a program by its name, or by the name of a script of the document."""
-    return re.search(rf"\b({program}|{'tapes' if program == 'rmtd' else 'try|cat told'})\b", command.text) is not None
+    return re.search(rf"\b({program}|{'tapes' if program == 'rmtd' else 'try|cat told|cat why'})\b", command.text) is not None
 
 
 def has_status(command: Command, status: str | None) -> bool:

@@ -375,7 +375,7 @@ def other_commands(p: Programs) -> None:
 LOST_REPLY = """drive /dev/st0 3100 r1 r2 r3
 run /dev/st0 /usr 0 951782400 0 1024 3
 connect
-pump 1 7
+pump 1 9
 send
 to-server 1 all
 serve 1
@@ -384,12 +384,18 @@ end-client 1
 end-server 1
 retry
 connect
-pump 2 9
+pump 2 11
 connect
-pump 3 9
+pump 3 11
 enter
 """
 ENDED_ATTEMPT = "volume 1 failed: ConnectionEnded\n"
+# Where all later requests are refused too, the line that goes on after such an attempt is named.
+REFUSED_LINES = (
+    "volume 1 failed: Refused 12\nline 4: out of memory\n",
+    f"{ENDED_ATTEMPT}volume 1 failed: Refused 12\nline 13: out of memory\n",
+    f"{ENDED_ATTEMPT}volume 2 failed: Refused 12\nline 15: out of memory\n",
+)
 # A request that is refused memory fails its attempt, and the line after that one finds the client asking.
 REFUSED_REQUESTS = (
     "volume 1 failed: Refused 12\nline 5: not possible\n",
@@ -413,6 +419,8 @@ def simulator(p: Programs) -> None:
             # Where the line that names it is refused too there is nothing to print it with.
             if more and output in ("", ENDED_ATTEMPT):
                 return got.status == FAILED
+            if more and output in REFUSED_LINES:
+                return got.status == ABNORMAL
             return got.status == FAILED and output in REFUSED_REQUESTS
 
         def go(rules: str) -> Ended:

@@ -4,7 +4,8 @@ close or a reset after each number of their bytes, and bytes that are no reply.
 
     replies.py [RDUMP]
 
-What is wanted is the table of docs/DUMP.md, by hand: before the count each of these fails the attempt, and after it nothing does.
+What is wanted is the table of docs/DUMP.md, by hand: before the count each of these fails the attempt, and after it nothing does. What a reel shows
+to the look goes on, unless it is the label of a volume that is counted.
 """
 
 from __future__ import annotations
@@ -22,14 +23,17 @@ from pathlib import Path
 from typing import NamedTuple
 
 from checks import check, ended
-from dump import ABNORMAL, DAY, DEVICE, DONE, GUARD_SECONDS, Received, requests_of
+from dump import ABNORMAL, DAY, DEVICE, DONE, GUARD_SECONDS, Received, label, requests_of
+from model_checkpoint import text_of
+from model_world import Run, Volume
 
 CRATES = Path(__file__).resolve().parent.parent / "crates"
 BLOCK = bytes(range(256)) * 4
-# What a dump of one block sends, and the replies that it goes on with: to an open, a rewind, a label, a block, a mark, the move to the bin, a close.
+# What a dump of one block sends, and the replies that it goes on with: to an open, a rewind, a look at a blank reel, a rewind, a label, a block, a
+# mark, the move to the bin, a close.
 REQUESTS = requests_of(1, 0, [BLOCK])
-REPLIES = (b"A0\n", b"A1\n", b"A1024\n", b"A1024\n", b"A1\n", b"A1\n", b"A0\n")
-REWIND, BLOCK_WRITE, MOVE = 2, 4, 6
+REPLIES = (b"A0\n", b"A1\n", b"A0\n", b"A1\n", b"A1024\n", b"A1024\n", b"A1\n", b"A1\n", b"A0\n")
+REWIND, LOOK, BLOCK_WRITE, MOVE, CLOSING = 2, 3, 6, 8, 9
 COMPLETE = "volume 1: 1 blocks from 0\ndump complete: 1 volumes, 1 blocks\n"
 CLOSE, RESET = "close", "reset"
 
@@ -102,15 +106,16 @@ class Client(NamedTuple):
     rdump: str
     folder: Path
 
-    def dump(self, replies: dict[int, Reply]) -> tuple[str, int, list[bytes]]:
-        """Dumps to a server that replies so, and abandons a dump that failed: what is printed, the status, and what was sent."""
+    def dump(self, replies: dict[int, Reply], *words: str) -> tuple[str, int, list[bytes]]:
+        """Dumps to a server that replies so, with the words for a payload, and abandons a dump that failed: what is printed, the status, and what was
+        sent."""
         server = Played(replies)
         server.start()
-        words = [self.rdump, "dump", "--to", server.address, "--device", DEVICE, "--fs", "/usr", "--level", "0", "--date", str(DAY)]
-        words += ["--payload", "payload", "--block", "1024", "--dumpdates", "dumpdates"]
+        asked = [self.rdump, "dump", "--to", server.address, "--device", DEVICE, "--fs", "/usr", "--level", "0", "--date", str(DAY)]
+        asked += ["--block", "1024", "--dumpdates", "dumpdates", *(words or ("--payload", "payload"))]
         how = {"cwd": self.folder, "input": b"", "capture_output": True, "timeout": GUARD_SECONDS}
         try:
-            got = subprocess.run(words, **how)
+            got = subprocess.run(asked, **how)
         finally:
             server.stop()
         return got.stdout.decode(), got.returncode, server.log
@@ -134,7 +139,7 @@ def byte_at_a_time(client: Client) -> None:
         client.completes(f"reply {number} a byte at a time", {number: Reply(data, 1)})
     for number in range(1, MOVE + 1):
         client.fails(f"an error for reply {number}, a byte at a time", "Refused 5", number, {number: Reply(b"E5\nInput/output error\n", 1)})
-    client.completes("an error for the close, a byte at a time", {7: Reply(b"E9\nBad file descriptor\n", 1)})
+    client.completes("an error for the close, a byte at a time", {CLOSING: Reply(b"E9\nBad file descriptor\n", 1)})
 
 
 def byte_more(client: Client) -> None:
@@ -203,7 +208,78 @@ def noise(client: Client) -> None:
             client.fails(f"{data!r} to a block, {how}", fault, BLOCK_WRITE, {BLOCK_WRITE: Reply(data, piece)})
 
 
-PARTS = (byte_at_a_time, byte_more, cut_off, noise)
+def shown(data: bytes) -> bytes:
+    """The reply to the look at a reel that begins with this record."""
+    return b"A%d\n" % len(data) + data
+
+
+# What a reel may begin with where nothing is counted: a record of another program, labels, and what begins as one.
+FOREIGN = (b"x", b"hello", bytes(1024), BLOCK, label(1, 0), label(1, 0)[:-1], label(2, 1), label(1, 0).replace(b"/usr", b"/opt"))
+# In place of the reply to the look.
+TO_THE_LOOK = (
+    (b"A1025", "Botched"),
+    (b"A2147483647", "Botched"),
+    (b"A00000000001", "Botched"),
+    (b"A\n", "Botched"),
+    (b"A-1\n", "Botched"),
+    (b"X\n", "Botched"),
+    (b"E5\nInput/output error\n", "Refused 5"),
+    (b"E12\nCannot allocate memory\n", "Refused 12"),
+    (b"E28\nNo space left on device\n", "Refused 28"),
+)
+
+
+def looks(client: Client) -> None:
+    """What a reel begins with, where nothing is counted: the attempt goes on at each record, and ends where the record does not come whole."""
+    for piece in (1 << 16, 100, 1):
+        for data in FOREIGN:
+            client.completes(f"a reel that begins with {data[:20]!r}, in pieces of {piece}", {LOOK: Reply(shown(data), piece)})
+        client.completes(f"leading zeros to the look, in pieces of {piece}", {LOOK: Reply(b"A0000000005\nhello", piece)})
+        for data, fault in TO_THE_LOOK:
+            client.fails(f"{data!r} to the look, in pieces of {piece}", fault, LOOK, {LOOK: Reply(data, piece)})
+    for way in (CLOSE, RESET):
+        for data in (shown(b"hello"), shown(label(1, 0))):
+            for count in (*range(16), len(data) - 1):
+                if count < len(data):
+                    title = f"a {way} after {count} bytes of {len(data)} to the look"
+                    client.fails(title, "ConnectionEnded", LOOK, {LOOK: Reply(data[:count], end=way)})
+
+
+# A dump of three blocks that goes on with two counts.
+RUN = Run(DEVICE.encode(), b"/usr", 0, DAY, 0, 1024, 3)
+COUNTS = (Volume(1, 0, 1), Volume(2, 1, 1))
+LAST_REQUESTS = requests_of(3, 2, [BLOCK])
+LAST = "volume 3: 1 blocks from 2\ndump complete: 3 volumes, 3 blocks\n"
+# What is none of its labels, though nearly one.
+NEARLY = (
+    label(3, 2), label(1, 1), label(2, 0), label(1, 0)[:-1], label(1, 0)[:-1] + b"x", label(1, 0, since=1), label(1, 0, date=DAY + 1),
+    label(1, 0).replace(b"/usr", b"/opt"), label(1, 0).replace(b"level 0", b"level 1"), label(1, 0).rstrip(b"\0"), b"", b"x",
+)
+
+
+def counted_reels(client: Client) -> None:
+    """What a reel begins with, where two volumes are counted: at the label of either the attempt fails, and nothing more is sent."""
+    folder = client.folder
+    folder.joinpath("three").write_bytes(3 * BLOCK)
+    with_file = ("--payload", "three", "--checkpoint", "kept")
+    for piece in (1 << 16, 100, 1):
+        for volume in COUNTS:
+            folder.joinpath("kept").write_bytes(text_of(RUN, COUNTS))
+            data = shown(label(volume.volume, volume.first))
+            got = client.dump({LOOK: Reply(data, piece)}, *with_file)
+            wanted = f"volume 3 failed: CountedReel {volume.volume}\nretry?\ndump abandoned\n", ABNORMAL, LAST_REQUESTS[:LOOK]
+            check(f"the label of volume {volume.volume}, in pieces of {piece}", got == wanted, got, wanted)
+        for data in NEARLY:
+            folder.joinpath("kept").write_bytes(text_of(RUN, COUNTS))
+            got = client.dump({LOOK: Reply(shown(data), piece)}, *with_file)
+            check(f"what is no label of it, {data[:60]!r}, in pieces of {piece}", got == (LAST, DONE, LAST_REQUESTS), got)
+    folder.joinpath("kept").write_bytes(text_of(RUN, COUNTS))
+    got = client.dump({LOOK: Reply(shown(label(1, 0))[:-1], end=CLOSE)}, *with_file)
+    wanted = "volume 3 failed: ConnectionEnded\nretry?\ndump abandoned\n", ABNORMAL, LAST_REQUESTS[:LOOK]
+    check("the label of volume 1 but for its last byte", got == wanted, got, wanted)
+
+
+PARTS = (byte_at_a_time, byte_more, cut_off, noise, looks, counted_reels)
 
 
 def main() -> int:

@@ -157,7 +157,7 @@ def memory(rsim: Rsim) -> None:
     """A payload that memory is refused for: that is printed, after the failed attempts so far."""
     huge = b"run /dev/st0 /usr 0 0 0 65536 %d\n"
     drives = b"drive /dev/st0 1040 r1\n"
-    failed = drives + b"run /dev/st0 /usr 0 0 0 1024 1\nconnect\npump 1 9\nabandon\n"
+    failed = drives + b"run /dev/st0 /usr 0 0 0 1024 1\nconnect\npump 1 11\nabandon\n"
     for blocks in (2 * ROOM // 65_536, 2_147_483_647):
         want = printed(b"line 2: out of memory\n", NO_MEMORY)
         same(f"a payload of {blocks} blocks", rsim.of(drives + huge % blocks + b"x\n", in_little_room), want)
@@ -274,7 +274,7 @@ WANTED_EVENTS = (
     "to-client all", "cut", "end-server", "end-client", "restart-server", "restart-client", "retry", "abandon", "arrange", "stranger", "says",
     "enter", "pump", "save", "a run comes back", "a run comes back with fewer counts than were made",
 )
-WANTED_FAILURES = ("ConnectionEnded", "ReelTooSmall", "SourceFault", "Refused 2", "Refused 5", "Refused 6", "Refused 16")
+WANTED_FAILURES = ("ConnectionEnded", "ReelTooSmall", "SourceFault", "CountedReel", "Refused 2", "Refused 5", "Refused 6", "Refused 16")
 
 # The letter of a request and its operation, the answer (`An`: a number above 0), and `failing` where a device call failed.
 WANTED_REPLIES = (

@@ -233,6 +233,21 @@ def reasons(p: Programs) -> None:
         server.stop()
 
 
+def counted(p: Programs) -> None:
+    """What to do with a reel that is counted, once for each attempt that fails by it."""
+    p.file("payload", PAYLOAD)
+    volume = (b"A0\n", b"A1\n", b"A0\n", b"A1\n", *[b"A1024\n"] * 3, b"A0\n", b"A1\n", b"A1\n", b"A0\n")
+    laid_again = (b"A0\n", b"A1\n", record(label(1, 0)))
+    server = Said(*volume, *laid_again, *laid_again)
+    words = (
+        f"rdump: {server.address}: CountedReel 1: the first reel of the stack of {DEVICE} begins with the label of volume 1, "
+        f"which this dump has counted; take it away (rdump mt --to {server.address} --device {DEVICE} offline 1) or lay another one first, then answer yes\n"
+    )
+    output = "volume 1: 2 blocks from 0\n" + "volume 2 failed: CountedReel 1\nretry?\n" * 2 + "dump abandoned\n"
+    told("a counted reel, twice", p.dump(server.address, said="yes\n"), output, ABNORMAL, words * 2)
+    server.stop()
+
+
 def reset(stream: socket.socket) -> None:
     """Takes a byte, and ends a connection by a reset, which comes where bytes are unread."""
     stream.recv(1)
@@ -435,8 +450,8 @@ def block_device(p: Programs) -> str | None:
             text = Path(f"/proc/{client.pid}/status").read_text()
             seen.append(int(re.search(r"VmHWM:\s+(\d+) kB", text)[1]))
 
-        # An open, a rewind, the label and the blocks are followed by the mark, the move to the bin and the close.
-        model.acts[blocks + 6] = look
+        # An open, a rewind, a look, a rewind, the label and the blocks are followed by the mark, the move to the bin and the close.
+        model.acts[blocks + 8] = look
         listed = ["--to", model.address, "--device", DEVICE, "--fs", "/usr", "--level", "0", "--payload", device, "--block", "65536"]
         with subprocess.Popen((p.rdump, "dump", *listed, "--dumpdates", "none"), cwd=p.folder, stdin=subprocess.DEVNULL, stdout=subprocess.PIPE) as client:
             client.communicate(timeout=GUARD_SECONDS)
@@ -447,7 +462,7 @@ def block_device(p: Programs) -> str | None:
     return None
 
 
-PARTS = (volumes, torn, files, shared, reasons, pauses, words, unprinted, terminal, based, hangs_up, block_device)
+PARTS = (volumes, torn, files, shared, reasons, counted, pauses, words, unprinted, terminal, based, hangs_up, block_device)
 
 
 def main() -> int:

@@ -25,67 +25,74 @@ TWO_VOLUMES = "reel r1 R1024 R1024 R1024 M\nreel r2 R1024 R1024 M\nstack /dev/st
 VECTORS = (
     vector(
         "the answer to the move is lost",
-        "drive /dev/st0 3100 r1 r2 r3\n" + THREE_BLOCKS + "connect\npump 1 7\nsend\nto-server 1 all\nserve 1\ncut 1\nend-client 1\nend-server 1\n"
-        "retry\nconnect\npump 2 9\nconnect\npump 3 9\nenter\n",
+        "drive /dev/st0 3100 r1 r2 r3\n" + THREE_BLOCKS + "connect\npump 1 9\nsend\nto-server 1 all\nserve 1\ncut 1\nend-client 1\nend-server 1\n"
+        "retry\nconnect\npump 2 11\nconnect\npump 3 11\nenter\n",
         "volume 1 failed: ConnectionEnded\nreel r1 R1024 R1024 R1024 M\nreel r2 R1024 R1024 R1024 M\nreel r3 R1024 R1024 M\nstack /dev/st0\n"
         "bin r1 r2 r3\ncounted 1 1 0 2 r2\ncounted 1 2 2 1 r3\ndumpdates\n" + USR,
     ),
     vector(
         "a stale session",
-        "drive /dev/st0 3100 r1 r2\n" + THREE_BLOCKS + "connect\npump 1 3\ncut 1\nend-client 1\nretry\nconnect\npump 2 1\nend-server 1\nretry\n"
-        "connect\npump 3 9\n",
+        "drive /dev/st0 3100 r1 r2\n" + THREE_BLOCKS + "connect\npump 1 5\ncut 1\nend-client 1\nretry\nconnect\npump 2 1\nend-server 1\nretry\n"
+        "connect\npump 3 11\n",
         "volume 1 failed: ConnectionEnded\nvolume 1 failed: Refused 16\nreel r1 R1024 R1024 R1024 M\nreel r2\nstack /dev/st0 r2\nbin r1\n"
         "counted 1 1 0 2 r1\ndumpdates\n",
     ),
     vector(
         "a reel too small",
-        "drive /dev/st0 1040 r1\n" + ONE_BLOCK + "connect\npump 1 9\n",
+        "drive /dev/st0 1040 r1\n" + ONE_BLOCK + "connect\npump 1 11\n",
         "volume 1 failed: ReelTooSmall\nreel r1 R1024\nstack /dev/st0 r1\nbin\ndumpdates\n",
     ),
     vector(
         "no blocks",
-        "drive /dev/st0 1040 r1\nrun /dev/st0 /usr 0 951782400 0 1024 0\nconnect\npump 1 9\n",
+        "drive /dev/st0 1040 r1\nrun /dev/st0 /usr 0 951782400 0 1024 0\nconnect\npump 1 11\n",
         "reel r1 R1024 M\nstack /dev/st0\nbin r1\ncounted 1 1 0 0 r1\ndumpdates\n",
     ),
     vector(
         "a fault in a write",
-        "drive /dev/st0 3100 r1\n" + ONE_BLOCK + "connect\npump 1 2\nsend\nto-server 1 all\nserve 1 written 1\nto-client 1 all\n",
+        "drive /dev/st0 3100 r1\n" + ONE_BLOCK + "connect\npump 1 4\nsend\nto-server 1 all\nserve 1 written 1\nto-client 1 all\n",
         "volume 1 failed: Refused 5\nreel r1 R1024\nstack /dev/st0 r1\nbin\ndumpdates\n",
     ),
     vector(
         "a stranger's bytes",
-        "drive /dev/st0 3100 r1\nstranger\nsays 1 4f2f6465762f7374300a320a57350a68656c\npump 1 9\ncut 1\nend-server 1\n",
+        "drive /dev/st0 3100 r1\nstranger\nsays 1 4f2f6465762f7374300a320a57350a68656c\npump 1 11\ncut 1\nend-server 1\n",
         "reel r1\nstack /dev/st0 r1\nbin\ndumpdates\n",
     ),
     vector(
         "a counted reel is written again",
-        "drive /dev/st0 3100 r1\n" + ONE_BLOCK + "connect\npump 1 9\narrange /dev/st0 r1\nstranger\nsays 2 4f2f6465762f7374300a320a57310a78\n"
-        "pump 2 9\ncut 2\nend-server 2\n",
+        "drive /dev/st0 3100 r1\n" + ONE_BLOCK + "connect\npump 1 11\narrange /dev/st0 r1\nstranger\nsays 2 4f2f6465762f7374300a320a57310a78\n"
+        "pump 2 11\ncut 2\nend-server 2\n",
         "reel r1 R1\nstack /dev/st0 r1\nbin\ncounted 1 1 0 1 r1\ndumpdates\n",
     ),
     vector(
         "a server restart",
-        "drive /dev/st0 3100 r1 r2\n" + THREE_BLOCKS + "connect\npump 1 3\nrestart-server\nend-client 1\nretry\nconnect\npump 2 9\n"
-        "connect\npump 3 9\n",
+        "drive /dev/st0 3100 r1 r2\n" + THREE_BLOCKS + "connect\npump 1 5\nrestart-server\nend-client 1\nretry\nconnect\npump 2 11\n"
+        "connect\npump 3 11\n",
         "volume 1 failed: ConnectionEnded\n" + TWO_VOLUMES,
     ),
     vector(
         "a client restart after a save",
-        "drive /dev/st0 3100 r1 r2 r3\n" + THREE_BLOCKS + "connect\npump 1 9\nsave\nconnect\npump 2 4\nrestart-client\nend-server 2\nconnect\n"
-        "pump 3 9\nenter\n",
+        "drive /dev/st0 3100 r1 r2 r3\n" + THREE_BLOCKS + "connect\npump 1 11\nsave\nconnect\npump 2 6\nrestart-client\nend-server 2\nconnect\n"
+        "pump 3 11\nenter\n",
         "reel r1 R1024 R1024 R1024 M\nreel r2 R1024 R1024 M\nreel r3\nstack /dev/st0 r3\nbin r1 r2\ncounted 1 1 0 2 r1\ncounted 1 2 2 1 r2\n"
         "dumpdates\n" + USR,
     ),
     vector(
         "a save before any count",
-        "drive /dev/st0 3100 r1 r2 r3\n" + THREE_BLOCKS + "save\nconnect\npump 1 9\nrestart-client\nconnect\npump 2 9\nconnect\npump 3 9\nenter\n",
+        "drive /dev/st0 3100 r1 r2 r3\n" + THREE_BLOCKS + "save\nconnect\npump 1 11\nrestart-client\nconnect\npump 2 11\nconnect\npump 3 11\nenter\n",
         "reel r1 R1024 R1024 R1024 M\nreel r2 R1024 R1024 R1024 M\nreel r3 R1024 R1024 M\nstack /dev/st0\nbin r1 r2 r3\ncounted 1 1 0 2 r1\n"
         "counted 1 1 0 2 r2\ncounted 1 2 2 1 r3\ndumpdates\n" + USR,
     ),
+    vector(
+        "a counted reel is laid again",
+        "drive /dev/st0 3100 r1 r2\n" + THREE_BLOCKS + "connect\npump 1 11\narrange /dev/st0 r1 r2\nconnect\npump 2 9\nend-server 2\nretry\n"
+        "arrange /dev/st0 r2\nconnect\npump 3 9\n",
+        "volume 2 failed: CountedReel 1\n" + TWO_VOLUMES,
+    ),
 )
+NAMED = {it.name: it for it in VECTORS}
 
 # A schedule with two failed attempts, after which the client is ready, three connections have been, and the drive is free.
-REUSED = VECTORS[1].text
+REUSED = NAMED["a stale session"].text
 
 
 def says(number: int, data: bytes) -> str:
@@ -143,7 +150,7 @@ def of_dates() -> Iterator[Vector]:
     asked += (("n" * 255, 3, 951_827_696), ("/usr", 0, 951_782_399))
     text = "drive /dev/st0 1040 " + " ".join(names) + "\n"
     for number, it in enumerate(asked, 1):
-        text += run(*it) + f"connect\npump {number} 9\nenter\n"
+        text += run(*it) + f"connect\npump {number} 11\nenter\n"
     output = "".join(f"reel {it} R1024 M\n" for it in names) + "stack /dev/st0\nbin " + " ".join(names) + "\n"
     output += "".join(f"counted {number} 1 0 0 r{number}\n" for number in range(1, 8)) + "dumpdates\n"
     output += "/usr" + 28 * " " + " 0 Mon Feb 28 23:59:59 2000\n" + "/usr" + 28 * " " + " 1 Wed Mar  1 00:00:00 2000\n"
@@ -154,54 +161,124 @@ def of_dates() -> Iterator[Vector]:
 
 def of_runs() -> Iterator[Vector]:
     """What follows where a run is given up, forgotten or not entered, and where its payload cannot be read."""
-    fault = "drive /dev/st0 3100 r1\n" + ONE_BLOCK + "connect\nsend fault\npump 1 3\nsend fault\n"
+    fault = "drive /dev/st0 3100 r1\n" + ONE_BLOCK + "connect\nsend fault\npump 1 5\nsend fault\n"
     yield vector("a payload that cannot be read", fault, "volume 1 failed: SourceFault\nreel r1 R1024\nstack /dev/st0 r1\nbin\ndumpdates\n")
-    text = fault + "abandon\n" + run() + "end-server 1\nconnect\npump 2 9\n" + run("/home") + "restart-client\n"
+    text = fault + "abandon\n" + run() + "end-server 1\nconnect\npump 2 11\n" + run("/home") + "restart-client\n"
     text += run("/opt", blocks=1) + "connect\n"
     output = "volume 1 failed: SourceFault\nreel r1 R1024 M\nstack /dev/st0\nbin r1\ncounted 2 1 0 0 r1\ndumpdates\n"
     yield vector("an abandoned run, one that was not entered, and one that was forgotten", text, output)
-    text = "drive /dev/st0 3100 r1 r2\n" + THREE_BLOCKS + "connect\npump 1 9\nrestart-client\n" + run(blocks=1) + "connect\npump 2 9\nenter\n"
+    text = "drive /dev/st0 3100 r1 r2\n" + THREE_BLOCKS + "connect\npump 1 11\nrestart-client\n" + run(blocks=1) + "connect\npump 2 11\nenter\n"
     output = "reel r1 R1024 R1024 R1024 M\nreel r2 R1024 R1024 M\nstack /dev/st0\nbin r1 r2\ncounted 1 1 0 2 r1\ncounted 2 1 0 1 r2\ndumpdates\n"
     yield vector("the counts of a forgotten run stay", text, output + USR)
-    text = "drive /dev/st0 3100 r1\n" + ONE_BLOCK + "connect\npump 1 6\ncut 1\nend-client 1\nenter\n"
+    text = "drive /dev/st0 3100 r1\n" + ONE_BLOCK + "connect\npump 1 8\ncut 1\nend-client 1\nenter\n"
     output = "reel r1 R1024 R1024 M\nstack /dev/st0\nbin r1\ncounted 1 1 0 1 r1\ndumpdates\n" + USR
     yield vector("after the count the end of the stream is no failure", text, output)
     text = "drive /dev/st0 3100 r1\n" + run(device="/dev/st1") + "connect\npump 1 1\nretry\n"
     text += "connect\nend-server 1\nrestart-server\nend-client 2\nabandon\n"
     output = "volume 1 failed: Refused 2\nvolume 1 failed: ConnectionEnded\nreel r1\n" + EMPTY
     yield vector("a device that is not there", text, output)
-    text = "drive /dev/st0 3100 r1\n" + THREE_BLOCKS + "connect\npump 1 9\nconnect\npump 2 1\narrange /dev/st0 r1\nretry\nend-server 1\n"
+    text = "drive /dev/st0 3100 r1\n" + THREE_BLOCKS + "connect\npump 1 11\nconnect\npump 2 1\narrange /dev/st0 r1\nretry\nend-server 1\n"
     output = "volume 2 failed: Refused 6\nreel r1 R1024 R1024 R1024 M\nstack /dev/st0 r1\nbin\ncounted 1 1 0 2 r1\ndumpdates\n"
     yield vector("an empty stack", text, output)
-    text = "drive /dev/st0 3100 r1\n" + ONE_BLOCK + "connect\ncut 1\nsend\npump 1 9\nend-client 1\n"
+    text = "drive /dev/st0 3100 r1\n" + ONE_BLOCK + "connect\ncut 1\nsend\npump 1 11\nend-client 1\n"
     yield vector("what is sent after the cut is lost", text, "volume 1 failed: ConnectionEnded\nreel r1\n" + EMPTY)
-    text = "drive /dev/st0 3100 r1\n" + ONE_BLOCK + "connect\npump 1 2\nsend\ncut 1\nrestart-client\nto-server 1 1000\nto-server 1 all\nserve 1\n"
+    text = "drive /dev/st0 3100 r1\n" + ONE_BLOCK + "connect\npump 1 4\nsend\ncut 1\nrestart-client\nto-server 1 1000\nto-server 1 all\nserve 1\n"
     yield vector("what was on the way before the cut is carried out", text, "reel r1 R1024\n" + EMPTY)
 
 
 def of_saves() -> Iterator[Vector]:
     """Runs that are kept, and come back."""
     drive = "drive /dev/st0 3100 r1 r2 r3\n"
-    finished = "connect\npump 1 9\nconnect\npump 2 9\n"
+    finished = "connect\npump 1 11\nconnect\npump 2 11\n"
     two = "reel r1 R1024 R1024 R1024 M\nreel r2 R1024 R1024 M\nreel r3\nstack /dev/st0 r3\nbin r1 r2\ncounted 1 1 0 2 r1\ncounted 1 2 2 1 r2\ndumpdates\n"
     yield vector("a finished run comes back, and is entered", drive + THREE_BLOCKS + finished + "save\nrestart-client\nenter\n", two + USR)
     text = drive + THREE_BLOCKS + finished + "save\nrestart-client\nrestart-client\nsave\nrestart-client\nenter\n"
     yield vector("a finished run comes back three times", text, two + USR)
-    text = drive + THREE_BLOCKS + "connect\npump 1 9\nsave\nrestart-client\nconnect\npump 2 9\nenter\n"
+    text = drive + THREE_BLOCKS + "connect\npump 1 11\nsave\nrestart-client\nconnect\npump 2 11\nenter\n"
     yield vector("a run comes back behind its count", text, two + USR)
-    text = drive + THREE_BLOCKS + "connect\nsend\nsave\nrestart-client\nend-server 1\nconnect\npump 2 9\nconnect\npump 3 9\nenter\n"
+    text = drive + THREE_BLOCKS + "connect\nsend\nsave\nrestart-client\nend-server 1\nconnect\npump 2 11\nconnect\npump 3 11\nenter\n"
     yield vector("a run is kept in an attempt", text, two + USR)
-    asking = "connect\npump 1 9\nconnect\ncut 2\nend-client 2\n"
-    text = drive + THREE_BLOCKS + asking + "save\nrestart-client\nend-server 2\nconnect\npump 3 9\nenter\n"
+    asking = "connect\npump 1 11\nconnect\ncut 2\nend-client 2\n"
+    text = drive + THREE_BLOCKS + asking + "save\nrestart-client\nend-server 2\nconnect\npump 3 11\nenter\n"
     yield vector("a run that asks comes back ready", text, "volume 2 failed: ConnectionEnded\n" + two + USR)
-    text = drive + THREE_BLOCKS + "save\n" + asking + "retry\nrestart-client\nend-server 2\nconnect\npump 3 9\nconnect\npump 4 9\nenter\n"
-    output = "volume 2 failed: ConnectionEnded\n" + VECTORS[-1].output.decode()
+    text = drive + THREE_BLOCKS + "save\n" + asking + "retry\nrestart-client\nend-server 2\nconnect\npump 3 11\nconnect\npump 4 11\nenter\n"
+    output = "volume 2 failed: ConnectionEnded\n" + NAMED["a save before any count"].output.decode()
     yield vector("a retry leaves what is kept", text, output)
-    text = drive + run(blocks=0) + "save\nconnect\npump 1 9\nsave\nrestart-client\nenter\n"
+    text = drive + run(blocks=0) + "save\nconnect\npump 1 11\nsave\nrestart-client\nenter\n"
     yield vector("no blocks are kept", text, "reel r1 R1024 M\nreel r2\nreel r3\nstack /dev/st0 r2 r3\nbin r1\ncounted 1 1 0 0 r1\ndumpdates\n" + USR)
-    text = drive + run(blocks=0) + "connect\npump 1 9\nsave\n" + run("/home") + "restart-client\n" + run("/opt") + "connect\npump 2 9\nenter\n"
+    text = drive + run(blocks=0) + "connect\npump 1 11\nsave\n" + run("/home") + "restart-client\n" + run("/opt") + "connect\npump 2 11\nenter\n"
     output = "reel r1 R1024 M\nreel r2 R1024 M\nreel r3\nstack /dev/st0 r3\nbin r1 r2\ncounted 1 1 0 0 r1\ncounted 3 1 0 0 r2\ndumpdates\n"
     yield vector("a new run drops what is kept", text, output + USR.replace("/usr", "/opt"))
+
+
+def of_looks() -> Iterator[Vector]:
+    """What the first record of a reel is to a client that looks at it."""
+    drive = "drive /dev/st0 3100 r1 r2\n"
+    first = "connect\npump 1 11\n"
+    again = "volume 2 failed: CountedReel 1\n"
+    held = "reel r1 R1024 R1024 R1024 M\n"
+    counted = "counted 1 1 0 2 r1\n"
+    laid = drive + THREE_BLOCKS + first + "arrange /dev/st0 r1 r2\nconnect\npump 2 3\n"
+    stack = "stack /dev/st0 r1 r2\nbin\n"
+    yield vector("a counted reel ends the attempt at the look", laid, again + held + "reel r2\n" + stack + counted + "dumpdates\n")
+    text = laid + "end-server 2\nretry\nconnect\npump 3 11\nend-server 3\nretry\nconnect\npump 4 11\n"
+    yield vector("a counted reel is tried three times", text, 3 * again + held + "reel r2\n" + stack + counted + "dumpdates\n")
+    text = laid + "end-server 2\nstranger\n" + says(3, b"O/dev/st0\n0\nI6\n1\nC\n") + "pump 3 3\nretry\nconnect\npump 4 9\nenter\n"
+    yield vector("a counted reel is moved to the bin by an open for reading", text, again + TWO_VOLUMES + USR)
+    text = drive + THREE_BLOCKS + first + "save\nrestart-client\narrange /dev/st0 r1 r2\nconnect\npump 2 9\n"
+    yield vector("a run that comes back knows its reel", text, again + held + "reel r2\n" + stack + counted + "dumpdates\n")
+    text = drive + THREE_BLOCKS + "save\n" + first + "restart-client\narrange /dev/st0 r1 r2\nconnect\npump 2 6\n"
+    output = "reel r1 R1024 R1024\nreel r2\n" + stack + counted + "dumpdates\n"
+    yield vector("a run that comes back without its count does not", text, output)
+    text = drive + THREE_BLOCKS + first + "restart-client\n" + THREE_BLOCKS + "arrange /dev/st0 r1 r2\nconnect\npump 2 6\n"
+    yield vector("a new run with the same label does not", text, output)
+    text = drive + run() + "connect\npump 1 9\n" + run("/home") + "arrange /dev/st0 r1 r2\nconnect\npump 2 9\n"
+    output = "reel r1 R1024 M\nreel r2\nstack /dev/st0 r2\nbin r1\ncounted 1 1 0 0 r1\ncounted 2 1 0 0 r1\ndumpdates\n"
+    yield vector("the label of another dump is written over", text, output)
+    text = "drive /dev/st0 2068 r1 r2 r3\n" + THREE_BLOCKS + "connect\npump 1 10\nconnect\npump 2 10\narrange /dev/st0 r2 r3\nconnect\npump 3 9\n"
+    output = "volume 3 failed: CountedReel 2\nreel r1 R1024 R1024 M\nreel r2 R1024 R1024 M\nreel r3\nstack /dev/st0 r2 r3\nbin r1\n"
+    yield vector("the reel of the second volume", text, output + "counted 1 1 0 1 r1\ncounted 1 2 1 1 r2\ndumpdates\n")
+    yield from of_other_looks()
+
+
+FIRST_LABEL = b"name /usr\nlevel 0\ndate 951782400\nsince 0\nvolume 1\nfirst 0\n".ljust(1_024, b"\0")
+
+
+def looks_but_for_a_byte() -> str:
+    """A client is shown a label that it has not counted, but for the last byte of it."""
+    text = "drive /dev/st0 3100 r1\nstranger\n" + says(1, OPENED + b"W1024\n" + FIRST_LABEL + b"C\n") + "pump 1 3\n" + ONE_BLOCK
+    return text + "connect\npump 2 2\nsend\nto-server 2 all\nserve 2\nto-client 2 6\nto-client 2 1023\n"
+
+
+def of_other_looks() -> Iterator[Vector]:
+    """Reels that strangers wrote, reels that were not counted, and a look that fails."""
+    label = FIRST_LABEL
+    two = "drive /dev/st0 3100 r1 r2\n" + THREE_BLOCKS + "connect\npump 1 11\n"
+    for name, record, is_counted in (
+        ("the label of a counted volume", label, True),
+        ("such a label and a byte more", label + b"\0", True),
+        ("such a label without its last byte", label[:-1], False),
+        ("such a label of which the last byte differs", label[:-1] + b"x", False),
+        ("the label of the volume that is written", label.replace(b"volume 1\nfirst 0", b"volume 2\nfirst 2"), False),
+        ("such a label from another block on", label.replace(b"first 0", b"first 1"), False),
+        ("a byte", b"x", False),
+    ):
+        written = says(2, OPENED + b"W%d\n" % len(record) + record + b"C\n") + "pump 2 3\n"
+        text = two + "stranger\n" + written + "connect\npump 3 9\n"
+        failed = f"reel r1 R1024 R1024 R1024 M\nreel r2 R{len(record)}\nstack /dev/st0 r2\nbin r1\ncounted 1 1 0 2 r1\ndumpdates\n"
+        yield vector(f"{name}, by a stranger", text, "volume 2 failed: CountedReel 1\n" + failed if is_counted else TWO_VOLUMES)
+    text = two + "stranger\n" + says(2, OPENED + b"I0\n1\nW1024\n" + label + b"C\n") + "pump 2 4\nconnect\npump 3 9\n"
+    yield vector("a mark before such a label", text, TWO_VOLUMES)
+    lost = NAMED["the answer to the move is lost"].text.decode().partition("pump 3")[0]
+    text = lost.replace("pump 2 11\nconnect\n", "pump 2 11\narrange /dev/st0 r1 r3\nconnect\npump 3 9\n")
+    output = "volume 1 failed: ConnectionEnded\nvolume 2 failed: CountedReel 1\nreel r1 R1024 R1024 R1024 M\nreel r2 R1024 R1024 R1024 M\nreel r3\n"
+    output += "stack /dev/st0 r1 r3\nbin r2\ncounted 1 1 0 2 r2\ndumpdates\n"
+    yield vector("a reel with the same label that was not counted", text, output)
+    look = "drive /dev/st0 3100 r1\n" + ONE_BLOCK + "connect\npump 1 2\nsend\nto-server 1 all\nserve 1 lost\nto-client 1 all\n"
+    yield vector("a look that fails", look, "volume 1 failed: Refused 5\nreel r1\n" + EMPTY)
+    text = looks_but_for_a_byte() + "cut 2\nend-client 2\n"
+    yield vector("a look that is cut off", text, "volume 1 failed: ConnectionEnded\nreel r1 R1024\n" + EMPTY)
+    yield vector("a label of no count is written over", looks_but_for_a_byte() + "to-client 2 1\npump 2 2\n", "reel r1 R1024\n" + EMPTY)
 
 
 def of_shapes() -> Iterator[Vector]:
@@ -219,7 +296,7 @@ def of_shapes() -> Iterator[Vector]:
     yield vector("64 drives", text, output)
     yield vector("a reel with the name of a drive", "drive r1 5 r1\n", "reel r1\nstack r1 r1\nbin\ndumpdates\n")
     device = "d" * 255
-    text = f"drive {device} 1040 r1\n" + run(device=device) + "connect\npump 1 9\n"
+    text = f"drive {device} 1040 r1\n" + run(device=device) + "connect\npump 1 11\n"
     yield vector("a device of 255 bytes", text, f"reel r1 R1024 M\nstack {device}\nbin r1\ncounted 1 1 0 0 r1\ndumpdates\n")
     text = "drive a 9 r1 r2 r3\ndrive b 9 r4\narrange a r3 r1\narrange b r2\narrange a r4 r3\narrange b\narrange b r1\n"
     yield vector("reels are arranged", text, "reel r1\nreel r2\nreel r3\nreel r4\nstack a r4 r3\nstack b r1\nbin r2\ndumpdates\n")
@@ -245,7 +322,7 @@ def of_lengths() -> Iterator[Vector]:
     yield vector("a record that is read", read, "reel r1 R40\n" + EMPTY)
 
 
-GOOD_TEXTS = (*of_shapes(), *of_troubles(), *of_dates(), *of_runs(), *of_saves(), *of_lengths())
+GOOD_TEXTS = (*of_shapes(), *of_troubles(), *of_dates(), *of_runs(), *of_saves(), *of_looks(), *of_lengths())
 
 TWO_FILES = (OPENED, b"W1\na", b"I0\n1\n", b"W1\nb", b"I0\n1\n")
 DONE_TWICE = "A0\nA1\nA1\nA1\nA1\n"
@@ -381,11 +458,11 @@ def of_first_faults() -> Iterator[Vector]:
     begin = "drive a 5 r1\n"
     yield vector("a bad line before one that is not possible", begin + "foo\nconnect\n", "line 2: bad line\n")
     yield vector("a line that is not possible before a bad one", begin + "connect\nfoo\n", "line 2: not possible\n")
-    small = "drive /dev/st0 1040 r1\n" + ONE_BLOCK + "connect\npump 1 9\n"
+    small = "drive /dev/st0 1040 r1\n" + ONE_BLOCK + "connect\npump 1 11\n"
     failed = "volume 1 failed: ReelTooSmall\n"
     yield stops("a bad line behind a failed attempt", small + "foo\n", "bad line", failed)
     yield stops("a line that is not possible behind a failed attempt", small + "\n# a\nconnect\n", "not possible", failed)
-    again = "retry\nconnect\npump {0} 9\n"
+    again = "retry\nconnect\npump {0} 11\n"
     text = small + again.format(2) + "end-server 1\n" + again.format(3)
     yield stops("behind three failed attempts", text + "enter\n", "not possible", failed + "volume 1 failed: Refused 16\n" + failed)
 
@@ -397,21 +474,24 @@ def of_worlds() -> Iterator[Vector]:
     yield stops("two connections of a client", drive + THREE_BLOCKS + "connect\nconnect\n")
     yield stops("a connection is cut twice", drive + "stranger\ncut 1\ncut 1\n")
     yield stops("a held drive is arranged", drive + THREE_BLOCKS + "connect\npump 1 1\narrange /dev/st0 r1\n")
-    yield stops("a drive held without its reel is arranged", drive + THREE_BLOCKS + "connect\npump 1 6\narrange /dev/st0 r1\n")
+    yield stops("a drive held without its reel is arranged", drive + THREE_BLOCKS + "connect\npump 1 10\narrange /dev/st0 r1\n")
     yield stops("no bytes are delivered", drive + THREE_BLOCKS + "connect\nsend\nto-server 1 0\n")
-    yield stops("an unfinished run is entered", drive + THREE_BLOCKS + "connect\npump 1 9\nenter\n")
-    yield stops("a run is entered twice", drive + run() + "connect\npump 1 9\nenter\nenter\n")
-    yield stops("a counted run is entered before its attempt ends", drive + run() + "connect\npump 1 5\nenter\n")
-    yield stops("an entered run is answered", drive + run() + "connect\npump 1 9\nenter\nretry\n")
+    yield stops("a byte of what a look shows is not there yet", looks_but_for_a_byte() + "send\n")
+    shown = NAMED["a counted reel is laid again"].text.decode().partition("end-server")[0]
+    yield stops("nothing is sent after a counted reel was shown", shown + "send\n", before="volume 2 failed: CountedReel 1\n")
+    yield stops("an unfinished run is entered", drive + THREE_BLOCKS + "connect\npump 1 11\nenter\n")
+    yield stops("a run is entered twice", drive + run() + "connect\npump 1 11\nenter\nenter\n")
+    yield stops("a counted run is entered before its attempt ends", drive + run() + "connect\npump 1 7\nenter\n")
+    yield stops("an entered run is answered", drive + run() + "connect\npump 1 11\nenter\nretry\n")
     yield stops("a second run", drive + run() + run())
     yield stops("nothing is kept without a run", drive + "save\n")
-    yield stops("an entered run is kept", drive + run() + "connect\npump 1 9\nenter\nsave\n")
-    yield stops("an entered run does not come back", drive + run() + "save\nconnect\npump 1 9\nsave\nenter\nrestart-client\nenter\n")
-    text = drive + run(device="/dev/st9") + "save\nconnect\npump 1 9\nabandon\n"
+    yield stops("an entered run is kept", drive + run() + "connect\npump 1 11\nenter\nsave\n")
+    yield stops("an entered run does not come back", drive + run() + "save\nconnect\npump 1 11\nsave\nenter\nrestart-client\nenter\n")
+    text = drive + run(device="/dev/st9") + "save\nconnect\npump 1 11\nabandon\n"
     yield stops("an abandoned run is kept", text + "save\n", before="volume 1 failed: Refused 2\n")
     yield stops("an abandoned run does not come back", text + "restart-client\nconnect\n", before="volume 1 failed: Refused 2\n")
-    yield stops("a run that a new one dropped does not come back", drive + run() + "connect\npump 1 9\nsave\n" + run() + "restart-client\nenter\n")
-    yield stops("a restart without a save", VECTORS[-2].text.decode().replace("save\n", "").partition("pump 3")[0])
+    yield stops("a run that a new one dropped does not come back", drive + run() + "connect\npump 1 11\nsave\n" + run() + "restart-client\nenter\n")
+    yield stops("a restart without a save", NAMED["a client restart after a save"].text.decode().replace("save\n", "").partition("pump 3")[0])
     yield stops("a run comes back without an attempt", drive + THREE_BLOCKS + "connect\nsave\nrestart-client\nsend\n")
 
 

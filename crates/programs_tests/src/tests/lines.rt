@@ -11,18 +11,27 @@ use rdump_talk::failure_line;
 use rmt_wire::Counted;
 use std::alloc::Global;
 
-/// Two blocks of two bytes, and no room for the third.
+/// A blank reel takes two blocks of two bytes, and has no room for the third.
 pub(super) const FULL: Replies = &[
-    b"A0\n", b"A1\n", b"A1024\n", b"A2\n", b"A2\n", b"A0\n", b"A1\n", b"A1\n", b"A0\n",
+    b"A0\n", b"A1\n", b"A0\n", b"A1\n", b"A1024\n", b"A2\n", b"A2\n", b"A0\n", b"A1\n", b"A1\n",
+    b"A0\n",
 ];
 
 /// One block, which is the last.
 pub(super) const LAST: Replies = &[
-    b"A0\n", b"A1\n", b"A1024\n", b"A2\n", b"A1\n", b"A1\n", b"A0\n",
+    b"A0\n", b"A1\n", b"A0\n", b"A1\n", b"A1024\n", b"A2\n", b"A1\n", b"A1\n", b"A0\n",
 ];
 
 /// A reel for the label alone.
-const SMALL: Replies = &[b"A0\n", b"A1\n", b"A1024\n", b"A0\n"];
+const SMALL: Replies = &[b"A0\n", b"A1\n", b"A0\n", b"A1\n", b"A1024\n", b"A0\n"];
+
+/// A reel that was counted: its first volume has these two blocks. The zero bytes of its label come in a piece of their own.
+const COUNTED: Replies = &[
+    b"A0\n",
+    b"A1\n",
+    b"A1024\nname /usr\nlevel 1\ndate 951868800\nsince 951782400\nvolume 1\nfirst 0\n",
+    &[0; 958],
+];
 
 /// A drive without a reel.
 pub(super) const EMPTY: Replies = &[b"E6\nDevice not configured\n"];
@@ -44,8 +53,8 @@ const UNENTERED: &[u8] =
     b"volume 1: 2 blocks from 0\nvolume 2: 1 blocks from 2\ndump complete: 2 volumes, 3 blocks\ndumpdates not updated\n";
 
 /// Two volumes, also where the dumpdates file became a bad one, and where it can't be read; an abandon; a retry, where the second
-/// connection is made after `yes`, and the third cannot be; and a reel that is too small.
-static ROWS: [Row; 6] = [
+/// connection is made after `yes`, and the third cannot be; a reel that is too small; and a counted reel that is laid again.
+static ROWS: [Row; 7] = [
     Row {
         connections: &[FULL, LAST],
         said: b"",
@@ -100,6 +109,15 @@ static ROWS: [Row; 6] = [
         fault: None,
         dates: b"",
     },
+    Row {
+        connections: &[FULL, COUNTED, LAST],
+        said: b"yes\n",
+        held: Ok(Some(OLD)),
+        printed: b"volume 1: 2 blocks from 0\nvolume 2 failed: CountedReel 1\nretry?\nvolume 2: 1 blocks from 2\ndump complete: 2 volumes, 3 blocks\n",
+        status: 0,
+        fault: None,
+        dates: ENTERED,
+    },
 ];
 
 /// Dumps over this peer, and enters the dump where it is complete. Whether it prints what the row says, with its status.
@@ -140,7 +158,9 @@ fn dumps_and_their_lines(rt: HostRuntime) {
 }
 
 #[test]
-fn a_failure(rt: HostRuntime) {
-    let line = failure_line(2, AttemptFault::Refused(16));
-    assert!(rt; line.as_str() == "volume 2 failed: Refused 16\n");
+fn failures(rt: HostRuntime) {
+    let refused = failure_line(2, AttemptFault::Refused(16));
+    assert!(rt; refused.as_str() == "volume 2 failed: Refused 16\n");
+    let counted = failure_line(2, AttemptFault::CountedReel(1));
+    assert!(rt; counted.as_str() == "volume 2 failed: CountedReel 1\n");
 }

@@ -3,8 +3,8 @@
 
 use super::play::Move::{Asks, AsksNot, At, Ends, Goes, Hears, Stands, Starts, Takes, Writes};
 use super::play::{Case, Move, USR, check_cases};
-use super::script::Volume::{FirstBlock, FirstTwo, LastTwo};
-use super::script::{ONE, TWO};
+use super::script::Volume::{FirstBlock, FirstTwo, LastBlock, LastTwo};
+use super::script::{ONE, TWO, TWO_AND_ONE};
 use dump_client::Progress::{Failed, Idle, Send, Waiting};
 use dump_client::{Answer, AttemptFault, State};
 use std::test::Fail;
@@ -14,19 +14,23 @@ const OPEN: usize = 0;
 
 const REWIND: usize = 1;
 
-const LABEL: usize = 2;
+const LOOK: usize = 2;
 
-const FIRST: usize = 3;
+const REWIND_AGAIN: usize = 3;
 
-const SECOND: usize = 4;
+const LABEL: usize = 4;
 
-const THIRD: usize = 5;
+const FIRST: usize = 5;
 
-const MARK: usize = 6;
+const SECOND: usize = 6;
 
-const UNLOAD: usize = 7;
+const THIRD: usize = 7;
 
-const CLOSE: usize = 8;
+const MARK: usize = 8;
+
+const UNLOAD: usize = 9;
+
+const CLOSE: usize = 10;
 
 /// Any number opens the device.
 const TO_THE_OPEN: &[Move] = &[
@@ -55,6 +59,13 @@ const TO_OPERATIONS: &[Move] = &[
         b"E28\nNo space left on device\n",
         Failed(AttemptFault::Refused(28)),
     ),
+    At(REWIND_AGAIN, b"A1\n", Send),
+    At(REWIND_AGAIN, b"A0\n", Failed(AttemptFault::Botched)),
+    At(
+        REWIND_AGAIN,
+        b"E5\nInput/output error\n",
+        Failed(AttemptFault::Refused(5)),
+    ),
     At(MARK, b"A1\n", Send),
     At(MARK, b"A0\n", Failed(AttemptFault::Botched)),
     At(
@@ -68,6 +79,78 @@ const TO_OPERATIONS: &[Move] = &[
         b"E5\nInput/output error\n",
         Failed(AttemptFault::Refused(5)),
     ),
+];
+
+/// The look wants at most 1,024 bytes of data. While nothing is counted it goes on at any.
+const TO_THE_LOOK: &[Move] = &[
+    Writes(FirstTwo),
+    At(LOOK, b"A0\n", Send),
+    At(LOOK, b"A3\nabc", Send),
+    At(LOOK, b"A0000000003\nabc", Send),
+    At(LOOK, b"A1024\nname /usr\n", Waiting),
+    At(LOOK, b"A3\nab", Waiting),
+    At(LOOK, b"A1025", Failed(AttemptFault::Botched)),
+    At(LOOK, b"A3\nabcd", Failed(AttemptFault::Botched)),
+    At(LOOK, b"A\n", Failed(AttemptFault::Botched)),
+    At(LOOK, b"X", Failed(AttemptFault::Botched)),
+    At(
+        LOOK,
+        b"E12\nCannot allocate memory\n",
+        Failed(AttemptFault::Refused(12)),
+    ),
+    At(
+        LOOK,
+        b"E28\nNo space left on device\n",
+        Failed(AttemptFault::Refused(28)),
+    ),
+];
+
+/// What follows the text of a label of these runs, of 58 bytes.
+const ZEROS: &[u8] = &[0; 966];
+
+/// The first volume is counted. A reel with its label fails the attempt; one with the label of another volume or block goes on,
+/// whether it was left by an attempt at this volume or not, and so does one with a part of the label.
+const COUNTED_LABELS: &[Move] = &[
+    Writes(FirstTwo),
+    Starts(Ok(())),
+    Goes(OPEN, 11),
+    Writes(LastBlock),
+    Starts(Ok(())),
+    Goes(OPEN, LOOK),
+    Asks(LOOK),
+    Hears(
+        b"A1024\nname /usr\nlevel 0\ndate 951782400\nsince 0\nvolume 1\nfirst 0\n",
+        Waiting,
+    ),
+    Hears(ZEROS, Failed(AttemptFault::CountedReel(1))),
+    Stands(State::Asking, &[TWO], (2, 2)),
+    AsksNot(Ok(false)),
+    Takes(Answer::Retry, Ok(())),
+    Starts(Ok(())),
+    Goes(OPEN, LOOK),
+    Asks(LOOK),
+    Hears(
+        b"A1024\nname /usr\nlevel 0\ndate 951782400\nsince 0\nvolume 1\nfirst 2\n",
+        Waiting,
+    ),
+    Hears(ZEROS, Send),
+    Ends(Failed(AttemptFault::ConnectionEnded)),
+    Takes(Answer::Retry, Ok(())),
+    At(
+        LOOK,
+        b"A58\nname /usr\nlevel 0\ndate 951782400\nsince 0\nvolume 1\nfirst 0\n",
+        Send,
+    ),
+    Starts(Ok(())),
+    Goes(OPEN, LOOK),
+    Asks(LOOK),
+    Hears(
+        b"A1024\nname /usr\nlevel 0\ndate 951782400\nsince 0\nvolume 2\nfirst 2\n",
+        Waiting,
+    ),
+    Hears(ZEROS, Send),
+    Goes(REWIND_AGAIN, 9),
+    Stands(State::Finished, TWO_AND_ONE, (3, 3)),
 ];
 
 /// A reel that has no room for the label or for the volume's first block is too small.
@@ -140,7 +223,7 @@ const COUNTS_TWO: &[Move] = &[
 const CUT: &[Move] = &[
     Writes(FirstBlock),
     Starts(Ok(())),
-    Goes(0, 8),
+    Goes(0, 10),
     Writes(LastTwo),
     Starts(Ok(())),
     Goes(0, REWIND),
@@ -171,7 +254,7 @@ const CUT: &[Move] = &[
 const BEFORE_A_REQUEST: &[Move] = &[
     Writes(FirstBlock),
     Starts(Ok(())),
-    Goes(0, 8),
+    Goes(0, 10),
     Writes(LastTwo),
     Starts(Ok(())),
     Goes(0, REWIND),
@@ -223,7 +306,7 @@ const TO_THE_REWIND: &[Move] = &[
     Stands(State::Asking, &[], (1, 0)),
 ];
 
-static CASES: [Case; 9] = [
+static CASES: [Case; 11] = [
     Case {
         name: "replies to the open",
         dumped: USR,
@@ -235,6 +318,18 @@ static CASES: [Case; 9] = [
         dumped: USR,
         blocks: 3,
         moves: TO_OPERATIONS,
+    },
+    Case {
+        name: "replies to the look",
+        dumped: USR,
+        blocks: 3,
+        moves: TO_THE_LOOK,
+    },
+    Case {
+        name: "labels of counted volumes, and others",
+        dumped: USR,
+        blocks: 3,
+        moves: COUNTED_LABELS,
     },
     Case {
         name: "replies to the label and the first block",

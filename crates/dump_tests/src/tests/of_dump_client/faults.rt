@@ -4,7 +4,7 @@ use dump_client::AttemptFault;
 use std::alloc::Global;
 use std::test::Fail;
 
-static NAMES: [(AttemptFault, &str); 7] = [
+static NAMES: [(AttemptFault, &str); 8] = [
     (AttemptFault::Refused(16), "Refused 16"),
     (AttemptFault::Botched, "Botched"),
     (AttemptFault::ConnectionEnded, "ConnectionEnded"),
@@ -12,6 +12,7 @@ static NAMES: [(AttemptFault, &str); 7] = [
     (AttemptFault::ReelTooSmall, "ReelTooSmall"),
     (AttemptFault::SourceFault, "SourceFault"),
     (AttemptFault::OutOfMemory, "OutOfMemory"),
+    (AttemptFault::CountedReel(1), "CountedReel 1"),
 ];
 
 /// Whether the fault is printed as this name.
@@ -20,7 +21,7 @@ fn is_named(alloc: Global, fault: AttemptFault, name: &str) -> Result<bool, Fail
     Ok(printed.as_str() == name)
 }
 
-/// The number stands with `Refused` alone.
+/// A number stands with `Refused` and `CountedReel` alone.
 #[test]
 fn names_of_attempt_faults(rt: HostRuntime) -> Result<(), Fail> {
     for (fault, name) in &NAMES {

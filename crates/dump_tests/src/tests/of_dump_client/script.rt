@@ -88,6 +88,9 @@ const OPEN: Step = (b"O/dev/st0\n2\n", NONE, b"A0\n", Send);
 
 const REWIND: Step = (b"I5\n1\n", NONE, b"A1\n", Send);
 
+/// A blank reel has no record to show.
+const LOOK: Step = (b"R1024\n", NONE, b"A0\n", Send);
+
 const MARK: Step = (b"I0\n1\n", NONE, b"A1\n", Send);
 
 const UNLOAD: Step = (b"I6\n1\n", NONE, b"A1\n", Send);
@@ -132,7 +135,7 @@ const BLOCK_2_REFUSED: Step = (b"W1024\n", (2, 1024), b"A0\n", Send);
 static NO_BLOCKS: Script = Script {
     counted: &[],
     next: (1, 0),
-    steps: &[OPEN, REWIND, LABEL, MARK, UNLOAD, CLOSE],
+    steps: &[OPEN, REWIND, LOOK, REWIND, LABEL, MARK, UNLOAD, CLOSE],
 };
 
 static FIRST_BLOCK: Script = Script {
@@ -140,6 +143,8 @@ static FIRST_BLOCK: Script = Script {
     next: (1, 0),
     steps: &[
         OPEN,
+        REWIND,
+        LOOK,
         REWIND,
         LABEL,
         BLOCK_0,
@@ -156,6 +161,8 @@ static FIRST_TWO: Script = Script {
     steps: &[
         OPEN,
         REWIND,
+        LOOK,
+        REWIND,
         LABEL,
         BLOCK_0,
         BLOCK_1,
@@ -170,7 +177,7 @@ static ALL_THREE: Script = Script {
     counted: &[],
     next: (1, 0),
     steps: &[
-        OPEN, REWIND, LABEL, BLOCK_0, BLOCK_1, BLOCK_2, MARK, UNLOAD, CLOSE,
+        OPEN, REWIND, LOOK, REWIND, LABEL, BLOCK_0, BLOCK_1, BLOCK_2, MARK, UNLOAD, CLOSE,
     ],
 };
 
@@ -179,6 +186,8 @@ static LAST_TWO: Script = Script {
     next: (2, 1),
     steps: &[
         OPEN,
+        REWIND,
+        LOOK,
         REWIND,
         LABEL_FROM_1,
         BLOCK_1,
@@ -192,7 +201,17 @@ static LAST_TWO: Script = Script {
 static LAST_BLOCK: Script = Script {
     counted: &[TWO],
     next: (2, 2),
-    steps: &[OPEN, REWIND, LABEL_FROM_2, BLOCK_2, MARK, UNLOAD, CLOSE],
+    steps: &[
+        OPEN,
+        REWIND,
+        LOOK,
+        REWIND,
+        LABEL_FROM_2,
+        BLOCK_2,
+        MARK,
+        UNLOAD,
+        CLOSE,
+    ],
 };
 
 static OTHER_REPLIES: Script = Script {
@@ -201,6 +220,8 @@ static OTHER_REPLIES: Script = Script {
     steps: &[
         (b"O/dev/st0\n2\n", NONE, b"A7\n", Send),
         (b"I5\n1\n", NONE, b"A0000000001\n", Send),
+        (b"R1024\n", NONE, b"A5\nhello", Send),
+        REWIND,
         LABEL,
         (b"W1024\n", (0, 1024), b"A01024\n", Send),
         BLOCK_1,
@@ -232,6 +253,8 @@ static SMALL_BLOCKS: Script = Script {
     steps: &[
         OTHER_OPEN,
         REWIND,
+        LOOK,
+        REWIND,
         OTHER_LABEL,
         (b"W3\n", (0, 3), b"A3\n", Send),
         (b"W3\n", (1, 3), b"A3\n", Send),
@@ -246,6 +269,8 @@ static GREATEST_BLOCKS: Script = Script {
     next: (1, 0),
     steps: &[
         OTHER_OPEN,
+        REWIND,
+        LOOK,
         REWIND,
         OTHER_LABEL,
         (b"W65536\n", (0, 65536), b"A65536\n", Send),

@@ -7,11 +7,13 @@ use std::alloc::{AllocError, Global};
 /// How the requests of a volume end: with both blocks and all after them.
 const LAST: &[u8] = b"W4\nabcdW4\nefghI0\n1\nI6\n1\nC\n";
 
-/// The reply to a request: the bytes of the label, which is written in a request of 1,030 bytes, or those of a block; and 1.
+/// The reply to a request: the bytes of the label, which is written in a request of 1,030 bytes, or
+/// those of a block; none to the look, which has 6; and 1.
 fn reply_to(request: &[u8]) -> &'static [u8] {
     match request.len() {
         1030 => b"A1024\n",
         7 => b"A4\n",
+        6 => b"A0\n",
         _ => b"A1\n",
     }
 }
@@ -48,7 +50,7 @@ fn dump_is_met(alloc: Global, client: &mut Client<ListBlocks>) -> bool {
     dump(alloc, client, &mut tape) == Ok(())
         && client.state() == State::Finished
         && client.checkpoint() == (2, 2)
-        && tape.heard.len() == 1073
+        && tape.heard.len() == 1084
         && tape.heard.as_slice().ends_with(LAST)
 }
 

@@ -30,11 +30,11 @@ impl Write for Failing<'_> {
 const TEXT: &[u8] = b"drive /dev/st0 1040 r1\n\
 run /dev/st0 /usr 0 951782400 0 1024 1\n\
 connect\n\
-pump 1 9\n\
+pump 1 11\n\
 end-server 1\n\
 retry\n\
 connect\n\
-pump 2 9\n\
+pump 2 11\n\
 connect\n";
 
 /// A schedule, how many writes are taken, what was printed then, and the status with the number of failures. The first

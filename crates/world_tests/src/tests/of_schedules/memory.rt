@@ -6,13 +6,13 @@ use std::test::Fail;
 const TEXT: &[u8] = b"drive /dev/st0 3100 r1\n\
 run /dev/st0 /usr 0 951782400 0 1024 1\n\
 connect\n\
-pump 1 9\n\
+pump 1 11\n\
 save\n\
 restart-client\n\
 arrange /dev/st0 r1\n\
 stranger\n\
 says 2 4f2f6465762f7374300a320a\n\
-pump 2 9\n\
+pump 2 11\n\
 enter\n";
 
 const PRINTED: &[u8] = b"reel r1 R1024 R1024 M\n\

@@ -3,13 +3,13 @@
 use super::fixture::{Case, check_cases};
 use std::test::Fail;
 
-static RUNS: [Case; 16] = [
+static RUNS: [Case; 17] = [
     // The answer to MTOFFL is lost: the first reel has a whole volume and is not counted.
     Case {
         text: b"drive /dev/st0 3100 r1 r2 r3\n\
     run /dev/st0 /usr 0 951782400 0 1024 3\n\
     connect\n\
-    pump 1 7\n\
+    pump 1 9\n\
     send\n\
     to-server 1 all\n\
     serve 1\n\
@@ -18,9 +18,9 @@ static RUNS: [Case; 16] = [
     end-server 1\n\
     retry\n\
     connect\n\
-    pump 2 9\n\
+    pump 2 11\n\
     connect\n\
-    pump 3 9\n\
+    pump 3 11\n\
     enter\n",
         printed: b"volume 1 failed: ConnectionEnded\n\
     reel r1 R1024 R1024 R1024 M\n\
@@ -39,7 +39,7 @@ static RUNS: [Case; 16] = [
         text: b"drive /dev/st0 3100 r1 r2\n\
     run /dev/st0 /usr 0 951782400 0 1024 3\n\
     connect\n\
-    pump 1 3\n\
+    pump 1 5\n\
     cut 1\n\
     end-client 1\n\
     retry\n\
@@ -48,7 +48,7 @@ static RUNS: [Case; 16] = [
     end-server 1\n\
     retry\n\
     connect\n\
-    pump 3 9\n",
+    pump 3 11\n",
         printed: b"volume 1 failed: ConnectionEnded\n\
     volume 1 failed: Refused 16\n\
     reel r1 R1024 R1024 R1024 M\n\
@@ -64,7 +64,7 @@ static RUNS: [Case; 16] = [
         text: b"drive /dev/st0 1040 r1\n\
     run /dev/st0 /usr 0 951782400 0 1024 1\n\
     connect\n\
-    pump 1 9\n",
+    pump 1 11\n",
         printed: b"volume 1 failed: ReelTooSmall\n\
     reel r1 R1024\n\
     stack /dev/st0 r1\n\
@@ -77,7 +77,7 @@ static RUNS: [Case; 16] = [
         text: b"drive /dev/st0 1040 r1\n\
     run /dev/st0 /usr 0 951782400 0 1024 0\n\
     connect\n\
-    pump 1 9\n",
+    pump 1 11\n",
         printed: b"reel r1 R1024 M\n\
     stack /dev/st0\n\
     bin r1\n\
@@ -90,7 +90,7 @@ static RUNS: [Case; 16] = [
         text: b"drive /dev/st0 3100 r1\n\
     run /dev/st0 /usr 0 951782400 0 1024 1\n\
     connect\n\
-    pump 1 2\n\
+    pump 1 4\n\
     send\n\
     to-server 1 all\n\
     serve 1 written 1\n\
@@ -107,7 +107,7 @@ static RUNS: [Case; 16] = [
         text: b"drive /dev/st0 3100 r1\n\
     run /dev/st0 /usr 0 951782400 0 1024 1\n\
     connect\n\
-    pump 1 2\n\
+    pump 1 4\n\
     send\n\
     to-server 1 all\n\
     serve 1 written 4294967296\n",
@@ -127,7 +127,7 @@ static RUNS: [Case; 16] = [
     abandon\n\
     run /dev/st0 /home 0 951782400 0 1024 1\n\
     connect\n\
-    pump 2 9\n\
+    pump 2 11\n\
     enter\n",
         printed: b"volume 1 failed: ConnectionEnded\n\
     reel r1 R1024 R1024 M\n\
@@ -143,7 +143,7 @@ static RUNS: [Case; 16] = [
         text: b"drive /dev/st0 3100 r1\n\
     stranger\n\
     says 1 4f2f6465762f7374300a320a57350a68656c\n\
-    pump 1 9\n\
+    pump 1 11\n\
     cut 1\n\
     end-server 1\n",
         printed: b"reel r1\n\
@@ -157,11 +157,11 @@ static RUNS: [Case; 16] = [
         text: b"drive /dev/st0 3100 r1\n\
     run /dev/st0 /usr 0 951782400 0 1024 1\n\
     connect\n\
-    pump 1 9\n\
+    pump 1 11\n\
     arrange /dev/st0 r1\n\
     stranger\n\
     says 2 4f2f6465762f7374300a320a57310a78\n\
-    pump 2 9\n\
+    pump 2 11\n\
     cut 2\n\
     end-server 2\n",
         printed: b"reel r1 R1\n\
@@ -176,14 +176,14 @@ static RUNS: [Case; 16] = [
         text: b"drive /dev/st0 3100 r1 r2\n\
     run /dev/st0 /usr 0 951782400 0 1024 3\n\
     connect\n\
-    pump 1 3\n\
+    pump 1 5\n\
     restart-server\n\
     end-client 1\n\
     retry\n\
     connect\n\
-    pump 2 9\n\
+    pump 2 11\n\
     connect\n\
-    pump 3 9\n",
+    pump 3 11\n",
         printed: b"volume 1 failed: ConnectionEnded\n\
     reel r1 R1024 R1024 R1024 M\n\
     reel r2 R1024 R1024 M\n\
@@ -199,14 +199,14 @@ static RUNS: [Case; 16] = [
         text: b"drive /dev/st0 3100 r1 r2 r3\n\
     run /dev/st0 /usr 0 951782400 0 1024 3\n\
     connect\n\
-    pump 1 9\n\
+    pump 1 11\n\
     save\n\
     connect\n\
-    pump 2 4\n\
+    pump 2 6\n\
     restart-client\n\
     end-server 2\n\
     connect\n\
-    pump 3 9\n\
+    pump 3 11\n\
     enter\n",
         printed: b"reel r1 R1024 R1024 R1024 M\n\
     reel r2 R1024 R1024 M\n\
@@ -224,13 +224,13 @@ static RUNS: [Case; 16] = [
         text: b"drive /dev/st0 3100 r1 r2 r3\n\
     run /dev/st0 /usr 0 951782400 0 1024 3\n\
     connect\n\
-    pump 1 9\n\
+    pump 1 11\n\
     connect\n\
-    pump 2 4\n\
+    pump 2 6\n\
     restart-client\n\
     end-server 2\n\
     connect\n\
-    pump 3 9\n\
+    pump 3 11\n\
     enter\n",
         printed: b"line 9: not possible\n",
         status: 1,
@@ -241,12 +241,12 @@ static RUNS: [Case; 16] = [
     run /dev/st0 /usr 0 951782400 0 1024 3\n\
     save\n\
     connect\n\
-    pump 1 9\n\
+    pump 1 11\n\
     restart-client\n\
     connect\n\
-    pump 2 9\n\
+    pump 2 11\n\
     connect\n\
-    pump 3 9\n\
+    pump 3 11\n\
     enter\n",
         printed: b"reel r1 R1024 R1024 R1024 M\n\
     reel r2 R1024 R1024 R1024 M\n\
@@ -260,12 +260,36 @@ static RUNS: [Case; 16] = [
     /usr                             0 Tue Feb 29 00:00:00 2000\n",
         status: 0,
     },
+    // A counted reel is laid on the stack again: the run that counted it does not write on it.
+    Case {
+        text: b"drive /dev/st0 3100 r1 r2\n\
+    run /dev/st0 /usr 0 951782400 0 1024 3\n\
+    connect\n\
+    pump 1 11\n\
+    arrange /dev/st0 r1 r2\n\
+    connect\n\
+    pump 2 9\n\
+    end-server 2\n\
+    retry\n\
+    arrange /dev/st0 r2\n\
+    connect\n\
+    pump 3 9\n",
+        printed: b"volume 2 failed: CountedReel 1\n\
+    reel r1 R1024 R1024 R1024 M\n\
+    reel r2 R1024 R1024 M\n\
+    stack /dev/st0\n\
+    bin r1 r2\n\
+    counted 1 1 0 2 r1\n\
+    counted 1 2 2 1 r2\n\
+    dumpdates\n",
+        status: 0,
+    },
     // A run that is entered is not kept.
     Case {
         text: b"drive /dev/st0 3100 r1\n\
     run /dev/st0 /usr 0 951782400 0 1024 1\n\
     connect\n\
-    pump 1 9\n\
+    pump 1 11\n\
     enter\n\
     save\n",
         printed: b"line 6: not possible\n",

@@ -19,9 +19,12 @@ static DRIVES: [DriveSpec<'static>; 1] = [DriveSpec {
 /// A request of an attempt: how many bytes it has, and how many its answer has.
 type Round = (usize, usize);
 
-/// The first attempt: open, rewind, label, two blocks, a third that has no room, mark, move to the bin, close.
-static FIRST_ATTEMPT: [Round; 9] = [
+/// The first attempt: open, rewind, a look at a blank reel, rewind, label, two blocks, a third that
+/// has no room, mark, move to the bin, close.
+static FIRST_ATTEMPT: [Round; 11] = [
     (12, 3),
+    (5, 3),
+    (6, 3),
     (5, 3),
     (1030, 6),
     (1030, 6),
@@ -32,9 +35,11 @@ static FIRST_ATTEMPT: [Round; 9] = [
     (2, 3),
 ];
 
-/// The second: open, rewind, label, the third block, mark, move to the bin, close.
-static SECOND_ATTEMPT: [Round; 7] = [
+/// The second: open, rewind, a look at a blank reel, rewind, label, the third block, mark, move to the bin, close.
+static SECOND_ATTEMPT: [Round; 9] = [
     (12, 3),
+    (5, 3),
+    (6, 3),
     (5, 3),
     (1030, 6),
     (1030, 6),
@@ -268,7 +273,7 @@ fn first_count(world: &World) -> Option<(&[u8], usize)> {
 fn holds_the_drive(cut: &Cut) -> bool {
     let whole = &FIRST_ATTEMPT;
     let (opened, _) = whole[0];
-    let moved = answered(&whole[..8]);
+    let moved = answered(&whole[..10]);
     match cut.to_server {
         true => (opened..sent(whole)).contains(&cut.count),
         false => cut.count < moved,
@@ -285,9 +290,9 @@ fn later_connection(cut: &Cut) -> usize {
 /// The reel that the first volume has to be on, and the connection that has to have counted it, by the bytes that came before the cut of
 /// the first attempt. It is counted once the move to the bin is answered; carried out and not answered, it leaves the reel uncounted.
 fn foretold(cut: &Cut) -> (&'static [u8], usize) {
-    let moved = sent(&FIRST_ATTEMPT[..8]);
-    let marked = answered(&FIRST_ATTEMPT[..7]);
-    let counted = answered(&FIRST_ATTEMPT[..8]);
+    let moved = sent(&FIRST_ATTEMPT[..10]);
+    let marked = answered(&FIRST_ATTEMPT[..9]);
+    let counted = answered(&FIRST_ATTEMPT[..10]);
     match (cut.to_server, cut.count) {
         (true, count) if count >= moved => (b"r1", 1),
         (false, count) if count >= counted => (b"r1", 1),
@@ -367,7 +372,7 @@ fn wrong_cut(
 #[test]
 fn cuts_on_the_way_to_the_server(rt: HostRuntime) -> Result<(), Fail> {
     let total = sent(&FIRST_ATTEMPT);
-    assert!(rt; total == 4149);
+    assert!(rt; total == 4160);
     let wrong = wrong_cut(rt.alloc(), 1, true, total)?;
     assert!(rt; wrong.is_none(), "{wrong:?}");
     Ok(())
@@ -376,7 +381,7 @@ fn cuts_on_the_way_to_the_server(rt: HostRuntime) -> Result<(), Fail> {
 #[test]
 fn cuts_of_the_second_attempt(rt: HostRuntime) -> Result<(), Fail> {
     let total = sent(&SECOND_ATTEMPT);
-    assert!(rt; total == 2089);
+    assert!(rt; total == 2100);
     let wrong = wrong_cut(rt.alloc(), 2, true, total)?;
     assert!(rt; wrong.is_none(), "{wrong:?}");
     Ok(())
@@ -385,7 +390,7 @@ fn cuts_of_the_second_attempt(rt: HostRuntime) -> Result<(), Fail> {
 #[test]
 fn cuts_of_the_answers(rt: HostRuntime) -> Result<(), Fail> {
     let totals = (answered(&FIRST_ATTEMPT), answered(&SECOND_ATTEMPT));
-    assert!(rt; totals == (36, 27));
+    assert!(rt; totals == (42, 33));
     let first = wrong_cut(rt.alloc(), 1, false, totals.0)?;
     let second = wrong_cut(rt.alloc(), 2, false, totals.1)?;
     assert!(rt; (first, second) == (None, None), "{first:?} {second:?}");

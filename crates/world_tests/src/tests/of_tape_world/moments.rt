@@ -52,6 +52,9 @@ const OPEN: (usize, usize) = (12, 3);
 
 const REWIND: (usize, usize) = (5, 3);
 
+/// A look at a blank reel.
+const LOOK: (usize, usize) = (6, 3);
+
 const LABEL: (usize, usize) = (1030, 6);
 
 const BLOCK: (usize, usize) = (1030, 6);
@@ -162,12 +165,13 @@ static MOMENTS: [Moment; 23] = [
         client: Some((State::ToSend, (1, 0), &[])),
         failure: None,
     },
-    // The tape is rewound, a label and two blocks are written, the third has no room, and there is a mark.
+    // The tape is rewound and is blank, a label and two blocks are written, the third has no room, and
+    // there is a mark.
     Moment {
         starts: false,
         lines: &[],
         connection: 1,
-        rounds: &[REWIND, LABEL, BLOCK, BLOCK, REFUSED, MARK],
+        rounds: &[REWIND, LOOK, REWIND, LABEL, BLOCK, BLOCK, REFUSED, MARK],
         own: Some(1),
         way: Some((0, 0)),
         online: Some(Some(0)),
@@ -227,7 +231,7 @@ static MOMENTS: [Moment; 23] = [
         starts: false,
         lines: &[Line::Connect],
         connection: 2,
-        rounds: &[OPEN, REWIND, LABEL, BLOCK, MARK],
+        rounds: &[OPEN, REWIND, LOOK, REWIND, LABEL, BLOCK, MARK],
         own: Some(2),
         way: Some((0, 0)),
         online: Some(Some(0)),
