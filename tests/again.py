@@ -280,6 +280,16 @@ def between(p: Programs) -> None:
         check(f"{title}: the other reel is empty", it.reels() == ({"r1": FIRST, "r2": b""}, {}), it.reels()[0].keys())
 
 
+def gives_way(title: str, it: Site, run: Dump, lines: list[str], laid: File | None) -> None:
+    """The attempt failed by the counted reel, which is as it was laid; it is taken away, and the dump is complete on another one."""
+    check(f"{title}: the attempt fails", lines == [COUNTED_REEL, ASKED], lines, it.told())
+    stays(title, it, "r1", laid)
+    tells_what_to_do(title, it)
+    check(f"{title}: the reel is taken away", it.goes_offline())
+    it.put("r2")
+    completes(title, it, run, run.answer("yes"), BOTH)
+
+
 def at_the_question(p: Programs) -> None:
     """The stack is empty after the first volume, and the operator lays the reel back that was counted; then another one."""
     title = "at the question"
@@ -289,13 +299,7 @@ def at_the_question(p: Programs) -> None:
         check(f"{title}: the drive is free", it.is_free())
         it.lay_back("r1")
         laid = file_of(it.stack / "r1")
-        lines = run.answer("yes")
-        check(f"{title}: the attempt fails", lines == [COUNTED_REEL, ASKED], lines, it.told())
-        stays(title, it, "r1", laid)
-        tells_what_to_do(title, it)
-        check(f"{title}: the reel is taken away", it.goes_offline())
-        it.put("r2")
-        completes(title, it, run, run.answer("yes"), BOTH)
+        gives_way(title, it, run, run.answer("yes"), laid)
 
 
 def stopped(p: Programs, it: Site, title: str) -> None:
@@ -316,13 +320,7 @@ def by_a_checkpoint(p: Programs) -> None:
         it.lay_back("r1")
         laid = file_of(it.stack / "r1")
         with it.dump("--checkpoint", CHECKPOINT) as run:
-            lines = run.said()
-            check(f"{title}: the attempt fails", lines == [COUNTED_REEL, ASKED], lines, it.told())
-            stays(title, it, "r1", laid)
-            tells_what_to_do(title, it)
-            check(f"{title}: the reel is taken away", it.goes_offline())
-            it.put("r2")
-            completes(title, it, run, run.answer("yes"), BOTH)
+            gives_way(title, it, run, run.said(), laid)
         check(f"{title}: the file is gone", not (it.p.folder / CHECKPOINT).exists())
     title = "a new dump with the same words, and no file"
     with site(p, "r1") as it:
