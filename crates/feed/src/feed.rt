@@ -31,12 +31,12 @@ impl Kind {
 /// One request or reply of this kind, as it is sent.
 fn text(alloc: Global, kind: Kind) -> Result<Vec<u8>, AllocError> {
     let (line, end): (&[u8], &[u8]) = match kind {
-        Kind::Requests => (b"W65536\n", b""),
-        Kind::Replies => (b"A65536\n", b""),
+        Kind::Requests => (b"W262144\n", b""),
+        Kind::Replies => (b"A262144\n", b""),
         Kind::Errors => (b"E5\n", b"\n"),
     };
     let mut text = Vec::from_slice(alloc, line)?;
-    text.extend_from_slice(&[b'x'; RECORD_LIMIT])?;
+    text.resize(line.len() + RECORD_LIMIT, b'x')?;
     text.extend_from_slice(end)?;
     Ok(text)
 }

@@ -16,11 +16,11 @@ use Rattle.rmt_wire.proofs.Spellings.{number_is_seen, length_line, write_seen, w
 use Rattle.rmt_wire.proofs.Fronts.{digits_spell}
 use Rattle.rmt_wire.proofs.Giving.{gives, room, answer_to, rest_behind}
 
-chosen : {A : Type 0} (b : Bool) (x y z : A) → cond b x y ≡ z → ((b ≡ true) × (x ≡ z)) ⊎ ((b ≡ false) × (y ≡ z))
+pub chosen : {A : Type 0} (b : Bool) (x y z : A) → cond b x y ≡ z → ((b ≡ true) × (x ≡ z)) ⊎ ((b ≡ false) × (y ≡ z))
 chosen true x y z e = inl (refl, e)
 chosen false x y z e = inr (refl, e)
 
-some_same : {A : Type 0} (x y : A) → Some x ≡ Some y → x ≡ y
+pub some_same : {A : Type 0} (x y : A) → Some x ≡ Some y → x ≡ y
 some_same x y e = cc
 
 long_write : (bytes : List ℕ) (seen : Seen (ℕ × ℕ)) (line : ℕ × ℕ) → NumberView places.Line 0 0 bytes seen → dropped_if_long seen ≡ Some line → IsDroppedLine (87 ∷ bytes) line.0 line.1
@@ -69,20 +69,23 @@ dropped_seen number rest n s great =
     ap dropped_if_long (number_is_seen places.Line number n line_feed rest s refl refl) ∙ ap (λ b. cond b (Some (length number + 2, n)) None) large
 
 -- the line is what is kept in front, and the rest is behind it
-pub line_split : (bytes : List ℕ) (line : ℕ × ℕ) (d : IsDroppedLine bytes line.0 line.1) → (drop line.0 bytes ≡ d.rest) × ((more : List ℕ) → take line.0 bytes ++ more ≡ 87 ∷ (d.number ++ line_feed ∷ more)) × (line.0 ≤ length bytes)
-line_split bytes line d =
-    let size = length_line 87 d.number d.rest in
-    let long = d.long in
-    let all = ap (length {A = ℕ}) d.split in
-    let front : bytes ≡ (87 ∷ (d.number ++ line_feed ∷ [])) ++ d.rest = d.split ∙ ap (λ l. 87 ∷ l) (sym (append_assoc d.number (line_feed ∷ []) d.rest)) in
-    let line_size : length (87 ∷ (d.number ++ line_feed ∷ [])) ≡ line.0 = omega (arith, length_line 87 d.number []) in (
-      ap (drop line.0) front ∙ drop_at (87 ∷ (d.number ++ line_feed ∷ [])) d.rest line.0 line_size,
+pub text_split : (bytes number rest : List ℕ) (len : ℕ) → bytes ≡ 87 ∷ (number ++ line_feed ∷ rest) → len ≡ length number + 2
+    → (drop len bytes ≡ rest) × ((more : List ℕ) → take len bytes ++ more ≡ 87 ∷ (number ++ line_feed ∷ more)) × (len ≤ length bytes)
+text_split bytes number rest len split long =
+    let size = length_line 87 number rest in
+    let all = ap (length {A = ℕ}) split in
+    let front : bytes ≡ (87 ∷ (number ++ line_feed ∷ [])) ++ rest = split ∙ ap (λ l. 87 ∷ l) (sym (append_assoc number (line_feed ∷ []) rest)) in
+    let line_size : length (87 ∷ (number ++ line_feed ∷ [])) ≡ len = omega (arith, length_line 87 number []) in (
+      ap (drop len) front ∙ drop_at (87 ∷ (number ++ line_feed ∷ [])) rest len line_size,
       λ more.
-          ap (λ l. take line.0 l ++ more) front
-          ∙ ap (λ l. l ++ more) (take_at (87 ∷ (d.number ++ line_feed ∷ [])) d.rest line.0 line_size)
-          ∙ ap (λ l. 87 ∷ l) (append_assoc d.number (line_feed ∷ []) more),
+          ap (λ l. take len l ++ more) front
+          ∙ ap (λ l. l ++ more) (take_at (87 ∷ (number ++ line_feed ∷ [])) rest len line_size)
+          ∙ ap (λ l. 87 ∷ l) (append_assoc number (line_feed ∷ []) more),
       omega arith,
     )
+
+pub line_split : (bytes : List ℕ) (line : ℕ × ℕ) (d : IsDroppedLine bytes line.0 line.1) → (drop line.0 bytes ≡ d.rest) × ((more : List ℕ) → take line.0 bytes ++ more ≡ 87 ∷ (d.number ++ line_feed ∷ more)) × (line.0 ≤ length bytes)
+line_split bytes line d = text_split bytes d.number d.rest line.0 d.split d.long
 
 -- another text behind the line changes nothing of what is found
 pub line_stays : (bytes : List ℕ) (line : ℕ × ℕ) → dropped_line bytes ≡ Some line → (more : List ℕ) → dropped_line (take line.0 bytes ++ more) ≡ Some line

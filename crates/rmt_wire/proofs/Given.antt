@@ -1,11 +1,10 @@
 -- The requests that a reader has given of all that was pushed to it.
-use Rattle.std.proofs.Common.{◌≡◌, ℕ, List, [], ◌∷◌, ◌++◌, ◌≤◌, min, length, take, Option, Some, None, Result, Ok, Err, refl, sym, ap, subst, ◌∙◌, append_assoc, append-nil, arith, ◌+◌}
+use Rattle.std.proofs.Common.{◌≡◌, ℕ, List, [], ◌∷◌, ◌++◌, length, Option, Some, None, Result, Ok, Err, refl, sym, ap, subst, ◌∙◌, append_assoc, append-nil, ◌+◌}
 use Rattle.std.proofs.lemmas.Grind.{flat_map-append}
 use Rattle.std.proofs.KnownBytes.{Appends-trans}
 use Rattle.std.specs.List.{flat_map}
-use Rattle.std.proofs.Math.Seq.{take-length, take-append-add}
-use Rattle.std.proofs.lemmas.List.{take-append-le, length-take-le}
-use Rattle.std.specs.Io.KnownBytes.{Appends, Consumes, Keeps}
+use Rattle.std.proofs.Math.Seq.{take-append-add}
+use Rattle.std.specs.Io.KnownBytes.{Appends}
 use Rattle.rmt_wire.specs.ReplyWriter.{AppendsBeginning}
 use Rattle.rmt_wire.specs.declared.request.Request.{Request}
 use Rattle.rmt_wire.specs.Request.{PlainRequest}
@@ -23,25 +22,6 @@ spelled_more bytes rest more (r ∷ requests) s =
 pub spelled_then : (bytes rest later : List ℕ) (requests others : List PlainRequest) → Spelled bytes requests rest → Spelled rest others later → Spelled bytes (requests ++ others) later
 spelled_then bytes rest later [] others s t = subst (λ b. Spelled b others later) (sym s) t
 spelled_then bytes rest later (r ∷ requests) others s t = (s.0, s.1, s.2, s.3, spelled_then s.1 rest later requests others s.4 t)
-
--- what was read is pushed whole, where there is room for it
-pub taken_whole : (taken room count : ℕ) (buf more : List ℕ) → count ≤ length buf → length buf ≤ room → taken ≡ min (length (take count (buf ++ more))) room
-    → take taken (take count (buf ++ more)) ≡ take count buf
-taken_whole taken room count buf more within fits n =
-    let t = take-append-le count buf more within in
-    let l = length-take-le count buf within in
-    let m : taken ≡ min (length (take count buf)) room = subst (λ x. taken ≡ min (length x) room) t n in
-    let e : taken ≡ length (take count buf) = omega arith in
-    subst (λ x. take taken x ≡ take count buf) (sym t) (subst (λ j. take j (take count buf) ≡ take count buf) (sym e) (take-length (take count buf)))
-
--- nothing was read
-nothing_kept : (left left' : Option (List ℕ)) → Consumes left left' [] → Keeps left left'
-nothing_kept None left' p = tt
-nothing_kept (Some xs) None p = absurd p
-nothing_kept (Some xs) (Some ys) p = sym p
-
-pub nothing_came : (left left' : Option (List ℕ)) (count : ℕ) (buf : List ℕ) → count ≡ 0 → Consumes left left' (take count buf) → Keeps left left'
-nothing_came left left' count buf e p = nothing_kept left left' (subst (λ n. Consumes left left' (take n buf)) e p)
 
 -- the answers to the requests given so far were written, and then one more, or a beginning of it
 module _ (answer : PlainRequest → List ℕ) (known now after : Option (List ℕ)) (requests : List PlainRequest) (request : PlainRequest) (a : Appends known now (flat_map answer requests)) where

@@ -6,8 +6,10 @@ pub mod Fronts
 pub mod Opens
 pub mod Giving
 pub mod Dropped
+pub mod WriteLines
 pub mod Given
 pub mod Nexts
+pub mod Filled
 pub mod Streams
 pub mod Reading
 pub mod Replies

@@ -10,13 +10,14 @@ use Rattle.rmt_wire.specs.RequestFront.{front_of}
 use Rattle.rmt_wire.specs.Lent.{plain_request, lent_front}
 use Rattle.rmt_wire.specs.declared.limits.TheConstants.{READER_LIMIT}
 use Rattle.rmt_wire.specs.RequestReader.{dropped_line, held, IsDropped, Unread, gone_at, taken_of, IsNext, StaysFaulty, told_front, held_after}
+use Rattle.rmt_wire.specs.RequestKept.{HasLetGo}
 use Rattle.rmt_wire.specs.declared.request.Request.{Request}
 use Rattle.rmt_wire.specs.declared.fault.WireFault.{WireFault}
 use Rattle.rmt_wire.proofs.Fronts.{FrontView}
 use Rattle.rmt_wire.proofs.Opens.{front_view}
 use Rattle.rmt_wire.proofs.Given.{is_next}
 use Rattle.rmt_wire.proofs.Giving.{gives, room, answer_to, rest_behind, fault_stays}
-use Rattle.rmt_wire.proofs.Dropped.{unread_whole, plain_unread, whole_given, less_given, dropped_found, line_split, empty_unread, taken_kept, within_some, let_go_unread, let_go_dropped}
+use Rattle.rmt_wire.proofs.Dropped.{unread_whole, plain_unread, whole_given, less_given, dropped_found, line_split, empty_unread, taken_kept, let_go_unread, let_go_dropped, line_stays}
 
 -- a spelling has a letter at least
 pub spelled_some : (text : List ℕ) (request : PlainRequest) → SpellsRequest text request → 0 < length text
@@ -154,37 +155,50 @@ room_at items start dropped bytes all gone e most within g u =
     let size = length-drop start items in
     rw same (omega arith)
 
--- what is left to do once data were let go: the line is still there, and the bytes kept are what the bytes pushed take
-pub record HasLetGo (items : List ℕ) (start dropped gone : ℕ) (old : List ℕ) : Type 0 where
-  pub within : start ≤ length items
-  pub fewer : length items ≤ length old
-  pub at_line : IsDropped (dropped_line (drop start items)) (dropped + gone)
-  pub unread : (bytes : List ℕ) → Unread (held (drop start old) dropped) bytes → Unread (held (drop start items) (dropped + gone)) bytes
-  pub taken : (bytes : List ℕ) → Unread (held (drop start old) dropped) bytes → length (drop start items) ≡ taken_of bytes
+-- what is kept once the data of a dropped write that can go are taken out behind its line
+module _ (old items : List ℕ) (start dropped gone : ℕ) (line : ℕ × ℕ) (within : start ≤ length old) (found : dropped_line (drop start old) ≡ Some line)
+    (few : dropped ≤ line.1) (amount : gone ≡ min (length (drop start old) - line.0) (line.1 - dropped)) (is : items ≡ take (start + line.0) old ++ drop (start + line.0 + gone) old) where
+  some : (0 < line.0) × (line.0 ≤ length (drop start old))
+  some = line_some (drop start old) line found
 
-pub has_let_go : (old items : List ℕ) (start dropped gone : ℕ) (line : ℕ × ℕ) (all : List ℕ) → all ≡ old → start ≤ length old
-    → dropped_line (take (length all - start) (drop start all)) ≡ Some line → IsDropped (dropped_line (drop start old)) dropped
-    → gone ≡ gone_at (dropped_line (take (length all - start) (drop start all))) (length (take (length all - start) (drop start all))) dropped
-    → items ≡ take (start + line.0) old ++ drop (start + line.0 + gone) old → HasLetGo items start dropped gone old
-has_let_go old items start dropped gone line all same within e kept_line g is =
-    let kept : List ℕ = drop start old in
-    let view : take (length all - start) (drop start all) ≡ kept = take_rest all start ∙ ap (drop start) same in
-    let e' : dropped_line kept ≡ Some line = ap dropped_line (sym view) ∙ e in
-    let g' : gone ≡ gone_at (dropped_line kept) (length kept) dropped = g ∙ ap (λ l. gone_at (dropped_line l) (length l) dropped) view in
-    let some = line_some kept line e' in
-    let few = within_some (dropped_line kept) line dropped e' kept_line in
-    let size = length-drop start old in
-    let amount : gone ≡ min (length kept - line.0) (line.1 - dropped) = g' ∙ ap (λ o. gone_at o (length kept) dropped) e' in
-    let new : drop start items ≡ take line.0 kept ++ drop (line.0 + gone) kept = ap (drop start) is ∙ taken_out old start line.0 gone (omega (arith, some.1)) in
-    let new_size : length (drop start items) + gone ≡ length kept = omega (arith, ap (length {A = ℕ}) new, length-append (take line.0 kept) (drop (line.0 + gone) kept), length-take-le line.0 kept some.1, length-drop (line.0 + gone) kept, some.1) in
-    let all_size : length items ≡ start + line.0 + (length old - (start + line.0 + gone)) =
-    ap (length {A = ℕ}) is ∙ omega (arith, length-append (take (start + line.0) old) (drop (start + line.0 + gone) old), length-take-le (start + line.0) old (omega (arith, some.1)), length-drop (start + line.0 + gone) old) in
+  -- the line, and what is behind the data that are gone
+  pub left_behind : drop start items ≡ take line.0 (drop start old) ++ drop (line.0 + gone) (drop start old)
+  left_behind = ap (drop start) is ∙ taken_out old start line.0 gone (let size = length-drop start old in omega (arith, some.1))
+
+  new_size : length (drop start items) + gone ≡ length (drop start old)
+  new_size = omega (
+    arith,
+    ap (length {A = ℕ}) left_behind,
+    length-append (take line.0 (drop start old)) (drop (line.0 + gone) (drop start old)),
+    length-take-le line.0 (drop start old) some.1,
+    length-drop (line.0 + gone) (drop start old),
+    some.1,
+  )
+
+  pub has_let_go : HasLetGo (held (drop start old) dropped) (held (drop start items) (dropped + gone))
+  has_let_go =
+      let kept : List ℕ = drop start old in
+      let there : dropped_line (drop start items) ≡ Some line = ap dropped_line left_behind ∙ line_stays kept line found (drop (line.0 + gone) kept) in
+      let unread : (bytes : List ℕ) → Unread (held kept dropped) bytes → Unread (held (drop start items) (dropped + gone)) bytes = λ bytes u.
+      subst (λ l. Unread (held l (dropped + gone)) bytes) (sym left_behind) (let_go_unread kept dropped gone line bytes found (omega (arith, some.1)) (omega arith) u) in
+      let none : gone_at (dropped_line (drop start items)) (length (drop start items)) (dropped + gone) ≡ 0 =
+      ap (λ o. gone_at o (length (drop start items)) (dropped + gone)) there ∙ omega (arith, new_size, some.1) in
+      record {
+        at_line = subst (λ l. IsDropped (dropped_line l) (dropped + gone)) (sym left_behind) (let_go_dropped kept dropped gone line found (omega arith));
+        none_idle = none;
+        unread = unread;
+        taken = λ bytes u. (let t = taken_kept (drop start items) (dropped + gone) bytes (unread bytes u) in omega (arith, none));
+      }
+
+-- with no dropped write at the front, nothing can be let go
+pub none_let_go : (kept : List ℕ) (dropped : ℕ) → dropped_line kept ≡ None → IsDropped (dropped_line kept) dropped → HasLetGo (held kept dropped) (held kept dropped)
+none_let_go kept dropped e at_line =
+    let none : gone_at (dropped_line kept) (length kept) dropped ≡ 0 = ap (λ o. gone_at o (length kept) dropped) e in
     record {
-      within = omega arith;
-      fewer = omega (arith, some.1);
-      at_line = subst (λ l. IsDropped (dropped_line l) (dropped + gone)) (sym new) (let_go_dropped kept dropped gone line e' (omega arith));
-      unread = λ bytes u. subst (λ l. Unread (held l (dropped + gone)) bytes) (sym new) (let_go_unread kept dropped gone line bytes e' (omega arith) (omega arith) u);
-      taken = λ bytes u. (let t = taken_kept kept dropped bytes u in omega arith);
+      at_line = at_line;
+      none_idle = none;
+      unread = λ bytes u. u;
+      taken = λ bytes u. (let t = taken_kept kept dropped bytes u in omega (arith, none));
     }
 
 -- the bytes of a slice from a place on

@@ -1,10 +1,10 @@
 -- Reading a stream up to its next request.
-use Rattle.std.proofs.Common.{◌≡◌, ℕ, ◌+◌, ◌≤◌, List, [], ◌∷◌, ◌++◌, length, Option, Some, None, Result, Ok, Err, refl, sym, subst, append_assoc, append-nil, arith}
+use Rattle.std.proofs.Common.{◌≡◌, ℕ, Bool, false, not, is_some, ◌+◌, ◌≤◌, List, [], ◌∷◌, ◌++◌, length, Option, Some, None, Result, Ok, Err, refl, sym, subst, append_assoc, append-nil, arith}
 use Rattle.std.specs.Io.KnownBytes.{Consumes}
 use Rattle.std.proofs.KnownBytes.{Consumes-nil, Consumes-trans, Consumes-kept}
 use Rattle.rmt_wire.specs.Request.{PlainRequest}
 use Rattle.rmt_wire.specs.RequestParts.{IsOpen, HasNoSpelling}
-use Rattle.rmt_wire.specs.RequestReader.{RequestHeld, Unread, IsGiven, IsNext, told}
+use Rattle.rmt_wire.specs.RequestReader.{RequestHeld, Unread, IsGiven, IsNext, told, told_front}
 use Rattle.rmt_wire.specs.RequestFill.{IsFilled, IsNotFilled}
 use Rattle.rmt_wire.specs.RequestStream.{IsReadNext, CountsNext, EndsAs, IsGivenWhole, GivesNext, IsSpelledIfSome, FallsIfSome, HasAnswered, GoesOn, most_left, told_next}
 use Rattle.rmt_wire.specs.declared.limits.TheConstants.{READER_LIMIT}
@@ -18,6 +18,12 @@ use Rattle.rmt_wire.proofs.Given.{answered, answer_begun}
 -- bytes with a fault are no beginning of a request
 pub no_wait : (old new : RequestHeld) (fault : WireFault) (bytes : List ℕ) → IsNext old (Err fault) new → Unread old bytes → IsOpen bytes → ⊥
 no_wait old new fault bytes n u o = never_open bytes fault (n.continues bytes u).2.0 [] (subst IsOpen (sym (append-nil bytes)) o)
+
+-- nor are those with a request
+pub no_wait_unless_none : (old new : RequestHeld) (found : Option (Request × ℕ)) (b : Bool) (bytes : List ℕ) → IsNext old (told_front (Ok found)) new → is_some found ≡ not b → b ≡ false
+    → Unread old bytes → HasNoSpelling bytes → ⊥
+no_wait_unless_none old new None b bytes n e f u h = absurd (cc)
+no_wait_unless_none old new (Some found) b bytes n e f u h = let g = n.continues bytes u in h g.2.0 g.0 _ g.2.2 g.2.1
 
 -- by what is given of all that was pushed, a conversation goes on
 goes_on : (left left' : Option (List ℕ)) (old new : RequestHeld) (came : List ℕ) (result : Result (Option PlainRequest) StreamFault) → Consumes left left' came
@@ -89,6 +95,9 @@ none_came left reads old = record {
   given = λ pushed requests g. subst (λ b. IsGiven old b requests) (sym (append-nil pushed)) g;
   falls = omega arith;
 }
+
+pub still_come : (left left' : Option (List ℕ)) (reads reads' : ℕ) (old now new : RequestHeld) → HasCome left left' reads reads' old now → new ≡ now → HasCome left left' reads reads' old new
+still_come left left' reads reads' old now new h same = subst (HasCome left left' reads reads' old) (sym same) h
 
 module _ (left mid : Option (List ℕ)) (reads reads' : ℕ) (old now : RequestHeld) (first : (bytes : List ℕ) × Unread old bytes) (h : HasCome left mid reads reads' old now) where
   pub unread_now : (rest : List ℕ) × Unread now rest

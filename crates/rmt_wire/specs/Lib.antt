@@ -1,5 +1,5 @@
 -- In reading order: Number, Request, Reply, RequestParts, ReplyParts (the grammar); Counted, Lent, Seen, RequestReader,
--- RequestFill, RequestStream, ReplyFront, ReplyReader, ReplyWriter (what reads and writes it); RequestFront (in code); Print, Argument (for programs over it).
+-- RequestFill, RequestStream, ReplyFront, ReplyReader, ReplyWriter (what reads and writes it); RequestFront, RequestKept (in code); Print, Argument (for programs over it).
 pub mod Number
 pub mod Seen
 pub mod Request
@@ -8,6 +8,7 @@ pub mod Lent
 pub mod RequestParts
 pub mod RequestFront
 pub mod RequestReader
+pub mod RequestKept
 pub mod RequestFill
 pub mod RequestStream
 pub mod ReplyParts

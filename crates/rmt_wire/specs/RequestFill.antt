@@ -2,13 +2,15 @@
 use Rattle.std.specs.Prelude.{◌≡◌, ℕ, List, ◌++◌, length, Option}
 use Rattle.std.specs.Io.KnownBytes.{Consumes, Keeps}
 use Rattle.rmt_wire.specs.Request.{PlainRequest}
-use Rattle.rmt_wire.specs.RequestReader.{RequestHeld, IsGiven}
+use Rattle.rmt_wire.specs.RequestReader.{RequestHeld, IsGiven, Unread}
 
--- the bytes came from the stream, so many of them, and the reader takes them for more of what was pushed to it
+-- The bytes came from the stream, so many of them. They are unread then, after what was, and the reader takes them for more of what
+-- was pushed to it.
 pub record IsFilled (left left' : Option (List ℕ)) (old new : RequestHeld) (count : ℕ) : Type 0 where
   pub came : List ℕ
   pub long : length came ≡ count
   pub consumed : Consumes left left' came
+  pub unread : (bytes : List ℕ) → Unread old bytes → Unread new (bytes ++ came)
   pub given : (pushed : List ℕ) (requests : List PlainRequest) → IsGiven old pushed requests → IsGiven new (pushed ++ came) requests
 
 -- nothing came, and the reader is exactly as it was

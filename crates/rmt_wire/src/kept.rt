@@ -1,9 +1,13 @@
-//! The bytes that a reader keeps, in a buffer that is reserved once. They are copied on their way in, and moved to the
-//! front only where room is wanted.
-ghost use Rattle.std.specs.Prelude.{◌≡◌, ◌+◌, ◌-◌, ◌≤◌, ◌++◌, length, take, drop};
+//! The bytes that a reader keeps, in a buffer that is reserved once. What is pushed is copied there, and what a stream has
+//! is read straight into it. They are moved to the front only where room is wanted, or before a read.
+ghost use Rattle.std.specs.Prelude.{◌≡◌, ◌+◌, ◌-◌, ◌<◌, ◌≤◌, ℕ, List, ◌++◌, length, take, drop, IfOk, OnOk, OnErr};
+ghost use Rattle.std.specs.Io.KnownBytes.{Consumes, Keeps, IsAtEnd};
+ghost use Rattle.rmt_wire.specs.Counted.{raised};
 
+use crate::counted::Counted;
 use crate::limits::READER_LIMIT;
 use bytes::BytesMut;
+use std::io::{self, Read};
 
 /// Takes `count` bytes out of a buffer, from `at` on, and keeps the room. Where there are none to take, no byte moves.
 pub fn remove(buffer: &mut BytesMut, at: usize, count: usize)
@@ -35,4 +39,37 @@ pub fn append(buffer: &mut BytesMut, start: usize, piece: &[u8]) -> usize
     remove(buffer, 0, start);
     buffer.extend_reserved(piece);
     0
+}
+
+/// Reads a stream once, up to `most` bytes, straight into the buffer, after the bytes kept. Answers how many came. Where the
+/// read failed the bytes kept are what they were.
+pub fn append_read<R: Read>(
+    buffer: &mut BytesMut,
+    most: usize,
+    stream: &mut Counted<R>,
+) -> io::Result<usize>
+    requires { most ≤ buffer.old.spare }
+    ensures came { IfOk result (λ n. (came : List ℕ) × (length came ≡ n) × (buffer.new.items ≡ buffer.old.items ++ came)
+        × Consumes (R.remaining stream.old.inner) (R.remaining stream.new.inner) came) }
+    ensures most { IfOk result (λ n. n ≤ most) }
+    ensures ended { IfOk result (λ n. n ≡ 0 → 0 < most → IsAtEnd (R.remaining stream.new.inner)) }
+    ensures failed { OnErr result ((buffer.new.items ≡ buffer.old.items)
+        × Keeps (R.remaining stream.old.inner) (R.remaining stream.new.inner)) }
+    ensures room { length buffer.new.items + buffer.new.spare ≡ length buffer.old.items + buffer.old.spare }
+    ensures counted { OnErr result (stream.new.failures ≡ raised stream.old.failures) }
+    ensures steady { OnOk result (stream.new.failures ≡ stream.old.failures) }
+    ensures left { OnOk result (stream.new.left + 1 ≡ stream.old.left) }
+{
+    let len = buffer.len();
+    buffer.advance_mut(most);
+    match stream.read(&mut buffer.as_mut_slice()[len..]) {
+        Ok(count) => {
+            buffer.truncate(len + count);
+            Ok(count)
+        }
+        Err(error) => {
+            buffer.truncate(len);
+            Err(error)
+        }
+    }
 }

@@ -38,4 +38,4 @@ pub use laws::{
 pub use limits::{LINE_LIMIT, NUMBER_LIMIT, READER_LIMIT, RECORD_LIMIT};
 pub use print::print_text;
 pub use reply::{OutputFault, Reply, ReplyReader, Wanted, push_reply, write_reply};
-pub use request::{Request, RequestReader, StreamFault, push_request};
+pub use request::{Request, RequestReader, StreamFault, push_request, push_write_line};

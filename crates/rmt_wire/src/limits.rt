@@ -9,7 +9,7 @@ pub const LINE_LIMIT: usize = 255;
 
 /// The greatest number of bytes of a record, and so of a block of a dump. The data of a longer write are dropped, and a
 /// reader of replies waits for no more.
-pub const RECORD_LIMIT: usize = 65536;
+pub const RECORD_LIMIT: usize = 262144;
 
 /// The bytes of the largest request that is kept, and of the largest reply with data that is waited for: a letter, ten
 /// digits, a line feed and the data.

@@ -1,13 +1,12 @@
 //! A request to a tape server, and what appends and reads it.
 
 mod append;
-mod fill;
 mod front;
 mod head;
 mod line;
 mod reader;
 
-pub use append::push_request;
+pub use append::{push_request, push_write_line};
 pub use reader::{RequestReader, StreamFault};
 
 /// A request to a tape server (rmt(8)). The device of an open and the data of a write are lent by the reader.

@@ -64,7 +64,7 @@ impl ReplyReader {
     ghost use Rattle.std.specs.Io.BufRead.{Rests};
     ghost use Rattle.rmt_wire.specs.contracts.reply.reader.ReplyReader.{the_row};
 
-    /// A reader to which nothing was pushed, and which waits for nothing. It reserves `READER_LIMIT` bytes (65,548)
+    /// A reader to which nothing was pushed, and which waits for nothing. It reserves `READER_LIMIT` bytes (262,156)
     /// once, and fails only where these are refused.
     pub fn new(alloc: Global) -> Result<ReplyReader, AllocError>
         ensures { IfOk result (λ r. ReplyUnread r None []) }

@@ -1,12 +1,12 @@
 //! A request at the end of a vector, as it is sent.
 
-ghost use Rattle.std.specs.Prelude.{◌≡◌, ◌+◌, ◌<◌, ◌≤◌, ◌++◌, length, OnOk, OnErr};
+ghost use Rattle.std.specs.Prelude.{◌≡◌, ℕ, ◌+◌, ◌<◌, ◌≤◌, List, ◌++◌, length, OnOk, OnErr};
 ghost use Rattle.std.specs.Vec.{vec_capacity, vec_len};
 ghost use Rattle.rmt_wire.specs.Lent.{plain_request};
 ghost use Rattle.rmt_wire.specs.Request.{PlainRequest, HasSpelling, IsTextOf, request_text};
 
 use crate::append::push_text;
-use crate::limits::{LINE_LIMIT, NUMBER_LIMIT};
+use crate::limits::{LINE_LIMIT, NUMBER_LIMIT, RECORD_LIMIT};
 use crate::request::Request;
 use crate::short_text::{ShortText, numbered, push_number};
 use std::alloc::AllocError;
@@ -30,7 +30,28 @@ pub fn push_request(out: &mut Vec<u8>, request: &Request<'_>) -> Result<(), Allo
     push_text(out, lines.as_slice(), data)
 }
 
-/// The lines of a request, and the data behind them.
+/// Appends the line that the write of a record of `count` bytes begins with, at most `RECORD_LIMIT`, and makes room for the
+/// bytes, which are to be appended next (rmt(8)).
+///
+/// It fails only where `out` has less spare room than the line and the bytes take and the memory for more is refused. Then
+/// `out` is as it was.
+pub fn push_write_line(out: &mut Vec<u8>, count: usize) -> Result<(), AllocError>
+    requires { count ≤ RECORD_LIMIT }
+    ensures begun { OnOk result ((bytes : List ℕ) → length bytes ≡ count →
+        out.new.items ++ bytes ≡ out.old.items ++ request_text (PlainRequest.Write bytes)) }
+    ensures room { OnOk result (vec_len out.new + count ≤ vec_capacity out.new) }
+    ensures unchanged { OnErr result ((out.new.items ≡ out.old.items) × (vec_capacity out.new ≡ vec_capacity out.old)) }
+    ensures full { OnErr result ((bytes : List ℕ) → length bytes ≡ count →
+        vec_capacity out.old < vec_len out.old + length (request_text (PlainRequest.Write bytes))) }
+    ensures spelled { (bytes : List ℕ) → length bytes ≡ count →
+        IsTextOf (request_text (PlainRequest.Write bytes)) (PlainRequest.Write bytes) }
+{
+    let line = numbered(b'W', count);
+    out.reserve(line.as_slice().len() + count)?;
+    out.extend_from_slice(line.as_slice())
+}
+
+/// The lines of a request, and the data after them.
 fn parts<'a>(request: &Request<'a>) -> (ShortText, &'a [u8])
     requires { HasSpelling (plain_request request.now) }
     ensures text { result.0 ++ result.1.now ≡ request_text (plain_request request.now) }

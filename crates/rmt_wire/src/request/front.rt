@@ -10,7 +10,7 @@ use crate::request::Request;
 use crate::request::head::{Head, head_of};
 
 /// The request of a write whose line has this length, and how long it is, once all of its bytes are there.
-fn write_at(bytes: &[u8], count: u32, len: usize) -> Option<(Request<'_>, usize)>
+pub fn write_at(bytes: &[u8], count: u32, len: usize) -> Option<(Request<'_>, usize)>
     requires { len ≤ length bytes.now }
     ensures value { lent_front (Ok result) ≡ spec.written_at count len bytes.now }
     ensures within { IfSome result (λ r. r.1 ≤ length bytes.now) }

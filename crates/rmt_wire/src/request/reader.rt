@@ -4,59 +4,79 @@ ghost use Rattle.std.specs.Prelude.{◌≡◌, ℕ, ◌+◌, ◌-◌, ◌≤◌,
 ghost use Rattle.rmt_wire.specs.RequestReader as spec;
 ghost use Rattle.rmt_wire.specs.Request.{PlainRequest};
 ghost use Rattle.rmt_wire.specs.RequestReader.{Unread, IsDropped, IsGiven, taken_of, told, IsNext, StaysFaulty};
+ghost use Rattle.rmt_wire.specs.RequestKept.{write_line, if_dropped, IsKnown, HasLetGo};
 
 use crate::fault::WireFault;
 use crate::kept::{append, remove};
 use crate::limits::{READER_LIMIT, RECORD_LIMIT};
-use crate::number::{Place, number_front};
 use crate::request::Request;
-use crate::request::front::request_front;
+use crate::request::front::{request_front, write_at};
 use bytes::BytesMut;
+use line::{dropped_line, line_of};
 use std::alloc::{AllocError, Global};
 use std::marker::Model;
 
+mod fill;
+mod line;
 mod stream;
 
 pub use stream::StreamFault;
 
-/// The length of the line and the count of a write above `RECORD_LIMIT` that the bytes begin with.
-#[tactic(auto, unfolding(crate::specs::RequestReader::dropped_line))]
-fn dropped_line(bytes: &[u8]) -> Option<(usize, u32)>
-    ensures value { result ≡ spec.dropped_line bytes.now }
-    ensures within { IfSome result (λ line. line.0 ≤ length bytes.now) }
+/// How many of so many bytes are data of a dropped write that stands first with this line, of which `dropped` were let go
+/// before.
+fn gone(line: Option<(usize, u32)>, len: usize, dropped: u32) -> usize
+    requires within { IfSome line (λ line. line.0 ≤ len) }
+    requires dropped { IsDropped (if_dropped line) dropped }
+    ensures value { result ≡ spec.gone_at (if_dropped line) len dropped }
+    ensures within { result ≤ len }
 {
-    let [b'W', rest @ ..] = bytes else {
-        return None;
-    };
-    match number_front(rest, Place::Line) {
-        Ok(Some((count, digits))) if count as usize > RECORD_LIMIT => Some((digits + 2, count)),
-        _ => None,
-    }
-}
-
-/// How many of these bytes are data of a dropped write that stands first, of which `dropped` were let go before.
-fn gone(unread: &[u8], dropped: u32) -> usize
-    requires { IsDropped (spec.dropped_line unread.now) dropped }
-    ensures value { result ≡ spec.gone_at (spec.dropped_line unread.now) (length unread.now) dropped }
-    ensures within { result ≤ length unread.now }
-{
-    match dropped_line(unread) {
+    match dropped_line(line) {
         None => 0,
-        Some((len, count)) => (unread.len() - len).min((count - dropped) as usize),
+        Some((head, count)) => (len - head).min((count - dropped) as usize),
     }
 }
 
-/// The request that stands first, and how many of the bytes kept it takes, where `dropped` data of a write at the
-/// front were let go. None where there is less than one.
-fn front(unread: &[u8], dropped: u32) -> Result<Option<(Request<'_>, usize)>, WireFault>
-    requires { IsDropped (spec.dropped_line unread.now) dropped }
+/// Lets the data go of a dropped write that stands first. The line of a write is known then, and how many were let go.
+fn let_go(buffer: &mut BytesMut, start: usize, line: &mut Option<(usize, u32)>, dropped: &mut u32)
+    requires start { start ≤ length buffer.old.items }
+    requires line { IsKnown line.old (drop start buffer.old.items) }
+    requires dropped { IsDropped (spec.dropped_line (drop start buffer.old.items)) dropped.old }
+    ensures gone { HasLetGo (spec.held (drop start buffer.old.items) dropped.old) (spec.held (drop start buffer.new.items) dropped.new) }
+    ensures line { IsKnown line.new (drop start buffer.new.items) }
+    ensures start { start ≤ length buffer.new.items }
+    ensures fewer { length buffer.new.items ≤ length buffer.old.items }
+    ensures room { length buffer.new.items + buffer.new.spare ≡ length buffer.old.items + buffer.old.spare }
+{
+    let unread = &buffer.as_slice()[start..];
+    *line = line_of(*line, unread);
+    let Some((len, count)) = dropped_line(*line) else {
+        return;
+    };
+    let gone = (unread.len() - len).min((count - *dropped) as usize);
+    remove(buffer, start + len, gone);
+    *dropped += gone as u32;
+}
+
+/// The request that stands first, and how many of the bytes kept it takes, where its line is known if it is a write, and
+/// `dropped` data of a write at the front were let go. None where there is less than one.
+fn front(
+    unread: &[u8],
+    line: Option<(usize, u32)>,
+    dropped: u32,
+) -> Result<Option<(Request<'_>, usize)>, WireFault>
+    requires line { line ≡ write_line unread.now }
+    requires within { IfSome line (λ line. line.0 ≤ length unread.now) }
+    requires dropped { IsDropped (spec.dropped_line unread.now) dropped }
     ensures next { IsNext (spec.held unread.now dropped) (spec.told_front result) (spec.held_after result (spec.held unread.now dropped)) }
     ensures for_good { StaysFaulty (spec.held unread.now dropped) (spec.told_front result) }
     ensures within { IfOk result (λ o. IfSome o (λ r. r.1 ≤ length unread.now)) }
 {
-    let Some((len, count)) = dropped_line(unread) else {
+    let Some((len, count)) = line else {
         return request_front(unread);
     };
+    if count as usize <= RECORD_LIMIT {
+        return Ok(write_at(unread, count, len));
+    }
     let left = (count - dropped) as usize;
     if unread.len() - len < left {
         return Ok(None);
@@ -64,20 +84,24 @@ fn front(unread: &[u8], dropped: u32) -> Result<Option<(Request<'_>, usize)>, Wi
     Ok(Some((Request::WriteDropped { count }, len + left)))
 }
 
-/// Splits a stream of bytes into requests, however it is cut. It reserves `READER_LIMIT` bytes once, and lends
-/// the data of a request from there.
+/// Splits a stream of bytes into requests, however it is cut. It reserves `READER_LIMIT` bytes once, takes what is pushed
+/// to it or read into it there, and lends the data of a request from there.
 ///
 /// Contracts see what it holds of the stream.
 #[derive(Drop)]
 pub struct RequestReader {
     buffer: BytesMut,
     start: usize,
+    // The length of the line and the count of the write that stands first, once they were read.
+    line: Option<(usize, u32)>,
+    // How many data of that write were let go, where it is to be dropped.
     dropped: u32,
 }
 
 impl Model for RequestReader {
     ghost use Rattle.std.specs.Prelude.{◌≤◌, ◌+◌, ℕ, List, length, drop};
     ghost use Rattle.rmt_wire.specs.RequestReader.{RequestHeld, held, dropped_line, IsDropped};
+    ghost use Rattle.rmt_wire.specs.RequestKept.{HasRoom, IsKnown};
     ghost use Rattle.rmt_wire.specs.declared.limits.TheConstants.{READER_LIMIT};
 
     ghost Value = { RequestHeld };
@@ -86,7 +110,8 @@ impl Model for RequestReader {
 
     ghost invariant = { λ r. (r.start ≤ length r.buffer.items) × (length r.buffer.items ≤ READER_LIMIT)
         × (READER_LIMIT ≤ length r.buffer.items + r.buffer.spare)
-        × IsDropped (dropped_line (drop r.start r.buffer.items)) r.dropped };
+        × IsDropped (dropped_line (drop r.start r.buffer.items)) r.dropped
+        × HasRoom (held (drop r.start r.buffer.items) r.dropped) × IsKnown r.line (drop r.start r.buffer.items) };
 }
 
 impl RequestReader {
@@ -94,7 +119,7 @@ impl RequestReader {
     ghost use Rattle.std.specs.Io.BufRead.{Rests};
     ghost use Rattle.rmt_wire.specs.contracts.request.reader.RequestReader.{the_row};
 
-    /// A reader to which nothing was pushed. It reserves `READER_LIMIT` bytes (65,548) once, and fails only where
+    /// A reader to which nothing was pushed. It reserves `READER_LIMIT` bytes (262,156) once, and fails only where
     /// these are refused.
     pub fn new(alloc: Global) -> Result<RequestReader, AllocError>
         ensures { IfOk result (λ r. Unread r []) }
@@ -102,6 +127,7 @@ impl RequestReader {
         Ok(RequestReader {
             buffer: BytesMut::with_capacity(alloc, READER_LIMIT)?,
             start: 0,
+            line: None,
             dropped: 0,
         })
     }
@@ -120,21 +146,8 @@ impl RequestReader {
         ensures { (bytes : List ℕ) → Unread self.now bytes → result + taken_of bytes ≡ READER_LIMIT }
     {
         let unread = &self.buffer.as_slice()[self.start..];
-        READER_LIMIT - (unread.len() - gone(unread, self.dropped))
-    }
-
-    /// Lets the data go of a dropped write that stands first.
-    fn let_go(&mut self)
-        ensures unread { (bytes : List ℕ) → Unread self.old bytes → Unread self.new bytes }
-        ensures kept { (bytes : List ℕ) → Unread self.old bytes → length self.new.kept ≡ taken_of bytes }
-    {
-        let unread = &self.buffer.as_slice()[self.start..];
-        let Some((len, _)) = dropped_line(unread) else {
-            return;
-        };
-        let gone = gone(unread, self.dropped);
-        remove(&mut self.buffer, self.start + len, gone);
-        self.dropped += gone as u32;
+        let line = line_of(self.line, unread);
+        READER_LIMIT - (unread.len() - gone(line, unread.len(), self.dropped))
     }
 
     /// Takes as many bytes of a piece of the stream as there is room for, and answers how many.
@@ -145,11 +158,22 @@ impl RequestReader {
             IsGiven self.old pushed requests → IsGiven self.new (pushed ++ take result piece.now) requests }
         ensures limit { length self.new.kept ≤ READER_LIMIT }
     {
-        self.let_go();
+        let_go(
+            &mut self.buffer,
+            self.start,
+            &mut self.line,
+            &mut self.dropped,
+        );
         let start = self.start;
         let room = READER_LIMIT - (self.buffer.len() - start);
         let count = piece.len().min(room);
         self.start = append(&mut self.buffer, start, &piece[..count]);
+        let_go(
+            &mut self.buffer,
+            self.start,
+            &mut self.line,
+            &mut self.dropped,
+        );
         count
     }
 
@@ -163,10 +187,13 @@ impl RequestReader {
         ensures for_good { StaysFaulty self.old (told result) }
     {
         let start = self.start;
-        match front(&self.buffer.as_slice()[start..], self.dropped)? {
+        let unread = &self.buffer.as_slice()[start..];
+        self.line = line_of(self.line, unread);
+        match front(unread, self.line, self.dropped)? {
             None => Ok(None),
             Some((request, len)) => {
                 self.start = start + len;
+                self.line = None;
                 self.dropped = 0;
                 Ok(Some(request))
             }

@@ -43,7 +43,7 @@ fn next_of(reader: &mut RequestReader, wanted: Option<&Request<'_>>) -> Next {
 
 /// Whether a reader has so many bytes unread.
 fn holds(reader: &RequestReader, count: usize) -> bool {
-    reader.room().saturating_add(count) == 65548 && reader.is_empty() == (count == 0)
+    reader.room().saturating_add(count) == 262156 && reader.is_empty() == (count == 0)
 }
 
 /// A reader, and how much it was fed and gave.

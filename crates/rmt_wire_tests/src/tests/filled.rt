@@ -2,7 +2,7 @@
 ghost use Rattle.std.specs.Prelude.{ℕ, List};
 ghost use Rattle.rmt_wire.specs.RequestReader.{Unread};
 
-use rmt_wire::{Counted, Request, RequestReader};
+use rmt_wire::{Counted, READER_LIMIT, Request, RequestReader};
 use std::io::Read;
 use std::test::Fail;
 
@@ -23,6 +23,26 @@ fn a_stream_fills_a_reader(rt: HostRuntime) -> Result<(), Fail> {
     assert_eq!(rt; filled(&mut reader, &mut stream), Some(4));
     assert!(rt; matches!(reader.next(), Ok(Some(Request::Close))));
     assert!(rt; matches!(reader.next(), Ok(None)));
+    Ok(())
+}
+
+/// A block, and the beginning of a request behind it, come by one read, and both are unread then.
+#[test]
+fn one_read_fills_a_reader_with_a_block(rt: HostRuntime) -> Result<(), Fail> {
+    let mut bytes = Vec::from_slice(rt.alloc(), b"W6000\n")?;
+    bytes.resize(6006, b'x')?;
+    bytes.extend_from_slice(b"R1")?;
+    let mut reader = RequestReader::new(rt.alloc())?;
+    let mut stream = Counted::new(bytes.as_slice());
+    assert_eq!(rt; filled(&mut reader, &mut stream), Some(6008));
+    assert!(rt; reader.room().saturating_add(6008) == READER_LIMIT);
+    assert!(rt;
+        matches!(
+            reader.next(),
+            Ok(Some(Request::Write { bytes })) if *bytes == *vec![in rt.alloc(); b'x'; 6000]?
+        )
+    );
+    assert!(rt; reader.room().saturating_add(2) == READER_LIMIT);
     Ok(())
 }
 
@@ -47,5 +67,33 @@ fn a_stream_is_read_request_by_request(rt: HostRuntime) -> Result<(), Fail> {
         )
     );
     assert!(rt; matches!(reader.read_next(&mut stream), Ok(None)));
+    Ok(())
+}
+
+/// The count of the next request of a stream, which is 0 for a close.
+fn count_of<R: Read>(reader: &mut RequestReader, stream: &mut Counted<R>) -> Option<u32>
+    requires { (bytes : List ℕ) × Unread reader.old bytes }
+    ensures { (bytes : List ℕ) × Unread reader.new bytes }
+{
+    match reader.read_next(stream) {
+        Ok(Some(Request::Close)) => Some(0),
+        Ok(Some(Request::WriteDropped { count })) => Some(count),
+        Ok(Some(Request::Read { count })) => Some(count),
+        _ => None,
+    }
+}
+
+/// The data of the dropped write fill the reader behind the close, and take no room once that is given.
+#[test]
+fn a_dropped_write_is_read_through(rt: HostRuntime) -> Result<(), Fail> {
+    let mut bytes = Vec::from_slice(rt.alloc(), b"C\nW600000\n")?;
+    bytes.resize(600010, b'x')?;
+    bytes.extend_from_slice(b"R1\n")?;
+    let mut reader = RequestReader::new(rt.alloc())?;
+    let mut stream = Counted::new(bytes.as_slice());
+    assert_eq!(rt; count_of(&mut reader, &mut stream), Some(0));
+    assert_eq!(rt; count_of(&mut reader, &mut stream), Some(600000));
+    assert_eq!(rt; count_of(&mut reader, &mut stream), Some(1));
+    assert!(rt; reader.is_empty());
     Ok(())
 }

@@ -30,7 +30,7 @@ fn within(wanted: Wanted) -> Wanted
 {
     match wanted {
         Wanted::Number => Wanted::Number,
-        Wanted::Data(most) => Wanted::Data(most.min(65536)),
+        Wanted::Data(most) => Wanted::Data(most.min(262144)),
     }
 }
 
@@ -71,7 +71,7 @@ impl Listener {
 
     /// Whether it has so many bytes unread.
     pub(crate) fn holds(&self, count: usize) -> bool {
-        self.reader.room().saturating_add(count) == 65548 && self.reader.is_empty() == (count == 0)
+        self.reader.room().saturating_add(count) == 262156 && self.reader.is_empty() == (count == 0)
     }
 
     /// Waits for a reply, where none is waited for. It tells whether none was.

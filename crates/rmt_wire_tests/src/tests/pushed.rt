@@ -32,11 +32,11 @@ fn ask_first(out: &mut Vec<u8>) -> Result<(), AllocError> {
 
 /// Appends the other kinds, and the greatest count.
 fn ask_then(out: &mut Vec<u8>) -> Result<(), AllocError> {
-    ask(out, Request::Read { count: 65536 })?;
+    ask(out, Request::Read { count: 262144 })?;
     let count = 2147483647;
     ask(out, Request::Op { op: 0, count })?;
     ask(out, Request::Close)?;
-    ask(out, Request::WriteDropped { count: 65537 })
+    ask(out, Request::WriteDropped { count: 262145 })
 }
 
 #[test]
@@ -44,7 +44,8 @@ fn each_kind_of_request(rt: HostRuntime) -> Result<(), Fail> {
     let mut out = Vec::new(rt.alloc());
     ask_first(&mut out)?;
     ask_then(&mut out)?;
-    let text = b"O/dev/st0\n2\nI5\n1\nW5\nhelloW0\nR65536\nI0\n2147483647\nC\nW65537\n".as_slice();
+    let text =
+        b"O/dev/st0\n2\nI5\n1\nW5\nhelloW0\nR262144\nI0\n2147483647\nC\nW262145\n".as_slice();
     assert!(rt; *out == *text);
     Ok(())
 }

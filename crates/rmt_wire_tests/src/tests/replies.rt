@@ -32,7 +32,7 @@ static REPLIES: [Exchange; 24] = [
         Reply::Data { bytes: b"hello" },
     ),
     // the largest write
-    (Wanted::Number, b"A65536\n", Reply::Done { number: 65536 }),
+    (Wanted::Number, b"A262144\n", Reply::Done { number: 262144 }),
     // a number, and data of fewer bytes than were wanted
     (Wanted::Data(9), b"A2\nab", Reply::Data { bytes: b"ab" }),
     (Wanted::Number, b"A0000000001\n", ONE),
@@ -62,7 +62,7 @@ static REPLIES: [Exchange; 24] = [
     ),
     // errors, whatever is waited for
     (
-        Wanted::Data(65536),
+        Wanted::Data(262144),
         b"E0000000006\nDevice not configured\n",
         OFFLINE,
     ),
@@ -75,7 +75,7 @@ static REPLIES: [Exchange; 24] = [
         },
     ),
     (
-        Wanted::Data(65536),
+        Wanted::Data(262144),
         b"E16\nDevice busy\n",
         Reply::Error {
             number: 16,
@@ -91,7 +91,7 @@ static REPLIES: [Exchange; 24] = [
         },
     ),
     (
-        Wanted::Data(65536),
+        Wanted::Data(262144),
         b"E0\n\n",
         Reply::Error {
             number: 0,

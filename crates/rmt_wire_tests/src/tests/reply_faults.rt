@@ -29,10 +29,10 @@ static FAULTY: [Faulty; 26] = [
     (LARGEST, b"E\nDevice busy\n", None, WireFault::BadNumber),
     (LARGEST, b"E16 Device busy\n", None, WireFault::BadNumber),
     (LARGEST, b"E99999999999\n\n", None, WireFault::BadNumber),
-    (LARGEST, b"A65537\n", None, WireFault::TooMuchData),
+    (LARGEST, b"A262145\n", None, WireFault::TooMuchData),
     (LARGEST, b"A2147483648\n", None, WireFault::TooMuchData),
-    (LARGEST, b"A00000065537\n", None, WireFault::TooMuchData),
-    (LARGEST, b"A00000065536\n", None, WireFault::BadNumber),
+    (LARGEST, b"A00000262145\n", None, WireFault::TooMuchData),
+    (LARGEST, b"A00000262144\n", None, WireFault::BadNumber),
     // bytes that nobody waits for
     (None, b"A", None, WireFault::TooMuchData),
     (None, b"E", None, WireFault::TooMuchData),
@@ -76,7 +76,7 @@ static FAULTY: [Faulty; 26] = [
 
 const NUMBER: Option<Wanted> = Some(Wanted::Number);
 
-const LARGEST: Option<Wanted> = Some(Wanted::Data(65536));
+const LARGEST: Option<Wanted> = Some(Wanted::Data(262144));
 
 /// Clears a reader, which waits for this then, if for anything. It tells whether it had nothing unread, and gave none.
 fn starts(reader: &mut Listener, wanted: Option<Wanted>) -> bool {

@@ -68,7 +68,7 @@ static ROWS: [Row; 15] = [
     (b"I7\n\n", &[], b"I7\n\n", Some((WireFault::BadNumber, 4))),
     // requests that have only begun
     (b"O/dev/st0\n2", &[], b"O/dev/st0\n2", None),
-    (b"W65536", &[], b"W65536", None),
+    (b"W262144", &[], b"W262144", None),
     (b"W5\nhell", &[], b"W5\nhell", None),
     (b"I5\n1", &[], b"I5\n1", None),
     // a line of a byte more than one has

@@ -1,11 +1,12 @@
 //! Reading the requests of a stream one by one.
 
-ghost use Rattle.std.specs.Prelude.{ℕ, ◌<◌, List, IsTrue, IsFalse};
+ghost use Rattle.std.specs.Prelude.{◌≡◌, ℕ, ◌<◌, List, IsTrue, IsFalse};
 ghost use Rattle.rmt_wire.specs.RequestParts.{IsOpen, HasNoSpelling};
 ghost use Rattle.rmt_wire.specs.RequestReader.{Unread, taken_of};
 ghost use Rattle.rmt_wire.specs.RequestStream.{IsReadNext, CountsNext, told_next};
 ghost use Rattle.rmt_wire.specs.declared.limits.TheConstants.{READER_LIMIT};
 
+use super::line::line_of;
 use super::{RequestReader, front};
 use crate::counted::Counted;
 use crate::fault::WireFault;
@@ -33,15 +34,18 @@ impl RequestReader {
     ghost use Rattle.rmt_wire.specs.contracts.request.reader.RequestReader.{the_row};
 
     /// Whether the unread bytes are a beginning of a request, perhaps none of it, and no whole one. Then there is room.
-    fn is_waiting(&self) -> bool
-        ensures more { IsTrue result → (bytes : List ℕ) → Unread self.now bytes →
+    fn is_waiting(&mut self) -> bool
+        ensures more { IsTrue result → (bytes : List ℕ) → Unread self.new bytes →
             IsOpen bytes × HasNoSpelling bytes × (taken_of bytes < READER_LIMIT) }
-        ensures enough { IsFalse result → (bytes : List ℕ) → Unread self.now bytes → ¬ (IsOpen bytes × HasNoSpelling bytes) }
+        ensures enough { IsFalse result → (bytes : List ℕ) → Unread self.new bytes → ¬ (IsOpen bytes × HasNoSpelling bytes) }
+        ensures same { self.new ≡ self.old }
     {
-        matches!(
-            front(&self.buffer.as_slice()[self.start..], self.dropped),
-            Ok(None)
-        )
+        let unread = &self.buffer.as_slice()[self.start..];
+        self.line = line_of(self.line, unread);
+        match front(unread, self.line, self.dropped) {
+            Ok(found) => found.is_none(),
+            Err(_) => false,
+        }
     }
 
     /// Gives the next request of a stream, of which it reads as much as that takes, and lends the request's data. None

@@ -1,34 +1,42 @@
-use Rattle.std.proofs.Common.{ℕ, ◌++◌, take, subst, refl, arith}
-use Rattle.std.proofs.lemmas.List.{length-take, length-take-le, length-replicate}
-use Rattle.std.proofs.Math.ListN.{replicate}
-use Rattle.rmt_wire.specs.RequestReader.{IsGiven}
-use Rattle.rmt_wire.proofs.Given.{taken_whole, nothing_came}
+use Rattle.std.proofs.Common.{◌≡◌, ℕ, drop, length, [], sym, subst, ap, append-nil, length-append, ◌∙◌, arith}
+use Rattle.rmt_wire.specs.RequestReader.{Unread, held}
+use Rattle.rmt_wire.proofs.Filled.{more_dropped, more_known, filled, filled_with_none, nothing_came, none_more, room_left, at_front}
 use Rattle.rmt_wire.proofs.request.reader.RequestReader.fill.Goals as goal
+
+pub let_go-requires-clause-dropped : goal.let_go-requires-clause-dropped
+let_go-requires-clause-dropped g c =
+    let kept = drop c.self.inside.start c.self.inside.buffer.items in
+    let came = c.in_ok-count.ensures.came in
+    more_dropped kept came.0 _ c.self.inside.dropped (at_front c.self.inside.buffer.items _ came.0 _ c.self.inside.start c.remove.ensures.items came.2) c.self.invariant.3
+
+pub let_go-requires-clause-line : goal.let_go-requires-clause-line
+let_go-requires-clause-line g c =
+    let kept = drop c.self.inside.start c.self.inside.buffer.items in
+    let came = c.in_ok-count.ensures.came in
+    more_known kept came.0 _ c.self.inside.dropped (at_front c.self.inside.buffer.items _ came.0 _ c.self.inside.start c.remove.ensures.items came.2) c.self.inside.line c.self.invariant.5
 
 pub returns-then-count-gt0-clause-came : goal.returns-then-count-gt0-clause-came
 returns-then-count-gt0-clause-came g c =
-    let buf = c.read.new.buf in
-    let count = c.in_ok-count.count in
-    let within = c.in_ok-count.ensures.bound in
-    record {
-      came = take count buf;
-      long = length-take-le count buf (omega (arith, within));
-      consumed = c.in_ok-count.ensures.bytes.0;
-      given = λ pushed requests g.
-          let room = c.room.ensures g.0 g.1 in
-          let most = c.min-most.ensures in
-          let same = c.read.auto.buf in
-          let slice = length-take {A = ℕ} c.min-most.result (replicate 4096 0) in
-          subst (λ t. IsGiven c.push.new.self (pushed ++ t) requests) (taken_whole _ _ count buf _ (omega (arith, within)) (omega (arith, room, most, same, slice, length-replicate {A = ℕ} 4096 0)) (c.push.ensures.count g.0 g.1))
-          (c.push.ensures.given pushed requests g);
-    }
+    let kept = drop c.self.inside.start c.self.inside.buffer.items in
+    let came = c.in_ok-count.ensures.came in
+    filled kept came.0 _ c.self.inside.dropped (at_front c.self.inside.buffer.items _ came.0 _ c.self.inside.start c.remove.ensures.items came.2) _ c.let_go.ensures.gone _ _ _ _ c.self.view_is came.1 came.3
+
+pub returns-else-count-gt0-clause-came : goal.returns-else-count-gt0-clause-came
+returns-else-count-gt0-clause-came g c =
+    let kept = drop c.self.inside.start c.self.inside.buffer.items in
+    let came = c.in_ok-count.ensures.came in
+    let zero : c.in_ok-count.count ≡ 0 = omega arith in
+    let same = none_more kept came.0 _ (came.1 ∙ zero) (at_front c.self.inside.buffer.items _ came.0 _ c.self.inside.start c.remove.ensures.items came.2) in
+    filled_with_none _ _ _ _ came.0 _ (ap (λ l. held l c.self.inside.dropped) same ∙ c.self.view_is) zero came.1 came.3
 
 pub returns-else-count-gt0-clause-ended : goal.returns-else-count-gt0-clause-ended
 returns-else-count-gt0-clause-ended g c = λ zero.
-    let room = c.room.ensures c.requires.0 c.requires.1 in
-    let some = c.requires.2 in
-    let most = c.min-most.ensures in
-    let same = c.read.auto.buf in
-    let slice = length-take {A = ℕ} c.min-most.result (replicate 4096 0) in
-    let bytes = c.in_ok-count.ensures.bytes in
-    (bytes.1 zero (omega (arith, room, some, most, same, slice, length-replicate {A = ℕ} 4096 0)), (nothing_came _ _ _ c.read.new.buf zero bytes.0, refl))
+    let inside = c.self.inside in
+    let kept = drop inside.start inside.buffer.items in
+    let came = c.in_ok-count.ensures.came in
+    let same = none_more kept came.0 _ (came.1 ∙ zero) (at_front c.self.inside.buffer.items _ came.0 _ c.self.inside.start c.remove.ensures.items came.2) in
+    let room = room_left kept inside.dropped c.requires.0 c.self.invariant.4 (subst (λ h. Unread h c.requires.0) (sym c.self.view_is) c.requires.1) c.requires.2 in
+    let all = ap (length {A = ℕ}) (at_front inside.buffer.items _ [] _ inside.start c.remove.ensures.items (sym (append-nil _))) in (
+      c.in_ok-count.ensures.ended zero (omega (arith, room, all, length-append kept [], c.len-most.ensures.value)),
+      (nothing_came _ _ came.0 (came.1 ∙ zero) came.3, ap (λ l. held l inside.dropped) same ∙ c.self.view_is),
+    )

@@ -1,10 +1,13 @@
-use Rattle.std.proofs.Common.{subst, sym}
-use Rattle.rmt_wire.specs.RequestReader.{Unread}
+use Rattle.std.proofs.Common.{sym, ◌∙◌}
 use Rattle.rmt_wire.proofs.Nexts.{seen_from}
-use Rattle.rmt_wire.proofs.Streams.{no_wait}
+use Rattle.rmt_wire.proofs.Streams.{no_wait, no_wait_unless_none}
+use Rattle.rmt_wire.proofs.request.reader.RequestReader.is_waiting.Goals.{in-Ok, in-Err}
 use Rattle.rmt_wire.proofs.request.reader.RequestReader.is_waiting.Goals as goal
 
-pub returns-in_default-2-clause-enough : goal.returns-in_default-2-clause-enough
-returns-in_default-2-clause-enough c = λ f bytes u w.
+pub returns-clause-enough : goal.returns-clause-enough
+returns-clause-enough c = λ f bytes u w.
     let seen = seen_from c.as_slice.result.now c.self.inside.buffer.items c.self.inside.start c.as_slice.ensures in
-    no_wait _ _ c.in_default.field-0 bytes (rw (c.in_default.is, seen) at c.front.ensures.next) (subst (λ h. Unread h bytes) (sym c.self.view_is) u) w.0
+    elim c.match-front.branch [
+      | in-Ok b ↦ no_wait_unless_none _ _ b.in-Ok.found b.is_none.result bytes (rw (b.in-Ok.is, seen) at c.front.ensures.next) b.is_none.ensures (sym b.result-is ∙ f) (rw b.self-inside-is at u) w.1
+      | in-Err b ↦ no_wait _ _ b.in-Err.field-0 bytes (rw (b.in-Err.is, seen) at c.front.ensures.next) (rw b.self-inside-is at u) w.0
+    ]

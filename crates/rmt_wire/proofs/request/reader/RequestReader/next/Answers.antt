@@ -4,8 +4,8 @@ use Rattle.std.proofs.lemmas.Result.{err_from_is_err_and}
 use Rattle.rmt_wire.proofs.Nexts.{seen_from}
 use Rattle.rmt_wire.proofs.request.reader.RequestReader.next.Goals as goal
 
-pub front-requires : goal.front-requires
-front-requires c =
+pub front-requires-clause-dropped : goal.front-requires-clause-dropped
+front-requires-clause-dropped c =
     let seen = seen_from c.as_slice.result.now c.self.inside.buffer.items c.self.inside.start c.as_slice.ensures in
     rw seen c.self.invariant.3
 

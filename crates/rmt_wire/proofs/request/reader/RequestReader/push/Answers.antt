@@ -1,34 +1,27 @@
-use Rattle.std.proofs.Common.{arith}
-use Rattle.std.proofs.lemmas.Grind.{common_steps}
-use Rattle.std.proofs.Common.{sym, subst, drop, take, ◌++◌}
-use Rattle.rmt_wire.specs.RequestReader.{IsDropped, dropped_line, held, Unread}
-use Rattle.rmt_wire.proofs.Dropped.{push_dropped, push_unread}
-use Rattle.rmt_wire.proofs.Given.{spelled_more}
+use Rattle.std.proofs.Common.{sym, subst, drop}
+use Rattle.rmt_wire.specs.RequestReader.{Unread, IsGiven}
+use Rattle.rmt_wire.proofs.Filled.{more_dropped, more_known, more_unread, more_given}
 use Rattle.rmt_wire.proofs.request.reader.RequestReader.push.Goals as goal
 
-pub invariant_of-self : goal.invariant_of-self
-invariant_of-self c =
-    let inside = c.self.inside in
-    let done = c.append-self-inside.ensures in (
-      done.start,
-      done.limit.0,
-      done.limit.1,
-      subst (λ l. IsDropped (dropped_line l) inside.dropped) (sym done.kept)
-          (push_dropped (drop inside.start inside.buffer.items) (take c.min-count.result c.args.piece.now) inside.dropped c.self.invariant.3),
-    )
+pub let_go-requires-2-clause-dropped : goal.let_go-requires-2-clause-dropped
+let_go-requires-2-clause-dropped c =
+    let first = c.let_go in
+    more_dropped (drop c.self.inside.start first.new.buffer.items) _ _ first.new.dropped c.append-self-inside.ensures.kept first.ensures.gone.at_line
+
+pub let_go-requires-2-clause-line : goal.let_go-requires-2-clause-line
+let_go-requires-2-clause-line c =
+    let first = c.let_go in
+    more_known (drop c.self.inside.start first.new.buffer.items) _ _ first.new.dropped c.append-self-inside.ensures.kept first.new.line first.ensures.line
 
 pub returns-clause-unread : goal.returns-clause-unread
 returns-clause-unread c = λ bytes u.
-    let inside = c.self.inside in
-    let done = c.append-self-inside.ensures in
-    let moved = subst (λ h. Unread h bytes) (sym c.self.view_is) (c.let_go.ensures.unread bytes u) in
-    subst (λ l. Unread (held l inside.dropped) (bytes ++ take c.min-count.result c.args.piece.now)) (sym done.kept)
-    (push_unread (drop inside.start inside.buffer.items) (take c.min-count.result c.args.piece.now) inside.dropped bytes moved)
+    let first = c.let_go in
+    more_unread (drop c.self.inside.start first.new.buffer.items) _ _ first.new.dropped c.append-self-inside.ensures.kept _ c.let_go-2.ensures.gone bytes
+    (first.ensures.gone.unread bytes (subst (λ h. Unread h bytes) (sym c.self.view_is) u))
 
 pub returns-clause-given : goal.returns-clause-given
 returns-clause-given c = λ pushed requests g.
-    let piece = take c.min-count.result c.args.piece.now in
-    (g.0 ++ piece, returns-clause-unread c g.0 g.1, spelled_more pushed g.0 piece requests g.2)
-
-pub returns-clause-count : goal.returns-clause-count
-returns-clause-count c = grind (arith, common_steps)
+    let first = c.let_go in
+    let old = subst (λ h. IsGiven h pushed requests) (sym c.self.view_is) g in
+    more_given (drop c.self.inside.start first.new.buffer.items) _ _ first.new.dropped c.append-self-inside.ensures.kept _ c.let_go-2.ensures.gone pushed requests
+    (old.0, first.ensures.gone.unread old.0 old.1, old.2)

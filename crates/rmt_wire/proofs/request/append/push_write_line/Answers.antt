@@ -1,0 +1,18 @@
+use Rattle.std.proofs.Common.{◌≡◌, ◌≤◌, ℕ, List, length, rules, sym, subst}
+use Rattle.rmt_wire.specs.declared.limits.TheConstants.{RECORD_LIMIT}
+use Rattle.rmt_wire.specs.Request.{IsTextOf, request_text}
+use Rattle.rmt_wire.specs.Request.PlainRequest.{Write}
+use Rattle.rmt_wire.proofs.Spelling.{request_text_spells}
+use Rattle.rmt_wire.proofs.request.append.push_write_line.Goals as goal
+
+spells : (count : ℕ) (bytes : List ℕ) → count ≤ RECORD_LIMIT → length bytes ≡ count → IsTextOf (request_text (Write bytes)) (Write bytes)
+spells count bytes small long = request_text_spells (Write bytes) (subst (λ n. n ≤ RECORD_LIMIT) (sym long) small)
+
+pub returns-in_err-reserve-clause-spelled : goal.returns-in_err-reserve-clause-spelled
+returns-in_err-reserve-clause-spelled c = λ bytes long. spells c.args.count bytes c.requires long
+
+pub returns-clause-spelled : goal.returns-clause-spelled
+returns-clause-spelled c = λ bytes long. spells c.args.count bytes c.requires long
+
+pub returns-clause-room : goal.returns-clause-room
+returns-clause-room c = search rules
