@@ -3,6 +3,7 @@ pub mod Entries
 pub mod Spacing
 pub mod Devices
 pub mod Spelling
+pub mod Limits
 pub mod Places
 pub mod MediumRuns
 mod Appends

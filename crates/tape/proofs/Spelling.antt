@@ -8,7 +8,7 @@ use Rattle.std.proofs.lemmas.Nat.{from_le_bytes-to_le_bytes_4}
 use Rattle.std.proofs.lemmas.Slice.Eq.{starts_is}
 use Rattle.std.specs.Int.{w32, from_le_bytes}
 use Rattle.std.specs.List.{All, starts_with}
-use Rattle.tape.specs.Tape.{PlainEntry, IsTapeEntry}
+use Rattle.tape.specs.Tape.{PlainEntry, IsEntryUpTo, IsTapeEntry}
 use Rattle.rmt_wire.specs.declared.limits.TheConstants.{RECORD_LIMIT}
 use Rattle.tape.specs.Tape.PlainEntry.{Record, Mark}
 use Rattle.tape.specs.RecordFile.{length_bytes, image_of, images_of, IsTail, SpellsReel, first_in, entries_within, entries_in}
@@ -44,18 +44,18 @@ image_size (Record bytes) = omega (arith, length-append (length_bytes (length by
 image_size Mark = omega (arith, length_length_bytes 0)
 
 -- the length at the beginning of an image
-head_length : (e : PlainEntry) (rest : List ℕ) → length_of e < 2 ^ 32 → from_le_bytes w32 (take 4 (image_of e ++ rest)) ≡ length_of e
+pub head_length : (e : PlainEntry) (rest : List ℕ) → length_of e < 2 ^ 32 → from_le_bytes w32 (take 4 (image_of e ++ rest)) ≡ length_of e
 head_length e rest small =
     let front : take 4 (image_of e ++ rest) ≡ length_bytes (length_of e)
     = ap (take 4) (image_parts e rest) ∙ take_at (length_bytes (length_of e)) (body_of e ++ rest) 4 (length_length_bytes (length_of e)) in
     ap (from_le_bytes w32) front ∙ from_length_bytes (length_of e) small
 
 -- the entry of that length
-abbrev told : ℕ → List ℕ → PlainEntry
+abbrev pub told : ℕ → List ℕ → PlainEntry
 told n bytes = if n == 0 then Mark else Record (take n (drop 4 bytes))
 
-told_image : (e : PlainEntry) (rest : List ℕ) → IsTapeEntry e → told (length_of e) (image_of e ++ rest) ≡ e
-told_image (Record bytes) rest lawful =
+pub told_image : (most : ℕ) (e : PlainEntry) (rest : List ℕ) → IsEntryUpTo most e → told (length_of e) (image_of e ++ rest) ≡ e
+told_image most (Record bytes) rest lawful =
     let some : 0 < length bytes = lawful.0 in
     let whole = image_parts (Record bytes) rest ∙ ap (λ l. length_bytes (length bytes) ++ l) (append_assoc bytes (length_bytes (length bytes)) rest) in
     let behind : drop 4 (image_of (Record bytes) ++ rest) ≡ bytes ++ (length_bytes (length bytes) ++ rest)
@@ -64,7 +64,7 @@ told_image (Record bytes) rest lawful =
     = ap (take (length bytes)) behind ∙ take_at bytes (length_bytes (length bytes) ++ rest) (length bytes) refl in
     let record_is : told (length bytes) (image_of (Record bytes) ++ rest) ≡ Record (take (length bytes) (drop 4 (image_of (Record bytes) ++ rest))) = grind (arith, nat_tests) in
     record_is ∙ ap Record is
-told_image Mark rest lawful = refl
+told_image most Mark rest lawful = refl
 
 begins : (bytes : List ℕ) (e : PlainEntry) (rest : List ℕ) → bytes ≡ image_of e ++ rest → starts_with nat_eq bytes (image_of e) ≡ true
 begins bytes e rest is = (starts_is Decides-eqb bytes (image_of e) (starts_with nat_eq bytes (image_of e)) refl).1 rest is
@@ -79,7 +79,7 @@ first_image e rest lawful =
     let bytes = image_of e ++ rest in
     let bound = length_bound e lawful in
     let n = head_length e rest (omega arith) in
-    let entry = told_image e rest lawful in
+    let entry = told_image RECORD_LIMIT e rest lawful in
     let small = le-leb (length_of e) RECORD_LIMIT (length_bound e lawful) in
     let there = begins bytes e rest refl in
     rw (n, entry, small, there) refl

@@ -45,6 +45,18 @@ pub record SpellsReelUpTo (most : ℕ) (bytes : List ℕ) (entries : List PlainE
 abbrev pub SpellsReel : List ℕ → List PlainEntry → Type 0
 SpellsReel bytes entries = SpellsReelUpTo RECORD_LIMIT bytes entries
 
+-- What a writer leaves whose records have so many bytes at most, whenever it is stopped: the images of entries, and a beginning of one
+-- image more, perhaps all of it.
+pub record IsWrittenUpTo (most : ℕ) (bytes : List ℕ) : Type 0 where
+  pub entries : List PlainEntry
+  pub next : PlainEntry
+  pub begun : List ℕ
+  pub unwritten : List ℕ
+  pub lawful : All (IsEntryUpTo most) entries
+  pub next_lawful : IsEntryUpTo most next
+  pub image : image_of next ≡ begun ++ unwritten
+  pub whole : bytes ≡ images_of entries ++ begun
+
 -- The bytes spell the entries of this tape, and its place is at this offset.
 pub record IsFile (bytes : List ℕ) (offset : ℕ) (t : Tape) : Type 0 where
   pub spelled : SpellsReel bytes (entries_of t)

@@ -11,7 +11,7 @@ pub(crate) const MARK_SIZE: u64 = 4;
 /// A record takes its length and 8 bytes more of the reel's capacity, and a mark takes 4 bytes.
 #[derive(Debug, Drop)]
 pub enum Entry {
-    /// A record, of 1 to 65,536 bytes.
+    /// A record, of 1 to 262,144 bytes.
     Record(Vec<u8>),
     /// A file mark, which has no bytes to read.
     Mark,

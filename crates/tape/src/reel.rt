@@ -34,7 +34,7 @@ pub trait Reel {
     /// Whether a call can ask for memory. Where it cannot, no call answers `OutOfMemory`.
     const GROWS: bool;
 
-    /// Writes one record, of 1 to 65,536 bytes, at the place. What stood from there on is lost, and the place is
+    /// Writes one record, of 1 to 262,144 bytes, at the place. What stood from there on is lost, and the place is
     /// behind the record, at the end.
     ///
     /// It needs room for its length and 12 bytes more from the place on: 8 for the record and 4 for a mark, so that

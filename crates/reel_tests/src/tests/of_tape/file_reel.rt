@@ -12,7 +12,7 @@ const TWO: &[u8] = b"\x03\0\0\0abc\x03\0\0\0\x02\0\0\0de\x02\0\0\0";
 /// What a medium has, the calls of a reel of 100 bytes on it, and what the medium has after the last.
 type Run = (&'static [u8], &'static [Wanted], &'static [u8]);
 
-static RUNS: [Run; 8] = [
+static RUNS: [Run; 9] = [
     (
         b"",
         SPELLS_A_RECORD_AND_A_MARK,
@@ -22,6 +22,7 @@ static RUNS: [Run; 8] = [
     (b"\x02\0\0\0de\x02", HAS_NO_ENTRY, X),
     (b"\x02\0\0\0de\x03\0\0\0", HAS_NO_ENTRY, X),
     (b"\x01\0\x01\0", HAS_NO_ENTRY, X),
+    (b"\x01\0\x04\0", HAS_NO_ENTRY, X),
     (
         b"\0\0\0\0\x02\0\0\0d",
         HAS_A_MARK,

@@ -12,14 +12,14 @@ fn are_one_too_many(bytes: &[u8]) -> bool {
     is_record(others) && !is_record(bytes)
 }
 
-/// Whether 65,537 bytes are one too many.
+/// Whether 262,145 bytes are one too many.
 fn is_limit(alloc: Global) -> Result<bool, AllocError> {
-    let bytes = Vec::from_elem(alloc, 0u8, 65537)?;
+    let bytes = Vec::from_elem(alloc, 0u8, 262145)?;
     Ok(are_one_too_many(&bytes))
 }
 
 #[test]
-fn a_record_has_from_1_to_65536_bytes(rt: HostRuntime) -> Result<(), Fail> {
+fn a_record_has_from_1_to_262144_bytes(rt: HostRuntime) -> Result<(), Fail> {
     let has_limit = is_limit(rt.alloc())?;
     assert!(&rt; has_limit && is_record(b"a") && !is_record(b""));
     Ok(())
