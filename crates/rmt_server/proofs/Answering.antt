@@ -1,8 +1,7 @@
 -- Requests answered one after another.
-use Rattle.std.proofs.Common.{◌≡◌, ℕ, ◌+◌, ◌-◌, ◌<◌, ◌≤◌, List, [], ◌∷◌, ◌++◌, length, take, drop, Option, Some, None, Result, Ok, Err, refl, sym, ap, subst, ◌∙◌, arith, append_assoc, append-nil, min, Bool, IsTrue}
-use Rattle.std.proofs.lemmas.List.{take-append-drop, map-append}
+use Rattle.std.proofs.Common.{◌≡◌, ℕ, ◌≤◌, List, [], ◌∷◌, ◌++◌, take, Option, Some, None, Result, Ok, Err, refl, sym, ap, subst, ◌∙◌, arith, append_assoc, append-nil, Bool, IsTrue}
+use Rattle.std.proofs.lemmas.List.{map-append}
 use Rattle.std.proofs.lemmas.Grind.{flat_map-append}
-use Rattle.std.proofs.Math.Seq.{take-add}
 use Rattle.std.proofs.KnownBytes.{Appends-nil, Appends-trans}
 use Rattle.std.specs.Io.KnownBytes.{Appends, Consumes}
 use Rattle.rmt_wire.specs.Request.{PlainRequest, SpellsRequest}
@@ -14,7 +13,6 @@ use Rattle.rmt_wire.specs.Counted.{Counting, HasRisen}
 use Rattle.rmt_wire.specs.declared.reply.writer.OutputFault.{OutputFault}
 use Rattle.rmt_wire.specs.Lent.{plain_request}
 use Rattle.rmt_wire.specs.RequestReader.{RequestHeld, Unread, IsNext, dropped_line, told}
-use Rattle.rmt_wire.specs.declared.limits.TheConstants.{READER_LIMIT}
 use Rattle.rmt_wire.specs.declared.request.Request.{Request}
 use Rattle.rmt_wire.specs.declared.fault.WireFault.{WireFault}
 use Rattle.drives.specs.Opening.{Kinds}
@@ -96,13 +94,6 @@ cut_then known now after bytes rest piece later done more a b = record {
       (Appends-trans known now after (replies_text done) (replies_text b.before ++ take b.count (reply_text b.last.1)) a.written b.written);
 }
 
--- more bytes behind those that a reader took
-pub answered_more : (known now : Option (List ℕ)) (bytes rest more : List ℕ) (done : List Exchange) → IsAnswered known now bytes done rest → IsAnswered known now (bytes ++ more) done (rest ++ more)
-answered_more known now bytes rest more done a = record { spelled = spelled_more bytes rest more (requests_of done) a.spelled; written = a.written }
-
-pub cut_more : (known now : Option (List ℕ)) (bytes rest more : List ℕ) (done : List Exchange) → IsCutOff known now bytes done rest → IsCutOff known now (bytes ++ more) done (rest ++ more)
-cut_more known now bytes rest more done a = record { spelled = spelled_more bytes rest more (requests_of done) a.spelled; before = a.before; last = a.last; split = a.split; count = a.count; written = a.written }
-
 -- a count that has risen since later has risen since before
 pub risen_since : (first before now : ℕ) → first ≤ before → HasRisen before now → HasRisen first now
 risen_since first before now e h = omega arith
@@ -148,93 +139,12 @@ advances_then a f =
     let b = f a.done a.rest a.outcome in
     record { done = a.done ++ b.done; rest = b.rest; run = run_then a.run b.run; outcome = b.outcome }
 
--- a piece of a text and what follows it
-pub piece_then : (bytes text : List ℕ) (at count : ℕ) → (bytes ++ take at text) ++ take count (drop at text) ≡ bytes ++ take (at + count) text
-piece_then bytes text at count = append_assoc bytes (take at text) (take count (drop at text)) ∙ ap (λ l. bytes ++ l) (sym (take-add at count text))
-
-pub piece_all : (bytes text : List ℕ) (at : ℕ) → (bytes ++ take at text) ++ drop at text ≡ bytes ++ text
-piece_all bytes text at = append_assoc bytes (take at text) (drop at text) ∙ ap (λ l. bytes ++ l) (take-append-drop at text)
-
--- the whole text is a piece and the rest
-pub cut_whole : (known now : Option (List ℕ)) (bytes text rest : List ℕ) (at count : ℕ) (done : List Exchange) → IsCutOff known now ((bytes ++ take at text) ++ take count (drop at text)) done rest
-    → IsCutOff known now (bytes ++ text) done (rest ++ drop (at + count) text)
-cut_whole known now bytes text rest at count done c =
-    let whole : ((bytes ++ take at text) ++ take count (drop at text)) ++ drop (at + count) text ≡ bytes ++ text = ap (λ l. l ++ drop (at + count) text) (piece_then bytes text at count) ∙ piece_all bytes text (at + count) in
-    subst (λ b. IsCutOff known now b done (rest ++ drop (at + count) text)) whole (cut_more known now ((bytes ++ take at text) ++ take count (drop at text)) rest (drop (at + count) text) done c)
-
-pub answered_whole : (known now : Option (List ℕ)) (bytes text rest : List ℕ) (at count : ℕ) (done : List Exchange) → IsAnswered known now ((bytes ++ take at text) ++ take count (drop at text)) done rest
-    → IsAnswered known now (bytes ++ text) done (rest ++ drop (at + count) text)
-answered_whole known now bytes text rest at count done c =
-    let whole : ((bytes ++ take at text) ++ take count (drop at text)) ++ drop (at + count) text ≡ bytes ++ text = ap (λ l. l ++ drop (at + count) text) (piece_then bytes text at count) ∙ piece_all bytes text (at + count) in
-    subst (λ b. IsAnswered known now b done (rest ++ drop (at + count) text)) whole (answered_more known now ((bytes ++ take at text) ++ take count (drop at text)) rest (drop (at + count) text) done c)
-
--- a fault stays, whatever follows
-pub faulty_more : (rest more : List ℕ) (fault : WireFault) → IsFaulty rest fault → IsFaulty (rest ++ more) fault
-faulty_more rest more fault f = λ later. subst (λ t. HasFault t fault × HasNoSpelling t) (sym (append_assoc rest more later)) (f (more ++ later))
-
 -- where an answer could not be written
 pub cut_as : {W : Type 0} (contents : W → Option (List ℕ)) (result : Result (Option WireFault) OutputFault) (output output' : Counting W) (wire : RequestHeld) (bytes : List ℕ) (done : List Exchange) (rest : List ℕ)
     → IsErr result → IsCutOff (contents output.inner) (contents output'.inner) bytes done rest → HasRisen output.failures output'.failures
     → AnswersAs contents result output output' wire bytes done rest
 cut_as contents (Ok x) output output' wire bytes done rest e c r = absurd (cc)
 cut_as contents (Err failed) output output' wire bytes done rest e c r = (c, r)
-
--- What a reader that was settled does with one piece more, by what answering gave.
-module _ {H S Seat R : Type 0} {k : Kinds H Seat S R} {old between new : State H S Seat R} where
-  pub piece_cut : {W : Type 0} (contents : W → Option (List ℕ)) (result : Result (Option WireFault) OutputFault) (first out out' : Counting W) (wire wire' : RequestHeld) (bytes text part : List ℕ) (at count : ℕ)
-      → part ≡ drop at text → IsErr result → first.failures ≤ out.failures
-      → Advances k old between (λ done rest. IsAnswered (contents first.inner) (contents out.inner) (bytes ++ take at text) done rest × IsSettled wire rest)
-      → ((rest : List ℕ) → IsSettled wire rest → Advances k between new
-      (λ more later. IsCutOff (contents out.inner) (contents out'.inner) (rest ++ take count part) more later × HasRisen out.failures out'.failures))
-      → Advances k old new (AnswersAs contents result first out' wire' (bytes ++ text))
-  piece_cut contents result first out out' wire wire' bytes text part at count same failed since a f =
-      advances_then a (λ done rest p.
-      let b = f rest p.1 in
-      record {
-        done = b.done;
-        rest = b.rest ++ drop (at + count) text;
-        run = b.run;
-        outcome = cut_as contents result first out' wire' (bytes ++ text) (done ++ b.done) (b.rest ++ drop (at + count) text) failed
-            (cut_whole _ _ bytes text b.rest at count (done ++ b.done) (cut_then _ _ _ (bytes ++ take at text) rest (take count (drop at text)) b.rest done b.done p.0 (subst (λ l. IsCutOff (contents out.inner) (contents out'.inner) (rest ++ take count l) b.done b.rest) same b.outcome.0)))
-            (risen_since first.failures out.failures out'.failures since b.outcome.1);
-      })
-
-  pub piece_faulty : {W : Type 0} (contents : W → Option (List ℕ)) (fault : WireFault) (first out out' : Counting W) (wire wire' : RequestHeld) (bytes text part : List ℕ) (at count : ℕ)
-      → part ≡ drop at text → Advances k old between (λ done rest. IsAnswered (contents first.inner) (contents out.inner) (bytes ++ take at text) done rest × IsSettled wire rest)
-      → ((rest : List ℕ) → IsSettled wire rest → Advances k between new
-      (λ more later. IsAnswered (contents out.inner) (contents out'.inner) (rest ++ take count part) more later × IsFaulty later fault))
-      → Advances k old new (AnswersAs contents (Ok (Some fault)) first out' wire' (bytes ++ text))
-  piece_faulty contents fault first out out' wire wire' bytes text part at count same a f =
-      advances_then a (λ done rest p.
-      let b = f rest p.1 in
-      record {
-        done = b.done;
-        rest = b.rest ++ drop (at + count) text;
-        run = b.run;
-        outcome = (
-          answered_whole _ _ bytes text b.rest at count (done ++ b.done) (answered_then _ _ _ (bytes ++ take at text) rest (take count (drop at text)) b.rest done b.done p.0 (subst (λ l. IsAnswered (contents out.inner) (contents out'.inner) (rest ++ take count l) b.done b.rest) same b.outcome.0)),
-          faulty_more b.rest (drop (at + count) text) fault b.outcome.1,
-        );
-      })
-
-  pub piece_answered : {W : Type 0} (contents : W → Option (List ℕ)) (first out out' : Counting W) (wire wire' : RequestHeld) (bytes text part : List ℕ) (at count : ℕ)
-      → part ≡ drop at text → Advances k old between (λ done rest. IsAnswered (contents first.inner) (contents out.inner) (bytes ++ take at text) done rest × IsSettled wire rest)
-      → ((rest : List ℕ) → IsSettled wire rest → Advances k between new
-      (λ more later. IsAnswered (contents out.inner) (contents out'.inner) (rest ++ take count part) more later × IsSettled wire' later))
-      → Advances k old new (λ done rest. IsAnswered (contents first.inner) (contents out'.inner) (bytes ++ take (at + count) text) done rest × IsSettled wire' rest)
-  piece_answered contents first out out' wire wire' bytes text part at count same a f =
-      advances_then a (λ done rest p.
-      let b = f rest p.1 in
-      record {
-        done = b.done;
-        rest = b.rest;
-        run = b.run;
-        outcome = (
-          subst (λ t. IsAnswered (contents first.inner) (contents out'.inner) t (done ++ b.done) b.rest) (piece_then bytes text at count)
-              (answered_then _ _ _ (bytes ++ take at text) rest (take count (drop at text)) b.rest done b.done p.0 (subst (λ l. IsAnswered (contents out.inner) (contents out'.inner) (rest ++ take count l) b.done b.rest) same b.outcome.0)),
-          b.outcome.1,
-        );
-      })
 
 -- One call of `next`, by what it answered.
 pub next_none : (old new : RequestHeld) (result : Result (Option Request) WireFault) → IsNext old (told result) new → result ≡ Ok None → (bytes : List ℕ) → Unread old bytes → IsSettled new bytes
@@ -251,13 +161,6 @@ next_some old new result request n e bytes u =
     let m = subst (λ a. IsNext old (told a) new) e n in
     let w = m.continues bytes u in
     (w.0, w.1, w.2.0, w.2.1, w.2.2)
-
-pub next_shorter : (old new : RequestHeld) (result : Result (Option Request) WireFault) (request : Request) → IsNext old (told result) new → result ≡ Ok (Some request) → length new.kept < length old.kept
-next_shorter old new result request n e = (subst (λ a. IsNext old (told a) new) e n).shrinks
-
--- a reader that is settled takes some of a piece that is not empty
-pub push_some : (count len taken : ℕ) → count ≡ min len (READER_LIMIT - taken) → taken < READER_LIMIT → 0 < len → (0 < count) × (count ≤ len)
-push_some count len taken e room some = (omega arith, omega arith)
 
 -- where the output failed
 pub output_ends : {In W : Type 0} (remaining : In → Option (List ℕ)) (contents : W → Option (List ℕ)) (result : Result Served ServeFault) (input input' : Counting In) (output output' : Counting W)

@@ -60,7 +60,7 @@ status_of Idle = NothingOpen
 status_of (Offline drive access) = ReelAway
 status_of (Online drive access reel) = Ready access
 
--- a record has 1 to 65,536 bytes
+-- a record has 1 to 262,144 bytes
 abbrev pub write_refusal : Access → ℕ → Option Refusal
 write_refusal access count =
     if writes access then (if (count == 0) || nat_lt RECORD_LIMIT count then Some Invalid else None) else Some BadDescriptor
@@ -85,7 +85,7 @@ refusal (Ready access) (WriteDropped count) = if writes access then Some Invalid
 refusal (Ready access) (Read count) = read_refusal access count
 refusal (Ready access) (Op op count) = op_refusal access op
 
--- what a request asks of the reel; a read gives 65,536 bytes at most
+-- what a request asks of the reel; a read gives 262,144 bytes at most
 abbrev pub tape_request : PlainRequest → TapeRequest
 tape_request (Write bytes) = WriteRecord bytes
 tape_request (Read count) = ReadRecord (min count RECORD_LIMIT)

@@ -156,12 +156,6 @@ abbrev pub AnswersUnread : {Out H S Seat R : Type 0} → Kinds H Seat S R → Wr
     → Serving RequestHeld Out H S Seat R → Serving RequestHeld Out H S Seat R → Type 0
 AnswersUnread k output result old new = (bytes : List ℕ) → Unread old.requests bytes → AnswersFrom k output result old new bytes
 
--- the same of a reader that is settled, and of its bytes with a piece more
-abbrev pub AnswersPiece : {Out H S Seat R : Type 0} → Kinds H Seat S R → WritePromise Out → List ℕ → Result (Option WireFault) OutputFault
-    → Serving RequestHeld Out H S Seat R → Serving RequestHeld Out H S Seat R → Type 0
-AnswersPiece k output piece result old new =
-    (bytes : List ℕ) → IsSettled old.requests bytes → AnswersFrom k output result old new (bytes ++ piece)
-
 -- the two streams of a session that is serving
 abbrev pub streams_of : {In Out H S Seat R : Type 0} → Serving (Counting In) Out H S Seat R → Streams In Out
 streams_of x = streams x.requests x.replies

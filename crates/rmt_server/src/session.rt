@@ -52,7 +52,7 @@ impl<H: Holds, S: Stacks> Session<H, S> {
 
     /// A session with nothing open. The seat holds no drive.
     ///
-    /// It reserves 65,536 bytes, the buffer for reads, and hands the seat back where they are refused.
+    /// It reserves 262,144 bytes, the buffer for reads, and hands the seat back where they are refused.
     pub fn new(alloc: Global, seat: H::Seat) -> Result<Session<H, S>, (H::Seat, AllocError)>
         requires { HoldsJust (H.shows seat) None }
         ensures made { MatchResult result (λ s. s ≡ record { seat = seat; opened = None }) (λ refused. refused.0 ≡ seat) }
@@ -75,12 +75,12 @@ impl<H: Holds, S: Stacks> Session<H, S> {
     /// failed, 12 where memory was refused. All other requests: 9 with nothing open. Of those but a close: 6 where
     /// the reel lies in the bin; 9 for a write or a read without that access, 22 for an operation
     /// above 7, 13 for marks without the access to write; 22 for a count of a write or read that is 0 or, for a write,
-    /// above 65,536; a write that has no room is answered with the number 0, and marks with 28; 12 where memory was
+    /// above 262,144; a write that has no room is answered with the number 0, and marks with 28; 12 where memory was
     /// refused; 5 where the device failed, or spacing met a mark, the end or the beginning first, or the bin has a reel
     /// of the name of the one that operation 6 is to move there.
     ///
     /// Operation 6 rewinds the reel and moves it to the bin; the drive stays open and held. After its 5 and 12 the reel
-    /// stays on its stack, open, at its beginning. A read gives 65,536 bytes at most, whatever its count. A reply
+    /// stays on its stack, open, at its beginning. A read gives 262,144 bytes at most, whatever its count. A reply
     /// without an error has 0 for an open or a close, the count for a write or an operation, or the bytes of a read.
     ///
     /// The drives are those of the seat and of what is open, and the stacks have no more of them than the holds.

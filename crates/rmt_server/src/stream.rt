@@ -3,16 +3,13 @@ ghost use Rattle.std.specs.Prelude.{◌≡◌, ◌<◌, ◌≤◌, ℕ, List, []
 ghost use Rattle.rmt_wire.specs.RequestReader.{Unread};
 ghost use Rattle.drives.specs.Opening.{kinds};
 ghost use Rattle.rmt_server.specs.State.{state, IsAt};
-ghost use Rattle.rmt_server.specs.Stream.{serving, streams, AnswersPiece, AnswersUnread, ConversesAs, ServesAs, IsSettled, NoneFailed};
+ghost use Rattle.rmt_server.specs.Stream.{serving, streams, AnswersUnread, ConversesAs, ServesAs, NoneFailed};
 
 use crate::session::Session;
 use drives::{DriveTable, Holds, Stacks};
-use rmt_wire::{Counted, OutputFault, RECORD_LIMIT, RequestReader, WireFault, write_reply};
+use rmt_wire::{Counted, OutputFault, RequestReader, WireFault, write_reply};
 use std::io::{Read, Write};
 use thiserror::Error;
-
-/// The most bytes that are read at once: as many as the longest record has. It is no limit of a request.
-const PIECE: usize = RECORD_LIMIT;
 
 /// How the stream of a session ended.
 #[derive(Clone, Copy, Debug, PartialEq, Eq)]
@@ -74,32 +71,6 @@ fn answer_all<W: Write, H: Holds, S: Stacks>(
     }
 }
 
-/// Takes in a piece of the stream, and answers each request that is whole then, up to bytes that are none.
-fn take_in<W: Write, H: Holds, S: Stacks>(
-    piece: &[u8],
-    output: &mut Counted<W>,
-    wire: &mut RequestReader,
-    session: &mut Session<H, S>,
-    drives: &mut DriveTable<H, S>,
-) -> Result<Option<WireFault>, OutputFault>
-    requires at { IsAt (kinds H.Holds S.Stacks S.Reel.Reel) (state drives.old session.old) }
-    requires settled { (bytes : List ℕ) × IsSettled wire.old bytes }
-    ensures at { IsAt (kinds H.Holds S.Stacks S.Reel.Reel) (state drives.new session.new) }
-    ensures answers { AnswersPiece (kinds H.Holds S.Stacks S.Reel.Reel) W.Write piece.now result
-        (serving wire.old output.old drives.old session.old) (serving wire.new output.new drives.new session.new) }
-    ensures counted { output.old.failures ≤ output.new.failures }
-    ensures steady { OnOk result (output.new.failures ≡ output.old.failures) }
-{
-    let mut at = 0;
-    while at < piece.len() {
-        at += wire.push(&piece[at..]);
-        if let Some(fault) = answer_all(output, wire, session, drives)? {
-            return Ok(Some(fault));
-        }
-    }
-    Ok(None)
-}
-
 /// Answers the requests of a stream up to its end, its first bytes that are no request, or a failure.
 fn converse<R: Read, W: Write, H: Holds, S: Stacks>(
     input: &mut Counted<R>,
@@ -115,14 +86,13 @@ fn converse<R: Read, W: Write, H: Holds, S: Stacks>(
         (serving input.old output.old drives.old session.old) (serving input.new output.new drives.new session.new) }
     ensures steady { OnOk result (NoneFailed (streams input.old output.old) (streams input.new output.new)) }
 {
-    let mut piece = [0; PIECE];
     loop {
-        match input.read(&mut piece) {
+        match wire.fill(input) {
             Err(_) => return Err(ServeFault::Input),
             Ok(0) if wire.is_empty() => return Ok(Served::End),
             Ok(0) => return Ok(Served::Truncated),
-            Ok(count) => {
-                if let Some(fault) = take_in(&piece[..count], output, wire, session, drives)? {
+            Ok(_) => {
+                if let Some(fault) = answer_all(output, wire, session, drives)? {
                     return Ok(Served::Broken(fault));
                 }
             }
@@ -135,7 +105,7 @@ fn converse<R: Read, W: Write, H: Holds, S: Stacks>(
 /// The stream ends between two requests (`End`), inside one (`Truncated`), which is not carried out, or at bytes
 /// that are no request (`Broken`). It answers `Input` where a read failed, and `Output` where a write
 /// failed or took none of some bytes. In every case what was open is closed. It takes no memory of its own, and
-/// reads pieces of up to 65,536 bytes.
+/// reads straight into the reader's room.
 pub fn serve<R: Read, W: Write, H: Holds, S: Stacks>(
     input: &mut Counted<R>,
     output: &mut Counted<W>,

@@ -38,13 +38,13 @@ fn told(host: &mut Host) -> [Option<usize>; 7] {
     ]
 }
 
-/// 65,548 bytes is the room of a reader to which nothing was pushed.
+/// 262,156 bytes is the room of a reader to which nothing was pushed.
 static TOLD: [Option<usize>; 7] = [
     None,
-    Some(65548),
-    Some(65543),
+    Some(262156),
+    Some(262151),
     None,
-    Some(65548),
+    Some(262156),
     Some(5),
     Some(0),
 ];

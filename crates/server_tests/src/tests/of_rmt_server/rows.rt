@@ -183,36 +183,54 @@ fn with_data(alloc: Global, lines: &[Line]) -> Result<Vec<u8>, AllocError> {
 
 /// The greatest record, one byte more, none, and counts at their limits.
 static LIMITS: [Line; 7] = [
-    (b"W65537\n", 65537),
-    (b"O/dev/st0\n2147483646\nW0000065536\n", 65536),
-    (b"W65537\n", 65537),
-    (b"W0\nI5\n2147483647\nR65537\nR1\n", 0),
+    (b"W262145\n", 262145),
+    (b"O/dev/st0\n2147483646\nW0000262144\n", 262144),
+    (b"W262145\n", 262145),
+    (b"W0\nI5\n2147483647\nR262145\nR1\n", 0),
     (b"I5\n0\nR2147483647\nI7\n2147483647\n", 0),
-    (b"I5\n0\nR65535\nR0\nI0\n2147483647\n", 0),
+    (b"I5\n0\nR262143\nR0\nI0\n2147483647\n", 0),
     (b"I2147483647\n0\nR2147483648\nC\n", 0),
 ];
 
 static LIMITS_ANSWERS: [Line; 7] = [
     (b"E9\nBad file descriptor\n", 0),
     (
-        b"A0\nA65536\nE22\nInvalid argument\nE22\nInvalid argument\n",
+        b"A0\nA262144\nE22\nInvalid argument\nE22\nInvalid argument\n",
         0,
     ),
-    (b"A2147483647\nA65536\n", 65536),
-    (b"A0\nA0\nA65536\n", 65536),
-    (b"A2147483647\nA0\nA65535\n", 65535),
+    (b"A2147483647\nA262144\n", 262144),
+    (b"A0\nA0\nA262144\n", 262144),
+    (b"A2147483647\nA0\nA262143\n", 262143),
     (b"E22\nInvalid argument\nE28\nNo space left on device\n", 0),
     (b"E22\nInvalid argument\n", 0),
 ];
 
-/// Whether those are answered so.
-fn limits_are_answered(alloc: Global) -> Result<bool, AllocError> {
-    let bytes = with_data(alloc, &LIMITS)?;
-    let want = with_data(alloc, &LIMITS_ANSWERS)?;
+/// A write of the greatest record, one of a byte more, one of none, and an operation that does nothing.
+static WRITES: [Line; 4] = [
+    (b"O/dev/st0\n2\nW262144\n", 262144),
+    (b"W262145\n", 262145),
+    (b"W0\n", 0),
+    (b"I7\n9\n", 0),
+];
+
+static WRITES_ANSWERS: [Line; 1] = [(
+    b"A0\nA262144\nE22\nInvalid argument\nE22\nInvalid argument\nA9\n",
+    0,
+)];
+
+/// Whether these are answered so, and serving ends with this.
+fn are_answered(
+    alloc: Global,
+    lines: &[Line],
+    answers: &[Line],
+    status: u8,
+) -> Result<bool, AllocError> {
+    let bytes = with_data(alloc, lines)?;
+    let want = with_data(alloc, answers)?;
     let row: Row<'_> = (
         bytes.as_slice(),
         want.as_slice(),
-        BAD_NUMBER,
+        status,
         b"A0\nA8\ndddddddd",
     );
     Ok(is_answered(alloc, &row))
@@ -220,6 +238,12 @@ fn limits_are_answered(alloc: Global) -> Result<bool, AllocError> {
 
 #[test]
 fn counts_at_their_limits(rt: HostRuntime) -> Result<(), Fail> {
-    assert!(rt; limits_are_answered(rt.alloc())?);
+    assert!(rt; are_answered(rt.alloc(), &LIMITS, &LIMITS_ANSWERS, BAD_NUMBER)?);
+    Ok(())
+}
+
+#[test]
+fn long_writes(rt: HostRuntime) -> Result<(), Fail> {
+    assert!(rt; are_answered(rt.alloc(), &WRITES, &WRITES_ANSWERS, END)?);
     Ok(())
 }
