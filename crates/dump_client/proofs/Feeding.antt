@@ -1,6 +1,5 @@
 -- What comes of a piece, by what all the bytes are that came since the request.
-use Rattle.std.proofs.Common.{◌≡◌, ◌≢◌, ◌⊎◌, inl, inr, ℕ, Bool, true, false, List, [], ◌++◌, length, length-append, take, drop, arith, refl, sym, ap, ◌∙◌, subst, Some, None, Result, Ok, Err}
-use Rattle.std.proofs.lemmas.List.{length-take-le}
+use Rattle.std.proofs.Common.{◌≡◌, ◌≢◌, ◌⊎◌, inl, inr, ℕ, Bool, true, false, List, [], ◌++◌, length, refl, sym, ap, ◌∙◌, subst, Some, None, Result, Ok, Err}
 use Rattle.rmt_wire.specs.Reply.{PlainReply, Wanted}
 use Rattle.rmt_wire.specs.ReplyReader as reader
 use Rattle.rmt_wire.specs.ReplyReader.{ReplyUnread}
@@ -14,7 +13,7 @@ use Rattle.dump_run.specs.Run.{PlainRun}
 use Rattle.dump_run.specs.declared.count.VolumeCount.{VolumeCount}
 use Rattle.dump_run.specs.declared.blocks.SourceFailed.{SourceFailed}
 use Rattle.dump_client.specs.declared.fault.AttemptFault.{AttemptFault}
-use Rattle.dump_client.specs.declared.fault.AttemptFault.TheVariants.{SourceFault}
+use Rattle.dump_client.specs.declared.fault.AttemptFault.TheVariants.{SourceFault, OutOfMemory}
 use Rattle.dump_client.specs.declared.fault.StartFault.{StartFault}
 use Rattle.dump_client.specs.declared.fault.StartFault.TheVariants as starts
 use Rattle.dump_client.specs.declared.listen.Said.{Said}
@@ -28,10 +27,9 @@ use Rattle.dump_client.specs.declared.step.Step.TheVariants.{Open, Block, Close}
 use Rattle.dump_client.proofs.Listening.{waiting_anew}
 
 -- what a client keeps of its invariant where it stands there
-abbrev pub Keeps : {B : Type 0} → (B → List (List ℕ) → Type 0) → B → List ℕ → reader.ReplyHeld → Standing → Type 0
-Keeps {B} holds source block r s =
-    (length block ≡ s.run.block_bytes) × ((payload : List (List ℕ)) → holds source payload → IsPayload s.run payload)
-    × ((bytes : List ℕ) × HasFedAt s.stage r bytes)
+abbrev pub Keeps : {B : Type 0} → (B → List (List ℕ) → Type 0) → B → reader.ReplyHeld → Standing → Type 0
+Keeps {B} holds source r s =
+    ((payload : List (List ℕ)) → holds source payload → IsPayload s.run payload) × ((bytes : List ℕ) × HasFedAt s.stage r bytes)
 
 pub idle_fed : (stage : Stage) (r : reader.ReplyHeld) → IsIdle stage → HasFedAt stage r []
 idle_fed (ToSend step) r idle = absurd idle
@@ -43,11 +41,10 @@ pub over_is : (run : PlainRun) (counts : List VolumeCount) (new : Standing) → 
 over_is run counts new (inl h) = (ap (λ s. s.run) h.1, ap (λ s. s.counts) h.1)
 over_is run counts new (inr h) = (ap (λ s. s.run) h.1, ap (λ s. s.counts) h.1)
 
-pub over_keeps : {B : Type 0} (holds : B → List (List ℕ) → Type 0) (source : B) (block : List ℕ) (r : reader.ReplyHeld) (run : PlainRun) (counts : List VolumeCount)
-    (new : Standing) → IsOver run counts new → length block ≡ run.block_bytes → ((payload : List (List ℕ)) → holds source payload → IsPayload run payload)
-    → Keeps holds source block r new
-over_keeps holds source block r run counts new (inl h) size told = subst (Keeps holds source block r) (sym h.1) (size, told, ([], refl))
-over_keeps holds source block r run counts new (inr h) size told = subst (Keeps holds source block r) (sym h.1) (size, told, ([], refl))
+pub over_keeps : {B : Type 0} (holds : B → List (List ℕ) → Type 0) (source : B) (r : reader.ReplyHeld) (run : PlainRun) (counts : List VolumeCount)
+    (new : Standing) → IsOver run counts new → ((payload : List (List ℕ)) → holds source payload → IsPayload run payload) → Keeps holds source r new
+over_keeps holds source r run counts new (inl h) told = subst (Keeps holds source r) (sym h.1) (told, ([], refl))
+over_keeps holds source r run counts new (inr h) told = subst (Keeps holds source r) (sym h.1) (told, ([], refl))
 
 -- an attempt that does not start changes nothing
 pub start_refused : (stage : Stage) (old : Standing) (room : ℕ) (fault : StartFault) (new : Standing) → StartedAt stage old room (Err fault) new → new ≡ old
@@ -117,12 +114,12 @@ pub asked_done : (told : List (List ℕ) → Type 0) (old : Standing) (step : St
 asked_done told old step capacity before now new at h is =
     subst (λ s. AskedAt s told old capacity before (Ok true) now new) at (h.0, h.1, h.2, h.3, is)
 
-scarce_close : (told : List (List ℕ) → Type 0) (run : PlainRun) (at : ℕ × ℕ) (step : Step) (fault : AttemptFault) (capacity len : ℕ) → step ≡ Close
-    → IsFaultAt told run at step fault capacity len → IsScarce CloseDevice capacity len
-scarce_close told run at step fault capacity len is (inl h) = let no : Close ≡ Block h.1.0 = sym is ∙ h.1.1 in absurd cc
-scarce_close told run at step fault capacity len is (inr h) =
-    let lacks : LacksRoom told run at Close capacity len = subst (λ s. LacksRoom told run at s capacity len) is h.1 in
-    subst (λ r. IsScarce r capacity len) lacks.1.1 lacks.3
+scarce_close : (run : PlainRun) (at : ℕ × ℕ) (step : Step) (fault : AttemptFault) (capacity len : ℕ) → step ≡ Close
+    → IsFaultAt run at step fault capacity len → IsScarce CloseDevice capacity len
+scarce_close run at step fault capacity len is (inl h) = let no : Close ≡ Block h.1.0 = sym is ∙ h.1.1 in absurd cc
+scarce_close run at step fault capacity len is (inr h) =
+    let lacks : LacksRoom run at Close capacity len = subst (λ s. LacksRoom run at s capacity len) is h.1 in
+    subst (λ r. IsScarce r capacity len) lacks.1 lacks.3
 
 -- at the close none is, where memory is scarce
 pub asked_over : (told : List (List ℕ) → Type 0) (old : Standing) (step : Step) (capacity : ℕ) (before now : List ℕ) (fault : AttemptFault) (new : Standing)
@@ -130,7 +127,7 @@ pub asked_over : (told : List (List ℕ) → Type 0) (old : Standing) (step : St
     → AskedAt old.stage told old capacity before (Ok false) now new
 asked_over told old step capacity before now fault new at is h over =
     subst (λ s. AskedAt s told old capacity before (Ok false) now new) at
-    (is, scarce_close told old.run (checkpoint_of old.counts) step fault capacity (length before) is h.0, h.1, over)
+    (is, scarce_close old.run (checkpoint_of old.counts) step fault capacity (length before) is h.0, h.1, over)
 
 pub asked_failed : (told : List (List ℕ) → Type 0) (old : Standing) (step : Step) (capacity : ℕ) (before now : List ℕ) (fault : AttemptFault) (new : Standing)
     → ToSend step ≡ old.stage → step ≢ Close → AppendedBy told old step capacity before (Err fault) now → new ≡ standing old.run old.counts Asking
@@ -165,10 +162,6 @@ same_fault fault = refl
 
 pub read_failed : (B : Type 0) (size : ℕ) (reads : B → ℕ → List ℕ → Result Unit SourceFailed → B → List ℕ → Type 0) (step : Step) (old new : B) (before now : List ℕ) (fault : AttemptFault)
     → ReadBy {B = B} {T = Unit {0}} step size reads old before (Err fault) new now → ReadBy {B = B} {T = Bool} step size reads old before (Err fault) new now
+read_failed B size reads (Block number) old new before now OutOfMemory h = h
 read_failed B size reads (Block number) old new before now fault h = (h.0, h.1, h.2, h.3, h.4, same_fault fault ∙ h.5, tt)
 read_failed B size reads step old new before now fault h = h
-
--- a row of bytes that was written over has its length still
-pub length_over : (len : ℕ) (new old : List ℕ) (n : ℕ) → len ≡ n → length new ≡ n → length (take len (new ++ drop (length new) old)) ≡ n
-length_over len new old n h k =
-    length-take-le len (new ++ drop (length new) old) (let all = length-append new (drop (length new) old) in omega (arith, all, h, k)) ∙ h

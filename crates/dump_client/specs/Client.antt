@@ -78,15 +78,15 @@ abbrev pub IsScarce : PlainRequest → ℕ → ℕ → Type 0
 IsScarce request capacity len = capacity < len + length (request_text request)
 
 -- the request of a step, as it is spelled, has no room; a block's text has the same length whatever its bytes are
-abbrev pub LacksRoom : (List (List ℕ) → Type 0) → PlainRun → ℕ × ℕ → Step → ℕ → ℕ → Type 0
-LacksRoom told run at step capacity len =
-    (request : PlainRequest) × IsRequestOf told run at step request × IsTextOf (request_text request) request × IsScarce request capacity len
+abbrev pub LacksRoom : PlainRun → ℕ × ℕ → Step → ℕ → ℕ → Type 0
+LacksRoom run at step capacity len =
+    (request : PlainRequest) × IsShapedAs run at step request × IsTextOf (request_text request) request × IsScarce request capacity len
 
 -- why no request could be appended: a block that could not be read, or no room
-abbrev pub IsFaultAt : (List (List ℕ) → Type 0) → PlainRun → ℕ × ℕ → Step → AttemptFault → ℕ → ℕ → Type 0
-IsFaultAt told run at step fault capacity len =
+abbrev pub IsFaultAt : PlainRun → ℕ × ℕ → Step → AttemptFault → ℕ → ℕ → Type 0
+IsFaultAt run at step fault capacity len =
     ((fault ≡ SourceFault) × ((number : ℕ) × (step ≡ Block number)))
-    ⊎ ((fault ≡ OutOfMemory) × LacksRoom told run at step capacity len)
+    ⊎ ((fault ≡ OutOfMemory) × LacksRoom run at step capacity len)
 
 -- a request is appended, or nothing, where there is no room for it
 abbrev pub IsRequestPushed : PlainRequest → ℕ → List ℕ → Result Unit AttemptFault → List ℕ → Type 0
@@ -104,7 +104,7 @@ AppendedBy told at step capacity before (Ok x) now =
     (request : PlainRequest) × IsRequestOf told at.run (checkpoint_of at.counts) step request × IsTextOf (request_text request) request
     × (now ≡ before ++ request_text request)
 AppendedBy told at step capacity before (Err fault) now =
-    IsFaultAt told at.run (checkpoint_of at.counts) step fault capacity (length before) × (now ≡ before)
+    IsFaultAt at.run (checkpoint_of at.counts) step fault capacity (length before) × (now ≡ before)
 
 -- The next request is asked for, with what `out` held before and holds now. At the close want of memory is no fault: the attempt is
 -- over.
@@ -115,7 +115,7 @@ AskedAt (ToSend step) told old capacity before (Ok true) now new =
 AskedAt (ToSend step) told old capacity before (Ok false) now new =
     (step ≡ Close) × IsScarce CloseDevice capacity (length before) × (now ≡ before) × IsOver old.run old.counts new
 AskedAt (ToSend step) told old capacity before (Err fault) now new =
-    (step ≢ Close) × IsFaultAt told old.run (checkpoint_of old.counts) step fault capacity (length before) × (now ≡ before)
+    (step ≢ Close) × IsFaultAt old.run (checkpoint_of old.counts) step fault capacity (length before) × (now ≡ before)
     × (new ≡ standing old.run old.counts Asking)
 AskedAt stage told old capacity before result now new = (result ≡ Ok false) × (now ≡ before) × (new ≡ old)
 
@@ -133,13 +133,19 @@ abbrev pub IsRequestGiven : {T : Type 0} → List ℕ → Result T AttemptFault 
 IsRequestGiven before (Ok x) now given = now ≡ before ++ request_text (Write given)
 IsRequestGiven before (Err fault) now given = Unit {0}
 
--- Where a block was asked for the source was read once, into room for a block, and what it gave was appended, or its failure is the
--- fault. Nothing else changed the source.
-abbrev pub ReadBy : {B T : Type 0} → Step → ℕ → (B → ℕ → List ℕ → Result Unit SourceFailed → B → List ℕ → Type 0)
+-- The source was read once, into room for a block, and what it gave was appended, or its failure is the fault. Where memory was refused
+-- for the text of the block's write the source was not read.
+abbrev pub IsBlockRead : {B T : Type 0} → ℕ → ℕ → (B → ℕ → List ℕ → Result Unit SourceFailed → B → List ℕ → Type 0)
     → B → List ℕ → Result T AttemptFault → B → List ℕ → Type 0
-ReadBy {B} {T} (Block number) size reads old before result new now =
+IsBlockRead {B} {T} number size reads old before (Err OutOfMemory) new now = new ≡ old
+IsBlockRead {B} {T} number size reads old before result new now =
     (into : List ℕ) × (given : List ℕ) × (read : Result Unit SourceFailed) × (length into ≡ size) × reads old number into read new given
     × (is_source_fault result ≡ has_failed read) × IsRequestGiven before result now given
+
+-- that, where a block was asked for; no other request changed the source
+abbrev pub ReadBy : {B T : Type 0} → Step → ℕ → (B → ℕ → List ℕ → Result Unit SourceFailed → B → List ℕ → Type 0)
+    → B → List ℕ → Result T AttemptFault → B → List ℕ → Type 0
+ReadBy {B} {T} (Block number) size reads old before result new now = IsBlockRead number size reads old before result new now
 ReadBy {B} {T} step size reads old before result new now = new ≡ old
 
 abbrev pub ReadAt : {B : Type 0} → Stage → ℕ → (B → ℕ → List ℕ → Result Unit SourceFailed → B → List ℕ → Type 0)

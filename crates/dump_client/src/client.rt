@@ -35,20 +35,18 @@ use std::marker::Model;
 pub struct Client<B: Blocks> {
     ledger: Ledger,
     source: B,
-    block: Vec<u8>,
     reader: ReplyReader,
 }
 
 impl<B: Blocks> Model for Client<B> {
-    ghost use Rattle.std.specs.Prelude.{◌≡◌, ℕ, List, length};
+    ghost use Rattle.std.specs.Prelude.{ℕ, List};
     ghost use Rattle.dump_client.specs.Client.{ClientHeld, HasFedAt, IsPayload};
 
     ghost Value = { ClientHeld B };
 
     ghost view = { λ c. record { at = c.ledger.at; source = c.source; reader = c.reader; room = c.ledger.room } };
 
-    ghost invariant = { λ c. (length c.block.items ≡ c.ledger.at.run.block_bytes)
-        × ((payload : List (List ℕ)) → B.Blocks.holds c.source payload → IsPayload c.ledger.at.run payload)
+    ghost invariant = { λ c. ((payload : List (List ℕ)) → B.Blocks.holds c.source payload → IsPayload c.ledger.at.run payload)
         × ((bytes : List ℕ) × HasFedAt c.ledger.at.stage c.reader bytes) };
 }
 
@@ -56,7 +54,7 @@ impl<B: Blocks + Drop> Client<B> {
     /// A client of this run, with nothing counted, that can start. A source that tells its blocks has the run's number
     /// of them, each of its size.
     ///
-    /// It reserves `rmt_wire::READER_LIMIT` bytes for replies and a block, and fails only where these are refused.
+    /// It reserves `rmt_wire::READER_LIMIT` bytes for replies, and fails only where these are refused.
     pub fn new(alloc: Global, run: Run, source: B) -> Result<Client<B>, AllocError>
         requires { (payload : List (List ℕ)) → B.holds source payload → IsPayload run payload }
         ensures made { IfOk result (λ c. c.at ≡ standing run [] stages.Ready) }
@@ -72,12 +70,10 @@ impl<B: Blocks + Drop> Client<B> {
         ensures made { IfOk result (λ c. c.at ≡ ledger.at) }
         ensures given { IfOk result (λ c. c.source ≡ source) }
     {
-        let block = Vec::from_elem(alloc, 0u8, ledger.run().block_bytes())?;
         let reader = ReplyReader::new(alloc)?;
         Ok(Client {
             ledger,
             source,
-            block,
             reader,
         })
     }
@@ -88,7 +84,7 @@ impl<B: Blocks + Drop> Client<B> {
     /// run, and can start elsewhere. A source that tells its blocks has the run's number of them, each of its size.
     ///
     /// It refuses bytes that are no such text by the fault of `dump_run::Checkpoint::read`. A text that a client appended is
-    /// refused by `OutOfMemory` at most: beside the counts it reserves `rmt_wire::READER_LIMIT` bytes for replies and a block.
+    /// refused by `OutOfMemory` at most: beside the counts it reserves `rmt_wire::READER_LIMIT` bytes for replies.
     pub fn resume(alloc: Global, bytes: &[u8], source: B) -> Result<Client<B>, ResumeFault>
         requires { (run : PlainRun) (counts : List VolumeCount) (payload : List (List ℕ)) → SpellsCheckpoint bytes.now run counts →
             B.holds source payload → IsPayload run payload }
@@ -174,7 +170,7 @@ impl<B: Blocks> Client<B> {
     }
 
     /// Appends the next request, and waits for its reply. True where one was appended; false, with nothing done, in
-    /// another state than `ToSend`.
+    /// another state than `ToSend`. A block is read into its place in `out`, once there is room for its write.
     ///
     /// A fault fails the attempt, with nothing appended: `SourceFault` where the block could not be read, and
     /// `OutOfMemory` where `out` has less spare room than this request's text has bytes and the memory for more is
@@ -194,7 +190,7 @@ impl<B: Blocks> Client<B> {
         let Stage::ToSend(step) = self.ledger.stage() else {
             return Ok(false);
         };
-        match push_step(&self.ledger, step, &mut self.source, &mut self.block, out) {
+        match push_step(&self.ledger, step, &mut self.source, out) {
             Ok(()) => {
                 self.reader.expect(step.wanted());
                 self.ledger.wait(step);

@@ -1,32 +1,33 @@
 //! The requests of an attempt.
-ghost use Rattle.std.specs.Prelude.{◌≡◌, ◌↔◌, ℕ, ◌≤◌, true, List, length};
+ghost use Rattle.std.specs.Prelude.{◌≡◌, ◌↔◌, ℕ, ◌+◌, ◌<◌, ◌≤◌, true, List, ◌++◌, length, take, IfOk, OnErr};
 ghost use Rattle.std.specs.Vec.{vec_capacity};
 ghost use Rattle.rmt_wire.specs.Lent.{plain_request};
 ghost use Rattle.rmt_wire.specs.Request as requests;
-ghost use Rattle.rmt_wire.specs.Request.PlainRequest.{Open, Op, Read};
+ghost use Rattle.rmt_wire.specs.Request.{IsTextOf, request_text};
+ghost use Rattle.rmt_wire.specs.Request.PlainRequest.{Open, Op, Read, Write};
 ghost use Rattle.dump_run.specs.Label.{label_bytes};
-ghost use Rattle.dump_client.specs.Client.{IsPayload, IsRequestPushed, AppendedBy, ReadBy, failures_after, is_source_fault, label_request};
+ghost use Rattle.dump_client.specs.Client.{IsPayload, IsRequestPushed, IsScarce, AppendedBy, IsBlockRead, ReadBy, failures_after, is_source_fault, label_request};
 ghost use Rattle.dump_client.specs.Lawful.{IsLawful, StepFits};
+ghost use Rattle.dump_client.specs.declared.step.Step.TheVariants as steps;
 
 use crate::ledger::Ledger;
 use crate::step::Step;
 use crate::{AttemptFault, Blocks, Run};
 use dump_run::{LABEL_BYTES, label};
 use rmt_wire::fcntl::O_RDWR;
-use rmt_wire::{Request, push_request};
+use rmt_wire::{RECORD_LIMIT, Request, push_request, push_write_line};
+use std::alloc::AllocError;
 
-/// Appends the request of a step: a block is read from the source, which is told of a volume where its label is
-/// written. Nothing is appended where the read fails.
+/// Appends the request of a step, or nothing: a block is read from the source, which is told of a volume where its label
+/// is written.
 pub(crate) fn push_step<B: Blocks>(
     ledger: &Ledger,
     step: Step,
     source: &mut B,
-    block: &mut [u8],
     out: &mut Vec<u8>,
 ) -> Result<(), AttemptFault>
     requires lawful { IsLawful ledger.now.at }
     requires fits { StepFits ledger.now.at.run ledger.now.at.counts step }
-    requires size { length block.old ≡ ledger.now.at.run.block_bytes }
     requires payload { (payload : List (List ℕ)) → B.holds source.old payload → IsPayload ledger.now.at.run payload }
     ensures appended { AppendedBy (B.holds source.old) ledger.now.at step (vec_capacity out.old) out.old.items result out.new.items }
     ensures read { ReadBy step ledger.now.at.run.block_bytes B.reads source.old out.old.items result source.new out.new.items }
@@ -34,17 +35,13 @@ pub(crate) fn push_step<B: Blocks>(
     ensures counted { B.failures source.new ≡ failures_after result (B.failures source.old) }
     ensures able { is_source_fault result ≡ true → B.can_fail source.old }
     ensures quiet { B.can_fail source.new → B.can_fail source.old }
-    ensures same_size { length block.new ≡ length block.old }
 {
     match step {
         Step::Open => push_open(ledger.run(), out),
         Step::Operation(op) => push_op(op.number(), out),
         Step::Look => push_look(out),
         Step::Label => push_label(ledger, source, out),
-        Step::Block(number) => match source.read(number, block) {
-            Ok(()) => push(&Request::Write { bytes: block }, out),
-            Err(_) => Err(AttemptFault::SourceFault),
-        },
+        Step::Block(number) => push_block(ledger, number, source, out),
         Step::Close => push(&Request::Close, out),
     }
 }
@@ -81,6 +78,57 @@ fn push_label<B: Blocks>(
     source.begin_volume(volume, first);
     let label = label(ledger.run(), volume, first);
     push(&Request::Write { bytes: &label }, out)
+}
+
+/// Appends the write of a block, which is read from the source into its place there.
+///
+/// Nothing is appended where the read fails, nor where the room for the write is refused. In that case the source is not
+/// read.
+fn push_block<B: Blocks>(
+    ledger: &Ledger,
+    number: u32,
+    source: &mut B,
+    out: &mut Vec<u8>,
+) -> Result<(), AttemptFault>
+    requires lawful { IsLawful ledger.now.at }
+    requires number { number < ledger.now.at.run.blocks }
+    requires payload { (payload : List (List ℕ)) → B.holds source.old payload → IsPayload ledger.now.at.run payload }
+    ensures appended { AppendedBy (B.holds source.old) ledger.now.at (steps.Block number) (vec_capacity out.old) out.old.items
+        result out.new.items }
+    ensures read { IsBlockRead number ledger.now.at.run.block_bytes B.reads source.old out.old.items result source.new out.new.items }
+    ensures same_blocks { (payload : List (List ℕ)) → B.holds source.old payload ↔ B.holds source.new payload }
+    ensures counted { B.failures source.new ≡ failures_after result (B.failures source.old) }
+    ensures able { is_source_fault result ≡ true → B.can_fail source.old }
+    ensures quiet { B.can_fail source.new → B.can_fail source.old }
+{
+    let len = out.len();
+    let Ok(start) = push_blank(ledger.run().block_bytes(), out) else {
+        return Err(AttemptFault::OutOfMemory);
+    };
+    match source.read(number, &mut out[start..]) {
+        Ok(()) => Ok(()),
+        Err(_) => {
+            out.truncate(len);
+            Err(AttemptFault::SourceFault)
+        }
+    }
+}
+
+/// Appends the write of so many bytes with zeros in their place, or nothing. Answers where the zeros begin.
+fn push_blank(size: usize, out: &mut Vec<u8>) -> Result<usize, AllocError>
+    requires { size ≤ RECORD_LIMIT }
+    ensures place { IfOk result (λ start. start + size ≡ length out.new.items) }
+    ensures begun { IfOk result (λ start. (bytes : List ℕ) → length bytes ≡ size →
+        take start out.new.items ++ bytes ≡ out.old.items ++ request_text (Write bytes)) }
+    ensures unchanged { OnErr result (out.new.items ≡ out.old.items) }
+    ensures full { OnErr result ((bytes : List ℕ) → length bytes ≡ size →
+        IsScarce (Write bytes) (vec_capacity out.old) (length out.old.items)) }
+    ensures spelled { (bytes : List ℕ) → length bytes ≡ size → IsTextOf (request_text (Write bytes)) (Write bytes) }
+{
+    push_write_line(out, size)?;
+    let start = out.len();
+    out.resize(start + size, 0)?;
+    Ok(start)
 }
 
 /// Appends an operation of count 1.

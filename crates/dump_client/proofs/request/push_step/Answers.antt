@@ -1,10 +1,11 @@
-use Rattle.std.proofs.Common.{◌≤◌, refl, sym, ◌∙◌, ap, subst}
+use Rattle.std.proofs.Common.{◌≤◌, refl, sym, ap, subst}
 use Rattle.std.specs.Vec.{vec_capacity}
 use Rattle.rmt_wire.specs.Request.PlainRequest.{Open, Write, Read, Op, Close}
 use Rattle.dump_run.specs.Label as labels
 use Rattle.dump_client.specs.Standing.{checkpoint_of}
 use Rattle.dump_client.specs.declared.step.Step.TheVariants as steps
-use Rattle.dump_client.proofs.Appended.{appended_at, block_read, block_failed}
+use Rattle.dump_client.specs.Client.{AppendedBy, ReadBy}
+use Rattle.dump_client.proofs.Appended.{appended_at}
 use Rattle.dump_client.proofs.Texts.{small_op}
 use Rattle.dump_client.proofs.request.push_step.Goals as goal
 
@@ -29,26 +30,20 @@ returns-in-Label-clause-appended g c =
     appended_at (g.B.Blocks.holds c.args.source.now) c.args.ledger.now.at c.args.step steps.Label (Write (labels.label c.args.ledger.now.at.run at.0 at.1)) (vec_capacity c.args.out.now)
     c.args.out.now.items c.push_label.result c.push_label.new.out.items c.in-Label.is (λ payload t. refl, refl) c.push_label.ensures.pushed
 
-pub returns-in-Ok-clause-appended : goal.returns-in-Ok-clause-appended
-returns-in-Ok-clause-appended g c =
-    appended_at (g.B.Blocks.holds c.args.source.now) c.args.ledger.now.at c.args.step (steps.Block c.in-Block.number) (Write c.read.new.into) (vec_capacity c.args.out.now) c.args.out.now.items
-    c.push.result c.push.new.out.items c.in-Block.is (λ payload t. ap Write (c.in-Ok.ensures.given payload t), (c.read.new.into, refl, c.read.auto.into ∙ c.requires.size)) c.push.ensures
+pub returns-in-Block-clause-appended : goal.returns-in-Block-clause-appended
+returns-in-Block-clause-appended g c =
+    subst (λ s. AppendedBy (g.B.Blocks.holds c.args.source.now) c.args.ledger.now.at s (vec_capacity c.args.out.now) c.args.out.now.items c.push_block.result c.push_block.new.out.items) (sym c.in-Block.is)
+    c.push_block.ensures.appended
 
-pub returns-in-Ok-clause-read : goal.returns-in-Ok-clause-read
-returns-in-Ok-clause-read g c =
-    block_read g.row.B.Denot c.args.ledger.now.at.run.block_bytes g.B.Blocks.reads c.args.step c.in-Block.number c.args.source.now c.read.new.self c.args.block.now c.read.new.into c.read.result
-    (vec_capacity c.args.out.now) c.args.out.now.items c.push.result c.push.new.out.items c.in-Block.is c.requires.size c.read.ensures.read c.in-Ok.is c.push.ensures
-
-pub returns-in-Err-clause-read : goal.returns-in-Err-clause-read
-returns-in-Err-clause-read g c =
-    block_failed g.row.B.Denot c.args.ledger.now.at.run.block_bytes g.B.Blocks.reads c.args.step c.in-Block.number c.args.source.now c.read.new.self c.args.block.now c.read.new.into c.read.result c.in-Err.field-0
-    c.args.out.now.items c.args.out.now.items c.in-Block.is
-    c.requires.size c.read.ensures.read c.in-Err.is
+pub returns-in-Block-clause-read : goal.returns-in-Block-clause-read
+returns-in-Block-clause-read g c =
+    subst (λ s. ReadBy s c.args.ledger.now.at.run.block_bytes g.B.Blocks.reads c.args.source.now c.args.out.now.items c.push_block.result c.push_block.new.source c.push_block.new.out.items)
+    (sym c.in-Block.is) c.push_block.ensures.read
 
 pub returns-in-Close-clause-appended : goal.returns-in-Close-clause-appended
 returns-in-Close-clause-appended g c =
     appended_at (g.B.Blocks.holds c.args.source.now) c.args.ledger.now.at c.args.step steps.Close Close (vec_capacity c.args.out.now) c.args.out.now.items
-    c.push-in-Close.result c.push-in-Close.new.out.items c.in-Close.is (λ payload t. refl, refl) c.push-in-Close.ensures
+    c.push.result c.push.new.out.items c.in-Close.is (λ payload t. refl, refl) c.push.ensures
 
 pub push_op-requires : goal.push_op-requires
 push_op-requires g c = subst (λ n. n ≤ 7) (sym c.number.ensures) (small_op c.in-Operation.op)

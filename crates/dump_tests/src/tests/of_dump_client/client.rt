@@ -170,7 +170,7 @@ const GREATEST_RUN: &Dumped = &Dumped {
     level: 9,
     date: 253402300799,
     since: 951782400,
-    block_bytes: 65536,
+    block_bytes: 262144,
 };
 
 static CASES: [Case; 7] = [

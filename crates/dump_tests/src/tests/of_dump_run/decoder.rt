@@ -106,7 +106,7 @@ fn is_good(number: usize, line: &[u8]) -> bool {
         4 => has_number(line, b"level ", 0, 9),
         5 => has_number(line, b"date ", 0, 253402300799),
         6 => has_number(line, b"since ", 0, 253402300799),
-        7 => has_number(line, b"block ", 1, 65536),
+        7 => has_number(line, b"block ", 1, 262144),
         8 => has_number(line, b"blocks ", 0, 2147483647),
         _ => is_count(line),
     }

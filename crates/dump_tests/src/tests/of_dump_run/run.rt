@@ -48,7 +48,7 @@ static ROWS: [Row; 18] = [
         "/usr",
         0,
         (951782400, 0),
-        65537,
+        262145,
         3,
         "BadBlockSize",
     ),
@@ -150,7 +150,7 @@ fn limits(rt: HostRuntime) {
 const NAME: [u8; 255] = [b'~'; 255];
 
 /// A level, both dates, the size of a block, and the number of blocks.
-static NUMBERS: [u64; 5] = [9, 253402300799, 253402300798, 65536, 2147483647];
+static NUMBERS: [u64; 5] = [9, 253402300799, 253402300798, 262144, 2147483647];
 
 /// Whether a run tells what it was made of.
 fn tells(run: &Run) -> bool {
@@ -188,7 +188,7 @@ fn a_run_tells_what_it_is(rt: HostRuntime) {
         9,
         253402300799,
         253402300798,
-        65536,
+        262144,
         2147483647,
     )
     .expect(&rt, "a run");

@@ -1,4 +1,4 @@
-use Rattle.std.proofs.Common.{List, ℕ, [], sym, ◌∙◌, ap, subst}
+use Rattle.std.proofs.Common.{List, ℕ, [], sym, subst}
 use Rattle.dump_client.specs.Standing.{CutAt}
 use Rattle.dump_client.specs.Client.{IsPayload, unanswered}
 use Rattle.dump_client.proofs.Feeding.{cut_in}
@@ -6,8 +6,7 @@ use Rattle.dump_client.proofs.client.Client.ended.Goals as goal
 
 pub invariant_of-self : goal.invariant_of-self
 invariant_of-self g c = (
-  c.self.invariant.0 ∙ ap (λ r. r.block_bytes) (sym c.end.ensures.same_run),
-  subst (λ r. (payload : List (List ℕ)) → g.B.Blocks.holds c.self.inside.source payload → IsPayload r payload) (sym c.end.ensures.same_run) c.self.invariant.1,
+  subst (λ r. (payload : List (List ℕ)) → g.B.Blocks.holds c.self.inside.source payload → IsPayload r payload) (sym c.end.ensures.same_run) c.self.invariant.0,
   (unanswered c.end.new.self.at.stage [], c.end.ensures.fed c.self.inside.reader []),
 )
 

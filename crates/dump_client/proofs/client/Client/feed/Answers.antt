@@ -1,4 +1,4 @@
-use Rattle.std.proofs.Common.{arith, rules, List, ℕ, [], ◌++◌, sym, ◌∙◌, ap, subst}
+use Rattle.std.proofs.Common.{arith, rules, List, ℕ, [], ◌++◌, sym, subst}
 use Rattle.std.proofs.lemmas.Grind.{common_steps}
 use Rattle.dump_client.specs.Script.{wanted_of}
 use Rattle.dump_client.specs.Listening.{IsSaid}
@@ -10,20 +10,18 @@ use Rattle.dump_client.proofs.client.Client.feed.Goals as goal
 
 pub invariant_of-self-in-Waits : goal.invariant_of-self-in-Waits
 invariant_of-self-in-Waits g c =
-    let fed = c.self.invariant.2 in
+    let fed = c.self.invariant.1 in
     let waits = waiting_at c.self.inside.ledger.at.stage c.in-Waiting.step c.self.inside.reader fed.0 c.in-Waiting.ensures.value fed.1 in (
       c.self.invariant.0,
-      c.self.invariant.1,
       (fed.0 ++ c.args.piece.now, fed_at_waiting c.self.inside.ledger.at.stage c.in-Waiting.step c.listen.new.reader (fed.0 ++ c.args.piece.now) c.in-Waiting.ensures.value (c.in-Waits.ensures.listened (wanted_of c.in-Waiting.step) fed.0 waits)),
     )
 
 pub invariant_of-self-in-Reply : goal.invariant_of-self-in-Reply
 invariant_of-self-in-Reply g c =
-    let fed = c.self.invariant.2 in
+    let fed = c.self.invariant.1 in
     let waits = waiting_at c.self.inside.ledger.at.stage c.in-Waiting.step c.self.inside.reader fed.0 c.in-Waiting.ensures.value fed.1 in
     let listened = c.in-Reply.ensures.listened (wanted_of c.in-Waiting.step) fed.0 waits in (
-      c.self.invariant.0 ∙ ap (λ r. r.block_bytes) (sym c.reply.ensures.same_run),
-      subst (λ r. (payload : List (List ℕ)) → g.B.Blocks.holds c.self.inside.source payload → IsPayload r payload) (sym c.reply.ensures.same_run) c.self.invariant.1,
+      subst (λ r. (payload : List (List ℕ)) → g.B.Blocks.holds c.self.inside.source payload → IsPayload r payload) (sym c.reply.ensures.same_run) c.self.invariant.0,
       (unanswered c.reply.new.self.at.stage fed.0, c.reply.ensures.fed c.listen.new.reader fed.0 listened.5),
     )
 
@@ -52,15 +50,13 @@ returns-in-ToSend-clause-moved g c = grind (arith, common_steps)
 
 pub invariant_of-self : goal.invariant_of-self
 invariant_of-self g c = (
-  c.self.invariant.0 ∙ ap (λ r. r.block_bytes) (sym c.noise.ensures.same_run),
-  subst (λ r. (payload : List (List ℕ)) → g.B.Blocks.holds c.self.inside.source payload → IsPayload r payload) (sym c.noise.ensures.same_run) c.self.invariant.1,
+  subst (λ r. (payload : List (List ℕ)) → g.B.Blocks.holds c.self.inside.source payload → IsPayload r payload) (sym c.noise.ensures.same_run) c.self.invariant.0,
   (unanswered c.noise.new.self.at.stage [], c.noise.ensures.fed c.self.inside.reader []),
 )
 
 pub invariant_of-self-in-Noise : goal.invariant_of-self-in-Noise
 invariant_of-self-in-Noise g c = (
-  c.self.invariant.0 ∙ ap (λ r. r.block_bytes) (sym c.noise-in-Noise.ensures.same_run),
-  subst (λ r. (payload : List (List ℕ)) → g.B.Blocks.holds c.self.inside.source payload → IsPayload r payload) (sym c.noise-in-Noise.ensures.same_run) c.self.invariant.1,
+  subst (λ r. (payload : List (List ℕ)) → g.B.Blocks.holds c.self.inside.source payload → IsPayload r payload) (sym c.noise-in-Noise.ensures.same_run) c.self.invariant.0,
   (unanswered c.noise-in-Noise.new.self.at.stage [], c.noise-in-Noise.ensures.fed c.listen.new.reader []),
 )
 

@@ -1,13 +1,12 @@
-use Rattle.std.proofs.Common.{[], refl, List, ℕ, sym, ◌∙◌, ap, subst, Ok, Err, true, false, rules}
+use Rattle.std.proofs.Common.{[], refl, List, ℕ, sym, ap, subst, Ok, Err, true, false, rules}
 use Rattle.std.specs.Vec.{vec_capacity}
 use Rattle.dump_client.specs.Client.{HasFed, HasFedAt, ReadAt, AskedAt}
-use Rattle.dump_client.proofs.Feeding.{Keeps, over_keeps, length_over, fed_anew, read_done, read_failed, none_fed, over_fed, asked_done, asked_over, asked_failed}
+use Rattle.dump_client.proofs.Feeding.{Keeps, over_keeps, fed_anew, read_done, read_failed, none_fed, over_fed, asked_done, asked_over, asked_failed}
 use Rattle.dump_client.proofs.client.Client.next_request.Goals as goal
 
 pub invariant_of-self : goal.invariant_of-self
 invariant_of-self g c =
-    let fed = c.self.invariant.2 in (
-      length_over c.self.inside.block.len c.push_step.new.block c.self.inside.block.items c.self.inside.ledger.at.run.block_bytes (search rules) (search rules) ∙ ap (λ r. r.block_bytes) (sym (ap (λ s. s.run) c.wait.ensures.waits)),
+    let fed = c.self.invariant.1 in (
       search rules,
       (fed.0, fed_anew c.self.inside.ledger.at.stage c.wait.new.self.at.stage c.in-ToSend.step _ c.self.inside.reader c.expect.new.self fed.0 c.in-ToSend.ensures.value (ap (λ s. s.stage) c.wait.ensures.waits) c.wanted.ensures c.expect.ensures.waits fed.1),
     )
@@ -31,17 +30,12 @@ returns-in-Err-2-clause-read g c =
 
 pub invariant_of-self-then-eq : goal.invariant_of-self-then-eq
 invariant_of-self-then-eq g c =
-    let block = c.self.inside.block in
     let at = c.self.inside.ledger.at in
-    over_keeps g.B.Blocks.holds c.push_step.new.source _ c.self.inside.reader at.run at.counts c.finish.new.self.at c.finish.ensures.over.1
-    (length_over block.len c.push_step.new.block block.items at.run.block_bytes (search rules) (search rules)) (search rules)
+    over_keeps g.B.Blocks.holds c.push_step.new.source c.self.inside.reader at.run at.counts c.finish.new.self.at c.finish.ensures.over.1 (search rules)
 
 pub invariant_of-self-in-Err-2 : goal.invariant_of-self-in-Err-2
 invariant_of-self-in-Err-2 g c =
-    let block = c.self.inside.block in
-    let at = c.self.inside.ledger.at in
-    let size = length_over block.len c.push_step.new.block block.items at.run.block_bytes (search rules) (search rules) in
-    subst (Keeps g.B.Blocks.holds c.push_step.new.source _ c.self.inside.reader) (sym c.fail.ensures.failed.1) (size, search rules, ([], refl))
+    subst (Keeps g.B.Blocks.holds c.push_step.new.source c.self.inside.reader) (sym c.fail.ensures.failed.1) (search rules, ([], refl))
 
 pub returns-in-Ok-clause-asked : goal.returns-in-Ok-clause-asked
 returns-in-Ok-clause-asked g c =

@@ -7,14 +7,14 @@ pub invariant_of-self : goal.invariant_of-self
 invariant_of-self g c =
     let at = c.self.inside.ledger.at in
     let same = start_refused at.stage at c.self.inside.ledger.room c.in_err-start.field-0.0 c.start.new.self.at c.in_err-start.ensures.started in
-    subst (Keeps g.B.Blocks.holds c.self.inside.source c.self.inside.block.items c.self.inside.reader) (sym same) c.self.invariant
+    subst (Keeps g.B.Blocks.holds c.self.inside.source c.self.inside.reader) (sym same) c.self.invariant
 
 pub invariant_of-self-2 : goal.invariant_of-self-2
 invariant_of-self-2 g c =
     let at = c.self.inside.ledger.at in
     let begun = start_done at.stage at c.self.inside.ledger.room c.start.new.self.at c.in_ok-start.ensures.started in
-    subst (Keeps g.B.Blocks.holds c.self.inside.source c.self.inside.block.items c.clear.new.self) (sym begun.1)
-    (c.self.invariant.0, c.self.invariant.1, ([], (c.clear.ensures, refl)))
+    subst (Keeps g.B.Blocks.holds c.self.inside.source c.clear.new.self) (sym begun.1)
+    (c.self.invariant.0, ([], (c.clear.ensures, refl)))
 
 pub returns-in_err-start-clause-fed : goal.returns-in_err-start-clause-fed
 returns-in_err-start-clause-fed g c =
