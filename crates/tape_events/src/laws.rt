@@ -32,9 +32,10 @@ pub fn one_run()
 {}
 
 /// What stays so whatever happens: the first world of good drives has it, each event leaves it, and so it holds after every
-/// list of events. Each event that is possible has a world after it (`steps`). No event takes a reel away, or brings one. So the holder of a drive is the connection whose live side has
-/// it open, and no drive has two; each reel that was counted, and that no foreign session opened for writing since, holds exactly
-/// its volume; and dumpdates gained only dumps whose counted volumes are all their blocks in order.
+/// list of events. Each event that is possible has a world after it (`steps`). No event takes a reel away, or brings one. So
+/// the holder of a drive is the connection whose live side has it open, and no drive has two; each reel that was counted, and
+/// that no foreign session opened for writing since, holds exactly its volume; and dumpdates gained only dumps whose counted
+/// volumes are all their blocks in order.
 ///
 /// A session is foreign to a count unless its connection is the client's, of the count's run, and the list that the client had as
 /// the open was accepted has a count of that volume and first block. So none is that opens in an attempt of the client, of which

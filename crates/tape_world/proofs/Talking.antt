@@ -17,7 +17,7 @@ use Rattle.dump_run.specs.Run.{PlainRun}
 use Rattle.dump_run.specs.declared.blocks.SourceFailed.{SourceFailed}
 use Rattle.dump_client.specs.Script.{request_of}
 use Rattle.dump_client.specs.Standing.{Standing, standing, checkpoint_of}
-use Rattle.dump_client.specs.Client.{ClientHeld, HasFed, HasFedAt, AskedAt, ReadAt, ReadBy, IsFaultAt, has_failed}
+use Rattle.dump_client.specs.Client.{ClientHeld, HasFed, HasFedAt, IsShapedAs, AskedAt, ReadAt, ReadBy, IsFaultAt, has_failed}
 use Rattle.tape_world.specs.declared.caller.Caller.{Caller as RealCaller}
 use Rattle.tape_world.specs.Talking.{Asks, AskedOf, IsToSend, talked}
 use Rattle.dump_client.specs.declared.step.Step.{Step}
@@ -51,19 +51,21 @@ write_spelled text bytes (number, spells, short, is) = short
 open_spelled : (text device : List ℕ) → SpellsRequest text (OpenDevice device O_RDWR) → HasSpelling (OpenDevice device O_RDWR)
 open_spelled text device (line, isline, mode, is) = (isline, omega arith)
 
-spelled : (run : PlainRun) (blocks : List (List ℕ)) (v f : ℕ) (step : Step) → IsTextOf (request_text (request_of run blocks v f step)) (request_of run blocks v f step)
-    → HasSpelling (request_of run blocks v f step)
-spelled run blocks v f Open is = open_spelled _ run.device (is [] refl)
-spelled run blocks v f (Operation op) is = (small_number op, omega arith)
-spelled run blocks v f Look is = omega arith
-spelled run blocks v f Label is = write_spelled _ _ (is [] refl)
-spelled run blocks v f (Block n) is = write_spelled _ _ (is [] refl)
-spelled run blocks v f Close is = tt
+text_as : (x y : PlainRequest) → x ≡ y → IsTextOf (request_text x) x → IsTextOf (request_text y) y
+text_as x y same text = subst (λ r. IsTextOf (request_text r) r) same text
 
-short_text : (run : PlainRun) (blocks : List (List ℕ)) (v f : ℕ) (step : Step) (request : PlainRequest) → request ≡ request_of run blocks v f step
-    → IsTextOf (request_text request) request → length (request_text request) ≤ READER_LIMIT
-short_text run blocks v f step request is text =
-    within request (subst HasSpelling (sym is) (spelled run blocks v f step (subst (λ r. IsTextOf (request_text r) r) is text)))
+-- a block's write has its spelling whatever its bytes are
+spelled : (run : PlainRun) (at : ℕ × ℕ) (step : Step) (request : PlainRequest) → IsShapedAs run at step request → IsTextOf (request_text request) request → HasSpelling request
+spelled run at Open request is text = subst HasSpelling (sym is) (open_spelled _ run.device (text_as _ _ is text [] refl))
+spelled run at (Operation op) request is text = subst HasSpelling (sym is) (small_number op, omega arith)
+spelled run at Look request is text = subst HasSpelling (sym is) (omega arith)
+spelled run at Label request is text = subst HasSpelling (sym is) (write_spelled _ _ (text_as _ _ is text [] refl))
+spelled run at (Block n) request (block, is, size) text = subst HasSpelling (sym is) (write_spelled _ _ (text_as _ _ is text [] refl))
+spelled run at Close request is text = subst HasSpelling (sym is) tt
+
+short_text : (run : PlainRun) (at : ℕ × ℕ) (step : Step) (request : PlainRequest) → IsShapedAs run at step request → IsTextOf (request_text request) request
+    → length (request_text request) ≤ READER_LIMIT
+short_text run at step request is text = within request (spelled run at step request is text)
 
 -- what a request came to
 abbrev pub Came : Bool → Step → Standing → List (List ℕ) → List ℕ → Result Bool AttemptFault → Standing → Type 0
@@ -73,11 +75,11 @@ Came false step at blocks text r new =
     × (text ≡ request_text (request_of at.run blocks (checkpoint_of at.counts).0 (checkpoint_of at.counts).1 step))
 
 -- with room for the longest request it fails only by its source
-failed_at : (told : List (List ℕ) → Type 0) (run : PlainRun) (blocks : List (List ℕ)) (at : ℕ × ℕ) (step : Step) (fault : AttemptFault) (capacity : ℕ) → told blocks → READER_LIMIT ≤ capacity
-    → IsFaultAt told run at step fault capacity 0 → (fault ≡ SourceFault) × ((n : ℕ) × (step ≡ Block n))
-failed_at told run blocks at step fault capacity t room (inl h) = h
-failed_at told run blocks at step fault capacity t room (inr (memory, (request, is, textof, scarce))) =
-    (let short = short_text run blocks at.0 at.1 step request (is.0 blocks t) textof in absurd (omega (arith, room, scarce, short)))
+failed_at : (run : PlainRun) (at : ℕ × ℕ) (step : Step) (fault : AttemptFault) (capacity : ℕ) → READER_LIMIT ≤ capacity → IsFaultAt run at step fault capacity 0
+    → (fault ≡ SourceFault) × ((n : ℕ) × (step ≡ Block n))
+failed_at run at step fault capacity room (inl h) = h
+failed_at run at step fault capacity room (inr (memory, (request, is, textof, scarce))) =
+    (let short = short_text run at step request is textof in absurd (omega (arith, room, scarce, short)))
 
 -- a read without trouble does not fail, and one in trouble does
 read_fails : (old new : ListedBlocks) (n : ℕ) (into given : List ℕ) (read : Result Unit SourceFailed) (b : Bool) → ListedRead old n into read new given
@@ -106,11 +108,11 @@ pub came : (fails : Bool) (step : Step) (at now : Standing) (old new : ListedBlo
 came fails step at now old new capacity size text (Ok true) room is (request, isreq, textof, items, after) read =
     let same = isreq.0 old.blocks refl in
     subst (λ b. Came b step at old.blocks text (Ok true) now) (sym (ok_fails fails step size old new text is read))
-    (refl, subst (λ t. length t ≤ READER_LIMIT) (sym items) (short_text at.run old.blocks (checkpoint_of at.counts).0 (checkpoint_of at.counts).1 step request same textof), after, items ∙ ap request_text same)
+    (refl, subst (λ t. length t ≤ READER_LIMIT) (sym items) (short_text at.run (checkpoint_of at.counts) step request isreq.1 textof), after, items ∙ ap request_text same)
 came fails step at now old new capacity size text (Ok false) room is (close, scarce, items, over) read =
     (let short : length (request_text CloseDevice) ≡ 2 = refl in absurd (omega (arith, room, scarce, short)))
 came fails step at now old new capacity size text (Err fault) room is (other, why, items, after) read =
-    let f = failed_at (AreBlocksOf old) at.run old.blocks (checkpoint_of at.counts) step fault capacity refl room why in
+    let f = failed_at at.run (checkpoint_of at.counts) step fault capacity room why in
     let read2 = subst (λ x. ReadBy {T = Bool} step size ListedRead old [] (Err x) new text) f.0 read in
     let b : is_failing fails step ≡ true
     = ap (is_failing fails) f.1.1 ∙ err_fails fails f.1.0 size old new text is (subst (λ s. ReadBy {T = Bool} s size ListedRead old [] (Err SourceFault) new text) f.1.1 read2) in

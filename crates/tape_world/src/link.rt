@@ -1,5 +1,5 @@
 //! Connections, by their numbers, which are counted from 1.
-ghost use Rattle.std.specs.Prelude.{◌≡◌, ◌≤◌, length, map, slice_get, OnOk, OnErr};
+ghost use Rattle.std.specs.Prelude.{◌≡◌, ◌≤◌, false, length, map, slice_get, OnOk, OnErr};
 ghost use Rattle.std.specs.Option.{option_copied, option_map};
 ghost use Rattle.tape_events.specs.World.{numbered};
 ghost use Rattle.tape_events.specs.Changes.{changed, new_link, over_here, over_there};
@@ -11,6 +11,7 @@ ghost use Rattle.tape_world.specs.Serving.{noted_turn};
 
 use crate::dumping::Dumping;
 use crate::pipe::Pipe;
+use rmt_wire::READER_LIMIT;
 use std::alloc::{AllocError, Global};
 use tape_host::Turn;
 
@@ -71,9 +72,22 @@ impl Link {
         Ok(())
     }
 
+    /// Makes room for a request of the client's. After a cut, where it is lost, it needs none.
+    ///
+    /// Fails where memory is refused. Nothing has changed then.
+    pub(crate) fn reserve_request(&mut self) -> Result<(), AllocError>
+        ensures same { seen_link self.new ≡ seen_link self.old }
+        ensures room { OnOk result (self.new.cut ≡ false → READER_LIMIT ≤ self.new.toward.spare) }
+    {
+        if !self.cut {
+            self.toward.reserve(READER_LIMIT)?;
+        }
+        Ok(())
+    }
+
     /// A request of the client's, for which there is room, is sent to the server. After a cut it is lost.
     pub(crate) fn send_request(&mut self, bytes: &[u8])
-        requires { length bytes.now ≤ self.old.toward.spare }
+        requires { self.old.cut ≡ false → length bytes.now ≤ self.old.toward.spare }
         ensures { seen_link self.new ≡ sent_link bytes.now (seen_link self.old) }
     {
         if let Some(dump) = &mut self.dump {

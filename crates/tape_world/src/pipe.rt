@@ -13,6 +13,9 @@ use tape_host::{Host, Turn};
 ///
 /// Those that arrived are let go at the front; what is left is moved there only where that makes room enough, so that bytes
 /// that arrive one at a time cost no more than as a whole.
+///
+/// The memory is freed as the bytes are lost, which they are once the side that they go to is over, and after a turn of the
+/// server that leaves nothing on the way back. Where all bytes arrived it is kept for those that follow.
 #[derive(Drop)]
 pub(crate) struct Pipe {
     bytes: Vec<u8>,
@@ -84,12 +87,21 @@ impl Pipe {
         self.start += count.min(self.bytes.len() - self.start);
     }
 
-    /// The bytes are lost.
+    /// The bytes are lost, and the memory is freed.
     pub(crate) fn clear(&mut self)
         ensures { self.new.way ≡ [] }
     {
-        self.bytes.clear();
+        self.bytes = Vec::new(*self.bytes.allocator());
         self.start = 0;
+    }
+
+    /// Frees the memory where nothing is on the way.
+    pub(crate) fn trim(&mut self)
+        ensures { self.new.way ≡ self.old.way }
+    {
+        if self.bytes().is_empty() {
+            self.clear();
+        }
     }
 
     /// The server's side of a connection takes a turn, and its reply goes to the end, for which there is room, unless it

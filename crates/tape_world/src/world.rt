@@ -56,14 +56,17 @@ impl World {
     }
 
     /// What holds of each world, whatever happened: the headline. Each reel that was counted, and that no foreign session
-    /// opened for writing since, holds exactly its volume's records and one file mark; no drive has two holders; and dumpdates gained only
-    /// dumps whose counted volumes are all their blocks in order. What `entry` tells of such a reel are the entries of its volume.
+    /// opened for writing since, holds exactly its volume's records and one file mark; no drive has two holders; and dumpdates
+    /// gained only dumps whose counted volumes are all their blocks in order. What `entry` tells of such a reel are the entries
+    /// of its volume.
     ///
     /// Beside it: the holder of a drive is the connection whose live side has it open. Of a connection of the client's as many
     /// requests were carried out as were sent, or one fewer. A latched reel is one session's, and first on the stack of the drive
     /// that this holds. From the accepted label of an attempt on its reel holds what its accepted writes wrote, until one of them
     /// meets a device fault or another session writes on the reel; until MTOFFL the place of its session is the reel's end. Each
-    /// volume that the client has was counted under its number.
+    /// volume that the client has was counted under its number. As long as no foreign session opened the reel of a count since,
+    /// no session but the count's own wrote on it since its open (`spared_reels`). What the client opens for writing in an
+    /// attempt is foreign to no count of its run whose volume and first block its list has (`familiar_opens`).
     ///
     /// Some events made it of the first world of some drives (`reached`), and all of it follows from what stays so (`kept`):
     /// who holds the drives, where reels lie, whose openings are last, who wrote on which reel, what each attempt wrote, which

@@ -41,6 +41,7 @@ fn take_turn(
 {
     link.back.reserve(READER_LIMIT)?;
     let turn = link.back.take_reply(host, connection, trouble, link.cut);
+    link.back.trim();
     link.note_turn(turn);
     Ok(turn)
 }

@@ -55,7 +55,7 @@ fn send_on(
     ensures refused { OnErr result ((seen_link link.new ≡ seen_link link.old) × (caller.new ≡ caller.old)) }
 {
     let mut request = Vec::with_capacity(alloc, READER_LIMIT)?;
-    link.toward.reserve(READER_LIMIT)?;
+    link.reserve_request()?;
     let failure = ask(caller, fails, &mut request);
     if failure.is_some() {
         link.end_there();

@@ -126,7 +126,7 @@ const BAD: &[&str] = &[
     "run /dev/st0 /usr 0 253402300800 0 1024 1",
     "run /dev/st0 /usr 0 0 253402300800 1024 1",
     "run /dev/st0 /usr 0 0 0 0 1",
-    "run /dev/st0 /usr 0 0 0 65537 1",
+    "run /dev/st0 /usr 0 0 0 262145 1",
     "run /dev/st0 /usr 0 0 0 1024 2147483648",
     "run /dev/st0  0 0 0 1024 1",
     "run /dev/st0 /usr 0 0 0 1024",
@@ -168,7 +168,7 @@ const POSSIBLE: &[&str] = &[
     "pump 1 0",
     "arrange /dev/st0 r1",
     "run /dev/st0 /usr 0 951782400 0 1024 3",
-    "run d /usr 0000000000000000000000009 253402300799 0 65536 0",
+    "run d /usr 0000000000000000000000009 253402300799 0 262144 0",
 ];
 
 /// Lines after a line of a drive, what they print, and the status.

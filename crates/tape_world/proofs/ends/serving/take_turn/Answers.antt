@@ -1,4 +1,4 @@
-use Rattle.std.proofs.Common.{subst}
+use Rattle.std.proofs.Common.{sym, subst}
 use Rattle.tape_host.specs.Turns.{ServesAt}
 use Rattle.tape_world.specs.Seen.{seen_link}
 use Rattle.tape_world.proofs.Serving.{serves_link}
@@ -7,7 +7,9 @@ use Rattle.tape_world.proofs.ends.serving.take_turn.Goals as goal
 pub returns-clause-taken : goal.returns-clause-taken
 returns-clause-taken c =
     serves_link c.args.trouble c.args.host.now c.take_reply-turn.new.host c.args.connection c.take_reply-turn.result (seen_link c.args.link.now) (seen_link c.note_turn.new.self)
-    c.take_reply-turn.new.self.way
+    c.trim.new.self.way
+    (subst (λ way. ServesAt c.args.trouble c.args.link.now.cut c.args.host.now c.args.connection c.args.link.now.back.way c.take_reply-turn.result c.take_reply-turn.new.host way)
+    (sym c.trim.ensures)
     (subst (λ way. ServesAt c.args.trouble c.args.link.now.cut c.args.host.now c.args.connection way c.take_reply-turn.result c.take_reply-turn.new.host c.take_reply-turn.new.self.way)
-    c.in_ok-reserve.ensures.same c.take_reply-turn.ensures)
+    c.in_ok-reserve.ensures.same c.take_reply-turn.ensures))
     c.note_turn.ensures
