@@ -110,7 +110,9 @@ fn limit_of(
         ),
         RunFault::BadLevel => format!(in alloc; "--level {level}: a level is 0 to 9"),
         RunFault::BadDate => format!(in alloc; "--date {date}: a date is 0 to 253402300799"),
-        RunFault::BadBlockSize => format!(in alloc; "--block {block}: a block is 1 to 65536 bytes"),
+        RunFault::BadBlockSize => format!(in alloc;
+            "--block {block}: a block is 1 to 262144 bytes"
+        ),
         RunFault::TooManyBlocks => {
             format!(in alloc; "--block {block}: a dump has at most 2147483647 blocks")
         }

@@ -1,8 +1,7 @@
 -- What a client does over a peer, put together.
-use Rattle.std.proofs.Common.{◌≡◌, ◌≢◌, ◌↔◌, inl, inr, map, ℕ, List, [], ◌∷◌, ◌++◌, Bool, true, false, Result, Ok, Err, refl, sym, ap, subst, ◌∙◌, append-nil, append_assoc, ◌<◌, ◌≤◌, length, take, arith, length-take}
-use Rattle.dump_client.specs.Standing.{Standing, checkpoint_of, StartedAt, AnsweredAt, FedAt, CutAt}
-use Rattle.dump_client.specs.Client.{ClientHeld, HasFed, AskedAt, IsFaultAt, unanswered}
-use Rattle.dump_client.specs.declared.step.Step.{Step}
+use Rattle.std.proofs.Common.{◌≡◌, ◌≢◌, ◌↔◌, map, ℕ, List, [], ◌∷◌, ◌++◌, Bool, true, false, Result, Ok, Err, refl, sym, ap, subst, ◌∙◌, append-nil, append_assoc, ◌<◌, ◌≤◌, length, take, arith, length-take}
+use Rattle.dump_client.specs.Standing.{Standing, StartedAt, AnsweredAt, FedAt, CutAt}
+use Rattle.dump_client.specs.Client.{ClientHeld, HasFed, AskedAt, unanswered}
 use Rattle.dump_client.specs.declared.fault.AttemptFault.{AttemptFault}
 use Rattle.dump_client.specs.declared.fault.StartFault.{StartFault}
 use Rattle.dump_client.specs.declared.stage.Answer.{Answer}
@@ -16,22 +15,13 @@ use Rattle.rdump_talk.specs.Talk.{Anywhere, Nowhere, TalkStep, Talks, TalksAlone
 use Rattle.rdump_talk.specs.Talk.TalkStep.{starts, stays, asks, has_none, hears, ends, answers}
 use Rattle.rdump_talk.specs.Talk.Talks.{none, one_more}
 
--- why none could be had, told by all blocks of which more is told
-fault_weaker : (told less : List (List ℕ) → Type 0) → ((payload : List (List ℕ)) → less payload → told payload)
-    → (old : Standing) (step : Step) (fault : AttemptFault) (capacity len : ℕ)
-    → IsFaultAt told old.run (checkpoint_of old.counts) step fault capacity len → IsFaultAt less old.run (checkpoint_of old.counts) step fault capacity len
-fault_weaker told less f old step fault capacity len (inl h) = inl h
-fault_weaker told less f old step fault capacity len (inr (memory, (request, is, text, scarce))) =
-    inr (memory, (request, ((λ payload t. is.0 payload (f payload t)), is.1), text, scarce))
-
 -- a request that is told by all blocks of which more is told
 asked_weaker : (told less : List (List ℕ) → Type 0) → ((payload : List (List ℕ)) → less payload → told payload)
     → (stage : Stage) (old : Standing) (capacity : ℕ) (before : List ℕ) (result : Result Bool AttemptFault) (now : List ℕ) (new : Standing)
     → AskedAt stage told old capacity before result now new → AskedAt stage less old capacity before result now new
 asked_weaker told less f (ToSend step) old capacity before (Ok true) now new h = (h.0, (λ payload t. h.1.0 payload (f payload t), h.1.1), h.2, h.3, h.4)
 asked_weaker told less f (ToSend step) old capacity before (Ok false) now new h = h
-asked_weaker told less f (ToSend step) old capacity before (Err fault) now new h =
-    (h.0, fault_weaker told less f old step fault capacity (length before) h.1, h.2, h.3)
+asked_weaker told less f (ToSend step) old capacity before (Err fault) now new h = h
 asked_weaker told less f Ready old capacity before result now new h = h
 asked_weaker told less f (Waiting step) old capacity before result now new h = h
 asked_weaker told less f Asking old capacity before result now new h = h

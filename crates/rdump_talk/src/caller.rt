@@ -14,23 +14,29 @@ use rmt_wire::{ReplyReader, Request, Wanted, push_request};
 use std::alloc::{AllocError, Global};
 
 /// How many bytes are taken from a peer at once.
-const PIECE: usize = 16384;
+const PIECE: usize = 65536;
 
-/// What makes calls over a peer: the room for a request and for its reply.
+/// What makes calls over a peer: the room for a request, for what comes at once, and for the reply.
 #[derive(Drop)]
 pub(crate) struct PeerCaller {
     alloc: Global,
     reader: ReplyReader,
     text: Vec<u8>,
+    piece: Box<[u8; PIECE]>,
 }
 
 impl PeerCaller {
-    /// It reserves `rmt_wire::READER_LIMIT` bytes for replies, and fails only where these are refused.
+    /// It reserves `rmt_wire::READER_LIMIT` bytes for replies and 65,536 for what comes at once, and fails only where these
+    /// are refused.
     pub(crate) fn new(alloc: Global) -> Result<PeerCaller, AllocError> {
+        let Ok(piece) = Box::new(alloc, [0; PIECE]) else {
+            return Err(AllocError);
+        };
         Ok(PeerCaller {
             alloc,
             reader: ReplyReader::new(alloc)?,
             text: Vec::new(alloc),
+            piece,
         })
     }
 
@@ -51,7 +57,13 @@ impl PeerCaller {
         if !peer.send(self.text.as_slice()) {
             return Err(CallFault::ConnectionEnded);
         }
-        hear(self.alloc, peer, &mut self.reader, wanted_of(request))
+        hear(
+            self.alloc,
+            peer,
+            &mut self.reader,
+            &mut self.piece,
+            wanted_of(request),
+        )
     }
 }
 
@@ -70,6 +82,7 @@ fn hear<P: Peer>(
     alloc: Global,
     peer: &mut P,
     reader: &mut ReplyReader,
+    piece: &mut [u8; PIECE],
     wanted: Wanted,
 ) -> Result<KeptReply, CallFault>
     requires { IsWithin (plain_wanted wanted) }
@@ -77,9 +90,8 @@ fn hear<P: Peer>(
 {
     reader.clear();
     reader.expect(wanted);
-    let mut piece = [0; PIECE];
     for turn in 0..u64::MAX {
-        let count = peer.receive(&mut piece);
+        let count = peer.receive(piece);
         if count == 0 {
             return Err(CallFault::ConnectionEnded);
         }

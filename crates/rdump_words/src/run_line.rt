@@ -40,7 +40,7 @@ const BAD_LEVEL: &str = "invalid value for '--level <LEVEL>': a level is 0 to 9,
 
 /// What is said of a block size that is no number.
 const BAD_BLOCK: &str =
-    "invalid value for '--block <BYTES>': a block is 1 to 65536 bytes, in digits";
+    "invalid value for '--block <BYTES>': a block is 1 to 262144 bytes, in digits";
 
 /// What is said of a date that is no number.
 const BAD_DATE: &str =
@@ -131,7 +131,7 @@ pub(crate) static DUMP_WORDS: [Word; 10] = [
     Word {
         name: "block",
         value: "BYTES",
-        help: "The size of a block, 1 to 65536",
+        help: "The size of a block, 1 to 262144",
         form: Form::Required,
         missing: "--block is required",
     },

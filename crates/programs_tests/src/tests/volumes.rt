@@ -8,7 +8,7 @@ use rmt_wire::Counted;
 use std::alloc::Global;
 use std::io::Write;
 
-const ALL_SENT: &[u8] = b"O/dev/st0\n0\nI5\n1\nR65536\nR65536\nR65536\nR65536\nC\n";
+const ALL_SENT: &[u8] = b"O/dev/st0\n0\nI5\n1\nR262144\nR262144\nR262144\nR262144\nC\n";
 
 /// A label of three bytes, and two records.
 const REPLIES: &[Replies] = &[&[
@@ -68,7 +68,10 @@ static COPIES: [Row; 7] = [
         &[&[b"A0\n", b"A1\n", b"A5\nab"]],
         Err(ReadFault::ConnectionEnded),
     ),
-    (&[&[b"A0\n", b"A1\n", b"A65537\n"]], Err(ReadFault::Botched)),
+    (
+        &[&[b"A0\n", b"A1\n", b"A262145\n"]],
+        Err(ReadFault::Botched),
+    ),
     (
         &[&[b"A0\n", b"A1\n", b"A3\nabc"]],
         Err(ReadFault::OutputFailed),
