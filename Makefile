@@ -34,13 +34,15 @@ test: kit ## the gate: each proof from nothing, then the built programs from out
 	python3 tests/outside.py --minutes $(MINUTES) $(PROGRAM) $(CLIENT) $(SIMULATOR)
 	@cat $(MINUTES)
 
-bench: build ## long streams, reels in folders, dumps, a long dumpdates file, long schedules, and bytes in pieces; it ends with a table of ratios
+bench: build ## long streams, reels in folders, dumps beside a floor, a long dumpdates file, long schedules, and bytes in pieces; it ends with a table of ratios
 	@python3 tests/build.py feed
 	rm -f $(RATIOS)
 	python3 bench/stdio.py $(PROGRAM)
 	python3 bench/reels.py $(PROGRAM)
 	python3 bench/dates.py $(CLIENT)
 	python3 bench/dump.py $(PROGRAM) $(CLIENT)
+	python3 bench/network.py $(PROGRAM) $(CLIENT)
+	python3 bench/instructions.py $(PROGRAM) $(CLIENT)
 	python3 bench/feed.py $(FEED)
 	python3 bench/schedules.py $(SIMULATOR)
 	python3 bench/threads.py --soak $(PROGRAM)

@@ -3,9 +3,9 @@
 
     dump.py [RMTD [RDUMP]]
 
-It prints ratios of the least of several times, each with the start of the processes in it: a payload dumped in blocks of two sizes,
+It prints ratios of the least of several times, each with the start of the processes in it: a payload dumped in blocks of three sizes,
 and as much read back from a reel that a client of this file wrote; requests a second of an operation that does nothing, beside a
-plain echo of lines over TCP; the longest time between a request and its reply; and what memory both programs held at most.
+plain echo of lines over TCP; the longest time between a request and its reply; and what memory the server held at most.
 """
 
 from __future__ import annotations
@@ -23,7 +23,7 @@ from pathlib import Path
 from typing import Callable, Iterator
 
 from told import ratio, ratio_of_times
-from wire import CLOSE, GREATEST_RECORD, MARK, NO_OPERATION
+from wire import BLOCKS, CLOSE, GREATEST_RECORD, MARK, NO_OPERATION, write
 
 CRATES = Path(__file__).resolve().parent.parent / "crates"
 
@@ -31,15 +31,14 @@ ROUNDS = 5
 MIB = 1 << 20
 PAYLOAD = 256 * MIB
 ROOM = 320 * MIB
-BLOCKS = (GREATEST_RECORD, 10_240)
 OPERATIONS = 20_000
 DONE_ONE = b"A1\n"
 
 
 @contextmanager
-def listening(rmtd: str) -> Iterator[tuple[str, subprocess.Popen[bytes]]]:
+def listening(rmtd: str, *drives: str) -> Iterator[tuple[str, subprocess.Popen[bytes]]]:
     """A server that listens, and its address."""
-    words = (rmtd, "--listen", "127.0.0.1:0", "--capacity", str(ROOM))
+    words = (rmtd, "--listen", "127.0.0.1:0", "--capacity", str(ROOM), *drives)
     with subprocess.Popen(words, stdout=subprocess.PIPE, stderr=subprocess.DEVNULL) as server:
         try:
             found = re.search(r"listening on (.+)\n", server.stdout.readline().decode())
@@ -80,26 +79,22 @@ def through_a_pair(path: Path) -> None:
             drain.wait()
 
 
-def dumped(rmtd: str, rdump: str, path: Path, block: int) -> tuple[float, float, float]:
-    """The seconds of a dump, and the MiB that client and server held."""
+def dumped(rmtd: str, rdump: str, path: Path, block: int) -> tuple[float, float]:
+    """The seconds of a dump, and the MiB that the server held."""
     words = (rdump, "dump", "--device", "/dev/st0", "--fs", "/usr", "--level", "0", "--payload", str(path), "--block", str(block))
     with listening(rmtd) as (address, server):
-        began = time.perf_counter()
-        client = subprocess.Popen((*words, "--dumpdates", "/dev/null", "--to", address), stdout=subprocess.DEVNULL)
-        _, status, used = os.wait4(client.pid, 0)
-        seconds = time.perf_counter() - began
-        if status:
-            raise RuntimeError(f"rdump ended with {status}")
-        return seconds, used.ru_maxrss / 1024, most_memory(server.pid)
+        words = (*words, "--dumpdates", "/dev/null", "--to", address)
+        seconds = timed(lambda: subprocess.run(words, stdout=subprocess.DEVNULL, check=True))
+        return seconds, most_memory(server.pid)
 
 
 def write_volume(address: str, path: Path, block: int) -> None:
-    """Writes a volume of the file, and closes without moving the reel."""
+    """Writes a volume of the file, the last block padded, and closes without moving the reel."""
     with connected(address) as stream, stream.makefile("rb") as replies, path.open("rb") as source:
         stream.sendall(b"O/dev/st0\n2\nW1024\nlabel\n" + bytes(1018))
         asked = 2
         while data := source.read(block):
-            stream.sendall(b"W%d\n" % len(data) + data)
+            stream.sendall(write(data.ljust(block, b"\0")))
             asked += 1
             while asked > 64:
                 replies.readline()
@@ -179,10 +174,10 @@ def main() -> int:
         for block in BLOCKS:
             rounds = [dumped(programs.rmtd, programs.rdump, path, block) for _ in range(ROUNDS)]
             seconds = min(it[0] for it in rounds)
-            told = f"{PAYLOAD / seconds / 1e6:,.0f} MB/s; client {rounds[0][1]:.0f} MiB, server {rounds[0][2]:.0f} MiB"
+            told = f"{PAYLOAD / seconds / 1e6:,.0f} MB/s; server {rounds[0][1]:.0f} MiB"
             ratio(f"256 MiB dumped in blocks of {block:,} / cat", seconds / floor, None, told)
             print(f"256 MiB in blocks of {block:,} bytes: dumped in {seconds / floor:.1f} times the time of cat;", end=" ")
-            print(f"client {rounds[0][1]:.0f} MiB, server {rounds[0][2]:.0f} MiB at most")
+            print(f"server {rounds[0][1]:.0f} MiB at most")
             seconds = read_back(programs.rmtd, programs.rdump, path, block)
             ratio(f"256 MiB read back in blocks of {block:,} / cat", seconds / floor, None, f"{PAYLOAD / seconds / 1e6:,.0f} MB/s")
             print(f"256 MiB in blocks of {block:,} bytes: read back in {seconds / floor:.1f} times the time of cat")

@@ -20,17 +20,17 @@ from wire import GREATEST_RECORD
 BUILT = Path(__file__).resolve().parent.parent / "crates/feed/out/feed"
 
 REPEATS = 7
-# How many values of 65,536 data or text bytes the shorter stream has.
-FEW = 16
+# How many values, of as many data or text bytes as a record has at most, the shorter stream has: 1 MiB of them.
+FEW = (1 << 20) // GREATEST_RECORD
 # A piece as large as a value, with its line.
-WHOLE = 65_548
+WHOLE = GREATEST_RECORD + 12
 # Whole pieces take so little time that more of them are fed.
 MORE = 200
 
 KINDS = (
-    ("requests", "writes of 65,536 bytes"),
-    ("replies", "replies with 65,536 bytes"),
-    ("errors", "errors with 65,536 bytes of text"),
+    ("requests", f"writes of {GREATEST_RECORD:,} bytes"),
+    ("replies", f"replies with {GREATEST_RECORD:,} bytes"),
+    ("errors", f"errors with {GREATEST_RECORD:,} bytes of text"),
 )
 
 

@@ -1,11 +1,11 @@
 /* Requests that are carried out on a record file one at a time, with few calls of the system: the floor beside the server.
  *
- *     floor write FILE SIZE    a read of standard input for each 64 KiB, and for each request one writev of the length, the
+ *     floor write FILE SIZE    a read of standard input for each 256 KiB, and for each request one writev of the length, the
  *                              bytes and the length again, and one write of the reply
  *     floor read FILE SIZE     for each request one pread of the bytes, the length behind them and the length of the next
  *                              record, which needs SIZE to be known, and one writev of the reply and the bytes
  *
- * It trusts its input: an open, and then requests of that kind for SIZE bytes, 1 to 65,536, each. It ends with 0 where all
+ * It trusts its input: an open, and then requests of that kind for SIZE bytes, 1 to 262,144, each. It ends with 0 where all
  * went well. */
 #include <endian.h>
 #include <fcntl.h>
@@ -16,7 +16,7 @@
 #include <sys/uio.h>
 #include <unistd.h>
 
-enum { PIECE = 65536 };
+enum { PIECE = 262144 };
 static char input[3 * PIECE], record[PIECE + 8], head[16], reply[16];
 static size_t start, end, head_size, reply_size;
 

@@ -27,20 +27,20 @@ from typing import Callable, Iterable, NamedTuple, Sequence
 
 from stdio import BUILT, LINEAR, SAME, Words, gnu_rmt, kilobytes, seconds_of, from_file
 from told import ratio, ratio_of_times, seconds
-from wire import GREATEST_RECORD, read, write
+from wire import BLOCKS, GREATEST_RECORD, read, write
 
 FLOOR = Path(__file__).resolve().parent / "floor.c"
 
 ROUNDS = 5
 MIB = 1 << 20
-SIZES = (GREATEST_RECORD, 10_240)
-# What is wanted at most, beside `cat`, of each of these sizes.
-WANTED = {GREATEST_RECORD: 1.2, 10_240: 1.6}
+# What is wanted at most beside `cat`, of the smallest blocks and of greater ones; and beside GNU rmt.
+WANTED_OF_SMALLEST, WANTED_OF_GREATER = 1.6, 1.2
+WANTED_BESIDE_RMT = 1.0
 CAPACITY = 1 << 40
 
 RECORDS = 100_000
 RECORD = 100
-GREAT_RECORDS = 16_384
+GREAT_RECORDS = (1 << 30) // GREATEST_RECORD
 # How often a long way is spaced, and how often one operation is done.
 LONG_WAYS = 10
 SHORT_WAYS = 50_000
@@ -180,7 +180,7 @@ def time_writes(drive: Drive, others: Others, load: Load) -> None:
         runs["rmt"] = Run(remove, others.rmt, load.stream_of_writes(drive, "to_file", 577, str(plain)))
     if floor := others.floor_to(drive, "write", load.size):
         runs["floor"] = Run(drive.wipe, floor, load.writes)
-    table_line(f"{round(load.size * load.count / MIB)} MiB written by {load.size:,} bytes", runs, WANTED[load.size])
+    table_line(f"{round(load.size * load.count / MIB)} MiB written by {load.size:,} bytes", runs, wanted_beside_cat(load.size))
     drive.folder.joinpath("to_file").unlink(missing_ok=True)
     remove()
 
@@ -194,7 +194,7 @@ def time_reads(drive: Drive, others: Others, load: Load) -> None:
         runs["rmt"] = Run(nothing, others.rmt, load.stream_of_reads(drive, "from_file", str(plain)))
     if floor := others.floor_to(drive, "read", load.size):
         runs["floor"] = Run(nothing, floor, load.reads)
-    table_line(f"{round(load.size * load.count / MIB)} MiB read by {load.size:,} bytes", runs, WANTED[load.size])
+    table_line(f"{round(load.size * load.count / MIB)} MiB read by {load.size:,} bytes", runs, wanted_beside_cat(load.size))
     plain.unlink()
 
 
@@ -213,12 +213,17 @@ def bytes_through(drive: Drive, others: Others, size: int, total: int) -> bool:
     return True
 
 
+def wanted_beside_cat(size: int) -> float:
+    """What is wanted at most, beside `cat`, of blocks of this size."""
+    return WANTED_OF_SMALLEST if size == min(BLOCKS) else WANTED_OF_GREATER
+
+
 def table_line(title: str, runs: dict[str, Run], wanted: float) -> None:
     """Prints what the server takes beside the others."""
     times = dict(zip(runs, least(list(runs.values()))))
-    names = {"cat": "cat", "rmt": "GNU rmt", "floor": "the floor"}
-    for other in names.keys() & times.keys():
-        ratio_of_times(f"folder, {title} / {names[other]}", times["ours"], times[other], wanted if other == "cat" else None)
+    for other, name, most in (("cat", "cat", wanted), ("rmt", "GNU rmt", WANTED_BESIDE_RMT), ("floor", "the floor", None)):
+        if other in times:
+            ratio_of_times(f"folder, {title} / {name}", times["ours"], times[other], most)
     beside = {name: f"{times['ours'] / time:.2f}" for name, time in times.items()}
     print(f"{title:<38}{beside['cat']:>10}{wanted:>12.1f}{beside.get('rmt', '-'):>14}{beside.get('floor', '-'):>12}", flush=True)
 
@@ -312,14 +317,15 @@ def memory(drive: Drive) -> None:
     """Prints what memory the server held at most along a session over a reel of 1 GiB."""
     write_great(drive.reel)
     print(f"\n{'most memory of the server, KiB':<38}")
-    there = b"A%d\n" % GREAT_RECORDS
+    there, great = b"A%d\n" % GREAT_RECORDS, f"{GREATEST_RECORD:,} bytes"
+    answer = len(b"A%d\n" % GREATEST_RECORD)
     steps = (
         ("after the open", b"O/dev/st0\n2\n", 3),
-        ("after a read of 65,536 bytes", read(), 7 + GREATEST_RECORD),
+        (f"after a read of {great}", read(), answer + GREATEST_RECORD),
         ("after spacing over 1 GiB", operation(5, 0) + operation(3, GREAT_RECORDS), 3 + len(there)),
         ("and back", operation(4, GREAT_RECORDS), len(there)),
-        ("after 1,000 reads of 65,536 bytes", read() * 1_000, 1_000 * (7 + GREATEST_RECORD)),
-        ("after 1,000 writes of 65,536 bytes", write(bytes(GREATEST_RECORD)) * 1_000, 7_000),
+        (f"after 1,000 reads of {great}", read() * 1_000, 1_000 * (answer + GREATEST_RECORD)),
+        (f"after 1,000 writes of {great}", write(bytes(GREATEST_RECORD)) * 1_000, 1_000 * answer),
         ("after 100,000 marks", operation(0, 100_000), 8),
         ("and back over them", operation(2, 100_000), 8),
     )
@@ -357,7 +363,7 @@ def calls(drive: Drive) -> None:
     mark, rewind = operation(0, 1), operation(5, 1)
     for title, ready, requests in (
         ("an append of 10,240 bytes", False, b"W10240\n" + bytes(10_240)),
-        ("an append of 65,536 bytes", False, write(bytes(GREATEST_RECORD))),
+        (f"an append of {GREATEST_RECORD:,} bytes", False, write(bytes(GREATEST_RECORD))),
         ("a mark", False, mark),
         ("10 marks", False, operation(0, 10)),
         ("a read of 100 bytes", True, b"R100\n"),
@@ -401,7 +407,7 @@ def main() -> int:
         others = Others(rmt, floor_words(drive.folder))
         print("" if others.floor else "skipped: there is no C compiler on this machine, and so no floor\n")
         print(f"{'time of the server over a folder':<38}{'to cat':>10}{'wanted':>12}{'to GNU rmt':>14}{'to floor':>12}")
-        for size in SIZES:
+        for size in BLOCKS:
             good = good and bytes_through(drive, others, size, words.mib * MIB)
         good = good and spacings(drive) and at_the_end(drive)
         if good:

@@ -46,8 +46,9 @@ NULL_DEVICE = b"/dev/null"
 WRITE = write(bytes(range(256)) * (GREATEST_RECORD // 256))
 ANSWERS = {NO_OPERATION: b"A1\n", REWIND: b"A1\n", WRITE: b"A%d\n" % GREATEST_RECORD}
 
-# The reel in memory holds 1,048,576 bytes: 15 records of 65,536 bytes with their lengths, and not one more.
-RECORDS_A_REEL = 15
+# How many of the greatest records, with their lengths, the reel in memory holds: its usual room is 1,048,576 bytes.
+RECORDS_A_REEL = 1_048_576 // (GREATEST_RECORD + 8)
+WRITTEN = 256 << 20
 
 RECORD = b"W1\nx"
 
@@ -103,7 +104,7 @@ class Workload:
 WORKLOADS = (
     Workload("200,000 operations", operations, 200_000, from_file),
     Workload("20,000 operations, one byte a piece", operations, 20_000, one_byte_a_piece),
-    Workload("256 MiB of 64 KiB writes", writes, 4_096, from_file),
+    Workload(f"256 MiB of {GREATEST_RECORD >> 10} KiB writes", writes, WRITTEN // GREATEST_RECORD, from_file),
 )
 
 

@@ -1,8 +1,10 @@
-"""What the benchmarks send: the greatest record, and the operations of mtio with a count of 1. Each benchmark takes them from here."""
+"""What the benchmarks send: the sizes of records, and the operations of mtio with a count of 1. Each benchmark takes them from here."""
 
 from __future__ import annotations
 
-GREATEST_RECORD = 65_536
+GREATEST_RECORD = 262_144
+# The sizes of blocks that are measured: the greatest, a quarter of it, and what tar writes unless it is told otherwise.
+BLOCKS = (GREATEST_RECORD, GREATEST_RECORD // 4, 10_240)
 
 MARK = b"I0\n1\n"
 REWIND = b"I5\n1\n"

@@ -1,0 +1,303 @@
+#!/usr/bin/env python3
+"""Measures dumps over the loopback, and volumes that are read back, beside a floor on the same bytes in the same run.
+
+    network.py [RMTD [RDUMP]] [--mib N]
+
+It prints ratios of the least of several times, each with the start of the clients in it: `rdump dump` and `rdump read` with a server that has a
+reel in memory, and with one that has it in a folder; and 32 of them at once, each with a drive of its own. Then what memory the server holds
+for 32 clients, and what a client holds. A time into a folder is up to when the bytes are synced. The files stand in the temporary folder.
+
+The floor is `netfloor.c`: a client and a server of one block a turn with few calls of the system, and both trust what comes. It is built where
+there is a C compiler.
+"""
+
+from __future__ import annotations
+
+import argparse
+import os
+import re
+import shutil
+import subprocess
+import sys
+import tempfile
+import time
+from contextlib import ExitStack, contextmanager
+from pathlib import Path
+from typing import Callable, ContextManager, Iterator, NamedTuple, Sequence, Union
+
+from dump import CRATES, connected, listening, most_memory, timed, write_volume
+from told import ratio, ratio_of_times
+from wire import BLOCKS, GREATEST_RECORD, write
+
+FLOOR = Path(__file__).resolve().parent / "netfloor.c"
+
+ROUNDS = 7
+MIB = 1 << 20
+AT_ONCE = 32
+# What is wanted at most, beside the floor, of a folder.
+WANTED = 1.25
+LABEL = b"label\n" + bytes(1018)
+
+Words = Sequence[str]
+
+
+class Reels:
+    """Folder drives with one reel each, or one drive with a reel in memory where there is no folder."""
+
+    def __init__(self, folder: Path | None, count: int = 1) -> None:
+        self.folder, self.count = folder, count
+        self.paths = [folder / f"st{number}" / f"r{number}" for number in range(count)] if folder else []
+
+    def wipe(self) -> None:
+        """Empty reels."""
+        if self.folder:
+            shutil.rmtree(self.folder, ignore_errors=True)
+            self.folder.joinpath("bin").mkdir(parents=True)
+        for it in self.paths:
+            it.parent.mkdir()
+            it.touch()
+
+    def fill(self, source: Path, block: int) -> None:
+        """A volume of the file on each reel."""
+        self.wipe()
+        for it in self.paths:
+            with it.open("wb") as reel:
+                reel.writelines(framed(record) for record in (LABEL, *blocks(source, block), b""))
+        os.sync()
+
+
+def framed(record: bytes) -> bytes:
+    """How a record stands in a reel's file; a mark, where it has no bytes."""
+    length = len(record).to_bytes(4, "little")
+    return length + record + length if record else length
+
+
+def blocks(source: Path, block: int) -> Iterator[bytes]:
+    """The blocks of a file, the last one padded."""
+    with source.open("rb") as file:
+        while data := file.read(block):
+            yield data.ljust(block, b"\0")
+
+
+class Programs:
+    """The server and the client that are measured."""
+
+    def __init__(self, rmtd: str, rdump: str) -> None:
+        self.rmtd, self.rdump = rmtd, rdump
+
+    def listening(self, reels: Reels) -> ContextManager[tuple[str, subprocess.Popen[bytes]]]:
+        """A server of these reels, and its address."""
+        drives = [f"/dev/st{number}={path.parent}" for number, path in enumerate(reels.paths)]
+        return listening(self.rmtd, *(["--bin", str(reels.folder / "bin"), *drives] if drives else []))
+
+    @contextmanager
+    def serving(self, reels: Reels) -> Iterator[list[str]]:
+        """The address of a server, once for each drive."""
+        with self.listening(reels) as (address, _):
+            yield [address] * reels.count
+
+    def writes(self, address: str, number: int, source: Path, block: int) -> Words:
+        words = (self.rdump, "dump", "--to", address, "--device", f"/dev/st{number}", "--fs", "/usr", "--level", "0")
+        return (*words, "--payload", str(source), "--block", str(block), "--dumpdates", "/dev/null")
+
+    def reads(self, address: str, number: int, out: Path) -> Words:
+        return (self.rdump, "read", "--to", address, "--device", f"/dev/st{number}", "--out", str(out))
+
+    def fill_memory(self, address: str, source: Path, block: int) -> None:
+        """Writes a volume, and leaves the reel on its drive, which a dump does not."""
+        write_volume(address, source, block)
+
+
+class Floor:
+    """A server and a client for each connection, which do what has to be done, and no more."""
+
+    def __init__(self, program: str) -> None:
+        self.program = program
+
+    @contextmanager
+    def serving(self, reels: Reels) -> Iterator[list[str]]:
+        """A server for each reel, and their ports."""
+        words = [(self.program, "serve", str(path)) for path in reels.paths or ["-"]]
+        servers = [subprocess.Popen(it, stdout=subprocess.PIPE) for it in words]
+        try:
+            yield [it.stdout.readline().decode().strip() for it in servers]
+        finally:
+            for it in servers:
+                it.kill()
+                it.wait()
+                it.stdout.close()
+
+    def writes(self, address: str, _number: int, source: Path, block: int) -> Words:
+        return (self.program, "write", address, str(block), str(source))
+
+    def reads(self, address: str, _number: int, out: Path) -> Words:
+        return (self.program, "read", address, str(GREATEST_RECORD), str(out))
+
+    def fill_memory(self, address: str, source: Path, block: int) -> None:
+        run_all([self.writes(address, 0, source, block)])
+
+
+Ends = Union[Programs, Floor]
+
+
+def built_floor(folder: Path) -> Floor | None:
+    """Builds the floor; None where no C compiler builds it."""
+    compiler, program = shutil.which("cc"), str(folder / "netfloor")
+    if not compiler or subprocess.run((compiler, "-O2", "-o", program, str(FLOOR)), check=False).returncode:
+        return None
+    return Floor(program)
+
+
+def run_all(clients: Sequence[Words]) -> None:
+    """Starts clients at once, and returns when all have ended well."""
+    running = [subprocess.Popen(it, stdout=subprocess.DEVNULL, stderr=subprocess.DEVNULL) for it in clients]
+    if any([it.wait() for it in running]):
+        raise RuntimeError(f"{clients[0][0]} failed")
+
+
+class Load(NamedTuple):
+    """What each client dumps, in blocks of this size, and where the volumes stand."""
+
+    source: Path
+    block: int
+    reels: Reels
+
+    def written(self, ends: Ends) -> float:
+        """The seconds of dumps to empty reels."""
+        self.reels.wipe()
+        with ends.serving(self.reels) as addresses:
+            clients = [ends.writes(address, number, self.source, self.block) for number, address in enumerate(addresses)]
+            return timed(lambda: run_all(clients))
+
+    def read(self, clients: list[Words], outs: list[Path]) -> float:
+        """The seconds of reading volumes into new files, which get their bytes, and may get their labels."""
+        for it in outs:
+            it.unlink(missing_ok=True)
+        seconds = timed(lambda: run_all(clients))
+        size = -(-self.source.stat().st_size // self.block) * self.block
+        if any(it.stat().st_size - size not in (0, len(LABEL)) for it in outs):
+            raise RuntimeError("what was read back has another length than what was written")
+        return seconds
+
+    @contextmanager
+    def reading(self, ends: Ends, outs: list[Path]) -> Iterator[Callable[[], float]]:
+        """A server of volumes, and what answers the seconds of reading them."""
+        with ends.serving(self.reels) as addresses:
+            if not self.reels.folder:
+                ends.fill_memory(addresses[0], self.source, self.block)
+            clients = [ends.reads(address, number, outs[number]) for number, address in enumerate(addresses)]
+            yield lambda: self.read(clients, outs)
+
+
+def in_turns(acts: Sequence[Callable[[], float]]) -> list[float]:
+    """The least seconds of each act. They take turns, so that what else the machine does falls on all of them."""
+    return [min(times) for times in zip(*([act() for act in acts] for _ in range(ROUNDS)))]
+
+
+def measure(title: str, load: Load, programs: Programs, floor: Floor, folder: Path, wanted: float | None) -> None:
+    """Prints the lines of dumps and of volumes that are read back."""
+    size = load.source.stat().st_size * load.reels.count
+    by_both = [lambda ends=ends: load.written(ends) for ends in (programs, floor)]
+    tell(f"dumped into {title}, blocks of {load.block:,}", in_turns(by_both), size, wanted)
+    if load.reels.folder:
+        load.reels.fill(load.source, load.block)
+    outs = [folder / f"out{number}" for number in range(load.reels.count)]
+    with ExitStack() as servers:
+        by_one = [servers.enter_context(load.reading(ends, outs)) for ends in (programs, floor)]
+        tell(f"read back from {title}, blocks of {load.block:,}", in_turns(by_one), size, wanted)
+    for it in outs:
+        it.unlink()
+
+
+def tell(title: str, times: list[float], size: int, wanted: float | None) -> None:
+    ours, floor = times
+    ratio_of_times(f"network, {title} / the floor", ours, floor, wanted)
+    told = f"{wanted:.2f}" if wanted else "-"
+    print(f"{title:<56}{ours / floor:>10.2f}{told:>10}{size / ours / MIB:>10,.0f}{size / floor / MIB:>10,.0f}", flush=True)
+
+
+def payload(path: Path, size: int) -> Path:
+    """A file of so many bytes."""
+    with path.open("wb") as file:
+        for _ in range(0, size, MIB):
+            file.write(os.urandom(MIB))
+    return path
+
+
+def measure_all(programs: Programs, floor: Floor, folder: Path, mib: int) -> None:
+    whole, part = payload(folder / "whole", mib * MIB), payload(folder / "part", max(1, mib // AT_ONCE) * MIB)
+    print(f"{'time over the loopback':<56}{'to floor':>10}{'wanted':>10}{'MiB/s':>10}{'floor':>10}")
+    for title, reels, source, wanted in (
+        ("memory", Reels(None), whole, None),
+        ("a folder", Reels(folder / "one"), whole, WANTED),
+        (f"{AT_ONCE} folders at once", Reels(folder / "many", AT_ONCE), part, WANTED),
+    ):
+        for block in BLOCKS:
+            measure(title, Load(source, block, reels), programs, floor, folder, wanted)
+        if reels.folder:
+            shutil.rmtree(reels.folder)
+
+
+# Memory.
+
+
+def held_for_clients(programs: Programs, folder: Path, count: int, block: int) -> float:
+    """The MiB that a server has held at most when so many clients have written a block each, and are there still."""
+    reels = Reels(folder, AT_ONCE)
+    reels.wipe()
+    expected = b"A0\nA%d\n" % block
+    with programs.listening(reels) as (address, server), ExitStack() as streams:
+        for number in range(count):
+            stream = streams.enter_context(connected(address))
+            stream.sendall(b"O/dev/st%d\n2\n" % number + write(bytes(block)))
+            if streams.enter_context(stream.makefile("rb")).read(len(expected)) != expected:
+                raise RuntimeError("the server's answers are not as expected")
+        return most_memory(server.pid)
+
+
+def held_by_client(programs: Programs, source: Path, block: int) -> float:
+    """The MiB that a client is seen to hold at most along a dump."""
+    most = 0.0
+    with programs.serving(Reels(None)) as (address,):
+        with subprocess.Popen(programs.writes(address, 0, source, block), stdout=subprocess.DEVNULL) as client:
+            while client.poll() is None:
+                status = Path(f"/proc/{client.pid}/status").read_text()
+                found = re.search(r"VmHWM:\s+(\d+)", status)
+                most = max(most, int(found[1]) / 1024) if found else most
+                time.sleep(0.001)
+    return most
+
+
+def measure_memory(programs: Programs, folder: Path) -> None:
+    """Prints what memory both programs hold at most."""
+    print(f"\n{'most memory, MiB':<40}{'server, ' + str(AT_ONCE) + ' clients':>20}{'a client adds':>16}{'client':>10}")
+    source = payload(folder / "held_source", 32 * MIB)
+    for block in BLOCKS:
+        none, many = (held_for_clients(programs, folder / "held", count, block) for count in (0, AT_ONCE))
+        client = held_by_client(programs, source, block)
+        figures = f"server {many:.1f} MiB, {none:.1f} with no client; rdump {client:.1f}"
+        ratio(f"memory, what each of {AT_ONCE} clients adds / its block of {block:,}", (many - none) * MIB / AT_ONCE / block, None, figures)
+        print(f"{f'blocks of {block:,}':<40}{many:>20.1f}{(many - none) / AT_ONCE:>16.2f}{client:>10.1f}", flush=True)
+
+
+def main() -> int:
+    parser = argparse.ArgumentParser(description="Measures dumps over the loopback beside a floor.")
+    parser.add_argument("rmtd", nargs="?", default=str(CRATES / "rmtd/out/rmtd"))
+    parser.add_argument("rdump", nargs="?", default=str(CRATES / "rdump/out/rdump"))
+    parser.add_argument("--mib", type=int, default=256, help="how much is dumped and read back each time")
+    words = parser.parse_args()
+    programs = Programs(os.path.abspath(words.rmtd), os.path.abspath(words.rdump))
+    print(f"Ratios of this run, of the least of {ROUNDS} times each.\n")
+    with tempfile.TemporaryDirectory(prefix="rmtd-bench-") as name:
+        folder = Path(name)
+        floor = built_floor(folder)
+        if floor:
+            measure_all(programs, floor, folder, words.mib)
+        else:
+            print("skipped: there is no C compiler on this machine, and so no floor")
+        measure_memory(programs, folder)
+    return 0
+
+
+if __name__ == "__main__":
+    sys.exit(main())
