@@ -158,8 +158,8 @@ def well(title: str, got: subprocess.CompletedProcess[bytes]) -> subprocess.Comp
 
 
 def tar(program: str) -> None:
-    """Create, list, extract, compare and append, in records of three sizes."""
-    for blocks in ("1", "20", "128"):
+    """Create, list, extract, compare and append, in records of four sizes, of which the last is the greatest."""
+    for blocks in ("1", "20", "128", "512"):
         with site(program) as shop:
             reel = shop.reel("r1")
             top = grow(shop.folder)
@@ -263,11 +263,17 @@ def loop_of(image: Path) -> Iterator[str | None]:
 
 
 def dump(program: str) -> None:
-    """A small file system dumped and restored."""
+    """A small file system dumped and restored, in records of the usual size and of the greatest."""
     if absent("dump", "restore", "mke2fs", "losetup"):
         return
+    for size in ("10", "256"):
+        restored(program, size)
+
+
+def restored(program: str, size: str) -> None:
+    """That in records of so many KiB."""
     with site(program) as shop:
-        shop.reel("r1")
+        reel = shop.reel("r1")
         top = grow(shop.folder)
         image = shop.folder / "image"
         image.write_bytes(bytes(4 << 20))
@@ -277,13 +283,15 @@ def dump(program: str) -> None:
                 print("skipped: dump and restore have no loop device to dump")
                 return
             environment = os.environ | {"RSH": str(shop.shell)}
-            got = run(["dump", "-0", "-f", f"localhost:{DEVICE}", device], shop.folder, env=environment)
-            check("dump: it ends well", got.returncode == 0 and b"DUMP IS DONE" in got.stderr, got)
+            got = run(["dump", "-0", "-b", size, "-f", f"localhost:{DEVICE}", device], shop.folder, env=environment)
+            check(f"dump -b {size}: it ends well", got.returncode == 0 and b"DUMP IS DONE" in got.stderr, got)
+            lengths = [len(it) for it in entries_of(reel.read_bytes()) if it]
+            check(f"dump -b {size}: the records", max(lengths) == 1024 * int(size), lengths)
         target = shop.folder / "back"
         target.mkdir()
-        got = run(["restore", "-r", "-f", f"localhost:{DEVICE}"], target, env=environment)
-        check("restore: it ends well", got.returncode == 0, got)
-        check("restore: the tree", tree_of(target, ("lost+found", "restoresymtable")) == tree_of(top))
+        got = run(["restore", "-r", "-b", size, "-f", f"localhost:{DEVICE}"], target, env=environment)
+        check(f"restore -b {size}: it ends well", got.returncode == 0, got)
+        check(f"restore -b {size}: the tree", tree_of(target, ("lost+found", "restoresymtable")) == tree_of(top))
 
 
 # A client of this file.
@@ -774,7 +782,7 @@ def full(program: str) -> None:
         ("a part of a length", 2, write(b"w" * 100), b"A100\n"),
         ("a part of a record", 40, write(b"w" * 100), b"A100\n"),
         ("all but the last byte", 107, write(b"w" * 100), b"A100\n"),
-        ("a part of a great record", 40_000, write(b"w" * 65_536), b"A65536\n"),
+        ("a part of the greatest record", 40_000, write(b"w" * 262_144), b"A262144\n"),
         ("some marks", 10, b"I0\n9\n", b"A9\n"),
         ("some of many marks", 40_001, b"I0\n100000\n", b"A100000\n"),
     ):

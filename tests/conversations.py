@@ -25,7 +25,7 @@ NO_PERMISSION = b"E13\nPermission denied\n"
 INVALID = b"E22\nInvalid argument\n"
 NO_SPACE = b"E28\nNo space left on device\n"
 
-GREATEST_RECORD = b"r" * 65_536
+GREATEST_RECORD = b"r" * 262_144
 
 
 class Exchange(NamedTuple):
@@ -214,7 +214,7 @@ SPACING = (
             Exchange(b"I6\n0\n", b"A0\n"),
             Exchange(b"I6\n1\n", NOT_CONFIGURED),
             Exchange(b"W0\n", NOT_CONFIGURED),
-            Exchange(b"W65537\n" + bytes(65_537), NOT_CONFIGURED),
+            Exchange(b"W262145\n" + bytes(262_145), NOT_CONFIGURED),
             Exchange(b"R0\n", NOT_CONFIGURED),
             Exchange(b"R1\n", NOT_CONFIGURED),
             Exchange(b"I0\n1\n", NOT_CONFIGURED),
@@ -257,13 +257,13 @@ FULL_REELS = (
             CLOSED,
         ),
     ),
-    # 15 of the greatest records take 983,160 bytes. With the 12 beside it a record of 65,405 bytes is a byte too long.
+    # 15 records of 65,536 bytes take 983,160 bytes. With the 12 beside it a record of 65,405 bytes is a byte too long.
     # One of 65,404 leaves room for just a mark.
     Conversation(
         "a reel full of records",
         (
             Exchange(b"O/dev/st0\n1\n", b"A0\n"),
-            *(Exchange(b"W65536\n" + GREATEST_RECORD, b"A65536\n") for _ in range(15)),
+            *(Exchange(b"W65536\n" + GREATEST_RECORD[:65_536], b"A65536\n") for _ in range(15)),
             Exchange(b"W65405\n" + GREATEST_RECORD[:65_405], b"A0\n"),
             Exchange(b"W65404\n" + GREATEST_RECORD[:65_404], b"A65404\n"),
             Exchange(b"I0\n1\n", b"A1\n"),
@@ -275,6 +275,22 @@ FULL_REELS = (
             Exchange(b"W1\nx", b"A1\n"),
             Exchange(b"I4\n17\n", IO_ERROR),
             Exchange(b"I3\n16\n", b"A16\n"),
+        ),
+    ),
+    # 3 of the greatest records take 786,456 bytes. A record of 262,109 bytes is a byte too long then. One of 262,108 leaves room for
+    # just a mark.
+    Conversation(
+        "a reel full of the greatest records",
+        (
+            OPENED,
+            *(Exchange(b"W262144\n" + GREATEST_RECORD, b"A262144\n") for _ in range(3)),
+            Exchange(b"W262109\n" + GREATEST_RECORD[:262_109], b"A0\n"),
+            Exchange(b"W262108\n" + GREATEST_RECORD[:262_108], b"A262108\n"),
+            Exchange(b"I0\n1\n", b"A1\n"),
+            Exchange(b"I0\n1\n", NO_SPACE),
+            Exchange(b"I5\n1\n", b"A1\n"),
+            Exchange(b"R262145\n", b"A262144\n" + GREATEST_RECORD),
+            CLOSED,
         ),
     ),
     # 262,140 marks leave 16 bytes: a record of 4 bytes with a mark behind it.
@@ -337,8 +353,8 @@ CONVERSATIONS = (
         "sizes of a record",
         (
             OPENED,
-            Exchange(b"W65536\n" + GREATEST_RECORD, b"A65536\n"),
-            Exchange(b"W65537\n" + GREATEST_RECORD + b"r", INVALID),
+            Exchange(b"W262144\n" + GREATEST_RECORD, b"A262144\n"),
+            Exchange(b"W262145\n" + GREATEST_RECORD + b"r", INVALID),
             Exchange(b"W0\n", INVALID),
             Exchange(b"I7\n9\n", b"A9\n"),
         ),

@@ -25,6 +25,7 @@ from pathlib import Path
 from typing import Callable, Iterator, NamedTuple
 
 from checks import check, ended
+from model_rmtd import GREATEST_RECORD
 
 CRATES = Path(__file__).resolve().parent.parent / "crates"
 DEVICE = "/dev/st0"
@@ -33,6 +34,9 @@ DAY_BEFORE = 951_696_000
 ENTRY = "/usr" + 28 * " " + " 0 Tue Feb 29 00:00:00 2000\n"
 OLDER = "/home" + 27 * " " + " 0 Mon Feb 28 00:00:00 2000\n"
 DONE, FAILED, ABNORMAL = 0, 1, 3
+
+# The bytes of the greatest record that a server of before takes.
+OLD_RECORD = 65_536
 
 # A program that does not end is killed after this time, so that the checks end.
 GUARD_SECONDS = 60
@@ -208,6 +212,16 @@ class Model:
         self.listener.close()
 
 
+class OldModel(Model):
+    """A server of before, with the lesser limit."""
+
+    def write(self, data: bytes) -> bytes:
+        return super().write(data) if len(data) <= OLD_RECORD else b"E22\nInvalid argument\n"
+
+    def read(self, count: int) -> bytes:
+        return super().read(min(count, OLD_RECORD))
+
+
 # The programs.
 
 
@@ -341,6 +355,36 @@ def dumps(p: Programs) -> None:
     model = Model(Reel("r1", 4096))
     p.dump(model.address)
     check("the last block is padded", model.bin[0].entries[1] == b"x" + bytes(1023))
+    model.stop()
+
+
+def greatest(p: Programs) -> None:
+    """Blocks of the greatest size: over the loopback into a folder and back; what a read asks for; and a server that takes lesser ones."""
+    data = os.urandom(5 * GREATEST_RECORD - 1000)
+    p.file("payload", data)
+    for name in ("bin", "st0"):
+        p.folder.joinpath(name).mkdir()
+    reel = p.folder / "st0" / "r1"
+    reel.touch()
+    text, read = label(1, 0).rstrip(b"\0").decode(), ("read", "--device", DEVICE, "--out", "read")
+    with p.listening("--capacity", str(2 << 20), "--bin", str(p.folder / "bin"), f"{DEVICE}={reel.parent}") as (address, _):
+        want = "volume 1: 5 blocks from 0\ndump complete: 1 volumes, 5 blocks\n"
+        ends("the greatest blocks", p.dump(address, block=str(GREATEST_RECORD)), want, DONE)
+        p.folder.joinpath("bin", "r1").rename(reel)
+        ends("the greatest blocks, read", p.run(*read, "--to", address), text, DONE, f"5 blocks of {GREATEST_RECORD} bytes")
+    check("the greatest blocks, read: the bytes", p.folder.joinpath("read").read_bytes() == data + bytes(1000))
+    model = OldModel(Reel("r1", 1 << 20))
+    for block in (GREATEST_RECORD, OLD_RECORD + 1):
+        failed = "volume 1 failed: Refused 22\nretry?\ndump abandoned\n"
+        ends(f"a block of {block} bytes to an older server", p.dump(model.address, block=str(block)), failed, ABNORMAL, "Refused 22")
+        check(f"a block of {block} bytes to an older server: what is sent", model.logs[-1][:-1] == requests_of(1, 0, [])[:5])
+    p.file("payload", data[:GREATEST_RECORD])
+    want = "volume 1: 4 blocks from 0\ndump complete: 1 volumes, 4 blocks\n"
+    ends("lesser blocks to an older server", p.dump(model.address, block=str(OLD_RECORD)), want, DONE)
+    model.stack.append(model.bin.pop())
+    ends("lesser blocks at an older server, read", p.run(*read, "--to", model.address), text, DONE, f"4 blocks of {OLD_RECORD} bytes")
+    check("lesser blocks at an older server, read: the bytes", p.folder.joinpath("read").read_bytes() == data[:GREATEST_RECORD])
+    check("what a read asks for", model.logs[-1] == [b"O/dev/st0\n0\n", b"I5\n1\n", *6 * [b"R262144\n"], b"C\n"], model.logs[-1])
     model.stop()
 
 
@@ -590,7 +634,7 @@ def startup(p: Programs) -> None:
         ("level", "10", "level"),
         ("date", "253402300800", "date"),
         ("block", "0", "block"),
-        ("block", "65537", "block"),
+        ("block", str(GREATEST_RECORD + 1), "block"),
     ):
         fails(f"--{name} {value[:9]!r}", p.dump(nowhere, **{name: value}), fault)
     first = p.dump(nowhere, device="", fs="", level="10", date="253402300800", block="0")
@@ -681,8 +725,9 @@ def reads(p: Programs) -> None:
     """Volumes that are read back."""
     text = label(1, 0).rstrip(b"\0").decode()
     random = os.urandom(10 << 20)
-    blocks = [random[at : at + 65536] for at in range(0, len(random), 65536)]
-    for title, records in (("three blocks", BLOCKS), ("none", []), ("10 MiB", blocks), ("records of one byte", [b"x"] * 1000)):
+    blocks, great = ([random[at : at + size] for at in range(0, len(random), size)] for size in (65536, GREATEST_RECORD))
+    small = ("three blocks", BLOCKS), ("none", []), ("records of one byte", [b"x"] * 1000)
+    for title, records in (*small, ("10 MiB", blocks), ("10 MiB in the greatest records", great)):
         with p.listening("--capacity", str(16 << 20)) as (address, _):
             write_volume(address, [label(1, 0), *records, None])
             for turn in ("first", "second"):
@@ -706,7 +751,7 @@ def main() -> int:
     parser.add_argument("rmtd", nargs="?", default=str(CRATES / "rmtd/out/rmtd"))
     parser.add_argument("rdump", nargs="?", default=str(CRATES / "rdump/out/rdump"))
     asked = parser.parse_args()
-    for part in (dumps, payloads, memory, progress, dates, retries, startup, servers, operations, reads):
+    for part in (dumps, greatest, payloads, memory, progress, dates, retries, startup, servers, operations, reads):
         with tempfile.TemporaryDirectory() as folder:
             part(Programs(os.path.abspath(asked.rmtd), os.path.abspath(asked.rdump), Path(folder)))
     return ended()

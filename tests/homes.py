@@ -28,7 +28,7 @@ class Home(NamedTuple):
 OPERATIONS = ("MTWEOF", "MTFSF", "MTBSF", "MTFSR", "MTBSR", "MTREW", "MTOFFL", "MTNOP")
 ERRORS = ("ENOENT", "EIO", "ENXIO", "EBADF", "ENOMEM", "EACCES", "EBUSY", "EINVAL", "ENOSPC")
 HOMES = (
-    Home("rmt_wire/src/limits.rt", ("RECORD_LIMIT", "READER_LIMIT"), r"\b65_?536\b|\b65_?548\b"),
+    Home("rmt_wire/src/limits.rt", ("RECORD_LIMIT", "READER_LIMIT"), r"\b262_?144\b|\b262_?156\b"),
     Home("rmt_wire/src/mtio.rt", OPERATIONS, r"\bconst (?:" + "|".join(OPERATIONS) + r")\b|\bOp \d+ |\bOp \{ op: \d"),
     Home("rmt_wire/src/fcntl.rt", ("O_RDONLY", "O_WRONLY", "O_RDWR", "ACCESS_MODES"), r"\bconst O_\w+|\bmode % 4\b"),
     Home("rmt_wire/src/errno.rt", ERRORS, r"\bconst (?:" + "|".join(ERRORS) + r")\b|\bRefusedWith \d|\bRefused\(\d"),
@@ -38,8 +38,8 @@ HOMES = (
 
 # Benchmarks and the programs from outside have one home each.
 SCRIPTS = (
-    ("tests", "tests/model_rmtd.py", r"^[A-Z_]*LIMIT\w* *= *65_?536"),
-    ("bench", "bench/told.py", r"^[A-Z_]*LIMIT\w* *= *65_?536"),
+    ("tests", "tests/model_rmtd.py", r"^[A-Z_]*(?:LIMIT|GREATEST)\w* *= *262_?144"),
+    ("bench", "bench/wire.py", r"^[A-Z_]*(?:LIMIT|GREATEST)\w* *= *262_?144"),
 )
 
 

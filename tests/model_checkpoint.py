@@ -168,7 +168,7 @@ EXAMPLES: tuple[tuple[bytes, tuple[int, str] | tuple[int, int]], ...] = (
     (NO_BLOCKS + b"counted 1 0 0\n", (1, 0)),
     (ROW.replace(b"/dev/st0", b"\0 \xff\r"), (1, 2)),
     (ROW.replace(b"/dev/st0", LONG), (1, 2)),
-    (ROW.replace(b"/usr", b"!" * 255).replace(b"since 0", b"since 253402300799").replace(b"block 1024", b"block 65536"), (1, 2)),
+    (ROW.replace(b"/usr", b"!" * 255).replace(b"since 0", b"since 253402300799").replace(b"block 1024", b"block 262144"), (1, 2)),
     (HEAD_TEXT.replace(b"blocks 3", b"blocks 2147483647") + b"counted 1 0 2147483647\n", (1, 2_147_483_647)),
     # The first line that is bad or missing.
     (b"", (1, BAD)),
@@ -201,7 +201,7 @@ EXAMPLES: tuple[tuple[bytes, tuple[int, str] | tuple[int, int]], ...] = (
     (ROW.replace(b"since 0", b"since 18446744073709551616"), (6, BAD)),
     (ROW.replace(b"since 0", b"since " + b"9" * 5_000), (6, BAD)),
     (ROW.replace(b"block 1024", b"block 0"), (7, BAD)),
-    (ROW.replace(b"block 1024", b"block 65537"), (7, BAD)),
+    (ROW.replace(b"block 1024", b"block 262145"), (7, BAD)),
     (ROW.replace(b"blocks 3", b"blocks 2147483648"), (8, BAD)),
     (HEAD_TEXT[:-1], (8, BAD)),
     (HEAD_TEXT + b"\n", (9, BAD)),

@@ -24,7 +24,7 @@ from typing import IO, Iterator, NamedTuple, NoReturn
 
 Entry = bytes | None
 
-GREATEST_RECORD = 65_536
+GREATEST_RECORD = 262_144
 GREATEST_NUMBER = 2_147_483_647
 LONGEST_LINE = 255
 CAPACITY = 1_048_576

@@ -15,7 +15,7 @@ Entry = bytes | None
 # How a device call fails: what stood is kept, lost, or so much of what was being written stands.
 Trouble = tuple[str, int]
 
-ROOM = 65_548
+ROOM = GREATEST_RECORD + 12
 LINE_FEED, SPACE = 10, 32
 
 # Rules of the server that can be turned off.

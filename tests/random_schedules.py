@@ -8,6 +8,7 @@ from __future__ import annotations
 import random
 from typing import Callable, Iterable, Iterator, NamedTuple
 
+from model_rmtd import GREATEST_RECORD
 from model_session import Fault, Unfinished, first_request
 from model_world import GREATEST, GREATEST_NUMBER, LAST_SECOND, Link, Schedule, World
 
@@ -54,7 +55,7 @@ PROFILES = (
     Profile("rough", ROUGH, troubles=0.25),
 )
 LONG_WRITES = Profile(
-    "long writes", STRANGE, capacities=(70_000, 200_000), sizes=(65_536, 30_000), blocks=(1, 2, 4), long_writes=0.3, pieces=0.3, alive=4
+    "long writes", STRANGE, capacities=(280_000, 600_000), sizes=(GREATEST_RECORD, 30_000), blocks=(1, 2, 4), long_writes=0.3, pieces=0.3, alive=4
 )
 MANY_DRIVES = Profile("many drives", ROUGH, drives=(64,), reels=(0, 1, 2))
 
@@ -227,7 +228,7 @@ class Walk:
         if letter == "W":
             return self.write()
         if letter == "R":
-            return b"R%d\n" % self.source.choice((0, 1, 10, 65_536, 65_537, GREATEST_NUMBER))
+            return b"R%d\n" % self.source.choice((0, 1, 10, GREATEST_RECORD, GREATEST_RECORD + 1, GREATEST_NUMBER))
         operation = self.source.choices((0, 1, 2, 3, 4, 5, 6, 7, 8, GREATEST_NUMBER), (5, 3, 3, 3, 4, 5, 0.6, 0.6, 0.3, 0.3))[0]
         return b"I%d\n%d\n" % (operation, self.source.choice(COUNTS))
 
@@ -243,7 +244,7 @@ class Walk:
             return self.counted_label()
         length = self.source.choice(LENGTHS)
         if self.source.random() < self.profile.long_writes:
-            length = self.source.choice((65_535, 65_536, 65_537, 65_549, 100_000, 140_000))
+            length = GREATEST_RECORD + self.source.choice((-1, 0, 1, 13, 34_000, 75_000))
         return b"W%d\n%s" % (length, self.source.randbytes(1) * length)
 
     def counted_label(self) -> bytes:

@@ -222,13 +222,13 @@ def changed(source: random.Random, count: int) -> Iterator[bytes]:
 
 def by_hand() -> Iterator[bytes]:
     """Files at the limits of a length, and some in which one length is wrong."""
-    for length in (65_535, 65_536, 65_537, 131_072):
+    for length in (65_535, 65_536, 65_537, 131_072, 262_143, 262_144, 262_145, 524_288):
         number = length.to_bytes(4, "little")
         whole = number + b"d" * length + number
         yield from (whole, whole[:-1], whole + bytes(4), whole[:-4] + bytes(4), bytes(4) + whole + X)
-    for text in ("02000000 6465 02", "02000000 6465 03000000", "00000000 02000000 64", "01000100", "00000000 000000"):
+    for text in ("02000000 6465 02", "02000000 6465 03000000", "00000000 02000000 64", "01000100", "01000400", "00000000 000000"):
         yield bytes.fromhex(text)
-    for other in (0, 2, 256, 65_537, 1 << 24, 1 << 31, (1 << 32) - 1):
+    for other in (0, 2, 256, 65_537, 262_145, 1 << 24, 1 << 31, (1 << 32) - 1):
         number = other.to_bytes(4, "little")
         yield from (image(b"x")[:5] + number, number + b"x" + image(b"x")[5:], X + number + X, number, X + number)
 
@@ -266,7 +266,7 @@ def looked_at(entries: list[Entry]) -> bytes:
         for number, count in itertools.product((1, 2, 3, 4), COUNTS):
             text += to_place(place) + operation(number, count) + b"R3\n"
     text += to_place(0) + b"".join(operation(number, 0) for number in range(5))
-    return text + b"R65536\n" * (len(entries) + 2) + operation(3, 1) + operation(4, 1) + b"W0\n"
+    return text + b"R262144\n" * (len(entries) + 2) + operation(3, 1) + operation(4, 1) + b"W0\n"
 
 
 def written(place: int, what: bytes) -> bytes:

@@ -38,7 +38,7 @@ NO_WRITE = b"A0\nE12\nCannot allocate memory\nA1\nA1\nA0\nA0\nA0\n"
 NO_MARK = b"A0\nA5\nE12\nCannot allocate memory\nA1\nA5\nhelloA0\nA0\n"
 
 # The bytes that a session reserves: for what it reads from a reel, and for its reader of requests.
-RESERVED = [65_536, 65_548]
+RESERVED = [262_144, 262_156]
 
 NAMED = b"out of memory\n"
 FAILED_START = f"volume 1 failed: OutOfMemory\n{ASKED}\n"

@@ -290,9 +290,9 @@ def words(p: Programs) -> None:
     for name, value, limit in (
         ("level", "10", "--level 10: a level is 0 to 9"),
         ("level", "x", "'--level <LEVEL>': a level is 0 to 9"),
-        ("block", "0", "--block 0: a block is 1 to 65536 bytes"),
-        ("block", "65537", "--block 65537: a block is 1 to 65536 bytes"),
-        ("block", "1k", "'--block <BYTES>': a block is 1 to 65536 bytes"),
+        ("block", "0", "--block 0: a block is 1 to 262144 bytes"),
+        ("block", "262145", "--block 262145: a block is 1 to 262144 bytes"),
+        ("block", "1k", "'--block <BYTES>': a block is 1 to 262144 bytes"),
         ("date", "253402300800", "--date 253402300800: a date is 0 to 253402300799"),
         ("date", "x", "'--date <SECONDS>': a date is 0 to 253402300799"),
     ):

@@ -305,17 +305,17 @@ def of_shapes() -> Iterator[Vector]:
     text = "drive /dev/st0 0003100 r1\nstranger\n" + says(1, OPENED + b"W1\nx")
     text += "to-server 0001 0000000000000000000000000014\npump 01 02\npump 1 1\n"
     yield vector("numbers with leading zeros", text, "reel r1 R1\n" + EMPTY)
-    text = "drive /dev/st0 3100 r1\n" + run("n" * 255, 9, 253_402_300_799) + "restart-client\nrun /dev/st0 ! 0 0 253402300799 65536 1\n"
+    text = "drive /dev/st0 3100 r1\n" + run("n" * 255, 9, 253_402_300_799) + "restart-client\nrun /dev/st0 ! 0 0 253402300799 262144 1\n"
     yield vector("the greatest numbers of a run", text, "reel r1\n" + EMPTY)
 
 
 def of_lengths() -> Iterator[Vector]:
     """Requests at the limits of a reader, and writes that are dropped."""
-    begin = "drive /dev/st0 70000 r1\nstranger\n" + says(1, OPENED) + "pump 1 1\n"
-    whole = says(1, b"W0000065536\n" + b"d" * 65_536 + b"C\n")
-    yield vector("the longest request", begin + whole + "to-server 1 65548\nserve 1\nto-server 1 2\nserve 1\n", "reel r1 R65536\n" + EMPTY)
-    dropped = says(1, b"W65600\n" + b"d" * 65_600 + b"W1\nx")
-    served = begin + dropped + "to-server 1 65548\nto-server 1 all\nserve 1\nserve 1\nto-client 1 24\n"
+    begin = "drive /dev/st0 280000 r1\nstranger\n" + says(1, OPENED) + "pump 1 1\n"
+    whole = says(1, b"W0000262144\n" + b"d" * 262_144 + b"C\n")
+    yield vector("the longest request", begin + whole + "to-server 1 262156\nserve 1\nto-server 1 2\nserve 1\n", "reel r1 R262144\n" + EMPTY)
+    dropped = says(1, b"W262200\n" + b"d" * 262_200 + b"W1\nx")
+    served = begin + dropped + "to-server 1 262156\nto-server 1 all\nserve 1\nserve 1\nto-client 1 24\n"
     yield vector("a dropped write", served, "reel r1 R1\n" + EMPTY)
     yield vector("a dropped write, by rounds", begin + dropped + "pump 1 4\n", "reel r1 R1\n" + EMPTY)
     read = carried_out(OPENED + b"W40\n" + b"d" * 40 + b"I5\n1\nR39\n", *[""] * 4) + "to-client 1 52\n"
@@ -373,13 +373,13 @@ def of_answers() -> Iterator[Vector]:
 
 def of_rooms() -> Iterator[Vector]:
     """More bytes than a reader has room for are not taken."""
-    begin = "drive /dev/st0 70000 r1\nstranger\n" + says(1, b"W0000065536\n" + b"d" * 65_536 + b"C\n")
-    yield stops("a byte more than there is room for", begin + "to-server 1 65549\n")
+    begin = "drive /dev/st0 280000 r1\nstranger\n" + says(1, b"W0000262144\n" + b"d" * 262_144 + b"C\n")
+    yield stops("a byte more than there is room for", begin + "to-server 1 262157\n")
     yield stops("a byte more where there is no room left", begin + "to-server 1 all\nto-server 1 1\n")
     yield stops("all, where there is no room left", begin + "to-server 1 all\nto-server 1 all\n")
-    begin = "drive /dev/st0 70000 r1\nstranger\n" + says(1, b"C\nW65600\n" + b"d" * 65_601)
-    yield stops("a dropped write behind a request has no room of its own", begin + "to-server 1 65548\nto-server 1 1\n")
-    text = begin + "to-server 1 65548\nserve 1\nto-server 1 all\nserve 1\nserve 1\n"
+    begin = "drive /dev/st0 280000 r1\nstranger\n" + says(1, b"C\nW262200\n" + b"d" * 262_201)
+    yield stops("a dropped write behind a request has no room of its own", begin + "to-server 1 262156\nto-server 1 1\n")
+    text = begin + "to-server 1 262156\nserve 1\nto-server 1 all\nserve 1\nserve 1\n"
     yield stops("a dropped write, and a byte that is no request", text + "serve 1\n")
     yield stops("a part of a request", "drive /dev/st0 5 r1\nstranger\n" + says(1, b"O/dev/st0\n2") + "to-server 1 all\nserve 1\n")
     for text in (b"C" + b"c" * 255, b"O" + b"o" * 255 + b"\n", b"O\n2" + b" " * 254, b"W0000000001\n", b"R2147483647", b"I0\n", b"W"):
@@ -516,7 +516,7 @@ def of_bad_runs() -> Iterator[str]:
         2: ("10", "", "x", "-1", "+1", "0x0", "9223372036854775808"),
         3: ("253402300800", "9223372036854775807", "", "now", "1.0"),
         4: ("253402300800", "9223372036854775808", "", "1e3", "-0"),
-        5: ("0", "65537", "", "1k", "18446744073709551617"),
+        5: ("0", "262145", "", "1k", "18446744073709551617"),
         6: ("2147483648", "9223372036854775808", "", "all", "1,000", "\u0661"),
     }
     for place, texts in faults.items():
@@ -562,7 +562,7 @@ GOOD_LINES = tuple(
     for it in (
         *("", "#", "#x", "# " + "\u00e9", "stranger", "restart-server", "pump 0 0", "pump 1 1", "pump 1 0", "arrange /dev/st0"),
         *("arrange /dev/st0 r2", "arrange /dev/st0 r2 r1", "pump 9223372036854775807 9223372036854775807"),
-        *(runs(*LAWFUL), runs("#", "#", "9", "0", "0", "65536", "3")),
+        *(runs(*LAWFUL), runs("#", "#", "9", "0", "0", "262144", "3")),
         *(runs("d" * 255, "n" * 255, "00", "253402300799", "253402300799", "0001", "0"), runs("/dev/st9", "~", "1", "1", "2", "1", "1000000")),
     )
 )
