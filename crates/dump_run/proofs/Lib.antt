@@ -5,3 +5,4 @@ pub mod ReadLines
 pub mod OneText
 pub mod Ordering
 pub mod LabelText
+pub mod LabelReading

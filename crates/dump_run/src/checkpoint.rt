@@ -4,7 +4,7 @@ ghost use Rattle.dump_run.specs.Checkpoint.{SpellsCheckpoint, HasResumeFault};
 ghost use Rattle.dump_run.specs.declared.count.VolumeCount.{VolumeCount};
 
 mod counts;
-mod field;
+pub(crate) mod field;
 mod first_byte;
 mod head;
 mod number;

@@ -1,7 +1,9 @@
-//! Laws of the text of a checkpoint, each the contract of a call that does nothing.
+//! Laws of the text of a checkpoint and of labels, each the contract of a call that does nothing.
 
-ghost use Rattle.std.specs.Prelude.{◌≡◌, ℕ, List};
-ghost use Rattle.dump_run.specs.Run.{PlainRun};
+ghost use Rattle.std.specs.Prelude.{◌≡◌, ℕ, ◌≤◌, List};
+ghost use Rattle.std.specs.Int.{IsInRange};
+ghost use Rattle.dump_run.specs.Run.{PlainRun, IsRun, blocks_limit};
+ghost use Rattle.dump_run.specs.Label.{PlainLabel, IsLabel, label, label_of, label_record};
 ghost use Rattle.dump_run.specs.Checkpoint.{SpellsCheckpoint, HasResumeFault};
 ghost use Rattle.dump_run.specs.declared.count.VolumeCount.{VolumeCount};
 ghost use Rattle.dump_run.specs.declared.fault.ResumeFault.{ResumeFault};
@@ -18,4 +20,14 @@ pub fn one_checkpoint()
         SpellsCheckpoint bytes s others → counts ≡ others }
     ensures fault { (bytes : List ℕ) (r : PlainRun) (counts : List VolumeCount) (fault : ResumeFault) →
         SpellsCheckpoint bytes r counts → HasResumeFault bytes fault → fault ≡ OutOfMemory }
+{}
+
+/// A record is the label of one volume at most. The label of a volume of a run is one, and says what the run and the volume are.
+///
+/// It does nothing: its contract is a law of the definitions.
+pub fn one_label()
+    ensures one { (l m : PlainLabel) → IsLabel l → IsLabel m → label_record l ≡ label_record m → l ≡ m }
+    ensures lawful { (run : PlainRun) (volume first : ℕ) → IsRun run → IsInRange 1 blocks_limit volume → first ≤ blocks_limit →
+        IsLabel (label_of run volume first) }
+    ensures same { (run : PlainRun) (volume first : ℕ) → label run volume first ≡ label_record (label_of run volume first) }
 {}

@@ -23,7 +23,7 @@ fn text_field<'a>(bytes: &'a [u8], word: &[u8]) -> Option<(&'a [u8], &'a [u8])>
 }
 
 /// The number after this word in the first line, in this range, and what stands behind that line.
-pub(super) fn number_field<'a>(
+pub(crate) fn number_field<'a>(
     bytes: &'a [u8],
     word: &[u8],
     least: u64,
@@ -55,12 +55,12 @@ pub(super) fn device_field(bytes: &[u8]) -> Option<(&[u8], &[u8])>
     Some((device, more))
 }
 
-/// The name in the first line, and what stands behind that.
-pub(super) fn name_field(bytes: &[u8]) -> Option<(&[u8], &[u8])>
-    ensures found { FindsText (codes "fs ") IsName bytes.now result }
+/// The name after this word in the first line, and what stands behind that.
+pub(crate) fn name_field<'a>(bytes: &'a [u8], word: &[u8]) -> Option<(&'a [u8], &'a [u8])>
+    ensures found { FindsText word.now IsName bytes.now result }
     ensures text { IfSome result (λ p. IsUtf8 p.0.now) }
 {
-    let (name, more) = text_field(bytes, b"fs ")?;
+    let (name, more) = text_field(bytes, word)?;
     if !is_name(name) {
         return None;
     }

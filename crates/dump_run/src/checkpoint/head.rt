@@ -24,7 +24,7 @@ pub(super) fn read_head(bytes: &[u8]) -> Result<(Run, &[u8]), ResumeFault>
     let Some((device, rest)) = device_field(rest) else {
         return Err(ResumeFault::BadLine(2));
     };
-    let Some((name, rest)) = name_field(rest) else {
+    let Some((name, rest)) = name_field(rest, b"fs ") else {
         return Err(ResumeFault::BadLine(3));
     };
     let Some((level, rest)) = number_field(rest, b"level ", 0, LAST_LEVEL) else {

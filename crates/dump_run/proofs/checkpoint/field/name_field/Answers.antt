@@ -1,4 +1,4 @@
-use Rattle.std.proofs.Common.{codes, subst, sym}
+use Rattle.std.proofs.Common.{subst, sym}
 use Rattle.dump_run.specs.CheckpointParts.{FindsText}
 use Rattle.dumpdates.specs.Entry.{IsName}
 use Rattle.dump_run.proofs.FieldCut.{no_kind, other_kind, name_lacks}
@@ -6,10 +6,10 @@ use Rattle.dump_run.proofs.checkpoint.field.name_field.Goals as goal
 
 pub returns-in_err-name-clause-found : goal.returns-in_err-name-clause-found
 returns-in_err-name-clause-found c =
-    subst (FindsText (codes "fs ") IsName c.args.bytes.now) (sym c.from_residual.ensures)
-    (no_kind IsName (codes "fs ") c.args.bytes.now name_lacks c.in_err-name.ensures)
+    subst (FindsText c.args.word.now IsName c.args.bytes.now) (sym c.from_residual.ensures)
+    (no_kind IsName c.args.word.now c.args.bytes.now name_lacks c.in_err-name.ensures)
 
 pub returns-then-not-is_name-clause-found : goal.returns-then-not-is_name-clause-found
 returns-then-not-is_name-clause-found c =
-    other_kind IsName (codes "fs ") c.args.bytes.now c.in_ok-name.name.now c.in_ok-name.more.now name_lacks c.in_ok-name.ensures.0
+    other_kind IsName c.args.word.now c.args.bytes.now c.in_ok-name.name.now c.in_ok-name.more.now name_lacks c.in_ok-name.ensures.0
     c.in_ok-name.ensures.1 (λ its. (let no_such = c.if-not-is_name.ensures.name.1 its in cc))

@@ -1,0 +1,149 @@
+//! The label of a volume, as it is read from a reel.
+
+ghost use Rattle.std.specs.Prelude.{◌≡◌, ◌≤◌, ◌↔◌, IsTrue, IsUtf8, length, replicate};
+ghost use Rattle.std.specs.Int.{IsInRange};
+ghost use Rattle.dumpdates.specs.Entry.{IsName, last_second};
+ghost use Rattle.dump_run.specs.Run.{blocks_limit};
+ghost use Rattle.dump_run.specs.Label.{IsLabel, ReadsLabel, plain_label};
+ghost use Rattle.dump_run.specs.LabelParts.{FindsLabel};
+
+use crate::checkpoint::field::{name_field, number_field};
+use crate::labels::LABEL_BYTES;
+use crate::row::Row;
+use crate::run::{BLOCKS_LIMIT, LAST_LEVEL};
+use dumpdates::LAST_SECOND;
+use std::marker::Model;
+
+/// The greatest number of a volume, and of a block.
+const LAST_NUMBER: u64 = BLOCKS_LIMIT as u64;
+
+/// What the label of a volume says: of which dump the volume is, its number, and its first block. It takes no memory.
+#[derive(Drop)]
+pub struct VolumeLabel {
+    name: Row,
+    level: u8,
+    date: u64,
+    since: u64,
+    volume: u32,
+    first: u32,
+}
+
+impl Model for VolumeLabel {
+    ghost use Rattle.std.specs.Prelude.{IsUtf8};
+    ghost use Rattle.dump_run.specs.Label.{PlainLabel, IsLabel, plain_label};
+
+    ghost Value = { PlainLabel };
+
+    ghost view = { λ l. plain_label l.name l.level l.date l.since l.volume l.first };
+
+    ghost invariant = { λ l. IsLabel (plain_label l.name l.level l.date l.since l.volume l.first) × IsUtf8 l.name };
+}
+
+impl VolumeLabel {
+    /// The label that a record is. None where it is not a label: 1024 bytes, six lines within the limits of a run, as `label` writes
+    /// them, and zero bytes after them. The volume is 1 to `BLOCKS_LIMIT`, and its first block 0 to `BLOCKS_LIMIT`.
+    pub fn read(record: &[u8]) -> Option<VolumeLabel>
+        ensures { ReadsLabel record.now result }
+    {
+        if record.len() != LABEL_BYTES {
+            return None;
+        }
+        let (label, rest) = first_lines(record)?;
+        if !are_zeros(rest) {
+            return None;
+        }
+        Some(label)
+    }
+
+    /// The label of these parts, which are within their limits.
+    fn from_parts(
+        name: &[u8],
+        level: u64,
+        date: u64,
+        base: u64,
+        volume: u64,
+        first: u64,
+    ) -> VolumeLabel
+        requires limits { IsLabel (plain_label name.now level date base volume first) }
+        requires text { IsUtf8 name.now }
+        ensures { result ≡ plain_label name.now level date base volume first }
+    {
+        VolumeLabel {
+            name: Row::new(name),
+            level: level as u8,
+            date,
+            since: base,
+            volume: volume as u32,
+            first: first as u32,
+        }
+    }
+
+    /// The name of the file system: 1 to 255 bytes of printed ASCII without a space.
+    pub fn name(&self) -> &str
+        ensures told { result.now ≡ self.now.name }
+        ensures limits { IsName self.now.name }
+    {
+        std::str::from_utf8(self.name.as_slice()).unwrap()
+    }
+
+    /// The level, 0 to 9.
+    pub fn level(&self) -> u8
+        ensures told { result ≡ self.now.level }
+        ensures limit { self.now.level ≤ 9 }
+    {
+        self.level
+    }
+
+    /// The date of the dump, in seconds since 1970 began, UTC.
+    pub fn date(&self) -> u64
+        ensures told { result ≡ self.now.date }
+        ensures limit { self.now.date ≤ last_second }
+    {
+        self.date
+    }
+
+    /// The date of the dump that this one builds on, or 0.
+    pub fn since(&self) -> u64
+        ensures told { result ≡ self.now.since }
+        ensures limit { self.now.since ≤ last_second }
+    {
+        self.since
+    }
+
+    /// The number of the volume, counted from 1.
+    pub fn volume(&self) -> u32
+        ensures told { result ≡ self.now.volume }
+        ensures limits { IsInRange 1 blocks_limit self.now.volume }
+    {
+        self.volume
+    }
+
+    /// The first block of the volume, counted from 0.
+    pub fn first(&self) -> u32
+        ensures told { result ≡ self.now.first }
+        ensures limit { self.now.first ≤ blocks_limit }
+    {
+        self.first
+    }
+}
+
+/// The label whose lines bytes begin with, and what stands after them.
+fn first_lines(bytes: &[u8]) -> Option<(VolumeLabel, &[u8])>
+    ensures { FindsLabel bytes.now result }
+{
+    let (name, rest) = name_field(bytes, b"name ")?;
+    let (level, rest) = number_field(rest, b"level ", 0, LAST_LEVEL)?;
+    let (date, rest) = number_field(rest, b"date ", 0, LAST_SECOND)?;
+    let (base, rest) = number_field(rest, b"since ", 0, LAST_SECOND)?;
+    let (volume, rest) = number_field(rest, b"volume ", 1, LAST_NUMBER)?;
+    let (first, rest) = number_field(rest, b"first ", 0, LAST_NUMBER)?;
+    let label = VolumeLabel::from_parts(name, level, date, base, volume, first);
+    Some((label, rest))
+}
+
+/// Whether all bytes are zero.
+fn are_zeros(bytes: &[u8]) -> bool
+    ensures { IsTrue result ↔ (bytes.now ≡ replicate (length bytes.now) 0) }
+{
+    bytes.iter().all(|byte| *byte == 0)
+}
