@@ -4,3 +4,4 @@ mod of_dump_client;
 mod of_dump_run;
 mod of_dumpdates;
 mod of_examples;
+mod of_reel_check;

@@ -1,0 +1,215 @@
+//! Reels that were written by hand, and what they are said to hold.
+
+use dump_run::{Run, label};
+use reel_check::{
+    Holding, ReelContents, ReelTally, VolumeEnd, check_reel, one_holding, one_volume,
+};
+use std::alloc::{AllocError, Global};
+use std::test::Fail;
+use tape::{FuseMedium, Medium, MediumFailed, MemoryMedium};
+
+/// What stands on a reel at one place.
+#[derive(Clone, Copy)]
+enum Part {
+    /// The label of the run's volume 2, from block 5 on.
+    Label,
+    Record(&'static [u8]),
+    Mark,
+    /// The first bytes of a record.
+    Torn,
+}
+
+/// What a reel is to be said to hold.
+#[derive(Clone, Copy)]
+enum Wanted {
+    Empty,
+    /// So many blocks of this length, and this end.
+    Volume(u64, usize, VolumeEnd),
+    Foreign,
+}
+
+/// The parts of a reel, what it holds, and how many records and marks it has.
+type Row = (&'static [Part], Wanted, u64, u64);
+
+const LABEL: Part = Part::Label;
+
+const BLOCK: Part = Part::Record(b"block");
+
+const OTHER: Part = Part::Record(b"other block");
+
+const MARK: Part = Part::Mark;
+
+static ROWS: [Row; 10] = [
+    (&[], Wanted::Empty, 0, 0),
+    (&[LABEL], Wanted::Volume(0, 0, VolumeEnd::NoMark), 1, 0),
+    (
+        &[LABEL, BLOCK, BLOCK],
+        Wanted::Volume(2, 5, VolumeEnd::NoMark),
+        3,
+        0,
+    ),
+    (
+        &[LABEL, BLOCK, BLOCK, MARK],
+        Wanted::Volume(2, 5, VolumeEnd::OneMark),
+        3,
+        1,
+    ),
+    (
+        &[LABEL, OTHER, MARK, MARK],
+        Wanted::Volume(1, 11, VolumeEnd::MoreAfterMark),
+        2,
+        2,
+    ),
+    (
+        &[LABEL, OTHER, MARK, BLOCK],
+        Wanted::Volume(1, 11, VolumeEnd::MoreAfterMark),
+        3,
+        1,
+    ),
+    (&[LABEL, BLOCK, OTHER, MARK], Wanted::Foreign, 3, 1),
+    (&[BLOCK, MARK], Wanted::Foreign, 1, 1),
+    (&[MARK, LABEL, BLOCK, MARK], Wanted::Foreign, 2, 2),
+    (
+        &[LABEL, LABEL, MARK],
+        Wanted::Volume(1, 1024, VolumeEnd::OneMark),
+        2,
+        1,
+    ),
+];
+
+/// The run that the labels are of.
+fn dumped() -> Option<Run> {
+    Run::new(b"/dev/st0", "/usr", 0, 951782400, 0, 5, 9).ok()
+}
+
+/// Whether a holding is what is wanted, and a volume's label says what the label said.
+fn is_met(holding: &Holding, wanted: Wanted) -> bool {
+    match (holding, wanted) {
+        (Holding::Empty, Wanted::Empty) | (Holding::Foreign, Wanted::Foreign) => true,
+        (Holding::Volume(volume), Wanted::Volume(blocks, block_bytes, end)) => {
+            let label = &volume.label;
+            label.name() == "/usr"
+                && (label.volume(), label.first()) == (2, 5)
+                && (volume.blocks, volume.block_bytes) == (blocks, block_bytes)
+                && volume.end == end
+        }
+        _ => false,
+    }
+}
+
+/// Tells a tally of a part.
+fn tell(tally: &mut ReelTally, run: &Run, part: Part) {
+    match part {
+        Part::Label => tally.record(&label(run, 2, 5)),
+        Part::Record(bytes) => tally.record(bytes),
+        Part::Mark => tally.mark(),
+        Part::Torn => {}
+    }
+}
+
+/// Whether a tally of the parts is what is wanted.
+fn tallies(run: &Run, row: &Row) -> bool {
+    let (parts, wanted, records, marks) = *row;
+    let mut tally = ReelTally::new();
+    for part in parts {
+        tell(&mut tally, run, *part);
+    }
+    (tally.records(), tally.marks()) == (records, marks)
+        && is_met(tally.holding(), wanted)
+        && is_met(&tally.into_holding(), wanted)
+}
+
+#[test]
+fn a_tally_says_what_a_reel_holds(rt: HostRuntime) {
+    one_holding();
+    one_volume();
+    let run = dumped().expect(&rt, "a run");
+    for row in &ROWS {
+        assert!(rt; tallies(&run, row));
+    }
+}
+
+/// Puts a record at the end of a record file.
+fn put_record(medium: &mut MemoryMedium, bytes: &[u8]) -> Result<(), MediumFailed> {
+    let Ok(length) = u32::try_from(bytes.len()) else {
+        return Err(MediumFailed);
+    };
+    medium.append_framed(&length.to_le_bytes(), bytes)
+}
+
+/// Puts a part at the end of a record file.
+fn put(medium: &mut MemoryMedium, run: &Run, part: Part) -> Result<(), MediumFailed> {
+    match part {
+        Part::Label => put_record(medium, &label(run, 2, 5)),
+        Part::Record(bytes) => put_record(medium, bytes),
+        Part::Mark => medium.append(&[0; 4]),
+        Part::Torn => medium.append(b"\x05\0\0\0blo"),
+    }
+}
+
+/// A record file of the parts; none where it takes more than 4096 bytes.
+fn file_of(alloc: Global, run: &Run, parts: &[Part]) -> Result<Option<MemoryMedium>, AllocError> {
+    let mut medium = MemoryMedium::new(alloc);
+    medium.reserve(4096)?;
+    for part in parts {
+        if put(&mut medium, run, *part).is_err() {
+            return Ok(None);
+        }
+    }
+    Ok(Some(medium))
+}
+
+/// Whether the contents are what is wanted of a file of so many bytes.
+fn are_met(contents: &ReelContents, row: &Row, bytes: usize, tail: u64) -> bool {
+    is_met(&contents.holding, row.1)
+        && (contents.records, contents.marks) == (row.2, row.3)
+        && (contents.bytes, contents.tail) == (bytes as u64, tail)
+}
+
+/// Whether a file is found to hold what is wanted, in pieces as long as the room.
+fn is_checked(medium: &mut MemoryMedium, row: &Row, room: &mut [u8], tail: u64) -> bool {
+    let bytes = medium.bytes().len();
+    match check_reel(medium, room) {
+        Ok(contents) => are_met(&contents, row, bytes, tail),
+        Err(_) => false,
+    }
+}
+
+/// Whether a file of the row's parts is found to hold what is wanted, whole and with a torn record after its last.
+fn checks(alloc: Global, run: &Run, row: &Row) -> Result<bool, AllocError> {
+    let Some(mut medium) = file_of(alloc, run, row.0)? else {
+        return Ok(false);
+    };
+    let whole = is_checked(&mut medium, row, &mut [0; 3], 0)
+        && is_checked(&mut medium, row, &mut [0; 100], 0)
+        && is_checked(&mut medium, row, &mut [], 0);
+    let torn = put(&mut medium, run, Part::Torn).is_ok();
+    Ok(whole && torn && is_checked(&mut medium, row, &mut [0; 3], 7))
+}
+
+#[test]
+fn a_record_file_is_read_once(rt: HostRuntime) -> Result<(), Fail> {
+    let run = dumped().expect(&rt, "a run");
+    for row in &ROWS {
+        assert!(&rt; checks(rt.alloc(), &run, row)?);
+    }
+    Ok(())
+}
+
+/// Whether a check ends as the medium does that fails at this call.
+fn fails_at(alloc: Global, run: &Run, at: u64) -> Result<bool, AllocError> {
+    let Some(medium) = file_of(alloc, run, &[BLOCK, MARK])? else {
+        return Ok(false);
+    };
+    let mut medium = FuseMedium::new(medium, at, 0, true);
+    Ok(check_reel(&mut medium, &mut [0; 5]).is_err() && medium.failures() == 1)
+}
+
+#[test]
+fn a_failure_of_the_medium_is_told(rt: HostRuntime) -> Result<(), Fail> {
+    let run = dumped().expect(&rt, "a run");
+    for at in 0..6 {
+        assert!(&rt; fails_at(rt.alloc(), &run, at)?);
+    }
+    Ok(())
+}

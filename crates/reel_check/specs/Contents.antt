@@ -1,0 +1,35 @@
+-- What is told of a reel: what it holds, how many records and marks, and the bytes after them. Public contracts cite it.
+use Rattle.std.specs.Prelude.{◌≡◌, ℕ, ◌-◌, List, length, sum_by}
+use Rattle.tape.specs.Tape.{PlainEntry, marks_met}
+use Rattle.tape.specs.Tape.PlainEntry.{Record, Mark}
+use Rattle.tape.specs.RecordFile.{images_of}
+use Rattle.reel_check.specs.Holding.{IsHolding}
+use Rattle.reel_check.specs.declared.holding.Holding.{Holding}
+use Rattle.reel_check.specs.declared.contents.ReelContents.{ReelContents}
+
+abbrev pub record_count : PlainEntry → ℕ
+record_count (Record bytes) = 1
+record_count Mark = 0
+
+abbrev pub records_met : List PlainEntry → ℕ
+records_met entries = sum_by record_count entries
+
+-- what is counted of entries, one after the other
+pub record Tally : Type 0 where
+  pub holding : Holding
+  pub records : ℕ
+  pub marks : ℕ
+
+-- it is what these entries say
+pub record IsTally (t : Tally) (entries : List PlainEntry) : Type 0 where
+  pub holding : IsHolding t.holding entries
+  pub records : t.records ≡ records_met entries
+  pub marks : t.marks ≡ marks_met entries
+
+-- What is told is what the entries of these bytes say, how many bytes there are, and how many of them stand after the last whole entry.
+pub record IsContents (c : ReelContents) (file : List ℕ) (entries : List PlainEntry) : Type 0 where
+  pub holding : IsHolding c.holding entries
+  pub records : c.records ≡ records_met entries
+  pub marks : c.marks ≡ marks_met entries
+  pub bytes : c.bytes ≡ length file
+  pub tail : c.tail ≡ length file - length (images_of entries)

@@ -1,0 +1,43 @@
+-- What functions that read a reel find. No public contract needs it.
+use Rattle.std.specs.Prelude.{◌≡◌, ℕ, ◌+◌, ◌<◌, ◌^◌, List, [], ◌∷◌, ◌++◌, length, drop, Option, Some, None}
+use Rattle.std.specs.List.{All}
+use Rattle.tape.specs.Tape.{PlainEntry, IsTapeEntry}
+use Rattle.tape.specs.Tape.PlainEntry.{Record}
+use Rattle.tape.specs.RecordFile.{images_of, IsTail, SpellsReel}
+use Rattle.tape.specs.Scan.{IsFirst}
+use Rattle.reel_check.specs.Holding.{IsVolume}
+use Rattle.reel_check.specs.Contents.{Tally, IsTally}
+use Rattle.reel_check.specs.declared.holding.Volume.{Volume}
+
+-- the entries are this volume's
+abbrev pub IsOfVolume : Volume → List PlainEntry → Type 0
+IsOfVolume v entries = IsVolume v.label v.blocks v.block_bytes v.end entries
+
+-- The bytes begin with an entry of this length (0 for a mark), or with none.
+abbrev pub IsNextLength : List ℕ → Option ℕ → Type 0
+IsNextLength bytes None = IsTail bytes
+IsNextLength bytes (Some n) = (written : List ℕ) × (rest : List ℕ) × IsFirst bytes written rest × (n ≡ length written)
+
+-- the entry that these bytes begin with, of this length, is told to a tally
+abbrev pub TellsEntry : List ℕ → ℕ → Tally → Tally → Type 0
+TellsEntry bytes n old new =
+    (written rest : List ℕ) (f : IsFirst bytes written rest) → n ≡ length written → (done : List PlainEntry) → length done + 1 < 2 ^ 64 →
+    IsTally old done → IsTally new (done ++ f.entry ∷ [])
+
+-- the record of this length whose bytes stand first here is told to a tally
+abbrev pub TellsRecord : List ℕ → ℕ → Tally → Tally → Type 0
+TellsRecord there n old new =
+    (written rest : List ℕ) → there ≡ written ++ rest → n ≡ length written → (done : List PlainEntry) → length done + 1 < 2 ^ 64 →
+    IsTally old done → IsTally new (done ++ Record written ∷ [])
+
+-- the bytes before this offset are the images of entries, which the tally was told
+pub record IsToldUpTo (bytes : List ℕ) (at : ℕ) (t : Tally) : Type 0 where
+  pub done : List PlainEntry
+  pub whole : bytes ≡ images_of done ++ drop at bytes
+  pub place : at ≡ length (images_of done)
+  pub lawful : All IsTapeEntry done
+  pub tally : IsTally t done
+
+-- the bytes spell what the tally was told, and these entries end at this offset
+abbrev pub IsToldOf : List ℕ → ℕ → Tally → Type 0
+IsToldOf bytes end t = (entries : List PlainEntry) → SpellsReel bytes entries → (end ≡ length (images_of entries)) × IsTally t entries

@@ -1,0 +1,132 @@
+//! What a record file holds, read from front to end.
+
+ghost use Rattle.std.specs.Prelude.{◌≡◌, ◌≢◌, ◌+◌, ◌<◌, ◌≤◌, ◌^◌, ℕ, List, [], IfOk, OnErr, OnOk, IsErr, drop, length};
+ghost use Rattle.tape.specs.Tape.{PlainEntry};
+ghost use Rattle.tape.specs.Failures.{HasRisen, Steps};
+ghost use Rattle.tape.specs.RecordFile.{SpellsReel, medium_kind_of};
+ghost use Rattle.dump_run.specs.Label.{label_bytes};
+ghost use Rattle.tape.specs.FileSteps.{IsMediumRun};
+ghost use Rattle.reel_check.specs.Contents.{IsContents};
+ghost use Rattle.reel_check.specs.Finding.{TellsEntry, TellsRecord, IsToldOf};
+
+use crate::entry::{LENGTH_BYTES, next_length, size_of};
+use crate::{ReelContents, ReelTally};
+use dump_run::LABEL_BYTES;
+use tape::{Medium, MediumFailed};
+
+/// What a record file holds. It is read once, entry by entry from front to end, and is not changed.
+///
+/// The bytes of a record are read in pieces as long as `room`, so that a disk that cannot give them is found out. With an empty `room`
+/// the lengths alone are read, and a first record that may be a label. It takes no memory.
+///
+/// Answers `MediumFailed` where a call of the medium failed.
+pub fn check_reel<M: Medium>(medium: &mut M, room: &mut [u8]) -> Result<ReelContents, MediumFailed>
+    ensures told { (bytes : List ℕ) (entries : List PlainEntry) → M.holds medium.old bytes → SpellsReel bytes entries →
+        IfOk result (λ c. IsContents c bytes entries) }
+    ensures same { Steps M.holds medium.old medium.new (λ old new. new ≡ old) }
+    ensures failed { OnErr result (HasRisen (M.failures medium.old) (M.failures medium.new)) }
+    ensures able { OnErr result (M.can_fail medium.old) }
+    ensures quiet { OnOk result (M.failures medium.new ≡ M.failures medium.old) }
+{
+    let bytes = medium.len()?;
+    let (tally, end) = tell_entries(medium, room)?;
+    Ok(ReelContents {
+        records: tally.records(),
+        marks: tally.marks(),
+        bytes,
+        tail: bytes.saturating_sub(end),
+        holding: tally.into_holding(),
+    })
+}
+
+/// The tally of the entries of a record file, and the offset where they end.
+fn tell_entries<M: Medium>(
+    medium: &mut M,
+    room: &mut [u8],
+) -> Result<(ReelTally, u64), MediumFailed>
+    ensures { IsMediumRun (medium_kind_of M.Medium)
+        (λ old new. (new ≡ old) × IfOk result (λ p. IsToldOf old p.1 p.0)) 0 (IsErr result) medium.old medium.new }
+{
+    let mut tally = ReelTally::new();
+    let mut at: u64 = 0;
+    while let Some(length) = next_length(medium, at)? {
+        tell_entry(medium, at, length, room, &mut tally)?;
+        at += size_of(length);
+    }
+    Ok((tally, at))
+}
+
+/// Tells the entry of this length that stands from an offset on.
+fn tell_entry<M: Medium>(
+    medium: &mut M,
+    at: u64,
+    length: u32,
+    room: &mut [u8],
+    tally: &mut ReelTally,
+) -> Result<(), MediumFailed>
+    requires { at + length + 4 < 2 ^ 64 }
+    ensures { IsMediumRun (medium_kind_of M.Medium)
+        (λ old new. (new ≡ old) × IfOk result (λ _. TellsEntry (drop at old) length tally.old tally.new)) 0 (IsErr result)
+        medium.old medium.new }
+{
+    if length == 0 {
+        tally.mark();
+        return Ok(());
+    }
+    tell_record(medium, at + LENGTH_BYTES, length as usize, room, tally)
+}
+
+/// Tells the record of this length whose bytes stand from an offset on. Only the bytes of a first one that may be a label count.
+fn tell_record<M: Medium>(
+    medium: &mut M,
+    at: u64,
+    length: usize,
+    room: &mut [u8],
+    tally: &mut ReelTally,
+) -> Result<(), MediumFailed>
+    requires { at + length < 2 ^ 64 }
+    ensures { IsMediumRun (medium_kind_of M.Medium)
+        (λ old new. (new ≡ old) × IfOk result (λ _. TellsRecord (drop at old) length tally.old tally.new)) 0 (IsErr result)
+        medium.old medium.new }
+{
+    if length == LABEL_BYTES && tally.is_empty() {
+        return tell_label(medium, at, tally);
+    }
+    pass_bytes(medium, at, length, room)?;
+    tally.other_record(length);
+    Ok(())
+}
+
+/// Tells the record of a label's length whose bytes stand from an offset on.
+fn tell_label<M: Medium>(medium: &mut M, at: u64, tally: &mut ReelTally) -> Result<(), MediumFailed>
+    ensures { IsMediumRun (medium_kind_of M.Medium)
+        (λ old new. (new ≡ old) × IfOk result (λ _. TellsRecord (drop at old) label_bytes tally.old tally.new)) 0 (IsErr result)
+        medium.old medium.new }
+{
+    let mut label = [0u8; LABEL_BYTES];
+    let count = medium.read_at(at, &mut label)?;
+    tally.record(&label[..count]);
+    Ok(())
+}
+
+/// Reads so many bytes from an offset on, in pieces as long as `room`.
+fn pass_bytes<M: Medium>(
+    medium: &mut M,
+    at: u64,
+    length: usize,
+    room: &mut [u8],
+) -> Result<(), MediumFailed>
+    requires { at + length < 2 ^ 64 }
+    ensures { IsMediumRun (medium_kind_of M.Medium) (λ old new. new ≡ old) 0 (IsErr result) medium.old medium.new }
+{
+    if room.is_empty() {
+        return Ok(());
+    }
+    let mut passed = 0;
+    while passed < length {
+        let piece = room.len().min(length - passed);
+        medium.read_at(at + passed as u64, &mut room[..piece])?;
+        passed += piece;
+    }
+    Ok(())
+}

@@ -1,0 +1,108 @@
+//! Entries that are told one after the other.
+
+ghost use Rattle.std.specs.Prelude.{◌≡◌, ◌≢◌, ◌↔◌, ◌+◌, ◌<◌, ◌^◌, ℕ, IsTrue, List, [], ◌∷◌, ◌++◌, length};
+ghost use Rattle.tape.specs.Tape.{PlainEntry};
+ghost use Rattle.tape.specs.Tape.PlainEntry.{Record, Mark};
+ghost use Rattle.dump_run.specs.Label.{label_bytes};
+ghost use Rattle.reel_check.specs.Contents.{IsTally};
+ghost use Rattle.reel_check.specs.declared.holding.Holding.TheVariants.{Empty};
+
+use crate::Holding;
+use std::marker::Model;
+use std::mem;
+
+/// What the entries of a reel are, as far as they were told. It keeps one label, and takes no memory.
+#[derive(Drop)]
+pub struct ReelTally {
+    holding: Holding,
+    records: u64,
+    marks: u64,
+}
+
+impl Model for ReelTally {
+    ghost use Rattle.reel_check.specs.Contents.{Tally};
+
+    ghost Value = { Tally };
+
+    ghost view = { λ t. record { holding = t.holding; records = t.records; marks = t.marks } };
+}
+
+impl ReelTally {
+    /// That of no entries.
+    pub fn new() -> ReelTally
+        ensures { IsTally result [] }
+    {
+        ReelTally {
+            holding: Holding::Empty,
+            records: 0,
+            marks: 0,
+        }
+    }
+
+    /// A record of these bytes comes next, of which there are 1 to `rmt_wire::RECORD_LIMIT`. The first one is read as a label, and of the others
+    /// only the length counts.
+    pub fn record(&mut self, bytes: &[u8])
+        ensures { (entries : List PlainEntry) → length entries + 1 < 2 ^ 64 → IsTally self.old entries →
+            IsTally self.new (entries ++ Record bytes.now ∷ []) }
+    {
+        let holding = mem::replace(&mut self.holding, Holding::Empty);
+        self.holding = holding.with_record(bytes);
+        self.records = self.records.saturating_add(1);
+    }
+
+    /// A mark comes next.
+    pub fn mark(&mut self)
+        ensures { (entries : List PlainEntry) → length entries + 1 < 2 ^ 64 → IsTally self.old entries →
+            IsTally self.new (entries ++ Mark ∷ []) }
+    {
+        let holding = mem::replace(&mut self.holding, Holding::Empty);
+        self.holding = holding.with_mark();
+        self.marks = self.marks.saturating_add(1);
+    }
+
+    /// What the entries are, as far as they were told.
+    pub fn holding(&self) -> &Holding
+        ensures { result.now ≡ self.now.holding }
+    {
+        &self.holding
+    }
+
+    /// How many records there were.
+    pub fn records(&self) -> u64
+        ensures { result ≡ self.now.records }
+    {
+        self.records
+    }
+
+    /// How many marks there were.
+    pub fn marks(&self) -> u64
+        ensures { result ≡ self.now.marks }
+    {
+        self.marks
+    }
+
+    /// What the entries are, where no more are told.
+    pub fn into_holding(self) -> Holding
+        ensures { result ≡ self.holding }
+    {
+        self.holding
+    }
+
+    /// A record of this length comes next, which is not the first or has no label's length.
+    pub(crate) fn other_record(&mut self, len: usize)
+        requires { self.old.holding ≡ Empty → len ≢ label_bytes }
+        ensures { (bytes : List ℕ) (entries : List PlainEntry) → len ≡ length bytes → length entries + 1 < 2 ^ 64 →
+            IsTally self.old entries → IsTally self.new (entries ++ Record bytes ∷ []) }
+    {
+        let holding = mem::replace(&mut self.holding, Holding::Empty);
+        self.holding = holding.with_other(len);
+        self.records = self.records.saturating_add(1);
+    }
+
+    /// Whether no record and no mark was told.
+    pub(crate) fn is_empty(&self) -> bool
+        ensures { IsTrue result ↔ (self.now.holding ≡ Empty) }
+    {
+        matches!(self.holding, Holding::Empty)
+    }
+}
