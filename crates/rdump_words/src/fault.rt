@@ -10,6 +10,10 @@ pub(crate) enum WordFault {
     Missing(&'static str),
     /// The value of a word is none that it can have.
     Value(&'static str),
+    /// Words are given that exclude each other.
+    Conflict(&'static str),
+    /// Memory was refused.
+    OutOfMemory,
 }
 
 impl WordFault {
@@ -18,13 +22,16 @@ impl WordFault {
             WordFault::NoCommand => ErrorKind::MissingSubcommand,
             WordFault::Missing(_) => ErrorKind::MissingRequiredArgument,
             WordFault::Value(_) => ErrorKind::ValueValidation,
+            WordFault::Conflict(_) => ErrorKind::ArgumentConflict,
+            WordFault::OutOfMemory => ErrorKind::OutOfMemory,
         }
     }
 
     pub(crate) fn text(self) -> &'static str {
         match self {
             WordFault::NoCommand => "a command is required",
-            WordFault::Missing(text) | WordFault::Value(text) => text,
+            WordFault::Missing(text) | WordFault::Value(text) | WordFault::Conflict(text) => text,
+            WordFault::OutOfMemory => "out of memory",
         }
     }
 }

@@ -2,14 +2,18 @@
 //! (`dump_error`).
 #![tactic(auto)]
 
-mod address;
 mod dates_line;
+mod drive;
 mod fault;
+mod list_line;
 mod rdump_line;
+mod read_line;
 mod run_line;
 mod tape_line;
 mod word;
 
+pub use list_line::{ListLine, ListedReels};
 pub use rdump_line::{RdumpLine, dump_error, rdump_words};
+pub use read_line::ReadLine;
 pub use run_line::DumpLine;
-pub use tape_line::{MtLine, ReadLine};
+pub use tape_line::MtLine;

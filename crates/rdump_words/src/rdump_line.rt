@@ -7,8 +7,10 @@ ghost use Rattle.rdump_words.specs.Rdump.{IsRdumpLine};
 
 use crate::dates_line::{DATES_WORDS, dates_in};
 use crate::fault::WordFault;
+use crate::list_line::{LIST_WORDS, ListLine, list_in};
+use crate::read_line::{READ_WORDS, ReadLine, read_in};
 use crate::run_line::{DUMP_WORDS, DumpLine, dump_in};
-use crate::tape_line::{MT_WORDS, MtLine, READ_WORDS, ReadLine, mt_in, read_in};
+use crate::tape_line::{MT_WORDS, MtLine, mt_in};
 use crate::word::{Word, args_of, check_given, push_command};
 use clap::error::ErrorKind;
 use clap::{ArgMatches, Command, Error};
@@ -16,12 +18,14 @@ use std::alloc::{AllocError, Global};
 use std::convert::AsStr;
 
 /// What the words ask of `rdump`.
-#[derive(Clone, Copy, Debug)]
+#[derive(Debug, Drop)]
 pub enum RdumpLine<'a> {
     /// To dump a payload.
     Dump(DumpLine<'a>),
     /// To read a volume back.
     Read(ReadLine<'a>),
+    /// To list what reels hold.
+    List(ListLine<'a>),
     /// To do one operation at a drive.
     Mt(MtLine<'a>),
     /// To ask a dumpdates file.
@@ -38,8 +42,9 @@ pub enum RdumpLine<'a> {
 /// commands:
 ///
 /// `dump --to ADDRESS --device D --fs NAME --level L --payload FILE --block BYTES --dumpdates FILE [--date SECONDS]
-/// [--checkpoint FILE] [--update]`, `read --to ADDRESS --device D --out FILE`, `mt --to ADDRESS --device D OP COUNT`, and
-/// `dates --file FILE [--name NAME --level LEVEL]`.
+/// [--checkpoint FILE] [--update]`, `read --to ADDRESS --device D --out FILE [--place] [--all] [--length BYTES]`,
+/// `ls FILE|FOLDER... [--dumpdates FILE [--blocks N]]`, `ls --to ADDRESS --device D [--dumpdates FILE [--blocks N]]`,
+/// `mt --to ADDRESS --device D OP COUNT`, and `dates --file FILE [--name NAME --level LEVEL]`.
 ///
 /// Answers an error where the words are bad, or ask for help or the version, or memory is refused; its kind tells which,
 /// and its text is meant for the user.
@@ -70,7 +75,7 @@ fn line_of<'a, S: AsStr>(
 fn matched<'a>(alloc: Global, matches: &ArgMatches<'a>) -> Result<RdumpLine<'a>, Error>
     ensures { IfOk result IsRdumpLine }
 {
-    match line_in(matches) {
+    match line_in(alloc, matches) {
         Ok(line) => Ok(line),
         Err(fault) => Err(error_of(alloc, name_in(matches), fault.kind(), fault.text())?),
     }
@@ -107,6 +112,7 @@ fn whole_name(name: &str) -> &'static str {
     match name {
         "dump" => "rdump dump",
         "read" => "rdump read",
+        "ls" => "rdump ls",
         "mt" => "rdump mt",
         "dates" => "rdump dates",
         _ => "rdump",
@@ -114,12 +120,12 @@ fn whole_name(name: &str) -> &'static str {
 }
 
 /// The line that clap's matches say.
-fn line_in<'a>(matches: &ArgMatches<'a>) -> Result<RdumpLine<'a>, WordFault>
+fn line_in<'a>(alloc: Global, matches: &ArgMatches<'a>) -> Result<RdumpLine<'a>, WordFault>
     ensures { IfOk result IsRdumpLine }
 {
     match matches.subcommand() {
         Some((name, given)) => match check_given(given, words_of(name)) {
-            Ok(()) => named_in(name, given),
+            Ok(()) => named_in(alloc, name, given),
             Err(fault) => Err(fault),
         },
         None => Err(WordFault::NoCommand),
@@ -127,12 +133,17 @@ fn line_in<'a>(matches: &ArgMatches<'a>) -> Result<RdumpLine<'a>, WordFault>
 }
 
 /// The line that clap's matches of the words of this command say, of which those that are required are given.
-fn named_in<'a>(name: &str, matches: &ArgMatches<'a>) -> Result<RdumpLine<'a>, WordFault>
+fn named_in<'a>(
+    alloc: Global,
+    name: &str,
+    matches: &ArgMatches<'a>,
+) -> Result<RdumpLine<'a>, WordFault>
     ensures { IfOk result IsRdumpLine }
 {
     match name {
         "dump" => dump_in(matches).map(RdumpLine::Dump),
         "read" => read_in(matches).map(RdumpLine::Read),
+        "ls" => list_in(alloc, matches).map(RdumpLine::List),
         "mt" => mt_in(matches).map(RdumpLine::Mt),
         "dates" => dates_in(matches),
         _ => Err(WordFault::NoCommand),
@@ -166,7 +177,7 @@ fn commands<'a>(alloc: Global) -> Result<Vec<Command<'a>>, AllocError> {
 }
 
 /// The names of its commands, with what the help says of each.
-static COMMANDS: [(&str, &str); 4] = [
+static COMMANDS: [(&str, &str); 5] = [
     (
         "dump",
         "Dump a payload to a remote tape, and ask after each failure whether to retry",
@@ -174,6 +185,10 @@ static COMMANDS: [(&str, &str); 4] = [
     (
         "read",
         "Read a volume of a remote tape: print its label, and write its blocks to a file",
+    ),
+    (
+        "ls",
+        "List what reels hold: record files and folders of them, or the reel of a remote tape",
     ),
     (
         "mt",
@@ -190,6 +205,7 @@ fn words_of(name: &str) -> &'static [Word] {
     match name {
         "dump" => &DUMP_WORDS,
         "read" => &READ_WORDS,
+        "ls" => &LIST_WORDS,
         "mt" => &MT_WORDS,
         "dates" => &DATES_WORDS,
         _ => &[],

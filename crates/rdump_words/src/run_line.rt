@@ -1,11 +1,12 @@
 //! The words of `rdump dump`.
 ghost use Rattle.std.specs.Prelude.{◌≤◌, IfOk, IfSome};
-ghost use Rattle.rdump_words.specs.Rdump.{HasPort, IsDumpLine};
+ghost use Rattle.rdump_address.specs.Address.{HasPort};
+ghost use Rattle.rdump_words.specs.Rdump.{IsDumpLine};
 ghost use Rattle.rmt_wire.specs.declared.argument.TheConstants.{ARGUMENT_LIMIT};
 
-use crate::address::address_in;
+use crate::drive::address_in;
 use crate::fault::WordFault;
-use crate::word::{Form, Word, value_in};
+use crate::word::{Form, Word, is_given, value_in};
 use clap::ArgMatches;
 use rmt_wire::argument::number_of;
 
@@ -66,7 +67,7 @@ pub(crate) fn dump_in<'a>(matches: &ArgMatches<'a>) -> Result<DumpLine<'a>, Word
             dumpdates: value_in(matches, "dumpdates"),
             date,
             checkpoint: matches.get_str("checkpoint"),
-            update: matches.get_str("update") == Some("true"),
+            update: is_given(matches, "update"),
         }),
         Err(fault) => Err(fault),
     }

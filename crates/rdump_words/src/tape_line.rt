@@ -1,26 +1,15 @@
-//! The words of `rdump read` and `rdump mt`.
+//! The words of `rdump mt`.
 ghost use Rattle.std.specs.Prelude.{◌≤◌, IfOk, IfSome};
-ghost use Rattle.dump_run.specs.Run.{IsDevice};
-ghost use Rattle.rdump_words.specs.Rdump.{HasPort, IsMtLine, IsReadLine};
+ghost use Rattle.rdump_address.specs.Address.{HasPort};
+ghost use Rattle.rdump_words.specs.Rdump.{IsMtLine};
 
-use crate::address::address_in;
+use crate::drive::drive_in;
 use crate::fault::WordFault;
 use crate::word::{Form, Word, value_in};
 use clap::ArgMatches;
 use rmt_wire::NUMBER_LIMIT;
-use rmt_wire::argument::{is_device, number_of};
+use rmt_wire::argument::number_of;
 use rmt_wire::mtio::{MTBSF, MTBSR, MTFSF, MTFSR, MTNOP, MTOFFL, MTREW, MTWEOF};
-
-/// What the words ask of `rdump read`.
-#[derive(Clone, Copy, Debug)]
-pub struct ReadLine<'a> {
-    /// Where the server listens: a host and a port.
-    pub to: &'a str,
-    /// The drive at the server: 1 to 255 bytes of one line.
-    pub device: &'a str,
-    /// Where the volume's records are written.
-    pub out: &'a str,
-}
 
 /// What the words ask of `rdump mt`.
 #[derive(Clone, Copy, Debug)]
@@ -35,10 +24,6 @@ pub struct MtLine<'a> {
     pub count: u32,
 }
 
-/// What is said of a device that no request can name.
-const BAD_DEVICE: &str =
-    "invalid value for '--device <DEVICE>': a device is 1 to 255 bytes of one line";
-
 /// What is said of an operation that is none.
 const BAD_OP: &str =
     "invalid value for '<OP>': it is one of weof, fsf, bsf, fsr, bsr, rewind, offline, nop";
@@ -46,27 +31,11 @@ const BAD_OP: &str =
 /// What is said of a count that is none.
 const BAD_COUNT: &str = "invalid value for '<COUNT>': a count is 0 to 2147483647 in digits";
 
-/// What clap's matches ask of `rdump read`.
-pub(crate) fn read_in<'a>(matches: &ArgMatches<'a>) -> Result<ReadLine<'a>, WordFault>
-    ensures { IfOk result (λ line. IsReadLine line × HasPort line.to.now) }
-{
-    let to = address_in(matches)?;
-    match device_in(matches) {
-        Ok(device) => Ok(ReadLine {
-            to,
-            device,
-            out: value_in(matches, "out"),
-        }),
-        Err(fault) => Err(fault),
-    }
-}
-
 /// What clap's matches ask of `rdump mt`.
 pub(crate) fn mt_in<'a>(matches: &ArgMatches<'a>) -> Result<MtLine<'a>, WordFault>
     ensures { IfOk result (λ line. IsMtLine line × HasPort line.to.now) }
 {
-    let to = address_in(matches)?;
-    let device = device_in(matches)?;
+    let (to, device) = drive_in(matches)?;
     match operation_of(value_in(matches, "op"), value_in(matches, "count")) {
         Ok((op, count)) => Ok(MtLine {
             to,
@@ -75,18 +44,6 @@ pub(crate) fn mt_in<'a>(matches: &ArgMatches<'a>) -> Result<MtLine<'a>, WordFaul
             count,
         }),
         Err(fault) => Err(fault),
-    }
-}
-
-/// The device, which a request can name.
-fn device_in<'a>(matches: &ArgMatches<'a>) -> Result<&'a str, WordFault>
-    ensures { IfOk result (λ device. IsDevice device.now) }
-{
-    let device = value_in(matches, "device");
-    if is_device(device.as_bytes()) {
-        Ok(device)
-    } else {
-        Err(WordFault::Value(BAD_DEVICE))
     }
 }
 
@@ -130,19 +87,6 @@ fn count_of(text: &str) -> Option<u32>
     }
     Some(number as u32)
 }
-
-/// The words of `rdump read`.
-pub(crate) static READ_WORDS: [Word; 3] = [
-    Word::TO,
-    Word::DEVICE,
-    Word {
-        name: "out",
-        value: "FILE",
-        help: "What the blocks are written to",
-        form: Form::Required,
-        missing: "--out is required",
-    },
-];
 
 /// The words of `rdump mt`.
 pub(crate) static MT_WORDS: [Word; 4] = [

@@ -16,6 +16,8 @@ pub(crate) enum Form {
     Flag,
     /// By its value alone, at its place, and it is required.
     Place,
+    /// By their values alone, at their place, as often as one is given.
+    Many,
 }
 
 /// A word of a command.
@@ -96,6 +98,7 @@ fn arg_of<'a>(alloc: Global, word: &Word) -> Arg<'a> {
     match word.form {
         Form::Flag => flag(alloc, word),
         Form::Place => valued(alloc, word),
+        Form::Many => valued(alloc, word).action(ArgAction::Append),
         _ => option(alloc, word),
     }
 }
@@ -149,4 +152,9 @@ pub(crate) fn value_in<'a>(matches: &ArgMatches<'a>, name: &str) -> &'a str {
         Some(value) => value,
         None => "",
     }
+}
+
+/// Whether a word without a value is given.
+pub(crate) fn is_given(matches: &ArgMatches<'_>, name: &str) -> bool {
+    matches.get_str(name) == Some("true")
 }

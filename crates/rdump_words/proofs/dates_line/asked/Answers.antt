@@ -1,5 +1,4 @@
-use Rattle.std.proofs.Common.{rules}
 use Rattle.rdump_words.proofs.dates_line.asked.Goals as goal
 
 pub returns-in-Some : goal.returns-in-Some
-returns-in-Some c = search rules
+returns-in-Some c = (c.is_name.ensures.0 c.if-is_name.true, c.in-Some.ensures.value.0)

@@ -1,0 +1,2 @@
+-- What an address is.
+pub mod Address
