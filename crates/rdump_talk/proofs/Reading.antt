@@ -4,7 +4,7 @@ use Rattle.std.proofs.lemmas.Bool.Decides.{nat_tests}
 use Rattle.std.specs.List.{concat}
 use Rattle.std.proofs.lemmas.List.Folds.{concat-append}
 use Rattle.rmt_wire.specs.Counted.{Counting}
-use Rattle.rmt_wire.specs.declared.mtio.TheConstants.{MTREW}
+use Rattle.rmt_wire.specs.declared.mtio.TheConstants.{MTREW, MTOFFL}
 use Rattle.rmt_wire.specs.declared.limits.TheConstants.{RECORD_LIMIT}
 use Rattle.rmt_wire.specs.Reply.{PlainReply}
 use Rattle.rmt_wire.specs.Reply.PlainReply.{Done, Data, Error}
@@ -16,7 +16,7 @@ use Rattle.rdump_talk.specs.Call.{wanted_by, IsPeerCall, IsCalled, Brings}
 use Rattle.rdump_talk.specs.Calls.{is_done, CallsFollow, Stops, Extends}
 use Rattle.rmt_wire.specs.Print.{IsPrinted}
 use Rattle.rdump_talk.specs.Ends.{copy_ends, copy_kind, stream_ends, stream_kind}
-use Rattle.rdump_talk.specs.Reading.{next_of, next_read, records_of, text_of, label_text, file_bytes, IsNamed, ReadFails, is_whole, read_fault, AreRecords, IsVolumeReading, Breaks, CallSteps, IsBegun, IsDone, IsDoneBy, IsRecordRead, Reads, AreRecordsWritten, IsCopied, IsThrough}
+use Rattle.rdump_talk.specs.Reading.{next_of, next_label, next_read, next_end, records_of, text_of, label_text, file_bytes, IsNamed, ReadFails, is_whole, is_copied, read_fault, AreRecords, IsAtLabel, IsVolumeReading, IsVolumeRead, IsAtMark, IsTakenAway, Breaks, CallSteps, IsBegun, IsDone, IsDoneNext, IsDoneBy, IsRecordRead, Reads, ReadsVolume, AreRecordsWritten, IsCopied, IsThrough}
 use Rattle.rdump_talk.specs.declared.kept_reply.KeptReply.{KeptReply}
 use Rattle.rdump_talk.specs.declared.kept_reply.KeptReply.TheVariants as kept
 use Rattle.rdump_talk.specs.declared.fault.VolumeRequest.{VolumeRequest}
@@ -25,6 +25,8 @@ use Rattle.rdump_talk.specs.declared.fault.CallFault.TheVariants as call
 use Rattle.rdump_talk.specs.declared.fault.ReadFault.{ReadFault}
 use Rattle.rdump_talk.specs.declared.fault.ReadFault.TheVariants.{Refused, Botched, OutputFailed}
 use Rattle.rdump_talk.specs.declared.peer.Passed.{Passed}
+use Rattle.rdump_talk.specs.declared.volume.AfterVolume.{AfterVolume}
+use Rattle.rdump_talk.specs.declared.volume.AfterVolume.TheVariants.{Stay, Offline}
 use Rattle.rdump_talk.proofs.Calls.{logs_both, call_extends, call_finishes, extends_both}
 use Rattle.rdump_talk.proofs.Printed.{nothing_printed, printed_both}
 use Rattle.rdump_talk.proofs.Talking.{alone}
@@ -40,19 +42,19 @@ records_same : (a b : List PlainReply) → records_of b ≡ [] → records_of (a
 records_same a b none = records_more a b ∙ ap (λ l. records_of a ++ l) none ∙ append-nil (records_of a)
 
 -- what is asked after records
-read_again : (reads : List PlainReply) → AreRecords reads → next_read reads ≡ Some (Read RECORD_LIMIT)
-read_again [] h = refl
-read_again (Data [] ∷ reads) h = absurd h
-read_again (Data (b ∷ bytes) ∷ reads) h = read_again reads h
-read_again (Done n ∷ reads) h = absurd h
-read_again (Error n text ∷ reads) h = absurd h
+read_again : (after : AfterVolume) (reads : List PlainReply) → AreRecords reads → next_read after reads ≡ Some (Read RECORD_LIMIT)
+read_again after [] h = refl
+read_again after (Data [] ∷ reads) h = absurd h
+read_again after (Data (b ∷ bytes) ∷ reads) h = read_again after reads h
+read_again after (Done n ∷ reads) h = absurd h
+read_again after (Error n text ∷ reads) h = absurd h
 
-close_after : (reads : List PlainReply) → AreRecords reads → next_read (reads ++ Data [] ∷ []) ≡ Some Close
-close_after [] h = refl
-close_after (Data [] ∷ reads) h = absurd h
-close_after (Data (b ∷ bytes) ∷ reads) h = close_after reads h
-close_after (Done n ∷ reads) h = absurd h
-close_after (Error n text ∷ reads) h = absurd h
+end_after : (after : AfterVolume) (reads ends : List PlainReply) → AreRecords reads → next_read after ((reads ++ Data [] ∷ []) ++ ends) ≡ next_end after ends
+end_after after [] ends h = refl
+end_after after (Data [] ∷ reads) ends h = absurd h
+end_after after (Data (b ∷ bytes) ∷ reads) ends h = end_after after reads ends h
+end_after after (Done n ∷ reads) ends h = absurd h
+end_after after (Error n text ∷ reads) ends h = absurd h
 
 one_record : (bytes : List ℕ) → bytes ≢ [] → AreRecords (Data bytes ∷ [])
 one_record [] some = absurd (some refl)
@@ -65,17 +67,30 @@ record_after (Data (b ∷ more) ∷ reads) bytes h some = record_after reads byt
 record_after (Done n ∷ reads) bytes h some = absurd h
 record_after (Error n text ∷ reads) bytes h some = absurd h
 
-pub reading_next : (device : List ℕ) (replies : List PlainReply) → IsVolumeReading replies → next_of device replies ≡ Some (Read RECORD_LIMIT)
-reading_next device replies (opened, rewound, reads, e, met, h) =
-    ap (next_of device) e ∙ ap (λ b. if b then next_read reads else None) met ∙ read_again reads h
+pub reading_next : (device : List ℕ) (after : AfterVolume) (replies : List PlainReply) → IsVolumeReading replies → next_of device after replies ≡ Some (Read RECORD_LIMIT)
+reading_next device after replies (opened, rewound, b, bytes, reads, e, met, h) =
+    ap (next_of device after) e ∙ ap (λ t. if t then next_read after reads else None) met ∙ read_again after reads h
 
-pub reading_mark : (device : List ℕ) (replies : List PlainReply) → IsVolumeReading replies → next_of device (replies ++ Data [] ∷ []) ≡ Some Close
-reading_mark device replies (opened, rewound, reads, e, met, h) =
-    ap (λ l. next_of device (l ++ Data [] ∷ [])) e ∙ ap (λ b. if b then next_read (reads ++ Data [] ∷ []) else None) met ∙ close_after reads h
+pub reading_mark : (device : List ℕ) (after : AfterVolume) (replies : List PlainReply) → IsVolumeRead replies → IsAtMark (next_of device after) after replies
+reading_mark device after replies (before, (opened, rewound, b, bytes, reads, e, met, h), same) = λ ends.
+    ap (λ l. next_of device after (l ++ ends)) same ∙ ap (λ l. next_of device after ((l ++ Data [] ∷ []) ++ ends)) e
+    ∙ ap (λ t. if t then next_read after ((reads ++ Data [] ∷ []) ++ ends) else None) met ∙ end_after after reads ends h
 
 pub reading_more : (replies : List PlainReply) (bytes : List ℕ) → IsVolumeReading replies → bytes ≢ [] → IsVolumeReading (replies ++ Data bytes ∷ [])
-reading_more replies bytes (opened, rewound, reads, e, met, h) some =
-    (opened, rewound, reads ++ Data bytes ∷ [], ap (λ l. l ++ Data bytes ∷ []) e, met, record_after reads bytes h some)
+reading_more replies bytes (opened, rewound, b, label, reads, e, met, h) some =
+    (opened, rewound, b, label, reads ++ Data bytes ∷ [], ap (λ l. l ++ Data bytes ∷ []) e, met, record_after reads bytes h some)
+
+-- what is asked where the label comes, and after it
+pub label_next : (device : List ℕ) (after : AfterVolume) (replies : List PlainReply) → IsAtLabel replies → next_of device after replies ≡ Some (Read RECORD_LIMIT)
+label_next device after replies (opened, rewound, e, met, none) = ap (next_of device after) e ∙ ap (λ t. if t then Some (Read RECORD_LIMIT) else None) met
+
+label_mark : (device : List ℕ) (after : AfterVolume) (replies : List PlainReply) → IsAtLabel replies → IsAtMark (next_of device after) Stay (replies ++ Data [] ∷ [])
+label_mark device after replies (opened, rewound, e, met, none) = λ ends.
+    ap (λ l. next_of device after ((l ++ Data [] ∷ []) ++ ends)) e ∙ ap (λ t. if t then next_label after (Data [] ∷ ends) else None) met
+
+pub label_read : (replies : List PlainReply) (bytes : List ℕ) → IsAtLabel replies → bytes ≢ [] → IsVolumeReading (replies ++ Data bytes ∷ [])
+label_read replies [] at some = absurd (some refl)
+label_read replies (b ∷ bytes) (opened, rewound, e, met, none) some = (opened, rewound, b, bytes, [], ap (λ l. l ++ Data (b ∷ bytes) ∷ []) e, met, tt)
 
 -- no reply is of the wrong kind
 data_answers_no_number : (request : PlainRequest) (bytes : List ℕ) (passed : List Passed) → wanted_by request ≡ Number → IsPeerCall request (Ok (Data bytes)) passed → ⊥
@@ -151,12 +166,12 @@ module _ {P : Type 0} (next : List PlainReply → Option PlainRequest) (tells : 
       )
 
 -- the records that were written so far
-pub record WrittenTo {P F : Type 0} (tells : P → List Passed → Type 0) (filed : F → Option (List ℕ)) (device : List ℕ) (replies : List PlainReply)
+pub record WrittenTo {P F : Type 0} (tells : P → List Passed → Type 0) (filed : F → Option (List ℕ)) (device : List ℕ) (after : AfterVolume) (replies : List PlainReply)
     (p q : P) (file file' : Counting F) (turn : ℕ) : Type 0 where
   pub later : List PlainReply
   pub more : List (List ℕ)
   pub reading : IsVolumeReading later
-  pub extends : Extends (next_of device) tells p q replies later
+  pub extends : Extends (next_of device after) tells p q replies later
   pub adds : records_of later ≡ records_of replies ++ more
   pub turns : turn ≤ length later
   pub written : IsPrinted filed (concat more) file file' true
@@ -164,13 +179,13 @@ pub record WrittenTo {P F : Type 0} (tells : P → List Passed → Type 0) (file
 concat_one : (more : List (List ℕ)) (bytes : List ℕ) → concat (more ++ bytes ∷ []) ≡ concat more ++ bytes
 concat_one more bytes = concat-append more (bytes ∷ []) ∙ ap (λ l. concat more ++ l) (append-nil bytes)
 
-module _ {P F : Type 0} (tells : P → List Passed → Type 0) (filed : F → Option (List ℕ)) (device : List ℕ) (replies : List PlainReply) where
-  pub written_none : (p : P) (file : Counting F) → IsVolumeReading replies → WrittenTo tells filed device replies p p file file 0
+module _ {P F : Type 0} (tells : P → List Passed → Type 0) (filed : F → Option (List ℕ)) (device : List ℕ) (after : AfterVolume) (replies : List PlainReply) where
+  pub written_none : (p : P) (file : Counting F) → IsVolumeReading replies → WrittenTo tells filed device after replies p p file file 0
   written_none p file reading = record {
     later = replies;
     more = [];
     reading = reading;
-    extends = extends_none (next_of device) tells p replies;
+    extends = extends_none (next_of device after) tells p replies;
     adds = sym (append-nil (records_of replies));
     turns = omega arith;
     written = nothing_printed filed file;
@@ -180,57 +195,61 @@ module _ {P F : Type 0} (tells : P → List Passed → Type 0) (filed : F → Op
   adds_one later more bytes e = records_more later (Data bytes ∷ []) ∙ ap (λ l. l ++ bytes ∷ []) e ∙ append_assoc (records_of replies) more (bytes ∷ [])
 
   -- the next record, of which some bytes are written
-  pub written_one : (p q r : P) (f g h : Counting F) (turn : ℕ) (bytes text : List ℕ) (w : WrittenTo tells filed device replies p q f g turn) → Extends (next_of device) tells q r w.later (w.later ++ Data bytes ∷ [])
-      → bytes ≢ [] → text ≡ bytes → IsPrinted filed text g h true → WrittenTo tells filed device replies p r f h (turn + 1)
+  pub written_one : (p q r : P) (f g h : Counting F) (turn : ℕ) (bytes text : List ℕ) (w : WrittenTo tells filed device after replies p q f g turn) → Extends (next_of device after) tells q r w.later (w.later ++ Data bytes ∷ [])
+      → bytes ≢ [] → text ≡ bytes → IsPrinted filed text g h true → WrittenTo tells filed device after replies p r f h (turn + 1)
   written_one p q r f g h turn bytes text w x some same printed = record {
     later = w.later ++ Data bytes ∷ [];
     more = w.more ++ bytes ∷ [];
     reading = reading_more w.later bytes w.reading some;
-    extends = extends_both (next_of device) tells p q r replies w.later (w.later ++ Data bytes ∷ []) w.extends x;
+    extends = extends_both (next_of device after) tells p q r replies w.later (w.later ++ Data bytes ∷ []) w.extends x;
     adds = adds_one w.later w.more bytes w.adds;
     turns = let long = length-append w.later (Data bytes ∷ []) in omega (arith, w.turns, long);
     written = subst (λ t. IsPrinted filed t f h true) (ap (λ t. concat w.more ++ t) same ∙ sym (concat_one w.more bytes)) (printed_both filed (concat w.more) text f g h true w.written printed);
   }
 
   -- the mark
-  pub written_all : (p q r : P) (f g : Counting F) (turn : ℕ) (bytes : List ℕ) (w : WrittenTo tells filed device replies p q f g turn) → Extends (next_of device) tells q r w.later (w.later ++ Data bytes ∷ [])
-      → bytes ≡ [] → AreRecordsWritten (next_of device) (stream_kind tells filed) replies (stream_ends p f) (stream_ends r g) (Ok tt)
+  pub written_all : (p q r : P) (f g : Counting F) (turn : ℕ) (bytes : List ℕ) (w : WrittenTo tells filed device after replies p q f g turn) → Extends (next_of device after) tells q r w.later (w.later ++ Data bytes ∷ [])
+      → bytes ≡ [] → AreRecordsWritten (next_of device after) (stream_kind tells filed) replies (stream_ends p f) (stream_ends r g) (Ok tt)
   written_all p q r f g turn bytes w x none =
-      let y : Extends (next_of device) tells q r w.later (w.later ++ Data [] ∷ []) = subst (λ b. Extends (next_of device) tells q r w.later (w.later ++ Data b ∷ [])) none x in
+      let y : Extends (next_of device after) tells q r w.later (w.later ++ Data [] ∷ []) = subst (λ b. Extends (next_of device after) tells q r w.later (w.later ++ Data b ∷ [])) none x in
       record {
         later = w.later ++ Data [] ∷ [];
         more = w.more ++ [] ∷ [];
         adds = adds_one w.later w.more [] w.adds;
         written = subst (λ t. IsPrinted filed t f g true) (sym (append-nil (concat w.more)) ∙ sym (concat_one w.more [])) w.written;
-        reads = (extends_both (next_of device) tells p q r replies w.later (w.later ++ Data [] ∷ []) w.extends y, reading_mark device w.later w.reading);
+        reads = (extends_both (next_of device after) tells p q r replies w.later (w.later ++ Data [] ∷ []) w.extends y, (w.later, w.reading, refl));
       }
 
   -- a write that fails
-  pub written_in_part : (p q r : P) (f g h : Counting F) (turn : ℕ) (bytes text : List ℕ) (w : WrittenTo tells filed device replies p q f g turn) → Extends (next_of device) tells q r w.later (w.later ++ Data bytes ∷ [])
-      → text ≡ bytes → IsPrinted filed text g h false → AreRecordsWritten (next_of device) (stream_kind tells filed) replies (stream_ends p f) (stream_ends r h) (Err OutputFailed)
-  written_in_part p q r f g h turn bytes text w x same printed =
-      let all = extends_both (next_of device) tells p q r replies w.later (w.later ++ Data bytes ∷ []) w.extends x in
+  pub written_in_part : (p q r : P) (f g h : Counting F) (turn : ℕ) (bytes text : List ℕ) (w : WrittenTo tells filed device after replies p q f g turn) → Extends (next_of device after) tells q r w.later (w.later ++ Data bytes ∷ [])
+      → bytes ≢ [] → text ≡ bytes → IsPrinted filed text g h false → AreRecordsWritten (next_of device after) (stream_kind tells filed) replies (stream_ends p f) (stream_ends r h) (Err OutputFailed)
+  written_in_part p q r f g h turn bytes text w x some same printed =
+      let all = extends_both (next_of device after) tells p q r replies w.later (w.later ++ Data bytes ∷ []) w.extends x in
       record {
         later = w.later ++ Data bytes ∷ [];
         more = w.more ++ bytes ∷ [];
         adds = adds_one w.later w.more bytes w.adds;
         written = subst (λ t. IsPrinted filed t f h false) (ap (λ t. concat w.more ++ t) same ∙ sym (concat_one w.more bytes)) (printed_both filed (concat w.more) text f g h false w.written printed);
-        reads = record { more = all.more; logs = all.logs; fails = all.follows };
+        reads = record {
+          more = all.more;
+          logs = all.logs;
+          fails = λ passed k. (all.follows passed k, reading_next device after (w.later ++ Data bytes ∷ []) (reading_more w.later bytes w.reading some));
+        };
       }
 
   -- a record that does not come
-  pub written_so_far : (p q r : P) (f g : Counting F) (turn : ℕ) (fault : ReadFault) (w : WrittenTo tells filed device replies p q f g turn) → CallSteps (next_of device) tells q r w.later (Err fault)
-      → AreRecordsWritten (next_of device) (stream_kind tells filed) replies (stream_ends p f) (stream_ends r g) (Err fault)
+  pub written_so_far : (p q r : P) (f g : Counting F) (turn : ℕ) (fault : ReadFault) (w : WrittenTo tells filed device after replies p q f g turn) → CallSteps (next_of device after) tells q r w.later (Err fault)
+      → AreRecordsWritten (next_of device after) (stream_kind tells filed) replies (stream_ends p f) (stream_ends r g) (Err fault)
   written_so_far p q r f g turn fault w x = record {
     later = x.0;
     more = w.more;
     adds = x.2 ∙ w.adds;
     written = subst (IsPrinted filed (concat w.more) f g) (sym x.3) w.written;
-    reads = breaks_after (next_of device) tells p q r replies w.later x.0 fault w.extends x.1;
+    reads = breaks_after (next_of device after) tells p q r replies w.later x.0 fault w.extends x.1;
   }
 
   -- no mark
-  pub written_for_good : (p q : P) (f g : Counting F) (turn : ℕ) (w : WrittenTo tells filed device replies p q f g turn) → 2 ^ 64 - 1 ≤ turn → AreRecordsWritten (next_of device) (stream_kind tells filed) replies (stream_ends p f) (stream_ends q g) (Err Botched)
+  pub written_for_good : (p q : P) (f g : Counting F) (turn : ℕ) (w : WrittenTo tells filed device after replies p q f g turn) → 2 ^ 64 - 1 ≤ turn → AreRecordsWritten (next_of device after) (stream_kind tells filed) replies (stream_ends p f) (stream_ends q g) (Err Botched)
   written_for_good p q f g turn w many = record {
     later = w.later;
     more = w.more;
@@ -239,16 +258,16 @@ module _ {P F : Type 0} (tells : P → List Passed → Type 0) (filed : F → Op
     reads = record { more = w.extends.more; logs = w.extends.logs; fails = λ passed k. inr (w.extends.follows passed k, omega (arith, w.turns, many)) };
   }
 
-module _ {P F W : Type 0} (tells : P → List Passed → Type 0) (filed : F → Option (List ℕ)) (contents : W → Option (List ℕ)) (device : List ℕ) (replies : List PlainReply) where
+module _ {P F W : Type 0} (tells : P → List Passed → Type 0) (filed : F → Option (List ℕ)) (contents : W → Option (List ℕ)) (device : List ℕ) (after : AfterVolume) (replies : List PlainReply) where
   -- the label does not come
-  pub copied_none : (p q : P) (f : Counting F) (o : Counting W) (fault : ReadFault) → records_of replies ≡ [] → CallSteps (next_of device) tells p q replies (Err fault)
-      → IsCopied (next_of device) (copy_kind tells filed contents) replies (copy_ends p f o) (copy_ends q f o) (Err fault)
-  copied_none p q f o fault none x = record {
+  pub copied_none : (p q : P) (f : Counting F) (o : Counting W) (fault : ReadFault) → IsAtLabel replies → CallSteps (next_of device after) tells p q replies (Err fault)
+      → IsCopied (next_of device after) (copy_kind tells filed contents) replies (copy_ends p f o) (copy_ends q f o) (Err fault)
+  copied_none p q f o fault at x = record {
     later = x.0;
     named = true;
     filled = true;
-    label = subst (λ l. IsPrinted contents (label_text l) o o true) (sym (x.2 ∙ none)) (nothing_printed contents o);
-    records = subst (λ l. IsPrinted filed (file_bytes l) f f true) (sym (x.2 ∙ none)) (nothing_printed filed f);
+    label = subst (λ l. IsPrinted contents (label_text l) o o true) (sym (x.2 ∙ at.4)) (nothing_printed contents o);
+    records = subst (λ l. IsPrinted filed (file_bytes l) f f true) (sym (x.2 ∙ at.4)) (nothing_printed filed f);
     whole = sym x.3;
     reads = x.1;
   }
@@ -258,60 +277,87 @@ module _ {P F W : Type 0} (tells : P → List Passed → Type 0) (filed : F → 
   first_record bytes none = records_more replies (Data bytes ∷ []) ∙ ap (λ l. l ++ bytes ∷ []) none
 
   -- a mark comes in its place
-  pub copied_mark : (p q : P) (f : Counting F) (o : Counting W) (bytes : List ℕ) → IsVolumeReading replies → records_of replies ≡ [] → Extends (next_of device) tells p q replies (replies ++ Data bytes ∷ []) → bytes ≡ []
-      → IsCopied (next_of device) (copy_kind tells filed contents) replies (copy_ends p f o) (copy_ends q f o) (Ok tt)
-  copied_mark p q f o bytes reading none x e =
-      let y : Extends (next_of device) tells p q replies (replies ++ Data [] ∷ []) = subst (λ b. Extends (next_of device) tells p q replies (replies ++ Data b ∷ [])) e x in
+  pub copied_mark : (p q : P) (f : Counting F) (o : Counting W) (bytes : List ℕ) → IsAtLabel replies → Extends (next_of device after) tells p q replies (replies ++ Data bytes ∷ []) → bytes ≡ []
+      → IsCopied (next_of device after) (copy_kind tells filed contents) replies (copy_ends p f o) (copy_ends q f o) (Ok Stay)
+  copied_mark p q f o bytes at x e =
+      let y : Extends (next_of device after) tells p q replies (replies ++ Data [] ∷ []) = subst (λ b. Extends (next_of device after) tells p q replies (replies ++ Data b ∷ [])) e x in
       record {
         later = replies ++ Data [] ∷ [];
         named = true;
         filled = true;
-        label = subst (λ l. IsPrinted contents (label_text l) o o true) (sym (first_record [] none)) (nothing_printed contents o);
-        records = subst (λ l. IsPrinted filed (file_bytes l) f f true) (sym (first_record [] none)) (nothing_printed filed f);
+        label = subst (λ l. IsPrinted contents (label_text l) o o true) (sym (first_record [] at.4)) (nothing_printed contents o);
+        records = subst (λ l. IsPrinted filed (file_bytes l) f f true) (sym (first_record [] at.4)) (nothing_printed filed f);
         whole = refl;
-        reads = (y, reading_mark device replies reading);
+        reads = (y, label_mark device after replies at);
       }
 
   -- the label is not printed
-  pub copied_unnamed : (p q : P) (f : Counting F) (o o' : Counting W) (bytes text : List ℕ) → records_of replies ≡ [] → Extends (next_of device) tells p q replies (replies ++ Data bytes ∷ [])
-      → text ≡ text_of bytes → IsPrinted contents text o o' false → IsCopied (next_of device) (copy_kind tells filed contents) replies (copy_ends p f o) (copy_ends q f o') (Err OutputFailed)
-  copied_unnamed p q f o o' bytes text none x same printed = record {
+  pub copied_unnamed : (p q : P) (f : Counting F) (o o' : Counting W) (bytes text : List ℕ) → IsAtLabel replies → Extends (next_of device after) tells p q replies (replies ++ Data bytes ∷ [])
+      → bytes ≢ [] → text ≡ text_of bytes → IsPrinted contents text o o' false → IsCopied (next_of device after) (copy_kind tells filed contents) replies (copy_ends p f o) (copy_ends q f o') (Err OutputFailed)
+  copied_unnamed p q f o o' bytes text at x some same printed = record {
     later = replies ++ Data bytes ∷ [];
     named = false;
     filled = true;
-    label = subst (λ l. IsPrinted contents (label_text l) o o' false) (sym (first_record bytes none)) (subst (λ t. IsPrinted contents t o o' false) same printed);
-    records = subst (λ l. IsPrinted filed (file_bytes l) f f true) (sym (first_record bytes none)) (nothing_printed filed f);
+    label = subst (λ l. IsPrinted contents (label_text l) o o' false) (sym (first_record bytes at.4)) (subst (λ t. IsPrinted contents t o o' false) same printed);
+    records = subst (λ l. IsPrinted filed (file_bytes l) f f true) (sym (first_record bytes at.4)) (nothing_printed filed f);
     whole = refl;
-    reads = record { more = x.more; logs = x.logs; fails = x.follows };
+    reads = record {
+      more = x.more;
+      logs = x.logs;
+      fails = λ passed k. (x.follows passed k, reading_next device after (replies ++ Data bytes ∷ []) (label_read replies bytes at some));
+    };
   }
 
-  after_label : (result : Result Unit ReadFault) (p q r : P) (bytes : List ℕ) (later : List PlainReply) → Extends (next_of device) tells p q replies (replies ++ Data bytes ∷ [])
-      → Reads (next_of device) tells q r (replies ++ Data bytes ∷ []) result later → Reads (next_of device) tells p r replies result later
-  after_label (Ok u) p q r bytes later x y = (extends_both (next_of device) tells p q r replies (replies ++ Data bytes ∷ []) later x y.0, y.1)
-  after_label (Err fault) p q r bytes later x y = breaks_after (next_of device) tells p q r replies (replies ++ Data bytes ∷ []) later fault x y
+  -- the reel of a volume that was read goes as it is to
+  abbrev goes_as : Result Unit ReadFault → Result AfterVolume ReadFault
+  goes_as (Ok u) = Ok after
+  goes_as (Err fault) = Err fault
+
+  whole_as : (result : Result Unit ReadFault) → is_whole result ≡ is_copied (goes_as result)
+  whole_as (Ok u) = refl
+  whole_as (Err fault) = refl
+
+  after_label : (result : Result Unit ReadFault) (p q r : P) (bytes : List ℕ) (later : List PlainReply) → Extends (next_of device after) tells p q replies (replies ++ Data bytes ∷ [])
+      → Reads (next_of device after) tells q r (replies ++ Data bytes ∷ []) result later → ReadsVolume (next_of device after) tells p r replies (goes_as result) later
+  after_label (Ok u) p q r bytes later x y = (extends_both (next_of device after) tells p q r replies (replies ++ Data bytes ∷ []) later x y.0, reading_mark device after later y.1)
+  after_label (Err fault) p q r bytes later x y = breaks_after (next_of device after) tells p q r replies (replies ++ Data bytes ∷ []) later fault x y
 
   -- it is, and the records are written
-  pub copied_all : (p q r : P) (f f' : Counting F) (o o' : Counting W) (bytes text : List ℕ) (result : Result Unit ReadFault) → records_of replies ≡ [] → Extends (next_of device) tells p q replies (replies ++ Data bytes ∷ [])
-      → text ≡ text_of bytes → IsPrinted contents text o o' true → AreRecordsWritten (next_of device) (stream_kind tells filed) (replies ++ Data bytes ∷ []) (stream_ends q f) (stream_ends r f') result
-      → IsCopied (next_of device) (copy_kind tells filed contents) replies (copy_ends p f o) (copy_ends r f' o') result
-  copied_all p q r f f' o o' bytes text result none x same printed w =
-      let all : records_of w.later ≡ bytes ∷ w.more = w.adds ∙ ap (λ l. l ++ w.more) (first_record bytes none) in
+  copied_so : (p q r : P) (f f' : Counting F) (o o' : Counting W) (bytes text : List ℕ) (result : Result Unit ReadFault) → IsAtLabel replies → Extends (next_of device after) tells p q replies (replies ++ Data bytes ∷ [])
+      → text ≡ text_of bytes → IsPrinted contents text o o' true → AreRecordsWritten (next_of device after) (stream_kind tells filed) (replies ++ Data bytes ∷ []) (stream_ends q f) (stream_ends r f') result
+      → IsCopied (next_of device after) (copy_kind tells filed contents) replies (copy_ends p f o) (copy_ends r f' o') (goes_as result)
+  copied_so p q r f f' o o' bytes text result at x same printed w =
+      let all : records_of w.later ≡ bytes ∷ w.more = w.adds ∙ ap (λ l. l ++ w.more) (first_record bytes at.4) in
       record {
         later = w.later;
         named = true;
         filled = is_whole result;
         label = subst (λ l. IsPrinted contents (label_text l) o o' true) (sym all) (subst (λ t. IsPrinted contents t o o' true) same printed);
         records = subst (λ l. IsPrinted filed (file_bytes l) f f' (is_whole result)) (sym all) w.written;
-        whole = refl;
+        whole = whole_as result;
         reads = after_label result p q r bytes w.later x w.reads;
       }
 
-module _ {P F W : Type 0} (tells : P → List Passed → Type 0) (filed : F → Option (List ℕ)) (contents : W → Option (List ℕ)) (device : List ℕ) where
+  pub copied_all : (p q r : P) (f f' : Counting F) (o o' : Counting W) (bytes text : List ℕ) (result : Result Unit ReadFault) (u : Unit) → result ≡ Ok u → IsAtLabel replies → Extends (next_of device after) tells p q replies (replies ++ Data bytes ∷ [])
+      → text ≡ text_of bytes → IsPrinted contents text o o' true → AreRecordsWritten (next_of device after) (stream_kind tells filed) (replies ++ Data bytes ∷ []) (stream_ends q f) (stream_ends r f') result
+      → IsCopied (next_of device after) (copy_kind tells filed contents) replies (copy_ends p f o) (copy_ends r f' o') (Ok after)
+  copied_all p q r f f' o o' bytes text result u is at x same printed w =
+      subst (λ k. IsCopied (next_of device after) (copy_kind tells filed contents) replies (copy_ends p f o) (copy_ends r f' o') (goes_as k)) is (copied_so p q r f f' o o' bytes text result at x same printed w)
+
+  -- they are in part
+  pub copied_part : (p q r : P) (f f' : Counting F) (o o' : Counting W) (bytes text : List ℕ) (result : Result Unit ReadFault) (fault : ReadFault) → result ≡ Err fault → IsAtLabel replies
+      → Extends (next_of device after) tells p q replies (replies ++ Data bytes ∷ []) → text ≡ text_of bytes → IsPrinted contents text o o' true
+      → AreRecordsWritten (next_of device after) (stream_kind tells filed) (replies ++ Data bytes ∷ []) (stream_ends q f) (stream_ends r f') result
+      → IsCopied (next_of device after) (copy_kind tells filed contents) replies (copy_ends p f o) (copy_ends r f' o') (Err fault)
+  copied_part p q r f f' o o' bytes text result fault is at x same printed w =
+      subst (λ k. IsCopied (next_of device after) (copy_kind tells filed contents) replies (copy_ends p f o) (copy_ends r f' o') (goes_as k)) is (copied_so p q r f f' o o' bytes text result at x same printed w)
+
+module _ {P F W : Type 0} (tells : P → List Passed → Type 0) (filed : F → Option (List ℕ)) (contents : W → Option (List ℕ)) (device : List ℕ) (after : AfterVolume) where
   -- a call before the records fails
-  pub through_none : (p q r : P) (f : Counting F) (o : Counting W) (replies : List PlainReply) (fault : ReadFault) → records_of replies ≡ [] → Extends (next_of device) tells p q [] replies
-      → CallSteps (next_of device) tells q r replies (Err fault) → IsThrough (copy_kind tells filed contents) device (copy_ends p f o) (copy_ends r f o) (Err fault)
+  pub through_none : (p q r : P) (f : Counting F) (o : Counting W) (replies : List PlainReply) (fault : ReadFault) → records_of replies ≡ [] → Extends (next_of device after) tells p q [] replies
+      → CallSteps (next_of device after) tells q r replies (Err fault) → IsThrough (copy_kind tells filed contents) device after (copy_ends p f o) (copy_ends r f o) (Err fault)
   through_none p q r f o replies fault none x y =
-      let all = breaks_after (next_of device) tells p q r [] replies y.0 fault x y.1 in
+      let all = breaks_after (next_of device after) tells p q r [] replies y.0 fault x y.1 in
       record {
         replies = y.0;
         more = all.more;
@@ -325,10 +371,10 @@ module _ {P F W : Type 0} (tells : P → List Passed → Type 0) (filed : F → 
       }
 
   -- the records fail
-  pub through_part : (p q r : P) (f f' : Counting F) (o o' : Counting W) (replies : List PlainReply) (fault : ReadFault) → Extends (next_of device) tells p q [] replies
-      → IsCopied (next_of device) (copy_kind tells filed contents) replies (copy_ends q f o) (copy_ends r f' o') (Err fault) → IsThrough (copy_kind tells filed contents) device (copy_ends p f o) (copy_ends r f' o') (Err fault)
+  pub through_part : (p q r : P) (f f' : Counting F) (o o' : Counting W) (replies : List PlainReply) (fault : ReadFault) → Extends (next_of device after) tells p q [] replies
+      → IsCopied (next_of device after) (copy_kind tells filed contents) replies (copy_ends q f o) (copy_ends r f' o') (Err fault) → IsThrough (copy_kind tells filed contents) device after (copy_ends p f o) (copy_ends r f' o') (Err fault)
   through_part p q r f f' o o' replies fault x y =
-      let all = breaks_after (next_of device) tells p q r [] replies y.later fault x y.reads in
+      let all = breaks_after (next_of device after) tells p q r [] replies y.later fault x y.reads in
       record {
         replies = y.later;
         more = all.more;
@@ -341,29 +387,12 @@ module _ {P F W : Type 0} (tells : P → List Passed → Type 0) (filed : F → 
         ends = all.fails;
       }
 
-  -- the close
-  pub through_all : (p q r s : P) (f f' : Counting F) (o o' : Counting W) (replies : List PlainReply) (result : Result Unit ReadFault) → Extends (next_of device) tells p q [] replies
-      → IsCopied (next_of device) (copy_kind tells filed contents) replies (copy_ends q f o) (copy_ends r f' o') (Ok tt)
-      → ((next : List PlainReply → Option PlainRequest) (later : List PlainReply) → next later ≡ Some Close → IsDone next tells r s later result)
-      → IsThrough (copy_kind tells filed contents) device (copy_ends p f o) (copy_ends s f' o') result
-  through_all p q r s f f' o o' replies (Ok u) x y last =
-      let z = last (next_of device) y.later y.reads.1 in
-      let all = extends_both (next_of device) tells p q s [] replies (y.later ++ z.0 ∷ []) x (extends_both (next_of device) tells q r s replies y.later (y.later ++ z.0 ∷ []) y.reads.0 z.3) in
-      let same = sym (records_same y.later (z.0 ∷ []) z.2) in
-      record {
-        replies = y.later ++ z.0 ∷ [];
-        more = all.more;
-        named = y.named;
-        filled = y.filled;
-        logs = all.logs;
-        label = subst (λ l. IsPrinted contents (label_text l) o o' y.named) same y.label;
-        records = subst (λ l. IsPrinted filed (file_bytes l) f f' y.filled) same y.records;
-        whole = y.whole;
-        ends = λ passed k. (all.follows passed k, (y.later, z.0, refl, y.reads.1, z.1));
-      }
-  through_all p q r s f f' o o' replies (Err fault) x y last =
-      let z = last (next_of device) y.later y.reads.1 in
-      let all = breaks_after (next_of device) tells p q s [] replies z.0 fault x (breaks_after (next_of device) tells q r s replies y.later z.0 fault y.reads.0 z.1) in
+  -- what comes after the records fails
+  pub through_kept : (p q r s : P) (f f' : Counting F) (o o' : Counting W) (replies : List PlainReply) (goes : AfterVolume) (fault : ReadFault) → Extends (next_of device after) tells p q [] replies
+      → (y : IsCopied (next_of device after) (copy_kind tells filed contents) replies (copy_ends q f o) (copy_ends r f' o') (Ok goes)) → CallSteps (next_of device after) tells r s y.later (Err fault)
+      → IsThrough (copy_kind tells filed contents) device after (copy_ends p f o) (copy_ends s f' o') (Err fault)
+  through_kept p q r s f f' o o' replies goes fault x y z =
+      let all = breaks_after (next_of device after) tells p q s [] replies z.0 fault x (breaks_after (next_of device after) tells q r s replies y.later z.0 fault y.reads.0 z.1) in
       record {
         replies = z.0;
         more = all.more;
@@ -375,6 +404,29 @@ module _ {P F W : Type 0} (tells : P → List Passed → Type 0) (filed : F → 
         whole = y.whole ∙ sym z.3;
         ends = all.fails;
       }
+
+  -- the close
+  pub through_all : (p q r s t : P) (f f' : Counting F) (o o' : Counting W) (replies : List PlainReply) (goes : AfterVolume) (result : Result Unit ReadFault) → Extends (next_of device after) tells p q [] replies
+      → (y : IsCopied (next_of device after) (copy_kind tells filed contents) replies (copy_ends q f o) (copy_ends r f' o') (Ok goes)) → (w : IsTakenAway (next_of device after) tells r s y.later (Ok tt))
+      → IsDone (next_of device after) tells s t w.0 result → IsThrough (copy_kind tells filed contents) device after (copy_ends p f o) (copy_ends t f' o') result
+  through_all p q r s t f f' o o' replies goes (Ok u) x y w z =
+      let next = next_of device after in
+      let all = extends_both next tells p q t [] replies (w.0 ++ z.0 ∷ []) x
+      (extends_both next tells q r t replies y.later (w.0 ++ z.0 ∷ []) y.reads.0 (extends_both next tells r s t y.later w.0 (w.0 ++ z.0 ∷ []) w.1 z.3)) in
+      let same = sym (records_same w.0 (z.0 ∷ []) z.2 ∙ w.2) in
+      record {
+        replies = w.0 ++ z.0 ∷ [];
+        more = all.more;
+        named = y.named;
+        filled = y.filled;
+        logs = all.logs;
+        label = subst (λ l. IsPrinted contents (label_text l) o o' y.named) same y.label;
+        records = subst (λ l. IsPrinted filed (file_bytes l) f f' y.filled) same y.records;
+        whole = y.whole;
+        ends = λ passed k. (all.follows passed k, (w.0, z.0, refl, w.3, z.1));
+      }
+  through_all p q r s t f f' o o' replies goes (Err fault) x y w z =
+      through_kept p q r t f f' o o' replies goes fault x y (z.0, breaks_after (next_of device after) tells r s t y.later w.0 z.0 fault w.1 z.1, z.2 ∙ w.2, z.3)
 
 -- what is known of a record that came, or did not
 pub record_came : {P : Type 0} (next : List PlainReply → Option PlainRequest) (tells : P → List Passed → Type 0) (p q : P) (replies : List PlainReply) (result : Result (Vec ℕ Global) ReadFault) (bytes : Vec ℕ Global)
@@ -394,6 +446,37 @@ pub write_failed : {W : Type 0} (contents : W → Option (List ℕ)) (text : Lis
     → IsPrinted contents text o o' (is_whole result) → IsPrinted contents text o o' false
 write_failed contents text o o' result fault is cause h = subst (λ r. IsPrinted contents text o o' (is_whole r)) (is ∙ ap Err cause) h
 
+-- the reel is to stay
+pub reel_stays : {P : Type 0} (next : List PlainReply → Option PlainRequest) (tells : P → List Passed → Type 0) (p : P) (after : AfterVolume) (replies : List PlainReply) → after ≡ Stay → IsAtMark next after replies
+    → IsTakenAway next tells p p replies (Ok tt)
+reel_stays next tells p after replies is at =
+    (replies, extends_none next tells p replies, refl, ap next (sym (append-nil replies)) ∙ at [] ∙ ap (λ a. next_end a []) is)
+
+-- it is to go
+offline_next : (next : List PlainReply → Option PlainRequest) (after : AfterVolume) (replies : List PlainReply) → after ≡ Offline → IsAtMark next after replies → next replies ≡ Some (Op MTOFFL 1)
+offline_next next after replies is at = ap next (sym (append-nil replies)) ∙ at [] ∙ ap (λ a. next_end a []) is
+
+close_next : (next : List PlainReply → Option PlainRequest) (after : AfterVolume) (replies : List PlainReply) (taken : PlainReply) → after ≡ Offline → IsAtMark next after replies → is_done taken ≡ true
+    → next (replies ++ taken ∷ []) ≡ Some Close
+close_next next after replies taken is at met = at (taken ∷ []) ∙ ap (λ a. next_end a (taken ∷ [])) is ∙ ap (λ b. if b then Some Close else None) met
+
+taken_so : {P : Type 0} (next : List PlainReply → Option PlainRequest) (tells : P → List Passed → Type 0) (p q : P) (after : AfterVolume) (replies : List PlainReply) (result : Result Unit ReadFault) → after ≡ Offline
+    → IsAtMark next after replies → IsDone next tells p q replies result → IsTakenAway next tells p q replies result
+taken_so next tells p q after replies (Ok u) is at x = (replies ++ x.0 ∷ [], x.3, records_same replies (x.0 ∷ []) x.2, close_next next after replies x.0 is at x.1)
+taken_so next tells p q after replies (Err fault) is at x = x
+
+pub reel_goes : {P : Type 0} (next : List PlainReply → Option PlainRequest) (tells : P → List Passed → Type 0) (p q : P) (after : AfterVolume) (replies : List PlainReply) (result : Result Unit ReadFault) → after ≡ Offline
+    → IsAtMark next after replies → IsDoneNext tells (Op MTOFFL 1) p q result → IsTakenAway next tells p q replies result
+reel_goes next tells p q after replies result is at x = taken_so next tells p q after replies result is at (x next replies (offline_next next after replies is at))
+
+pub taken_as : {P : Type 0} (next : List PlainReply → Option PlainRequest) (tells : P → List Passed → Type 0) (p q : P) (replies : List PlainReply) (result is : Result Unit ReadFault) → result ≡ is
+    → IsTakenAway next tells p q replies result → IsTakenAway next tells p q replies is
+taken_as next tells p q replies result is e h = subst (IsTakenAway next tells p q replies) e h
+
+pub begun_as : {P : Type 0} (tells : P → List Passed → Type 0) (device : List ℕ) (after : AfterVolume) (p q : P) (result is : Result Unit ReadFault) → result ≡ is → IsBegun tells device after p q result
+    → IsBegun tells device after p q is
+begun_as tells device after p q result is e h = subst (IsBegun tells device after p q) e h
+
 -- what is known of a call that is to be done
 pub done_so : {P : Type 0} (next : List PlainReply → Option PlainRequest) (tells : P → List Passed → Type 0) (p q : P) (replies : List PlainReply) (result : Result Unit ReadFault) (u : Unit) → result ≡ Ok u
     → IsDone next tells p q replies result → (reply : PlainReply) × (is_done reply ≡ true) × (records_of (reply ∷ []) ≡ []) × Extends next tells p q replies (replies ++ reply ∷ [])
@@ -403,11 +486,11 @@ pub done_failed : {P : Type 0} (next : List PlainReply → Option PlainRequest) 
     → IsDone next tells p q replies result → CallSteps next tells p q replies (Err fault)
 done_failed next tells p q replies result fault is h = subst (IsDone next tells p q replies) is h
 
-pub rewind_next : (device : List ℕ) (opened : PlainReply) → is_done opened ≡ true → next_of device (opened ∷ []) ≡ Some (Op MTREW 1)
-rewind_next device opened met = ap (λ b. if b then Some (Op MTREW 1) else None) met
+pub rewind_next : (device : List ℕ) (after : AfterVolume) (opened : PlainReply) → is_done opened ≡ true → next_of device after (opened ∷ []) ≡ Some (Op MTREW 1)
+rewind_next device after opened met = ap (λ b. if b then Some (Op MTREW 1) else None) met
 
-pub reading_begins : (opened rewound : PlainReply) → is_done rewound ≡ true → IsVolumeReading (opened ∷ rewound ∷ [])
-reading_begins opened rewound met = (opened, rewound, [], refl, met, tt)
+pub reading_begins : (opened rewound : PlainReply) → is_done rewound ≡ true → records_of (opened ∷ rewound ∷ []) ≡ [] → IsAtLabel (opened ∷ rewound ∷ [])
+reading_begins opened rewound met none = (opened, rewound, refl, met, none)
 
 pub no_records : (opened rewound : PlainReply) → records_of (opened ∷ []) ≡ [] → records_of (rewound ∷ []) ≡ [] → records_of (opened ∷ rewound ∷ []) ≡ []
 no_records opened rewound a b = records_same (opened ∷ []) (rewound ∷ []) b ∙ a
@@ -422,16 +505,16 @@ some_there [] len test e h k = λ same. grind (arith, nat_tests)
 some_there (b ∷ items) len test e h k = λ same. cc
 
 pub copied_as : {P F W : Type 0} (next : List PlainReply → Option PlainRequest) (tells : P → List Passed → Type 0) (filed : F → Option (List ℕ)) (contents : W → Option (List ℕ)) (replies : List PlainReply) (p q : P)
-    (f f' : Counting F) (o o' : Counting W) (result is : Result Unit ReadFault) → result ≡ is → IsCopied next (copy_kind tells filed contents) replies (copy_ends p f o) (copy_ends q f' o') result → IsCopied next (copy_kind tells filed contents) replies (copy_ends p f o) (copy_ends q f' o') is
+    (f f' : Counting F) (o o' : Counting W) (result is : Result AfterVolume ReadFault) → result ≡ is → IsCopied next (copy_kind tells filed contents) replies (copy_ends p f o) (copy_ends q f' o') result → IsCopied next (copy_kind tells filed contents) replies (copy_ends p f o) (copy_ends q f' o') is
 copied_as next tells filed contents replies p q f f' o o' result is e h = subst (IsCopied next (copy_kind tells filed contents) replies (copy_ends p f o) (copy_ends q f' o')) e h
 
 -- after the open the rewind, or why it was not done
-pub begun_both : {P : Type 0} (tells : P → List Passed → Type 0) (device : List ℕ) (p q r : P) (opened : PlainReply) (result : Result Unit ReadFault) → records_of (opened ∷ []) ≡ []
-    → Extends (next_of device) tells p q [] (opened ∷ []) → IsDone (next_of device) tells q r (opened ∷ []) result → IsBegun tells device p r result
-begun_both tells device p q r opened (Ok u) none x y =
-    (opened, y.0, y.1, no_records opened y.0 none y.2, extends_both (next_of device) tells p q r [] (opened ∷ []) (opened ∷ y.0 ∷ []) x y.3)
-begun_both tells device p q r opened (Err fault) none x y =
-    (y.0, breaks_after (next_of device) tells p q r [] (opened ∷ []) y.0 fault x y.1, y.2 ∙ none, y.3)
+pub begun_both : {P : Type 0} (tells : P → List Passed → Type 0) (device : List ℕ) (after : AfterVolume) (p q r : P) (opened : PlainReply) (result : Result Unit ReadFault) → records_of (opened ∷ []) ≡ []
+    → Extends (next_of device after) tells p q [] (opened ∷ []) → IsDone (next_of device after) tells q r (opened ∷ []) result → IsBegun tells device after p r result
+begun_both tells device after p q r opened (Ok u) none x y =
+    (opened, y.0, y.1, no_records opened y.0 none y.2, extends_both (next_of device after) tells p q r [] (opened ∷ []) (opened ∷ y.0 ∷ []) x y.3)
+begun_both tells device after p q r opened (Err fault) none x y =
+    (y.0, breaks_after (next_of device after) tells p q r [] (opened ∷ []) y.0 fault x y.1, y.2 ∙ none, y.3)
 
 pub step_answered : {P : Type 0} (next : List PlainReply → Option PlainRequest) (tells : P → List Passed → Type 0) (p q : P) (replies : List PlainReply) (request : PlainRequest) (called : Result KeptReply CallFault)
     (answer : KeptReply) (named : VolumeRequest) (result : Result Unit ReadFault) → next replies ≡ Some request → called ≡ Ok answer → wanted_by request ≡ Number → IsNamed named request → IsCalled tells request (told_reply called) p q

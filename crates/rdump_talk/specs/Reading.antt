@@ -3,7 +3,7 @@ use Rattle.std.specs.Prelude.{◌≡◌, ◌⊎◌, ◌≤◌, ◌-◌, ◌^◌,
 use Rattle.std.specs.Global.{Global}
 use Rattle.std.specs.List.{concat}
 use Rattle.rmt_wire.specs.declared.fcntl.TheConstants.{O_RDONLY}
-use Rattle.rmt_wire.specs.declared.mtio.TheConstants.{MTREW}
+use Rattle.rmt_wire.specs.declared.mtio.TheConstants.{MTREW, MTOFFL}
 use Rattle.rmt_wire.specs.declared.limits.TheConstants.{RECORD_LIMIT}
 use Rattle.rmt_wire.specs.Reply.{PlainReply}
 use Rattle.rmt_wire.specs.Reply.PlainReply.{Done, Data, Error}
@@ -22,21 +22,38 @@ use Rattle.rdump_talk.specs.declared.fault.CallFault.TheVariants as call
 use Rattle.rdump_talk.specs.declared.fault.ReadFault.{ReadFault}
 use Rattle.rdump_talk.specs.declared.fault.ReadFault.TheVariants.{Refused, ConnectionEnded, Botched, OutOfMemory, OutputFailed}
 use Rattle.rdump_talk.specs.declared.peer.Passed.{Passed}
+use Rattle.rdump_talk.specs.declared.volume.AfterVolume.{AfterVolume}
+use Rattle.rdump_talk.specs.declared.volume.AfterVolume.TheVariants.{Stay, Offline}
 
--- reads, up to a mark; then the close
-abbrev pub next_read : List PlainReply → Option PlainRequest
-next_read [] = Some (Read RECORD_LIMIT)
-next_read (Data (b ∷ bytes) ∷ reads) = next_read reads
-next_read (Data [] ∷ []) = Some Close
-next_read (Data [] ∷ closed ∷ more) = None
-next_read (Done n ∷ reads) = None
-next_read (Error n text ∷ reads) = None
+-- after the mark: the close, or the reel is taken away, and then the close
+abbrev pub next_end : AfterVolume → List PlainReply → Option PlainRequest
+next_end Stay [] = Some Close
+next_end Stay (closed ∷ more) = None
+next_end Offline [] = Some (Op MTOFFL 1)
+next_end Offline (taken ∷ []) = if is_done taken then Some Close else None
+next_end Offline (taken ∷ closed ∷ more) = None
 
--- the open for reading, the rewind, the reads, the close; nothing after a refusal
-abbrev pub next_of : List ℕ → List PlainReply → Option PlainRequest
-next_of device [] = Some (Open device O_RDONLY)
-next_of device (opened ∷ []) = if is_done opened then Some (Op MTREW 1) else None
-next_of device (opened ∷ rewound ∷ reads) = if is_done rewound then next_read reads else None
+-- reads, up to a mark
+abbrev pub next_read : AfterVolume → List PlainReply → Option PlainRequest
+next_read after [] = Some (Read RECORD_LIMIT)
+next_read after (Data (b ∷ bytes) ∷ reads) = next_read after reads
+next_read after (Data [] ∷ ends) = next_end after ends
+next_read after (Done n ∷ reads) = None
+next_read after (Error n text ∷ reads) = None
+
+-- the first read is for the label; where a mark comes in its place, the reel stays
+abbrev pub next_label : AfterVolume → List PlainReply → Option PlainRequest
+next_label after [] = Some (Read RECORD_LIMIT)
+next_label after (Data (b ∷ bytes) ∷ reads) = next_read after reads
+next_label after (Data [] ∷ ends) = next_end Stay ends
+next_label after (Done n ∷ reads) = None
+next_label after (Error n text ∷ reads) = None
+
+-- the open for reading, the rewind, the reads, what comes after the mark; nothing after a refusal
+abbrev pub next_of : List ℕ → AfterVolume → List PlainReply → Option PlainRequest
+next_of device after [] = Some (Open device O_RDONLY)
+next_of device after (opened ∷ []) = if is_done opened then Some (Op MTREW 1) else None
+next_of device after (opened ∷ rewound ∷ reads) = if is_done rewound then next_label after reads else None
 
 -- the records that the replies bring; none at a mark
 abbrev pub records_of : List PlainReply → List (List ℕ)
@@ -67,9 +84,10 @@ abbrev pub IsNamed : VolumeRequest → PlainRequest → Type 0
 IsNamed asked.Open request = (device : List ℕ) × (request ≡ Open device O_RDONLY)
 IsNamed asked.Rewind request = request ≡ Op MTREW 1
 IsNamed asked.Read request = request ≡ Read RECORD_LIMIT
+IsNamed asked.Offline request = request ≡ Op MTOFFL 1
 IsNamed asked.Close request = request ≡ Close
 
--- why a volume was not read whole, by the replies so far and what passed
+-- why a volume was not read whole, by the replies so far and what passed; a write fails while records come, before the mark
 abbrev pub ReadFails : (List PlainReply → Option PlainRequest) → List PlainReply → List Passed → ReadFault → Type 0
 ReadFails next replies passed (Refused named number) =
     CallsFollow next replies passed
@@ -79,7 +97,7 @@ ReadFails next replies passed ConnectionEnded = Stops next (Some call.Connection
 ReadFails next replies passed Botched =
     Stops next (Some call.Botched) replies passed ⊎ (CallsFollow next replies passed × (2 ^ 64 - 1 ≤ length replies))
 ReadFails next replies passed OutOfMemory = Stops next (Some call.OutOfMemory) replies passed
-ReadFails next replies passed OutputFailed = CallsFollow next replies passed
+ReadFails next replies passed OutputFailed = CallsFollow next replies passed × (next replies ≡ Some (Read RECORD_LIMIT))
 
 -- all that came was printed and written
 abbrev pub is_whole : Result Unit ReadFault → Bool
@@ -99,7 +117,7 @@ ReadEnds next replies passed (Ok x) =
 ReadEnds next replies passed (Err fault) = ReadFails next replies passed fault
 
 -- What reading a volume does over a peer, what it prints and writes, and its result: where not all was printed and written, it is that.
-pub record IsRead {P F W : Type 0} (kind : CopyKind P F W) (device : List ℕ) (old new : CopyEnds P F W)
+pub record IsRead {P F W : Type 0} (kind : CopyKind P F W) (device : List ℕ) (after : AfterVolume) (old new : CopyEnds P F W)
     (result : Result Unit ReadFault) : Type 0 where
   pub replies : List PlainReply
   pub passed : List Passed
@@ -109,7 +127,7 @@ pub record IsRead {P F W : Type 0} (kind : CopyKind P F W) (device : List ℕ) (
   pub label : IsPrinted kind.contents (label_text (records_of replies)) old.out new.out named
   pub records : IsPrinted kind.filed (file_bytes (records_of replies)) old.file new.file filled
   pub whole : named && filled ≡ is_whole result
-  pub ends : ReadEnds (next_of device) replies passed result
+  pub ends : ReadEnds (next_of device after) replies passed result
 
 -- the status: 0 where the volume was read whole
 abbrev pub status_of : Result Unit ReadFault → ℕ
@@ -117,9 +135,9 @@ status_of (Ok x) = 0
 status_of (Err fault) = 3
 
 -- the status of what was read
-abbrev pub IsReadStatus : {P F W : Type 0} → CopyKind P F W → List ℕ → CopyEnds P F W → CopyEnds P F W → ℕ → Type 0
-IsReadStatus kind device old new status =
-    (read : Result Unit ReadFault) × (status ≡ status_of read) × IsRead kind device old new read
+abbrev pub IsReadStatus : {P F W : Type 0} → CopyKind P F W → List ℕ → AfterVolume → CopyEnds P F W → CopyEnds P F W → ℕ → Type 0
+IsReadStatus kind device after old new status =
+    (read : Result Unit ReadFault) × (status ≡ status_of read) × IsRead kind device after old new read
 
 -- records came so far, each of some bytes
 abbrev pub AreRecords : List PlainReply → Type 0
@@ -129,10 +147,21 @@ AreRecords (Data [] ∷ reads) = ⊥
 AreRecords (Done n ∷ reads) = ⊥
 AreRecords (Error n text ∷ reads) = ⊥
 
+-- the open and the rewind were done, and nothing was read
+abbrev pub IsAtLabel : List PlainReply → Type 0
+IsAtLabel replies =
+    (opened : PlainReply) × (rewound : PlainReply) × (replies ≡ opened ∷ rewound ∷ []) × (is_done rewound ≡ true)
+    × (records_of replies ≡ [])
+
+-- the label was read, and some records after it
 abbrev pub IsVolumeReading : List PlainReply → Type 0
 IsVolumeReading replies =
-    (opened : PlainReply) × (rewound : PlainReply) × (reads : List PlainReply) × (replies ≡ opened ∷ rewound ∷ reads)
-    × (is_done rewound ≡ true) × AreRecords reads
+    (opened : PlainReply) × (rewound : PlainReply) × (b : ℕ) × (bytes : List ℕ) × (reads : List PlainReply)
+    × (replies ≡ opened ∷ rewound ∷ Data (b ∷ bytes) ∷ reads) × (is_done rewound ≡ true) × AreRecords reads
+
+-- and then the mark
+abbrev pub IsVolumeRead : List PlainReply → Type 0
+IsVolumeRead replies = (before : List PlainReply) × IsVolumeReading before × (replies ≡ before ++ Data [] ∷ [])
 
 -- further calls that fail
 pub record Breaks {P : Type 0} (next : List PlainReply → Option PlainRequest) (tells : P → List Passed → Type 0) (p p' : P)
@@ -170,20 +199,16 @@ IsDoneBy answer named (Err fault) =
     ⊎ ((bytes : Vec ℕ Global) × (answer ≡ kept.Data bytes))
 
 -- the device is open and rewound, or why it is not
-abbrev pub IsBegun : {P : Type 0} → (P → List Passed → Type 0) → List ℕ → P → P → Result Unit ReadFault → Type 0
-IsBegun tells device p p' (Ok x) =
+abbrev pub IsBegun : {P : Type 0} → (P → List Passed → Type 0) → List ℕ → AfterVolume → P → P → Result Unit ReadFault → Type 0
+IsBegun tells device after p p' (Ok x) =
     (opened : PlainReply) × (rewound : PlainReply) × (is_done rewound ≡ true) × (records_of (opened ∷ rewound ∷ []) ≡ [])
-    × Extends (next_of device) tells p p' [] (opened ∷ rewound ∷ [])
-IsBegun tells device p p' (Err fault) = CallSteps (next_of device) tells p p' [] (Err fault)
-
--- the open and the rewind were done, and nothing was read
-abbrev pub IsAtLabel : List PlainReply → Type 0
-IsAtLabel replies = IsVolumeReading replies × (records_of replies ≡ [])
+    × Extends (next_of device after) tells p p' [] (opened ∷ rewound ∷ [])
+IsBegun tells device after p p' (Err fault) = CallSteps (next_of device after) tells p p' [] (Err fault)
 
 -- calls up to the mark
 abbrev pub Reads : {P : Type 0} → (List PlainReply → Option PlainRequest) → (P → List Passed → Type 0) → P → P → List PlainReply
     → Result Unit ReadFault → List PlainReply → Type 0
-Reads next tells p p' replies (Ok x) later = Extends next tells p p' replies later × (next later ≡ Some Close)
+Reads next tells p p' replies (Ok x) later = Extends next tells p p' replies later × IsVolumeRead later
 Reads next tells p p' replies (Err fault) later = Breaks next tells p p' replies fault later
 
 -- the records up to the mark are written
@@ -198,26 +223,57 @@ pub record AreRecordsWritten {P F : Type 0} (next : List PlainReply → Option P
 -- the same wherever the label was read
 abbrev pub AreFurtherRecordsWritten : {P F : Type 0} → StreamKind P F → StreamEnds P F → StreamEnds P F → Result Unit ReadFault → Type 0
 AreFurtherRecordsWritten kind old new result =
-    (device : List ℕ) (replies : List PlainReply) → IsVolumeReading replies → AreRecordsWritten (next_of device) kind replies old new result
+    (device : List ℕ) (after : AfterVolume) (replies : List PlainReply) → IsVolumeReading replies
+    → AreRecordsWritten (next_of device after) kind replies old new result
+
+-- the mark was read: what is asked next is what comes after it
+abbrev pub IsAtMark : (List PlainReply → Option PlainRequest) → AfterVolume → List PlainReply → Type 0
+IsAtMark next after replies = (ends : List PlainReply) → next (replies ++ ends) ≡ next_end after ends
+
+-- calls up to the mark, and what becomes of the reel then
+abbrev pub ReadsVolume : {P : Type 0} → (List PlainReply → Option PlainRequest) → (P → List Passed → Type 0) → P → P
+    → List PlainReply → Result AfterVolume ReadFault → List PlainReply → Type 0
+ReadsVolume next tells p p' replies (Ok goes) later = Extends next tells p p' replies later × IsAtMark next goes later
+ReadsVolume next tells p p' replies (Err fault) later = Breaks next tells p p' replies fault later
+
+-- all that came was printed and written, whatever becomes of the reel
+abbrev pub is_copied : Result AfterVolume ReadFault → Bool
+is_copied (Ok goes) = true
+is_copied (Err fault) = is_whole (Err fault)
 
 -- the label and the records are
 pub record IsCopied {P F W : Type 0} (next : List PlainReply → Option PlainRequest) (kind : CopyKind P F W)
-    (replies : List PlainReply) (old new : CopyEnds P F W) (result : Result Unit ReadFault) : Type 0 where
+    (replies : List PlainReply) (old new : CopyEnds P F W) (result : Result AfterVolume ReadFault) : Type 0 where
   pub later : List PlainReply
   pub named : Bool
   pub filled : Bool
   pub label : IsPrinted kind.contents (label_text (records_of later)) old.out new.out named
   pub records : IsPrinted kind.filed (file_bytes (records_of later)) old.file new.file filled
-  pub whole : named && filled ≡ is_whole result
-  pub reads : Reads next kind.tells old.peer new.peer replies result later
+  pub whole : named && filled ≡ is_copied result
+  pub reads : ReadsVolume next kind.tells old.peer new.peer replies result later
 
 -- the same wherever nothing was read so far
-abbrev pub IsCopiedAtLabel : {P F W : Type 0} → CopyKind P F W → CopyEnds P F W → CopyEnds P F W → Result Unit ReadFault → Type 0
-IsCopiedAtLabel kind old new result =
-    (device : List ℕ) (seen : List PlainReply) → IsAtLabel seen → IsCopied (next_of device) kind seen old new result
+abbrev pub IsCopiedAtLabel : {P F W : Type 0} → CopyKind P F W → AfterVolume → CopyEnds P F W → CopyEnds P F W
+    → Result AfterVolume ReadFault → Type 0
+IsCopiedAtLabel kind after old new result =
+    (device : List ℕ) (seen : List PlainReply) → IsAtLabel seen → IsCopied (next_of device after) kind seen old new result
+
+-- the reel is taken away, where it is to go, and the close is next; or why it is not
+abbrev pub IsTakenAway : {P : Type 0} → (List PlainReply → Option PlainRequest) → (P → List Passed → Type 0) → P → P
+    → List PlainReply → Result Unit ReadFault → Type 0
+IsTakenAway next tells p p' replies (Ok x) =
+    (later : List PlainReply) × Extends next tells p p' replies later × (records_of later ≡ records_of replies)
+    × (next later ≡ Some Close)
+IsTakenAway next tells p p' replies (Err fault) = CallSteps next tells p p' replies (Err fault)
+
+-- the same wherever the mark was read
+abbrev pub IsTakenAwayAtMark : {P : Type 0} → (P → List Passed → Type 0) → AfterVolume → P → P → Result Unit ReadFault → Type 0
+IsTakenAwayAtMark tells after p p' result =
+    (next : List PlainReply → Option PlainRequest) (replies : List PlainReply) → IsAtMark next after replies
+    → IsTakenAway next tells p p' replies result
 
 -- all calls, once there is a connection
-pub record IsThrough {P F W : Type 0} (kind : CopyKind P F W) (device : List ℕ) (old new : CopyEnds P F W)
+pub record IsThrough {P F W : Type 0} (kind : CopyKind P F W) (device : List ℕ) (after : AfterVolume) (old new : CopyEnds P F W)
     (result : Result Unit ReadFault) : Type 0 where
   pub replies : List PlainReply
   pub more : List Passed
@@ -227,7 +283,8 @@ pub record IsThrough {P F W : Type 0} (kind : CopyKind P F W) (device : List ℕ
   pub label : IsPrinted kind.contents (label_text (records_of replies)) old.out new.out named
   pub records : IsPrinted kind.filed (file_bytes (records_of replies)) old.file new.file filled
   pub whole : named && filled ≡ is_whole result
-  pub ends : (passed : List Passed) → CallsFollow (next_of device) [] passed → ReadEnds (next_of device) replies (passed ++ more) result
+  pub ends : (passed : List Passed) → CallsFollow (next_of device after) [] passed
+      → ReadEnds (next_of device after) replies (passed ++ more) result
 
 -- a record, or why there is none
 abbrev pub IsRecordRead : {P : Type 0} → (List PlainReply → Option PlainRequest) → (P → List Passed → Type 0) → P → P → List PlainReply

@@ -17,8 +17,11 @@ use std::alloc::{AllocError, Global};
 const PIECE: usize = 65536;
 
 /// What makes calls over a peer: the room for a request, for what comes at once, and for the reply.
+///
+/// It keeps nothing from one call for the next: what it promises of a call holds after any other, also after one that
+/// failed, and over another peer.
 #[derive(Drop)]
-pub(crate) struct PeerCaller {
+pub struct PeerCaller {
     alloc: Global,
     reader: ReplyReader,
     text: Vec<u8>,
@@ -28,7 +31,7 @@ pub(crate) struct PeerCaller {
 impl PeerCaller {
     /// It reserves `rmt_wire::READER_LIMIT` bytes for replies and 65,536 for what comes at once, and fails only where these
     /// are refused.
-    pub(crate) fn new(alloc: Global) -> Result<PeerCaller, AllocError> {
+    pub fn new(alloc: Global) -> Result<PeerCaller, AllocError> {
         let Ok(piece) = Box::new(alloc, [0; PIECE]) else {
             return Err(AllocError);
         };
@@ -40,8 +43,16 @@ impl PeerCaller {
         })
     }
 
-    /// Sends a request, and waits for its reply, whole. Bytes that follow a reply make it none.
-    pub(crate) fn call<P: Peer>(
+    /// Sends a request over the connection that there is, once, and waits for its reply, whole: data for a read, and a number
+    /// for all others. An error of the server is a reply too.
+    ///
+    /// The device of an open is one line of at most `LINE_LIMIT` bytes. A read asks for at most `RECORD_LIMIT` bytes, and a
+    /// write has no more. All other numbers are at most `NUMBER_LIMIT`.
+    ///
+    /// It takes memory for the request, and for the data or the text of the reply: where either is refused it answers
+    /// `CallFault::OutOfMemory`. It answers `ConnectionEnded` where the connection ends before the reply is whole, or there
+    /// is none, and `Botched` where what comes is no reply to the request, or more bytes come with it.
+    pub fn call<P: Peer>(
         &mut self,
         peer: &mut P,
         request: &Request<'_>,

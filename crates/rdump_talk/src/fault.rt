@@ -2,13 +2,16 @@
 use thiserror::Error;
 
 /// Why a request has no reply.
-#[derive(Clone, Copy)]
-pub(crate) enum CallFault {
+#[derive(Clone, Copy, Debug, PartialEq, Eq, Error)]
+pub enum CallFault {
     /// The connection ended before the reply came whole.
+    #[error("the connection ended")]
     ConnectionEnded,
     /// What came is no reply to it, or more than one.
+    #[error("no reply by the protocol")]
     Botched,
     /// Memory for the request or its reply was refused.
+    #[error("out of memory")]
     OutOfMemory,
 }
 
@@ -24,6 +27,9 @@ pub enum VolumeRequest {
     /// A read of a record.
     #[error("read")]
     Read,
+    /// The operation that takes the reel away.
+    #[error("offline")]
+    Offline,
     /// The close.
     #[error("close")]
     Close,

@@ -9,18 +9,18 @@ use std::alloc::{AllocError, Global};
 
 /// A reply that is kept: what a request was answered.
 #[derive(Drop)]
-pub(crate) enum KeptReply {
-    /// It was done, with this number.
+pub enum KeptReply {
+    /// It was done, with this number, at most `NUMBER_LIMIT`.
     Done { number: u32 },
-    /// The bytes that a read gave; none at a mark.
+    /// The bytes that a read gave, at most as many as it asked for; none at a mark.
     Data { bytes: Vec<u8> },
-    /// It was refused, with the number and the text of an error.
+    /// It was refused, with the number and the text of an error. Of the text at most `LINE_LIMIT` bytes are kept.
     Error { number: u32, text: Vec<u8> },
 }
 
 impl KeptReply {
-    /// Whether what was asked was done.
-    pub(crate) fn is_done(&self) -> bool
+    /// Whether what was asked was done, and answered by a number.
+    pub fn is_done(&self) -> bool
         ensures { result ≡ is_done (plain_kept self.now) }
     {
         matches!(self, KeptReply::Done { .. })

@@ -2,8 +2,10 @@
 //! the lines that an operator reads.
 //!
 //! `Peer` is the far end: `SocketPeer` is one over TCP. `dump` has a client write its volumes over a peer, asks an
-//! operator after a failure, and prints what is counted. `dump_kept` does so too, and keeps the checkpoint with a `Keeper`. `copy_volume` reads a volume back, and `mt` does one operation,
-//! each over a connection of its own.
+//! operator after a failure, and prints what is counted. `dump_kept` does so too, and keeps the checkpoint with a `Keeper`.
+//!
+//! `copy_volume` reads a volume back, and `mt` does one operation, each over a connection of its own. Both make their calls
+//! with a `PeerCaller`: one request after the other, each answered by a `KeptReply`.
 #![tactic(auto)]
 
 mod attempt;
@@ -21,13 +23,15 @@ mod rounds;
 mod socket;
 mod volume;
 
+pub use caller::PeerCaller;
 pub use conclusion::Conclusion;
-pub use fault::{ReadFault, VolumeRequest};
+pub use fault::{CallFault, ReadFault, VolumeRequest};
 pub use keeper::Keeper;
 pub use kept::dump_kept;
+pub use kept_reply::KeptReply;
 pub use lines::{LINE_ROOM, failure_line};
 pub use operation::mt;
 pub use peer::{Passed, Peer};
 pub use rounds::dump;
 pub use socket::SocketPeer;
-pub use volume::{copy_volume, read_volume};
+pub use volume::{AfterVolume, copy_volume, read_volume};

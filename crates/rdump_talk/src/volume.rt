@@ -10,14 +10,15 @@ ghost use Rattle.rdump_talk.specs.Ends.{copy_ends, copy_kind, stream_ends, strea
 ghost use Rattle.rmt_wire.specs.Print.{IsPrinted};
 ghost use Rattle.rdump_talk.specs.Reading as spec;
 ghost use Rattle.rdump_talk.specs.declared.fault.ReadFault.TheVariants as faults;
-ghost use Rattle.rdump_talk.specs.Reading.{AreFurtherRecordsWritten, IsBegun, IsCopiedAtLabel, IsDoneBy, IsDoneNext, IsNamed, IsRead, IsReadStatus, IsRecordNext, IsThrough, is_whole};
+ghost use Rattle.rdump_talk.specs.Reading.{AreFurtherRecordsWritten, IsBegun, IsCopiedAtLabel, IsDoneBy, IsDoneNext, IsNamed, IsRead, IsReadStatus, IsRecordNext, IsTakenAwayAtMark, IsThrough, is_whole};
+ghost use Rattle.rdump_talk.specs.declared.volume.AfterVolume.{AfterVolume};
 
 use crate::Peer;
 use crate::caller::PeerCaller;
 use crate::fault::{CallFault, ReadFault, VolumeRequest};
 use crate::kept_reply::KeptReply;
 use rmt_wire::fcntl::O_RDONLY;
-use rmt_wire::mtio::MTREW;
+use rmt_wire::mtio::{MTOFFL, MTREW};
 use rmt_wire::{Counted, RECORD_LIMIT, Request, print_text};
 use std::alloc::Global;
 use std::io::Write;
@@ -28,19 +29,29 @@ const WHOLE: u8 = 0;
 /// The status of a volume that was not.
 const FAILED: u8 = 3;
 
+/// What becomes of a reel, once its volume was read whole.
+#[derive(Clone, Copy, Debug, PartialEq, Eq)]
+pub enum AfterVolume {
+    /// The reel stays.
+    Stay,
+    /// The reel goes to the bin (`MTOFFL`), where a label was read. One without a label stays.
+    Offline,
+}
+
 /// Reads a volume as `copy_volume` does. Answers the exit status of `rdump read`: 0 where it was read whole, and else 3.
 pub fn read_volume<P: Peer, F: Write, W: Write>(
     alloc: Global,
     peer: &mut P,
     device: &[u8],
+    after: AfterVolume,
     file: &mut Counted<F>,
     out: &mut Counted<W>,
 ) -> u8
     requires { IsLine device.now }
-    ensures { IsReadStatus (copy_kind P.tells F.contents W.contents) device.now
+    ensures { IsReadStatus (copy_kind P.tells F.contents W.contents) device.now after
         (copy_ends peer.old file.old out.old) (copy_ends peer.new file.new out.new) result }
 {
-    match copy_volume(alloc, peer, device, file, out) {
+    match copy_volume(alloc, peer, device, after, file, out) {
         Ok(()) => WHOLE,
         Err(_) => FAILED,
     }
@@ -52,16 +63,21 @@ pub fn read_volume<P: Peer, F: Write, W: Write>(
 /// It opens the device for reading, rewinds, reads record after record, and closes the device. After a reply that is an
 /// error, after one that is none, and after a write that failed, it does nothing more.
 ///
+/// With `AfterVolume::Offline` it takes the reel away before the close, once the mark has come and all was written. A reel
+/// that begins with a mark, or has nothing, has no label: it stays, nothing is printed or written, and the close follows.
+/// Where the connection ends before the reply to MTOFFL comes, the reel may be in the bin.
+///
 /// The device is one line of at most `LINE_LIMIT` bytes. It takes memory for one record at a time.
 pub fn copy_volume<P: Peer, F: Write, W: Write>(
     alloc: Global,
     peer: &mut P,
     device: &[u8],
+    after: AfterVolume,
     file: &mut Counted<F>,
     out: &mut Counted<W>,
 ) -> Result<(), ReadFault>
     requires { IsLine device.now }
-    ensures { IsRead (copy_kind P.tells F.contents W.contents) device.now
+    ensures { IsRead (copy_kind P.tells F.contents W.contents) device.now after
         (copy_ends peer.old file.old out.old) (copy_ends peer.new file.new out.new) result }
 {
     let Ok(mut caller) = PeerCaller::new(alloc) else {
@@ -70,7 +86,7 @@ pub fn copy_volume<P: Peer, F: Write, W: Write>(
     if !peer.connect() {
         return Err(ReadFault::ConnectionEnded);
     }
-    let result = go_through(&mut caller, peer, device, file, out);
+    let result = go_through(&mut caller, peer, device, after, file, out);
     peer.hang_up();
     result
 }
@@ -80,22 +96,24 @@ fn go_through<P: Peer, F: Write, W: Write>(
     caller: &mut PeerCaller,
     peer: &mut P,
     device: &[u8],
+    after: AfterVolume,
     file: &mut Counted<F>,
     out: &mut Counted<W>,
 ) -> Result<(), ReadFault>
     requires { IsLine device.now }
-    ensures { IsThrough (copy_kind P.tells F.contents W.contents) device.now
+    ensures { IsThrough (copy_kind P.tells F.contents W.contents) device.now after
         (copy_ends peer.old file.old out.old) (copy_ends peer.new file.new out.new) result }
 {
     begin(caller, peer, device)?;
-    copy_records(caller, peer, file, out)?;
+    let goes = copy_records(caller, peer, after, file, out)?;
+    take_away(caller, peer, goes)?;
     ask(caller, peer, VolumeRequest::Close, &Request::Close)
 }
 
 /// Opens the device, and rewinds it.
 fn begin<P: Peer>(caller: &mut PeerCaller, peer: &mut P, device: &[u8]) -> Result<(), ReadFault>
     requires { IsLine device.now }
-    ensures { IsBegun P.tells device.now peer.old peer.new result }
+    ensures { (after : AfterVolume) → IsBegun P.tells device.now after peer.old peer.new result }
 {
     let open = Request::Open {
         device,
@@ -107,6 +125,26 @@ fn begin<P: Peer>(caller: &mut PeerCaller, peer: &mut P, device: &[u8]) -> Resul
         count: 1,
     };
     ask(caller, peer, VolumeRequest::Rewind, &rewind)
+}
+
+/// Takes the reel away, where it is to go.
+fn take_away<P: Peer>(
+    caller: &mut PeerCaller,
+    peer: &mut P,
+    after: AfterVolume,
+) -> Result<(), ReadFault>
+    ensures { IsTakenAwayAtMark P.tells after peer.old peer.new result }
+{
+    match after {
+        AfterVolume::Stay => Ok(()),
+        AfterVolume::Offline => {
+            let offline = Request::Op {
+                op: MTOFFL,
+                count: 1,
+            };
+            ask(caller, peer, VolumeRequest::Offline, &offline)
+        }
+    }
 }
 
 /// Has something done that is answered by a number.
@@ -170,22 +208,25 @@ fn read_fault(fault: CallFault) -> ReadFault
     }
 }
 
-/// Prints the label, and writes the records behind it, up to the first mark.
+/// Prints the label, and writes the records behind it, up to the first mark. Answers what becomes of the reel: one without a
+/// label stays.
 fn copy_records<P: Peer, F: Write, W: Write>(
     caller: &mut PeerCaller,
     peer: &mut P,
+    after: AfterVolume,
     file: &mut Counted<F>,
     out: &mut Counted<W>,
-) -> Result<(), ReadFault>
-    ensures { IsCopiedAtLabel (copy_kind P.tells F.contents W.contents)
+) -> Result<AfterVolume, ReadFault>
+    ensures { IsCopiedAtLabel (copy_kind P.tells F.contents W.contents) after
         (copy_ends peer.old file.old out.old) (copy_ends peer.new file.new out.new) result }
 {
     let label = next_record(caller, peer)?;
     if label.is_empty() {
-        return Ok(());
+        return Ok(AfterVolume::Stay);
     }
     write_whole(out, label_text(&label))?;
-    write_records(caller, peer, file)
+    write_records(caller, peer, file)?;
+    Ok(after)
 }
 
 /// Writes record after record, up to the first mark.

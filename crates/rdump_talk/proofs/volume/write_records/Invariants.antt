@@ -1,10 +1,11 @@
 use Rattle.std.proofs.Common.{ℕ, List}
 use Rattle.rmt_wire.specs.Reply.{PlainReply}
 use Rattle.rdump_talk.specs.Reading.{IsVolumeReading}
+use Rattle.rdump_talk.specs.declared.volume.AfterVolume.{AfterVolume}
 use Rattle.rdump_talk.proofs.Reading.{WrittenTo}
 use Rattle.rdump_talk.proofs.volume.write_records.Given as goal
 
 abbrev pub invariant-loop-turn : goal.invariant-loop-turn
 invariant-loop-turn g l =
-    (device : List ℕ) (replies : List PlainReply) → IsVolumeReading replies
-    → WrittenTo g.P.Peer.tells g.F.Write.contents device replies l.fn.peer l.peer l.fn.file l.file l.turn
+    (device : List ℕ) (after : AfterVolume) (replies : List PlainReply) → IsVolumeReading replies
+    → WrittenTo g.P.Peer.tells g.F.Write.contents device after replies l.fn.peer l.peer l.fn.file l.file l.turn
