@@ -1,0 +1,59 @@
+//! The line of a drive.
+ghost use Rattle.dump_run.specs.Run.{IsDevice};
+
+use crate::ListSystem;
+use crate::drive_reel::read_drive;
+use crate::reel::{ListedReel, Source};
+use rdump_talk::{ReadFault, SocketPeer};
+use reel_check::{ReelContents, ReelTally};
+use std::alloc::AllocError;
+
+/// The reel that is first on the stack of this drive. None where no session can be had, which is told.
+pub(crate) fn drive_reel<R: ListSystem>(
+    rt: &R,
+    to: &str,
+    device: &str,
+) -> Result<Option<ListedReel>, AllocError>
+    requires { IsDevice device.now }
+{
+    let mut peer = SocketPeer::new(rt, to);
+    let mut tally = ReelTally::new();
+    match read_drive(rt.alloc(), &mut peer, device.as_bytes(), &mut tally) {
+        Ok(None) => Ok(Some(reel_of(rt, device, tally, Source::Drive)?)),
+        Ok(Some(why)) => Ok(Some(reel_of(rt, device, tally, Source::Untold(why))?)),
+        Err(ReadFault::OutOfMemory) => Err(AllocError),
+        Err(fault) => {
+            tell_fault(rt, to, fault, &peer);
+            Ok(None)
+        }
+    }
+}
+
+/// The reel on this drive, of which this was told.
+fn reel_of<R: ListSystem>(
+    rt: &R,
+    device: &str,
+    tally: ReelTally,
+    source: Source,
+) -> Result<ListedReel, AllocError> {
+    let (records, marks) = (tally.records(), tally.marks());
+    Ok(ListedReel {
+        path: String::from_str(rt.alloc(), device)?,
+        contents: ReelContents {
+            holding: tally.into_holding(),
+            records,
+            marks,
+            bytes: 0,
+            tail: 0,
+        },
+        source,
+    })
+}
+
+/// Tells why no session can be had, by the system's reason where there is one.
+fn tell_fault<R: ListSystem>(rt: &R, to: &str, fault: ReadFault, peer: &SocketPeer<'_, R>) {
+    let _ = match (fault, peer.failure()) {
+        (ReadFault::ConnectionEnded, Some(error)) => eprintln!(rt; "rdump: {to}: {error}"),
+        _ => eprintln!(rt; "rdump: {to}: {fault}"),
+    };
+}

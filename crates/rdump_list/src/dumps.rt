@@ -1,0 +1,68 @@
+//! The dumps of a dumpdates file, and what reels have of them.
+use crate::ListSystem;
+use crate::dump_found::DumpFound;
+use crate::fault::tell;
+use crate::printer::Printer;
+use crate::reel::ListedReel;
+use crate::words::push_count;
+use dumpdates::{Dates, DatesFault, Entry};
+use std::alloc::{AllocError, Global};
+use std::fs;
+use std::io::Write;
+
+/// The dumpdates file at this path. None where it can't be read, or is none, which is told.
+pub(crate) fn read_dates<R: ListSystem>(rt: &R, path: &str) -> Result<Option<Dates>, AllocError> {
+    let bytes = match fs::read(rt, path) {
+        Ok(bytes) => bytes,
+        Err(error) => {
+            tell(rt, path, error)?;
+            return Ok(None);
+        }
+    };
+    match Dates::read(rt.alloc(), &bytes) {
+        Ok(dates) => Ok(Some(dates)),
+        Err(DatesFault::OutOfMemory) => Err(AllocError),
+        Err(fault) => {
+            let _ = eprintln!(rt; "rdump: {path}: {fault}");
+            Ok(None)
+        }
+    }
+}
+
+/// Prints an empty line, and what these reels, which are sorted, have of each dump of a dumpdates file. Each dump has so many blocks,
+/// where that is given. Answers whether nothing is missing.
+pub(crate) fn print_dumps<W: Write>(
+    alloc: Global,
+    out: &mut Printer<W>,
+    reels: &[ListedReel],
+    dates: &Dates,
+    blocks: Option<u64>,
+) -> Result<bool, AllocError> {
+    out.print(b"\n")?;
+    let mut is_complete = true;
+    for at in 0..dates.len() {
+        if let Some(entry) = dates.get(at) {
+            let found = DumpFound::of(alloc, reels, entry)?;
+            is_complete = is_complete && found.is_complete(blocks);
+            print_dump(alloc, out, entry, found, blocks)?;
+        }
+    }
+    Ok(is_complete)
+}
+
+/// Prints the line of a dump.
+fn print_dump<W: Write>(
+    alloc: Global,
+    out: &mut Printer<W>,
+    entry: Entry<'_>,
+    found: DumpFound,
+    blocks: Option<u64>,
+) -> Result<(), AllocError> {
+    let mut line = Vec::new(alloc);
+    line.extend_from_slice(entry.name.as_bytes())?;
+    push_count(&mut line, b" level ", u64::from(entry.level), b"")?;
+    push_count(&mut line, b" date ", entry.date, b": ")?;
+    found.push(&mut line, blocks)?;
+    line.extend_from_slice(b"\n")?;
+    out.print(&line)
+}

@@ -1,0 +1,76 @@
+//! The line of a reel.
+use crate::reel::{ListedReel, Source};
+use crate::words::{push_count, push_words};
+use reel_check::{Holding, ReelContents, Volume};
+use std::alloc::AllocError;
+
+/// Appends the line of a reel, with its line feed: its path, what it holds, and what is said of it.
+pub(crate) fn push_line(text: &mut Vec<u8>, reel: &ListedReel) -> Result<(), AllocError> {
+    push_path(text, reel.path.as_str())?;
+    text.extend_from_slice(b": ")?;
+    match reel.source {
+        Source::File => {
+            push_contents(text, &reel.contents)?;
+            push_words(text, &reel.contents)?;
+        }
+        Source::Drive => {
+            push_drive(text, reel)?;
+            push_words(text, &reel.contents)?;
+        }
+        Source::Untold(why) => {
+            push_drive(text, reel)?;
+            why.push(text)?;
+        }
+    }
+    text.extend_from_slice(b"\n")
+}
+
+/// Appends a path. A byte of it that ends a line, or controls a terminal, stands as `?`.
+fn push_path(text: &mut Vec<u8>, path: &str) -> Result<(), AllocError> {
+    text.reserve(path.len())?;
+    for byte in path.as_bytes() {
+        let shown = if byte.is_ascii_control() { b'?' } else { *byte };
+        text.push(shown)?;
+    }
+    Ok(())
+}
+
+/// Appends what a record file holds, in numbers, up to the words.
+fn push_contents(text: &mut Vec<u8>, contents: &ReelContents) -> Result<(), AllocError> {
+    match &contents.holding {
+        Holding::Empty => {}
+        Holding::Volume(volume) => {
+            push_volume(text, volume)?;
+            text.extend_from_slice(b", ")?;
+        }
+        Holding::Foreign => {
+            push_count(text, b"", contents.records, b" records, ")?;
+            push_count(text, b"", contents.marks, b" marks, ")?;
+        }
+    }
+    push_count(text, b"", contents.bytes, b" bytes: ")
+}
+
+/// Appends what a reel on a drive holds, in numbers, up to the words: nothing where it is no volume.
+fn push_drive(text: &mut Vec<u8>, reel: &ListedReel) -> Result<(), AllocError> {
+    match reel.volume() {
+        Some(volume) => {
+            push_volume(text, volume)?;
+            text.extend_from_slice(b": ")
+        }
+        None => Ok(()),
+    }
+}
+
+/// Appends what a label says, and the number and the length of the blocks.
+fn push_volume(text: &mut Vec<u8>, volume: &Volume) -> Result<(), AllocError> {
+    let label = &volume.label;
+    text.extend_from_slice(label.name().as_bytes())?;
+    push_count(text, b" level ", u64::from(label.level()), b"")?;
+    push_count(text, b" date ", label.date(), b"")?;
+    push_count(text, b" since ", label.since(), b"")?;
+    push_count(text, b" volume ", u64::from(label.volume()), b"")?;
+    push_count(text, b" first ", u64::from(label.first()), b", ")?;
+    push_count(text, b"", volume.blocks, b" blocks of ")?;
+    push_count(text, b"", volume.block_bytes as u64, b" bytes")
+}

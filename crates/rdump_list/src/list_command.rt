@@ -1,0 +1,140 @@
+//! `rdump ls`.
+ghost use Rattle.std.specs.Prelude.{IfOk};
+ghost use Rattle.dump_run.specs.Run.{IsDevice};
+ghost use Rattle.rdump_list.specs.Status.{IsListStatus};
+ghost use Rattle.rdump_words.specs.Rdump.{IsListLine, IsListedReels};
+
+use crate::ListSystem;
+use crate::drive::drive_reel;
+use crate::dumps::{print_dumps, read_dates};
+use crate::line::push_line;
+use crate::lister::Lister;
+use crate::order::sort;
+use crate::printer::Printer;
+use crate::reel::ListedReel;
+use crate::status::{FAILED, status_of};
+use rdump_words::{ListLine, ListedReels};
+use std::alloc::{AllocError, Global};
+use std::io::{self, Write};
+
+/// Lists reels, as `rdump ls` does: prints a line for each, sorted, and after an empty line one for each dump of a dumpdates file, where
+/// the words name one. Nothing is written to a reel.
+///
+/// Answers the exit status: 0 where there is a reel, all are whole, and no volume is missing; 1 where a file can't be read, no session with the
+/// drive can be had, memory was refused, or a write failed; and else 3. What is at fault is told on standard error, and refused memory on standard output.
+pub fn run_ls<R: ListSystem>(rt: &R, line: ListLine<'_>) -> u8
+    requires { IsListLine line }
+    ensures { IsListStatus result }
+{
+    match list(rt, &line) {
+        Ok(status) => status,
+        Err(AllocError) => {
+            let _ = println!(rt; "out of memory");
+            FAILED
+        }
+    }
+}
+
+/// Lists the reels, and answers the status.
+fn list<R: ListSystem>(rt: &R, line: &ListLine<'_>) -> Result<u8, AllocError>
+    requires { IsListLine line.now }
+    ensures { IfOk result IsListStatus }
+{
+    let dates = match line.dumpdates {
+        Some(path) => read_dates(rt, path)?,
+        None => None,
+    };
+    let are_dates_read = dates.is_some() || line.dumpdates.is_none();
+    let (mut reels, are_reels_read) = read_reels(rt, &line.reels)?;
+    sort(reels.as_mut_slice());
+    let mut out = Printer::new(rt.alloc(), io::writer(rt));
+    let are_whole = print_reels(rt.alloc(), &mut out, &reels)?;
+    let are_complete = match &dates {
+        Some(dates) => print_dumps(rt.alloc(), &mut out, &reels, dates, line.blocks)?,
+        None => true,
+    };
+    let is_printed = end(rt, out);
+    let is_done = are_dates_read && are_reels_read && is_printed;
+    Ok(status_of(
+        is_done,
+        has_reel(rt, &reels, are_reels_read) && are_whole && are_complete,
+    ))
+}
+
+/// Whether there is a reel. Where there is none, though all that was named could be read, that is told: of a shelf with no reel nothing is
+/// whole.
+fn has_reel<R: ListSystem>(rt: &R, reels: &[ListedReel], are_read: bool) -> bool {
+    if reels.is_empty() && are_read {
+        let _ = eprintln!(rt; "rdump: no reel was found");
+    }
+    !reels.is_empty()
+}
+
+/// The reels that the words name, and whether all could be read.
+fn read_reels<R: ListSystem>(
+    rt: &R,
+    reels: &ListedReels<'_>,
+) -> Result<(Vec<ListedReel>, bool), AllocError>
+    requires { IsListedReels reels.now }
+{
+    match reels {
+        ListedReels::Paths(paths) => read_paths(rt, paths),
+        ListedReels::Drive { to, device } => read_first(rt, to, device),
+    }
+}
+
+/// The reels at these paths, and whether all could be read.
+fn read_paths<R: ListSystem>(
+    rt: &R,
+    paths: &[&str],
+) -> Result<(Vec<ListedReel>, bool), AllocError> {
+    let mut lister = Lister::new(rt)?;
+    for path in paths {
+        lister.read(path)?;
+    }
+    Ok(lister.into_reels())
+}
+
+/// The first reel on the stack of a drive, and whether a session was had.
+fn read_first<R: ListSystem>(
+    rt: &R,
+    to: &str,
+    device: &str,
+) -> Result<(Vec<ListedReel>, bool), AllocError>
+    requires { IsDevice device.now }
+{
+    let mut reels = Vec::new(rt.alloc());
+    match drive_reel(rt, to, device)? {
+        Some(reel) => {
+            reels.push(reel)?;
+            Ok((reels, true))
+        }
+        None => Ok((reels, false)),
+    }
+}
+
+/// Prints the lines of reels. Answers whether all are whole.
+fn print_reels<W: Write>(
+    alloc: Global,
+    out: &mut Printer<W>,
+    reels: &[ListedReel],
+) -> Result<bool, AllocError> {
+    let mut line = Vec::new(alloc);
+    let mut are_whole = true;
+    for reel in reels {
+        line.clear();
+        push_line(&mut line, reel)?;
+        out.print(&line)?;
+        are_whole = are_whole && reel.is_whole();
+    }
+    Ok(are_whole)
+}
+
+/// Prints what is left. Answers whether all was printed, and tells where not.
+fn end<R: ListSystem, W: Write + Drop>(rt: &R, mut out: Printer<W>) -> bool {
+    let is_printed = out.end();
+    if !is_printed {
+        let _ = eprintln!(rt; "rdump: standard output could not be written");
+    }
+    is_printed
+}

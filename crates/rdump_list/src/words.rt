@@ -1,0 +1,112 @@
+//! What is said of a reel.
+ghost use Rattle.std.specs.Prelude.{◌≡◌, ◌++◌, ◌↔◌, IsTrue, OnOk, codes, decimal};
+ghost use Rattle.rdump_list.specs.Words as spec;
+ghost use Rattle.rdump_list.specs.Words.{IsWhole, end_words, holding_words, is_end, tail_words, words_of};
+
+use itoa::Buffer;
+use reel_check::{Holding, ReelContents, Volume, VolumeEnd};
+use std::alloc::AllocError;
+
+/// Whether a reel is whole: a volume with one mark after its blocks, and nothing after that, not a byte. Of these reels, and of no
+/// others, `whole` is said.
+pub fn is_whole(contents: &ReelContents) -> bool
+    ensures holds { IsTrue result ↔ IsWhole contents.now }
+    ensures said { IsTrue result ↔ (words_of contents.now ≡ codes "whole") }
+{
+    contents.tail == 0 && has_one_mark(&contents.holding)
+}
+
+/// Appends what is said of a reel: `whole`; `empty`; `no mark: 3 whole blocks`; `more after the mark`; or `not a volume of rdump`.
+/// Bytes that stand after the last entry that is read from the front are told after it, as `no mark: 3 whole blocks, tail of 5 bytes`, and
+/// in place of `whole` and of `empty`, as `tail of 5 bytes`.
+///
+/// It fails where memory is refused.
+pub fn push_words(text: &mut Vec<u8>, contents: &ReelContents) -> Result<(), AllocError>
+    ensures { OnOk result (text.new.items ≡ text.old.items ++ words_of contents.now) }
+{
+    if contents.tail == 0 {
+        return push_holding(text, &contents.holding);
+    }
+    if is_said_alone(&contents.holding) {
+        return push_tail(text, contents.tail);
+    }
+    push_holding(text, &contents.holding)?;
+    text.extend_from_slice(b", ")?;
+    push_tail(text, contents.tail)
+}
+
+/// Whether entries are a volume with one mark after its blocks, and nothing after it.
+fn has_one_mark(holding: &Holding) -> bool
+    ensures { result ≡ spec.is_one_mark holding.now }
+{
+    match holding {
+        Holding::Volume(volume) => is_one_mark(volume.end),
+        Holding::Empty | Holding::Foreign => false,
+    }
+}
+
+/// Whether what is said of entries is said of no reel that has a tail: it is `whole`, or `empty`.
+fn is_said_alone(holding: &Holding) -> bool
+    ensures { result ≡ spec.is_said_alone holding.now }
+{
+    match holding {
+        Holding::Empty => true,
+        Holding::Volume(volume) => is_one_mark(volume.end),
+        Holding::Foreign => false,
+    }
+}
+
+/// Whether one mark comes after the blocks of a volume, and nothing after it.
+fn is_one_mark(end: VolumeEnd) -> bool
+    ensures { result ≡ is_end end }
+{
+    match end {
+        VolumeEnd::NoMark => false,
+        VolumeEnd::OneMark => true,
+        VolumeEnd::MoreAfterMark => false,
+    }
+}
+
+/// Appends what is said of entries.
+fn push_holding(text: &mut Vec<u8>, holding: &Holding) -> Result<(), AllocError>
+    ensures { OnOk result (text.new.items ≡ text.old.items ++ holding_words holding.now) }
+{
+    match holding {
+        Holding::Empty => text.extend_from_slice(b"empty"),
+        Holding::Volume(volume) => push_end(text, volume),
+        Holding::Foreign => text.extend_from_slice(b"not a volume of rdump"),
+    }
+}
+
+/// Appends what is said of a volume.
+fn push_end(text: &mut Vec<u8>, volume: &Volume) -> Result<(), AllocError>
+    ensures { OnOk result (text.new.items ≡ text.old.items ++ end_words volume.now.end volume.now.blocks) }
+{
+    match volume.end {
+        VolumeEnd::NoMark => push_count(text, b"no mark: ", volume.blocks, b" whole blocks"),
+        VolumeEnd::OneMark => text.extend_from_slice(b"whole"),
+        VolumeEnd::MoreAfterMark => text.extend_from_slice(b"more after the mark"),
+    }
+}
+
+/// Appends what is said of bytes after the last whole entry.
+fn push_tail(text: &mut Vec<u8>, bytes: u64) -> Result<(), AllocError>
+    ensures { OnOk result (text.new.items ≡ text.old.items ++ tail_words bytes) }
+{
+    push_count(text, b"tail of ", bytes, b" bytes")
+}
+
+/// Appends a number between two texts.
+pub(crate) fn push_count(
+    text: &mut Vec<u8>,
+    before: &[u8],
+    number: u64,
+    after: &[u8],
+) -> Result<(), AllocError>
+    ensures { OnOk result (text.new.items ≡ text.old.items ++ (before.now ++ decimal number ++ after.now)) }
+{
+    let mut digits = Buffer::new();
+    text.extend_from_slice(before)?;
+    text.extend_from_slice(digits.format(number).as_bytes())?;
+    text.extend_from_slice(after)
+}
