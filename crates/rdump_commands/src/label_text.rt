@@ -1,46 +1,108 @@
 //! The text of the label of a volume that is read back.
-use crate::label_lines::LabelLines;
-use std::io::{self, Write};
+use dump_run::{LABEL_BYTES, VolumeLabel};
+use std::cell::Cell;
+use std::io::{self, ErrorKind, Write};
 
-/// Where the text of a label goes, by one write. What it is, is kept.
+/// What the text of a volume's label is.
 #[derive(Drop)]
-pub(crate) struct LabelText<W> {
-    out: W,
-    has_come: bool,
-    is_label: bool,
+pub(crate) enum Found {
+    /// No text came.
+    Nothing,
+    /// It is that of no label of `rdump`.
+    Foreign,
+    /// It is that of a label of another dump.
+    OtherDump(VolumeLabel),
+    /// It is that of a label.
+    Label(VolumeLabel),
 }
 
-impl<W: Write> LabelText<W> {
+/// Which texts are printed.
+#[derive(Clone, Copy)]
+pub(crate) enum Wanted<'a> {
+    /// Any text.
+    Any,
+    /// Those of labels.
+    Label,
+    /// Those of labels of the dump that this one is of.
+    DumpOf(&'a VolumeLabel),
+}
+
+/// Where the text of a label goes, by one write, where it is a wanted one. What it is, is kept, and the volume's first block is told,
+/// once a label was printed.
+#[derive(Drop)]
+pub(crate) struct LabelText<'a, W> {
+    out: W,
+    wanted: Wanted<'a>,
+    first: &'a Cell<Option<u32>>,
+    found: Found,
+}
+
+impl<'a, W: Write + Drop> LabelText<'a, W> {
     /// Where no text went so far.
-    pub(crate) fn new(out: W) -> Self {
+    pub(crate) fn new(out: W, wanted: Wanted<'a>, first: &'a Cell<Option<u32>>) -> Self {
         LabelText {
             out,
-            has_come: false,
-            is_label: false,
+            wanted,
+            first,
+            found: Found::Nothing,
         }
     }
 
-    /// Whether a text came.
-    pub(crate) fn has_come(&self) -> bool {
-        self.has_come
-    }
-
-    /// Whether the text is that of a label of `rdump`.
-    pub(crate) fn is_label(&self) -> bool {
-        self.is_label
+    /// What the text is.
+    pub(crate) fn into_found(self) -> Found {
+        self.found
     }
 }
 
-impl<W: Write> Write for LabelText<W> {
-    /// It takes all of the text.
+impl<'a, W: Write> Write for LabelText<'a, W> {
+    /// It takes all of the text. It fails where that is not wanted.
     fn write(&mut self, buf: &[u8]) -> io::Result<usize> {
-        self.has_come = true;
-        self.is_label = LabelLines::of(buf).is_some();
+        self.found = look(buf, self.wanted);
+        if !is_wanted(&self.found, self.wanted) {
+            return Err(ErrorKind::InvalidData.into());
+        }
         self.out.write_all(buf)?;
+        if let Found::Label(label) = &self.found {
+            self.first.set(Some(label.first()));
+        }
         Ok(buf.len())
     }
 
     fn flush(&mut self) -> io::Result<()> {
         self.out.flush()
     }
+}
+
+/// What a text is, where labels of one dump may be wanted.
+fn look(text: &[u8], wanted: Wanted<'_>) -> Found {
+    match (label_of(text), wanted) {
+        (None, _) => Found::Foreign,
+        (Some(label), Wanted::DumpOf(first)) if !are_of_one_dump(&label, first) => {
+            Found::OtherDump(label)
+        }
+        (Some(label), _) => Found::Label(label),
+    }
+}
+
+/// Whether what was found is wanted.
+fn is_wanted(found: &Found, wanted: Wanted<'_>) -> bool {
+    match (found, wanted) {
+        (Found::Label(_), _) | (Found::Foreign, Wanted::Any) => true,
+        _ => false,
+    }
+}
+
+/// The label that begins with a text, and has zero bytes after it.
+fn label_of(text: &[u8]) -> Option<VolumeLabel> {
+    let mut record = [0; LABEL_BYTES];
+    record.get_mut(..text.len())?.copy_from_slice(text);
+    VolumeLabel::read(&record)
+}
+
+/// Whether two labels are of one dump.
+fn are_of_one_dump(one: &VolumeLabel, other: &VolumeLabel) -> bool {
+    one.name() == other.name()
+        && one.level() == other.level()
+        && one.date() == other.date()
+        && one.since() == other.since()
 }

@@ -1,26 +1,30 @@
-//! What `rdump` does: reads its words, and dumps a payload, reads a volume back, does one operation at a drive, or asks a
-//! dumpdates file. Each answers the exit status; what is at fault is told on the way.
+//! What `rdump` does: reads its words, and dumps a payload, reads volumes back, lists reels, does one operation at a drive, or asks
+//! a dumpdates file. Each answers the exit status; what is at fault is told on the way.
 //!
 //! `rdump` is all of it, and `run_words` the same for words that are given. Each command is a call of its own: `run_dump`,
-//! `run_read`, `run_mt` and `run_dates`. `run_client` is a dump from its client on. What they use of the runtime is `System`.
+//! `run_read`, `run_mt`, `run_dates`, and `run_ls` of `rdump_list`. `run_client` is a dump from its client on. What they use of the
+//! runtime is `System`.
 #![tactic(auto)]
 
 mod asking;
+mod came;
 mod dates_command;
 mod dump_command;
 mod dumping;
 mod fault;
 mod going_on;
-mod label_lines;
 mod label_text;
 mod last_reply;
 mod mt_command;
 mod out_file;
 mod program;
 mod read_command;
+mod reel_peer;
+mod stack;
 mod system;
 mod told_peer;
-mod volume_label;
+mod volume;
+mod volume_blocks;
 
 pub use dates_command::run_dates;
 pub use dump_command::run_dump;

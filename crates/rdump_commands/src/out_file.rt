@@ -1,111 +1,144 @@
-//! The file that a volume is read back into.
+//! The file that volumes are read back into.
 use rdump_files::named_file;
+use rdump_words::ReadLine;
 use std::alloc::Global;
-use std::fs::{self, File, OpenOptions, TryLockError};
+use std::fs::{self, File, Metadata, OpenOptions, TryLockError};
 use std::io::{self, ErrorKind, Write};
-use std::os::unix::fs::MetadataExt;
+use std::os::unix::fs::{FileExt, MetadataExt};
 use std::path::PathBuf;
 use std::rt::Files;
 
 /// So often the file is opened at most, where others remove it each time before it is locked.
 const MOST_TRIES: u32 = 100;
 
-/// How many blocks came, and of how many bytes.
-#[derive(Clone, Copy)]
-pub(crate) struct BlockSizes {
-    /// How many they are.
-    pub count: u64,
-    /// The bytes of the shortest.
-    pub shortest: usize,
-    /// The bytes of the longest.
-    pub longest: usize,
-    /// The bytes of all.
-    pub total: u64,
+/// Why a block was not written.
+#[derive(Drop)]
+pub(crate) enum BlockFault {
+    /// The file could not be emptied or written.
+    Failed(io::Error),
+    /// The volume has no label, which would say where its blocks go.
+    NoPlace,
+    /// It has so many bytes, and the blocks before it have others.
+    OtherLength { bytes: usize, before: usize },
 }
 
-impl BlockSizes {
-    /// Counts a block of so many bytes.
-    fn add(&mut self, bytes: usize) {
-        self.shortest = if self.count == 0 {
-            bytes
-        } else {
-            self.shortest.min(bytes)
-        };
-        self.longest = self.longest.max(bytes);
-        self.count = self.count.saturating_add(1);
-        self.total = self.total.saturating_add(bytes as u64);
-    }
-}
-
-/// The file that the blocks of a volume are written to, each by one write. It holds what it held until the volume begins, with the
-/// label or a block. One that is plain is locked, so that no other run writes it or removes it meanwhile.
+/// The file that the blocks of volumes are written to. One that is plain is locked, so that no other run writes it or removes it
+/// meanwhile.
+///
+/// Either it is for one volume, whose blocks follow one another: then it holds what it held until the volume begins, with the label or
+/// a block. Or each block has its place, and the file is never emptied.
 #[derive(Drop)]
 pub(crate) struct OutFile {
     file: File,
     made: Option<PathBuf>,
     is_plain: bool,
+    has_places: bool,
     has_begun: bool,
-    sizes: BlockSizes,
-    failure: Option<io::Error>,
+    block: Option<usize>,
+    fault: Option<BlockFault>,
 }
 
 impl OutFile {
-    /// Opens the file at this path, and makes it where it is not there. It holds what it held.
+    /// Opens the file of this line, and makes it where it is not there. It holds what it held.
     ///
-    /// Answers the system's error, `OutOfMemory`, or `WouldBlock` where another run has it.
+    /// Answers the system's error, `OutOfMemory`, `WouldBlock` where another run has it, or `InvalidInput` where it has to have places
+    /// or a length, and is no plain file.
     pub(crate) fn open<R: Files<File = File>>(
         rt: &R,
         alloc: Global,
-        path: &str,
+        line: &ReadLine<'_>,
     ) -> io::Result<OutFile> {
+        let must_be_plain = line.place || line.length.is_some();
         for _ in 0..MOST_TRIES {
-            let Some((file, made)) = open_or_make(rt, alloc, path)? else {
+            if must_be_plain {
+                check_plain(fs::metadata(rt, line.out))?;
+            }
+            let Some((file, made)) = open_or_make(rt, alloc, line.out)? else {
                 continue;
             };
             let is_plain = file.metadata()?.is_file();
-            if !is_plain || lock(rt, path, &file)? {
-                return Ok(OutFile::of(file, made, is_plain));
+            if must_be_plain && !is_plain {
+                return Err(no_plain_file());
+            }
+            if !is_plain || lock(rt, line.out, &file)? {
+                return Ok(OutFile::of(file, made, is_plain, line.place));
             }
         }
         Err(taken())
     }
 
-    fn of(file: File, made: Option<PathBuf>, is_plain: bool) -> OutFile {
+    fn of(file: File, made: Option<PathBuf>, is_plain: bool, has_places: bool) -> OutFile {
         OutFile {
             file,
             made,
             is_plain,
+            has_places,
             has_begun: false,
-            sizes: BlockSizes {
-                count: 0,
-                shortest: 0,
-                longest: 0,
-                total: 0,
-            },
-            failure: None,
+            block: None,
+            fault: None,
         }
     }
 
-    /// How many blocks were written, and of how many bytes.
-    pub(crate) fn sizes(&self) -> BlockSizes {
-        self.sizes
+    /// Whether each block has its place in it.
+    pub(crate) fn has_places(&self) -> bool {
+        self.has_places
     }
 
-    /// Why it could not be written or emptied, if it could not.
-    pub(crate) fn failure(&self) -> Option<&io::Error> {
-        self.failure.as_ref()
+    /// Why the last block that was not written was not, or that the file could not be emptied.
+    pub(crate) fn fault(&self) -> Option<&BlockFault> {
+        self.fault.as_ref()
     }
 
-    /// Whether the volume has begun.
+    /// Keeps why a block was not written.
+    pub(crate) fn fail(&mut self, fault: BlockFault) {
+        self.fault = Some(fault);
+    }
+
+    /// Whether a volume has begun.
     pub(crate) fn has_begun(&self) -> bool {
         self.has_begun
     }
 
-    /// The volume begins: the file is empty then. One that is not plain holds nothing.
+    /// A volume begins: the file is empty then, if it is for one volume. One that is not plain holds nothing.
     pub(crate) fn begin(&mut self) {
         if let Err(error) = self.empty() {
-            self.failure = Some(error);
+            self.fault = Some(BlockFault::Failed(error));
         }
+    }
+
+    /// Writes the next block.
+    pub(crate) fn append(&mut self, block: &[u8]) -> Result<(), BlockFault> {
+        self.empty().map_err(BlockFault::Failed)?;
+        self.file.write_all(block).map_err(BlockFault::Failed)
+    }
+
+    /// Writes the block of this number, counted from 0, at its place. All blocks have the length of the first one.
+    pub(crate) fn put(&mut self, block: &[u8], number: u64) -> Result<(), BlockFault> {
+        let bytes = block.len();
+        let before = self.block.unwrap_or(bytes);
+        if bytes != before {
+            return Err(BlockFault::OtherLength { bytes, before });
+        }
+        self.block = Some(bytes);
+        self.has_begun = true;
+        let written = match number.checked_mul(bytes as u64) {
+            Some(at) => self.file.write_all_at(block, at),
+            None => Err(ErrorKind::FileTooLarge.into()),
+        };
+        written.map_err(BlockFault::Failed)
+    }
+
+    /// Cuts the file to so many bytes, where it has more.
+    pub(crate) fn cut(&mut self, length: u64) -> io::Result<()> {
+        if self.len()? > length {
+            self.file.set_len(length)?;
+        }
+        Ok(())
+    }
+
+    /// How many bytes the file has.
+    pub(crate) fn len(&self) -> io::Result<u64> {
+        Ok(self.file.metadata()?.len())
     }
 
     /// Removes the file, if this run made it, no volume has begun, and it is still where it was made.
@@ -120,37 +153,25 @@ impl OutFile {
     }
 
     fn empty(&mut self) -> io::Result<()> {
-        if self.is_plain && !self.has_begun {
+        if self.is_plain && !self.has_places && !self.has_begun {
             self.file.set_len(0)?;
         }
         self.has_begun = true;
         Ok(())
     }
+}
 
-    fn put(&mut self, block: &[u8]) -> io::Result<()> {
-        self.empty()?;
-        self.file.write_all(block)
+/// Nothing where this is what is known of a plain file, or none is there.
+fn check_plain(found: io::Result<Metadata>) -> io::Result<()> {
+    match found {
+        Ok(found) if !found.is_file() => Err(no_plain_file()),
+        _ => Ok(()),
     }
 }
 
-impl Write for OutFile {
-    /// It takes all of a block.
-    fn write(&mut self, buf: &[u8]) -> io::Result<usize> {
-        match self.put(buf) {
-            Ok(()) => {
-                self.sizes.add(buf.len());
-                Ok(buf.len())
-            }
-            Err(error) => {
-                self.failure = Some(error);
-                Err(io::Error::from(ErrorKind::Other))
-            }
-        }
-    }
-
-    fn flush(&mut self) -> io::Result<()> {
-        self.file.flush()
-    }
+/// The error where a file has to be plain.
+fn no_plain_file() -> io::Error {
+    io::Error::new(ErrorKind::InvalidInput, "it is no plain file")
 }
 
 /// A file that was opened, and where this run made it, if it did.

@@ -5,6 +5,7 @@ use crate::fault::{FAILED, tell, tell_no_memory, unwritten};
 use crate::{System, run_dates, run_dump, run_mt, run_read};
 use clap::error::ErrorKind;
 use file_medium::take_places;
+use rdump_list::run_ls;
 use rdump_words::{RdumpLine, rdump_words};
 use std::convert::AsStr;
 use std::env;
@@ -49,6 +50,7 @@ pub fn run_words<R: System, S: AsStr, T: Write + Copy + Drop>(
     match rdump_words(rt.alloc(), words) {
         Ok(RdumpLine::Dump(line)) => run_dump(rt, &line, terminal),
         Ok(RdumpLine::Read(line)) => run_read(rt, line),
+        Ok(RdumpLine::List(line)) => run_ls(rt, line),
         Ok(RdumpLine::Mt(line)) => run_mt(rt, line),
         Ok(RdumpLine::Dates { file, asked }) => run_dates(rt, file, asked),
         Err(error) => refuse(rt, error),

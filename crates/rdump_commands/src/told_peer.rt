@@ -3,8 +3,11 @@ ghost use Rattle.std.specs.Prelude.{◌≤◌, length};
 
 use crate::System;
 use crate::last_reply::LastReply;
-use crate::volume_label::VolumeLabel;
 use dump_client::AttemptFault;
+use dump_run::VolumeLabel;
+use jiff::Timestamp;
+use jiff::civil::Date;
+use jiff::tz::TimeZone;
 use rdump_files::CLEAR;
 use rdump_talk::{Peer, SocketPeer};
 use rdump_words::DumpLine;
@@ -47,7 +50,7 @@ impl<'a, R: System, T: Write> ToldPeer<'a, R, T> {
         let (Some(terminal), Some(record)) = (&mut self.terminal, self.reply.record()) else {
             return;
         };
-        if let Some(label) = VolumeLabel::of(record) {
+        if let Some(label) = VolumeLabel::read(record) {
             clear(terminal);
             tell_reel(self.rt, &label);
         }
@@ -130,10 +133,15 @@ fn tell_counted<R: Eprint>(rt: &R, address: &str, device: &str, volume: u32) {
 }
 
 /// Tells which volume a reel has.
-fn tell_reel<R: Eprint>(rt: &R, label: &VolumeLabel<'_>) {
-    if let Some(day) = label.day() {
-        let (name, level) = (label.dump.name, label.dump.level);
-        let volume = label.volume;
+fn tell_reel<R: Eprint>(rt: &R, label: &VolumeLabel) {
+    if let Some(day) = day_of(label.date()) {
+        let (name, level, volume) = (label.name(), label.level(), label.volume());
         let _ = eprintln!(rt; "this reel has: {name} level {level} {day}, volume {volume}");
     }
+}
+
+/// The day of a date in seconds since 1970, in UTC.
+fn day_of(date: u64) -> Option<Date> {
+    let moment = Timestamp::from_second(i64::try_from(date).ok()?).ok()?;
+    Some(moment.to_zoned(TimeZone::UTC).date())
 }

@@ -13,11 +13,16 @@ pub use rdump_files::{
     dump_and_update, dumper, dumper_of, enter_dump, named_file, read_or_empty, read_steady, run_of,
     seconds_now, update,
 };
+pub use rdump_list::{ListSystem, is_whole, push_words, run_ls};
 pub use rdump_talk::{
-    Conclusion, Keeper, Passed, Peer, ReadFault, SocketPeer, VolumeRequest, copy_volume, dump,
-    dump_kept, failure_line, mt, read_volume,
+    AfterVolume, CallFault, Conclusion, Keeper, KeptReply, Passed, Peer, PeerCaller, ReadFault,
+    SocketPeer, VolumeRequest, copy_volume, dump, dump_kept, failure_line, mt, read_volume,
 };
-pub use rdump_words::{DumpLine, MtLine, RdumpLine, ReadLine, rdump_words};
+pub use rdump_words::{DumpLine, ListLine, ListedReels, MtLine, RdumpLine, ReadLine, rdump_words};
+pub use reel_check::{
+    Holding, ReelContents, ReelTally, Volume, VolumeEnd, check_reel, dumped_volume, one_holding,
+    one_volume,
+};
 pub use reel_files::{FileMedium, FolderDrive, FolderFault, FolderStacks};
 pub use rmtd_serve::{
     Begun, Connections, Incoming, MemoryServer, Site, TapeServer, begin, exit_status,

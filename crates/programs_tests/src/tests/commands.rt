@@ -85,6 +85,9 @@ fn a_volume_of_no_server(rt: HostRuntime) {
         to: NOWHERE,
         device: "d",
         out: "volume",
+        place: false,
+        all: false,
+        length: None,
     };
     assert!(rt; run_read(&rt, line) == 3);
     assert!(rt; fs::remove_file(&rt, "volume").is_err());
@@ -97,6 +100,9 @@ fn a_volume_of_no_server_by_a_link(rt: HostRuntime) -> Result<(), Fail> {
         to: NOWHERE,
         device: "d",
         out: "led",
+        place: false,
+        all: false,
+        length: None,
     };
     symlink(&rt, "far", "led")?;
     let status = run_read(&rt, line);

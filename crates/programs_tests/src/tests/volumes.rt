@@ -3,7 +3,7 @@
 use super::check_row;
 use super::fake::{FakePeer, Replies};
 use super::fixture::DEVICE;
-use rdump_talk::{ReadFault, VolumeRequest, copy_volume, read_volume};
+use rdump_talk::{AfterVolume, ReadFault, VolumeRequest, copy_volume, read_volume};
 use rmt_wire::Counted;
 use std::alloc::Global;
 use std::io::Write;
@@ -27,7 +27,8 @@ fn is_read(alloc: Global, peer: &mut FakePeer) -> bool {
     let (mut file, mut text) = ([0; 5], [0; 3]);
     let mut out = Counted::new(file.as_mut_slice());
     let mut printed = Counted::new(text.as_mut_slice());
-    let status = read_volume(alloc, peer, DEVICE, &mut out, &mut printed);
+    let after = AfterVolume::Stay;
+    let status = read_volume(alloc, peer, DEVICE, after, &mut out, &mut printed);
     status == 0 && text == *b"one" && file == *b"abcde"
 }
 
@@ -37,7 +38,8 @@ fn is_read_whole(alloc: Global) -> bool {
     is_read(alloc, &mut peer) && peer.sent.as_slice() == ALL_SENT
 }
 
-/// What a peer replies on its one connection, and what comes of a copy of a volume then, where two bytes can be printed.
+/// What a peer replies on its one connection, and what comes of a copy of a volume then, where two bytes can be printed and two
+/// be written.
 type Row = (&'static [Replies], Result<(), ReadFault>);
 
 /// A label alone, and faults.
@@ -78,13 +80,106 @@ static COPIES: [Row; 7] = [
     ),
 ];
 
+/// The same of a reel that is to go, with what is sent.
+type OfflineRow = (&'static [Replies], &'static [u8], Result<(), ReadFault>);
+
+/// A label with a record, a mark alone, whose reel stays, what the reel's end is answered, and faults before it.
+static OFFLINES: [OfflineRow; 9] = [
+    (
+        &[&[
+            b"A0\n", b"A1\n", b"A1\na", b"A2\nbc", b"A0\n", b"A1\n", b"A0\n",
+        ]],
+        b"O/dev/st0\n0\nI5\n1\nR262144\nR262144\nR262144\nI6\n1\nC\n",
+        Ok(()),
+    ),
+    (
+        &[&[b"A0\n", b"A1\n", b"A0\n", b"A0\n"]],
+        b"O/dev/st0\n0\nI5\n1\nR262144\nC\n",
+        Ok(()),
+    ),
+    (
+        &[&[
+            b"A0\n",
+            b"A1\n",
+            b"A1\na",
+            b"A0\n",
+            b"E5\nInput/output error\n",
+        ]],
+        b"O/dev/st0\n0\nI5\n1\nR262144\nR262144\nI6\n1\n",
+        Err(ReadFault::Refused {
+            asked: VolumeRequest::Offline,
+            number: 5,
+        }),
+    ),
+    (
+        &[&[
+            b"A0\n",
+            b"A1\n",
+            b"A1\na",
+            b"A0\n",
+            b"A1\n",
+            b"E9\nBad file descriptor\n",
+        ]],
+        b"O/dev/st0\n0\nI5\n1\nR262144\nR262144\nI6\n1\nC\n",
+        Err(ReadFault::Refused {
+            asked: VolumeRequest::Close,
+            number: 9,
+        }),
+    ),
+    (
+        &[&[b"A0\n", b"A1\n", b"A1\na", b"A0\n"]],
+        b"O/dev/st0\n0\nI5\n1\nR262144\nR262144\nI6\n1\n",
+        Err(ReadFault::ConnectionEnded),
+    ),
+    (
+        &[&[b"A0\n", b"E5\nInput/output error\n"]],
+        b"O/dev/st0\n0\nI5\n1\n",
+        Err(ReadFault::Refused {
+            asked: VolumeRequest::Rewind,
+            number: 5,
+        }),
+    ),
+    (
+        &[&[b"A0\n", b"A1\n", b"A1\na", b"E5\nInput/output error\n"]],
+        b"O/dev/st0\n0\nI5\n1\nR262144\nR262144\n",
+        Err(ReadFault::Refused {
+            asked: VolumeRequest::Read,
+            number: 5,
+        }),
+    ),
+    (
+        &[&[b"A0\n", b"A1\n", b"A3\nabc", b"A0\n", b"A1\n", b"A0\n"]],
+        b"O/dev/st0\n0\nI5\n1\nR262144\n",
+        Err(ReadFault::OutputFailed),
+    ),
+    (
+        &[&[
+            b"A0\n", b"A1\n", b"A1\na", b"A3\nbcd", b"A0\n", b"A1\n", b"A0\n",
+        ]],
+        b"O/dev/st0\n0\nI5\n1\nR262144\nR262144\n",
+        Err(ReadFault::OutputFailed),
+    ),
+];
+
+/// What comes of a copy of a volume over this peer, where two bytes can be printed and two be written.
+fn copied(alloc: Global, peer: &mut FakePeer, after: AfterVolume) -> Result<(), ReadFault> {
+    let (mut file, mut text) = ([0; 2], [0; 2]);
+    let mut written = Counted::new(file.as_mut_slice());
+    let mut printed = Counted::new(text.as_mut_slice());
+    copy_volume(alloc, peer, DEVICE, after, &mut written, &mut printed)
+}
+
 /// Whether that comes of a copy of a volume.
 fn goes(alloc: Global, row: &Row) -> bool {
     let mut peer = FakePeer::new(alloc, row.0);
-    let mut file = Counted::new(Vec::new(alloc));
-    let mut room = [0; 2];
-    let mut out = Counted::new(room.as_mut_slice());
-    copy_volume(alloc, &mut peer, DEVICE, &mut file, &mut out) == row.1
+    copied(alloc, &mut peer, AfterVolume::Stay) == row.1
+}
+
+/// Whether that comes of a copy of a volume whose reel is to go.
+fn goes_offline(alloc: Global, row: &OfflineRow) -> bool {
+    let mut peer = FakePeer::new(alloc, row.0);
+    let result = copied(alloc, &mut peer, AfterVolume::Offline);
+    result == row.2 && peer.sent.as_slice() == row.1
 }
 
 #[test]
@@ -92,6 +187,13 @@ fn volumes(rt: HostRuntime) {
     assert!(rt; is_read_whole(rt.alloc()));
     for (at, row) in COPIES.iter().enumerate() {
         check_row(&rt, at, goes(rt.alloc(), row));
+    }
+}
+
+#[test]
+fn volumes_whose_reels_are_taken_away(rt: HostRuntime) {
+    for (at, row) in OFFLINES.iter().enumerate() {
+        check_row(&rt, at, goes_offline(rt.alloc(), row));
     }
 }
 

@@ -16,7 +16,7 @@ fn is_shown<T: Debug>(alloc: Global, value: &T, wanted: &str) -> bool {
 /// Words of `rdump`, and what is read of them, as text.
 type Row = (&'static [&'static str], &'static str);
 
-static ROWS: [Row; 5] = [
+static ROWS: [Row; 9] = [
     (
         &["rdump", "dates", "--file", "f"],
         "Ok(Dates { file: \"f\", asked: None })",
@@ -52,7 +52,47 @@ static ROWS: [Row; 5] = [
         &[
             "rdump", "read", "--to", "h:1", "--device", "d", "--out", "o",
         ],
-        "Ok(Read(ReadLine { to: \"h:1\", device: \"d\", out: \"o\" }))",
+        "Ok(Read(ReadLine { to: \"h:1\", device: \"d\", out: \"o\", place: false, all: false, length: None }))",
+    ),
+    (
+        &[
+            "rdump",
+            "read",
+            "--to=h:1",
+            "--device=d",
+            "--out=o",
+            "--place",
+            "--length=9223372036854775807",
+        ],
+        "Ok(Read(ReadLine { to: \"h:1\", device: \"d\", out: \"o\", place: true, all: false, length: Some(9223372036854775807) }))",
+    ),
+    (
+        &[
+            "rdump",
+            "read",
+            "--to=h:1",
+            "--device=d",
+            "--out=o",
+            "--all",
+            "--length=0",
+        ],
+        "Ok(Read(ReadLine { to: \"h:1\", device: \"d\", out: \"o\", place: true, all: true, length: Some(0) }))",
+    ),
+    (
+        &[
+            "rdump",
+            "ls",
+            "b",
+            "--dumpdates=f",
+            "--blocks",
+            "2147483647",
+            "a",
+        ],
+        "Ok(List(ListLine { reels: Paths([\"b\", \"a\"]), dumpdates: Some(\"f\"), blocks: Some(2147483647) }))",
+    ),
+    (
+        &["rdump", "ls", "--device", "d", "--to", "h:1"],
+        "Ok(List(ListLine { reels: Drive { to: \"h:1\", device: \"d\" }, dumpdates: None, blocks: None }))",
     ),
     (
         &[
@@ -72,6 +112,67 @@ fn words_of_the_client(rt: HostRuntime) {
     for (words, wanted) in &ROWS {
         let read = rdump_words(rt.alloc(), words);
         assert!(rt; is_shown(rt.alloc(), &read, wanted));
+    }
+}
+
+/// Words that are refused, and the sentence that tells why.
+static REFUSED: [Row; 8] = [
+    (
+        &["rdump", "ls"],
+        "error: a FILE or a FOLDER is required, or --to and --device",
+    ),
+    (
+        &["rdump", "ls", "a", "--to=h:1", "--device=d"],
+        "error: a FILE or a FOLDER is given, or --to and --device, and not both",
+    ),
+    (
+        &["rdump", "ls", "--to=h", "--device=d"],
+        "error: invalid value for '--to <ADDRESS>': an address is a host and a port, as in localhost:4711 or [::1]:4711",
+    ),
+    (
+        &["rdump", "ls", "--to=h:1", "--device="],
+        "error: invalid value for '--device <DEVICE>': a device is 1 to 255 bytes of one line",
+    ),
+    (
+        &["rdump", "ls", "a", "--dumpdates=f", "--blocks=2147483648"],
+        "error: invalid value for '--blocks <N>': a dump has 0 to 2147483647 blocks, in digits",
+    ),
+    (
+        &["rdump", "ls", "a", "--blocks=5"],
+        "error: the following required arguments were not provided:",
+    ),
+    (
+        &["rdump", "ls", "--to=h:1"],
+        "error: the following required arguments were not provided:",
+    ),
+    (
+        &[
+            "rdump",
+            "read",
+            "--to=h:1",
+            "--device=d",
+            "--out=o",
+            "--length=9223372036854775808",
+        ],
+        "error: invalid value for '--length <BYTES>': a length is 0 to 9223372036854775807, in digits",
+    ),
+];
+
+/// Whether words are refused, and this is told first.
+fn is_told(alloc: Global, words: &'static [&'static str], wanted: &str) -> bool {
+    let Err(error) = rdump_words(alloc, words) else {
+        return false;
+    };
+    match format!(in alloc; "{error}") {
+        Ok(text) => text.as_str().lines().next() == Some(wanted),
+        Err(_) => false,
+    }
+}
+
+#[test]
+fn words_that_break_a_rule(rt: HostRuntime) {
+    for (words, wanted) in &REFUSED {
+        assert!(rt; is_told(rt.alloc(), words, wanted));
     }
 }
 

@@ -1,0 +1,127 @@
+//! The volumes of a stack, read back one after the other.
+ghost use Rattle.rdump_commands.specs.Status.{IsReadStatus};
+ghost use Rattle.rdump_words.specs.Rdump.{IsReadLine};
+
+use crate::System;
+use crate::came::{BlockRange, CameBlocks};
+use crate::fault::{ABNORMAL, tell_no_memory};
+use crate::out_file::OutFile;
+use crate::read_command::{WHOLE, cut_file};
+use crate::volume::{VolumeEnd, VolumeRead, read_volume};
+use dump_run::VolumeLabel;
+use rdump_words::ReadLine;
+
+/// Reads the volumes of a stack into a file, each to its place, as `rdump read --all` does, and answers the status.
+pub(crate) fn read_stack<R: System>(rt: &R, line: &ReadLine<'_>, file: &mut OutFile) -> u8
+    requires { IsReadLine line.now }
+    ensures { IsReadStatus result }
+{
+    let mut came = CameBlocks::new(rt.alloc());
+    let end = read_volumes(rt, line, file, &mut came);
+    let has_gap = tell_came(rt, came.sorted());
+    if end != VolumeEnd::NoReel {
+        return ABNORMAL;
+    }
+    let status = cut_file(rt, line, file);
+    let is_short = tell_short(rt, line, file);
+    if has_gap || is_short {
+        ABNORMAL
+    } else {
+        status
+    }
+}
+
+/// Tells where the file has fewer bytes than the line asks for: the last volumes did not come. Answers whether it has.
+fn tell_short<R: System>(rt: &R, line: &ReadLine<'_>, file: &OutFile) -> bool {
+    match (line.length, file.len()) {
+        (Some(length), Ok(bytes)) if bytes < length => {
+            let out = line.out;
+            let _ = eprintln!(rt; "rdump: {out}: {bytes} bytes, fewer than {length}");
+            true
+        }
+        _ => false,
+    }
+}
+
+/// Reads volume after volume, up to the end of the stack, or to one that is not read whole. Answers which.
+fn read_volumes<R: System>(
+    rt: &R,
+    line: &ReadLine<'_>,
+    file: &mut OutFile,
+    came: &mut CameBlocks,
+) -> VolumeEnd
+    requires { IsReadLine line.now }
+{
+    let mut dump = None;
+    for _ in 0..u64::MAX {
+        let read = read_volume(rt, line, dump.as_ref(), &mut *file);
+        if !count(rt, &read, came) {
+            return VolumeEnd::Failed;
+        }
+        if read.end != VolumeEnd::Whole {
+            return read.end;
+        }
+        dump = first_of(dump, read.label);
+    }
+    VolumeEnd::Failed
+}
+
+/// The label of the first volume, where this one is the label of the next.
+fn first_of(dump: Option<VolumeLabel>, label: Option<VolumeLabel>) -> Option<VolumeLabel> {
+    match dump {
+        Some(first) => Some(first),
+        None => label,
+    }
+}
+
+/// Counts the blocks that came of a volume. It fails only where memory is refused, which is told.
+fn count<R: System>(rt: &R, read: &VolumeRead, came: &mut CameBlocks) -> bool {
+    let Some(label) = &read.label else {
+        return true;
+    };
+    if came.add(label.first(), read.count).is_err() {
+        tell_no_memory(rt);
+        return false;
+    }
+    true
+}
+
+/// Tells of the blocks that came, which are in order, where they do not begin with the dump's first one, and which are missing between
+/// them. Answers whether any are.
+fn tell_came<R: System>(rt: &R, came: &[BlockRange]) -> bool {
+    if let Some(range) = came.first() {
+        tell_first(rt, range.first);
+    }
+    tell_gaps(rt, came)
+}
+
+/// Tells which block is the first one that came, where that is not the dump's first one: another run may have read those before it.
+fn tell_first<R: System>(rt: &R, first: u64) {
+    if first > 0 {
+        let _ = eprintln!(rt; "block {first} is the first one that came");
+    }
+}
+
+/// Tells which blocks are missing between those that came, which are in order. Answers whether any are.
+fn tell_gaps<R: System>(rt: &R, came: &[BlockRange]) -> bool {
+    let mut end = None;
+    let mut has_gap = false;
+    for range in came {
+        let before = end.unwrap_or(range.first);
+        if range.first > before {
+            tell_gap(rt, before, range.first - 1);
+            has_gap = true;
+        }
+        end = Some(before.max(range.end));
+    }
+    has_gap
+}
+
+/// Tells that the blocks from one to another are missing.
+fn tell_gap<R: System>(rt: &R, first: u64, last: u64) {
+    let _ = if first == last {
+        eprintln!(rt; "block {first} is missing")
+    } else {
+        eprintln!(rt; "blocks {first} to {last} are missing")
+    };
+}

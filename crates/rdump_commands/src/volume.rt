@@ -1,0 +1,261 @@
+//! One volume that is read back, over a connection of its own.
+ghost use Rattle.std.specs.Prelude.{◌≡◌};
+ghost use Rattle.rdump_words.specs.Rdump.{IsReadLine};
+
+use crate::System;
+use crate::fault::{ABNORMAL, tell_failed, unwritten};
+use crate::label_text::{Found, LabelText, Wanted};
+use crate::out_file::{BlockFault, OutFile};
+use crate::reel_peer::{ReelPeer, ReelState};
+use crate::volume_blocks::{BlockSizes, VolumeBlocks};
+use dump_run::VolumeLabel;
+use rdump_talk::{AfterVolume, ReadFault, VolumeRequest, copy_volume};
+use rdump_words::ReadLine;
+use rmt_wire::Counted;
+use rmt_wire::errno::ENXIO;
+use std::cell::Cell;
+use std::io;
+
+/// How the reading of a volume ended.
+#[derive(Clone, Copy, PartialEq, Eq)]
+pub(crate) enum VolumeEnd {
+    /// It was read whole.
+    Whole,
+    /// The drive has no reel any more, after a volume was read.
+    NoReel,
+    /// It was not read whole.
+    Failed,
+}
+
+/// What was read of a volume.
+#[derive(Drop)]
+pub(crate) struct VolumeRead {
+    /// Its label, where that came and was wanted.
+    pub label: Option<VolumeLabel>,
+    /// How many blocks of it were written.
+    pub count: u64,
+    /// How it ended.
+    pub end: VolumeEnd,
+}
+
+/// What came over a connection.
+#[derive(Drop)]
+struct Came {
+    read: Result<(), ReadFault>,
+    found: Found,
+    sizes: BlockSizes,
+    reel: ReelState,
+}
+
+/// Reads the volume of the first reel of the stack into a file, prints its label, and tells of it. Where `dump` is there, it is the label
+/// of a volume that was read before, and volumes of another dump are refused.
+pub(crate) fn read_volume<R: System>(
+    rt: &R,
+    line: &ReadLine<'_>,
+    dump: Option<&VolumeLabel>,
+    file: &mut OutFile,
+) -> VolumeRead
+    requires { IsReadLine line.now }
+{
+    let first = Cell::new(None);
+    let mut peer = ReelPeer::new(rt, line.to, &first);
+    let mut blocks = Counted::new(VolumeBlocks::new(&mut *file, &first));
+    let mut out = Counted::new(LabelText::new(io::writer(rt), wanted_of(line, dump), &first));
+    let device = line.device.as_bytes();
+    let after = after_of(line);
+    let read = copy_volume(rt.alloc(), &mut peer, device, after, &mut blocks, &mut out);
+    let came = Came {
+        read,
+        found: out.into_inner().into_found(),
+        sizes: blocks.into_inner().sizes(),
+        reel: peer.reel(),
+    };
+    let end = if dump.is_some() && has_no_reel(read) {
+        VolumeEnd::NoReel
+    } else {
+        tell_volume(rt, line, &came, file, peer.failure())
+    };
+    VolumeRead {
+        count: came.sizes.count,
+        label: into_label(came.found),
+        end,
+    }
+}
+
+/// Which labels are wanted.
+fn wanted_of<'a>(line: &ReadLine<'_>, dump: Option<&'a VolumeLabel>) -> Wanted<'a> {
+    match dump {
+        Some(label) => Wanted::DumpOf(label),
+        None if line.place => Wanted::Label,
+        None => Wanted::Any,
+    }
+}
+
+/// What becomes of the reel.
+fn after_of(line: &ReadLine<'_>) -> AfterVolume {
+    if line.all {
+        AfterVolume::Offline
+    } else {
+        AfterVolume::Stay
+    }
+}
+
+/// Whether the drive has no reel.
+fn has_no_reel(read: Result<(), ReadFault>) -> bool {
+    match read {
+        Err(
+            ReadFault::Refused {
+                asked: VolumeRequest::Open,
+                number,
+            },
+        ) => number == ENXIO,
+        _ => false,
+    }
+}
+
+/// The label that was found.
+fn into_label(found: Found) -> Option<VolumeLabel> {
+    match found {
+        Found::Label(label) => Some(label),
+        _ => None,
+    }
+}
+
+/// Tells of what came, with the file, in which the volume begins where its label came, and answers how it ended. `failure` is why the
+/// connection failed, by the system.
+fn tell_volume<R: System>(
+    rt: &R,
+    line: &ReadLine<'_>,
+    came: &Came,
+    file: &mut OutFile,
+    failure: Option<&io::Error>,
+) -> VolumeEnd {
+    if has_come(line, &came.found) {
+        file.begin();
+    }
+    let has_begun = has_come(line, &came.found) || (!line.place && file.has_begun());
+    if has_begun {
+        tell_sizes(rt, came.sizes);
+    }
+    let is_foreign = is_foreign(came, has_begun);
+    if is_foreign {
+        let _ = eprintln!(rt; "not a volume of rdump");
+    }
+    if let Found::OtherDump(label) = &came.found {
+        return tell_other(rt, line.to, label);
+    }
+    if is_foreign && line.place {
+        return VolumeEnd::Failed;
+    }
+    let end = end_of(rt, line, came.read, file.fault(), failure);
+    if line.all {
+        tell_reel(rt, came);
+    }
+    end
+}
+
+/// Whether a text came that was printed, or was to be.
+fn has_come(line: &ReadLine<'_>, found: &Found) -> bool {
+    match found {
+        Found::Nothing | Found::OtherDump(_) => false,
+        Found::Foreign => !line.place,
+        Found::Label(_) => true,
+    }
+}
+
+/// Whether a reel was read as far as its first record, which is no label of `rdump`.
+fn is_foreign(came: &Came, has_begun: bool) -> bool {
+    match (&came.found, came.read) {
+        (Found::Label(_) | Found::OtherDump(_), _) => false,
+        (Found::Foreign, _) | (_, Ok(()) | Err(ReadFault::OutputFailed)) => true,
+        _ => has_begun || came.reel == ReelState::Kept,
+    }
+}
+
+/// Tells how many blocks were read.
+fn tell_sizes<R: System>(rt: &R, sizes: BlockSizes) {
+    let BlockSizes {
+        count,
+        shortest,
+        longest,
+        total,
+    } = sizes;
+    let _ = match count {
+        0 => eprintln!(rt; "0 blocks"),
+        1 => eprintln!(rt; "1 block of {total} bytes"),
+        _ if shortest == longest => eprintln!(rt; "{count} blocks of {longest} bytes"),
+        _ => eprintln!(rt; "{count} blocks of {shortest} to {longest} bytes, {total} bytes in all"),
+    };
+}
+
+/// Tells whose volume a reel has, which is of another dump than the ones before.
+fn tell_other<R: System>(rt: &R, to: &str, label: &VolumeLabel) -> VolumeEnd {
+    let (name, level, volume) = (label.name(), label.level(), label.volume());
+    let _ = eprintln!(rt;
+        "rdump: {to}: the reel has volume {volume} of {name} level {level}, another dump"
+    );
+    VolumeEnd::Failed
+}
+
+/// Tells why a volume was not read whole, if it was not, and answers how it ended.
+fn end_of<R: System>(
+    rt: &R,
+    line: &ReadLine<'_>,
+    read: Result<(), ReadFault>,
+    fault: Option<&BlockFault>,
+    failure: Option<&io::Error>,
+) -> VolumeEnd {
+    match (read, fault) {
+        (Ok(()), None) => return VolumeEnd::Whole,
+        (_, Some(fault)) => tell_unwritten(rt, line, fault),
+        (Err(fault), None) => tell_read(rt, line.to, fault, failure),
+    }
+    VolumeEnd::Failed
+}
+
+/// Tells why a block was not written.
+fn tell_unwritten<R: System>(rt: &R, line: &ReadLine<'_>, fault: &BlockFault) {
+    match fault {
+        BlockFault::Failed(error) => {
+            tell_failed(rt, line.out, error, ABNORMAL);
+        }
+        BlockFault::OtherLength { bytes, before } => {
+            let to = line.to;
+            let _ = eprintln!(rt; "rdump: {to}: a block of {bytes} bytes after one of {before}");
+        }
+        BlockFault::NoPlace => {}
+    }
+}
+
+/// Tells why a volume of this server was not read whole, by the system's reason where there is one.
+fn tell_read<R: System>(rt: &R, to: &str, fault: ReadFault, failure: Option<&io::Error>) {
+    match (fault, failure) {
+        (ReadFault::OutputFailed, _) => {
+            unwritten(rt, ABNORMAL);
+        }
+        (ReadFault::ConnectionEnded, Some(error)) => {
+            tell_failed(rt, to, error, ABNORMAL);
+        }
+        _ => {
+            let _ = eprintln!(rt; "rdump: {to}: {fault}");
+        }
+    }
+}
+
+/// Tells where the reel is, once the server was asked to take it away.
+fn tell_reel<R: System>(rt: &R, came: &Came) {
+    if came.reel != ReelState::Asked {
+        return;
+    }
+    let _ = match came.read {
+        Ok(()) => eprintln!(rt; "the reel is in the bin"),
+        Err(
+            ReadFault::Refused {
+                asked: VolumeRequest::Offline,
+                ..
+            },
+        ) => Ok(()),
+        Err(ReadFault::Refused { .. }) => eprintln!(rt; "the reel is in the bin"),
+        Err(_) => eprintln!(rt; "the reel may be in the bin"),
+    };
+}

@@ -1,0 +1,95 @@
+//! The blocks of a volume that is read back.
+use crate::out_file::{BlockFault, OutFile};
+use std::cell::Cell;
+use std::io::{self, ErrorKind, Write};
+
+/// How many blocks came, and of how many bytes.
+#[derive(Clone, Copy)]
+pub(crate) struct BlockSizes {
+    /// How many they are.
+    pub count: u64,
+    /// The bytes of the shortest.
+    pub shortest: usize,
+    /// The bytes of the longest.
+    pub longest: usize,
+    /// The bytes of all.
+    pub total: u64,
+}
+
+impl BlockSizes {
+    /// Those of no block.
+    const NONE: BlockSizes = BlockSizes {
+        count: 0,
+        shortest: 0,
+        longest: 0,
+        total: 0,
+    };
+
+    /// Counts a block of so many bytes.
+    fn add(&mut self, bytes: usize) {
+        self.shortest = if self.count == 0 {
+            bytes
+        } else {
+            self.shortest.min(bytes)
+        };
+        self.longest = self.longest.max(bytes);
+        self.count = self.count.saturating_add(1);
+        self.total = self.total.saturating_add(bytes as u64);
+    }
+}
+
+/// Where the blocks of a volume go, each by one write: to a file, in which each has a place of its own or comes after the one before.
+/// `first` is the volume's first block, once that is known.
+#[derive(Drop)]
+pub(crate) struct VolumeBlocks<'a> {
+    file: &'a mut OutFile,
+    first: &'a Cell<Option<u32>>,
+    sizes: BlockSizes,
+}
+
+impl<'a> VolumeBlocks<'a> {
+    /// Where no block went so far.
+    pub(crate) fn new(file: &'a mut OutFile, first: &'a Cell<Option<u32>>) -> Self {
+        VolumeBlocks {
+            file,
+            first,
+            sizes: BlockSizes::NONE,
+        }
+    }
+
+    /// How many blocks were written, and of how many bytes.
+    pub(crate) fn sizes(&self) -> BlockSizes {
+        self.sizes
+    }
+
+    fn put(&mut self, block: &[u8]) -> Result<(), BlockFault> {
+        if !self.file.has_places() {
+            return self.file.append(block);
+        }
+        let Some(first) = self.first.get() else {
+            return Err(BlockFault::NoPlace);
+        };
+        self.file
+            .put(block, u64::from(first).saturating_add(self.sizes.count))
+    }
+}
+
+impl<'a> Write for VolumeBlocks<'a> {
+    /// It takes all of a block.
+    fn write(&mut self, buf: &[u8]) -> io::Result<usize> {
+        match self.put(buf) {
+            Ok(()) => {
+                self.sizes.add(buf.len());
+                Ok(buf.len())
+            }
+            Err(fault) => {
+                self.file.fail(fault);
+                Err(io::Error::from(ErrorKind::Other))
+            }
+        }
+    }
+
+    fn flush(&mut self) -> io::Result<()> {
+        Ok(())
+    }
+}
