@@ -537,10 +537,20 @@ class KeptRun(NamedTuple):
         texts = [THREE_BLOCKS.checkpoint(it) for it in range(3)]
         had = 0 if self.got.left.kept is None else texts.index(self.got.left.kept)
         reels, then = THREE_BLOCKS.reels(), self.again.left
-        right = (self.again.status, self.again.output) == (DONE, THREE_BLOCKS.printed(had))
+        right = (self.again.status, without_busy(self.again.output)) == (DONE, THREE_BLOCKS.printed(had))
         # A volume that the file had is on one reel. Of another one the server may have moved a reel once the client was gone.
         once = all([*then.bin.values()].count(it) == 1 for it in reels[:had])
         return right and {*then.bin.values()} == {*reels} and once and then[1:] == (NEW_DATES, ["dates"], None)
+
+
+# The server may not have seen yet that the first client is gone, and the drive is that one's until then: an attempt fails then, and the operator
+# says yes. From the second failure in a row on the client waits a second before it asks.
+YES_TO_BUSY = b"yes\n" * 20
+
+
+def without_busy(output: bytes) -> bytes:
+    """What was printed, but for attempts that failed since another session had the drive."""
+    return re.sub(rb"^volume \d+ failed: Refused 16\nretry\?\n", b"", output, flags=re.M)
 
 
 def kept_run(p: Programs, rules: str, path: str = "") -> KeptRun:
@@ -549,7 +559,7 @@ def kept_run(p: Programs, rules: str, path: str = "") -> KeptRun:
         first = KeptRun(p.run((*words, *DATED), rules, b"", path)._replace(left=left(folder)), None)
         if first.got.left.kept is None and first.got.status in (DONE, ABNORMAL) or first.is_complete():
             return first
-        return first._replace(again=p.run((*words, *DATED), None)._replace(left=left(folder)))
+        return first._replace(again=p.run((*words, *DATED), None, YES_TO_BUSY)._replace(left=left(folder)))
 
 
 def is_kept_right(it: KeptRun, call: str) -> bool:

@@ -35,6 +35,8 @@ CHECKS = {
     "checkpoint.py": ("rdump",),
     "updates.py": ("rdump",),
     "relay.py": ("rmtd", "rdump"),
+    "restore.py": ("rmtd", "rdump"),
+    "ls.py": ("rmtd", "rdump"),
     "stops.py": ("rmtd",),
     "replies.py": ("rdump",),
     "clients.py": ("rmtd",),

@@ -1,0 +1,526 @@
+#!/usr/bin/env python3
+"""Restores a dump by the built `rdump read --place` and `--all` from the built `rmtd`: its volumes in each order, and with faults.
+
+    restore.py [RMTD [RDUMP]]
+
+What the file has to hold follows from the payload. The reels of the stack and of the bin are compared to the byte after each run. A tape
+server of dump.py takes the place of `rmtd` where what is sent is looked at, or a reply is to be another one.
+"""
+
+from __future__ import annotations
+
+import argparse
+import os
+import random
+import resource
+import signal
+import socket
+import subprocess
+import sys
+import tempfile
+import threading
+import time
+from contextlib import contextmanager, suppress
+from itertools import permutations
+from pathlib import Path
+from typing import Iterator, NamedTuple
+
+from checks import check, ended
+from dump import ABNORMAL, CRATES, DAY, DEVICE, DONE, FAILED, GUARD_SECONDS, Ended, Model, Programs, Reel
+from model_rmtd import Entry, images
+from sites import folders, held
+
+BLOCK = 1024
+# What was dumped: its last block is not full.
+PAYLOAD = random.Random(14).randbytes(6 * BLOCK - 300)
+PADDED = PAYLOAD + bytes(300)
+# The first block of each volume, and the one after its last.
+VOLUMES = ((0, 2), (2, 5), (5, 6))
+FOREIGN = "not a volume of rdump\n"
+BINNED = "the reel is in the bin\n"
+NO_PLAIN_FILE = "rdump: {}: it is no plain file\n"
+SEED = 7
+
+
+class Dump(NamedTuple):
+    """What the labels of a dump have in common."""
+
+    name: str = "/usr"
+    level: int = 0
+    date: int = DAY
+    since: int = 0
+
+    def text(self, volume: int, first: int) -> str:
+        """The text of the label of a volume."""
+        return f"name {self.name}\nlevel {self.level}\ndate {self.date}\nsince {self.since}\nvolume {volume}\nfirst {first}\n"
+
+    def label(self, volume: int, first: int) -> bytes:
+        return self.text(volume, first).encode().ljust(1024, b"\0")
+
+
+USR = Dump()
+
+
+def blocks(first: int, end: int) -> list[bytes]:
+    """These blocks of the payload, of which the last one is filled up."""
+    return [PADDED[at * BLOCK : (at + 1) * BLOCK] for at in range(first, end)]
+
+
+def entries(volume: int, dump: Dump = USR) -> list[Entry]:
+    """The records of a volume, and its mark."""
+    first, end = VOLUMES[volume - 1]
+    return [dump.label(volume, first), *blocks(first, end), None]
+
+
+def reel(volume: int, dump: Dump = USR) -> bytes:
+    """The record file of a volume."""
+    return images(entries(volume, dump))
+
+
+def sizes(count: int, size: int = BLOCK) -> str:
+    """What is told of so many blocks of a size."""
+    return f"1 block of {size} bytes\n" if count == 1 else f"{count} blocks of {size} bytes\n" if count else "0 blocks\n"
+
+
+def counted(volume: int) -> str:
+    first, end = VOLUMES[volume - 1]
+    return sizes(end - first)
+
+
+def texts(*volumes: int) -> str:
+    """The labels' texts of these volumes, one after the other."""
+    return "".join(USR.text(it, VOLUMES[it - 1][0]) for it in volumes)
+
+
+def told(name: str, got: Ended, output: str, status: int, words: str) -> None:
+    """The output, the status and all that is told are these."""
+    check(name, got == Ended(output, words, status), got, (output, words, status))
+
+
+def holds(name: str, path: Path, data: bytes | None) -> None:
+    """A file holds this; None where it is not there."""
+    found = path.read_bytes() if path.exists() else None
+    check(f"{name}: the file", found == data, found and len(found), data and len(data))
+
+
+class Site(NamedTuple):
+    """A server over a stack and a bin, and the programs."""
+
+    p: Programs
+    folder: Path
+    address: str
+
+    def read(self, *more: str, out: str = "out", **streams: int) -> Ended:
+        return read(self.p, self.address, *more, out=out, **streams)
+
+    def reels(self, name: str, stack: dict[str, bytes], taken: dict[str, bytes]) -> None:
+        """The stack and the bin have these reels."""
+        found = held(self.folder)
+        check(f"{name}: the reels", found == (stack, taken), [{it: len(data) for it, data in place.items()} for place in found])
+
+
+def read(p: Programs, address: str, *more: str, out: str = "out", **streams: int) -> Ended:
+    return p.run("read", "--to", address, "--device", DEVICE, "--out", out, *more, **streams)
+
+
+def named(*reels: bytes) -> dict[str, bytes]:
+    """Reels by their names, in the order of a stack."""
+    return {f"r{number:03d}": data for number, data in enumerate(reels)}
+
+
+@contextmanager
+def stacked(p: Programs, *reels: bytes) -> Iterator[Site]:
+    """A server with a stack of these reels."""
+    with folders(**named(*reels)) as folder:
+        words = ("--capacity", "1048576", "--bin", str(folder / "bin"), f"{DEVICE}={folder / 'st0'}")
+        with p.listening(*words) as (address, _):
+            yield Site(p, folder, address)
+
+
+# What is read whole.
+
+
+def placed(p: Programs) -> None:
+    """Each volume by itself, in each order: into no file, and into one that holds something, which is never emptied."""
+    out = p.folder / "out"
+    for before in (None, b"", b"o" * 100, b"o" * 10_000):
+        for order in permutations((1, 2, 3)):
+            name = f"volumes {order} over {before and len(before)} bytes"
+            want = bytearray(before or b"")
+            out.unlink(missing_ok=True)
+            if before is not None:
+                out.write_bytes(before)
+            for volume in order:
+                first, end = VOLUMES[volume - 1]
+                with stacked(p, reel(volume)) as site:
+                    told(f"{name}: {volume}", site.read("--place"), texts(volume), DONE, counted(volume))
+                    site.reels(f"{name}: {volume}", named(reel(volume)), {})
+                want.extend(bytes(max(0, end * BLOCK - len(want))))
+                want[first * BLOCK : end * BLOCK] = PADDED[first * BLOCK : end * BLOCK]
+                holds(f"{name}: {volume}", out, bytes(want))
+            check(f"{name}: the payload", out.read_bytes()[: len(PAYLOAD)] == PAYLOAD)
+
+
+def stacks(p: Programs) -> None:
+    """A stack in each order, with a length and without, and with volumes that come twice."""
+    out = p.folder / "out"
+    orders = [*permutations((1, 2, 3)), (1, 1, 2, 3), (3, 2, 1, 2, 3), (2, 2, 2, 1, 3)]
+    for order in orders:
+        for more, want in (((), PADDED), (("--place",), PADDED), (("--length", str(len(PAYLOAD))), PAYLOAD), (("--length", "100000"), PADDED)):
+            name = f"a stack of {order} {more}"
+            out.unlink(missing_ok=True)
+            files = named(*map(reel, order))
+            with stacked(p, *files.values()) as site:
+                short = f"rdump: out: {len(PADDED)} bytes, fewer than 100000\n" if "100000" in more else ""
+                tells = "".join(counted(it) + BINNED for it in order) + short
+                told(name, site.read("--all", *more), texts(*order), ABNORMAL if short else DONE, tells)
+                site.reels(name, {}, files)
+            holds(name, out, want)
+
+
+def many(p: Programs) -> None:
+    """A stack of many volumes of one block, shuffled; and blocks far out, between which the file has holes."""
+    order = list(range(40))
+    data = [bytes((number,)) * 100 for number in order]
+    random.Random(SEED).shuffle(order)
+    files = named(*(images([USR.label(it + 1, it), data[it], None]) for it in order))
+    with stacked(p, *files.values()) as site:
+        got = site.read("--all", "--length", "3950")
+        told("many volumes", got, "".join(USR.text(it + 1, it) for it in order), DONE, 40 * (sizes(1, 100) + BINNED))
+        site.reels("many volumes", {}, files)
+    holds("many volumes", p.folder / "out", b"".join(data)[:3950])
+    far = (2**31 - 2, 5_000_000, 3)
+    with stacked(p, *(images([USR.label(1, it), b"0123456789", None]) for it in far)) as site:
+        lines = "blocks 4 to 4999999 are missing\nblocks 5000001 to 2147483645 are missing\n"
+        tells = 3 * (sizes(1, 10) + BINNED) + START.format(3) + lines
+        told("far out", site.read("--all", out="far"), "".join(USR.text(1, it) for it in far), ABNORMAL, tells)
+    with open(p.folder / "far", "rb") as file:
+        for it in far:
+            file.seek(it * 10 - 5)
+            check("far out: a block", file.read(20) == (bytes(5) + b"0123456789" + bytes(5))[: 15 if it == far[0] else 20])
+
+
+START = "block {} is the first one that came\n"
+
+
+def plain(p: Programs) -> None:
+    """A length without places: a volume that is read to the front of a file, as without a length, which is cut then."""
+    out = p.folder / "out"
+    for length, want in ((0, b""), (1, PADDED[2048:2049]), (3000, PADDED[2048:5048]), (3072, PADDED[2048:5120]), (9999, PADDED[2048:5120])):
+        for before in (b"", b"o" * 10_000):
+            out.write_bytes(before)
+            with stacked(p, reel(2)) as site:
+                told(f"a length of {length}", site.read("--length", str(length)), texts(2), DONE, counted(2))
+            holds(f"a length of {length}", out, want)
+    with stacked(p, images([USR.label(1, 0), None])) as site:
+        told("no blocks", site.read("--all", out="none"), USR.text(1, 0), DONE, sizes(0) + BINNED)
+    holds("no blocks", p.folder / "none", b"")
+    with stacked(p, images([b"hello", b"wor", b"ld", None])) as site:
+        told("a reel of another", site.read("--length", "4"), "hello", DONE, "2 blocks of 2 to 3 bytes, 5 bytes in all\n" + FOREIGN)
+    holds("a reel of another", out, b"worl")
+
+
+# What is missing, and what is another's.
+
+
+def gaps(p: Programs) -> None:
+    """Volumes that are missing between others, or before them, which another run may have read."""
+    out = p.folder / "out"
+    for order, lines, status in (
+        ((1, 3), "blocks 2 to 4 are missing\n", ABNORMAL),
+        ((3, 1), "blocks 2 to 4 are missing\n", ABNORMAL),
+        ((1, 2), "", DONE),
+        ((3, 2), START.format(2), DONE),
+        ((3,), START.format(5), DONE),
+    ):
+        out.unlink(missing_ok=True)
+        files = named(*map(reel, order))
+        end = max(VOLUMES[it - 1][1] for it in order) * BLOCK
+        if end < len(PAYLOAD):
+            lines, status = lines + f"rdump: out: {end} bytes, fewer than {len(PAYLOAD)}\n", ABNORMAL
+        with stacked(p, *files.values()) as site:
+            got = site.read("--all", "--length", str(len(PAYLOAD)))
+            told(f"only {order}", got, texts(*order), status, "".join(counted(it) + BINNED for it in order) + lines)
+            site.reels(f"only {order}", {}, files)
+        want = bytearray(end)
+        for it in order:
+            first, end = VOLUMES[it - 1]
+            want[first * BLOCK : end * BLOCK] = PADDED[first * BLOCK : end * BLOCK]
+        holds(f"only {order}", out, bytes(want[: len(PAYLOAD)]))
+    some = [images([USR.label(it, first), *blocks(first, end), None]) for it, first, end in ((1, 0, 2), (3, 3, 4), (4, 5, 6))]
+    with stacked(p, *some) as site:
+        got = site.read("--all", out="two")
+        check("two gaps", got.status == ABNORMAL and got.told.endswith(f"{BINNED}block 2 is missing\nblock 4 is missing\n"), got)
+
+
+def others(p: Programs) -> None:
+    """A volume of another dump ends a stack, and stays; read by itself it is as good as any."""
+    out = p.folder / "out"
+    for other in (Dump(name="/home"), Dump(level=1), Dump(date=DAY + 1), Dump(since=5)):
+        out.unlink(missing_ok=True)
+        files = named(reel(1), reel(2, other), reel(3))
+        line = "rdump: {}: the reel has volume 2 of {} level {}, another dump\n"
+        with stacked(p, *files.values()) as site:
+            tells = counted(1) + BINNED + line.format(site.address, other.name, other.level)
+            told(f"{other}", site.read("--all"), texts(1), ABNORMAL, tells)
+            site.reels(f"{other}", {name: files[name] for name in ("r001", "r002")}, {"r000": files["r000"]})
+            holds(f"{other}", out, PADDED[:2048])
+            check(f"{other}: by itself", site.read("--place").status == DONE)
+            holds(f"{other}: by itself", out, PADDED[:5120])
+
+
+def foreign(p: Programs) -> None:
+    """Reels that are no volume: nothing is written, nothing goes to the bin, and a new file is gone."""
+    rows: tuple[tuple[str, bytes], ...] = (
+        ("an empty reel", b""),
+        ("a mark", images([None])),
+        ("a mark and a volume", images([None, *entries(1)])),
+        ("text", images([b"hello", b"world", None])),
+        ("zero bytes", images([bytes(1024), *blocks(0, 2), None])),
+        ("zero bytes and no block", images([bytes(1024), None])),
+        ("a volume 0", images([USR.label(0, 0), *blocks(0, 2), None])),
+        ("a level 10", images([Dump(level=10).label(1, 0), *blocks(0, 2), None])),
+        ("a line more", images([USR.label(1, 0).rstrip(b"\0") + b"more 1\n", *blocks(0, 2), None])),
+        ("a tail that is no record", b"\x05\0\0\0hel"),
+    )
+    for name, data in rows:
+        for more in (("--place",), ("--all",)):
+            with stacked(p, data, reel(2)) as site:
+                p.file("old", b"old")
+                for out in ("old", "new"):
+                    told(f"{name}, {more}, {out}", site.read(*more, "--length", "1", out=out), "", ABNORMAL, FOREIGN)
+                site.reels(f"{name}, {more}", named(data, reel(2)), {})
+                holds(f"{name}, {more}: old", p.folder / "old", b"old")
+                holds(f"{name}, {more}: new", p.folder / "new", None)
+        if name in ("an empty reel", "a mark", "a tail that is no record"):
+            with stacked(p, data) as site:
+                told(f"{name}, a length alone", site.read("--length", "1", out="old"), "", DONE, FOREIGN)
+            holds(f"{name}, a length alone", p.folder / "old", b"old")
+        with stacked(p, reel(1), data, reel(2)) as site:
+            told(f"{name} in a stack", site.read("--all"), texts(1), ABNORMAL, counted(1) + BINNED + FOREIGN)
+            site.reels(f"{name} in a stack", {"r001": data, "r002": reel(2)}, {"r000": reel(1)})
+
+
+def uneven(p: Programs) -> None:
+    """Blocks of two lengths have no places: what came before stays written, and the reel stays."""
+    out = p.folder / "out"
+    for more in (("--place",), ("--all",)):
+        out.unlink(missing_ok=True)
+        data = images([USR.label(1, 0), PADDED[:BLOCK], PADDED[BLOCK : BLOCK + 10], PADDED[2048:3072], None])
+        with stacked(p, data) as site:
+            tells = sizes(1) + f"rdump: {site.address}: a block of 10 bytes after one of 1024\n"
+            told(f"two lengths, {more}", site.read(*more, "--length", "5"), USR.text(1, 0), ABNORMAL, tells)
+            site.reels(f"two lengths, {more}", named(data), {})
+        holds(f"two lengths, {more}", out, PADDED[:BLOCK])
+    data = images([USR.label(2, 2), b"x" * 2048, None])
+    with stacked(p, reel(1), data) as site:
+        tells = counted(1) + BINNED + sizes(0) + f"rdump: {site.address}: a block of 2048 bytes after one of 1024\n"
+        told("a volume of another length", site.read("--all", out="two"), texts(1) + USR.text(2, 2), ABNORMAL, tells)
+        site.reels("a volume of another length", {"r001": data}, {"r000": reel(1)})
+    holds("a volume of another length", p.folder / "two", PADDED[:2048])
+
+
+# Files.
+
+
+def special(p: Programs) -> None:
+    """A file that is not plain has no places and no length, and nothing is asked of the server. One that others write is refused."""
+    os.mkfifo(p.folder / "fifo")
+    p.folder.joinpath("folder").mkdir()
+    p.folder.joinpath("link").symlink_to("fifo")
+    model = Model(Reel("r1", 1 << 20))
+    for out in ("fifo", "/dev/null", "folder", "link"):
+        for more in (("--place",), ("--all",), ("--length", "5")):
+            told(f"{out} {more}", read(p, model.address, *more, out=out), "", FAILED, NO_PLAIN_FILE.format(out))
+    check("a file that is not plain: nothing is sent", model.logs == [], model.logs)
+    got = read(p, model.address, "--all", out="none/out")
+    told("a file that can't be made", got, "", FAILED, "rdump: none/out: No such file or directory (os error 2)\n")
+    model.stop()
+    p.folder.joinpath("other").symlink_to("made")
+    with stacked(p, reel(1), reel(2)) as site:
+        told("a link to nothing", site.read("--all", out="other"), texts(1, 2), DONE, counted(1) + BINNED + counted(2) + BINNED)
+    holds("a link to nothing", p.folder / "made", PADDED[:5120])
+
+
+def twice(p: Programs) -> None:
+    """Two runs at once on one file: the second is refused, and the first goes on."""
+    going = threading.Event()
+    model = Model(Reel("r1", 1 << 20), acts={3: lambda: going.wait(GUARD_SECONDS)})
+    model.stack[0].entries = entries(1)
+    words = (p.rdump, "read", "--to", model.address, "--device", DEVICE, "--out", "out", "--all")
+    with subprocess.Popen(words, cwd=p.folder, stdout=subprocess.PIPE, stderr=subprocess.PIPE) as first:
+        while not (model.logs and len(model.logs[0]) >= 3) and first.poll() is None:
+            time.sleep(0.01)
+        unread = Model()
+        for more in (("--place",), ("--all",), ("--length", "0")):
+            told(f"the second {more}", read(p, unread.address, *more), "", FAILED, "rdump: out: another run writes it\n")
+        check("the second: nothing is sent", unread.logs == [], unread.logs)
+        unread.stop()
+        going.set()
+        output, words = first.communicate(timeout=GUARD_SECONDS)
+    told("the first", Ended(output.decode(), words.decode(), first.returncode), texts(1), DONE, counted(1) + BINNED)
+    holds("the first", p.folder / "out", PADDED[:2048])
+    model.stop()
+
+
+def full(p: Programs) -> None:
+    """A file that may not grow: what is told is the system's reason, and the reel stays. With room again all is read."""
+    out = p.folder / "out"
+    files = named(reel(1), reel(3), reel(2))
+    with stacked(p, *files.values()) as site:
+        words = (p.rdump, "read", "--to", site.address, "--device", DEVICE, "--out", "out", "--all")
+
+        def limit() -> None:
+            signal.signal(signal.SIGXFSZ, signal.SIG_IGN)
+            resource.setrlimit(resource.RLIMIT_FSIZE, (4096, 4096))
+
+        ran = subprocess.run(words, cwd=p.folder, capture_output=True, preexec_fn=limit, restore_signals=False, timeout=GUARD_SECONDS, check=False)
+        got = Ended(ran.stdout.decode(), ran.stderr.decode(), ran.returncode)
+        tells = counted(1) + BINNED + sizes(0) + "rdump: out: File too large (os error 27)\nblocks 2 to 4 are missing\n"
+        told("a full disk", got, texts(1, 3), ABNORMAL, tells)
+        site.reels("a full disk", {name: files[name] for name in ("r001", "r002")}, {"r000": files["r000"]})
+        holds("a full disk", out, PADDED[:2048])
+        got = site.read("--all", "--length", str(len(PAYLOAD)))
+        told("with room again", got, texts(3, 2), DONE, counted(3) + BINNED + counted(2) + BINNED + START.format(2))
+        site.reels("with room again", {}, files)
+    holds("with room again", out, PAYLOAD)
+    with stacked(p, reel(1)) as site, open("/dev/full", "wb") as stream:
+        got = site.read("--all", out="unprinted", stdout=stream.fileno())
+        told("a full output", got, "", ABNORMAL, sizes(0) + "rdump: standard output could not be written\n")
+        site.reels("a full output", named(reel(1)), {})
+
+
+# Servers.
+
+OPEN, REWIND, READ, OFFLINE, CLOSE = b"O/dev/st0\n0\n", b"I5\n1\n", b"R262144\n", b"I6\n1\n", b"C\n"
+
+
+def loaded(*volumes: int, **how: object) -> Model:
+    """A server of dump.py with these volumes."""
+    reels = [Reel(f"r{it}", 1 << 20) for it in volumes]
+    for it, volume in zip(reels, volumes):
+        it.entries = entries(volume)
+    return Model(*reels, **how)
+
+
+def sent(p: Programs) -> None:
+    """What is sent: without the new words no request is other than before, and with them a reel goes in the session that read it."""
+    one, two, three = ([OPEN, REWIND, *[READ] * (end - first + 2)] for first, end in VOLUMES)
+    model = loaded(2, 3, 1)
+    for more in ((), ("--place",), ("--length", "7")):
+        read(p, model.address, *more)
+    check("one volume: what is sent", model.logs == 3 * [[*two, CLOSE]], model.logs)
+    del model.logs[:]
+    got = read(p, model.address, "--all")
+    want = [[*it, OFFLINE, CLOSE] for it in (two, three, one)]
+    check("a stack: what is sent", (got.status, model.logs) == (DONE, [*want, [OPEN]]), got, model.logs)
+    check("a stack: each request after a reply", not model.ahead)
+    told("a stack that is over", read(p, model.address, "--all", out="new"), "", ABNORMAL, f"rdump: {model.address}: open refused with E6\n")
+    holds("a stack that is over", p.folder / "new", None)
+    model.stop()
+
+
+def refusals(p: Programs) -> None:
+    """Each request of the second volume in turn is refused, botched, or its reply does not come; the next run reads the rest."""
+    # The first volume takes eight requests, and the second one nine.
+    kinds = ("open", "rewind", *["read"] * 5, "offline", "close")
+    for number, kind in enumerate(kinds):
+        for way in ("refused", "botched", "lost"):
+            name, out = f"request {number} ({kind}) {way}", p.folder / "out"
+            out.unlink(missing_ok=True)
+            replies = {9 + number: {"refused": b"E5\nno\n", "botched": b"x"}[way]} if way != "lost" else {}
+            model = loaded(1, 2, 3, said=replies, lost=(9 + number,) if way == "lost" else ())
+            got = read(p, model.address, "--all")
+            came = max(0, min(number - 3, 3))
+            tells = {
+                "refused": f"rdump: {model.address}: {kind} refused with E5\n",
+                "botched": f"rdump: {model.address}: no reply by the protocol\n",
+                "lost": f"rdump: {model.address}: the connection ended\n",
+            }[way]
+            if kind in ("offline", "close"):
+                maybe = "the reel may be in the bin\n"
+                tells += maybe if way != "refused" else BINNED if kind == "close" else ""
+            label = texts(2) if number > 2 else ""
+            told(name, got, texts(1) + label, ABNORMAL, counted(1) + BINNED + (sizes(came) if label else "") + tells)
+            holds(name, out, PADDED[: (2 + came) * BLOCK])
+            model.said, model.lost = {}, ()
+            rest = [it.name for it in model.stack]
+            got = read(p, model.address, "--all", "--length", str(len(PAYLOAD)))
+            check(f"{name}: the rest", got.status == DONE and got.output == texts(*(int(it[1:]) for it in rest)), got, rest)
+            holds(f"{name}: the rest", out, PAYLOAD)
+            model.stop()
+
+
+class Killer(threading.Thread):
+    """Passes one connection after the other on to a server, which it kills once so many bytes were answered."""
+
+    def __init__(self, address: str, server: subprocess.Popen[bytes], count: int) -> None:
+        super().__init__(daemon=True)
+        host, port = address.rsplit(":", 1)
+        self.server, self.process, self.left = (host, int(port)), server, count
+        self.listener = socket.create_server(("127.0.0.1", 0))
+        self.address = "127.0.0.1:%d" % self.listener.getsockname()[1]
+        self.start()
+
+    def run(self) -> None:
+        while self.left > 0:
+            stream, _ = self.listener.accept()
+            with stream, socket.create_connection(self.server) as there, suppress(OSError):
+                threading.Thread(target=self.forward, args=(stream, there), daemon=True).start()
+                while self.left > 0 and (data := there.recv(65536)):
+                    stream.sendall(data[: self.left])
+                    self.left -= len(data)
+                if self.left <= 0:
+                    self.process.kill()
+                    self.process.wait()
+                stream.shutdown(socket.SHUT_RDWR)
+        self.listener.close()
+
+    @staticmethod
+    def forward(stream: socket.socket, there: socket.socket) -> None:
+        with suppress(OSError):
+            while data := stream.recv(65536):
+                there.sendall(data)
+            there.shutdown(socket.SHUT_WR)
+
+
+def killed(p: Programs) -> None:
+    """The server is killed in the midst of a volume. Another one over the same folders, and the same words again, restore the rest."""
+    out = p.folder / "out"
+    for count in (3, 20, 500, 1100, 2500, 3200, 3300, 4500, 5600, 6500, 7700):
+        out.unlink(missing_ok=True)
+        files = named(reel(2), reel(1), reel(3))
+        with folders(**files) as folder:
+            words = ("--bin", str(folder / "bin"), f"{DEVICE}={folder / 'st0'}")
+            with p.listening(*words) as (address, server):
+                killer = Killer(address, server, count)
+                got = read(p, killer.address, "--all")
+            check(f"killed after {count} bytes", got.status == ABNORMAL and "rdump: " in got.told, got)
+            stack, taken = held(folder)
+            check(f"killed after {count} bytes: the reels", stack | taken == files and not stack.keys() & taken.keys())
+            with p.listening(*words) as (address, _):
+                again = read(p, address, "--all", "--length", str(len(PAYLOAD)))
+            # Blocks that the first run read are missing to the second one.
+            is_split = stack.keys() == {"r001", "r002"}
+            check(f"killed after {count} bytes: again", again.status == (ABNORMAL if is_split else DONE), got, again)
+            check(f"killed after {count} bytes: what is missing", is_split == again.told.endswith("blocks 2 to 4 are missing\n"), again)
+            check(f"killed after {count} bytes: the bin", held(folder) == ({}, files))
+        holds(f"killed after {count} bytes", out, PAYLOAD)
+
+
+PARTS = (placed, stacks, many, plain, gaps, others, foreign, uneven, special, twice, full, sent, refusals, killed)
+
+
+def main() -> int:
+    parser = argparse.ArgumentParser(description="Checks what the built rdump restores.")
+    parser.add_argument("rmtd", nargs="?", default=str(CRATES / "rmtd/out/rmtd"))
+    parser.add_argument("rdump", nargs="?", default=str(CRATES / "rdump/out/rdump"))
+    asked = parser.parse_args()
+    for part in PARTS:
+        with tempfile.TemporaryDirectory() as folder:
+            part(Programs(os.path.abspath(asked.rmtd), os.path.abspath(asked.rdump), Path(folder)))
+    return ended()
+
+
+if __name__ == "__main__":
+    sys.exit(main())
