@@ -1,61 +1,72 @@
 # Builds, runs, tests and measures the tape server and the dump client. It needs the Rattle kit's `rt` in PATH, and
 # Python 3. `make` alone lists the words.
 
-PROGRAM := crates/rmtd/out/rmtd
+SERVER := crates/rmtd/out/rmtd
 CLIENT := crates/rdump/out/rdump
 SIMULATOR := crates/rsim/out/rsim
 FEED := crates/feed/out/feed
 MINUTES := out/minutes.txt
 RATIOS := out/bench.tsv
+PROGRAMS := rmtd rdump rsim
 
 PREFIX ?= /usr/local
 DESTDIR ?=
+SBIN = $(DESTDIR)$(PREFIX)/sbin
+BIN = $(DESTDIR)$(PREFIX)/bin
+MAN = $(DESTDIR)$(PREFIX)/share/man
 
-.PHONY: help build run test bench install clean kit
+.PHONY: help build run try test bench install uninstall clean kit
 .NOTPARALLEL:
 
 help: ## list these words
-	@sed -n 's/^\([a-z]*\):.*## /  make \1\t/p' $(MAKEFILE_LIST) | expand -t 16
+	@sed -n 's/^\([a-z]*\):.*## /  make \1\t/p' $(MAKEFILE_LIST) | expand -t 18
 
 build: kit ## prove and build the three programs, crates side by side; it says first how long that is likely to take
-	@python3 tests/build.py rmtd rdump rsim
+	@python3 tests/build.py $(PROGRAMS)
 
 run: kit ## show a conversation with the server, turn by turn; where it is not built, from its sources without their proofs
 	@python3 tests/run.py
 
-# The programs that are tested are those that `rt ci` has just proved and built, where it left them.
+try: kit ## compile a program without its proofs, as out/try/PROGRAM: make try PROGRAM=rdump
+	@python3 tests/unproved.py $(or $(PROGRAM),$(error make try wants a program: make try PROGRAM=rdump))
+
+# The programs that are tested are those that `rt ci` has just proved and built, where it left them. It is noted beside them that
+# they are proved, so that `make install` proves nothing again.
 test: kit ## the gate: each proof from nothing, then the built programs from outside, to the byte; it ends with the minutes of each
-	rm -rf $(PROGRAM) $(CLIENT) $(SIMULATOR) out/build
+	rm -rf $(SERVER) $(CLIENT) $(SIMULATOR) out/build
 	python3 tests/promises.py
 	python3 tests/homes.py
 	python3 tests/examples.py
-	python3 tests/gate.py --minutes $(MINUTES)
-	test -x $(PROGRAM) -a -x $(CLIENT) -a -x $(SIMULATOR) || $(MAKE) build
-	python3 tests/outside.py --minutes $(MINUTES) $(PROGRAM) $(CLIENT) $(SIMULATOR)
+	sum=$$(python3 tests/build.py --sum $(PROGRAMS)) && python3 tests/gate.py --minutes $(MINUTES) && python3 tests/build.py --proved $$sum $(PROGRAMS)
+	test -x $(SERVER) -a -x $(CLIENT) -a -x $(SIMULATOR) || $(MAKE) build
+	python3 tests/outside.py --minutes $(MINUTES) $(SERVER) $(CLIENT) $(SIMULATOR)
 	@cat $(MINUTES)
 
 bench: build ## long streams, reels in folders, dumps beside a floor, a long dumpdates file, long schedules, and bytes in pieces; it ends with a table of ratios
 	@python3 tests/build.py feed
 	rm -f $(RATIOS)
-	python3 bench/stdio.py $(PROGRAM)
-	python3 bench/reels.py $(PROGRAM)
+	python3 bench/stdio.py $(SERVER)
+	python3 bench/reels.py $(SERVER)
 	python3 bench/dates.py $(CLIENT)
-	python3 bench/dump.py $(PROGRAM) $(CLIENT)
-	python3 bench/network.py $(PROGRAM) $(CLIENT)
-	python3 bench/instructions.py $(PROGRAM) $(CLIENT)
+	python3 bench/dump.py $(SERVER) $(CLIENT)
+	python3 bench/network.py $(SERVER) $(CLIENT)
+	python3 bench/instructions.py $(SERVER) $(CLIENT)
 	python3 bench/feed.py $(FEED)
 	python3 bench/schedules.py $(SIMULATOR)
-	python3 bench/threads.py --soak $(PROGRAM)
+	python3 bench/threads.py --soak $(SERVER)
 	@python3 bench/table.py
 
-install: build ## install the programs and their manual pages under PREFIX, below DESTDIR
-	install -d $(DESTDIR)$(PREFIX)/sbin $(DESTDIR)$(PREFIX)/bin $(DESTDIR)$(PREFIX)/share/man/man8 $(DESTDIR)$(PREFIX)/share/man/man1
-	install $(PROGRAM) $(CLIENT) $(DESTDIR)$(PREFIX)/sbin
-	install $(SIMULATOR) $(DESTDIR)$(PREFIX)/bin
-	install -m 644 man/rmtd.8 man/rdump.8 $(DESTDIR)$(PREFIX)/share/man/man8
-	install -m 644 man/rsim.1 $(DESTDIR)$(PREFIX)/share/man/man1
+install: build ## install the programs and their manual pages under PREFIX, below DESTDIR; what `make test` has proved and built is not proved again
+	install -d $(SBIN) $(BIN) $(MAN)/man8 $(MAN)/man1
+	install $(SERVER) $(CLIENT) $(SBIN)
+	install $(SIMULATOR) $(BIN)
+	install -m 644 man/rmtd.8 man/rdump.8 $(MAN)/man8
+	install -m 644 man/rsim.1 $(MAN)/man1
 	@found=$$(command -v rdump); test "$${found:-$(PREFIX)/sbin/rdump}" = $(PREFIX)/sbin/rdump || \
 		echo "rdump: PATH finds $$found first, not $(PREFIX)/sbin/rdump: see README.md"
+
+uninstall: ## remove what `make install` put there, with the same PREFIX and DESTDIR; the folders stay
+	rm -f $(SBIN)/rmtd $(SBIN)/rdump $(BIN)/rsim $(MAN)/man8/rmtd.8 $(MAN)/man8/rdump.8 $(MAN)/man1/rsim.1
 
 clean: ## remove all that was built
 	rm -rf out crates/*/out

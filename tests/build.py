@@ -3,16 +3,23 @@
 programs by `rt run`.
 
     build.py [--jobs N] [--tell] PROGRAM..
+    build.py --sum PROGRAM..
+    build.py --proved SUM PROGRAM..
 
 It says first how long it is likely to take, and then tells each crate as it is built. `rt` locks each crate below the one that it
 works in, so each runs in a tree of its own under out/build, which has links to the sources and libraries that it needs; what it built
 then goes to the crate's own out/, where `rt` finds it. `--tell` only says what there is to build, and how long it is likely to take.
+
+The gate leaves programs that it has proved, and no stamp by which `rt` would know them. So `--sum` prints one checksum of all that programs
+are built from, and `--proved SUM`, when the gate has passed, notes that sum and the program's own beside each program, if the sources are still
+those of SUM. A program with such a note, of the sources as they are and of its own bytes, is not built again.
 """
 
 from __future__ import annotations
 
 import argparse
 import fcntl
+import hashlib
 import os
 import shutil
 import subprocess
@@ -94,6 +101,52 @@ def unbuilt(crates: Crates) -> Crates:
         if time_of < newest(crate) or any(use in found for use in crate.uses):
             found[name] = crate
     return found
+
+
+# What the gate has proved.
+
+
+def sum_of_sources(crates: Crates, names: list[str]) -> str:
+    """The checksum of all that programs are built from: the kit, the sources of their crates, and what the crates may use."""
+    found = hashlib.sha256()
+    kit = subprocess.run(("rt", "version"), stdin=subprocess.DEVNULL, capture_output=True, check=True).stdout
+    found.update(kit + (TOP / "HANDLES").read_bytes())
+    for crate in below(crates, names).values():
+        found.update(f"{crate.line}\n".encode())
+        files = sorted(it for part in PARTS for it in (crate.folder() / part).rglob("*") if it.is_file())
+        for it in files:
+            text = it.read_bytes()
+            found.update(f"{it.relative_to(CRATES)} {len(text)}\n".encode() + text)
+    return found.hexdigest()
+
+
+def program_of(crate: Crate) -> Path:
+    return crate.folder() / "out" / crate.name
+
+
+def note_of(crate: Crate) -> Path:
+    """Where it is noted that the gate has proved the program."""
+    return crate.folder() / "out" / f"{crate.name}.proved"
+
+
+def note(crates: Crates, name: str) -> str:
+    """What is noted of a program that was built from the sources as they are."""
+    return f"{sum_of_sources(crates, [name])} {hashlib.sha256(program_of(crates[name]).read_bytes()).hexdigest()}\n"
+
+
+def is_noted(crates: Crates, name: str) -> bool:
+    """Whether the gate has proved this program, of the sources as they are."""
+    there = note_of(crates[name])
+    return there.is_file() and program_of(crates[name]).is_file() and there.read_text() == note(crates, name)
+
+
+def note_proved(crates: Crates, names: list[str], before: str) -> None:
+    """Notes that the gate has proved these programs, where the sources are those that it began with."""
+    if sum_of_sources(crates, names) != before:
+        print("the sources were changed while the gate ran: `make build` proves what was changed")
+        return
+    for name in filter(lambda it: program_of(crates[it]).is_file(), names):
+        note_of(crates[name]).write_text(note(crates, name))
 
 
 # How long it is likely to take.
@@ -293,19 +346,28 @@ def main() -> int:
     parser = argparse.ArgumentParser(description="Builds programs and what they stand on, side by side.")
     parser.add_argument("--jobs", type=int, default=len(os.sched_getaffinity(0)), help="how many processors it may use")
     parser.add_argument("--tell", action="store_true", help="only say what there is to build")
+    parser.add_argument("--sum", action="store_true", help="print the checksum of all that the programs are built from")
+    parser.add_argument("--proved", metavar="SUM", help="note that the gate has proved the programs from the sources of this checksum")
     parser.add_argument("program", nargs="+", help="a crate of crates.txt")
     words = parser.parse_args()
     crates = listed()
-    needed = below(crates, words.program)
+    if words.sum:
+        print(sum_of_sources(crates, words.program))
+        return 0
+    if words.proved:
+        note_proved(crates, words.program, words.proved)
+        return 0
+    programs = [it for it in words.program if not is_noted(crates, it)]
+    needed = below(crates, programs)
     with locked({} if words.tell else needed):
         wanted = unbuilt(needed)
         if wanted:
-            print(told(words.program, wanted, words.jobs), flush=True)
+            print(told(programs, wanted, words.jobs), flush=True)
         if words.tell:
             return 0
         if wanted and build(crates, wanted, words.jobs):
             return 1
-    return 0 if all(is_current(crates[it]) for it in words.program if it not in wanted) else 1
+    return 0 if all(is_current(crates[it]) for it in programs if it not in wanted) else 1
 
 
 if __name__ == "__main__":

@@ -1,5 +1,6 @@
 #!/usr/bin/env python3
-"""Runs the recipes of docs/OPERATING.md as they stand there, and compares what they print with what stands there.
+"""Runs the recipes of docs/OPERATING.md as they stand there, and compares what they print with what stands there. Those of tests/messages.md
+too, which are for tests alone.
 
     recipes.py [RMTD [RDUMP [RSIM]]] [--only TITLE]
 
@@ -7,14 +8,15 @@ A section of the document with commands is a recipe. A block `sh` is commands of
 after `$ ` is a command, and the lines below it are all that it prints. The line `After *TITLE*` names the recipe that is done before, and
 `Needs` names programs. A recipe whose programs are not on this machine is named as skipped.
 
-Two sections of README.md are recipes too. A user who is not root runs *Use it*, in a home of their own, with a pause of a second after each
-block, as a person takes it. Root runs *With tar*, as GNU tar 1.34 calls no remote shell for others.
+A section of README.md is a recipe too. A user who is not root runs *A server that is killed*, in a home of their own, with a pause of a second
+after each block, as a person takes it.
 
-Each recipe has a machine of its own: its /usr/local is what `make install` leaves, other folders that it may change are empty or copies,
-the loopback is its own, and its processes end with it. That takes root, unshare(1) and make(1). Where they are not to be had, all recipes
-are named as skipped.
+Each recipe has a machine of its own: its /usr/local is what `make install` leaves, other folders that it may change are empty or copies, a
+copy of the repository's etc/ lies where it runs, the loopback is its own, and its processes end with it. That takes root, unshare(1) and
+make(1). Where they are not to be had, all recipes are named as skipped.
 
-Each message of the tables of docs/OPERATING.md stands in a block `console` with its status, or below with the reason why it does not.
+Each message of the tables of docs/OPERATING.md stands in a block `console` of one of these with its status, or below with the reason why it
+does not.
 """
 
 from __future__ import annotations
@@ -40,9 +42,10 @@ from checks import check, ended
 TOP = Path(__file__).resolve().parent.parent
 CRATES = TOP / "crates"
 DOCUMENT = TOP / "docs/OPERATING.md"
+MESSAGES = TOP / "tests/messages.md"
 README = TOP / "README.md"
 # The programs, each with the Makefile's word for its place.
-PROGRAMS = {"rmtd": "PROGRAM", "rdump": "CLIENT", "rsim": "SIMULATOR"}
+PROGRAMS = {"rmtd": "SERVER", "rdump": "CLIENT", "rsim": "SIMULATOR"}
 
 # A recipe that takes longer is killed, so that the checks end.
 GUARD_SECONDS = 300
@@ -56,14 +59,13 @@ HOME = "/home/root"
 SYSTEM_PATH = "/usr/sbin:/usr/bin:/sbin:/bin"
 ENVIRONMENT = {"PATH": f"/usr/local/sbin:/usr/local/bin:{SYSTEM_PATH}", "HOME": HOME, "USER": "root", "LANG": "C.UTF-8"}
 
-# The recipes of the README, and the user of the first one.
-USED = "Use it"
-WITH_TAR = "With tar"
+# The recipe of the README, and its user.
+USED = "A server that is killed"
 USER = "ann"
 USER_ENVIRONMENT = {"PATH": "/usr/local/bin:/usr/bin:/bin", "HOME": f"/home/{USER}", "USER": USER, "LANG": "C.UTF-8"}
 PAUSE = "sleep 1\n"
 
-# Recipes that stand in no document: what is installed, and what the README says of tar.
+# Recipes that stand in no document: what is installed, and what OPERATING.md says of tar 1.34.
 UNWRITTEN = """\
 ## What is installed
 
@@ -120,6 +122,14 @@ UNSHOWN = {
     "rdump: FILE: its .new is no plain file": "tests/updates.py shows it, and a recipe of its own would take a dump more",
     "rdump: FILE: it is no dumpdates file, status 3": "tests/updates.py shows it: the file has to change while a dump runs",
     "rdump: FILE: another run writes it": "tests/told.py shows it: it takes a server that does not answer",
+    "the reel may be in the bin": "tests/restore.py shows it: it takes a server that ends the connection at that request",
+    "block 97 is the first one that came": "tests/restore.py shows it, with other numbers",
+    "rdump: FILE: 1536 bytes, fewer than 2500": "tests/restore.py shows it, with other numbers",
+    "rdump: ADDRESS: a block of 300 bytes after one of 512": "tests/restore.py shows it: it takes a reel that no dump makes",
+    "rdump: FILE: it is no plain file": "tests/restore.py shows it",
+    "rdump: no reel was found": "tests/ls.py shows it",
+    "rdump: FOLDER: a name in it is not UTF-8": "tests/ls.py shows it",
+    "rdump: FILE: it could not be read": "it takes a disk that fails while the file is read",
 }
 
 
@@ -206,10 +216,9 @@ def recipes_of(text: str) -> dict[str, Recipe]:
 
 
 def all_recipes() -> dict[str, Recipe]:
-    """The recipes of the document, the README's, and those that stand in none."""
-    readme = recipes_of(README.read_text())
-    used = {USED: readme[USED], WITH_TAR: readme[WITH_TAR]._replace(needs=("tar",))}
-    return used | recipes_of(UNWRITTEN) | recipes_of(DOCUMENT.read_text())
+    """The recipes of the document, the README's, those for tests alone, and those that stand in no document."""
+    used = {USED: recipes_of(README.read_text())[USED]}
+    return used | recipes_of(UNWRITTEN) | recipes_of(DOCUMENT.read_text()) | recipes_of(MESSAGES.read_text())
 
 
 def with_those_before(recipe: Recipe, recipes: dict[str, Recipe]) -> list[Recipe]:
@@ -241,24 +250,26 @@ def loopback() -> None:
         fcntl.ioctl(it, flags, struct.pack("16sh", b"lo", up))
 
 
-def install(programs: list[str], folder: str) -> None:
-    """Installs the programs and their manual pages below a folder. The target `build` is taken for done, so nothing is proved again."""
+def make(target: str, programs: list[str], folder: str) -> None:
+    """Makes `install` or `uninstall` below a folder. The target `build` is taken for done, so nothing is proved again."""
     places = [f"{word}={program}" for word, program in zip(PROGRAMS.values(), programs)]
     environment = {name: value for name, value in os.environ.items() if name not in ("MAKEFLAGS", "MFLAGS", "MAKELEVEL")}
-    words = ("make", "-s", "-C", str(TOP), "-o", "build", "install", *places, "PREFIX=/usr/local", f"DESTDIR={folder}")
-    subprocess.run(words, check=True, env=environment, umask=0o077)
+    words = ("make", "-s", "-C", str(TOP), "-o", "build", target, *places, "PREFIX=/usr/local", f"DESTDIR={folder}")
+    subprocess.run(words, check=True, env=environment, umask=0o077, stdout=subprocess.DEVNULL)
 
 
 def furnish(programs: list[str]) -> None:
     """Folders that a recipe may change: a copy of /etc, what is installed, and empty ones."""
     mount("-t", "tmpfs", "-o", "mode=755", "machine", "/mnt")
     subprocess.run(("cp", "-a", "/etc", "/mnt/etc"), check=True)
-    install(programs, "/mnt/installed")
+    shutil.copytree(TOP / "etc", "/mnt/of_the_repository")
+    make("install", programs, "/mnt/installed")
     mount("--bind", "/mnt/etc", "/etc")
     mount("--bind", "/mnt/installed/usr/local", "/usr/local")
     for folder, mode in (("/srv", "755"), ("/home", "755"), ("/run", "755"), ("/tmp", "1777")):
         mount("-t", "tmpfs", "-o", f"mode={mode}", "machine", folder)
     os.mkdir(HOME, 0o700)
+    shutil.copytree("/mnt/of_the_repository", f"{HOME}/etc")
     with open("/etc/hosts", "a") as hosts:
         hosts.write("\n127.0.0.1 tapehost\n")
     users = Path("/etc/passwd")
@@ -471,6 +482,20 @@ def check_messages(text: str, commands: list[Command]) -> None:
     check("what is not shown stands in the tables", {it.partition(", status ")[0] for it in UNSHOWN} <= {it.span for _, it in found}, UNSHOWN)
 
 
+def check_uninstall(programs: list[str]) -> None:
+    """`make uninstall` takes away what `make install` put there, and nothing else."""
+    if not shutil.which("make"):
+        print("skipped: make uninstall: make cannot be used on this machine")
+        return
+    with tempfile.TemporaryDirectory() as folder:
+        make("install", programs, folder)
+        of_another = Path(folder, "usr/local/sbin/other")
+        of_another.touch()
+        make("uninstall", programs, folder)
+        left = [it for it in Path(folder).rglob("*") if not it.is_dir()]
+    check("make uninstall removes what make install put there, and nothing else", left == [of_another], left)
+
+
 def main() -> int:
     parser = argparse.ArgumentParser(description="Runs the recipes of docs/OPERATING.md and of README.md as they stand there.")
     for name in PROGRAMS:
@@ -486,6 +511,7 @@ def main() -> int:
         return run_inside(words.inside, programs)
     recipes = all_recipes()
     check_messages(DOCUMENT.read_text(), [it for recipe in recipes.values() for it in recipe.commands()])
+    check_uninstall(programs)
     found = runnable(recipes, words.only)
     with ThreadPoolExecutor(AT_ONCE) as pool:
         for (recipe, _), got in zip(found, pool.map(lambda it: ran(*it, programs), found)):

@@ -4,26 +4,26 @@
     run.py [PROGRAM]
 
 With no PROGRAM it takes the server that was built from the sources as they are. Where there is none, it compiles them without their
-proofs (`rt try`), which takes about a minute, and sends all requests at once. The conversation is the first under *Examples* in
-docs/PROTOCOL.md. It ends with 0 where each answer is as expected there.
+proofs, as `make try` does, which takes a minute or two. The conversation is the first under *Examples* in docs/PROTOCOL.md. It ends with 0
+where each answer is as expected there.
 """
 
 from __future__ import annotations
 
 import argparse
-import io
 import subprocess
 import sys
 from pathlib import Path
 from typing import Iterator
 
-from build import below, listed, newest
+from build import listed
 from examples import Turn, examples
 from forms import receive, send, started
+from unproved import is_new, unproved
 
 SERVER = "rmtd"
 NOT_BUILT = f"""{SERVER} is not built yet: `make build` proves and builds it.
-Its sources are compiled without their proofs now, in about a minute.
+Its sources are compiled without their proofs now, in a minute or two.
 """
 
 ACCESS = ("for reading", "for writing", "for reading and writing", "with no access")
@@ -77,10 +77,8 @@ def shown(data: bytes) -> str:
 
 def built() -> Path | None:
     """The server that was built from the sources as they are, as far as the files' times tell."""
-    crates = below(listed(), [SERVER])
-    program = crates[SERVER].folder() / "out" / SERVER
-    is_new = program.is_file() and program.stat().st_mtime >= max(map(newest, crates.values()))
-    return program if is_new else None
+    program = listed()[SERVER].folder() / "out" / SERVER
+    return program if is_new(program, SERVER) else None
 
 
 def turns(program: Path, wanted: tuple[Turn, ...]) -> Iterator[bytes]:
@@ -94,25 +92,14 @@ def turns(program: Path, wanted: tuple[Turn, ...]) -> Iterator[bytes]:
         yield answers.read()
 
 
-def unproved_turns(wanted: tuple[Turn, ...]) -> Iterator[bytes]:
-    """Compiles the server without its proofs, sends it all requests, and gives what is answered to each; at the end, what it still wrote."""
-    folder, sent = listed()[SERVER].folder(), b"".join(turn.request for turn in wanted)
-    ran = subprocess.run(("rt", "try", "--", "--stdio"), cwd=folder, input=sent, capture_output=True)
-    if ran.returncode:
-        sys.exit(f"run.py: `rt try` in {folder} ended with {ran.returncode}:\n{ran.stderr.decode(errors='replace')[-4000:]}")
-    answers = io.BytesIO(ran.stdout)
-    for turn in wanted:
-        yield answers.read(len(turn.answer))
-    yield answers.read()
-
-
 def main() -> int:
     parser = argparse.ArgumentParser(description="Shows a conversation with the tape server.")
     parser.add_argument("program", nargs="?", type=Path, help=f"a built {SERVER}")
     program, example = parser.parse_args().program or built(), examples()[0]
     if not program:
         print(NOT_BUILT, flush=True)
-    wrong, answers = 0, turns(program.resolve(), example.turns) if program else unproved_turns(example.turns)
+        program = unproved(SERVER)
+    wrong, answers = 0, turns(program.resolve(), example.turns)
     print(f"A conversation with rmtd --stdio (docs/PROTOCOL.md): {example.name[0].lower()}{example.name[1:]}.\n", flush=True)
     for number, (turn, answer) in enumerate(zip(example.turns, answers), 1):
         print(f"{number}. sent      {shown(turn.request)}\n   answered  {shown(answer)}")
