@@ -1,6 +1,6 @@
 #!/usr/bin/env python3
-"""Checks docs/PROMISES.md against the crates. Each heading names calls or laws of the crate of its section, each line the clauses
-of their contracts, and each `refused` an edit that is there. Each public call with a contract, each of its clauses, and each
+"""Checks docs/PROMISES.md against the crates. Each line with a name in bold tells of a call or a law of the crate of its section, it or a line
+below it of clauses of its contract, and each `refused` of an edit that is there. Each public call with a contract, each of its clauses, and each
 edit is named. The section "Edits without a control" names just the edits beside which no NAME.control.md stands. No line has more
 than 120 characters.
 
@@ -25,14 +25,16 @@ PROMISES = TOP / "docs" / "PROMISES.md"
 LONGEST = 120
 QUOTED = re.compile(r"`([^`]+)`")
 SECTION = re.compile(r"## `(\w+)`")
-# The clauses that a line is about: `- ` and names up to the first colon.
-CLAUSES = re.compile(r"- ((?:`\w+`, )*`\w+`):")
-REFUSED = "  - refused: "
+# A call: its name in bold, and the clauses of its contract where all is said in this line.
+CALL = re.compile(r"- \*\*(.+?)\*\*(?: \((.+?)\))?(?::|$)")
+# The clauses that a line below a call is about: names up to the first colon.
+CLAUSES = re.compile(r"  - ((?:`\w+`, )*`\w+`):")
+REFUSED = re.compile(r" +- refused: ")
 UNCONTROLLED = "## Edits without a control"
 
 
 class Call(NamedTuple):
-    """A call of a crate, or the trait's part of a type: what its heading is, and the names of its clauses."""
+    """A call of a crate, or the trait's part of a type: how it is named, and the names of its clauses."""
 
     heading: str
     method: str
@@ -159,12 +161,14 @@ class Section:
         every = [it for crate in libraries() for it in calls_of(crate)] if name not in {it.heading for it in self.calls if it.has_contract} or " as " in name else []
         return {one for it in every if it.heading.split("::")[0].split(" as ")[-1] == trait for one in it.clauses | {it.method}}
 
-    def open(self, line: str) -> str | None:
-        """Reads a heading; answers what is wrong with it."""
-        self.heading = " as ".join(QUOTED.findall(line))
+    def open(self, call: str, clauses: str) -> list[str]:
+        """Reads the name of a call, and of the clauses that its line is about; answers what is wrong with them."""
+        self.heading = " as ".join(QUOTED.findall(call))
         self.named.setdefault(self.heading, set())
         known = {it.heading for it in self.calls} | {it.heading.split("::")[0] for it in self.calls}
-        return None if self.heading in known | self.definitions() else f"{self.crate} has no {self.heading}"
+        if self.heading not in known | self.definitions():
+            return [f"{self.crate} has no {self.heading}"]
+        return self.names(QUOTED.findall(clauses))
 
     def definitions(self) -> set[str]:
         """The records of the crate's specs: a heading may be one, with its fields below."""
@@ -181,7 +185,10 @@ class Section:
     def line(self, line: str) -> list[str]:
         """Reads a line of clauses; answers the names that are none of the call's contract."""
         found = CLAUSES.match(line)
-        names = QUOTED.findall(found[1]) if found else []
+        return self.names(QUOTED.findall(found[1])) if found else []
+
+    def names(self, names: list[str]) -> list[str]:
+        """Takes the names of clauses; answers those that are none of the call's contract."""
         self.named.setdefault(self.heading, set()).update(names)
         allowed = self.clauses() if names else set()
         return [f"{self.heading} of {self.crate} has no clause {it}" for it in names if it not in allowed]
@@ -211,11 +218,11 @@ def main() -> int:
         if line.startswith("## "):
             found = SECTION.match(line)
             section = sections.setdefault(found[1], Section(found[1])) if found else None
-        elif section and line.startswith("### "):
-            faults += filter(None, [section.open(line)])
-        elif section and section.heading and line.startswith("- "):
+        elif section and (found := CALL.match(line)):
+            faults += section.open(found[1], found[2] or "")
+        elif section and section.heading and CLAUSES.match(line):
             faults += section.line(line)
-        elif line.startswith(REFUSED):
+        elif REFUSED.match(line):
             names = QUOTED.findall(line)
             told |= set(names)
             faults += [f"there is no edit {it}" for it in names if it not in there]
