@@ -2,7 +2,7 @@
  *
  *     floor write FILE SIZE    a read of standard input for each 256 KiB, and for each request one writev of the length, the
  *                              bytes and the length again, and one write of the reply
- *     floor read FILE SIZE     for each request one pread of the bytes, the length behind them and the length of the next
+ *     floor read FILE SIZE     for each request one pread of the bytes, the length after them and the length of the next
  *                              record, which needs SIZE to be known, and one writev of the reply and the bytes
  *
  * It trusts its input: an open, and then requests of that kind for SIZE bytes, 1 to 262,144, each. It ends with 0 where all

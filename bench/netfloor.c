@@ -2,13 +2,13 @@
  *
  *     netfloor serve FILE             prints the port that it listens at, and serves one connection after the other. For each write
  *                                     one writev appends the length, the bytes and the length again to FILE, and one send answers;
- *                                     for each read one pread gets the bytes, the length behind them and the length of the next
+ *                                     for each read one pread gets the bytes, the length after them and the length of the next
  *                                     record, and one writev answers. A connection that wrote is synced once, at its end. With `-`
  *                                     for FILE the records are kept in memory
  *     netfloor write PORT SIZE FILE   for each block of FILE one pread into the text of a request, one write, and a read of the answer;
  *                                     it ends once the server has ended the connection
  *     netfloor read PORT SIZE FILE    for each record one write of the request, as many reads as its answer comes in, and one write to
- *                                     FILE, up to the first mark or the end
+ *                                     FILE, up to the first mark or the end; FILE is synced once, at its end
  *
  * Both ends trust what comes. SIZE is 1 to 262,144. A client ends with 0 where all went well. */
 #include <arpa/inet.h>
@@ -148,7 +148,7 @@ static int read_blocks(int stream, int sink, size_t size) {
         if (write(stream, request, asked) != asked || !(end = received(stream, &head))) return 1;
         if (end > head && write(sink, text + head, end - head) != (ssize_t)(end - head)) return 1;
     } while (end > head);
-    return text[0] != 'A';
+    return text[0] != 'A' || fsync(sink) != 0;
 }
 
 int main(int argc, char **words) {

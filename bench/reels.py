@@ -232,7 +232,7 @@ def table_line(title: str, runs: dict[str, Run], wanted: float) -> None:
 
 
 def write_records(path: Path, count: int, halves: bool = False) -> None:
-    """A reel of so many records, with a mark behind each half of them where it is asked for."""
+    """A reel of so many records, with a mark after each half of them where it is asked for."""
     record = length(RECORD) + b"r" * RECORD + length(RECORD)
     half = record * (count // 2) + (bytes(4) if halves else b"")
     path.write_bytes(half + half)

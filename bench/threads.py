@@ -39,7 +39,7 @@ SECONDS = 30
 SEED = 20261124
 # How often a reel is taken away again, where the bin's lock was not had.
 MOVES = 1_000
-# What the server may hold more of memory at the end than behind the first clients.
+# What the server may hold more of memory at the end than after the first clients.
 MORE_MEMORY = 2 << 20
 
 ROUNDS = 5
@@ -398,7 +398,7 @@ def requests(address: tuple[str, int], count: int) -> float:
 
 def request_rates(program: str) -> bool:
     """Requests a second of 1 to 32 connections."""
-    print("requests a second, each sent behind the reply to the one before:", flush=True)
+    print("requests a second, each sent after the reply to the one before:", flush=True)
     rate: dict[int, float] = {}
     with serving(program, 1) as server:
         for count in AT_ONCE:

@@ -24,7 +24,7 @@ RULES = {
     COUNTS_AT_THE_MARK: "the client counts at the answer to the mark",
     WRITES_A_PART: "the server writes what came of a record when the connection is over",
     TAKES_FROM_A_HOLDER: "an open of a held drive is not refused",
-    KEEPS_THE_OLD_TAIL: "a write keeps the entries behind it",
+    KEEPS_THE_OLD_TAIL: "a write keeps the entries after it",
     TAKES_A_SMALLER_NUMBER: "the client takes a smaller number in answer to a write",
     ENTERS_A_PART: "a run is entered with a volume missing",
     STAYS_HELD: "the end of a session leaves the drive held",
@@ -54,7 +54,7 @@ RESTARTED = PUMPED._replace(name="restarted", weights={**PUMPED.weights, "save":
 SEARCHED = (PUMPED, CUT, RESTARTED)
 LENGTH = 150
 
-# The words behind which the number of a connection stands, and how many lines are few.
+# The words after which the number of a connection stands, and how many lines are few.
 NUMBERED = frozenset(b"to-server to-client serve cut end-server end-client says pump".split())
 FEW = 40
 

@@ -130,7 +130,7 @@ SPACING = (
             # two marks are not there: the beginning
             Exchange(b"I2\n2\n", IO_ERROR),
             Exchange(b"R1\n", b"A1\na"),
-            # three records ahead: `b`, and then the mark is met, behind which it stops
+            # three records ahead: `b`, and then the mark is met, after which it stops
             Exchange(b"I3\n3\n", IO_ERROR),
             Exchange(b"R1\n", b"A1\nc"),
             # one record back, one mark ahead is not there: the end
@@ -230,7 +230,7 @@ SPACING = (
     ),
 )
 
-# A record takes its length and 8 bytes, a mark 4, and a record has to leave room for a mark behind it.
+# A record takes its length and 8 bytes, a mark 4, and a record has to leave room for a mark after it.
 FULL_REELS = (
     # 262,144 marks take all of the 1,048,576 bytes: one more mark is too many, also at once. Back by one mark, there is
     # room for that mark and for no record.
@@ -293,7 +293,7 @@ FULL_REELS = (
             CLOSED,
         ),
     ),
-    # 262,140 marks leave 16 bytes: a record of 4 bytes with a mark behind it.
+    # 262,140 marks leave 16 bytes: a record of 4 bytes with a mark after it.
     Conversation(
         "16 bytes left",
         (

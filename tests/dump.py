@@ -392,6 +392,7 @@ def payloads(p: Programs) -> None:
     """Payloads that become shorter or longer while they are dumped, and one that is no plain file."""
     payload = p.folder / "payload"
     failed = "volume 1 failed: SourceFault\nretry?\n"
+    unread = ("rdump: payload: a block could not be read: ",)
     whole = "volume 1: 3 blocks from 0\ndump complete: 1 volumes, 3 blocks\n"
     for title, act, output, status in (
         ("a payload cut short", lambda: os.truncate(payload, 2047), failed + "dump abandoned\n", ABNORMAL),
@@ -401,14 +402,14 @@ def payloads(p: Programs) -> None:
         p.file("payload", PAYLOAD)
         # The sixth request is the first block.
         model = Model(Reel("r1", 4200), acts={6: act})
-        ends(title, p.dump(model.address), output, status)
+        ends(title, p.dump(model.address), output, status, *unread[: status == ABNORMAL])
         sent = [it for it in model.logs[0] if it.startswith(b"W")][1:]
         blocks = BLOCKS if status == DONE else BLOCKS[:1]
         check(f"{title}: the blocks", sent == [b"W1024\n" + it for it in blocks], sent)
         model.stop()
     p.file("payload", PAYLOAD)
     model = Model(Reel("r1", 4200), acts={6: lambda: os.truncate(payload, 1024), 7: lambda: p.file("payload", PAYLOAD)})
-    ends("a payload that is there again", p.dump(model.address, said="yes\n"), failed + whole, DONE)
+    ends("a payload that is there again", p.dump(model.address, said="yes\n"), failed + whole, DONE, *unread)
     check("a payload that is there again: the volume", model.bin[0].entries == [label(1, 0), *BLOCKS, None])
     model.stop()
     model = Model(Reel("r1", 4200))
@@ -538,8 +539,8 @@ def retries(p: Programs) -> None:
     for title, model, fault, *faults in (
         ("a lost reply to the move", Model(Reel("r1", 3100), Reel("r2", 3100), Reel("r3", 3100), lost=(10,)), "ConnectionEnded", "ended"),
         ("a wrong number", Model(Reel("r1", 3100), Reel("r2", 3100), said={5: b"A1023\n"}), "ShortWrite"),
-        ("no reply by the grammar", Model(Reel("r1", 3100), Reel("r2", 3100), said={2: b"X\n"}), "Botched"),
-        ("more than a label", Model(Reel("r1", 3100), Reel("r2", 3100), said={3: b"A1025\n" + bytes(1025)}), "Botched"),
+        ("no reply by the grammar", Model(Reel("r1", 3100), Reel("r2", 3100), said={2: b"X\n"}), "Botched", "no reply by the protocol"),
+        ("more than a label", Model(Reel("r1", 3100), Reel("r2", 3100), said={3: b"A1025\n" + bytes(1025)}), "Botched", "no reply by the protocol"),
         ("an error to the look", Model(Reel("r1", 3100), Reel("r2", 3100), said={3: b"E12\nmemory\n"}), "Refused 12", "Refused 12"),
         ("an error", Model(Reel("r1", 3100), Reel("r2", 3100), said={2: b"E5\nbroken\n"}), "Refused 5", "Refused 5"),
     ):

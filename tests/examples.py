@@ -4,7 +4,7 @@
     examples.py
 
 Run as a program, it checks that the stored run of the server, in crates/rmtd, is the first of them; and that the crates that test
-sessions have, right behind the bytes of a conversation, its answers.
+sessions have, right after the bytes of a conversation, its answers.
 """
 
 from __future__ import annotations
@@ -19,7 +19,7 @@ from typing import Iterator, NamedTuple
 TOP = Path(__file__).resolve().parent.parent
 PROTOCOL = TOP / "docs/PROTOCOL.md"
 STORED = TOP / "crates/rmtd"
-# The crates of tests that repeat conversations: the bytes that are sent, and behind them those that are answered.
+# The crates of tests that repeat conversations: the bytes that are sent, and after them those that are answered.
 REPEATING = ("server_tests", "programs_tests")
 CODE = re.compile(r"`([^`]*)`")
 # A comment, a character, or a string of Rust, of which byte strings have a group.
@@ -27,7 +27,7 @@ TOKEN = re.compile(r"""//[^\n]*|b?'(?:[^'\\]|\\.)'|b"((?:[^"\\]|\\.)*)"|"(?:[^"\
 
 
 class Turn(NamedTuple):
-    """A row of a conversation: the request, the reply, and the words behind them, which may be none."""
+    """A row of a conversation: the request, the reply, and the words after them, which may be none."""
 
     request: bytes
     answer: bytes
@@ -116,7 +116,7 @@ def literals(text: str) -> list[bytes]:
 
 
 def repeated(known: dict[bytes, bytes]) -> Iterator[tuple[str, bytes, bytes]]:
-    """Where a crate of tests has the bytes of a conversation, and the byte string that stands behind them there."""
+    """Where a crate of tests has the bytes of a conversation, and the byte string that stands after them there."""
     for path in sorted(it for crate in REPEATING for it in TOP.glob(f"crates/{crate}/src/**/*.rt")):
         for sent, answers in pairwise(literals(path.read_text())):
             if sent in known:
@@ -130,7 +130,7 @@ def main() -> int:
     del known[b""]
     found = list(repeated(known))
     wrong = list(stored_faults(examples()[0]))
-    wrong += [f"{path}: behind {sent!r} stands {said!r}, and not {known[sent]!r}" for path, sent, said in found if said != known[sent]]
+    wrong += [f"{path}: after {sent!r} stands {said!r}, and not {known[sent]!r}" for path, sent, said in found if said != known[sent]]
     told = f"the stored run and {len(found)} conversations in crates of tests are as docs/PROTOCOL.md and tests/conversations.py say"
     print("\n".join(wrong) if wrong else told)
     return 1 if wrong else 0

@@ -4,9 +4,9 @@ kills the client, the server or both at moments of dumps with a checkpoint file,
 
     kills.py [RMTD [RDUMP]] [--seed N] [--kills N] [--checkpoint]
 
-The client connects to a gate of this file, which passes its bytes on to the server that runs. The moments are behind a number of bytes
+The client connects to a gate of this file, which passes its bytes on to the server that runs. The moments are after a number of bytes
 either way, after some time, and around the move of a reel to the bin: before the request for it has passed, within the move, when its
-reply has come, which is lost then, and when that has passed; and where there is a checkpoint file also around the reply to the close, behind which
+reply has come, which is lost then, and when that has passed; and where there is a checkpoint file also around the reply to the close, after which
 that is written. With `--checkpoint` only dumps with such a file are made. The seed is printed where a check failed.
 """
 
@@ -58,7 +58,7 @@ class Moment(NamedTuple):
     who: str = SERVER
 
 
-# Of a move: before its request has passed on, behind it, when its reply has come, and when that has passed on.
+# Of a move: before its request has passed on, after it, when its reply has come, and when that has passed on.
 AROUND_A_MOVE = ("before the request", "in the move", "before the reply", "after the reply")
 # Of a close: when its reply has passed on, after which a count is printed and kept.
 AFTER_A_CLOSE = "after the close"

@@ -58,12 +58,12 @@ def image(entry: Entry) -> bytes:
 
 
 def images(entries: list[Entry]) -> bytes:
-    """How entries stand in a file, one behind the other."""
+    """How entries stand in a file, one after the other."""
     return b"".join(image(it) for it in entries)
 
 
 def first_entry(data: bytes, at: int) -> tuple[Entry, int] | None:
-    """The whole entry that stands at an offset, and the offset behind it; None where no whole entry stands."""
+    """The whole entry that stands at an offset, and the offset after it; None where no whole entry stands."""
     length = int.from_bytes(data[at : at + 4], "little")
     if data[at : at + 4] == bytes(4):
         return None, at + 4
@@ -87,7 +87,7 @@ def entries_of(data: bytes) -> list[Entry]:
 
 
 class Tape:
-    """Entries, the bytes behind them, a place among them, and how many bytes there is room for."""
+    """Entries, the bytes after them, a place among them, and how many bytes there is room for."""
 
     def __init__(self, data: bytes, capacity: int = CAPACITY) -> None:
         self.entries = entries_of(data)
@@ -104,7 +104,7 @@ class Tape:
         return sum(4 if it is None else len(it) + 8 for it in self.entries[: self.place])
 
     def put(self, entries: list[Entry]) -> None:
-        """These entries stand at the place, and nothing behind them. The place is behind them."""
+        """These entries stand at the place, and nothing after them. The place is after them."""
         self.entries[self.place :] = entries
         self.tail = b""
         self.place += len(entries)
@@ -440,7 +440,7 @@ class Wire:
         return text
 
     def number(self, mode: bool = False) -> int:
-        """A number and the line feed behind it, or, in a mode, a space and any text."""
+        """A number and the line feed after it, or, in a mode, a space and any text."""
         digits = b""
         while (byte := self.byte()).isdigit():
             digits += byte

@@ -154,7 +154,7 @@ class Reel:
         self.offsets = [0]
 
     def put(self, place: int, entries: list[Entry], keeps: bool = False) -> None:
-        """These entries stand at the place, and nothing behind them, but where a broken rule keeps what stood there."""
+        """These entries stand at the place, and nothing after them, but where a broken rule keeps what stood there."""
         tail = self.entries[place + len(entries) :] if keeps else []
         del self.entries[place:]
         del self.offsets[place + 1 :]

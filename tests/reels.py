@@ -198,7 +198,7 @@ def some_entries(source: random.Random) -> list[Entry]:
 
 
 def torn(source: random.Random, count: int) -> Iterator[bytes]:
-    """Images of entries, cut behind each byte, or at some bytes where they are long."""
+    """Images of entries, cut after each byte, or at some bytes where they are long."""
     for _ in range(count):
         whole = images(some_entries(source))
         cuts = range(len(whole) + 1)
@@ -207,7 +207,7 @@ def torn(source: random.Random, count: int) -> Iterator[bytes]:
 
 
 def changed(source: random.Random, count: int) -> Iterator[bytes]:
-    """Images of entries with one byte changed, or one put in, or one taken out, or with other bytes behind them."""
+    """Images of entries with one byte changed, or one put in, or one taken out, or with other bytes after them."""
     for _ in range(count):
         whole = bytearray(images(some_entries(source)))
         at = source.randrange(len(whole))
@@ -270,7 +270,7 @@ def looked_at(entries: list[Entry]) -> bytes:
 
 
 def written(place: int, what: bytes) -> bytes:
-    """A write at a place, and what stands there then: behind it nothing, before it itself and what stood before."""
+    """A write at a place, and what stands there then: after it nothing, before it itself and what stood before."""
     return to_place(place) + what + b"R9\n" + operation(3, 1) + operation(4, 1) + b"R9\n" + operation(2, 9) + b"R9\n"
 
 
@@ -295,7 +295,7 @@ class Job(NamedTuple):
 
 
 class Talks:
-    """The conversations about files, by the entries that they hold: what stands behind the entries is to change nothing."""
+    """The conversations about files, by the entries that they hold: what stands after the entries is to change nothing."""
 
     def __init__(self) -> None:
         self.known: dict[tuple[Entry, ...], list[tuple[Talk, bytes | None]]] = {}

@@ -220,7 +220,7 @@ def tell_where(rsim: Rsim, lines: list[bytes], name: str) -> None:
 
 
 def last_lines(rsim: Rsim, seed: int) -> None:
-    """Behind short random schedules, and behind each beginning of one by hand, lines of every kind that can be impossible: whether they are."""
+    """After short random schedules, and after each beginning of one by hand, lines of every kind that can be impossible: whether they are."""
     tried = [0, 0]
     for number in range(80):
         source = random.Random(f"last lines/{seed}/{number}")
@@ -230,7 +230,7 @@ def last_lines(rsim: Rsim, seed: int) -> None:
         for line in source.sample(found, min(10, len(found))):
             tried[last_line(rsim, walk, line)] += 1
         line = source.choice(BAD_LINES)
-        same(f"behind {len(walk.lines)} lines, seed {seed}/{number}, {line!r}", rsim.of(walk.text() + line), stopped(walk, b"bad line"))
+        same(f"after {len(walk.lines)} lines, seed {seed}/{number}, {line!r}", rsim.of(walk.text() + line), stopped(walk, b"bad line"))
     lines = lines_of(REUSED)
     for length in range(2, len(lines)):
         walk = Walk(random.Random(0), PROFILES[0], lines=lines[:length])
@@ -244,9 +244,9 @@ def last_line(rsim: Rsim, walk: Walk, line: bytes) -> bool:
     possible = is_possible(walk.world, line)
     text = walk.text() + line + b"\n"
     want = outcome(text)
-    check(f"behind {len(walk.lines)} lines {line!r}, the model", possible or want == stopped(walk, b"not possible"), want)
-    check(f"behind {len(walk.lines)} lines {line!r}, the model", not possible or want.status == DONE, want)
-    if not same(f"behind {len(walk.lines)} lines ending with {walk.lines[-4:]}, {line!r}", rsim.of(text), want):
+    check(f"after {len(walk.lines)} lines {line!r}, the model", possible or want == stopped(walk, b"not possible"), want)
+    check(f"after {len(walk.lines)} lines {line!r}, the model", not possible or want.status == DONE, want)
+    if not same(f"after {len(walk.lines)} lines ending with {walk.lines[-4:]}, {line!r}", rsim.of(text), want):
         tell_where(rsim, [*walk.lines, line], "the same")
     return possible
 

@@ -237,7 +237,7 @@ def soon(holds: Callable[[], bool]) -> bool:
 
 
 class Gate:
-    """Passes connections on to the server, one after the other, and holds back what a client sends behind so many bytes until it is opened."""
+    """Passes connections on to the server, one after the other, and holds back what a client sends after so many bytes until it is opened."""
 
     def __init__(self, server: Server, most: int) -> None:
         self.server = server
@@ -663,7 +663,7 @@ def cut_connections(rmtd: str, rdump: str, seed: int) -> None:
 
 
 def cut_at(address: tuple[str, int], stream: bytes, way: str) -> None:
-    """A connection that ends behind these bytes: by a reset, by a close before its replies are read, or by the end of what is sent, and the
+    """A connection that ends after these bytes: by a reset, by a close before its replies are read, or by the end of what is sent, and the
     replies are read up to their end. The server may have closed it before."""
     with suppress(ConnectionError), socket.create_connection(address, timeout=GUARD_SECONDS) as it:
         it.sendall(stream)

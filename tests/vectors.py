@@ -110,7 +110,7 @@ def carried_out(data: bytes, *serves: str, capacity: int = 3_100) -> str:
 
 
 def of_troubles() -> Iterator[Vector]:
-    """Writes that fail behind two records, at place 1 or 0, and calls that a trouble does not touch."""
+    """Writes that fail after two records, at place 1 or 0, and calls that a trouble does not touch."""
     two = OPENED + b"W3\nabcW2\ndeI5\n1\n"
     at_one = two + b"R9\n"
     records = (("kept", "R3 R2"), ("lost", "R3"), ("written 0", "R3"), ("written 1", "R3 R1"), ("written 9", "R3 R1"), ("", "R3 R1"))
@@ -195,7 +195,7 @@ def of_saves() -> Iterator[Vector]:
     text = drive + THREE_BLOCKS + finished + "save\nrestart-client\nrestart-client\nsave\nrestart-client\nenter\n"
     yield vector("a finished run comes back three times", text, two + USR)
     text = drive + THREE_BLOCKS + "connect\npump 1 11\nsave\nrestart-client\nconnect\npump 2 11\nenter\n"
-    yield vector("a run comes back behind its count", text, two + USR)
+    yield vector("a run comes back after its count", text, two + USR)
     text = drive + THREE_BLOCKS + "connect\nsend\nsave\nrestart-client\nend-server 1\nconnect\npump 2 11\nconnect\npump 3 11\nenter\n"
     yield vector("a run is kept in an attempt", text, two + USR)
     asking = "connect\npump 1 11\nconnect\ncut 2\nend-client 2\n"
@@ -378,7 +378,7 @@ def of_rooms() -> Iterator[Vector]:
     yield stops("a byte more where there is no room left", begin + "to-server 1 all\nto-server 1 1\n")
     yield stops("all, where there is no room left", begin + "to-server 1 all\nto-server 1 all\n")
     begin = "drive /dev/st0 280000 r1\nstranger\n" + says(1, b"C\nW262200\n" + b"d" * 262_201)
-    yield stops("a dropped write behind a request has no room of its own", begin + "to-server 1 262156\nto-server 1 1\n")
+    yield stops("a dropped write after a request has no room of its own", begin + "to-server 1 262156\nto-server 1 1\n")
     text = begin + "to-server 1 262156\nserve 1\nto-server 1 all\nserve 1\nserve 1\n"
     yield stops("a dropped write, and a byte that is no request", text + "serve 1\n")
     yield stops("a part of a request", "drive /dev/st0 5 r1\nstranger\n" + says(1, b"O/dev/st0\n2") + "to-server 1 all\nserve 1\n")
@@ -419,14 +419,14 @@ BAD_LAST = (
     ("an empty capacity", "drive a  r1\n"),
     ("an empty reel", "drive a 5  r1\n"),
     ("an empty last reel", "drive a 5 r1 \n"),
-    ("a space behind the capacity", "drive a 5 \n"),
+    ("a space after the capacity", "drive a 5 \n"),
     ("a space before the word", " drive a 5\n"),
     ("a tab between fields", "drive\ta 5\n"),
     ("a tab in a reel", "drive a 5 r\t1\n"),
-    ("a carriage return behind a reel", "drive a 5 r1\r\n"),
-    ("a carriage return behind a capacity", "drive a 5\r\n"),
+    ("a carriage return after a reel", "drive a 5 r1\r\n"),
+    ("a carriage return after a capacity", "drive a 5\r\n"),
     ("a carriage return alone", "\r\n"),
-    ("a carriage return behind a command", "drive a 5 r1\nstranger\r\n"),
+    ("a carriage return after a command", "drive a 5 r1\nstranger\r\n"),
     ("a carriage return in an empty line", "drive a 5 r1\nstranger\n\r\n"),
     ("carriage returns for line feeds", "drive a 5 r1\rstranger\n"),
     ("a delete in a reel", "drive a 5 r\x7f\n"),
@@ -448,23 +448,23 @@ def of_bad_texts() -> Iterator[Vector]:
         yield Vector(name, text.encode(), b"line 1: bad line\n")
     many = "".join(f"drive /dev/st{it} 5\n" for it in range(65))
     yield stops("a 65th drive", many, "bad line")
-    yield stops("a 65th drive, behind comments", "#\n \n".replace(" ", "") + "#\n" + many, "bad line")
+    yield stops("a 65th drive, after comments", "#\n \n".replace(" ", "") + "#\n" + many, "bad line")
     for name, text in BAD_LAST:
         yield stops(name, text, "bad line")._replace(text=text.encode())
 
 
 def of_first_faults() -> Iterator[Vector]:
-    """Which line is at fault first, also behind failed attempts."""
+    """Which line is at fault first, also after failed attempts."""
     begin = "drive a 5 r1\n"
     yield vector("a bad line before one that is not possible", begin + "foo\nconnect\n", "line 2: bad line\n")
     yield vector("a line that is not possible before a bad one", begin + "connect\nfoo\n", "line 2: not possible\n")
     small = "drive /dev/st0 1040 r1\n" + ONE_BLOCK + "connect\npump 1 11\n"
     failed = "volume 1 failed: ReelTooSmall\n"
-    yield stops("a bad line behind a failed attempt", small + "foo\n", "bad line", failed)
-    yield stops("a line that is not possible behind a failed attempt", small + "\n# a\nconnect\n", "not possible", failed)
+    yield stops("a bad line after a failed attempt", small + "foo\n", "bad line", failed)
+    yield stops("a line that is not possible after a failed attempt", small + "\n# a\nconnect\n", "not possible", failed)
     again = "retry\nconnect\npump {0} 11\n"
     text = small + again.format(2) + "end-server 1\n" + again.format(3)
-    yield stops("behind three failed attempts", text + "enter\n", "not possible", failed + "volume 1 failed: Refused 16\n" + failed)
+    yield stops("after three failed attempts", text + "enter\n", "not possible", failed + "volume 1 failed: Refused 16\n" + failed)
 
 
 def of_worlds() -> Iterator[Vector]:
@@ -498,7 +498,7 @@ def of_worlds() -> Iterator[Vector]:
 BAD_TEXTS = (*of_answers(), *of_rooms(), *of_bad_texts(), *of_first_faults(), *of_worlds())
 
 
-# Lines behind two lines of drives.
+# Lines after two lines of drives.
 
 
 def runs(*fields: str) -> str:
@@ -556,7 +556,7 @@ def of_bad_lines() -> Iterator[str]:
 
 BAD_LINES = tuple(it.encode() for it in of_bad_lines())
 
-# Lines behind the drive `/dev/st0` with the reels r1 and r2 that are carried out.
+# Lines after the drive `/dev/st0` with the reels r1 and r2 that are carried out.
 GOOD_LINES = tuple(
     it.encode()
     for it in (
@@ -567,7 +567,7 @@ GOOD_LINES = tuple(
     )
 )
 
-# Lines behind the reused schedule, in which a run is there and is not finished.
+# Lines after the reused schedule, in which a run is there and is not finished.
 LATE_BAD_LINES = (
     b"drive /dev/st1 5 r5", b"drive", runs("/dev/st0", "/usr", "10", "0", "0", "1", "1").encode(), b"cut 9223372036854775808", b"serve 4 keep",
     b"to-server 9 one", b"says 9 0", b"arrange /dev/st9 " + R33.encode(), b"retry now",

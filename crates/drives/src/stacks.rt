@@ -38,7 +38,7 @@ pub trait Stacks {
         ensures below { IfSome result (λ d. d < drives self.now) }
         ensures named { (s : Shop) → holds self.now s → IsDriveNamed name.now s result };
 
-    /// Latches the first reel of the drive's stack, at its beginning.
+    /// Latches the first reel of the drive's stack, at its beginning. Drives are counted from 0.
     ///
     /// Answers `NoReel` where no reel lies on the stack or one is latched already, `Device` and `OutOfMemory`. No reel
     /// moved then.
@@ -46,13 +46,14 @@ pub trait Stacks {
         requires { drive < drives self.old }
         ensures { IsStacksCall (stacks_kind holds drives failures can_fail makes) Self.Reel.Reel self.old (Latch drive result) self.new };
 
-    /// Lays the latched reel on its stack again. It takes no memory, makes no call of the device, and never fails.
+    /// Lays the drive's latched reel, which is given back, on its stack again. It takes no memory, counts no failure, and never fails.
+    /// Stacks in folders sync the file here.
     fn unlatch(&mut self, drive: usize, reel: Self::Reel)
         requires drive { drive < drives self.old }
         requires latched { HasLatched holds self.old drive }
         ensures { IsStacksCall (stacks_kind holds drives failures can_fail makes) Self.Reel.Reel self.old (LayBack drive reel) self.new };
 
-    /// Moves the latched reel to the end of the bin.
+    /// Moves the drive's latched reel, which is given back, to the end of the bin.
     ///
     /// Answers `Device`, `OutOfMemory`, and `NameTaken` where the bin has a reel of that name. It hands the reel
     /// back then, and nothing has changed.

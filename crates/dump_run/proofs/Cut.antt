@@ -9,7 +9,7 @@ pub length_cut : (n size : ℕ) (payload : List ℕ) → length (cut_blocks n si
 length_cut zero size payload = refl
 length_cut (suc n) size payload = ap suc (length_cut n size (drop size payload))
 
--- block i begins behind i blocks
+-- block i begins after i blocks
 pub block_at : (n size : ℕ) (payload : List ℕ) (i : ℕ) → i < n → get_or (cut_blocks n size payload) i [] ≡ take size (drop (i * size) payload)
 block_at zero size payload i h = absurd (omega arith)
 block_at (suc n) size payload zero h = let none : 0 ≡ 0 * size = omega arith in ap (λ k. take size (drop k payload)) none

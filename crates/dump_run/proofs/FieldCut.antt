@@ -36,7 +36,7 @@ no_cut byte text [] x lacks is = lacks 0 (omega (arith, ap length is)) (ap (λ l
 no_cut byte [] (c ∷ cs) x lacks is = let clash = ap length is in omega (arith, clash)
 no_cut byte (b ∷ bs) (c ∷ cs) x lacks is = (let rest : bs ≡ cs ++ byte ∷ x = cc in no_cut byte bs cs x (lacks_tail byte b bs lacks) rest)
 
--- a word and what is cut behind it
+-- a word and what is cut after it
 pub found_text : (word bytes after : List ℕ) (r : Option (Bor (List ℕ) × Bor (List ℕ))) → bytes ≡ word ++ after → IsCut 10 after r → FindsText word NoFeed bytes r
 found_text word bytes after None is cut = λ text more lacks other.
     no_cut 10 after text more cut (same_rest word after (text ++ 10 ∷ more) (sym is ∙ other ∙ append_assoc word text (10 ∷ more)))

@@ -1,4 +1,4 @@
--- The text of a label has room in it, and zero bytes stand behind the text.
+-- The text of a label has room in it, and zero bytes stand after the text.
 use Rattle.std.proofs.Common.{◌≡◌, ℕ, ◌+◌, ◌-◌, ◌^◌, ◌<◌, ◌≤◌, List, [], ◌∷◌, ◌++◌, append_assoc, length, length-append, drop, replicate, decimal, sym, ◌∙◌, ap, arith}
 use Rattle.std.proofs.lemmas.Fmt.{length-decimal-le}
 use Rattle.std.proofs.lemmas.List.{drop-drop, drop-replicate, length-replicate}
@@ -12,11 +12,11 @@ use Rattle.dump_run.specs.Label.{label, label_lines, line_of}
 pub line_number_is_short : (n : ℕ) → n ≤ 999999999999 → length (decimal n) ≤ 12
 line_number_is_short n small = length-decimal-le 12 n (omega arith) (omega arith) (omega arith)
 
--- the bytes behind a text that was added
+-- the bytes after a text that was added
 left_behind : (end next k : ℕ) → next ≡ end + k → 1024 - end - k ≡ 1024 - next
 left_behind end next k at = omega arith
 
--- a text that is written over zero bytes leaves the others behind it
+-- a text that is written over zero bytes leaves the others after it
 pub zeros_behind : (end next k : ℕ) (bytes text : List ℕ) → next ≡ end + k → length text ≡ k → next ≤ 1024 → length bytes ≡ 1024
     → drop end bytes ≡ replicate (1024 - end) 0 → drop next (put_mid end k bytes text) ≡ replicate (1024 - next) 0
 zeros_behind end next k bytes text at long fits all zeros =

@@ -13,7 +13,7 @@ use Rattle.dump_run.specs.declared.count.VolumeCount.{VolumeCount}
 use Rattle.dump_run.specs.declared.fault.ResumeFault.{ResumeFault}
 use Rattle.dump_run.specs.declared.fault.ResumeFault.TheVariants.{BadLine, NotInOrder, OutOfMemory}
 
--- the volumes behind the first one, from its own numbers on
+-- the volumes after the first one, from its own numbers on
 behind : (run : PlainRun) (volume first : ℕ) (c : VolumeCount) (counts : List VolumeCount) → AreVolumes run volume first (c ∷ counts)
     → AreVolumes run (c.volume + 1) (c.first + c.count) counts
 behind run volume first c counts v =
@@ -44,7 +44,7 @@ numbers_from run volume first (c ∷ counts) limit (inr at) v =
 pub volumes_numbers : (run : PlainRun) (counts : List VolumeCount) → IsRun run → AreVolumes run 1 0 counts → All AreNumbers counts
 volumes_numbers run counts is v = numbers_from run 1 0 counts is.blocks (inr (omega arith)) v
 
--- one more volume behind the checkpoint
+-- one more volume after the checkpoint
 at_next : (volume first : ℕ) (c : VolumeCount) (counts : List VolumeCount) → c.volume ≡ volume → c.first ≡ first
     → checkpoint_after (c.volume + 1) (c.first + c.count) counts ≡ checkpoint_after (volume + 1) (first + c.count) counts
 at_next volume first c counts v f =
@@ -115,7 +115,7 @@ volumes_begun run volume first (c ∷ counts) more v =
     begun_left (d ∷ ds) (inl none) = absurd (omega (arith, ap length none))
     begun_left (d ∷ ds) (inr some) = inr some
 
--- the checkpoint is behind the last count
+-- the checkpoint is after the last count
 checkpoint_behind : (volume first : ℕ) (rest : List VolumeCount) (c : VolumeCount) → checkpoint_after volume first (rest ++ c ∷ []) ≡ (c.volume + 1, c.first + c.count)
 checkpoint_behind volume first [] c = refl
 checkpoint_behind volume first (r ∷ rest) c = checkpoint_behind (r.volume + 1) (r.first + r.count) rest c
@@ -126,7 +126,7 @@ zero_count = record { volume = 0; first = 0; count = 0 }
 pub listed_there : (counts : List VolumeCount) (at : ℕ) → at < length counts → get_or counts at zero_count ≡ get_or counts at (get_or counts at zero_count)
 listed_there counts at there = get_or_default counts at zero_count (get_or counts at zero_count) there
 
--- so many counts are in order, and behind them this block is the next
+-- so many counts are in order, and after them this block is the next
 pub record IsUpTo (run : PlainRun) (counts : List VolumeCount) (at first : ℕ) : Type 0 where
   pub volumes : AreVolumes run 1 0 (take at counts)
   pub next : checkpoint_of (take at counts) ≡ (at + 1, first)

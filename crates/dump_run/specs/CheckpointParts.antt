@@ -20,7 +20,7 @@ Lacks byte text = (i : ℕ) → i < length text → get_or text i 0 ≢ byte
 abbrev pub NoFeed : List ℕ → Type 0
 NoFeed text = Lacks line_feed text
 
--- what stands before the first such byte, and behind it
+-- what stands before the first such byte, and after it
 abbrev pub IsCut : ℕ → List ℕ → Option (Bor (List ℕ) × Bor (List ℕ)) → Type 0
 IsCut byte text None = Lacks byte text
 IsCut byte text (Some p) = Lacks byte p.0.now × (text ≡ p.0.now ++ byte ∷ p.1.now)

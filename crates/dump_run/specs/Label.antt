@@ -22,7 +22,7 @@ label_lines run volume first =
 abbrev pub label_bytes : ℕ
 label_bytes = 1024
 
--- the text, and zero bytes behind it
+-- the text, and zero bytes after it
 abbrev pub label : PlainRun → ℕ → ℕ → List ℕ
 label run volume first = let text = label_lines run volume first in text ++ replicate (label_bytes - length text) 0
 
@@ -47,7 +47,7 @@ label_of run volume first = plain_label run.name run.level run.date run.since vo
 abbrev pub label_record : PlainLabel → List ℕ
 label_record l = label (plain_run [] l.name l.level l.date l.since 0 0) l.volume l.first
 
--- It is the label of some run, within the limits of runs. Volumes are counted from 1.
+-- Each number and the name are within the limits of a run. Volumes are counted from 1.
 pub record IsLabel (l : PlainLabel) : Type 0 where
   pub name : IsName l.name
   pub level : l.level ≤ 9

@@ -14,7 +14,7 @@ pub enum RunFault {
     /// The level is above 9.
     #[error("BadLevel")]
     BadLevel,
-    /// The date, or the date of the dump that it builds on, is behind the last second of the year 9999.
+    /// The date, or the date of the dump that it builds on, is after the last second of the year 9999.
     #[error("BadDate")]
     BadDate,
     /// A block is not 1 to `RECORD_LIMIT` bytes.

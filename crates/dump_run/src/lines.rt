@@ -10,7 +10,7 @@ use std::marker::Model;
 /// The greatest number of a line, of twelve digits.
 const LINE_NUMBER_LIMIT: u64 = 999_999_999_999;
 
-// Lines of a text so far, with zero bytes behind them. They take no memory.
+// Lines of a text so far, with zero bytes after them. They take no memory.
 #[derive(Drop)]
 pub(crate) struct TextLines {
     bytes: [u8; LABEL_BYTES],
@@ -90,7 +90,7 @@ impl TextLines {
         &self.bytes[..self.end]
     }
 
-    // The lines, and zero bytes behind them.
+    // The lines, and zero bytes after them.
     pub(crate) fn into_bytes(self) -> [u8; LABEL_BYTES]
         ensures { result ≡ self ++ replicate (label_bytes - length self) 0 }
     {

@@ -40,15 +40,17 @@ impl Model for VolumeLabel {
 }
 
 impl VolumeLabel {
-    /// The label that a record is. None where it is not a label: 1024 bytes, six lines within the limits of a run, as `label` writes
-    /// them, and zero bytes after them. The volume is 1 to `BLOCKS_LIMIT`, and its first block 0 to `BLOCKS_LIMIT`.
-    pub fn read(record: &[u8]) -> Option<VolumeLabel>
-        ensures { ReadsLabel record.now result }
+    /// The label that a record with these bytes is, or None where it is no label.
+    ///
+    /// A label has 1024 bytes: six lines within the limits of a run, as `label` writes them, and zero bytes after them. The volume is 1 to
+    /// `BLOCKS_LIMIT`, and its first block 0 to `BLOCKS_LIMIT`.
+    pub fn read(bytes: &[u8]) -> Option<VolumeLabel>
+        ensures { ReadsLabel bytes.now result }
     {
-        if record.len() != LABEL_BYTES {
+        if bytes.len() != LABEL_BYTES {
             return None;
         }
-        let (label, rest) = first_lines(record)?;
+        let (label, rest) = first_lines(bytes)?;
         if !are_zeros(rest) {
             return None;
         }

@@ -46,7 +46,7 @@ split_at_stop p (x ∷ front) rest pass stop =
 abbrev pub IsWord : List ℕ → Type 0
 IsWord word = (0 < length word) × AllPass (λ b. not (is_space b)) word
 
--- what stands behind a word: nothing, or a space first
+-- what stands after a word: nothing, or a space first
 abbrev pub EndsWord : List ℕ → Type 0
 EndsWord rest = StopsAt (λ b. not (is_space b)) rest
 
@@ -54,7 +54,7 @@ word_stops : (word rest : List ℕ) → IsWord word → StopsAt is_space (word +
 word_stops [] rest w = absurd (omega (arith, w.0))
 word_stops (b ∷ word) rest w = not-true (is_space b) w.1.0
 
--- a word behind spaces is cut off
+-- a word after spaces is cut off
 pub cut_front : (before word rest : List ℕ) → AreSpaces before → IsWord word → EndsWord rest
     → (first_word (before ++ (word ++ rest)) ≡ word) × (after_word (before ++ (word ++ rest)) ≡ rest)
 unfolding first_word after_word after_spaces

@@ -92,7 +92,7 @@ pub absent : (e : DatesEntry) (xs : List Stored) → place e xs ≡ None
     → (others e (plain_all xs) ≡ plain_all xs) × (entered (plain_all xs) e ≡ plain_all xs ++ e ∷ [])
 absent e xs none = none_same e xs (ltb-false _ _ (none_is _ _ none))
 
--- what is kept of a list's end comes behind its front
+-- what is kept of a list's end comes after its front
 pub cut_behind : (old front back later new : List Stored) (long n kept : ℕ) → long ≡ length old → old ≡ front ++ back → length front ≡ n → length later ≡ length back
     → kept ≤ length later → new ≡ take (n + kept) (take long ((front ++ later) ++ drop (length (front ++ later)) old))
     → new ≡ front ++ take kept later

@@ -23,7 +23,7 @@ spaces_left n places =
     ap (λ k. take (k - min n places) (drop (min n places) (replicate places space))) (sym long)
     ∙ take_rest (replicate places space) (min n places) ∙ drop-replicate (min n places) places space ∙ ap (λ k. replicate k space) same
 
--- the spaces behind a name
+-- the spaces after a name
 pub padding : (n : ℕ) → take (32 - min n 32) (drop (min n 32) (replicate 32 space)) ≡ replicate (32 - n) space
 padding n = spaces_left n 32
 
@@ -34,7 +34,7 @@ unfolding ctime_text
 ctime_parts date m time year e a b =
     rw (a, b, e) (simp append_assoc)
 
--- a part that may be refused, behind what is there
+-- a part that may be refused, after what is there
 pub last_part : {E : Type 0} (r : Result Unit E) (new mid old text part : List ℕ) → OnOk r (new ≡ mid ++ part) → mid ≡ old ++ text → OnOk r (new ≡ old ++ (text ++ part))
 last_part (Ok x) new mid old text part e f = onto old mid new text part f e
 last_part (Err x) new mid old text part e f = tt

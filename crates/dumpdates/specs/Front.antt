@@ -3,7 +3,7 @@ use Rattle.std.specs.Prelude.{ℕ, if◌then◌else◌, List, take, drop, Option
 use Rattle.std.specs.List.{prefix_len, position_or_len, list_all}
 use Rattle.dumpdates.specs.Line.{PlainWords, is_space}
 
--- what stands behind the spaces and tabs at the front
+-- what stands after the spaces and tabs at the front
 unfoldable pub after_spaces : List ℕ → List ℕ
 after_spaces bytes = drop (prefix_len is_space bytes) bytes
 
@@ -11,7 +11,7 @@ after_spaces bytes = drop (prefix_len is_space bytes) bytes
 unfoldable pub first_word : List ℕ → List ℕ
 first_word bytes = take (position_or_len is_space (after_spaces bytes)) (after_spaces bytes)
 
--- what stands behind the first word
+-- what stands after the first word
 unfoldable pub after_word : List ℕ → List ℕ
 after_word bytes = drop (position_or_len is_space (after_spaces bytes)) (after_spaces bytes)
 

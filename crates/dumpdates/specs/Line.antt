@@ -30,7 +30,7 @@ AreParted text (word ∷ []) = text ≡ word
 AreParted text (word ∷ next ∷ words) =
     (gap rest : List ℕ) × IsGap gap × (text ≡ word ++ (gap ++ rest)) × AreParted rest (next ∷ words)
 
--- the line is these words, perhaps with a gap before the first and one behind the last
+-- the line is these words, perhaps with a gap before the first and one after the last
 pub record IsLineOfWords (line : List ℕ) (words : List (List ℕ)) : Type 0 where
   pub before : List ℕ
   pub text : List ℕ

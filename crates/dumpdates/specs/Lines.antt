@@ -7,7 +7,7 @@ use Rattle.dumpdates.specs.Text.{line_feed}
 use Rattle.dumpdates.specs.declared.fault.DatesFault.{DatesFault}
 use Rattle.dumpdates.specs.declared.fault.DatesFault.TheVariants.{BadLine, BadDate, OutOfMemory}
 
--- the lines of a text, cut at its line feeds; behind the last line feed stands one more, which may be empty
+-- the lines of a text, cut at its line feeds; after the last line feed stands one more, which may be empty
 abbrev pub lines_of : List ℕ → List (List ℕ)
 lines_of bytes = slice_split (λ b. b == line_feed) bytes
 

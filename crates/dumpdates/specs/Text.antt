@@ -41,7 +41,7 @@ ctime_text date =
     weekday_name (date / 86400)
     ++ (space ∷ (month_name m.month ++ (space ∷ (day_text m.day ++ (space ∷ (time_text m ++ (space ∷ decimal m.year)))))))
 
--- a name in 32 places, with spaces behind it; a longer one as it is
+-- a name in 32 places, with spaces after it; a longer one as it is
 abbrev pub padded_name : List ℕ → List ℕ
 padded_name name = name ++ replicate (32 - length name) space
 

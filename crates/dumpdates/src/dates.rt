@@ -49,7 +49,7 @@ impl Dates {
     /// The entries of a file (dump(8)), one for each of its lines that is not blank, in the order of the lines.
     ///
     /// Lines end with a line feed, but for the last, which need not. A line that holds nothing but spaces and tabs is
-    /// blank. Any other has seven words with spaces or tabs between them, and perhaps before and behind them: the name,
+    /// blank. Any other has seven words with spaces or tabs between them, and perhaps before and after them: the name,
     /// of 1 to 255 bytes of printed ASCII; the level, one digit; and the date as ctime(3) prints it, in UTC: a weekday,
     /// whichever it is, a month, a day of one or two digits, `hh:mm:ss` with two digits each, and a year of four.
     ///

@@ -57,7 +57,7 @@ fn is_space(byte: u8) -> bool
     byte == b' ' || byte == b'\t'
 }
 
-/// The first word, and what stands behind it. The word is empty where there is none.
+/// The first word, and what stands after it. The word is empty where there is none.
 #[tactic(auto, unfolding(crate::specs::Front::first_word, crate::specs::Front::after_word, crate::specs::Front::after_spaces))]
 fn first_word(bytes: &[u8]) -> (&[u8], &[u8])
     ensures word { result.0.now ≡ spec.first_word bytes.now }

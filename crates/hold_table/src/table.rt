@@ -94,8 +94,9 @@ impl HoldTable {
         Ok(seats)
     }
 
-    /// Takes the drive if no seat holds it, by one atomic step: where the word is 0 it becomes the seat's number. Answers
-    /// `Held`, or `Busy` with the number of the seat that holds it, which may be this one. It does not wait.
+    /// Takes the drive, counted from 0, if no seat holds it, by one atomic step: where the word is 0 it becomes the seat's number.
+    /// The seat is one of this table. Answers `Held`, or `Busy` with the number of the seat that holds it, which may be this one. It
+    /// does not wait.
     pub fn take(&self, seat: &mut HoldSeat, drive: usize) -> Taken
         requires seat { IsSeatAt self.now seat.old }
         requires drive { drive < self.now.words }
@@ -113,7 +114,7 @@ impl HoldTable {
         }
     }
 
-    /// Gives back a drive that the seat holds, by one atomic step: the word becomes 0. It does not wait.
+    /// Gives back a drive, counted from 0, that the seat holds, by one atomic step: the word becomes 0. It does not wait.
     pub fn give(&self, seat: &mut HoldSeat, drive: usize)
         requires seat { IsSeatAt self.now seat.old }
         requires drive { drive < self.now.words }

@@ -34,7 +34,7 @@ size_blocks (suc s) payload n h = size_cut (blocks_for (suc s) (length payload))
 le_or_lt : (m n : ℕ) → (m ≤ n) ⊎ (n < m)
 le_or_lt m n = grind arith
 
--- the first bytes of a list with zero bytes behind it, where it has enough
+-- the first bytes of a list with zero bytes after it, where it has enough
 within : (n k : ℕ) (bytes : List ℕ) → n ≤ length bytes → (m : ℕ) → m ≡ n
     → take n (bytes ++ replicate k 0) ≡ take m bytes ++ replicate (n - m) 0
 within n k bytes le m e =
@@ -71,7 +71,7 @@ begins_within (suc s) bytes n h =
     let step : suc n * suc s ≡ n * suc s + suc s = omega arith in
     omega (arith, bounds.1, room, step)
 
--- a block is the bytes of the payload from where it begins, and zero bytes behind them
+-- a block is the bytes of the payload from where it begins, and zero bytes after them
 pub block_of : (size : ℕ) (payload : List ℕ) (n : ℕ) → n < blocks_for size (length payload)
     → get_or (payload_blocks size payload) n []
     ≡ take (min (length payload - n * size) size) (drop (n * size) payload) ++ replicate (size - min (length payload - n * size) size) 0

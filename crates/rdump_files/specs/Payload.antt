@@ -60,7 +60,7 @@ abbrev pub begin_of : {M : Type 0} → FiledPayload M → ℕ → ℕ
 begin_of p block = min (block * p.size) p.len
 
 -- One read: the medium is read once, from where the block begins, for as many bytes as the payload has from there on and the room takes.
--- The block is these bytes, and zero bytes behind them. Where the medium failed, or has fewer, the read failed.
+-- The block is these bytes, and zero bytes after them. Where the medium failed, or has fewer, the read failed.
 pub record IsPayloadRead {M : Type 0} (m : MediumKind M) (old : FiledPayload M) (block : ℕ) (into : List ℕ)
     (result : Result Unit SourceFailed) (new : FiledPayload M) (given : List ℕ) : Type 0 where
   pub part : List ℕ

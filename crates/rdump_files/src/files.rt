@@ -39,6 +39,8 @@ pub(crate) fn read_if_there<R: Files<File = File>>(
 }
 
 /// Reads a file whole. A file that is not there is empty.
+///
+/// Answers the system's error where the file can't be opened or read, and `OutOfMemory` where memory is refused.
 pub fn read_or_empty<R: Files<File = File>>(
     rt: &R,
     alloc: Global,

@@ -37,7 +37,7 @@ holding_words Empty = codes "empty"
 holding_words (Volume v) = end_words v.end v.blocks
 holding_words Foreign = codes "not a volume of rdump"
 
--- of bytes after the last whole entry
+-- of bytes after those of the entries
 abbrev pub tail_words : ℕ → List ℕ
 tail_words bytes = codes "tail of " ++ decimal bytes ++ codes " bytes"
 

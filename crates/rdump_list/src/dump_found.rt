@@ -5,7 +5,7 @@ use dumpdates::Entry;
 use reel_check::Volume;
 use std::alloc::{AllocError, Global};
 
-/// What whole reels have of a dump, from its first block on.
+/// What reels have of a dump, from its first block on. Only volumes with their mark count.
 #[derive(Clone, Copy)]
 pub(crate) enum DumpFound {
     /// Not one volume.
@@ -18,8 +18,8 @@ pub(crate) enum DumpFound {
     Volumes { last: u32, end: u64 },
 }
 
-/// A whole volume that is reached from the first block of its dump on: each volume before it is there, and begins where one before that
-/// ends.
+/// A volume with its mark that is reached from the first block of its dump on: each volume before it is there, and begins where one before
+/// that ends.
 #[derive(Clone, Copy)]
 struct Reached {
     volume: u32,

@@ -89,7 +89,7 @@ fn push_end(text: &mut Vec<u8>, volume: &Volume) -> Result<(), AllocError>
     }
 }
 
-/// Appends what is said of bytes after the last whole entry.
+/// Appends what is said of bytes after those of the entries.
 fn push_tail(text: &mut Vec<u8>, bytes: u64) -> Result<(), AllocError>
     ensures { OnOk result (text.new.items ≡ text.old.items ++ tail_words bytes) }
 {

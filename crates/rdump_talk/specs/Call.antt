@@ -25,7 +25,7 @@ wanted_by (WriteDropped count) = Number
 wanted_by (Read count) = DataUpTo count
 wanted_by (Op op count) = Number
 
--- what came is no reply: none by the grammar, one with more behind it, or one that does not end in 2^64 - 1 bytes
+-- what came is no reply: none by the grammar, one with more after it, or one that does not end in 2^64 - 1 bytes
 abbrev pub IsNoReply : Wanted → List ℕ → Type 0
 IsNoReply wanted bytes =
     ((fault : WireFault) × ReplyGives (Some wanted) bytes (Err fault) bytes)

@@ -58,7 +58,7 @@ pub fn read_volume<P: Peer, F: Write, W: Write>(
 }
 
 /// Reads the volume that begins a reel, over a connection of its own: prints the label, up to its first zero byte, and
-/// writes the records behind it, up to the first mark, to a file.
+/// writes the records after it, up to the first mark, to a file.
 ///
 /// It opens the device for reading, rewinds, reads record after record, and closes the device. After a reply that is an
 /// error, after one that is none, and after a write that failed, it does nothing more.
@@ -208,7 +208,7 @@ fn read_fault(fault: CallFault) -> ReadFault
     }
 }
 
-/// Prints the label, and writes the records behind it, up to the first mark. Answers what becomes of the reel: one without a
+/// Prints the label, and writes the records after it, up to the first mark. Answers what becomes of the reel: one without a
 /// label stays.
 fn copy_records<P: Peer, F: Write, W: Write>(
     caller: &mut PeerCaller,

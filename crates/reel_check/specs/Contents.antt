@@ -26,7 +26,7 @@ pub record IsTally (t : Tally) (entries : List PlainEntry) : Type 0 where
   pub records : t.records ≡ records_met entries
   pub marks : t.marks ≡ marks_met entries
 
--- What is told is what the entries of these bytes say, how many bytes there are, and how many of them stand after the last whole entry.
+-- What is told is what the entries of these bytes say, how many bytes there are, and how many of them stand after those of the entries.
 pub record IsContents (c : ReelContents) (file : List ℕ) (entries : List PlainEntry) : Type 0 where
   pub holding : IsHolding c.holding entries
   pub records : c.records ≡ records_met entries

@@ -39,8 +39,8 @@ impl ReelTally {
         }
     }
 
-    /// A record of these bytes comes next, of which there are 1 to `rmt_wire::RECORD_LIMIT`. The first one is read as a label, and of the others
-    /// only the length counts.
+    /// A record of these bytes comes next: 1 to `rmt_wire::RECORD_LIMIT` of them. The first record is read as a label, and of the
+    /// others only the length counts.
     pub fn record(&mut self, bytes: &[u8])
         ensures { (entries : List PlainEntry) → length entries + 1 < 2 ^ 64 → IsTally self.old entries →
             IsTally self.new (entries ++ Record bytes.now ∷ []) }

@@ -19,7 +19,7 @@ one_end kept passed before ends view e log h =
 none_behind : (n : ℕ) → 0 ≡ min n (2 ^ 64 - 1) → n ≡ 0
 none_behind n e = omega (arith, e)
 
--- this is logged behind what passed, where no ends stand there
+-- this is logged after what passed, where no ends stand there
 pub logged : (kept : KeptLog) (passed : List Passed) (ends : ℕ) (after more : List Passed) → kept_log passed ends ≡ kept → kept.ends ≡ 0 → after ≡ passed ++ more
     → (log : List Passed) → IsLogOf kept (log ++ []) → IsLogOf (kept_log after ends) (log ++ more)
 logged kept passed ends after more view none all log h =

@@ -12,7 +12,7 @@ use Rattle.rmt_server.specs.State.{state}
 use Rattle.rdump_talk.specs.declared.peer.Passed.{Passed}
 use Rattle.rdump_talk.specs.declared.peer.Passed.TheVariants.{Ended}
 
--- what passed, and how many ends stand behind that
+-- what passed, and how many ends stand after that
 pub record KeptLog : Type 0 where
   pub passed : List Passed
   pub ends : ℕ

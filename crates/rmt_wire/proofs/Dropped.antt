@@ -68,7 +68,7 @@ dropped_seen number rest n s great =
     let large : ltb RECORD_LIMIT n ≡ true = grind (arith, nat_tests) in
     ap dropped_if_long (number_is_seen places.Line number n line_feed rest s refl refl) ∙ ap (λ b. cond b (Some (length number + 2, n)) None) large
 
--- the line is what is kept in front, and the rest is behind it
+-- the line is what is kept in front, and the rest is after it
 pub text_split : (bytes number rest : List ℕ) (len : ℕ) → bytes ≡ 87 ∷ (number ++ line_feed ∷ rest) → len ≡ length number + 2
     → (drop len bytes ≡ rest) × ((more : List ℕ) → take len bytes ++ more ≡ 87 ∷ (number ++ line_feed ∷ more)) × (len ≤ length bytes)
 text_split bytes number rest len split long =
@@ -87,7 +87,7 @@ text_split bytes number rest len split long =
 pub line_split : (bytes : List ℕ) (line : ℕ × ℕ) (d : IsDroppedLine bytes line.0 line.1) → (drop line.0 bytes ≡ d.rest) × ((more : List ℕ) → take line.0 bytes ++ more ≡ 87 ∷ (d.number ++ line_feed ∷ more)) × (line.0 ≤ length bytes)
 line_split bytes line d = text_split bytes d.number d.rest line.0 d.split d.long
 
--- another text behind the line changes nothing of what is found
+-- another text after the line changes nothing of what is found
 pub line_stays : (bytes : List ℕ) (line : ℕ × ℕ) → dropped_line bytes ≡ Some line → (more : List ℕ) → dropped_line (take line.0 bytes ++ more) ≡ Some line
 line_stays bytes line e more =
     let d = dropped_found bytes line e in
@@ -193,7 +193,7 @@ line_pushed kept piece line e =
     ap (λ l. dropped_line (l ++ piece)) (sym (take-append-drop line.0 kept)) ∙ ap dropped_line (append_assoc (take line.0 kept) (drop line.0 kept) piece)
     ∙ line_stays kept line e (drop line.0 kept ++ piece)
 
--- what is pushed stands behind what was pushed before
+-- what is pushed stands after what was pushed before
 pub push_unread : (kept piece : List ℕ) (dropped : ℕ) (bytes : List ℕ) → Unread (held kept dropped) bytes → Unread (held (kept ++ piece) dropped) (bytes ++ piece)
 push_unread kept piece dropped bytes u =
     at_option (dropped_line kept) (Unread (held (kept ++ piece) dropped) (bytes ++ piece))

@@ -11,7 +11,7 @@ use Rattle.rmt_wire.proofs.Dropped.{push_dropped, push_unread, taken_kept}
 use Rattle.rmt_wire.proofs.Given.{spelled_more}
 use Rattle.rmt_wire.proofs.WriteLines.{known_pushed}
 
--- what came stands behind what was kept, and the data that could go are gone
+-- what came stands after what was kept, and the data that could go are gone
 module _ (kept piece items : List ℕ) (dropped : ℕ) (is : items ≡ kept ++ piece) where
   pub more_dropped : IsDropped (dropped_line kept) dropped → IsDropped (dropped_line items) dropped
   more_dropped h = subst (λ l. IsDropped (dropped_line l) dropped) (sym is) (push_dropped kept piece dropped h)
@@ -30,7 +30,7 @@ module _ (kept piece items : List ℕ) (dropped : ℕ) (is : items ≡ kept ++ p
     filled left left' old count same long consumed =
         subst (λ h. IsFilled left left' h new count) same (record { came = piece; long = long; consumed = consumed; unread = more_unread; given = more_given })
 
--- what came stands behind what is kept at the front
+-- what came stands after what is kept at the front
 pub at_front : (old moved came items : List ℕ) (start : ℕ) → moved ≡ take 0 old ++ drop (0 + start) old → items ≡ moved ++ came → items ≡ drop start old ++ came
 at_front old moved came items start m is =
     let same : 0 + start ≡ start = omega arith in

@@ -166,7 +166,7 @@ open_first digits d =
       (digits ++ f.0, 48 ∷ [], f.2, zero, ap (λ t. 73 ∷ t) (sym (append_assoc digits f.0 (line_feed ∷ (48 ∷ line_feed ∷ []))))),
     )
 
--- what follows a front of a line, behind all that stands before it
+-- what follows a front of a line, after all that stands before it
 pub behind : (letter : ℕ) (first a b : List ℕ) → letter ∷ (first ++ line_feed ∷ (a ++ b)) ≡ letter ∷ (first ++ line_feed ∷ a) ++ b
 behind letter first a b = ap (λ t. letter ∷ t) (sym (append_assoc first (line_feed ∷ a) b))
 
@@ -182,7 +182,7 @@ first_faulty : (bytes : List ℕ) (fault : WireFault) → number_front places.Li
 unfolding front_of head_of letter_head op_head
 first_faulty bytes fault e = ap (λ s. after (after s (λ op. count_head op (drop (op.1 + 1) bytes))) (request_at (73 ∷ bytes))) e
 
--- behind a first number, what is seen is what is seen of the second
+-- after a first number, what is seen is what is seen of the second
 second_seen : (first rest : List ℕ) (op : ℕ) → SpellsNumber first op → front_of (73 ∷ (first ++ line_feed ∷ rest)) ≡ after (count_head (op, length first) rest) (request_at (73 ∷ (first ++ line_feed ∷ rest)))
 unfolding front_of head_of letter_head op_head
 second_seen first rest op s =

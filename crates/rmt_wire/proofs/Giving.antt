@@ -12,7 +12,7 @@ use Rattle.rmt_wire.proofs.Spellings.{request_seen}
 use Rattle.rmt_wire.proofs.Fronts.{FrontView}
 use Rattle.rmt_wire.proofs.Opens.{front_view}
 
--- what a reader answers to what is seen, and what is left behind it
+-- what a reader answers to what is seen, and what is left after it
 abbrev pub answer_to : Seen (PlainRequest × ℕ) → Result (Option PlainRequest) WireFault
 answer_to (Ok None) = Ok None
 answer_to (Ok (Some p)) = Ok (Some p.0)

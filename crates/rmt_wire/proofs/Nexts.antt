@@ -109,7 +109,7 @@ line_some kept line e =
     let long = d.long in
     (omega arith, (line_split kept line d).2)
 
--- bytes that are taken out behind a front of what is kept
+-- bytes that are taken out after a front of what is kept
 pub taken_out : (items : List ℕ) (start len count : ℕ) → start + len ≤ length items
     → drop start (take (start + len) items ++ drop (start + len + count) items) ≡ take len (drop start items) ++ drop (len + count) (drop start items)
 taken_out items start len count within =
@@ -155,13 +155,13 @@ room_at items start dropped bytes all gone e most within g u =
     let size = length-drop start items in
     rw same (omega arith)
 
--- what is kept once the data of a dropped write that can go are taken out behind its line
+-- what is kept once the data of a dropped write that can go are taken out after its line
 module _ (old items : List ℕ) (start dropped gone : ℕ) (line : ℕ × ℕ) (within : start ≤ length old) (found : dropped_line (drop start old) ≡ Some line)
     (few : dropped ≤ line.1) (amount : gone ≡ min (length (drop start old) - line.0) (line.1 - dropped)) (is : items ≡ take (start + line.0) old ++ drop (start + line.0 + gone) old) where
   some : (0 < line.0) × (line.0 ≤ length (drop start old))
   some = line_some (drop start old) line found
 
-  -- the line, and what is behind the data that are gone
+  -- the line, and what is after the data that are gone
   pub left_behind : drop start items ≡ take line.0 (drop start old) ++ drop (line.0 + gone) (drop start old)
   left_behind = ap (drop start) is ∙ taken_out old start line.0 gone (let size = length-drop start old in omega (arith, some.1))
 

@@ -114,7 +114,7 @@ device_faulty : (bytes : List ℕ) (fault : WireFault) → line_front bytes ≡ 
 unfolding front_of head_of letter_head open_head
 device_faulty bytes fault e = ap (λ s. after (after s (λ device. mode_head device (drop (device + 1) bytes))) (request_at (79 ∷ bytes))) e
 
--- behind a device line, what is seen is what is seen of the mode
+-- after a device line, what is seen is what is seen of the mode
 mode_seen : (device rest : List ℕ) → IsLine device → front_of (79 ∷ (device ++ line_feed ∷ rest)) ≡ after (mode_head (length device) rest) (request_at (79 ∷ (device ++ line_feed ∷ rest)))
 unfolding front_of head_of letter_head open_head
 mode_seen device rest l =
@@ -140,7 +140,7 @@ line_faulty device rest mode fault l n e =
     ∙ ap (λ s. after (after s (λ mode. after (line_front rest) (λ len. Ok (Some (head.Open (length device) mode.0 (length device + len + 3)))))) (request_at (79 ∷ (device ++ line_feed ∷ rest)))) n
     ∙ ap (after_mode device rest mode.0) e
 
--- the number in front of a mode line that ends behind it, told by its digits
+-- the number in front of a mode line that ends after it, told by its digits
 line_view_in_mode : (device rest digits later : List ℕ) (stop : ℕ) (seen : Seen ℕ) → IsLine device → AreDigits places.Mode 0 0 digits → 0 < 0 + length digits → ends_number places.Mode stop ≡ true
     → rest ≡ digits ++ stop ∷ later → LineView 0 rest seen → FrontView (79 ∷ (device ++ line_feed ∷ rest)) (after_mode device rest (digits_value 10 digits) seen)
 line_view_in_mode device rest digits later stop (Ok None) l d some ends e v =

@@ -26,11 +26,11 @@ number_same a b x y m n s t e =
     let text = w.0 in
     (cc, w.1)
 
--- a letter, a first line and its end, and what follows, with more behind it
+-- a letter, a first line and its end, and what follows, with more after it
 behind_line : (letter : ℕ) (line later text more : List ℕ) → text ≡ letter ∷ (line ++ line_feed ∷ later) → text ++ more ≡ letter ∷ (line ++ line_feed ∷ (later ++ more))
 behind_line letter line later text more e = ap (λ t. t ++ more) e ∙ ap (λ t. letter ∷ t) (append_assoc line (line_feed ∷ later) more)
 
--- a text and more behind it, of one length
+-- a text and more after it, of one length
 nothing_more : (text more other : List ℕ) → text ++ more ≡ other → length text ≡ length other → (more ≡ []) × (text ≡ other)
 nothing_more text more other e long =
     let parts = length-append text more in

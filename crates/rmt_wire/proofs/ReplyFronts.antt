@@ -103,7 +103,7 @@ kept_faulty : (bytes : List ℕ) (fault : WireFault) → number_front places.Lin
 unfolding kept_of
 kept_faulty bytes fault e = ap (λ s. 69 ∷ kept_behind s bytes) e
 
--- behind that line the text is kept
+-- after that line the text is kept
 pub kept_error : (number text : List ℕ) (n : ℕ) → SpellsNumber number n → kept_of (69 ∷ (number ++ line_feed ∷ text)) ≡ 69 ∷ (number ++ line_feed ∷ kept_text text)
 unfolding kept_of
 kept_error number text n s =
@@ -255,7 +255,7 @@ number_view_of bytes (Err fault) v =
       λ more. done_number_faulty (v.0 ++ v.2 ∷ more) BadNumber (v.6 more ∙ ap Err bad),
     )
 
--- the data behind their line
+-- the data after their line
 data_at_view : (most : ℕ) (number rest : List ℕ) (n : ℕ) → SpellsNumber number n → n ≤ most → ReplyView (DataUpTo most) (65 ∷ (number ++ line_feed ∷ rest)) (data_at n (length number + 2) rest)
 data_at_view most number rest n s within =
     let bytes : List ℕ = 65 ∷ (number ++ line_feed ∷ rest) in

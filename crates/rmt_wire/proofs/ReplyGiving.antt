@@ -13,7 +13,7 @@ use Rattle.rmt_wire.proofs.Align.{head_same, align_less, align_same}
 use Rattle.rmt_wire.proofs.Giving.{fault_stays}
 use Rattle.rmt_wire.proofs.ReplyFronts.{ReplyView, reply_seen, reply_view}
 
--- what a reader answers to what is seen, and what is left behind it
+-- what a reader answers to what is seen, and what is left after it
 abbrev pub answer_to : Seen (PlainReply × ℕ) → Result (Option PlainReply) WireFault
 answer_to (Ok None) = Ok None
 answer_to (Ok (Some p)) = Ok (Some p.0)
@@ -144,7 +144,7 @@ not_before wanted bytes f g a b less =
           o.2,
     )
 
--- what stands behind fronts of one length begins with one byte
+-- what stands after fronts of one length begins with one byte
 byte_same : (p q x y : List ℕ) (a b : ℕ) → p ++ a ∷ x ≡ q ++ b ∷ y → length p ≡ length q → a ≡ b
 byte_same p q x y a b e long =
     head_same a b x y (sym (drop_at p (a ∷ x) (length p) refl) ∙ ap (drop (length p)) e ∙ drop_at q (b ∷ y) (length p) (sym long))

@@ -64,7 +64,7 @@ text_or_all (letter ∷ bytes) = text_at letter bytes (eqb letter 69) refl
 kept_is : (bytes : List ℕ) (t : HasText bytes) → kept_of bytes ≡ 69 ∷ (t.number ++ line_feed ∷ kept_text t.text)
 kept_is bytes t = ap kept_of t.split ∙ kept_error t.number t.text t.value t.spelled
 
--- what was kept is kept again, with more behind it
+-- what was kept is kept again, with more after it
 pub pushed : (bytes piece : List ℕ) → kept_of (kept_of bytes ++ piece) ≡ kept_of (bytes ++ piece)
 pushed bytes piece =
     ⊎_elim
@@ -89,7 +89,7 @@ same_all wanted bytes (Ok None) k e = sym (ap (reply_front wanted) k) ∙ e
 same_all wanted bytes (Ok (Some p)) k e = (p.1, sym (ap (reply_front wanted) k) ∙ e, ap (drop p.1) k)
 same_all wanted bytes (Err fault) k e = sym (ap (reply_front wanted) k) ∙ e
 
--- behind an error that has ended
+-- after an error that has ended
 behind_error : (number line rest : List ℕ) → drop (length number + 2 + length line + 1) (69 ∷ (number ++ line_feed ∷ (line ++ line_feed ∷ rest))) ≡ rest
 behind_error number line rest =
     let front : List ℕ = 69 ∷ (number ++ line_feed ∷ (line ++ line_feed ∷ [])) in
@@ -315,7 +315,7 @@ cut_at bytes len size kept e =
     ∙ ap (λ l. l ++ drop size (drop len bytes)) (sym (take-add len kept bytes))
     ∙ ap (λ l. take (len + kept) bytes ++ l) (drop-drop size len bytes ∙ ap (λ n. drop n bytes) sum)
 
--- behind the letter of an error
+-- after the letter of an error
 pub cut_behind : (bytes : List ℕ) (p : ℕ × ℕ) (size kept : ℕ) → number_front places.Line bytes ≡ Ok (Some p) → size ≡ text_len (take (length bytes - (p.1 + 1)) (drop (p.1 + 1) bytes))
     → kept ≡ min size 255 → kept_behind (number_front places.Line bytes) bytes ≡ take (p.1 + 1 + kept) bytes ++ drop (p.1 + 1 + kept + (size - kept)) bytes
 cut_behind bytes p size kept e s k =

@@ -15,7 +15,7 @@ use Rattle.rmt_wire.specs.declared.number.Place.TheVariants as places
 use Rattle.rmt_wire.proofs.Numbers.{AreDigits, number_seen}
 use Rattle.rmt_wire.proofs.Lines.{line_seen}
 
--- behind one byte after a front
+-- after one byte after a front
 pub drop_past : (xs ys : List ℕ) (y : ℕ) → drop (length xs + 1) (xs ++ y ∷ ys) ≡ ys
 drop_past [] ys y = refl
 drop_past (x ∷ xs) ys y = let e : suc (length xs) + 1 ≡ suc (length xs + 1) = omega arith in rw e (drop_past xs ys y)

@@ -69,7 +69,7 @@ take_no_feed zero line h = tt
 take_no_feed (suc n) [] h = tt
 take_no_feed (suc n) (b ∷ line) h = (h.0, take_no_feed n line h.1)
 
--- what was taken can be taken again, with more behind it
+-- what was taken can be taken again, with more after it
 pub take_again : (n : ℕ) (xs ys : List ℕ) → take n (take n xs ++ ys) ≡ take n (xs ++ ys)
 take_again zero xs ys = refl
 take_again (suc n) [] ys = refl
@@ -99,7 +99,7 @@ no_feed_both : (a b : List ℕ) → HasNoLineFeed a → HasNoLineFeed b → HasN
 no_feed_both [] b h k = k
 no_feed_both (x ∷ a) b h k = (h.0, no_feed_both a b h.1 k)
 
--- what was kept is kept again, with more behind it
+-- what was kept is kept again, with more after it
 again_open : (text piece : List ℕ) → HasNoLineFeed text → TextView piece → kept_text (take 255 text ++ piece) ≡ kept_text (text ++ piece)
 again_open text piece h v =
     let kept = take_no_feed 255 text h in

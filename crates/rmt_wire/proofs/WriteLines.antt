@@ -14,7 +14,7 @@ use Rattle.rmt_wire.proofs.Spellings.{number_is_seen, write_seen}
 use Rattle.rmt_wire.proofs.Fronts.{digits_spell}
 use Rattle.rmt_wire.proofs.Dropped.{chosen, some_same, text_split}
 
--- the bytes are a write's line, of this length and with this count, and what is behind it
+-- the bytes are a write's line, of this length and with this count, and what is after it
 record IsWriteLine (bytes : List ℕ) (line : ℕ × ℕ) : Type 0 where
   number : List ℕ
   rest : List ℕ
@@ -67,7 +67,7 @@ pub known_within : (known : Option (ℕ × ℕ)) (bytes : List ℕ) → IsKnown 
 known_within None bytes k = tt
 known_within (Some line) bytes k = write_within bytes line k
 
--- another text behind the line changes nothing of what is found
+-- another text after the line changes nothing of what is found
 pub write_stays : (bytes : List ℕ) (line : ℕ × ℕ) → write_line bytes ≡ Some line → (more : List ℕ) → write_line (take line.0 bytes ++ more) ≡ Some line
 write_stays bytes line e more =
     let d = found bytes line e in

@@ -46,7 +46,7 @@ reply_front wanted (letter ∷ bytes) =
     else if letter == 69 then error_front bytes
     else Err NotAReply
 
--- the bytes behind `E`, as they are kept once they have a number
+-- the bytes after `E`, as they are kept once they have a number
 abbrev pub kept_behind : Seen (ℕ × ℕ) → List ℕ → List ℕ
 kept_behind (Ok (Some n)) bytes = take (n.1 + 1) bytes ++ kept_text (drop (n.1 + 1) bytes)
 kept_behind (Ok None) bytes = bytes

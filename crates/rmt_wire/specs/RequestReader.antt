@@ -21,7 +21,7 @@ unfoldable pub dropped_line : List ℕ → Option (ℕ × ℕ)
 dropped_line [] = None
 dropped_line (letter ∷ bytes) = if letter == 87 then dropped_if_long (number_front places.Line bytes) else None
 
--- the bytes that a reader keeps, and how many data of a dropped write it let go from behind the write's line
+-- the bytes that a reader keeps, and how many data of a dropped write it let go from after the write's line
 pub record RequestHeld : Type 0 where
   pub kept : List ℕ
   pub dropped : ℕ
@@ -34,7 +34,7 @@ abbrev pub IsDropped : Option (ℕ × ℕ) → ℕ → Type 0
 IsDropped None dropped = dropped ≡ 0
 IsDropped (Some line) dropped = dropped ≤ line.1
 
--- at the line of a dropped write, the bytes are the line, data that were let go, and what is kept behind them
+-- at the line of a dropped write, the bytes are the line, data that were let go, and what is kept after them
 abbrev pub UnreadAt : Option (ℕ × ℕ) → RequestHeld → List ℕ → Type 0
 UnreadAt None h bytes = (h.dropped ≡ 0) × (bytes ≡ h.kept)
 UnreadAt (Some line) h bytes =

@@ -3,7 +3,7 @@
 /// Writes `count` file marks, of 4 bytes each (mtio).
 pub const MTWEOF: u32 = 0;
 
-/// Goes forward over `count` file marks, behind the last of them (mtio).
+/// Goes forward over `count` file marks, after the last of them (mtio).
 pub const MTFSF: u32 = 1;
 
 /// Goes back over `count` file marks, before the last of them (mtio).

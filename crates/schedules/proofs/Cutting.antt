@@ -4,7 +4,7 @@ use Rattle.std.proofs.lemmas.List.{take-append-drop, drop_more}
 use Rattle.std.proofs.lemmas.List.Quantifiers.{position-Some}
 use Rattle.std.proofs.lemmas.Map.Views.{exact_unsigned_eq}
 
--- what stands before the byte, the byte, and what stands behind it
+-- what stands before the byte, the byte, and what stands after it
 pub cut_at_byte : (byte : ℕ) (text : List ℕ) (at : ℕ) → position (λ b. b == byte) text ≡ Some at → take at text ++ byte ∷ drop (at + 1) text ≡ text
 cut_at_byte byte text at e =
     let found = position-Some (λ b. b == byte) text at 0 e in

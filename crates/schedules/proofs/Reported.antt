@@ -59,7 +59,7 @@ pub told_names : (name : List ℕ) (s : Shop) (told : Option (List (Slot KeptRee
     → map rest_slot slots ≡ unwrap_or told [] → names_of slots ≡ names_of (stack_of s.racks name)
 told_names name s told slots tells e = sym (names_at_rest slots) ∙ ap (λ l. names_of l) (e ∙ sym (told_stack name s told tells))
 
--- one element more, behind what was said of those before it
+-- one element more, after what was said of those before it
 pub told_more : {X : Type 0} (f : X → List ℕ) (before now : List ℕ) (xs : List X) (i : ℕ) (x : X) → slice_get xs i ≡ Some x
     → now ≡ before ++ flat_map f (take i xs) → now ++ f x ≡ before ++ flat_map f (take (i + 1) xs)
 told_more f before now xs i x got e =
@@ -117,7 +117,7 @@ count_there counts i within none =
     let there : slice_get counts i ≡ Some (get_or counts i d) = slice_get-get_or counts i d within in
     let both : None ≡ Some (get_or counts i d) = none ∙ there in cc
 
--- a word, a device and names, behind what was said before
+-- a word, a device and names, after what was said before
 pub stack_said : (word end text one two device told names : List ℕ) → one ≡ text ++ word → two ≡ one ++ device → told ≡ names
     → two ++ [] ++ told ++ end ≡ text ++ (word ++ device ++ names ++ end)
 stack_said word end text one two device told names e1 e2 same =
@@ -125,7 +125,7 @@ stack_said word end text one two device told names e1 e2 same =
     let both : two ++ [] ++ told ++ end ≡ text ++ word ++ device ++ [] ++ names ++ end = (λ k. first k ++ [] ++ same k ++ end) in
     both ∙ simp (append_assoc, append-nil)
 
--- the parts of a report, one behind the other
+-- the parts of a report, one after the other
 pub joined : (reels stacks word names end counts title dates t0 t1 t2 t3 t4 t5 : List ℕ) → t0 ≡ [] → t1 ≡ t0 ++ reels → t2 ≡ t1 ++ stacks
     → t3 ≡ t2 ++ word ++ names ++ end → t4 ≡ t3 ++ counts → t5 ≡ t4 ++ title ++ dates
     → t5 ≡ reels ++ stacks ++ (word ++ names ++ end) ++ counts ++ title ++ dates

@@ -39,7 +39,7 @@ pub record HasPlayed (w : World) (text : List ℕ) : Type 0 where
 abbrev pub IsPlay : List ℕ → Type 0
 IsPlay text = (text ≡ []) ⊎ ((w : World) × HasPlayed w text)
 
--- what events print in some world, and behind it the report of what that world has come to
+-- what events print in some world, and after it the report of what that world has come to
 pub record IsReport (text : List ℕ) : Type 0 where
   pub drives : List PlainDriveSpec
   pub world : World
@@ -48,7 +48,7 @@ pub record IsReport (text : List ℕ) : Type 0 where
   pub plays : Plays (first_world drives) world played
   pub is : text ≡ played ++ report_text drives world
 
--- what events print, and behind it the line that ends the schedule
+-- what events print, and after it the line that ends the schedule
 pub record IsHalted (n : ℕ) (halt : Halt) (text : List ℕ) : Type 0 where
   pub played : List ℕ
   pub play : IsPlay played

@@ -4,7 +4,7 @@ ghost use Rattle.schedules.specs.Cut.{IsCut, left_in};
 
 use rmt_wire::find_byte;
 
-/// What stands before the first byte of this kind, and behind it. None stands behind where there is no such byte.
+/// What stands before the first byte of this kind, and after it. None stands after where there is no such byte.
 pub(crate) fn cut(text: &[u8], byte: u8) -> (&[u8], Option<&[u8]>)
     ensures cut { IsCut byte text.now result.0.now result.1 }
     ensures shorter { left_in result.1 < length text.now + 1 }

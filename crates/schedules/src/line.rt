@@ -236,7 +236,7 @@ fn event_at(command: &str, connection: usize) -> Option<Act> {
     Some(Act::Event { event })
 }
 
-/// The trouble that is named: none behind the last field.
+/// The trouble that is named: none after the last field.
 fn read_trouble(fields: &mut LineFields<'_>) -> Option<Trouble> {
     if fields.is_over() {
         return Some(Trouble::None);

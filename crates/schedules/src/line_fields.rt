@@ -11,7 +11,7 @@ use rmt_wire::argument::number_of;
 /// The fields of a line that are still to be read. They are parted by one space.
 #[derive(Clone, Copy)]
 pub(crate) struct LineFields<'a> {
-    // What is left of the line; none behind its last field.
+    // What is left of the line; none after its last field.
     pub(crate) rest: Option<&'a [u8]>,
 }
 
@@ -21,7 +21,7 @@ impl<'a> LineFields<'a> {
         LineFields { rest }
     }
 
-    /// The next field. None behind the last.
+    /// The next field. None after the last.
     pub(crate) fn field(&mut self) -> Option<&'a [u8]>
         ensures { OnSome result (left_in self.new.rest < left_in self.old.rest) }
     {

@@ -7,7 +7,7 @@ use crate::cut::cut;
 /// The lines of a text that are still to be read, and the number of the last command that was read: 1 where none was.
 #[derive(Clone, Copy)]
 pub(crate) struct ScheduleLines<'a> {
-    // What is left of the text; none behind its last line.
+    // What is left of the text; none after its last line.
     pub(crate) rest: Option<&'a [u8]>,
     // How many lines were read.
     passed: usize,
@@ -26,7 +26,7 @@ impl<'a> ScheduleLines<'a> {
         }
     }
 
-    /// The next line. None behind the last.
+    /// The next line. None after the last.
     fn line(&mut self) -> Option<&'a [u8]>
         ensures shorter { OnSome result (left_in self.new.rest < left_in self.old.rest) }
         ensures counted { OnSome result (1 ≤ self.new.passed) }
@@ -38,7 +38,7 @@ impl<'a> ScheduleLines<'a> {
         Some(line)
     }
 
-    /// The next line that is a command: it is not empty, and no comment. None behind the last.
+    /// The next line that is a command: it is not empty, and no comment. None after the last.
     pub(crate) fn command(&mut self) -> Option<&'a [u8]>
         ensures { OnSome result (left_in self.new.rest < left_in self.old.rest) }
     {

@@ -13,7 +13,7 @@ use crate::names::Names;
 use std::alloc::{AllocError, Global};
 use tape_world::{DriveSpec, World, good_drives};
 
-/// The drives that the lines begin with. `lines` stands behind the last of their lines, and at one at fault.
+/// The drives that the lines begin with. `lines` stands after the last of their lines, and at one at fault.
 ///
 /// Answers `BadLine` where the first command is none of a drive, where there is none, and where a world can't have the drives.
 pub(crate) fn read_drives<'a>(
@@ -58,7 +58,7 @@ fn add_drives<'a>(
     Ok(())
 }
 
-/// Adds a drive behind the others. Answers `BadLine` where a world can't have them all.
+/// Adds a drive after the others. Answers `BadLine` where a world can't have them all.
 fn add_drive<'a>(
     alloc: Global,
     drives: &mut Vec<DriveLine<'a>>,

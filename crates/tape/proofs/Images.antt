@@ -37,7 +37,7 @@ begins_one bytes rest n None fits is short = absurd (omega (arith, ap length is,
 begins_one bytes rest n (Some m) fits is begins =
     ap Some (sym (length_there bytes begins.1.0 m begins.0 begins.1.1) ∙ length_there bytes rest n fits is)
 
--- ---- the entry behind a place
+-- ---- the entry after a place
 
 first_of : (x tail : List ℕ) (after : List PlainEntry) (e : PlainEntry) (rest : List ℕ) → x ≡ images_of after ++ tail → IsTail tail → IsTapeEntry e
     → ((d : PlainEntry) (ds : List PlainEntry) → after ≡ d ∷ ds → IsTapeEntry d) → x ≡ image_of e ++ rest → Some (length_of e) ≡ first_length after
@@ -86,7 +86,7 @@ long_tail x n long begins e rest lawful is =
     let other = length_there x (body_of e ++ rest) (length_of e) (omega arith) (is ∙ image_parts e rest) in
     absurd (omega arith)
 
--- the same length stands behind the bytes of a record
+-- the same length stands after the bytes of a record
 behind_of : (e : PlainEntry) (rest : List ℕ) (n : ℕ) → 0 < n → length_of e ≡ n → drop (4 + n) (image_of e ++ rest) ≡ length_bytes n ++ rest
 behind_of Mark rest n some is = absurd (omega arith)
 behind_of (Record bytes) rest n some is =

@@ -49,7 +49,7 @@ tail_cut n bytes rest small is some short e behind lawful whole =
     let body = body_some n e rest behind some same.0 same.1 in
     absurd (omega (arith, ap length body.2, length-append body.0 (length_bytes n ++ behind), body.1))
 
--- nor are they where no length stands behind them
+-- nor are they where no length stands after them
 pub tail_open : (n : ℕ) (bytes rest : List ℕ) → n < 2 ^ 32 → bytes ≡ length_bytes n ++ rest → 0 < n → length (drop n rest) < 4 → IsTail bytes
 tail_open n bytes rest small is some short e behind lawful whole =
     let same = begun_by n rest e behind small lawful (sym is ∙ whole) in
@@ -83,7 +83,7 @@ first_record n m bytes rest front behind is some limit stands long same =
       lawful = (omega arith, omega arith);
     }
 
--- the entries of the bytes: the first, and those behind it
+-- the entries of the bytes: the first, and those after it
 pub entries_first : (file bytes behind : List ℕ) (f : IsFirst file bytes behind) → entries_in file ≡ f.entry ∷ entries_in behind
 entries_first file bytes behind f =
     sym (spells_in file (f.entry ∷ entries_in behind) (more_spells file behind f.entry (entries_in behind) f.lawful f.whole (found_in behind)))

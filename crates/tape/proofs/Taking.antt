@@ -91,7 +91,7 @@ after_four (Record bytes) rest = (
 )
 after_four Mark rest = (rest, drop_at (length_bytes 0) rest 4 (length_length_bytes 0))
 
--- behind the leading length stand the record's bytes
+-- after the leading length stand the record's bytes
 content : (x : List ℕ) (at n : ℕ) (t : Tape) (e : PlainEntry) (es : List PlainEntry) → IsFile x at t → Some n ≡ first_length t.after → t.after ≡ e ∷ es
     → (more : List ℕ) × (drop (at + 4) x ≡ bytes_of e ++ more) × (n ≡ length (bytes_of e))
 content x at n t e es f is split =
@@ -133,7 +133,7 @@ read_enough x at n got count want given t f is least long short read =
     let size = k.2 in
     omega (arith, ap length k.1, length-drop (at + 4) x, length-append (bytes_of s.0) k.0)
 
--- the length at the place was read, and then the bytes behind it
+-- the length at the place was read, and then the bytes after it
 abbrev Reads : ℕ → ℕ → ℕ → List ℕ → List ℕ → List ℕ → Type 0
 Reads at n got given x z = (z ≡ x) × ((t : Tape) → IsFile x at t → Some n ≡ first_length t.after) × IsReadAt (at + 4) given got x
 

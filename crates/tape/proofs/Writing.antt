@@ -1,4 +1,4 @@
--- Bytes that are added behind a place, and the entries that they are.
+-- Bytes that are added after a place, and the entries that they are.
 use Rattle.std.proofs.Common.{◌≡◌, ◌⊎◌, ℕ, zero, suc, ◌+◌, ◌-◌, ◌*◌, ◌<◌, ◌≤◌, min, List, [], ◌∷◌, ◌++◌, length, take, drop, replicate, Some, Result, Ok, Err, inl, inr, refl, sym, ap, subst, ◌∙◌, append_assoc, append-nil, length-append, length-take, take-append-drop, arith}
 use Rattle.std.proofs.lemmas.List.{take_min, take-append-le, length-replicate, take-replicate, replicate-append-replicate}
 use Rattle.std.proofs.lemmas.List.Elements.{All-head, All-tail, All-nil, All-append}
@@ -54,7 +54,7 @@ torn (e ∷ es) n lawful = elim (cases_lt n (length (image_of e))) [
       (suc others.0, more_spells (take n (image_of e ++ images_of es)) (take (n - length (image_of e)) (images_of es)) e (take others.0 es) (All-head IsTapeEntry e es lawful) all others.1)
 ]
 
--- the entries before the place and others behind it
+-- the entries before the place and others after it
 put_file : (x y part : List ℕ) (at : ℕ) (t : Tape) (after : List PlainEntry) → IsFile x at t → y ≡ take at x ++ part → SpellsReel part after → IsFile y at (tape t.before after)
 put_file x y part at t after f is s =
     let p = parted x at t f in

@@ -96,14 +96,14 @@ abbrev pub HasWalkedRecords : Way → ℕ → List ℕ → Tape → Walked → T
 HasWalkedRecords way count bytes t walked =
     IsWalked way count (records_met (ahead way t)) (passed_for_records count (ahead way t)) bytes t walked.at walked.left
 
--- These bytes stand from the offset on, and nothing behind them. Or the medium failed: the bytes are the same, or from
+-- These bytes stand from the offset on, and nothing after them. Or the medium failed: the bytes are the same, or from
 -- the offset on stand the first of them.
 abbrev pub IsImageWritten : ℕ → List ℕ → Result Unit MediumFailed → List ℕ → List ℕ → Type 0
 IsImageWritten at image result old new =
     MatchResult result (λ _. new ≡ take at old ++ image)
     (λ _. (new ≡ old) ⊎ ((n : ℕ) × (new ≡ take at old ++ take n image)))
 
--- These entries stand at the place, nothing behind them, and the place is behind them. Or the medium failed: the place
+-- These entries stand at the place, nothing after them, and the place is after them. Or the medium failed: the place
 -- and what is before it stand, and from it on what stood, or the first of them.
 abbrev pub PutsEntries : List PlainEntry → Result Unit TapeFault → Tape → Tape → Type 0
 PutsEntries written result t u =

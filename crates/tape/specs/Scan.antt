@@ -5,7 +5,7 @@ use Rattle.tape.specs.Tape.{PlainEntry, IsTapeEntry}
 use Rattle.tape.specs.List.{bytes_of}
 use Rattle.tape.specs.RecordFile.{image_of, entries_in}
 
--- The bytes begin with the image of an entry: what it gives to be read, and what stands behind the image.
+-- The bytes begin with the image of an entry: what it gives to be read, and what stands after the image.
 pub record IsFirst (file bytes behind : List ℕ) : Type 0 where
   pub entry : PlainEntry
   pub whole : file ≡ image_of entry ++ behind

@@ -80,7 +80,7 @@ abbrev pub IsCutShort : Tape → List PlainEntry → Tape → Type 0
 IsCutShort t written u = (u.before ≡ t.before) × ((u.after ≡ t.after) ⊎ (u.after ≡ []) ⊎ (u.after ≡ written))
 
 -- The record stands at the place, nothing after it, and the place is after it. It fits if room for one mark is
--- left behind it. Without that room the answer is `Full`, whatever the device or memory.
+-- left after it. Without that room the answer is `Full`, whatever the device or memory.
 abbrev pub WriteStep : ℕ → List ℕ → Tape → TapeAnswer → Tape → Type 0
 WriteStep capacity bytes t Done u = (offset_of t.before + length bytes + 12 ≤ capacity) × (u ≡ tape (t.before ++ Record bytes ∷ []) [])
 WriteStep capacity bytes t (Fault Full) u = (capacity < offset_of t.before + length bytes + 12) × (u ≡ t)
@@ -138,7 +138,7 @@ passed_for_marks (suc count) [] = 0
 passed_for_marks (suc count) (Record bytes ∷ rest) = 1 + passed_for_marks (suc count) rest
 passed_for_marks (suc count) (Mark ∷ rest) = 1 + passed_for_marks count rest
 
--- how many entries are passed for that many records: a mark met first is passed too, and nothing behind it
+-- how many entries are passed for that many records: a mark met first is passed too, and nothing after it
 abbrev pub passed_for_records : ℕ → List PlainEntry → ℕ
 passed_for_records zero way = 0
 passed_for_records (suc count) [] = 0

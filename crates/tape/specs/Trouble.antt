@@ -32,7 +32,7 @@ left_by Kept stood written = stood
 left_by Lost stood written = []
 left_by (Written count) stood written = take count written
 
--- The tape after a write of these entries that met this trouble: its place is behind them where there was none, and
+-- The tape after a write of these entries that met this trouble: its place is after them where there was none, and
 -- else it is the same.
 abbrev pub put_by : Trouble → List PlainEntry → Tape → Tape
 put_by None written t = tape (t.before ++ written) []

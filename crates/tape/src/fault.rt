@@ -16,13 +16,13 @@ pub enum TapeFault {
     /// the new marks as were written, up to all of them.
     #[error("Device")]
     Device,
-    /// There is no room: the record and a mark behind it, or the marks, are beyond the capacity. Nothing changed.
+    /// There is no room: the record and a mark after it, or the marks, are beyond the capacity. Nothing changed.
     ///
     /// It comes before `Device` and `OutOfMemory`: without room a write answers only this.
     #[error("Full")]
     Full,
     /// Spacing met the end, the beginning or a mark before its count was reached. The entries are as they were. The
-    /// place is the end or the beginning, or past the mark that was met: behind it forward, before it back.
+    /// place is the end or the beginning, or past the mark that was met: after it forward, before it back.
     #[error("EndOrMark")]
     EndOrMark,
     /// The number is no operation of a reel. Nothing changed.

@@ -106,7 +106,7 @@ impl<M: Medium> FileReel<M> {
         Ok(())
     }
 
-    /// Puts a record at the place, with nothing behind it, and goes behind it.
+    /// Puts a record at the place, with nothing after it, and goes past it.
     ///
     /// Answers `Device`. The place is the same then, and from it on stands what stood, nothing, or the record.
     pub(crate) fn put_record(&mut self, bytes: &[u8]) -> Result<(), TapeFault>
@@ -121,7 +121,7 @@ impl<M: Medium> FileReel<M> {
         Ok(())
     }
 
-    /// Puts so many marks at the place, with nothing behind them, and goes behind them.
+    /// Puts so many marks at the place, with nothing after them, and goes past them.
     ///
     /// Answers `Device`. The place is the same then, and from it on stands what stood, or the first of the marks.
     pub(crate) fn put_marks(&mut self, count: u32) -> Result<(), TapeFault>

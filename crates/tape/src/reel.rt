@@ -35,10 +35,10 @@ pub trait Reel {
     const GROWS: bool;
 
     /// Writes one record, of 1 to 262,144 bytes, at the place. What stood from there on is lost, and the place is
-    /// behind the record, at the end.
+    /// after the record, at the end.
     ///
     /// It needs room for its length and 12 bytes more from the place on: 8 for the record and 4 for a mark, so that
-    /// a mark still fits behind it. The room is looked at before the device and before memory.
+    /// a mark still fits after it. The room is looked at before the device and before memory.
     ///
     /// Answers `Full` where there is not that room, and `OutOfMemory`; nothing changed then. Answers `Device` where
     /// the medium failed: the place and the entries before it stay, and from the place on stands what stood before,
@@ -61,12 +61,12 @@ pub trait Reel {
     /// Carries out an operation of rmt(8)'s `I` request, by its number in mtio.
     ///
     /// - 0, `MTWEOF`: writes `count` marks at the place, of 4 bytes each. What stood from there on is lost, and the
-    ///   place is behind the marks, at the end. A count of 0 changes nothing and is done.
-    /// - 1, `MTFSF`: goes forward, behind the last of `count` marks. With fewer marks ahead it goes to the end, and
+    ///   place is after the marks, at the end. A count of 0 changes nothing and is done.
+    /// - 1, `MTFSF`: goes forward, after the last of `count` marks. With fewer marks ahead it goes to the end, and
     ///   answers `EndOrMark`.
     /// - 2, `MTBSF`: goes back, before the last of `count` marks, counted back. With fewer marks it goes to the
     ///   beginning, and answers `EndOrMark`.
-    /// - 3, `MTFSR`: goes forward over `count` records. Where it meets a mark first it stops behind the mark, and where
+    /// - 3, `MTFSR`: goes forward over `count` records. Where it meets a mark first it stops after the mark, and where
     ///   it meets the end, there; both answer `EndOrMark`.
     /// - 4, `MTBSR`: goes back over `count` records. Where it meets a mark first it stops before the mark, and where it
     ///   meets the beginning, there; both answer `EndOrMark`.

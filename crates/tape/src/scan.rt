@@ -13,7 +13,7 @@ use std::alloc::{AllocError, Global};
 
 /// The entries that the bytes of a record file spell, from its beginning to the last whole one.
 ///
-/// What stands behind that is no entry, and is ignored.
+/// What stands after that is no entry, and is ignored.
 ///
 /// Answers `AllocError` where a growth in memory is refused.
 pub fn read_entries(alloc: Global, file: &[u8]) -> Result<Vec<Entry>, AllocError>
@@ -54,7 +54,7 @@ fn entry_of(alloc: Global, bytes: &[u8]) -> Result<Entry, AllocError>
     Ok(Entry::Record(copy))
 }
 
-/// The bytes of the entry whose image begins these, and what stands behind the image. None where no image does.
+/// The bytes of the entry whose image begins these, and what stands after the image. None where no image does.
 fn first_entry(bytes: &[u8]) -> Option<(&[u8], &[u8])>
     ensures { MatchOption result (IsTail bytes.now) (λ p. IsFirst bytes.now p.0.now p.1.now) }
 {
@@ -65,7 +65,7 @@ fn first_entry(bytes: &[u8]) -> Option<(&[u8], &[u8])>
     split_record(length, rest)
 }
 
-/// The bytes of a record of this length, of whose image these stand behind the first length, and what stands behind the image.
+/// The bytes of a record of this length, of whose image these stand after the first length, and what stands after the image.
 /// None where it is not whole.
 fn split_record(length: usize, rest: &[u8]) -> Option<(&[u8], &[u8])>
     requires some { 0 < length }
@@ -84,7 +84,7 @@ fn split_record(length: usize, rest: &[u8]) -> Option<(&[u8], &[u8])>
     Some((record, behind))
 }
 
-/// The length that these bytes begin with, and what stands behind it. None where they are fewer than 4.
+/// The length that these bytes begin with, and what stands after it. None where they are fewer than 4.
 fn split_length(bytes: &[u8]) -> Option<(usize, &[u8])>
     ensures { MatchOption result (length bytes.now < 4) (λ p. (p.0 < 2 ^ 32) × (bytes.now ≡ length_bytes p.0 ++ p.1.now)) }
 {

@@ -216,7 +216,7 @@ alone_booked w u x y s was is number goes k =
       other = λ run other. refl;
     } k
 
--- what is behind the first so many
+-- what is after the first so many
 pub drop_front : {X : Type 0} (xs ys : List X) → drop (length xs) (xs ++ ys) ≡ ys
 drop_front [] ys = refl
 drop_front (x ∷ xs) ys = drop_front xs ys
@@ -226,7 +226,7 @@ more_earned : (w u : World) (more : List Begun) → u.begun ≡ w.begun ++ more 
 more_earned w u more begun counts e (b, at, covers, counted) =
     (b, ap (λ l. numbered l e.run) begun ∙ numbered_more w.begun more e.run b at, covers, same_listed w u counts e.run e.listed counted)
 
--- what holds of each of a list holds of each behind the first
+-- what holds of each of a list holds of each after the first
 next_there : (begun : List Begun) (e : Entered) (es : List Entered)
     → ((i : ℕ) (f : Entered) → numbered (e ∷ es) i ≡ Some f → (b : Begun) × (numbered begun f.run ≡ Some b))
     → (i : ℕ) (f : Entered) → numbered es i ≡ Some f → (b : Begun) × (numbered begun f.run ≡ Some b)

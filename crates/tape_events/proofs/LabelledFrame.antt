@@ -13,7 +13,7 @@ use Rattle.rmt_server.specs.Session.PlainSession.{Idle, Offline, Online}
 use Rattle.tape_events.specs.Changes.{first_name}
 use Rattle.tape_events.specs.Standing.{IsReelOf, ReelLiesIn, ReelLiesOn, HasInDrive}
 
--- lists of reels, one behind the other
+-- lists of reels, one after the other
 pub lies_in_more : (xs ys : List (Slot KeptReel)) (name : List ℕ) (entries : List PlainEntry) → ReelLiesIn (xs ++ ys) name entries
     → ReelLiesIn xs name entries ⊎ ReelLiesIn ys name entries
 lies_in_more [] ys name entries lies = inr lies

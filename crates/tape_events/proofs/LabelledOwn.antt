@@ -17,7 +17,7 @@ use Rattle.tape_events.proofs.LabelledHalls.{served_stands}
 use Rattle.tape_events.proofs.Moves.{Turn, turned}
 use Rattle.tape_events.proofs.LabelledServes.{IsServed}
 
--- behind the mark no request asks for a write
+-- after the mark no request asks for a write
 marked_reads : (b : Begun) (o : Option Side) (d : Dumping) (step : Step) → HasDone b.run o d step → d.mark ≡ true → is_write (tape_request (request_in b d step)) ≡ false
 marked_reads b o d (Operation (Unload next)) done marked = refl
 marked_reads b o d Close done marked = refl

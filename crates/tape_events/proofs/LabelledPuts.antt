@@ -21,7 +21,7 @@ use Rattle.tape_events.specs.World.{Dumping}
 use Rattle.tape_events.specs.Changes.{noted_by}
 use Rattle.tape_events.proofs.Called.{IsLeftWith, called}
 
--- What comes of a write of these entries: they stand at the place, and nothing behind them; or nothing was changed, nor noted; or
+-- What comes of a write of these entries: they stand at the place, and nothing after them; or nothing was changed, nor noted; or
 -- a device fault was noted.
 pub data Puts (before after : Scene) (drive : ℕ) (reel : PlainReel) (entries : List PlainEntry) (request : PlainRequest) (reply : PlainReply) : Type 0 where
   puts : (n : ℕ) → reply ≡ Done (suc n) → IsLeftWith before after drive reel (tape (reel.tape.before ++ entries) []) → Puts before after drive reel entries request reply

@@ -124,7 +124,7 @@ was_there w v l d o b drive reel name online last unmarked was = record {
   none = was.behind v.s reel v.live (drive, online) (λ marked. (let clash = sym unmarked ∙ marked in absurd cc));
 }
 
--- one entry more, where nothing stood behind
+-- one entry more, where nothing stood after
 one_entry_more : (t : Tape) (x : PlainEntry) (all : List PlainEntry) → entries_of t ≡ all → t.after ≡ [] → entries_of (tape (t.before ++ x ∷ []) []) ≡ all ++ x ∷ []
 one_entry_more t x all is none =
     append-nil (t.before ++ x ∷ []) ∙ ap (λ l. l ++ x ∷ []) (sym (append-nil t.before) ∙ ap (λ l. t.before ++ l) (sym none) ∙ is)
@@ -233,7 +233,7 @@ own_mark w v l d o drive reel next online done (keeps same left) labelled name q
     (now_written w v l d (on_by_one d) o o.p.b drive reel name reel.tape online last left was.stood was.none)
 own_mark w v l d o drive reel next online done (fails fault) labelled name quiet last = (let clash = sym (fault d) ∙ quiet in absurd cc)
 
--- behind the mark nothing is written, and more was carried out than up to it
+-- after the mark nothing is written, and more was carried out than up to it
 own_marked : (w : World) (v : Turn w) (l : Link) (d e : Dumping) (o : Own w v l d) → d.label ≡ true → d.fault ≡ false → d.mark ≡ true
     → length (steps_before o.p.b.run d.first (d.first + d.blocks) (Operation (Unload (d.first + d.blocks)))) < e.carried
     → (e.mark ≡ d.mark) → (e.first ≡ d.first) → (e.blocks ≡ d.blocks) → (attempt_written o.p.b.run o.p.b.payload e ≡ attempt_written o.p.b.run o.p.b.payload d) → (name : List ℕ)

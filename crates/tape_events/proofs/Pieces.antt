@@ -17,7 +17,7 @@ use Rattle.dump_client.specs.declared.stage.Stage.TheVariants.{Waiting}
 use Rattle.tape_events.specs.Sending.{IsBrief}
 use Rattle.tape_events.proofs.SentWire.{OneReply, one_heard, brief_begins, reply_whole, reply_no_fault}
 
--- Of these bytes, with these behind them on the way: it waits on, or it heard the whole reply, and nothing is behind that.
+-- Of these bytes, with these after them on the way: it waits on, or it heard the whole reply, and nothing is after that.
 pub data HearsPiece (old : Standing) (step : Step) (reply : PlainReply) (bytes way : List ℕ) (progress : Progress) (new : Standing) : Type 0 where
   waits : progress ≡ came.Waiting → new ≡ old → reply_text reply ≡ bytes ++ way → HearsPiece old step reply bytes way progress new
   whole : SpellsReply bytes reply (wanted_of step) → way ≡ [] → HearsAt old step (Reply reply) false progress new → HearsPiece old step reply bytes way progress new

@@ -226,7 +226,7 @@ label_leads old s x d bytes (Data given) h few stands progress new next (moved, 
 label_leads old s x d bytes (Error n text) h few stands progress new next becomes at =
     error_tested old new next n d.first progress (n == ENOSPC) (GoesTo old.run (Some x) old (noted (Write bytes) (Error n text) d) new next) becomes at
 
--- there is no room for a block, behind one that was written
+-- there is no room for a block, after one that was written
 end_tested : (old : Standing) (s x : Side) (d : Dumping) (number : ℕ) (t : Bool) → HasDone old.run (Some s) d (Block number) → d.carried + 1 < 2 ^ 64
     → ((reel : PlainReel) × IsOnlineWith x.session reel) → (progress : Progress) (new : Standing) (next : Step)
     → Becomes old (if t then leads_to (Operation (Mark number)) Open else at_end_of_reel d.first Open) false progress new
@@ -319,7 +319,7 @@ unload_leads old s x d end reply h few stands = op_leads old (Some x) d (on_by_o
     subst (GoesTo old.run (Some x) old (on_by_one d) new) (arrives old.run (counted_to old.counts end) new Close next is at)
     (goes_on old s x d (Operation (Unload end)) Close (counted_to old.counts end) new few h is (omega (arith, same, here)) refl refl tt (stands n done) (ap (counted_to old.counts) here)))
 
--- behind the close the attempt is over
+-- after the close the attempt is over
 pub close_leads : (old : Standing) (x : Side) (d noted : Dumping) (reply : PlainReply) → LeadsFrom (Some x) old d noted Close reply
 close_leads old x d noted (Done n) progress new next (moved, over) at = absurd (not_over old.run old.counts new next over at)
 close_leads old x d noted (Data bytes) progress new next (moved, over) at = absurd (not_over old.run old.counts new next over at)

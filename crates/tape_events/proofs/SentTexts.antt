@@ -49,7 +49,7 @@ decimal_line n small =
     let few = s.few in
     (omega arith, digits_no_feed (decimal n) s.digits.1)
 
--- a text that spells its request, with nothing behind it
+-- a text that spells its request, with nothing after it
 whole_text : (request : PlainRequest) → unsent request ≡ 0 → SpellsRequest (request_text request) request → IsTextOf (request_text request) request
 whole_text request none s = λ more long.
     let nothing : more ≡ [] = nil_from_length more (long ∙ none) in

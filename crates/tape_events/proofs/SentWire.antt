@@ -67,7 +67,7 @@ one_read g h bytes other short one two = one_read_at g h bytes other (dropped_li
 pub nothing_long : BeginsLong [] → ⊥
 nothing_long (number, behind, count, spelled, large, is) = cc
 
--- behind the text of a request there is room for all that such a line would drop
+-- after the text of a request there is room for all that such a line would drop
 long_gives : (number behind pad : List ℕ) (count : ℕ) → SpellsNumber number count → RECORD_LIMIT < count → count ≤ length (behind ++ pad)
     → Gives (87 ∷ (number ++ line_feed ∷ (behind ++ pad))) (Ok (Some (WriteDropped count))) (drop count (behind ++ pad))
 long_gives number behind pad count spelled large room = (

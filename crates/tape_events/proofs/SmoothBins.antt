@@ -1,4 +1,4 @@
--- A request that is carried out takes no reel from the bin: MTOFFL lays one behind the others, and all else leaves it.
+-- A request that is carried out takes no reel from the bin: MTOFFL lays one after the others, and all else leaves it.
 use Rattle.std.proofs.Common.{◌≡◌, ℕ, Bool, true, false, List, [], ◌++◌, Option, Some, None, Ok, Err, MatchOption, refl, sym, ap, ◌∙◌}
 use Rattle.std.proofs.lemmas.List.{append-nil}
 use Rattle.tape.specs.declared.trouble.Trouble.{Trouble}
@@ -13,7 +13,7 @@ use Rattle.rmt_server.specs.Session.{PlainSession, Scene, status_of, refusal, cl
 use Rattle.rmt_server.specs.Session.PlainSession.{Idle, Offline, Online}
 use Rattle.rmt_server.specs.TroubledServe.{drive_in, with_holder, TroubledServeStep, TroubledOpens, TroubledReelStep, TroubledMoveStep, TroubledOpStep}
 
--- the bin has those reels, and perhaps more behind them
+-- the bin has those reels, and perhaps more after them
 abbrev pub Behind : List (Slot KeptReel) → List (Slot KeptReel) → Type 0
 Behind before after = (more : List (Slot KeptReel)) × (after ≡ before ++ more)
 

@@ -45,7 +45,7 @@ next_attempt : (counts new : List VolumeCount) (d : Dumping) (next : Step) → A
 next_attempt counts new d Close is = ap (attempt_at Close) is ∙ pushed_attempt counts (count_to (checkpoint_of counts) (d.first + d.blocks))
 next_attempt counts new d step is = ap checkpoint_of is
 
--- behind the close the client goes on to no step
+-- after the close the client goes on to no step
 pub over_stage : (run : PlainRun) (counts : List VolumeCount) (new : Standing) (next : Step) → IsOver run counts new → new.stage ≡ ToSend next → ⊥
 over_stage run counts new next (inl (covers, is)) at = let clash : Finished ≡ ToSend next = sym (ap (λ (s : Standing). s.stage) is) ∙ at in cc
 over_stage run counts new next (inr (left, is)) at = let clash : Ready ≡ ToSend next = sym (ap (λ (s : Standing). s.stage) is) ∙ at in cc

@@ -38,7 +38,7 @@ pub record ServerTurn (w : World) (k : ℕ) (trouble : Trouble) (u : World) : Ty
   pub served : TroubledServe trouble w.hall.holders k (scene w.hall.shop s.session) request reply (scene shop session) holders
   pub is : u ≡ carried w k request reply reached shop session holders
 
--- It is the one request of the attempt that was sent and not carried out: that of the step behind those that were. Of the attempt's
+-- It is the one request of the attempt that was sent and not carried out: that of the step after those that were. Of the attempt's
 -- writes those were accepted that come before that step.
 pub record IsNextSent (w : World) (d : Dumping) (request : PlainRequest) : Type 0 where
   pub begun : Begun

@@ -50,7 +50,7 @@ abbrev pub AreFaultless : List PlainEvent → Type 0
 AreFaultless [] = Unit {0}
 AreFaultless (event ∷ events) = IsFaultless event × AreFaultless events
 
--- what a label and one block take of a reel, with the mark behind them
+-- what a label and one block take of a reel, with the mark after them
 abbrev pub room_for_one : PlainRun → ℕ
 room_for_one run = (label_bytes + 8) + (run.block_bytes + 8) + 4
 

@@ -88,7 +88,7 @@ pub record IsIdleAt (drives : MemoryDrives) (k : ℕ) (desk : MemoryDesk) : Type
   pub number : desk.seat.number ≡ k
   pub idle : desk.opened ≡ None
 
--- behind n connections there is nothing yet of the next one, or its seat, which has the next number, or all of it
+-- after n connections there is nothing yet of the next one, or its seat, which has the next number, or all of it
 abbrev pub IsNextWaiting : MemoryDrives → ℕ → Next → Type 0
 IsNextWaiting drives n Nothing = drives.holds.last ≡ n
 IsNextWaiting drives n (Seat seat) = (drives.holds.last ≡ n + 1) × IsIdleAt drives (n + 1) (idle_desk seat)

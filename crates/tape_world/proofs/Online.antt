@@ -32,7 +32,7 @@ or_none (Some x) b is = absurd cc
 pub side_here : (sides : List (Option Side)) (i : ℕ) → side_at sides (i + 1) ≡ slice_index_or sides i None
 side_here sides i = ap (side_at sides) (add-one i)
 
--- the first that has one online, behind those that have none
+-- the first that has one online, after those that have none
 first_here : (name : List ℕ) (s : Shop) (sides : List (Option Side)) (i : ℕ) (t : Tape) → first_tape_online name s (take i sides) ≡ None
     → tape_online name s (slice_index_or sides i None) ≡ Some t → first_tape_online name s sides ≡ Some t
 first_here name s [] i t none some = absurd cc

@@ -31,7 +31,7 @@ use Rattle.tape_world.proofs.Linked.{put_link}
 
 -- ---- what is on the way back
 
--- a reply goes behind what is left of the bytes
+-- a reply goes after what is left of the bytes
 behind : (start : ℕ) (lost : Bool) (back text : List ℕ) → start ≤ length back → drop start (sent_back lost back text) ≡ sent_back lost (drop start back) text
 behind start true back text fits = refl
 behind start false back text fits = drop-append-le start back text fits

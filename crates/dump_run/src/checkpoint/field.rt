@@ -13,7 +13,7 @@ use dumpdates::is_name;
 /// The greatest number of a count.
 const COUNT_LIMIT: u64 = BLOCKS_LIMIT as u64;
 
-/// The text after this word in the first line, and what stands behind that line. None where it begins otherwise, or has no
+/// The text after this word in the first line, and what stands after that line. None where it begins otherwise, or has no
 /// end.
 fn text_field<'a>(bytes: &'a [u8], word: &[u8]) -> Option<(&'a [u8], &'a [u8])>
     ensures { FindsText word.now NoFeed bytes.now result }
@@ -22,7 +22,7 @@ fn text_field<'a>(bytes: &'a [u8], word: &[u8]) -> Option<(&'a [u8], &'a [u8])>
     cut(after, b'\n')
 }
 
-/// The number after this word in the first line, in this range, and what stands behind that line.
+/// The number after this word in the first line, in this range, and what stands after that line.
 pub(crate) fn number_field<'a>(
     bytes: &'a [u8],
     word: &[u8],
@@ -37,14 +37,14 @@ pub(crate) fn number_field<'a>(
     Some((n, more))
 }
 
-/// What stands behind the title.
+/// What stands after the title.
 pub(super) fn title(bytes: &[u8]) -> Option<&[u8]>
     ensures { FindsTitle bytes.now result }
 {
     bytes.strip_prefix(b"rdump 1\n")
 }
 
-/// The device in the first line, and what stands behind that.
+/// The device in the first line, and what stands after that.
 pub(super) fn device_field(bytes: &[u8]) -> Option<(&[u8], &[u8])>
     ensures { FindsText (codes "device ") IsDevice bytes.now result }
 {
@@ -55,7 +55,7 @@ pub(super) fn device_field(bytes: &[u8]) -> Option<(&[u8], &[u8])>
     Some((device, more))
 }
 
-/// The name after this word in the first line, and what stands behind that.
+/// The name after this word in the first line, and what stands after that.
 pub(crate) fn name_field<'a>(bytes: &'a [u8], word: &[u8]) -> Option<(&'a [u8], &'a [u8])>
     ensures found { FindsText word.now IsName bytes.now result }
     ensures text { IfSome result (λ p. IsUtf8 p.0.now) }
@@ -80,7 +80,7 @@ fn count_of(text: &[u8]) -> Option<VolumeCount>
     })
 }
 
-/// The count in the first line, and what stands behind that.
+/// The count in the first line, and what stands after that.
 pub(super) fn count_field(bytes: &[u8]) -> Option<(VolumeCount, &[u8])>
     ensures { FindsCount bytes.now result }
 {

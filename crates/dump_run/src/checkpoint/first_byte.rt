@@ -1,7 +1,7 @@
 //! Texts that are cut at a byte.
 ghost use Rattle.dump_run.specs.CheckpointParts.{IsCut};
 
-/// What stands before the first byte of this kind, and behind it. None where there is no such byte.
+/// What stands before the first byte of this kind, and after it. None where there is no such byte.
 pub(super) fn cut(text: &[u8], byte: u8) -> Option<(&[u8], &[u8])>
     ensures { IsCut byte text.now result }
 {

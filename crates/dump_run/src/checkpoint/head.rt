@@ -14,7 +14,7 @@ const BLOCK_LIMIT: u64 = RECORD_LIMIT as u64;
 
 const LAST_BLOCK: u64 = BLOCKS_LIMIT as u64;
 
-/// The run that the first lines say, and what stands behind them.
+/// The run that the first lines say, and what stands after them.
 pub(super) fn read_head(bytes: &[u8]) -> Result<(Run, &[u8]), ResumeFault>
     ensures { IsHead bytes.now result }
 {

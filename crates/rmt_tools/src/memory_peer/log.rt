@@ -8,7 +8,7 @@ use rdump_talk::Passed;
 use std::alloc::Global;
 use std::marker::Model;
 
-/// What passed, in order, and how often the connection was found ended behind that, up to the greatest `u64`.
+/// What passed, in order, and how often the connection was found ended after that, up to the greatest `u64`.
 ///
 /// An end takes no memory, so it can always be logged. All else can be while `ends` is below its greatest value, and memory
 /// is had.
@@ -65,7 +65,7 @@ impl Log {
         self.settle() && push_given(&mut self.passed, bytes)
     }
 
-    /// Puts the ends behind what passed before them. Answers whether more can be logged.
+    /// Puts the ends after what passed before them. Answers whether more can be logged.
     fn settle(&mut self) -> bool
         ensures same { Logs IsLogOf self.old self.new [] }
         ensures settled { IsTrue result → self.new.ends ≡ 0 }

@@ -50,7 +50,7 @@ fn data_at(count: u32, len: usize, bytes: &[u8]) -> Option<(Reply<'_>, usize)>
     Some((Reply::Data { bytes }, len + size))
 }
 
-/// The number that these bytes begin behind their `A`, and how long that reply is.
+/// The number that these bytes begin after their `A`, and how long that reply is.
 #[tactic(auto, unfolding(crate::specs::ReplyFront::done_front))]
 fn number_done(bytes: &[u8]) -> Result<Option<(Reply<'_>, usize)>, WireFault>
     ensures value { lent_reply result ≡ spec.done_front kinds.Wanted.Number bytes.now }
@@ -62,7 +62,7 @@ fn number_done(bytes: &[u8]) -> Result<Option<(Reply<'_>, usize)>, WireFault>
     Ok(Some((Reply::Done { number }, digits + 2)))
 }
 
-/// The data, at most so many, that these bytes begin behind their `A`, and how long that reply is.
+/// The data, at most so many, that these bytes begin after their `A`, and how long that reply is.
 #[tactic(auto, unfolding(crate::specs::ReplyFront::done_front))]
 fn data_done(bytes: &[u8], most: u32) -> Result<Option<(Reply<'_>, usize)>, WireFault>
     ensures value { lent_reply result ≡ spec.done_front (kinds.Wanted.DataUpTo most) bytes.now }
@@ -74,7 +74,7 @@ fn data_done(bytes: &[u8], most: u32) -> Result<Option<(Reply<'_>, usize)>, Wire
     Ok(data_at(count, digits + 2, &bytes[digits + 1..]))
 }
 
-/// The reply that these bytes begin behind its `A`, and how long it is.
+/// The reply that these bytes begin after its `A`, and how long it is.
 fn done_front(bytes: &[u8], wanted: Wanted) -> Result<Option<(Reply<'_>, usize)>, WireFault>
     ensures value { lent_reply result ≡ spec.done_front (plain_wanted wanted) bytes.now }
     ensures within { IfOk result (λ o. IfSome o (λ r. r.1 ≤ length bytes.now + 1)) }
@@ -85,7 +85,7 @@ fn done_front(bytes: &[u8], wanted: Wanted) -> Result<Option<(Reply<'_>, usize)>
     }
 }
 
-/// The error that these bytes begin behind its `E`, and how long it is.
+/// The error that these bytes begin after its `E`, and how long it is.
 #[tactic(auto, unfolding(crate::specs::ReplyFront::error_front))]
 fn error_front(bytes: &[u8]) -> Result<Option<(Reply<'_>, usize)>, WireFault>
     ensures value { lent_reply result ≡ spec.error_front bytes.now }
@@ -112,7 +112,7 @@ pub fn reply_front(bytes: &[u8], wanted: Wanted) -> Result<Option<(Reply<'_>, us
     }
 }
 
-/// The bytes of an error's text that are not kept, behind the `E`: where they begin, and how many they are.
+/// The bytes of an error's text that are not kept, after the `E`: where they begin, and how many they are.
 fn surplus_behind(bytes: &[u8]) -> (usize, usize)
     ensures value { spec.kept_behind (number_front places.Line bytes.now) bytes.now
         ≡ take result.0 bytes.now ++ drop (result.0 + result.1) bytes.now }

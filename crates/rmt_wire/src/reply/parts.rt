@@ -8,7 +8,7 @@ use crate::limits::{LINE_LIMIT, NUMBER_LIMIT};
 use crate::reply::Reply;
 use crate::short_text::{ShortText, numbered};
 
-/// The head of a reply, and the data behind it.
+/// The head of a reply, and the data after it.
 pub fn parts<'a>(reply: &Reply<'a>) -> (ShortText, &'a [u8])
     requires { ReplyHasSpelling (plain_reply reply.now) }
     ensures text { result.0 ++ result.1.now ≡ reply_text (plain_reply reply.now) }

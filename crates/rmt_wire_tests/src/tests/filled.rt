@@ -26,7 +26,7 @@ fn a_stream_fills_a_reader(rt: HostRuntime) -> Result<(), Fail> {
     Ok(())
 }
 
-/// A block, and the beginning of a request behind it, come by one read, and both are unread then.
+/// A block, and the beginning of a request after it, come by one read, and both are unread then.
 #[test]
 fn one_read_fills_a_reader_with_a_block(rt: HostRuntime) -> Result<(), Fail> {
     let mut bytes = Vec::from_slice(rt.alloc(), b"W6000\n")?;
@@ -83,7 +83,7 @@ fn count_of<R: Read>(reader: &mut RequestReader, stream: &mut Counted<R>) -> Opt
     }
 }
 
-/// The data of the dropped write fill the reader behind the close, and take no room once that is given.
+/// The data of the dropped write fill the reader after the close, and take no room once that is given.
 #[test]
 fn a_dropped_write_is_read_through(rt: HostRuntime) -> Result<(), Fail> {
     let mut bytes = Vec::from_slice(rt.alloc(), b"C\nW600000\n")?;

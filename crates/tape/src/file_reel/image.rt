@@ -125,7 +125,7 @@ fn append_zeros<M: Medium>(medium: &mut M, row: &[u8], count: u64) -> Result<(),
     Ok(())
 }
 
-/// Puts a record at an offset, with nothing behind it.
+/// Puts a record at an offset, with nothing after it.
 ///
 /// Answers `MediumFailed`. The bytes are the same then, or from the offset on stand the first bytes of its image.
 pub(super) fn put_record<M: Medium>(
@@ -141,7 +141,7 @@ pub(super) fn put_record<M: Medium>(
     append_record(medium, bytes)
 }
 
-/// Puts so many marks at an offset, with nothing behind them.
+/// Puts so many marks at an offset, with nothing after them.
 ///
 /// Answers `MediumFailed`. The bytes are the same then, or from the offset on stand the first bytes of their images.
 pub(super) fn put_marks<M: Medium>(medium: &mut M, at: u64, count: u32) -> Result<(), MediumFailed>

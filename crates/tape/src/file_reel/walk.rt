@@ -48,7 +48,7 @@ impl Walked {
     }
 }
 
-/// Passes the entry behind an offset. None is there at the end.
+/// Passes the entry after an offset. None is there at the end.
 fn pass_next<M: Medium>(medium: &mut M, at: u64) -> Result<Option<PassedEntry>, MediumFailed>
     ensures run { LooksAlong (medium_kind_of M.Medium) at result (HasPassed Forward) medium.old medium.new }
     ensures nearer { IfOk result (λ passed. IfSome passed (λ p. way_left Forward p.at < way_left Forward at)) }

@@ -12,7 +12,7 @@ ghost use Rattle.tape.specs.declared.trouble.Trouble.TheVariants.{None};
 
 use crate::{FileReel, MemoryMedium, TapeFault, Trouble};
 
-/// Puts a record at the place, with nothing behind it, by a device that fails as `trouble` says. It takes no memory.
+/// Puts a record at the place, with nothing after it, by a device that fails as `trouble` says. It takes no memory.
 ///
 /// Answers `Device` where there is a trouble, which says what stands from the place on. The place is the same then.
 pub(super) fn put_record(
@@ -38,7 +38,7 @@ pub(super) fn put_record(
     settle(reel, start, trouble)
 }
 
-/// Puts so many marks at the place, with nothing behind them, by a device that fails as `trouble` says. It takes no
+/// Puts so many marks at the place, with nothing after them, by a device that fails as `trouble` says. It takes no
 /// memory.
 ///
 /// Answers `Device` where there is a trouble, which says what stands from the place on. The place is the same then.

@@ -33,7 +33,7 @@ pub(crate) enum Move {
     Trouble(bool),
     /// It is in this state, with these counts, and this volume and block come next.
     Stands(State, &'static [VolumeCount], (u32, u32)),
-    /// The text of its checkpoint is this, behind what the buffer holds.
+    /// The text of its checkpoint is this, after what the buffer holds.
     Saves(&'static [u8]),
     /// This name, level and date are told.
     Tells(&'static str, u8, u64),

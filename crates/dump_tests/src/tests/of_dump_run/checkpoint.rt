@@ -11,7 +11,7 @@ const TEXT: &[u8] =
 /// How many bytes say the run.
 const HEAD: usize = 83;
 
-/// What stands behind the run, and what such a text is.
+/// What stands after the run, and what such a text is.
 type Row = (&'static [u8], Verdict);
 
 static COUNTS: [Row; 16] = [
@@ -56,7 +56,7 @@ fn is_read_so(alloc: Global, bytes: &[u8], verdict: Verdict) -> bool {
     }
 }
 
-/// Whether it is read so behind the lines of the run, and the decoder agrees.
+/// Whether it is read so after the lines of the run, and the decoder agrees.
 fn row_is_met(alloc: Global, row: &Row) -> bool {
     let mut bytes = Vec::new(alloc);
     bytes.extend_from_slice(&TEXT[..HEAD]).is_ok()

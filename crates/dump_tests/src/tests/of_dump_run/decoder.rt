@@ -14,7 +14,7 @@ pub(crate) enum Verdict {
 /// More lines than a text of these tests has.
 const LINES: usize = 20;
 
-/// What stands before the first byte of this kind, and behind it.
+/// What stands before the first byte of this kind, and after it.
 fn cut(text: &[u8], byte: u8) -> Option<(&[u8], &[u8])> {
     for at in 0..text.len() {
         if text[at] == byte {
@@ -40,12 +40,12 @@ fn value_of(text: &[u8]) -> Option<u64> {
     Some(value)
 }
 
-/// The number behind a word.
+/// The number after a word.
 fn number_in(line: &[u8], word: &[u8]) -> Option<u64> {
     value_of(line.strip_prefix(word)?)
 }
 
-/// Whether a number in this range stands behind a word.
+/// Whether a number in this range stands after a word.
 fn has_number(line: &[u8], word: &[u8], least: u64, most: u64) -> bool {
     match number_in(line, word) {
         Some(value) => least <= value && value <= most,
@@ -53,7 +53,7 @@ fn has_number(line: &[u8], word: &[u8], least: u64, most: u64) -> bool {
     }
 }
 
-/// Whether 1 to 255 bytes stand behind a word.
+/// Whether 1 to 255 bytes stand after a word.
 fn has_text(line: &[u8], word: &[u8]) -> bool {
     match line.strip_prefix(word) {
         Some(text) => !text.is_empty() && text.len() <= 255,
@@ -71,7 +71,7 @@ fn is_printed(text: &[u8]) -> bool {
     true
 }
 
-/// Whether a name stands behind its word.
+/// Whether a name stands after its word.
 fn has_name(line: &[u8]) -> bool {
     match line.strip_prefix(b"fs ") {
         Some(name) => has_text(line, b"fs ") && is_printed(name),

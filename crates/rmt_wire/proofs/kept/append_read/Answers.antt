@@ -3,7 +3,7 @@ use Rattle.std.proofs.Math.Seq.{take-append-add}
 use Rattle.std.proofs.lemmas.List.{take-take, take-append-le, length-take, length-drop}
 use Rattle.rmt_wire.proofs.kept.append_read.Goals as goal
 
--- what a read leaves behind the bytes kept, cut to what it gave
+-- what a read leaves after the bytes kept, cut to what it gave
 read_behind : (old front buf post rest items : List ℕ) (len count most : ℕ) → items ≡ take (len + count) (take most ((front ++ (buf ++ post)) ++ rest)) → len ≡ length old → front ≡ old
     → count ≤ length buf → length old + count ≤ most → items ≡ old ++ take count buf
 read_behind old front buf post rest items len count most is e same within fits =
