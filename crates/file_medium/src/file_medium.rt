@@ -1,6 +1,6 @@
 //! A medium that is a file of the system.
 
-ghost use Rattle.std.specs.Prelude.{◌≡◌, ◌≢◌, ◌++◌, ◌≤◌, IfOk, Ok, OnErr, OnOk, length};
+ghost use Rattle.std.specs.Prelude.{◌≡◌, ◌≢◌, ◌++◌, ◌≤◌, ◌↔◌, IfOk, None, Ok, OnErr, OnOk, length};
 ghost use Rattle.tape.specs.Failures.{raised};
 ghost use Rattle.tape.specs.Medium.{IsMediumCall};
 ghost use Rattle.tape.specs.Medium.MediumCall.{Len, ReadAt, Append, Cut};
@@ -25,16 +25,28 @@ pub struct FileMedium {
     file: File,
     len: Option<u64>,
     window: Option<Window>,
-    failures: u64,
+    failed: Option<FailedCall>,
     beginnings: u64,
 }
 
+/// A call that failed.
+#[derive(Clone, Copy)]
+struct FailedCall {
+    /// How many failed before it, up to the greatest `u64`.
+    before: u64,
+    /// Why it failed.
+    reason: io::Error,
+}
+
 impl Model for FileMedium {
+    ghost use Rattle.std.specs.Prelude.{unwrap_or};
+    ghost use Rattle.std.specs.Option.{option_map};
+    ghost use Rattle.tape.specs.Failures.{raised};
     ghost use Rattle.file_medium.specs.Files.{FileCount};
 
     ghost Value = { FileCount };
 
-    ghost view = { λ m. record { failures = m.failures; beginnings = m.beginnings } };
+    ghost view = { λ m. record { failures = unwrap_or (option_map (λ f. raised f.before) m.failed) 0; beginnings = m.beginnings } };
 }
 
 impl FileMedium {
@@ -49,7 +61,7 @@ impl FileMedium {
             file,
             len: None,
             window: None,
-            failures: 0,
+            failed: None,
             beginnings: 0,
         }
     }
@@ -74,7 +86,17 @@ impl FileMedium {
         self.file.sync_all()
     }
 
-    /// Counts a failure.
+    /// Why the last call of it as a medium failed that the system refused. None where none was.
+    pub fn last_error(&self) -> Option<io::Error>
+        ensures { result ≡ None ↔ self.now.failures ≡ 0 }
+    {
+        match &self.failed {
+            None => None,
+            Some(failed) => Some(failed.reason),
+        }
+    }
+
+    /// Counts a failure, and keeps why it came.
     fn count<T: Drop>(&mut self, found: io::Result<T>) -> Result<T, MediumFailed>
         ensures same { OnOk result (self.new ≡ self.old) }
         ensures failed { OnErr result (self.new ≡ record self.old { failures = raised self.old.failures }) }
@@ -82,9 +104,10 @@ impl FileMedium {
     {
         match found {
             Ok(value) => Ok(value),
-            Err(_) => {
+            Err(reason) => {
                 self.window = None;
-                self.failures = self.failures.saturating_add(1);
+                let before = self.failures();
+                self.failed = Some(FailedCall { before, reason });
                 Err(MediumFailed)
             }
         }
@@ -117,7 +140,7 @@ impl FileMedium {
         Ok(())
     }
 
-    /// Reads a length, and keeps it with the bytes behind it.
+    /// Reads a length, and keeps it with the bytes after it.
     fn read_length(&mut self, at: u64, into: &mut [u8]) -> io::Result<usize>
         ensures same { length into.new ≡ length into.old }
         ensures bound { IfOk result (λ n. n ≤ length into.new) }
@@ -234,7 +257,10 @@ impl Medium for FileMedium {
     }
 
     fn failures(&self) -> u64 {
-        self.failures
+        match &self.failed {
+            None => 0,
+            Some(failed) => failed.before.saturating_add(1),
+        }
     }
 
     ghost single = { λ _ _ _ told _. absurd told };
@@ -251,7 +277,7 @@ fn length_of(mut file: &File) -> io::Result<u64> {
     file.seek(SeekFrom::End(0))
 }
 
-/// The offset behind the frame, the bytes and the frame from this one on, where a `u64` counts it.
+/// The offset after the frame, the bytes and the frame from this one on, where a `u64` counts it.
 fn offset_behind(at: u64, frame: &[u8], bytes: &[u8]) -> Option<u64> {
     let within = at.checked_add(frame.len() as u64)?;
     let behind = within.checked_add(bytes.len() as u64)?;

@@ -15,6 +15,7 @@ mod look;
 mod moving;
 mod rack;
 mod refusal;
+mod report;
 
 use crate::{FileMedium, FolderSystem, Log, NoLog};
 use drives::{DriveFault, Stacks};
@@ -166,12 +167,12 @@ impl<R: FolderSystem, L: Log + Drop> FolderStacks<R, L> {
         let rack = &self.racks[drive];
         match rack.find(&self.rt, self.bin.as_str()) {
             Ok(Some(found)) => {
-                self.log.note(rack.found_line(&found).as_str());
+                rack.opened(&found).tell(&self.log);
                 Ok(Some(found))
             }
             Ok(None) => Ok(None),
             Err(refusal) => {
-                self.log.note(rack.refused_line(&refusal).as_str());
+                rack.refused(&refusal).tell(&self.log);
                 Err(refusal.reason)
             }
         }
@@ -184,7 +185,7 @@ impl<R: FolderSystem, L: Log + Drop> FolderStacks<R, L> {
     {
         let rack = &mut self.racks[drive];
         let moved = rack.take_off(&self.rt, self.bin.as_str(), medium);
-        self.log.note(rack.moved_line(&moved).as_str());
+        rack.moved(&moved, medium).tell(&self.log);
         match moved {
             Ok(Moved::Done(_)) => {
                 rack.note(None);
@@ -261,10 +262,10 @@ impl<R: FolderSystem, L: Log + Drop> Stacks for FolderStacks<R, L> {
     /// the file was last cut to nothing, is noted, and counted nowhere. Where none is latched it does nothing else.
     fn unlatch(&mut self, drive: usize, reel: FileReel<FileMedium>) {
         let rack = &mut self.racks[drive];
-        let line = rack.close(&self.rt, self.bin.as_str(), reel.medium());
+        let report = rack.close(&self.rt, self.bin.as_str(), reel.medium());
         drop(reel);
-        if let Some(line) = line {
-            self.log.note(line.as_str());
+        if let Some(report) = report {
+            report.tell(&self.log);
         }
     }
 

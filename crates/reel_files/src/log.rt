@@ -4,6 +4,11 @@
 pub trait Log {
     /// Notes a line, which has no line feed. It promises nothing: a line that cannot be written is dropped.
     fn note(&self, line: &str);
+
+    /// Notes a line that says what went wrong, as `note` does. A log may tell these from the others.
+    fn warn(&self, line: &str) {
+        self.note(line);
+    }
 }
 
 /// A log that keeps nothing.

@@ -5,7 +5,7 @@ ghost use Rattle.std.specs.Prelude.{◌≡◌, IfSome, length};
 /// How many bytes a length in a record file has.
 pub(super) const LENGTH_SIZE: usize = 4;
 
-/// How many bytes are read where a length is asked for: that behind a record, and that of the next.
+/// How many bytes are read where a length is asked for: that after a record, and that of the next.
 pub(super) const WINDOW_SIZE: usize = 2 * LENGTH_SIZE;
 
 /// Bytes that were read of a file, and the offset that they stand at.

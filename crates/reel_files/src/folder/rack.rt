@@ -5,13 +5,12 @@ ghost use Rattle.reel_files.specs.Folders.{folder_row};
 
 use super::FolderDrive;
 use super::known::Written;
-use super::line::Line;
 use super::listing::{Opened, open_first};
 use super::moving::{Latched, Moved, ReelFile};
 use super::refusal::Refusal;
+use super::report::Report;
 use crate::{FileMedium, FolderSystem, Syncs, take_offline};
 use std::alloc::{AllocError, Global};
-use std::fmt::Write;
 use std::fs::File;
 use std::io::{self, ErrorKind};
 use std::marker::Model;
@@ -84,56 +83,51 @@ impl FolderRack {
         Ok(Some(found_of(rt.alloc(), opened, bin)?))
     }
 
-    /// The line of a latch that was refused.
-    pub(super) fn refused_line(&self, refusal: &Refusal) -> Line {
-        let mut line = Line::new();
+    /// The report of a latch that was refused.
+    pub(super) fn refused(&self, refusal: &Refusal) -> Report {
         let (place, reason) = (refusal.place(), refusal.reason);
-        let _ = write!(line, "{}: open refused: {place}{reason}", self.name);
-        line
+        Report::warning(format_args!("{}: open refused: {place}{reason}", self.name))
     }
 
-    /// The line of a latch.
-    pub(super) fn found_line(&self, found: &Found) -> Line {
-        let mut line = Line::new();
+    /// The report of a latch.
+    pub(super) fn opened(&self, found: &Found) -> Report {
         let access = if found.reads_only {
             ", to read only"
         } else {
             ""
         };
-        let _ = write!(line, "{}: {} opened{access}", self.name, found.latched.name);
-        line
+        Report::new(format_args!("{}: {} opened{access}", self.name, found.latched.name))
     }
 
     /// Syncs the file of the latched reel, which is this medium, where it was written to since the latch, and notes that none is
-    /// latched. Answers the line of the close, none where none was latched. It takes no memory.
+    /// latched. Answers the report of the close, none where none was latched. It takes no memory.
     pub(super) fn close<R: FolderSystem>(
         &mut self,
         rt: &R,
         bin: &str,
         medium: &FileMedium,
-    ) -> Option<Line>
+    ) -> Option<Report>
         ensures { self.new ≡ folder_row self.old.name self.old.folder false }
     {
-        let line = self.sync_at_close(rt, bin, medium);
+        let report = self.sync_at_close(rt, bin, medium);
         self.note(None);
-        line
+        report
     }
 
-    /// Syncs the file as `close` does, and answers its line.
+    /// Syncs the file as `close` does, and answers its report.
     fn sync_at_close<R: FolderSystem>(
         &mut self,
         rt: &R,
         bin: &str,
         medium: &FileMedium,
-    ) -> Option<Line>
+    ) -> Option<Report>
         ensures name { self.new.name ≡ self.old.name }
         ensures folder { self.new.folder ≡ self.old.folder }
     {
         let Some(file) = &self.latched else {
             return None;
         };
-        let mut line = Line::new();
-        let _ = write!(line, "{}: {} closed", self.name, file.name);
+        let mut report = Report::new(format_args!("{}: {} closed", self.name, file.name));
         if was_written(file, medium) {
             let stack = self.folder.as_str();
             let synced = self.syncs.sync(&mut Latched {
@@ -143,12 +137,15 @@ impl FolderRack {
                 stack,
                 bin,
             });
-            let _ = match synced {
-                Ok(()) => write!(line, ", synced"),
-                Err(refusal) => write!(line, ", sync failed: {}", refusal.reason),
-            };
+            match synced {
+                Ok(()) => report.add(", synced"),
+                Err(refusal) => {
+                    report.add_warning(format_args!(", sync failed: {}", refusal.reason));
+                }
+            }
         }
-        Some(line)
+        add_last_error(&mut report, medium);
+        Some(report)
     }
 
     /// Takes the file of the latched reel offline, which is this medium. It takes no memory.
@@ -180,25 +177,26 @@ impl FolderRack {
         take_offline(&mut latched, &mut self.syncs)
     }
 
-    /// The line of a move. It takes no memory.
-    pub(super) fn moved_line(&self, moved: &Result<Moved, Refusal>) -> Line {
-        let mut line = Line::new();
+    /// The report of a move of the file that is this medium. It takes no memory.
+    pub(super) fn moved(&self, moved: &Result<Moved, Refusal>, medium: &FileMedium) -> Report {
         let (drive, reel) = (self.name.as_str(), self.latched_name());
-        let _ = match moved {
-            Ok(Moved::Done(None)) => write!(line, "{drive}: {reel} moved to the bin"),
-            Ok(Moved::Done(Some(reason))) => write!(
-                line,
-                "{drive}: {reel} moved to the bin, folder sync failed: {reason}"
-            ),
+        match moved {
+            Ok(Moved::Done(unsynced)) => {
+                let mut report = Report::new(format_args!("{drive}: {reel} moved to the bin"));
+                if let Some(reason) = unsynced {
+                    report.add_warning(format_args!(", folder sync failed: {reason}"));
+                }
+                add_last_error(&mut report, medium);
+                report
+            }
             Ok(Moved::NameTaken) => {
-                write!(line, "{drive}: move refused: {reel}: the bin has the name")
+                Report::warning(format_args!("{drive}: move refused: {reel}: the bin has the name"))
             }
             Err(refusal) => {
                 let (place, reason) = (refusal.place(), refusal.reason);
-                write!(line, "{drive}: move refused: {place}{reason}")
+                Report::warning(format_args!("{drive}: move refused: {place}{reason}"))
             }
-        };
-        line
+        }
     }
 
     /// The name of the latched reel, empty where none is latched.
@@ -244,6 +242,13 @@ fn found_of(alloc: Global, opened: Opened, bin: &str) -> Result<Found, AllocErro
         reads_only,
         latched,
     })
+}
+
+/// Adds why the last read or write of the file that failed did, where one has since the latch.
+fn add_last_error(report: &mut Report, medium: &FileMedium) {
+    if let Some(reason) = medium.last_error() {
+        report.add_warning(format_args!(", a read or write failed: {reason}"));
+    }
 }
 
 /// Whether the file was written to since the latch, as far as its length and time show. Where they cannot be told it may have been.
