@@ -302,7 +302,8 @@ class Talk:
 
     def __init__(self, shop: Site, through: tuple[str, ...] = (), **how: Any) -> None:
         words = [*through, *shop.words]
-        self.process = subprocess.Popen(words, stdin=subprocess.PIPE, stdout=subprocess.PIPE, bufsize=0, restore_signals=False, **how)
+        streams = {"stdin": subprocess.PIPE, "stdout": subprocess.PIPE, "stderr": subprocess.DEVNULL}
+        self.process = subprocess.Popen(words, bufsize=0, restore_signals=False, **streams, **how)
         self.guard = threading.Timer(GUARD_SECONDS, self.process.kill)
         self.guard.start()
 

@@ -1,9 +1,9 @@
 #!/usr/bin/env python3
-"""Checks what the built server writes on standard error while it listens: which lines, of what, and that they stop nobody.
+"""Checks what the built server writes on standard error: which lines, of what, and that they stop nobody.
 
     log.py [RMTD]
 
-docs/OPERATING.md has the lines in a table.
+docs/OPERATING.md has the lines in a table. A listener tells what it does; a server on standard input and output what went wrong.
 """
 
 from __future__ import annotations
@@ -13,6 +13,7 @@ import fcntl
 import os
 import re
 import resource
+import socket
 import subprocess
 import sys
 import tempfile
@@ -174,6 +175,53 @@ def unsynced(rmtd: str) -> None:
             check(f"sync {number} fails: the reel is moved", (server.bin / "r1").is_file())
 
 
+def refused_calls(rmtd: str) -> None:
+    """A read or a write that the system refused is told at the reel's close, and at its move, by the last one's reason. The next open knows
+    nothing of it."""
+    if not can_trace():
+        print("skipped: a write is refused: it takes strace(1)")
+        return
+    with serving(rmtd) as server:
+        reel = server.reel("r1", 0, b"one", b"two")
+
+        def refusing(call: str, error: str):
+            return traced(server, "-P", str(reel), "-e", f"trace={call}", "-e", f"inject={call}:error={error}")
+
+        with talking(server) as talk:
+            talk.asks("refused calls: a write", (opened(), DONE), (write(b"x"), DONE_ONE))
+            with refusing("writev", "ENOSPC"):
+                talk.asks("refused calls: a full disk", (write(b"y"), IO_ERROR), (CLOSE, DONE))
+            talk.asks("refused calls: nothing is refused", (opened(), DONE), (CLOSE, DONE), (opened(), DONE))
+            with refusing("pread64", "EIO"):
+                talk.asks("refused calls: a read", (b"R9\n", IO_ERROR), (CLOSE, DONE))
+            talk.asks("refused calls: one after the other", (opened(), DONE))
+            with refusing("pread64", "EIO"):
+                talk.asks("refused calls: first a read", (b"R9\n", IO_ERROR))
+            with refusing("writev", "ENOSPC"):
+                talk.asks("refused calls: then a write", (write(b"y"), IO_ERROR), (CLOSE, DONE))
+            talk.asks("refused calls: a move", (opened(), DONE))
+            with refusing("writev", "ENOSPC"):
+                talk.asks("refused calls: a move after a write", (write(b"y"), IO_ERROR), (OFFLINE, DONE_ONE))
+        check("refused calls: the connection has ended", has(server, r"seat \d+: connection 1: ended: end"))
+        mine = [it.partition("/dev/st0: ")[2] for it in lines_of(server) if "/dev/st0: " in it]
+        full = r", a read or write failed: No space left on device \(os error 28\)"
+        failed = r", a read or write failed: Input/output error \(os error 5\)"
+        wanted = (
+            "r1 opened",
+            f"r1 closed, synced{full}",
+            "r1 opened",
+            "r1 closed",
+            "r1 opened",
+            f"r1 closed{failed}",
+            "r1 opened",
+            f"r1 closed, synced{full}",
+            "r1 opened",
+            f"r1 moved to the bin{full}",
+        )
+        good = len(mine) == len(wanted) and all(re.fullmatch(form, it) for form, it in zip(wanted, mine))
+        check("refused calls: the lines", good, mine, wanted)
+
+
 def too_many(rmtd: str) -> None:
     """A connection above the most, and one for which no thread is had, are told as closed, and why."""
     with serving(rmtd) as server:
@@ -330,26 +378,89 @@ def unread(rmtd: str) -> None:
 
 
 def in_memory(rmtd: str) -> None:
-    """A reel in memory is told of once at the start, and connections have their lines."""
-    for more in ([], ["--bin", "/"]):
+    """A reel in memory is told of once at the start, also that it never comes to the bin, and connections have their lines."""
+    for more, before in (([], ""), (["--bin", "/"], "--bin is given and no drive: ")):
         with tempfile.TemporaryFile() as log, listening([rmtd, "--listen", "127.0.0.1:0", "--connections", "2", *more], stderr=log) as (process, address):
             check("in memory: it is served", converses(address) and converses(address))
             check("in memory: it ends", process.wait(60) == 0)
             log.seek(0)
             lines = log.read().decode().splitlines()
         ways = [rf"connection {number}: {what}" for number in (1, 2) for what in (f"accepted from {ADDRESS}", "ended: end")]
-        wanted = [f"rmtd: {it}" for it in ("the reel of /dev/st0 is in memory, and is gone when the server ends", *ways)]
+        wanted = [f"rmtd: {it}" for it in (f"{before}the reel of /dev/st0 is in memory, and is gone when the server ends", *ways)]
         check("in memory: the lines", len(lines) == 5 and all(map(re.fullmatch, wanted, lines)), lines)
 
 
 def with_stdio(rmtd: str) -> None:
-    """On standard input and output nothing is told, whatever is asked."""
+    """On standard input and output nothing is told of what went well, and of what is no request."""
     asked = opened() + write(b"x") + OFFLINE + CLOSE + opened() + b"?"
     with tempfile.TemporaryDirectory() as folder:
         words = stdio_words(rmtd, Path(folder))
         for title, given in (("folders", words), ("memory", [rmtd, "--stdio"])):
             got = subprocess.run(given, input=asked, capture_output=True, check=False)
             check(f"stdio, {title}: nothing is told", (got.returncode, got.stderr) == (3, b""), got)
+
+
+UNSYNCED = r"r1 closed, sync failed: .+ \(os error 5\)"
+SYNCS = "fsync,fdatasync:error=EIO"
+FULL = "writev:error=ENOSPC:when=1"
+# What went wrong at a drive: what is done before to the folders, what the system refuses, by strace(1), what is asked, and the lines.
+WRONG = (
+    ("the sync at a close", "", f"{SYNCS}:when=1", CLOSE, (UNSYNCED,)),
+    ("the sync at a move", "", f"{SYNCS}:when=1", OFFLINE, (r"move refused: .+/r1: sync: .+ \(os error 5\)", UNSYNCED)),
+    ("the sync of a folder", "", f"{SYNCS}:when=2", OFFLINE, (r"r1 moved to the bin, folder sync failed: .+ \(os error 5\)",)),
+    ("a write", "", FULL, CLOSE, (r"r1 closed, a read or write failed: .+ \(os error 28\)",)),
+    ("a write before a move", "", FULL, OFFLINE, (r"r1 moved to the bin, a read or write failed: .+ \(os error 28\)",)),
+    ("the open", "locked", "", CLOSE, (r"open refused: .+/r1: lock: another has the lock",)),
+    ("the move", "taken", "", OFFLINE, ("move refused: r1: the bin has the name",)),
+)
+
+
+def wrong_with_stdio(rmtd: str) -> None:
+    """On standard input and output what went wrong is told, and nothing else."""
+    for title, before, refused, asked, told in WRONG:
+        if refused and not can_trace():
+            print(f"skipped: stdio, {title} fails: it takes strace(1)")
+            continue
+        with tempfile.TemporaryDirectory() as folder:
+            words = stdio_words(rmtd, Path(folder))
+            if before == "taken":
+                Path(folder, "bin/r1").touch()
+            with Path(folder, "st0/r1").open("rb") as held:
+                if before == "locked":
+                    fcntl.flock(held, fcntl.LOCK_EX)
+                traced = ("strace", "-f", "-o", "/dev/null", "-e", f"inject={refused}") if refused else ()
+                got = subprocess.run([*traced, *words], input=opened() + write(b"x") + asked, capture_output=True, check=False)
+            form = "".join(f"rmtd: /dev/st0: {it}\n" for it in told)
+            check(f"stdio, {title} fails: it is told", got.returncode == 0 and re.fullmatch(form, got.stderr.decode()) is not None, got, told)
+
+
+def one_stream(rmtd: str) -> None:
+    """Where standard error is the stream that has the answers, as inetd gives them, nothing else stands there."""
+    with tempfile.TemporaryDirectory() as folder:
+        for title, words, asked, answered in (
+            ("folders", stdio_words(rmtd, Path(folder)), opened() + NOTHING, IO_ERROR + NOTHING_OPEN),
+            ("memory", [rmtd, "--stdio", "--bin", folder], opened() + NOTHING, DONE + DONE_ONE),
+        ):
+            with Path(folder, "st0/r1").open("rb") as held:
+                fcntl.flock(held, fcntl.LOCK_EX)
+                got = subprocess.run(words, input=asked, stdout=subprocess.PIPE, stderr=subprocess.STDOUT, check=False)
+                check(f"one pipe, {title}: the answers alone", (got.returncode, got.stdout) == (0, answered), got)
+                ours, its = socket.socketpair()
+                with ours:
+                    with its:
+                        process = subprocess.Popen(words, stdin=its, stdout=its, stderr=its)
+                    ours.sendall(asked)
+                    ours.shutdown(socket.SHUT_WR)
+                    with ours.makefile("rb") as replies:
+                        came = replies.read()
+                check(f"one socket, {title}: the answers alone", (process.wait(60), came) == (0, answered), came)
+
+
+def bin_alone(rmtd: str) -> None:
+    """On standard input and output a bin without a drive is told."""
+    got = subprocess.run([rmtd, "--stdio", "--bin", "/"], input=opened(), capture_output=True, check=False)
+    told = b"rmtd: --bin is given and no drive: the reel of /dev/st0 is in memory, and is gone when the server ends\n"
+    check("a bin and no drive: it is told", (got.returncode, got.stdout, got.stderr) == (0, DONE, told), got)
 
 
 def without_streams(rmtd: str) -> None:
@@ -368,7 +479,8 @@ def main() -> int:
     parser = argparse.ArgumentParser(description="Checks what the built server writes on standard error.")
     parser.add_argument("rmtd", nargs="?", default=str(CRATES / "rmtd/out/rmtd"))
     rmtd = os.path.abspath(parser.parse_args().rmtd)
-    for part in (endings, reels, far_away, unsynced, too_many, failed_accepts, at_once, unwritable, unread, in_memory, with_stdio, without_streams):
+    listeners = (endings, reels, far_away, unsynced, refused_calls, too_many, failed_accepts, at_once, unwritable, unread, in_memory)
+    for part in (*listeners, with_stdio, wrong_with_stdio, one_stream, bin_alone, without_streams):
         part(rmtd)
     return ended()
 

@@ -30,7 +30,7 @@ pub fn folder_stacks<R: FolderSystem>(
 }
 
 /// The same with a log of what they do.
-fn logged_stacks<R: FolderSystem, L: Log + Drop>(
+pub(crate) fn logged_stacks<R: FolderSystem, L: Log + Drop>(
     rt: R,
     words: &[DriveWord<'_>],
     bin: &str,

@@ -20,6 +20,7 @@ mod site;
 mod startup;
 mod stdio;
 mod tape_server;
+mod warnings;
 
 pub use at::serve_at;
 pub use connections::Connections;

@@ -9,9 +9,11 @@ ghost use Rattle.rmtd_serve.specs.Startup.{AreUntouched, IsDone, IsBegun, IsStar
 use crate::connections::Connections;
 use crate::error_log::ErrorLog;
 use crate::file_limit::tell_limit;
+use crate::folders::logged_stacks;
 use crate::ready::site_of;
 use crate::site::Site;
-use crate::{MemoryServer, TapeServer, exit_status, folder_stacks, run_stdio, serve_connections};
+use crate::warnings::Warnings;
+use crate::{MemoryServer, TapeServer, exit_status, run_stdio, serve_connections};
 use clap::Error;
 use clap::error::ErrorKind;
 use file_medium::take_places;
@@ -161,6 +163,7 @@ fn follow<R: System, I: Read, O: Write>(
         return follow_in_folders(rt, line, bin, input, output);
     }
     let Some(address) = line.listen else {
+        warn_of_bin(rt, line)?;
         let status = run_stdio(rt.alloc(), input, output, line.capacity);
         return Ok(Begun::End(status));
     };
@@ -171,7 +174,8 @@ fn follow<R: System, I: Read, O: Write>(
 }
 
 /// Serves the streams at drives whose reels are files in folders, or makes ready for connections. A folder that cannot be used
-/// is told before anything is read.
+/// is told before anything is read. What goes wrong while the streams are served is told on standard error, where that is not
+/// the stream that has the answers.
 fn follow_in_folders<R: System, I: Read, O: Write>(
     rt: &R,
     line: &ServerLine<'_>,
@@ -187,7 +191,8 @@ fn follow_in_folders<R: System, I: Read, O: Write>(
     ensures failed { OnErr result (AreUntouched (streams input.old output.old) (streams input.new output.new)) }
 {
     let drives = line.drives.as_slice();
-    let stacks = folder_stacks(rt.clone()?, drives, bin, line.capacity)?;
+    let log = Warnings::new(rt.clone()?)?;
+    let stacks = logged_stacks(rt.clone()?, drives, bin, line.capacity, log)?;
     if let Some(fault) = stacks.find_fault() {
         return tell(rt, fault.folder, fault.reason);
     }
@@ -217,6 +222,18 @@ fn tell<R: System>(rt: &R, what: &str, why: io::Error) -> io::Result<Begun<R>>
 /// What is told of a reel in memory to which others come.
 const IN_MEMORY: &str = "the reel of /dev/st0 is in memory, and is gone when the server ends";
 
+/// What is told of it where there is a bin that it never comes to.
+const BIN_ALONE: &str =
+    "--bin is given and no drive: the reel of /dev/st0 is in memory, and is gone when the server ends";
+
+/// Warns that the reel is in memory, where a bin is given that it never comes to. It fails only where memory is refused.
+fn warn_of_bin<R: System>(rt: &R, line: &ServerLine<'_>) -> io::Result<()> {
+    if line.bin.is_some() {
+        Warnings::new(rt)?.warn(BIN_ALONE);
+    }
+    Ok(())
+}
+
 /// Listens at this address, and serves as many connections as the line says with a drive in memory, which is told on standard error.
 /// Answers the status: 0 where as many came, and 1 where the listener is broken for good.
 fn listen<R: System>(rt: &R, address: &str, line: &ServerLine<'_>) -> io::Result<u8>
@@ -227,7 +244,11 @@ fn listen<R: System>(rt: &R, address: &str, line: &ServerLine<'_>) -> io::Result
     };
     let listener = bind(rt, address)?;
     let log = ErrorLog { rt, seat: None };
-    log.note(IN_MEMORY);
+    log.note(if line.bin.is_some() {
+        BIN_ALONE
+    } else {
+        IN_MEMORY
+    });
     let left = line.connections.unwrap_or(u64::MAX);
     let connections = Connections::new(rt, &listener, left, log);
     Ok(serve_connections(&mut server, connections).status())
