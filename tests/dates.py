@@ -236,7 +236,7 @@ def checks_of_files(rdump: Rdump) -> Iterator[Check]:
     for text, fault in BAD_FILES:
         for words in ((), ("--name", "n", "--level", "9")):
             got = rdump.asked(text, *words)
-            yield Check(f"{text[-60:]!r} asked by {words}", fault.encode(), FAILED, (), got)
+            yield Check(f"{text[-60:]!r} asked by {words}", fault.encode(), FAILED, ("dumpdates: it is no dumpdates file",), got)
 
 
 def checks_of_words(rdump: Rdump) -> Iterator[Check]:
@@ -266,6 +266,10 @@ def checks_of_streams(rdump: Rdump) -> Iterator[Check]:
         got = rdump.run(*words, stdout=write_end)
         os.close(write_end)
         yield Check(f"{words[3:]} that nobody reads", b"", FAILED, ("standard output",), got)
+    bad = str(rdump.file("no entry\n", "bad"))
+    with open("/dev/full", "wb") as full:
+        got = rdump.run("dates", "--file", bad, stdout=full.fileno())
+    yield Check("a bad file on a full device", b"", FAILED, (f"{bad}: it is no dumpdates file", "standard output"), got)
 
 
 def checks_of_memory(rdump: Rdump) -> Iterator[Check]:

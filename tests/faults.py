@@ -478,7 +478,7 @@ def is_dump_right(got: Ended, yes: int, stays: bool = False) -> bool:
     went = course(THREE_BLOCKS, got.output, yes)
     if went is None or got.status != went.status() or not {*reels[: went.counted]} <= {*got.left.bin.values()}:
         return False
-    is_told = got.told != b"" or went.end == "complete" or "SourceFault" in went.faults
+    is_told = got.told != b"" or went.end == "complete"
     return is_told and got.left.dates == (NEW_DATES if went.end == "complete" else OLD_DATES)
 
 
@@ -576,7 +576,7 @@ def is_kept_right(it: KeptRun, call: str) -> bool:
         return False
     stays = went.end in ("complete", "abandoned") and got.left.kept is not None
     lawful = texts_after(went.counted, went.end, stays, call)
-    is_told = got.told != b"" or (went.end == "complete" and not stays) or "SourceFault" in went.faults
+    is_told = got.told != b"" or (went.end == "complete" and not stays)
     dates = NEW_DATES if went.end == "complete" else OLD_DATES
     return got.left.kept in lawful and got.status == (ABNORMAL if stays else went.status()) and is_told and got.left.dates == dates
 

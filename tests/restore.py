@@ -12,6 +12,7 @@ from __future__ import annotations
 import argparse
 import os
 import random
+import re
 import resource
 import signal
 import socket
@@ -29,6 +30,7 @@ from checks import check, ended
 from dump import ABNORMAL, CRATES, DAY, DEVICE, DONE, FAILED, GUARD_SECONDS, Ended, Model, Programs, Reel
 from model_rmtd import Entry, images
 from sites import folders, held
+from traced import in_order, made_in, traced
 
 BLOCK = 1024
 # What was dumped: its last block is not full.
@@ -191,8 +193,8 @@ def many(p: Programs) -> None:
     holds("many volumes", p.folder / "out", b"".join(data)[:3950])
     far = (2**31 - 2, 5_000_000, 3)
     with stacked(p, *(images([USR.label(1, it), b"0123456789", None]) for it in far)) as site:
-        lines = "blocks 4 to 4999999 are missing\nblocks 5000001 to 2147483645 are missing\n"
-        tells = 3 * (sizes(1, 10) + BINNED) + START.format(3) + lines
+        lines = "blocks 0 to 2 are missing\nblocks 4 to 4999999 are missing\nblocks 5000001 to 2147483645 are missing\n"
+        tells = 3 * (sizes(1, 10) + BINNED) + lines
         told("far out", site.read("--all", out="far"), "".join(USR.text(1, it) for it in far), ABNORMAL, tells)
     with open(p.folder / "far", "rb") as file:
         for it in far:
@@ -224,29 +226,45 @@ def plain(p: Programs) -> None:
 
 
 def gaps(p: Programs) -> None:
-    """Volumes that are missing between others, or before them, which another run may have read."""
+    """Volumes that are missing between others, or before them: those another run may have read, where the file held bytes."""
     out = p.folder / "out"
-    for order, lines, status in (
-        ((1, 3), "blocks 2 to 4 are missing\n", ABNORMAL),
-        ((3, 1), "blocks 2 to 4 are missing\n", ABNORMAL),
-        ((1, 2), "", DONE),
-        ((3, 2), START.format(2), DONE),
-        ((3,), START.format(5), DONE),
+    for order, lines, start in (
+        ((1, 3), "blocks 2 to 4 are missing\n", 0),
+        ((3, 1), "blocks 2 to 4 are missing\n", 0),
+        ((1, 2), "", 0),
+        ((3, 2), "", 2),
+        ((3,), "", 5),
     ):
-        out.unlink(missing_ok=True)
-        files = named(*map(reel, order))
-        end = max(VOLUMES[it - 1][1] for it in order) * BLOCK
-        if end < len(PAYLOAD):
-            lines, status = lines + f"rdump: out: {end} bytes, fewer than {len(PAYLOAD)}\n", ABNORMAL
-        with stacked(p, *files.values()) as site:
-            got = site.read("--all", "--length", str(len(PAYLOAD)))
-            told(f"only {order}", got, texts(*order), status, "".join(counted(it) + BINNED for it in order) + lines)
-            site.reels(f"only {order}", {}, files)
-        want = bytearray(end)
-        for it in order:
-            first, end = VOLUMES[it - 1]
-            want[first * BLOCK : end * BLOCK] = PADDED[first * BLOCK : end * BLOCK]
-        holds(f"only {order}", out, bytes(want[: len(PAYLOAD)]))
+        for before in (None, b"", b"o"):
+            name = f"only {order} over {before and len(before)} bytes"
+            out.unlink(missing_ok=True)
+            if before is not None:
+                out.write_bytes(before)
+            tells, status = lines, ABNORMAL if lines else DONE
+            if start and before:
+                tells = START.format(start)
+            elif start:
+                tells, status = f"blocks 0 to {start - 1} are missing\n", ABNORMAL
+            files = named(*map(reel, order))
+            end = max(VOLUMES[it - 1][1] for it in order) * BLOCK
+            if end < len(PAYLOAD):
+                tells, status = tells + f"rdump: out: {end} bytes, fewer than {len(PAYLOAD)}\n", ABNORMAL
+            with stacked(p, *files.values()) as site:
+                got = site.read("--all", "--length", str(len(PAYLOAD)))
+                told(name, got, texts(*order), status, "".join(counted(it) + BINNED for it in order) + tells)
+                site.reels(name, {}, files)
+            want = bytearray((before or b"").ljust(end, b"\0"))
+            for it in order:
+                first, end = VOLUMES[it - 1]
+                want[first * BLOCK : end * BLOCK] = PADDED[first * BLOCK : end * BLOCK]
+            holds(name, out, bytes(want[: len(PAYLOAD)]))
+    for first, blank, line in ((1, "block 0 is missing\n", START.format(1)), (7, "blocks 0 to 6 are missing\n", START.format(7))):
+        for before in (b"", b"o"):
+            out.write_bytes(before)
+            with stacked(p, images([USR.label(2, first), None])) as site:
+                tells, status = (line, DONE) if before else (blank, ABNORMAL)
+                told(f"no block from {first}, {before}", site.read("--all"), USR.text(2, first), status, sizes(0) + BINNED + tells)
+            holds(f"no block from {first}, {before}", out, before)
     some = [images([USR.label(it, first), *blocks(first, end), None]) for it, first, end in ((1, 0, 2), (3, 3, 4), (4, 5, 6))]
     with stacked(p, *some) as site:
         got = site.read("--all", out="two")
@@ -420,6 +438,90 @@ def sent(p: Programs) -> None:
     model.stop()
 
 
+CALLS = "pwrite64,ftruncate,fsync,fdatasync,sendto"
+SYNCS = "fsync,fdatasync"
+NO_SYNC = "rdump: out: Input/output error (os error 5)\n"
+NO_QUOTA = "rdump: out: Disk quota exceeded (os error 122)\n"
+
+
+def synced(p: Programs) -> None:
+    """The file, and the folder of one that this run made, are on the disk before each request that takes a reel away, and in the end."""
+    strace = traced(CALLS)
+    if not strace:
+        return
+    folder = re.escape(str(p.folder.resolve()))
+    for title, folders_synced in (("a file that is made", 1), ("a file that was there", 0)):
+        model = loaded(3, 1, 2)
+        words = ("read", "--to", model.address, "--device", DEVICE, "--out", "out", "--all", "--length", str(len(PAYLOAD)))
+        got = p.run(*strace[1:], p.rdump, *words, program=strace[0])
+        told(title, got, texts(3, 1, 2), DONE, "".join(counted(it) + BINNED for it in (3, 1, 2)))
+        holds(title, p.folder / "out", PAYLOAD)
+        model.stop()
+        whole = (
+            ("the file is synced", "fsync", rf"<{folder}/out>"),
+            *[("its folder is synced", "fsync", rf"<{folder}>")] * folders_synced,
+        )
+        wanted: list[tuple[str, str, str]] = []
+        for volume in (3, 1, 2):
+            last = (VOLUMES[volume - 1][1] - 1) * BLOCK
+            wanted.append(("the last block is written", "pwrite64", rf"<{folder}/out>, .*, {BLOCK}, {last}$"))
+            wanted += [*whole, ("the reel is taken away", "sendto", r'"I6\\n1\\n"')]
+        wanted += [("the file is cut", "ftruncate", rf"<{folder}/out>, {len(PAYLOAD)}$"), *whole]
+        in_order(made_in(p.folder), tuple(wanted))
+
+
+def unsynced(p: Programs) -> None:
+    """Where a sync fails the request that takes the reel away is not sent, and nothing more is read."""
+    if subprocess.run(("strace", "-f", "-o", os.devnull, "-e", f"inject={SYNCS}:error=EIO:when=1", "true"), check=False).returncode:
+        print("skipped: a sync that fails: strace may not be used")
+        return
+    out = p.folder / "out"
+    read_of = [[OPEN, REWIND, *[READ] * (end - first + 2)] for first, end in VOLUMES]
+    gone = [[*it, OFFLINE, CLOSE] for it in read_of]
+    binned = [counted(it) + BINNED for it in (1, 2, 3)]
+    folder = "rdump: out: its folder could not be synced\n"
+    # The syncs of a file that is made and of its folder, or of the file alone: before each of three reels goes, and in the end.
+    for title, before, fault, sent, tells, status in (
+        ("the first", None, "EIO:when=1", read_of[:1], counted(1) + NO_SYNC, ABNORMAL),
+        ("the folder's", None, "EIO:when=2", read_of[:1], counted(1) + folder, ABNORMAL),
+        ("the third", None, "EIO:when=3", [gone[0], read_of[1]], binned[0] + counted(2) + NO_SYNC, ABNORMAL),
+        ("the last", None, "EIO:when=7", [*gone, [OPEN]], "".join(binned) + NO_SYNC, ABNORMAL),
+        ("that of a folder which has none", None, "EINVAL:when=2", [*gone, [OPEN]], "".join(binned), DONE),
+        ("the second of a file that was there", b"", "EIO:when=2", [gone[0], read_of[1]], binned[0] + counted(2) + NO_SYNC, ABNORMAL),
+        ("the last of a file that was there", b"o", "EDQUOT:when=4", [*gone, [OPEN]], "".join(binned) + NO_QUOTA, ABNORMAL),
+    ):
+        out.unlink(missing_ok=True)
+        if before is not None:
+            out.write_bytes(before)
+        model = loaded(1, 2, 3)
+        got = injected(p, model.address, fault, "--all")
+        check(f"a sync fails, {title}", got == Ended(texts(*range(1, min(len(sent), 3) + 1)), tells, status), got, (tells, status))
+        check(f"a sync fails, {title}: what is sent", model.logs == sent, model.logs)
+        binned_names = [f"r{it}" for it, log in enumerate(sent, 1) if OFFLINE in log]
+        check(f"a sync fails, {title}: the reels", [it.name for it in model.bin] == binned_names and len(model.stack) == 3 - len(binned_names))
+        left = [it.name for it in model.stack]
+        if left:
+            got = read(p, model.address, "--all", "--length", str(len(PAYLOAD)))
+            check(f"a sync fails, {title}: the rest", got.status == DONE and got.output == texts(*(int(it[1:]) for it in left)), got)
+            holds(f"a sync fails, {title}: the rest", out, PAYLOAD)
+        model.stop()
+    for more in ((), ("--place",), ("--length", "7"), ("--place", "--length", "7")):
+        model = loaded(1)
+        got = injected(p, model.address, "EIO:when=1", *more)
+        told(f"a sync fails, one volume {more}", got, texts(1), ABNORMAL, counted(1) + NO_SYNC)
+        check(f"a sync fails, one volume {more}: the reel", len(model.stack) == 1 and model.logs == [[*read_of[0], CLOSE]], model.logs)
+        model.stop()
+    model = loaded(1)
+    told("what has no disk", injected(p, model.address, "EIO:when=1+", out="/dev/null"), texts(1), DONE, counted(1))
+    model.stop()
+
+
+def injected(p: Programs, address: str, fault: str, *more: str, out: str = "out") -> Ended:
+    """Reads where these of its syncs fail."""
+    words = ("read", "--to", address, "--device", DEVICE, "--out", out, *more)
+    return p.run("-f", "-qq", "-o", os.devnull, "-e", f"trace={SYNCS}", "-e", f"inject={SYNCS}:error={fault}", p.rdump, *words, program="strace")
+
+
 def refusals(p: Programs) -> None:
     """Each request of the second volume in turn is refused, botched, or its reply does not come; the next run reads the rest."""
     # The first volume takes eight requests, and the second one nine.
@@ -508,7 +610,7 @@ def killed(p: Programs) -> None:
         holds(f"killed after {count} bytes", out, PAYLOAD)
 
 
-PARTS = (placed, stacks, many, plain, gaps, others, foreign, uneven, special, twice, full, sent, refusals, killed)
+PARTS = (placed, stacks, many, plain, gaps, others, foreign, uneven, special, twice, full, sent, synced, unsynced, refusals, killed)
 
 
 def main() -> int:

@@ -14,6 +14,7 @@ import argparse
 import os
 import pty
 import re
+import shutil
 import socket
 import subprocess
 import sys
@@ -231,6 +232,24 @@ def reasons(p: Programs) -> None:
         words = f"rdump: {server.address}: Refused {number}: {text} (os error {number})\n"
         told(f"a refusal with {number}", p.dump(server.address), f"volume 1 failed: Refused {number}\n{ASKED}", ABNORMAL, words)
         server.stop()
+    for replies in ((b"X\n",), (b"A0\n", b"A2\n"), (b"A0\n", b"A1\n", b"A1025\n" + bytes(1025))):
+        server = Said(*replies)
+        words = f"rdump: {server.address}: no reply by the protocol\n"
+        told(f"no reply, after {len(replies)} requests", p.dump(server.address), f"volume 1 failed: Botched\n{ASKED}", ABNORMAL, words)
+        server.stop()
+
+
+def unread(p: Programs) -> None:
+    """A payload that became shorter: its path is told, once for each attempt that fails by it."""
+    path = p.file("payload", PAYLOAD)
+    began = (b"A0\n", b"A1\n", b"A0\n", b"A1\n", b"A1024\n")
+    server = Said(*began, *began)
+    converse = server.converse
+    server.converse = lambda stream: (os.truncate(p.folder / path, 10), converse(stream))
+    words = "rdump: payload: a block could not be read: the file became shorter, or its disk failed\n"
+    output = "volume 1 failed: SourceFault\nretry?\n" * 2 + "dump abandoned\n"
+    told("a payload that became shorter, twice", p.dump(server.address, said="yes\n"), output, ABNORMAL, words * 2)
+    server.stop()
 
 
 def counted(p: Programs) -> None:
@@ -375,7 +394,8 @@ def terminal(p: Programs) -> None:
 
 
 def based(p: Programs) -> None:
-    """The date that a dump builds on, at a terminal alone, and a dumpdates file that can't be written, wherever standard error goes."""
+    """The date that a dump builds on, at a terminal alone. That it is after the dump's own, and a dumpdates file that can't be written, wherever standard
+    error goes."""
     p.file("payload", b"")
     p.file("dumpdates", dump.ENTRY.encode())
     whole = "volume 1: 0 blocks from 0\ndump complete: 1 volumes, 0 blocks\n"
@@ -388,6 +408,20 @@ def based(p: Programs) -> None:
         os.close(near)
         check(f"a level {level}", (got.output, got.status) == (whole, DONE) and shown.startswith(f"{since}\r\n"), got, shown)
         told(f"a level {level}, and no terminal", p.dump(model.address, level=level), whole, DONE, "")
+        model.stop()
+    late = "rdump: the base date, Tue Feb 29 00:00:00 2000, is after the date of this dump\n"
+    for date, tells in ((DAY - 1, late), (DAY, ""), (DAY + 1, ""), (0, late)):
+        for more in ((), ("--checkpoint", "kept")):
+            model = Model(Reel("r1", 4096))
+            told(f"a dump of {date} {more}", p.dump(model.address, *more, level="1", date=str(date)), whole, DONE, tells)
+            model.stop()
+    for date, tells in ((DAY - 1, late), (DAY, "")):
+        # The dump goes on with the dates of the file.
+        kept = f"rdump 1\ndevice {DEVICE}\nfs /usr\nlevel 1\ndate {date}\nsince {DAY}\nblock 1024\nblocks 0\n"
+        p.file("kept", kept.encode())
+        model = Model(Reel("r1", 4096))
+        got = p.dump(model.address, "--checkpoint", "kept", level="1", date="5")
+        told(f"a dump of {date} that goes on", got, whole, DONE, f"going on: 0 volumes, 0 blocks of 0 counted\n{tells}")
         model.stop()
     p.folder.joinpath("dumpdates.new").mkdir()
     for more, output, status, lines in ((("--update",), "dumpdates not updated\n", ABNORMAL, 2), ((), "", DONE, 0)):
@@ -459,10 +493,24 @@ def block_device(p: Programs) -> str | None:
         check("a block device: the volume", b"".join(model.bin[0].entries[1:-1]) == path.read_bytes())
         check("a block device: it is not kept in memory", bool(seen) and seen[0] < 32 << 10, seen)
         model.stop()
+        return unsynced_device(p, device)
+
+
+def unsynced_device(p: Programs, device: str) -> str | None:
+    """A volume that is read back to a block device, whose sync fails. Answers what was skipped."""
+    if not shutil.which("strace"):
+        return "a block device that can't be synced: strace is not installed"
+    server = Said(b"A0\n", b"A1\n", record(label(1, 0)), record(BLOCKS[0]), b"A0\n", b"A0\n")
+    fails = ("-f", "-qq", "-o", os.devnull, "-e", "trace=fsync,fdatasync", "-e", "inject=fsync,fdatasync:error=EIO:when=1")
+    words = ("read", "--to", server.address, "--device", DEVICE, "--out", device)
+    got = p.run(*fails, p.rdump, *words, program="strace")
+    tells = f"1 block of 1024 bytes\nrdump: {device}: Input/output error (os error 5)\n"
+    told("a block device that can't be synced", got, LABEL, ABNORMAL, tells)
+    server.stop()
     return None
 
 
-PARTS = (volumes, torn, files, shared, reasons, counted, pauses, words, unprinted, terminal, based, hangs_up, block_device)
+PARTS = (volumes, torn, files, shared, reasons, unread, counted, pauses, words, unprinted, terminal, based, hangs_up, block_device)
 
 
 def main() -> int:

@@ -2,7 +2,7 @@
 ghost use Rattle.std.specs.Prelude.{◌≡◌};
 ghost use Rattle.rdump_commands.specs.Status.{IsStatus};
 
-use crate::fault::{FAILED, refuse_run, say, tell, tell_no_memory};
+use crate::fault::{FAILED, NO_DUMPDATES, refuse_run, say, tell, tell_no_memory};
 use crate::going_on::dump_from;
 use crate::{System, run_client};
 use dumpdates::DatesFault;
@@ -83,7 +83,7 @@ fn dump_medium<R: System, M: Medium + Drop, T: Write + Copy + Drop>(
         Ok(since) => dump_since(rt, line, payload, since, terminal),
         // That memory was refused is printed by then.
         Err(DatesFault::OutOfMemory) => FAILED,
-        Err(_) => say(rt, line.dumpdates, "it is no dumpdates file"),
+        Err(_) => say(rt, line.dumpdates, NO_DUMPDATES),
     }
 }
 
@@ -119,9 +119,10 @@ fn dump_at<R: System, M: Medium + Drop, T: Write + Copy + Drop>(
     if let Some(path) = line.checkpoint {
         return dump_from(rt, line, path, payload, since, date, terminal);
     }
+    let dates = RunDates { date, since };
     let gauge = terminal.map(|it| ProgressLine::new(rt, it));
     match dumper(rt.alloc(), line, date, since, payload, gauge) {
-        Ok(mut client) => match tell_first(rt, line, since, terminal.is_some()) {
+        Ok(mut client) => match tell_first(rt, line, dates, terminal.is_some()) {
             Ok(()) => run_client(rt, line, &mut client, terminal),
             Err(error) => tell(rt, line.dumpdates, error),
         },
@@ -130,17 +131,30 @@ fn dump_at<R: System, M: Medium + Drop, T: Write + Copy + Drop>(
     }
 }
 
-/// Tells what is known before the first attempt: at a terminal the base date, and where the dump could not be entered now, why.
+/// The dates of a dump, in seconds since 1970 began.
+#[derive(Clone, Copy)]
+pub(crate) struct RunDates {
+    /// Its own.
+    pub date: u64,
+    /// The base date, on which it builds.
+    pub since: u64,
+}
+
+/// Tells what is known before the first attempt: at a terminal the base date, that it is after the dump's own, and where the dump could
+/// not be entered now, why.
 ///
 /// It fails only where memory is refused.
 pub(crate) fn tell_first<R: System>(
     rt: &R,
     line: &DumpLine<'_>,
-    since: u64,
+    dates: RunDates,
     is_at_terminal: bool,
 ) -> io::Result<()> {
     if is_at_terminal {
-        tell_since(rt, since)?;
+        tell_since(rt, dates.since)?;
+    }
+    if dates.since > dates.date {
+        tell_late(rt, dates.since)?;
     }
     if line.update {
         warn(rt, line.dumpdates)?;
@@ -148,17 +162,30 @@ pub(crate) fn tell_first<R: System>(
     Ok(())
 }
 
-/// Tells from which date on a block counts as new. It fails only where memory is refused: each date of an entry has a text.
+/// Tells from which date on a block counts as new. It fails only where memory is refused.
 fn tell_since<R: System>(rt: &R, since: u64) -> io::Result<()> {
     if since == 0 {
         let _ = eprintln!(rt; "since the epoch: every block counts as new");
         return Ok(());
     }
-    let Some(date) = date_text(rt.alloc(), since) else {
-        return Err(io::Error::from(ErrorKind::OutOfMemory));
-    };
+    let date = text_of(rt, since)?;
     let _ = eprintln!(rt; "since {date}");
     Ok(())
+}
+
+/// Tells that the base date is after the date of the dump. It fails only where memory is refused.
+fn tell_late<R: System>(rt: &R, since: u64) -> io::Result<()> {
+    let date = text_of(rt, since)?;
+    let _ = eprintln!(rt; "rdump: the base date, {date}, is after the date of this dump");
+    Ok(())
+}
+
+/// The text of a date. It fails only where memory is refused: each date of an entry has a text.
+fn text_of<R: System>(rt: &R, date: u64) -> io::Result<String> {
+    match date_text(rt.alloc(), date) {
+        Some(text) => Ok(text),
+        None => Err(io::Error::from(ErrorKind::OutOfMemory)),
+    }
 }
 
 /// Tells why a dumpdates file can't be written, if it can't. It fails only where memory is refused.

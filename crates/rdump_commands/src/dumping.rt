@@ -6,7 +6,7 @@ ghost use Rattle.rdump_commands.specs.Status.{IsDumpStatus, IsEndStatus};
 
 use crate::System;
 use crate::asking::Asking;
-use crate::fault::{ABNORMAL, ended, tell_failed};
+use crate::fault::{ABNORMAL, NO_DUMPDATES, ended, tell_failed};
 use crate::told_peer::ToldPeer;
 use dump_client::{Blocks, Client};
 use dumpdates::DatesFault;
@@ -207,7 +207,7 @@ fn tell_unentered<R: Eprint>(
         (UpdateFault::Dates(DatesFault::OutOfMemory), _) => {
             eprintln!(rt; "rdump: {dumpdates}: out of memory")
         }
-        (UpdateFault::Dates(_), _) => eprintln!(rt; "rdump: {dumpdates}: it is no dumpdates file"),
+        (UpdateFault::Dates(_), _) => eprintln!(rt; "rdump: {dumpdates}: {NO_DUMPDATES}"),
         (_, Some(error)) => eprintln!(rt; "rdump: {dumpdates}: {error}"),
         (_, None) => eprintln!(rt; "rdump: {dumpdates}: it could not be read or replaced"),
     };

@@ -13,6 +13,9 @@ pub(crate) const FAILED: u8 = 1;
 /// The status of a volume that was not read whole, and of an operation that was not told of.
 pub(crate) const ABNORMAL: u8 = 3;
 
+/// What is told of a file that should be a dumpdates file.
+pub(crate) const NO_DUMPDATES: &str = "it is no dumpdates file";
+
 /// Tells on standard error what is at fault and why, and answers the status.
 pub(crate) fn say<R: Eprint>(rt: &R, what: &str, why: &str) -> u8
     ensures { result ≡ 1 }

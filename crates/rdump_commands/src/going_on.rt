@@ -4,7 +4,7 @@ ghost use Rattle.rdump_commands.specs.Status.{IsStatus};
 ghost use Rattle.rdump_files.specs.Payload.{IsRunsPayload};
 
 use crate::System;
-use crate::dump_command::tell_first;
+use crate::dump_command::{RunDates, tell_first};
 use crate::dumping::run_kept;
 use crate::fault::{FAILED, refuse_run, say, tell, tell_failed, tell_no_memory};
 use dump_client::{Blocks, Client, ResumeFault, Run};
@@ -41,7 +41,7 @@ pub(crate) fn dump_from<R: System, M: Medium + Drop, T: Write + Copy + Drop>(
     }
 }
 
-/// Dumps a payload from its begin on, and answers the status.
+/// Dumps a payload from its beginning on, and answers the status.
 fn dump_anew<R: System, M: Medium + Drop, T: Write + Copy + Drop>(
     rt: &R,
     line: &DumpLine<'_>,
@@ -53,10 +53,10 @@ fn dump_anew<R: System, M: Medium + Drop, T: Write + Copy + Drop>(
     requires { IsRunsPayload run payload }
     ensures { IsStatus result }
 {
-    let since = run.since();
+    let dates = dates_of(&run);
     let gauge = terminal.map(|it| ProgressLine::new(rt, it));
     match dumper_of(rt.alloc(), run, payload, gauge) {
-        Ok(mut client) => dump_told(rt, line, since, &mut client, file, terminal),
+        Ok(mut client) => dump_told(rt, line, dates, &mut client, file, terminal),
         Err(_) => tell_no_memory(rt),
     }
 }
@@ -75,17 +75,25 @@ fn dump_on<R: System, M: Medium + Drop, T: Write + Copy + Drop>(
     ensures { IsStatus result }
 {
     let path = line.checkpoint.unwrap_or("");
-    let since = match Run::spelled(rt.alloc(), bytes) {
-        Ok(kept) => kept.since(),
+    let dates = match Run::spelled(rt.alloc(), bytes) {
+        Ok(kept) => dates_of(&kept),
         Err(fault) => return refuse_checkpoint(rt, path, ComebackFault::Unread(fault)),
     };
     let gauge = terminal.map(|it| ProgressLine::new(rt, it));
     match come_back(rt.alloc(), run, bytes, payload, gauge) {
         Ok(mut client) => {
             tell_going_on(rt, &client, run.blocks());
-            dump_told(rt, line, since, &mut client, file, terminal)
+            dump_told(rt, line, dates, &mut client, file, terminal)
         }
         Err(fault) => refuse_checkpoint(rt, path, fault),
+    }
+}
+
+/// The dates of a run.
+fn dates_of(run: &Run) -> RunDates {
+    RunDates {
+        date: run.date(),
+        since: run.since(),
     }
 }
 
@@ -93,14 +101,14 @@ fn dump_on<R: System, M: Medium + Drop, T: Write + Copy + Drop>(
 fn dump_told<R: System, B: Blocks, T: Write + Copy + Drop>(
     rt: &R,
     line: &DumpLine<'_>,
-    since: u64,
+    dates: RunDates,
     client: &mut Client<B>,
     file: &mut ReplacedFile<'_, R>,
     terminal: Option<T>,
 ) -> u8
     ensures { IsStatus result }
 {
-    match tell_first(rt, line, since, terminal.is_some()) {
+    match tell_first(rt, line, dates, terminal.is_some()) {
         Ok(()) => run_kept(rt, line, client, file, terminal),
         Err(error) => tell(rt, line.dumpdates, error),
     }

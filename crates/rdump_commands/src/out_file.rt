@@ -2,19 +2,20 @@
 use rdump_files::named_file;
 use rdump_words::ReadLine;
 use std::alloc::Global;
+use std::cell::Cell;
 use std::fs::{self, File, Metadata, OpenOptions, TryLockError};
 use std::io::{self, ErrorKind, Write};
-use std::os::unix::fs::{FileExt, MetadataExt};
-use std::path::PathBuf;
+use std::os::unix::fs::{FileExt, FileTypeExt, MetadataExt};
+use std::path::{Path, PathBuf};
 use std::rt::Files;
 
 /// So often the file is opened at most, where others remove it each time before it is locked.
 const MOST_TRIES: u32 = 100;
 
-/// Why a block was not written.
+/// Why a block was not written, or is not on the disk.
 #[derive(Drop)]
 pub(crate) enum BlockFault {
-    /// The file could not be emptied or written.
+    /// The file could not be emptied, written or synced.
     Failed(io::Error),
     /// The volume has no label, which would say where its blocks go.
     NoPlace,
@@ -22,20 +23,34 @@ pub(crate) enum BlockFault {
     OtherLength { bytes: usize, before: usize },
 }
 
+/// What a file is.
+#[derive(Clone, Copy, PartialEq, Eq)]
+enum FileKind {
+    /// A plain file.
+    Plain,
+    /// A block device.
+    Disk,
+    /// Anything else, as a pipe or a terminal, which has no disk.
+    Stream,
+}
+
 /// The file that the blocks of volumes are written to. One that is plain is locked, so that no other run writes it or removes it
 /// meanwhile.
 ///
 /// Either it is for one volume, whose blocks follow one another: then it holds what it held until the volume begins, with the label or
 /// a block. Or each block has its place, and the file is never emptied.
+///
+/// It is shared by who writes its blocks and who has it synced before a reel goes.
 #[derive(Drop)]
 pub(crate) struct OutFile {
     file: File,
     made: Option<PathBuf>,
-    is_plain: bool,
+    kind: FileKind,
+    was_empty: bool,
     has_places: bool,
-    has_begun: bool,
-    block: Option<usize>,
-    fault: Option<BlockFault>,
+    has_begun: Cell<bool>,
+    block: Cell<Option<usize>>,
+    fault: Cell<Option<BlockFault>>,
 }
 
 impl OutFile {
@@ -56,27 +71,40 @@ impl OutFile {
             let Some((file, made)) = open_or_make(rt, alloc, line.out)? else {
                 continue;
             };
-            let is_plain = file.metadata()?.is_file();
-            if must_be_plain && !is_plain {
+            let kind = kind_of(&file.metadata()?);
+            if must_be_plain && kind != FileKind::Plain {
                 return Err(no_plain_file());
             }
-            if !is_plain || lock(rt, line.out, &file)? {
-                return Ok(OutFile::of(file, made, is_plain, line.place));
+            if kind != FileKind::Plain || lock(rt, line.out, &file)? {
+                return OutFile::of(file, made, kind, line.place);
             }
         }
         Err(taken())
     }
 
-    fn of(file: File, made: Option<PathBuf>, is_plain: bool, has_places: bool) -> OutFile {
-        OutFile {
+    /// The file that was opened, and locked if it is plain.
+    fn of(
+        file: File,
+        made: Option<PathBuf>,
+        kind: FileKind,
+        has_places: bool,
+    ) -> io::Result<OutFile> {
+        let was_empty = kind == FileKind::Plain && file.metadata()?.len() == 0;
+        Ok(OutFile {
             file,
             made,
-            is_plain,
+            kind,
+            was_empty,
             has_places,
-            has_begun: false,
-            block: None,
-            fault: None,
-        }
+            has_begun: Cell::new(false),
+            block: Cell::new(None),
+            fault: Cell::new(None),
+        })
+    }
+
+    /// Whether it is a plain one that had no bytes when it was opened: no run wrote a block to it before.
+    pub(crate) fn was_empty(&self) -> bool {
+        self.was_empty
     }
 
     /// Whether each block has its place in it.
@@ -84,43 +112,44 @@ impl OutFile {
         self.has_places
     }
 
-    /// Why the last block that was not written was not, or that the file could not be emptied.
-    pub(crate) fn fault(&self) -> Option<&BlockFault> {
-        self.fault.as_ref()
+    /// Takes why the last block that was not written was not, or that the file could not be emptied or synced.
+    pub(crate) fn take_fault(&self) -> Option<BlockFault> {
+        self.fault.take()
     }
 
-    /// Keeps why a block was not written.
-    pub(crate) fn fail(&mut self, fault: BlockFault) {
-        self.fault = Some(fault);
+    /// Keeps why a block was not written, or is not on the disk.
+    pub(crate) fn fail(&self, fault: BlockFault) {
+        self.fault.set(Some(fault));
     }
 
     /// Whether a volume has begun.
     pub(crate) fn has_begun(&self) -> bool {
-        self.has_begun
+        self.has_begun.get()
     }
 
     /// A volume begins: the file is empty then, if it is for one volume. One that is not plain holds nothing.
-    pub(crate) fn begin(&mut self) {
+    pub(crate) fn begin(&self) {
         if let Err(error) = self.empty() {
-            self.fault = Some(BlockFault::Failed(error));
+            self.fail(BlockFault::Failed(error));
         }
     }
 
     /// Writes the next block.
-    pub(crate) fn append(&mut self, block: &[u8]) -> Result<(), BlockFault> {
+    pub(crate) fn append(&self, block: &[u8]) -> Result<(), BlockFault> {
         self.empty().map_err(BlockFault::Failed)?;
-        self.file.write_all(block).map_err(BlockFault::Failed)
+        let mut file = &self.file;
+        file.write_all(block).map_err(BlockFault::Failed)
     }
 
     /// Writes the block of this number, counted from 0, at its place. All blocks have the length of the first one.
-    pub(crate) fn put(&mut self, block: &[u8], number: u64) -> Result<(), BlockFault> {
+    pub(crate) fn put(&self, block: &[u8], number: u64) -> Result<(), BlockFault> {
         let bytes = block.len();
-        let before = self.block.unwrap_or(bytes);
+        let before = self.block.get().unwrap_or(bytes);
         if bytes != before {
             return Err(BlockFault::OtherLength { bytes, before });
         }
-        self.block = Some(bytes);
-        self.has_begun = true;
+        self.block.set(Some(bytes));
+        self.has_begun.set(true);
         let written = match number.checked_mul(bytes as u64) {
             Some(at) => self.file.write_all_at(block, at),
             None => Err(ErrorKind::FileTooLarge.into()),
@@ -129,7 +158,7 @@ impl OutFile {
     }
 
     /// Cuts the file to so many bytes, where it has more.
-    pub(crate) fn cut(&mut self, length: u64) -> io::Result<()> {
+    pub(crate) fn cut(&self, length: u64) -> io::Result<()> {
         if self.len()? > length {
             self.file.set_len(length)?;
         }
@@ -141,23 +170,61 @@ impl OutFile {
         Ok(self.file.metadata()?.len())
     }
 
+    /// Waits until the disk has what was written and, where this run made the file, its folder the name. A pipe or a terminal has no disk,
+    /// and a file system may have no such sync for folders: then there is nothing to wait for.
+    pub(crate) fn sync<R: Files<File = File>>(&self, rt: &R) -> io::Result<()> {
+        if self.kind == FileKind::Stream {
+            return Ok(());
+        }
+        self.file.sync_all()?;
+        match &self.made {
+            Some(named) => sync_folder(rt, named),
+            None => Ok(()),
+        }
+    }
+
     /// Removes the file, if this run made it, no volume has begun, and it is still where it was made.
     pub(crate) fn end<R: Files<File = File>>(self, rt: &R) {
         let Some(path) = &self.made else {
             return;
         };
         let path = path.as_path().as_str();
-        if !self.has_begun && is_at(rt, path, &self.file).unwrap_or(false) {
+        if !self.has_begun() && is_at(rt, path, &self.file).unwrap_or(false) {
             let _ = fs::remove_file(rt, path);
         }
     }
 
-    fn empty(&mut self) -> io::Result<()> {
-        if self.is_plain && !self.has_places && !self.has_begun {
+    fn empty(&self) -> io::Result<()> {
+        if self.kind == FileKind::Plain && !self.has_places && !self.has_begun() {
             self.file.set_len(0)?;
         }
-        self.has_begun = true;
+        self.has_begun.set(true);
         Ok(())
+    }
+}
+
+/// What a file is of which this is known.
+fn kind_of(found: &Metadata) -> FileKind {
+    if found.is_file() {
+        FileKind::Plain
+    } else if found.file_type().is_block_device() {
+        FileKind::Disk
+    } else {
+        FileKind::Stream
+    }
+}
+
+/// Waits until the folder of the file at this path has its name on the disk, where its file system syncs folders.
+fn sync_folder<R: Files<File = File>>(rt: &R, named: &PathBuf) -> io::Result<()> {
+    let folder = match named.as_path().parent() {
+        Some(folder) if !folder.as_str().is_empty() => folder,
+        _ => Path::new("."),
+    };
+    match File::open(rt, folder).and_then(|it| it.sync_all()) {
+        Err(error) if error.kind() != ErrorKind::InvalidInput => {
+            Err(io::Error::new(error.kind(), "its folder could not be synced"))
+        }
+        _ => Ok(()),
     }
 }
 

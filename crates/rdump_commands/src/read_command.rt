@@ -8,6 +8,7 @@ use crate::out_file::OutFile;
 use crate::stack::read_stack;
 use crate::volume::{VolumeEnd, read_volume};
 use rdump_words::ReadLine;
+use std::io;
 
 /// The status of what was read whole.
 pub(crate) const WHOLE: u8 = 0;
@@ -19,11 +20,11 @@ pub(crate) const WHOLE: u8 = 0;
 ///
 /// With `place` each block goes to the place in the file that it has in the dump, and the file is not emptied: the first record has
 /// to be a label, and the blocks have to be of one length. With `all` it is so with each volume of the stack. A reel goes to the bin
-/// once its volume was read. The reading ends well where the stack has no reel any more, and no block is missing between those that
+/// once its volume was read, and what was written is on the disk. The reading ends well where the stack has no reel any more, and no block is missing between those that
 /// came. A volume of another dump than the first one stays. With a length the file is cut to it in the end, where it is longer; with `all`
-/// it is told where it is shorter.
+/// it is told where it is shorter. In the end a plain file or a block device is synced, and the folder of a file that is made here.
 ///
-/// Answers the exit status: 0 where all was read whole and nothing is known to be missing, 1 where the file could not be opened, or has to be a plain
+/// Answers the exit status: 0 where all was read whole and synced, and nothing is known to be missing, 1 where the file could not be opened, or has to be a plain
 /// one, for places or a length, and is none, and else 3.
 pub fn run_read<R: System>(rt: &R, line: ReadLine<'_>) -> u8
     requires { IsReadLine line }
@@ -36,40 +37,45 @@ pub fn run_read<R: System>(rt: &R, line: ReadLine<'_>) -> u8
 }
 
 /// Reads what the line asks for into this file, and answers the status.
-fn read_into<R: System>(rt: &R, line: &ReadLine<'_>, mut file: OutFile) -> u8
+fn read_into<R: System>(rt: &R, line: &ReadLine<'_>, file: OutFile) -> u8
     requires { IsReadLine line.now }
     ensures { IsReadStatus result }
 {
     let status = if line.all {
-        read_stack(rt, line, &mut file)
+        read_stack(rt, line, &file)
     } else {
-        read_one(rt, line, &mut file)
+        read_one(rt, line, &file)
     };
     file.end(rt);
     status
 }
 
 /// Reads one volume into a file, and answers the status.
-fn read_one<R: System>(rt: &R, line: &ReadLine<'_>, file: &mut OutFile) -> u8
+fn read_one<R: System>(rt: &R, line: &ReadLine<'_>, file: &OutFile) -> u8
     requires { IsReadLine line.now }
     ensures { IsReadStatus result }
 {
-    match read_volume(rt, line, None, &mut *file).end {
-        VolumeEnd::Whole if file.has_begun() => cut_file(rt, line, file),
+    match read_volume(rt, line, None, file).end {
+        VolumeEnd::Whole if file.has_begun() => finish_file(rt, line, file),
         VolumeEnd::Whole => WHOLE,
         _ => ABNORMAL,
     }
 }
 
-/// Cuts a file to the length that the line asks for, if it does, and answers the status.
-pub(crate) fn cut_file<R: System>(rt: &R, line: &ReadLine<'_>, file: &mut OutFile) -> u8
+/// Cuts a file to the length that the line asks for, if it does, and syncs it. Answers the status.
+pub(crate) fn finish_file<R: System>(rt: &R, line: &ReadLine<'_>, file: &OutFile) -> u8
     ensures { IsReadStatus result }
 {
-    let Some(length) = line.length else {
-        return WHOLE;
-    };
-    match file.cut(length) {
+    match cut_and_sync(rt, line, file) {
         Ok(()) => WHOLE,
         Err(error) => tell_failed(rt, line.out, &error, ABNORMAL),
     }
+}
+
+/// Cuts a file to the length that the line asks for, if it does, and syncs it.
+fn cut_and_sync<R: System>(rt: &R, line: &ReadLine<'_>, file: &OutFile) -> io::Result<()> {
+    if let Some(length) = line.length {
+        file.cut(length)?;
+    }
+    file.sync(rt)
 }

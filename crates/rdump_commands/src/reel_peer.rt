@@ -1,5 +1,6 @@
 //! A server whose reels are read.
 use crate::System;
+use crate::out_file::{BlockFault, OutFile};
 use dump_client::AttemptFault;
 use rdump_talk::{Peer, SocketPeer};
 use std::cell::Cell;
@@ -13,27 +14,38 @@ const OFFLINE: &[u8] = b"I6\n1\n";
 pub(crate) enum ReelState {
     /// It is where it was.
     Here,
-    /// It was to be taken away, and stays, since no label of a volume was printed.
+    /// It was to be taken away, and stays, since no label of a volume was printed, or the file could not be synced.
     Kept,
     /// The server was asked to take it away.
     Asked,
 }
 
-/// A server whose reel stays where it is until the volume's first block is known. It tells nothing to clauses.
+/// A server whose reel stays where it is until the volume's first block is known, and the file with its blocks is on the disk. It tells
+/// nothing to clauses.
 ///
-/// A request to take the reel away before that is not sent: the connection ends there.
+/// A request to take the reel away before that is not sent: the connection ends there. Where the file could not be synced, it keeps
+/// why.
 #[derive(Drop)]
 pub(crate) struct ReelPeer<'a, R: System> {
+    rt: &'a R,
     socket: SocketPeer<'a, R>,
+    file: &'a OutFile,
     first: &'a Cell<Option<u32>>,
     reel: ReelState,
 }
 
 impl<'a, R: System> ReelPeer<'a, R> {
     /// The server at this address, with no connection.
-    pub(crate) fn new(rt: &'a R, address: &'a str, first: &'a Cell<Option<u32>>) -> Self {
+    pub(crate) fn new(
+        rt: &'a R,
+        address: &'a str,
+        file: &'a OutFile,
+        first: &'a Cell<Option<u32>>,
+    ) -> Self {
         ReelPeer {
+            rt,
             socket: SocketPeer::new(rt, address),
+            file,
             first,
             reel: ReelState::Here,
         }
@@ -54,12 +66,23 @@ impl<'a, R: System> ReelPeer<'a, R> {
         if request != OFFLINE {
             return;
         }
-        if self.first.get().is_some() {
+        if self.first.get().is_some() && self.sync() {
             self.reel = ReelState::Asked;
             return;
         }
         self.reel = ReelState::Kept;
         self.socket.hang_up();
+    }
+
+    /// Syncs the file. Answers whether it could.
+    fn sync(&self) -> bool {
+        match self.file.sync(self.rt) {
+            Ok(()) => true,
+            Err(error) => {
+                self.file.fail(BlockFault::Failed(error));
+                false
+            }
+        }
     }
 }
 

@@ -6,23 +6,23 @@ use crate::System;
 use crate::came::{BlockRange, CameBlocks};
 use crate::fault::{ABNORMAL, tell_no_memory};
 use crate::out_file::OutFile;
-use crate::read_command::{WHOLE, cut_file};
+use crate::read_command::finish_file;
 use crate::volume::{VolumeEnd, VolumeRead, read_volume};
 use dump_run::VolumeLabel;
 use rdump_words::ReadLine;
 
 /// Reads the volumes of a stack into a file, each to its place, as `rdump read --all` does, and answers the status.
-pub(crate) fn read_stack<R: System>(rt: &R, line: &ReadLine<'_>, file: &mut OutFile) -> u8
+pub(crate) fn read_stack<R: System>(rt: &R, line: &ReadLine<'_>, file: &OutFile) -> u8
     requires { IsReadLine line.now }
     ensures { IsReadStatus result }
 {
     let mut came = CameBlocks::new(rt.alloc());
     let end = read_volumes(rt, line, file, &mut came);
-    let has_gap = tell_came(rt, came.sorted());
+    let has_gap = tell_came(rt, came.sorted(), file.was_empty());
     if end != VolumeEnd::NoReel {
         return ABNORMAL;
     }
-    let status = cut_file(rt, line, file);
+    let status = finish_file(rt, line, file);
     let is_short = tell_short(rt, line, file);
     if has_gap || is_short {
         ABNORMAL
@@ -47,14 +47,14 @@ fn tell_short<R: System>(rt: &R, line: &ReadLine<'_>, file: &OutFile) -> bool {
 fn read_volumes<R: System>(
     rt: &R,
     line: &ReadLine<'_>,
-    file: &mut OutFile,
+    file: &OutFile,
     came: &mut CameBlocks,
 ) -> VolumeEnd
     requires { IsReadLine line.now }
 {
     let mut dump = None;
     for _ in 0..u64::MAX {
-        let read = read_volume(rt, line, dump.as_ref(), &mut *file);
+        let read = read_volume(rt, line, dump.as_ref(), file);
         if !count(rt, &read, came) {
             return VolumeEnd::Failed;
         }
@@ -86,33 +86,36 @@ fn count<R: System>(rt: &R, read: &VolumeRead, came: &mut CameBlocks) -> bool {
     true
 }
 
-/// Tells of the blocks that came, which are in order, where they do not begin with the dump's first one, and which are missing between
-/// them. Answers whether any are.
-fn tell_came<R: System>(rt: &R, came: &[BlockRange]) -> bool {
-    if let Some(range) = came.first() {
-        tell_first(rt, range.first);
+/// Tells of the blocks that came, which are in order: which are missing between them, and of those before the first one. Where the file was empty
+/// these are missing too, and else another run may have read them. Answers whether any are missing.
+fn tell_came<R: System>(rt: &R, came: &[BlockRange], was_empty: bool) -> bool {
+    match came.first() {
+        Some(_) if was_empty => tell_gaps(rt, came, 0),
+        Some(range) => {
+            tell_first(rt, range.first);
+            tell_gaps(rt, came, range.first)
+        }
+        None => false,
     }
-    tell_gaps(rt, came)
 }
 
-/// Tells which block is the first one that came, where that is not the dump's first one: another run may have read those before it.
+/// Tells which block is the first one that came, where that is not the dump's first one.
 fn tell_first<R: System>(rt: &R, first: u64) {
     if first > 0 {
         let _ = eprintln!(rt; "block {first} is the first one that came");
     }
 }
 
-/// Tells which blocks are missing between those that came, which are in order. Answers whether any are.
-fn tell_gaps<R: System>(rt: &R, came: &[BlockRange]) -> bool {
-    let mut end = None;
+/// Tells which blocks are missing from this one on between those that came, which are in order. Answers whether any are.
+fn tell_gaps<R: System>(rt: &R, came: &[BlockRange], from: u64) -> bool {
+    let mut end = from;
     let mut has_gap = false;
     for range in came {
-        let before = end.unwrap_or(range.first);
-        if range.first > before {
-            tell_gap(rt, before, range.first - 1);
+        if range.first > end {
+            tell_gap(rt, end, range.first - 1);
             has_gap = true;
         }
-        end = Some(before.max(range.end));
+        end = end.max(range.end);
     }
     has_gap
 }

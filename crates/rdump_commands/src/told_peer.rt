@@ -9,7 +9,7 @@ use jiff::Timestamp;
 use jiff::civil::Date;
 use jiff::tz::TimeZone;
 use rdump_files::CLEAR;
-use rdump_talk::{Peer, SocketPeer};
+use rdump_talk::{Peer, ReadFault, SocketPeer};
 use rdump_words::DumpLine;
 use std::io::{self, Write};
 
@@ -20,6 +20,7 @@ pub(crate) struct ToldPeer<'a, R: System, T> {
     rt: &'a R,
     address: &'a str,
     device: &'a str,
+    payload: &'a str,
     socket: SocketPeer<'a, R>,
     reply: LastReply,
     terminal: Option<T>,
@@ -32,6 +33,7 @@ impl<'a, R: System, T: Write> ToldPeer<'a, R, T> {
             rt,
             address: line.to,
             device: line.device,
+            payload: line.payload,
             socket: SocketPeer::new(rt, line.to),
             reply: LastReply::new(),
             terminal,
@@ -96,6 +98,14 @@ impl<'a, R: System, T: Write> Peer for ToldPeer<'a, R, T> {
                 self.clear();
                 tell_counted(self.rt, self.address, self.device, volume);
             }
+            AttemptFault::Botched => {
+                self.clear();
+                tell_botched(self.rt, self.address);
+            }
+            AttemptFault::SourceFault => {
+                self.clear();
+                tell_unread(self.rt, self.payload);
+            }
             _ => {}
         }
     }
@@ -129,6 +139,19 @@ fn tell_counted<R: Eprint>(rt: &R, address: &str, device: &str, volume: u32) {
          with the label of volume {volume}, which this dump has counted; take it away \
          (rdump mt --to {address} --device {device} offline 1) or lay another one first, then \
          answer yes"
+    );
+}
+
+/// Tells that what came from an address is no reply.
+fn tell_botched<R: Eprint>(rt: &R, address: &str) {
+    let fault = ReadFault::Botched;
+    let _ = eprintln!(rt; "rdump: {address}: {fault}");
+}
+
+/// Tells that a block of a payload could not be read.
+fn tell_unread<R: Eprint>(rt: &R, payload: &str) {
+    let _ = eprintln!(rt;
+        "rdump: {payload}: a block could not be read: the file became shorter, or its disk failed"
     );
 }
 

@@ -53,13 +53,13 @@ pub(crate) fn read_volume<R: System>(
     rt: &R,
     line: &ReadLine<'_>,
     dump: Option<&VolumeLabel>,
-    file: &mut OutFile,
+    file: &OutFile,
 ) -> VolumeRead
     requires { IsReadLine line.now }
 {
     let first = Cell::new(None);
-    let mut peer = ReelPeer::new(rt, line.to, &first);
-    let mut blocks = Counted::new(VolumeBlocks::new(&mut *file, &first));
+    let mut peer = ReelPeer::new(rt, line.to, file, &first);
+    let mut blocks = Counted::new(VolumeBlocks::new(file, &first));
     let mut out = Counted::new(LabelText::new(io::writer(rt), wanted_of(line, dump), &first));
     let device = line.device.as_bytes();
     let after = after_of(line);
@@ -127,7 +127,7 @@ fn tell_volume<R: System>(
     rt: &R,
     line: &ReadLine<'_>,
     came: &Came,
-    file: &mut OutFile,
+    file: &OutFile,
     failure: Option<&io::Error>,
 ) -> VolumeEnd {
     if has_come(line, &came.found) {
@@ -147,7 +147,8 @@ fn tell_volume<R: System>(
     if is_foreign && line.place {
         return VolumeEnd::Failed;
     }
-    let end = end_of(rt, line, came.read, file.fault(), failure);
+    let fault = file.take_fault();
+    let end = end_of(rt, line, came.read, fault.as_ref(), failure);
     if line.all {
         tell_reel(rt, came);
     }
@@ -213,7 +214,7 @@ fn end_of<R: System>(
     VolumeEnd::Failed
 }
 
-/// Tells why a block was not written.
+/// Tells why a block was not written, or is not on the disk.
 fn tell_unwritten<R: System>(rt: &R, line: &ReadLine<'_>, fault: &BlockFault) {
     match fault {
         BlockFault::Failed(error) => {

@@ -42,14 +42,14 @@ impl BlockSizes {
 /// `first` is the volume's first block, once that is known.
 #[derive(Drop)]
 pub(crate) struct VolumeBlocks<'a> {
-    file: &'a mut OutFile,
+    file: &'a OutFile,
     first: &'a Cell<Option<u32>>,
     sizes: BlockSizes,
 }
 
 impl<'a> VolumeBlocks<'a> {
     /// Where no block went so far.
-    pub(crate) fn new(file: &'a mut OutFile, first: &'a Cell<Option<u32>>) -> Self {
+    pub(crate) fn new(file: &'a OutFile, first: &'a Cell<Option<u32>>) -> Self {
         VolumeBlocks {
             file,
             first,
