@@ -9,6 +9,7 @@ mod fixture;
 mod folders;
 mod lines;
 mod listening;
+mod listing;
 mod log_lines;
 mod memory_peer;
 mod operations;
