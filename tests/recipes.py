@@ -124,6 +124,7 @@ UNSHOWN = {
     "rdump: FILE: another run writes it": "tests/told.py shows it: it takes a server that does not answer",
     "the reel may be in the bin": "tests/restore.py shows it: it takes a server that ends the connection at that request",
     "block 97 is the first one that came": "tests/restore.py shows it, with other numbers",
+    "rdump: FILE: its folder could not be synced": "tests/restore.py shows it: it takes a sync that fails",
     "rdump: FILE: 1536 bytes, fewer than 2500": "tests/restore.py shows it, with other numbers",
     "rdump: ADDRESS: a block of 300 bytes after one of 512": "tests/restore.py shows it: it takes a reel that no dump makes",
     "rdump: FILE: it is no plain file": "tests/restore.py shows it",
