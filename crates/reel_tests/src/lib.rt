@@ -1,4 +1,4 @@
-//! Tests of `tape`, `drives` and `reel_files`, by their public calls alone. They stand here so that each of these crates is proved once.
+//! Tests of `tape`, `drives`, `file_medium` and `reel_files`, by their public calls alone. They stand here so that each of these crates is proved once.
 #![tactic(auto)]
 
 #[cfg(test)]

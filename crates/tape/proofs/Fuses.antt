@@ -1,5 +1,5 @@
 -- What a stopped append leaves, part after part.
-use Rattle.std.proofs.Common.{zero, suc, Option, Some, None, if◌then◌else◌, subst, ◌≡◌, ℕ, ◌+◌, ◌-◌, List, ◌++◌, length, take, min, Result, Ok, Err, true, false, inl, inr, refl, sym, ap, ◌∙◌, length-append, append_assoc, append-nil, arith}
+use Rattle.std.proofs.Common.{zero, suc, Option, Some, None, if◌then◌else◌, subst, ◌≡◌, ◌⊎◌, ℕ, ◌+◌, ◌-◌, List, ◌++◌, length, take, min, Bool, Result, Ok, Err, IsErr, OnOk, true, false, inl, inr, refl, sym, ap, ◌∙◌, length-append, append_assoc, append-nil, arith}
 use Rattle.std.specs.Result.{is_err}
 use Rattle.std.proofs.Math.Seq.{take-append-add, take-length}
 use Rattle.std.proofs.lemmas.List.{take-append-le, take_min}
@@ -144,3 +144,19 @@ stopped_cut holds can_fail spare old new len e (Some zero) at blown is =
       quiet = λ can. elim can [ inl c ↦ inl (subst P (sym inner) (λ x. x) c) | inr a ↦ inr armed ];
       room = omega (arith, ap spare inner);
     }
+
+-- a call that is passed on counts one failure where it fails, and none else
+pub passed_count : {T : Type 0} (r s : Result T MediumFailed) (due : Bool) (old mid new : ℕ) → due ≡ false → s ≡ r
+    → mid ≡ (if due then raised old else old) → new ≡ (if is_err r then raised mid else mid) → new ≡ (if is_err s then raised old else old)
+passed_count (Ok u) (Ok v) false old mid new idle is first next = next ∙ first
+passed_count (Err e) (Err d) false old mid new idle is first next = next ∙ ap raised first
+passed_count (Ok u) (Err d) due old mid new idle is first next = absurd cc
+passed_count (Err e) (Ok v) due old mid new idle is first next = absurd cc
+passed_count r s true old mid new idle is first next = absurd cc
+
+-- a call that is passed on and goes well leaves the count of the medium within
+pub passed_well : {S T : Type 0} (count : S → ℕ) (r s : Result T MediumFailed) (a b old new : S) → a ≡ old → new ≡ b → s ≡ r
+    → (count b ≡ count a) ⊎ IsErr r → OnOk s (count new ≡ count old)
+passed_well count (Ok u) (Ok v) a b old new from to is w = elim w [ inl same ↦ ap count to ∙ same ∙ ap count from | inr failed ↦ absurd cc ]
+passed_well count (Err e) (Ok v) a b old new from to is w = absurd cc
+passed_well count r (Err d) a b old new from to is w = tt

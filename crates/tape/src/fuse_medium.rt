@@ -1,6 +1,6 @@
 //! A medium that fails at a call that it is told.
 
-ghost use Rattle.std.specs.Prelude.{◌≡◌, ◌⊎◌, ◌++◌, ◌<◌, if◌then◌else◌, IsErr, Some, length, take};
+ghost use Rattle.std.specs.Prelude.{◌≡◌, ◌⊎◌, ◌++◌, ◌<◌, if◌then◌else◌, IsErr, OnOk, Some, length, take};
 ghost use Rattle.std.specs.Result.{is_err};
 ghost use Rattle.tape.specs.Failures.{raised};
 ghost use Rattle.tape.specs.Fuse.{CanStop, CountsDown, IsCutWithin, IsDue, IsLeft, IsNotDue, counted_down, fuse_kind, is_due};
@@ -12,9 +12,10 @@ use std::marker::Model;
 
 /// A medium on another one, that is told which of its calls fails: to see what stands on it after a stop there.
 ///
-/// Its calls are numbered from 0: each `len`, `read_at`, `append`, `append_framed` and `cut` is one. A call that is told to fail fails
-/// and is counted. An append of these adds its first bytes, as many as are told, with a frame or without; a cut is made where that
-/// number is above 0, and else is not; and a call that reads reads nothing. Each other call is the one of the medium within.
+/// Its calls are numbered from 0: each `len`, `read_at`, `append`, `append_framed` and `cut` is one. A call that is told to fail
+/// fails. An append of these adds its first bytes, as many as are told, with a frame or without; a cut is made where that number is
+/// above 0, and else is not; and a call that reads asks nothing of the medium within, and leaves its buffer as it is. Each other
+/// call is the one of the medium within, and goes well only where no call of that failed. Each call that fails is counted once.
 #[derive(Drop)]
 pub struct FuseMedium<M: Medium> {
     inner: M,
@@ -106,8 +107,12 @@ impl<M: Medium> Medium for FuseMedium<M> {
         ensures stopped { IsDue self.old.to_go → IsErr result }
         ensures passed { IsNotDue self.old.to_go → IsErr result → M.can_fail self.old.inner }
         ensures counted { CountsDown self.old self.new }
+        ensures kept { IsDue self.old.to_go → self.new.inner ≡ self.old.inner }
+        ensures failures { self.new.failures ≡ (if is_err result then raised self.old.failures else self.old.failures) }
+        ensures unfailed { IsNotDue self.old.to_go → OnOk result (M.failures self.new.inner ≡ M.failures self.old.inner) }
     {
         if self.stops() {
+            // The medium within is not asked.
             return Err(MediumFailed);
         }
         let found = self.inner.len();
@@ -120,8 +125,13 @@ impl<M: Medium> Medium for FuseMedium<M> {
         ensures stopped { IsDue self.old.to_go → IsErr result }
         ensures passed { IsNotDue self.old.to_go → IsErr result → M.can_fail self.old.inner }
         ensures counted { CountsDown self.old self.new }
+        ensures kept { IsDue self.old.to_go → self.new.inner ≡ self.old.inner }
+        ensures buffer { IsDue self.old.to_go → into.new ≡ into.old }
+        ensures failures { self.new.failures ≡ (if is_err result then raised self.old.failures else self.old.failures) }
+        ensures unfailed { IsNotDue self.old.to_go → OnOk result (M.failures self.new.inner ≡ M.failures self.old.inner) }
     {
         if self.stops() {
+            // Nothing is read into the buffer.
             return Err(MediumFailed);
         }
         let found = self.inner.read_at(at, into);
@@ -136,6 +146,8 @@ impl<M: Medium> Medium for FuseMedium<M> {
         ensures passed { IsNotDue self.old.to_go → IsErr result →
             M.can_fail self.old.inner ⊎ (M.spare self.old.inner < length bytes.now) }
         ensures counted { CountsDown self.old self.new }
+        ensures failures { self.new.failures ≡ (if is_err result then raised self.old.failures else self.old.failures) }
+        ensures unfailed { IsNotDue self.old.to_go → OnOk result (M.failures self.new.inner ≡ M.failures self.old.inner) }
     {
         if self.stops() {
             leave(&mut self.inner, self.left, bytes);
@@ -155,6 +167,8 @@ impl<M: Medium> Medium for FuseMedium<M> {
         ensures passed { IsNotDue self.old.to_go → IsErr result →
             M.can_fail self.old.inner ⊎ (M.spare self.old.inner < length (frame.now ++ (bytes.now ++ frame.now))) }
         ensures counted { CountsDown self.old self.new }
+        ensures failures { self.new.failures ≡ (if is_err result then raised self.old.failures else self.old.failures) }
+        ensures unfailed { IsNotDue self.old.to_go → OnOk result (M.failures self.new.inner ≡ M.failures self.old.inner) }
     {
         if self.stops() {
             leave_framed(&mut self.inner, self.left, frame, bytes);
@@ -172,6 +186,8 @@ impl<M: Medium> Medium for FuseMedium<M> {
             IsCutWithin (medium_kind M.holds M.failures M.can_fail M.spare) self.old.inner len self.new.inner }
         ensures passed { IsNotDue self.old.to_go → IsErr result → M.can_fail self.old.inner }
         ensures counted { CountsDown self.old self.new }
+        ensures failures { self.new.failures ≡ (if is_err result then raised self.old.failures else self.old.failures) }
+        ensures unfailed { IsNotDue self.old.to_go → OnOk result (M.failures self.new.inner ≡ M.failures self.old.inner) }
     {
         if self.stops() {
             if self.left > 0 {

@@ -1,12 +1,12 @@
 //! A write that is stopped at any call of the medium, and the reel opened again.
 
-ghost use Rattle.std.specs.Prelude.{◌≡◌, ◌⊎◌, ◌+◌, ◌*◌, ◌<◌, ◌∷◌, [], Err, length};
+ghost use Rattle.std.specs.Prelude.{◌≡◌, ◌≢◌, ◌⊎◌, ◌+◌, ◌*◌, ◌<◌, ◌∷◌, [], Err, length};
 ghost use Rattle.tape.specs.Tape.{IsRecord, done_answer, entries_of};
 ghost use Rattle.tape.specs.Tape.PlainEntry.{Record};
 ghost use Rattle.tape.specs.Tape.TapeRequest.{Write, WriteMarks};
 ghost use Rattle.tape.specs.Fuse.{CanStop};
 ghost use Rattle.tape.specs.Stops.{Reopens, StandsAfterMarks, StandsAfterStep, StandsAfterWrite};
-ghost use Rattle.tape.specs.declared.fault.TapeFault.TheVariants.{Device};
+ghost use Rattle.tape.specs.declared.fault.TapeFault.TheVariants.{Device, OutOfMemory};
 
 use crate::{FileReel, FuseMedium, Medium, Reel, TapeFault};
 use rmt_wire::mtio::MTWEOF;
@@ -23,7 +23,8 @@ pub fn reopened<M: Medium>(reel: FileReel<FuseMedium<M>>, capacity: u64) -> File
 /// Writes a record to a reel whose medium stops at a call that it was told, and opens the reel anew, with this capacity, on what
 /// is left there.
 ///
-/// Whichever call that is, the entries before the place stand, and after them what stood, nothing, or the record.
+/// Whichever call that is, the entries before the place stand, and after them what stood, nothing, or the record. It never
+/// answers `OutOfMemory`.
 pub fn write_and_reopen<M: Medium>(
     reel: FileReel<FuseMedium<M>>,
     bytes: &[u8],
@@ -34,6 +35,7 @@ pub fn write_and_reopen<M: Medium>(
     ensures step { Reopens M.holds reel result.1 (λ t u. StandsAfterStep reel.capacity t (Write bytes.now) (done_answer result.0) u) }
     ensures cause { result.0 ≡ Err Device →
         (M.can_fail reel.medium.inner ⊎ CanStop reel.medium.to_go) ⊎ (M.spare reel.medium.inner < length bytes.now + 8) }
+    ensures memory { result.0 ≢ Err OutOfMemory }
     ensures capacity { result.1.capacity ≡ capacity }
 {
     let mut reel = reel;
@@ -44,7 +46,8 @@ pub fn write_and_reopen<M: Medium>(
 /// Writes marks to a reel whose medium stops at a call that it was told, and opens the reel anew, with this capacity, on what is
 /// left there.
 ///
-/// Whichever call that is, the entries before the place stand, and after them what stood, or any number of the marks.
+/// Whichever call that is, the entries before the place stand, and after them what stood, or any number of the marks. It never
+/// answers `OutOfMemory`.
 pub fn mark_and_reopen<M: Medium>(
     reel: FileReel<FuseMedium<M>>,
     count: u32,
@@ -54,6 +57,7 @@ pub fn mark_and_reopen<M: Medium>(
     ensures step { Reopens M.holds reel result.1 (λ t u. StandsAfterStep reel.capacity t (WriteMarks count) (done_answer result.0) u) }
     ensures cause { result.0 ≡ Err Device →
         (M.can_fail reel.medium.inner ⊎ CanStop reel.medium.to_go) ⊎ (M.spare reel.medium.inner < 4 * count) }
+    ensures memory { result.0 ≢ Err OutOfMemory }
     ensures capacity { result.1.capacity ≡ capacity }
 {
     let mut reel = reel;

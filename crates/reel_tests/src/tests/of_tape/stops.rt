@@ -203,18 +203,26 @@ static READ_AGAIN: Entries = &[
     (Call::Read(8), Ok(b"de")),
 ];
 
-/// Whether a read that fails once at that call is made again, and the reel has what it had. A read asks for both lengths and the
-/// bytes: three calls.
-fn is_read_again(alloc: Global, at: u64) -> Result<bool, AllocError> {
+/// A read is three calls, so the fourth call is the first one of the second read.
+static READ_ON: Entries = &[
+    (Call::Read(8), Ok(b"abc")),
+    (Call::Read(8), Err(TapeFault::Device)),
+    (Call::Read(8), Ok(b"de")),
+];
+
+/// Whether a read that fails once at that call is made again, with these answers, and the reel has what it had. A read asks for both
+/// lengths and the bytes: three calls.
+fn is_read_again(alloc: Global, at: u64, calls: Entries) -> Result<bool, AllocError> {
     let mut reel = reel_on(alloc, at, 0, true)?;
-    let read = answers(&mut reel, READ_AGAIN) && reel.failures() == 1;
+    let read = answers(&mut reel, calls) && reel.failures() == 1;
     Ok(read && answers(&mut reopened(reel, CAPACITY), OLD))
 }
 
 #[test]
 fn a_read_that_fails_once_is_made_again(rt: HostRuntime) -> Result<(), Fail> {
     for at in 0..3 {
-        assert!(&rt; is_read_again(rt.alloc(), at)?);
+        assert!(&rt; is_read_again(rt.alloc(), at, READ_AGAIN)?);
     }
+    assert!(&rt; is_read_again(rt.alloc(), 3, READ_ON)?);
     Ok(())
 }

@@ -17,3 +17,6 @@ returns-clause-step g c = λ t held.
 
 pub returns-clause-cause : goal.returns-clause-cause
 returns-clause-cause g c = λ failed. c.write-written.ensures.made.cause (ap done_answer failed)
+
+pub returns-clause-memory : goal.returns-clause-memory
+returns-clause-memory g c = λ wanting. let grows = c.write-written.ensures.memory (ap done_answer wanting) in absurd cc
