@@ -1,5 +1,6 @@
 pub mod Printed
 pub mod Talking
+pub mod Growing
 pub mod Heard
 pub mod Calls
 pub mod Operating

@@ -2,7 +2,7 @@
 use Rattle.std.proofs.Common.{◌≡◌, ◌≢◌, ◌+◌, ℕ, List, [], ◌++◌, Bool, true, false, if◌then◌else◌, inl, inr, Option, Some, None, refl, sym, ap, subst, ◌∙◌, min, take, drop, length, append-nil, append_assoc, arith}
 use Rattle.std.specs.Io.KnownBytes.{Appends}
 use Rattle.std.proofs.KnownBytes.{Appends-nil, Appends-trans}
-use Rattle.std.proofs.Math.Seq.{take-append-add}
+use Rattle.std.proofs.Math.Seq.{take-append-add, drop-append_seam}
 use Rattle.std.proofs.lemmas.List.{take-append-le, take_min}
 use Rattle.rmt_wire.specs.Counted.{Counting, HasRisen}
 use Rattle.dump_client.specs.Standing.{VolumeCount}
@@ -13,7 +13,7 @@ use Rattle.dump_client.specs.declared.stage.Stage.TheVariants.{Ready, ToSend, Wa
 use Rattle.dump_client.specs.declared.stage.State.{State}
 use Rattle.dump_client.specs.declared.stage.State.TheVariants as told
 use Rattle.rmt_wire.specs.Print.{IsPrinted}
-use Rattle.rdump_talk.specs.Lines.{DumpLines, IsConcluded, IsConclusion, IsDumped, IsFinish, IsLast, IsRound, abandoned_line, complete_line, conclusion_status, count_lines, failure_lines}
+use Rattle.rdump_talk.specs.Lines.{DumpLines, HasGrown, IsConcluded, IsConclusion, IsDumped, IsFinish, IsLast, IsRound, abandoned_line, complete_line, conclusion_status, count_lines, failure_lines}
 use Rattle.rdump_talk.specs.declared.conclusion.Conclusion.{Conclusion}
 use Rattle.rdump_talk.specs.declared.conclusion.Conclusion.TheVariants as ends
 use Rattle.rdump_talk.specs.Lines.DumpLines.{none, counted, failed}
@@ -47,14 +47,17 @@ module _ {W : Type 0} (contents : W → Option (List ℕ)) where
 -- lines, and then further lines
 pub lines_both : (a b : List VolumeCount) (one : List ℕ) → DumpLines a b one → (c : List VolumeCount) (two : List ℕ) → DumpLines b c two → DumpLines a c (one ++ two)
 lines_both a b one h c two none = subst (DumpLines a b) (sym (append-nil one)) h
-lines_both a b one h c two (counted {counts = counts} {text = text} new k) =
-    subst (DumpLines a c) (append_assoc one text (count_lines (drop (length counts) c))) (counted c (lines_both a b one h counts text k))
+lines_both a b one h c two (counted {counts = counts} {text = text} more k) =
+    subst (DumpLines a (counts ++ more)) (append_assoc one text (count_lines more)) (counted more (lines_both a b one h counts text k))
 lines_both a b one h c two (failed {text = text} fault k) =
     subst (DumpLines a c) (append_assoc one text (failure_lines (checkpoint_of c).0 fault)) (failed fault (lines_both a b one h c text k))
 
 -- the lines of what was counted since
-pub lines_since : (old new : List VolumeCount) (n : ℕ) → n ≡ length old → DumpLines old new (count_lines (drop n new))
-lines_since old new n e = subst (λ m. DumpLines old new (count_lines (drop m new))) (sym e) (counted new none)
+pub lines_since : (old new : List VolumeCount) (n : ℕ) → n ≡ length old → HasGrown old new → DumpLines old new (count_lines (drop n new))
+lines_since old new n e (more, is) =
+    let left : drop n new ≡ more = ap (drop n) is ∙ (ap (λ m. drop m (old ++ more)) e ∙ drop-append_seam old more) in
+    subst (λ l. DumpLines old l (count_lines (drop n new))) (sym is)
+    (subst (λ l. DumpLines old (old ++ more) (count_lines l)) (sym left) (counted more none))
 
 pub lines_failed : (counts : List VolumeCount) (fault : AttemptFault) → DumpLines counts counts (failure_lines (checkpoint_of counts).0 fault)
 lines_failed counts fault = failed fault none

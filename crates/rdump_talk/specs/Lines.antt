@@ -1,5 +1,5 @@
 -- The lines that a dump prints. Public contracts cite it.
-use Rattle.std.specs.Prelude.{◌≡◌, ◌≢◌, ◌⊎◌, ⊤, ℕ, Bool, true, false, List, [], ◌++◌, length, drop, codes, decimal, Option, Some, None}
+use Rattle.std.specs.Prelude.{◌≡◌, ◌≢◌, ◌⊎◌, ⊤, ℕ, Bool, true, false, List, [], ◌++◌, length, codes, decimal, Option, Some, None}
 use Rattle.std.specs.List.{flat_map}
 use Rattle.rmt_wire.specs.Counted.{Counting}
 use Rattle.dump_client.specs.Standing.{Standing, checkpoint_of}
@@ -47,12 +47,17 @@ complete_line counts = complete_text (length counts) (checkpoint_of counts).1
 abbrev pub abandoned_line : List ℕ
 abandoned_line = codes "dump abandoned\n"
 
--- The lines of a dump from these counts on, up to those that the client has: after each attempt one line for each volume that it has
--- counted since, in order, and after each that failed that failure, with the volume that is next.
+-- further counts follow those that there were
+abbrev pub HasGrown : List VolumeCount → List VolumeCount → Type 0
+HasGrown old new = (more : List VolumeCount) × (new ≡ old ++ more)
+
+-- The lines of a dump from these counts on, up to those that the client has: after each attempt one line for each further volume that
+-- it counted, in order, and after each that failed that failure, with the volume that is next. So each count after the first ones has
+-- its line, once.
 pub data DumpLines (first : List VolumeCount) : List VolumeCount → List ℕ → Type 0 where
   none : DumpLines first first []
-  counted : {counts : List VolumeCount} {text : List ℕ} (new : List VolumeCount)
-      → DumpLines first counts text → DumpLines first new (text ++ count_lines (drop (length counts) new))
+  counted : {counts : List VolumeCount} {text : List ℕ} (more : List VolumeCount)
+      → DumpLines first counts text → DumpLines first (counts ++ more) (text ++ count_lines more)
   failed : {counts : List VolumeCount} {text : List ℕ} (fault : AttemptFault)
       → DumpLines first counts text → DumpLines first counts (text ++ failure_lines (checkpoint_of counts).0 fault)
 

@@ -1,5 +1,7 @@
 //! One attempt of a client, on a connection of its own.
-ghost use Rattle.std.specs.Prelude.{◌≡◌, OnErr};
+ghost use Rattle.std.specs.Prelude.{◌≡◌, ℕ, List, OnErr};
+ghost use Rattle.dump_client.specs.Client.{HasFed};
+ghost use Rattle.rdump_talk.specs.Lines.{HasGrown};
 ghost use Rattle.rdump_talk.specs.Talk.{Just, Nowhere, TalksOver};
 ghost use Rattle.rdump_talk.specs.declared.attempt.Attempted.TheVariants.{NotStarted};
 
@@ -34,6 +36,7 @@ pub(crate) fn attempt<B: Blocks, P: Peer>(
 ) -> Attempted
     ensures talks { TalksOver B.holds (Just client.old.at) P.tells client.old client.new peer.old peer.new }
     ensures still { result ≡ NotStarted → client.new.at ≡ client.old.at }
+    ensures grows { HasGrown client.old.at.counts client.new.at.counts }
 {
     let Ok(begun) = begin(client, peer) else {
         return Attempted::NotStarted;
@@ -53,6 +56,7 @@ pub(crate) fn attempt<B: Blocks, P: Peer>(
 fn begin<B: Blocks, P: Peer>(client: &mut Client<B>, peer: &mut P) -> Result<Progress, StartFault>
     ensures talks { TalksOver B.holds (Just client.old.at) P.tells client.old client.new peer.old peer.new }
     ensures still { OnErr result (client.new.at ≡ client.old.at) }
+    ensures fed { (bytes : List ℕ) × HasFed client.old bytes }
 {
     if client.state() != State::Ready {
         return Ok(Progress::Send);

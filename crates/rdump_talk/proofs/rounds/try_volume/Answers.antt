@@ -11,7 +11,7 @@ returns-then-not-print_since-clause-printed g c =
     let printed : IsPrinted g.W.Write.contents text c.args.out.now c.print_since.new.out false =
     subst (λ (b : Bool). IsPrinted g.W.Write.contents text c.args.out.now c.print_since.new.out b) c.if-not-print_since.true c.print_since.ensures in
     cut_short g.W.Write.contents c.args.client.now.at.counts new.at c.args.out.now c.print_since.new.out text
-    (lines_since c.args.client.now.at.counts new.at.counts c.volumes-before.result c.volumes-before.ensures) printed
+    (lines_since c.args.client.now.at.counts new.at.counts c.volumes-before.result c.volumes-before.ensures c.attempt-attempted.ensures.grows) printed
 
 pub returns-clause-printed : goal.returns-clause-printed
 returns-clause-printed g c =
@@ -20,4 +20,4 @@ returns-clause-printed g c =
     let printed : IsPrinted g.W.Write.contents text c.args.out.now c.print_since.new.out true =
     subst (λ (b : Bool). IsPrinted g.W.Write.contents text c.args.out.now c.print_since.new.out b) c.if-not-print_since.false c.print_since.ensures in
     round_after g.W.Write.contents c.args.client.now.at.counts new.at.counts new.at c.args.out.now c.print_since.new.out c.report.new.out text c.report.result
-    (lines_since c.args.client.now.at.counts new.at.counts c.volumes-before.result c.volumes-before.ensures) printed c.report.ensures.printed
+    (lines_since c.args.client.now.at.counts new.at.counts c.volumes-before.result c.volumes-before.ensures c.attempt-attempted.ensures.grows) printed c.report.ensures.printed
