@@ -2,6 +2,7 @@
 ghost use Rattle.std.specs.Prelude.{◌≡◌, None};
 ghost use Rattle.rdump_files.specs.Entering.{IsDumpEntered, IsEntered, IsUpdateTold, sinks};
 ghost use Rattle.rdump_files.specs.WholeFile.{whole_file};
+ghost use Rattle.rdump_talk.specs.Talk.{Anywhere, TalksOver};
 
 use crate::{UpdateFault, WholeFile, update};
 use dump_client::{Blocks, Client};
@@ -38,7 +39,8 @@ pub fn dump_and_update<B: Blocks, P: Peer, R: Read, W: Write, F: WholeFile>(
     out: &mut Counted<W>,
     file: &mut F,
 ) -> DumpEnd
-    ensures { IsDumpEntered W.contents (whole_file F.gives F.takes) client.old.at.counts client.new.at
+    ensures talks { TalksOver B.holds Anywhere P.tells client.old client.new peer.old peer.new }
+    ensures entered { IsDumpEntered W.contents (whole_file F.gives F.takes) client.old.at.counts client.new.at
         (sinks out.old file.old) (sinks out.new file.new) result }
 {
     let status = dump(alloc, client, peer, operator, out);

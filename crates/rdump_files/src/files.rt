@@ -9,6 +9,9 @@ use std::time::{Clock, SystemTime, UNIX_EPOCH};
 
 /// Reads a file whole, from where it stands. None where it is a plain file and is no longer as long as it was when the
 /// reading began.
+///
+/// Answers the system's error where the file can't be read or its length can't be told, and `OutOfMemory` where memory is
+/// refused.
 pub fn read_steady(alloc: Global, mut file: File) -> io::Result<Option<Vec<u8>>> {
     let before = file.metadata()?;
     let bytes = read_rest(alloc, &mut file)?;

@@ -66,11 +66,16 @@ IsFolderRefused old Device new = new ≡ after_fault old
 IsFolderRefused old OutOfMemory new = new ≡ old
 IsFolderRefused old _ new = ⊥
 
--- A reel was latched where none was, at its beginning and with the capacity. It is not only where one is latched or none
--- was found, for want of memory, which change nothing, and where the device failed, which is counted.
-abbrev pub IsFolderLatch : {M : Type 0} → FolderShop → ℕ → Result (FileTape M) DriveFault → FolderShop → Type 0
+-- no call of the file has failed, and it was not cut to nothing
+abbrev pub IsUntouched : FileCount → Type 0
+IsUntouched file = (file.failures ≡ 0) × (file.beginnings ≡ 0)
+
+-- A reel was latched where none was, at its beginning and with the capacity, on a file that is untouched. It is not only where one
+-- is latched or none was found, for want of memory, which change nothing, and where the device failed, which is counted.
+abbrev pub IsFolderLatch : FolderShop → ℕ → Result (FileTape FileCount) DriveFault → FolderShop → Type 0
 IsFolderLatch old d (Ok reel) new =
-    ((row_at old d).latched ≡ false) × (reel.offset ≡ 0) × (reel.capacity ≡ old.capacity) × (new ≡ with_latched old d true)
+    ((row_at old d).latched ≡ false) × (reel.offset ≡ 0) × (reel.capacity ≡ old.capacity) × IsUntouched reel.medium
+    × (new ≡ with_latched old d true)
 IsFolderLatch old d (Err NoReel) new = new ≡ old
 IsFolderLatch old d (Err fault) new = ((row_at old d).latched ≡ false) × IsFolderRefused old fault new
 

@@ -117,10 +117,13 @@ impl<R: FolderSystem, L: Log + Drop> FolderStacks<R, L> {
         })
     }
 
-    /// Looks at the folders, and names the first that is missing, is no folder, may not be read, or in which nobody may
-    /// write by its permissions: those of the stacks in the drives' order, and then the bin's. Then it names the first drive's folder
-    /// that is the bin's too, lies on another file system than the bin's, is the folder of a drive before it, whatever the paths are,
-    /// or lies on another mount than the bin's or with it on one that takes no writes. It changes nothing there.
+    /// Looks at the folders, and names the first that is missing, is no folder, may not be read, or by its permissions takes no
+    /// files: those of the stacks in the drives' order, and then the bin's. For the folder's owner his own permission to write counts,
+    /// for another user that of the group or of others. For root, and where the user is not known, anybody's does.
+    ///
+    /// Then it names the first drive's folder that is the bin's too, lies on another file system than the bin's, is the folder of a
+    /// drive before it, whatever the paths are, or lies on another mount than the bin's or with it on one that takes no writes. It
+    /// changes nothing there.
     ///
     /// The reason has the kind `OutOfMemory` and no code of the system where memory is refused.
     pub fn find_fault(&self) -> Option<FolderFault<'_>>

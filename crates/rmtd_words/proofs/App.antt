@@ -1,6 +1,6 @@
 -- What clap's model computes of the command `rmtd`.
 use Rattle.std.proofs.Common.{◌≡◌, ◌⊎◌, inl, inr, [], subst, sym, refl, ◌∙◌, true, Result, Ok, Err, IfOk, IfErr}
-use Rattle.clap.specs.Words.{FailsBy, IsAmong, Kinds, kind_of, is_simple, is_simple_and_free}
+use Rattle.clap.specs.Words.{FailsBy, HasKind, IsAmong, Kinds, kind_of, is_simple, is_simple_and_free}
 use Rattle.clap.specs.declared.error.Error.{Error}
 use Rattle.clap.specs.declared.error.kind.ErrorKind.{ErrorKind}
 use Rattle.clap.specs.declared.error.kind.ErrorKind.TheVariants.{OutOfMemory}
@@ -44,3 +44,8 @@ pub shown_where_err : {T : Type 0} (r : Result T Error) (kinds others : Kinds) �
     → IfErr r (λ x. IsShown (kind_of x) → (k : ErrorKind) × IsShown k × IsAmong k others)
 shown_where_err (Ok m) kinds others e h = tt
 shown_where_err (Err x) kinds others e h = λ shown. (kind_of x, shown, shown_among (kind_of x) kinds others e h shown)
+
+-- an error has one of the kinds, or is for want of memory
+pub kind_where_err : {T : Type 0} (r : Result T Error) (kinds others : Kinds) → kinds ≡ others → FailsBy kinds r → IfErr r (HasKind others)
+kind_where_err (Ok m) kinds others e h = tt
+kind_where_err (Err x) kinds others e h = subst (λ (ks : Kinds). HasKind ks x) e h

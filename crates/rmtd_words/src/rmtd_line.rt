@@ -1,7 +1,7 @@
 //! The words of `rmtd`.
 
 ghost use Rattle.std.specs.Prelude.{◌≡◌, map, codes, false, [], IfOk, IfErr, IsErrOf, MatchOption, MatchResult, option_map};
-ghost use Rattle.clap.specs.Words.{App, app_of, first_of, found_of, kind_of, new_app, rows_of, rule_of, with_rule};
+ghost use Rattle.clap.specs.Words.{App, HasKind, app_of, first_of, found_of, kind_of, new_app, rows_of, rule_of, with_rule};
 ghost use Rattle.rmtd_words.specs.Drive.{plain_drive, split_of};
 ghost use Rattle.rmtd_words.specs.Rmtd.{app, app_with_limits, app_with_ways, words_in, words_rule, faults_in, flag_rule, has_stdio, matches_in, option_rule, with_version, AreBadWords, AskToBeShown, IsLineIn, IsLineOf, IsShown, KeepsRules, ReadsCapacity, ReadsConnections, IsNumberIfGiven};
 
@@ -12,7 +12,7 @@ use clap::{Arg, ArgAction, ArgMatches, Command, Error};
 use rmt_wire::argument::number_of;
 use std::alloc::{AllocError, Global};
 
-/// How many bytes the reel in memory holds where no word says it.
+/// How many bytes a reel takes where no word says it.
 const USUAL_CAPACITY: u64 = 1_048_576;
 
 /// What the words ask of `rmtd`: to serve its standard input, or to listen at an address.
@@ -22,7 +22,7 @@ pub struct ServerLine<'a> {
     pub stdio: bool,
     /// Where to listen: a host and a port.
     pub listen: Option<&'a str>,
-    /// How many bytes the reel in memory holds.
+    /// How many bytes a reel takes, counted as its file has them: the one in memory, and each in a folder.
     pub capacity: u64,
     /// After how many connections to end.
     pub connections: Option<u64>,
@@ -60,11 +60,14 @@ pub fn server_words<'a>(alloc: Global, words: &'a [&'a str]) -> Result<ServerLin
 }
 
 /// The same, with clap's text for the user in place of the fault: what is wrong with the words, or the help or the
-/// version where they ask for it, and only then. Where memory was refused its kind is `OutOfMemory`.
+/// version where they ask for it, and only then. Where memory was refused its kind is `OutOfMemory`. Where clap refuses the
+/// words it is of a kind with which clap does.
 pub fn server_line<'a>(alloc: Global, words: &'a [&'a str]) -> Result<ServerLine<'a>, Error>
     ensures line { IfOk result (IsLineOf (map (λ s. s.now) words.entry.now)) }
     ensures refused { IfErr result (λ e. ¬ (kind_of e ≡ ErrorKind.OutOfMemory) → AreBadWords (map (λ s. s.now) words.entry.now)) }
     ensures shown { IfErr result (λ e. IsShown (kind_of e) → AskToBeShown (map (λ s. s.now) words.entry.now)) }
+    ensures kinds { IfErr result (λ e. ¬ (faults_in (map (λ s. s.now) words.entry.now) ≡ [])
+        → HasKind (faults_in (map (λ s. s.now) words.entry.now)) e) }
 {
     match command(alloc) {
         Ok(mut rmtd) => line_by(alloc, &mut rmtd, words),
@@ -82,6 +85,8 @@ fn line_by<'a>(
     ensures line { IfOk result (IsLineOf (map (λ s. s.now) words.entry.now)) }
     ensures refused { IfErr result (λ e. ¬ (kind_of e ≡ ErrorKind.OutOfMemory) → AreBadWords (map (λ s. s.now) words.entry.now)) }
     ensures shown { IfErr result (λ e. IsShown (kind_of e) → AskToBeShown (map (λ s. s.now) words.entry.now)) }
+    ensures kinds { IfErr result (λ e. ¬ (faults_in (map (λ s. s.now) words.entry.now) ≡ [])
+        → HasKind (faults_in (map (λ s. s.now) words.entry.now)) e) }
 {
     let matches = matched(rmtd, words)?;
     line_or_refusal(alloc, rmtd, &matches)
@@ -110,6 +115,7 @@ fn matched<'a>(rmtd: &mut Command<'a>, words: &'a [&'a str]) -> Result<ArgMatche
     ensures taken { IfOk result (λ _. faults_in (map (λ s. s.now) words.entry.now) ≡ []) }
     ensures refused { IfErr result (λ e. ¬ (kind_of e ≡ ErrorKind.OutOfMemory) → ¬ (faults_in (map (λ s. s.now) words.entry.now) ≡ [])) }
     ensures shown { IfErr result (λ e. IsShown (kind_of e) → AskToBeShown (map (λ s. s.now) words.entry.now)) }
+    ensures kinds { IfErr result (HasKind (faults_in (map (λ s. s.now) words.entry.now))) }
 {
     rmtd.try_get_matches_from_mut(words)
 }

@@ -2,7 +2,7 @@ use Rattle.std.proofs.Common.{ap, map, List, ℕ, Bor, ◌∙◌}
 use Rattle.std.proofs.lemmas.Result.{IfOk-weaker}
 use Rattle.clap.specs.Words.{App, Text, fault_of, is_simple, is_simple_and_free, matches_of}
 use Rattle.rmtd_words.specs.Rmtd.{faults_in, matches_in}
-use Rattle.rmtd_words.proofs.App.{app_is_simple, app_is_simple_and_free, taken_where_ok, shown_where_err, some_where_not_memory}
+use Rattle.rmtd_words.proofs.App.{app_is_simple, app_is_simple_and_free, taken_where_ok, kind_where_err, shown_where_err, some_where_not_memory}
 use Rattle.rmtd_words.proofs.rmtd_line.matched.Goals as goal
 
 pub returns-clause-rows : goal.returns-clause-rows
@@ -36,4 +36,12 @@ returns-clause-shown c =
     let e = c.requires in
     let words : List Text = map (λ (s : Bor (List ℕ)). s.now) c.args.words.now in
     shown_where_err c.try_get_matches_from_mut.result _ _ (ap (λ (a : App). fault_of a words) e)
+    (c.try_get_matches_from_mut.ensures.kinds (ap is_simple_and_free e ∙ app_is_simple_and_free))
+
+pub returns-clause-kinds : goal.returns-clause-kinds
+unfolding faults_in
+returns-clause-kinds c =
+    let e = c.requires in
+    let words : List Text = map (λ (s : Bor (List ℕ)). s.now) c.args.words.now in
+    kind_where_err c.try_get_matches_from_mut.result _ _ (ap (λ (a : App). fault_of a words) e)
     (c.try_get_matches_from_mut.ensures.kinds (ap is_simple_and_free e ∙ app_is_simple_and_free))
