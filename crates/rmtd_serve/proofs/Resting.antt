@@ -20,7 +20,7 @@ use Rattle.rmt_server.specs.State.{State, drive_of, SessionCanFail, IsSeenAs, st
 use Rattle.rmt_server.specs.Opening.{word_after_close, IsClosed, OpensFor}
 use Rattle.rmt_server.specs.Moving.{MovesIn, MovesReel}
 use Rattle.rmt_server.specs.Carrying.{Operates, CarriesOut, IsAlone, MayFail}
-use Rattle.rmt_server.specs.Stream.{streams, streams_kind, Exchange, CarryRun, IsServedAs}
+use Rattle.rmt_server.specs.Stream.{Streams, StreamsKind, streams, streams_kind, Exchange, CarryRun, IsServedAs}
 use Rattle.rmt_server.specs.declared.stream.Served.{Served}
 use Rattle.rmt_server.specs.declared.stream.ServeFault.{ServeFault}
 use Rattle.rmt_server.specs.Memory.{MemoryState, in_memory}
@@ -151,6 +151,17 @@ runs_quiet (one_more request reply run carried spelled) f = runs_quiet run (carr
 pub ends_quiet : {H S Seat R : Type 0} {k : Kinds H Seat S R} {start last new : State H S Seat R} {done : List Exchange}
     → CarryRun k start done last → IsClosed k last new → SessionCanFail k new → SessionCanFail k start
 ends_quiet {k = k} {start = start} run c f = runs_quiet run (c.quiet f)
+
+-- drives that no seat holds are held by none once one more seat was given
+pub seated_free : (holds new : Holders) → AllFree holds → {last : ℕ} → new ≡ holders holds.numbers last → AllFree new
+seated_free holds new free e = rw e free
+
+-- and after a session of its own
+pub served_free : {S R In Out : Type 0} (s : StacksPromise S R) (r : ReelPromise R) {kind : StreamsKind In Out} {old new : Streams In Out}
+    {ending : Option Served} (start : State Holders S View R) {finish : State Holders S View R} → AllFree start.drives.holds
+    → ServesStreams (kinds of_holds s r) kind start old new ending finish → AllFree finish.drives.holds
+served_free s r start free (untouched i o) = free
+served_free s r start free (by_session finish result is steady) = ends_free s r _ start is.last finish free refl is.run is.ended
 
 -- where each drive is free, the holds tell so
 pub free_alone : {S R : Type 0} (s : StacksPromise S R) (r : ReelPromise R) (x : State Holders S View R) → AllFree x.drives.holds

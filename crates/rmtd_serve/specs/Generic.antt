@@ -5,15 +5,16 @@ use Rattle.drives.specs.Opening.{Kinds}
 use Rattle.rmt_server.specs.declared.stream.Served.{Served}
 use Rattle.rmt_server.specs.declared.stream.ServeFault.{ServeFault}
 use Rattle.rmt_server.specs.State.{State}
+use Rattle.rmt_server.specs.Carrying.{IsAlone}
 use Rattle.rmt_server.specs.Stream.{Streams, StreamsKind, IsServedAs, NoneFailed}
 
--- One stream served at these stacks by a session of its own, which has nothing open before and after. A stream that failed
--- ends as failed. Where memory was refused before the first request was read, or no number is left for a session, nothing is
--- touched.
+-- One stream served at these stacks by a session of its own, which has nothing open before and after. Each drive is free when it
+-- begins. A stream that failed ends as failed. Where memory was refused before the first request was read, or no number is left for a
+-- session, nothing is touched.
 pub data IsServedAt {H S Seat R In Out : Type 0} (k : Kinds H Seat S R) (kind : StreamsKind In Out) (before after : S)
     (old new : Streams In Out) : Option Served → Type 0 where
   none_served : after ≡ before → new.input ≡ old.input → new.output ≡ old.output → IsServedAt k kind before after old new None
   one_served : (start finish : State H S Seat R) (result : Result Served ServeFault)
-      → start.drives.stacks ≡ before → start.opened ≡ None → finish.drives.stacks ≡ after → finish.opened ≡ None
+      → start.drives.stacks ≡ before → start.opened ≡ None → IsAlone k start → finish.drives.stacks ≡ after → finish.opened ≡ None
       → IsServedAs k kind result old new start finish → OnOk result (NoneFailed old new)
       → IsServedAt k kind before after old new (result_ok result)

@@ -4,26 +4,29 @@ use Rattle.std.specs.declared.clone.Clone.{Ghosts as ClonePromise}
 use Rattle.std.specs.declared.io.traits.Read.{Ghosts as ReadPromise}
 use Rattle.clap.specs.Words.{Text}
 use Rattle.rmt_server.specs.declared.stream.Served.{Served}
-use Rattle.rmt_server.specs.Stream.{Streams, StreamsKind}
+use Rattle.rmt_server.specs.Stream.{Exchange, Streams, StreamsKind, AreRead}
 use Rattle.reel_files.specs.Folders.{FolderShop}
 use Rattle.rmtd_words.specs.declared.rmtd_line.ServerLine.{ServerLine}
 use Rattle.rmtd_words.specs.Rmtd.{AskToBeShown, IsLineOf}
 use Rattle.rmtd_serve.specs.declared.startup.Begun.{Begun}
 use Rattle.rmtd_serve.specs.declared.startup.Begun.TheVariants.{End, Serve}
-use Rattle.rmtd_serve.specs.Stdio.{IsStdio, exit_status}
+use Rattle.rmtd_serve.specs.Stdio.{EndsWith, IsStdio, exit_status}
 use Rattle.rmtd_serve.specs.Folders.{stacks_of}
 
 -- neither stream was touched
 abbrev pub AreUntouched : {In Out : Type 0} → Streams In Out → Streams In Out → Type 0
 AreUntouched old new = (new.input ≡ old.input) × (new.output ≡ old.output)
 
--- What a line asked was done, with this status: the streams were served, with a drive in memory or with drives in folders;
--- as many connections as were to come were served one after the other; or it could not start, or the listener is broken for good.
+-- What a line asked was done, with this status: the streams were served, with a drive in memory or with drives in folders, and
+-- the requests of the bytes read were answered up to that end; as many connections as were to come were served one after the
+-- other; or it could not start, or the listener is broken for good.
 pub data EndsLine {In Out : Type 0} (kind : StreamsKind In Out) (line : ServerLine) (old new : Streams In Out) (status : ℕ) : Type 0 where
   in_memory : line.listen ≡ None → line.drives.items ≡ []
       → IsStdio kind line.capacity old new status
       → EndsLine kind line old new status
-  in_folders : (ending : Option Served) → line.listen ≡ None → 0 < length line.drives.items → status ≡ exit_status ending
+  in_folders : (ending : Option Served) (read : List ℕ) (done : List Exchange) (rest : List ℕ)
+      → line.listen ≡ None → 0 < length line.drives.items
+      → AreRead kind old new read → EndsWith kind ending old new read done rest → status ≡ exit_status ending
       → EndsLine kind line old new status
   listened : IsSome line.listen → line.drives.items ≡ [] → AreUntouched old new → status ≡ 0
       → EndsLine kind line old new status

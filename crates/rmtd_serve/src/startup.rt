@@ -29,6 +29,9 @@ use std::rt::Env;
 /// What the program ends with where its words are wrong, or it can't start.
 const FAILED: u8 = 1;
 
+/// What is told where memory was refused at the start.
+const NOT_STARTED: &str = "it did not start";
+
 /// What `rmtd` asks of the system beside its words, its standard streams and its threads.
 pub trait System: FolderSystem + Net<Listener = TcpListener, Stream = TcpStream> + Print + Eprint {}
 
@@ -49,6 +52,7 @@ pub enum Begun<R: FolderSystem + Eprint> {
 /// Reads the words that the program was called with, and does what they ask until connections are served at once.
 ///
 /// Where the words could not be read, or memory was refused at the start, that is told on standard error, and the status is 1.
+/// With `--stdio` the start lasts until the first request is read.
 /// It fails only where standard error could not be written.
 pub fn start<R: System + Env, I: Read, O: Write>(
     rt: &R,
@@ -61,7 +65,7 @@ pub fn start<R: System + Env, I: Read, O: Write>(
 {
     match begin_by_args(rt, input, output) {
         Ok(begun) => Ok(begun),
-        Err(error) => tell(rt, "it did not start", error),
+        Err(error) => tell(rt, NOT_STARTED, error),
     }
 }
 
@@ -122,9 +126,10 @@ fn lent(alloc: Global, words: &[String]) -> Result<Vec<&str>, AllocError> {
 /// listener is broken for good. With `--listen` and drives in folders what is
 /// left is to serve them at once. Help and the version go to standard output, with the status 0.
 ///
-/// The status is 1, and what is at fault is told on standard error, where the words are wrong, a folder can't be used, or the
-/// address can't be listened at. It fails where memory is refused or standard error could not be written. In all of these
-/// neither stream is touched.
+/// The status is 1, and what is at fault is told on standard error, where the words are wrong, a folder can't be used, the
+/// address can't be listened at, or memory is refused to the session of `--stdio`. Of the last the line is dropped where it
+/// cannot be written. It fails where other memory is refused or standard error could not be written. In all of these neither
+/// stream is touched.
 ///
 /// Nothing that is opened here or later has the place of a standard stream.
 pub fn begin<R: System, I: Read, O: Write>(
@@ -165,7 +170,7 @@ fn follow<R: System, I: Read, O: Write>(
     let Some(address) = line.listen else {
         warn_of_bin(rt, line)?;
         let status = run_stdio(rt.alloc(), input, output, line.capacity);
-        return Ok(Begun::End(status));
+        return Ok(end(rt, status, input, output));
     };
     match listen(rt, address, line) {
         Ok(status) => Ok(Begun::End(status)),
@@ -200,7 +205,8 @@ fn follow_in_folders<R: System, I: Read, O: Write>(
         let Some(mut server) = TapeServer::new(rt.alloc(), drives.len(), stacks) else {
             return Err(io::ErrorKind::OutOfMemory.into());
         };
-        return Ok(Begun::End(exit_status(server.serve(input, output))));
+        let status = exit_status(server.serve(input, output));
+        return Ok(end(rt, status, input, output));
     };
     // Who is told that it listens is served: all memory of the start is had before.
     tell_limit(rt, line.capacity)?;
@@ -209,6 +215,22 @@ fn follow_in_folders<R: System, I: Read, O: Write>(
         Ok(listener) => Ok(Begun::Serve(listener, site)),
         Err(error) => tell(rt, address, error),
     }
+}
+
+/// What is left once the streams were served, with this status: to end. Where memory was refused before the first request was read,
+/// that is told on standard error; a line that cannot be written is dropped.
+fn end<R: System, I: Read, O: Write>(
+    rt: &R,
+    status: u8,
+    input: &Counted<I>,
+    output: &Counted<O>,
+) -> Begun<R>
+    ensures { result ≡ Begun.End status }
+{
+    if status == FAILED && input.failures() == 0 && output.failures() == 0 {
+        let _ = tell(rt, NOT_STARTED, io::ErrorKind::OutOfMemory.into());
+    }
+    Begun::End(status)
 }
 
 /// Tells on standard error what is at fault and why; what is left is to end.

@@ -15,7 +15,7 @@ use std::marker::Model;
 
 /// Drives with their stacks, which serve one stream after the other.
 ///
-/// Contracts see the stacks.
+/// Contracts see the stacks. Between two streams no session holds a drive.
 #[derive(Drop)]
 pub struct TapeServer<S: Stacks + Drop> {
     alloc: Global,
@@ -24,6 +24,7 @@ pub struct TapeServer<S: Stacks + Drop> {
 
 impl<S: Stacks + Drop> Model for TapeServer<S> {
     ghost use Rattle.std.specs.Prelude.{◌≤◌, length};
+    ghost use Rattle.rmtd_serve.specs.Serving.{AllFree};
 
     ghost Value = { S };
 
@@ -31,7 +32,7 @@ impl<S: Stacks + Drop> Model for TapeServer<S> {
 
     ghost view = { λ s. s.drives.stacks };
 
-    ghost invariant = { λ s. S.drives s.drives.stacks ≤ length s.drives.holds.numbers };
+    ghost invariant = { λ s. AllFree s.drives.holds × (S.drives s.drives.stacks ≤ length s.drives.holds.numbers) };
 }
 
 impl<S: Stacks + Drop> TapeServer<S> {
