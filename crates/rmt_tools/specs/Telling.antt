@@ -53,6 +53,10 @@ IsMadeOf given p = IsMadeWith given p.drives p.session
 abbrev pub IsAfterEnd : Drives → Seated → Drives → Type 0
 IsAfterEnd drives session left = (after : MemoryState) × IsClosed in_memory (state drives session) after × (left ≡ after.drives)
 
+-- what was open is closed: reels and holders are as after that
+abbrev pub IsCleared : Drives → Seated → Drives → Type 0
+IsCleared old was drives = (left : Drives) × IsAfterEnd old was left × (drives.stacks ≡ left.stacks) × (drives.holds.numbers ≡ left.holds.numbers)
+
 -- the same of a peer
 abbrev pub IsTakenApart : MemoryPeerHeld → Drives → Type 0
 IsTakenApart p left = IsAfterEnd p.drives p.session left

@@ -1,4 +1,4 @@
-//! All that the programs of this repository are made of, by one name: what the crates below make for `rmtd`, `rdump` and `rsim`.
+//! Most of what the programs of this repository are made of, by one name: what the crates below make for `rmtd`, `rdump` and `rsim`.
 //! Beside it a peer in memory, which tests have in place of a connection.
 #![tactic(auto)]
 

@@ -1,8 +1,11 @@
 //! A peer in memory, which tells what passed.
-ghost use Rattle.std.specs.Prelude.{◌≡◌, ◌≤◌, ◌∷◌, [], IfSome, drop, length, min, take};
-ghost use Rattle.rdump_talk.specs.Peer.{Logs};
+ghost use Rattle.std.specs.Prelude.{◌≡◌, ◌≤◌, ◌∷◌, [], None, IfSome, drop, length, min, take};
+ghost use Rattle.rmt_server.specs.Memory.{in_memory};
+ghost use Rattle.rmt_server.specs.Opening.{IsClosed};
+ghost use Rattle.rmt_server.specs.State.{state};
+ghost use Rattle.rdump_talk.specs.Peer.{Logs, connected};
 ghost use Rattle.rdump_talk.specs.declared.peer.Passed.TheVariants.{Connected, Ended};
-ghost use Rattle.rmt_tools.specs.Telling.{IsLogOf, IsMadeOf, IsTakenApart, where_so};
+ghost use Rattle.rmt_tools.specs.Telling.{IsCleared, IsLogOf, IsMadeOf, IsTakenApart, where_so};
 
 mod far_end;
 mod log;
@@ -74,28 +77,23 @@ impl MemoryPeer {
         far.into_drives()
     }
 
-    /// Ends the session, and drops what is on the way back.
-    fn close(&mut self)
-        ensures { self.new.log ≡ self.old.log }
-    {
-        self.far.end();
-        self.back.clear();
-        self.is_open = false;
-    }
-
     /// The caller finds the connection ended.
     fn cut(&mut self)
-        ensures { Logs IsLogOf self.old.log self.new.log (Ended ∷ []) }
+        ensures told { Logs IsLogOf self.old.log self.new.log (Ended ∷ []) }
+        ensures closed { IsClosed in_memory (state self.old.drives self.old.session) (state self.new.drives self.new.session) }
     {
-        self.close();
+        self.hang_up();
         self.log.end();
     }
 
     /// Makes a connection with a session of its own, in place of any that there is, and logs it.
     fn open(&mut self) -> bool
-        ensures { Logs IsLogOf self.old.log self.new.log (where_so result (Connected ∷ [])) }
+        ensures told { Logs IsLogOf self.old.log self.new.log (where_so result (Connected ∷ [])) }
+        ensures fresh { self.new.session.opened ≡ None }
+        ensures cleared { IsCleared self.old.drives self.old.session self.new.drives }
     {
-        self.close();
+        self.back.clear();
+        self.is_open = false;
         if self.far.renew().is_none() {
             return false;
         }
@@ -126,8 +124,12 @@ impl Peer for MemoryPeer {
     ghost tells = { λ p. IsLogOf p.log };
 
     /// It takes memory for a session and for the log, and answers false where that is refused, or no number is left for
-    /// a session.
-    fn connect(&mut self) -> bool {
+    /// a session. What was open is closed in each case.
+    fn connect(&mut self) -> bool
+        ensures told { Logs IsLogOf self.old.log self.new.log (connected result) }
+        ensures fresh { self.new.session.opened ≡ None }
+        ensures cleared { IsCleared self.old.drives self.old.session self.new.drives }
+    {
         if self.open() {
             return true;
         }
@@ -171,7 +173,13 @@ impl Peer for MemoryPeer {
         count
     }
 
-    fn hang_up(&mut self) {
-        self.close();
+    /// It ends the session, so that what was open is closed, and drops the replies that wait.
+    fn hang_up(&mut self)
+        ensures log { self.new.log ≡ self.old.log }
+        ensures closed { IsClosed in_memory (state self.old.drives self.old.session) (state self.new.drives self.new.session) }
+    {
+        self.far.end();
+        self.back.clear();
+        self.is_open = false;
     }
 }

@@ -1,4 +1,4 @@
-//! A peer in memory: a request in pieces, and a volume that is written.
+//! A peer in memory: a request in pieces, sessions that end, and a volume that is written.
 
 ghost use Rattle.std.specs.Prelude.{◌≡◌, ◌≤◌, length};
 
@@ -25,6 +25,36 @@ fn takes_pieces(peer: &mut MemoryPeer) -> bool {
     answered
 }
 
+/// Whether the reel lies on the drive's stack, open in no session.
+fn lies(peer: &MemoryPeer) -> bool {
+    peer.stacks().reel(b"r1").is_some()
+}
+
+/// A new connection opens the drive, and the reply waits.
+fn opens(peer: &mut MemoryPeer) -> bool {
+    peer.connect() && peer.send(b"O/dev/st0\n2\n") && !lies(peer)
+}
+
+/// After a hang-up the drive is closed, and the reply that waited is lost.
+fn closes(peer: &mut MemoryPeer) -> bool {
+    let opened = opens(peer);
+    peer.hang_up();
+    opened && lies(peer) && peer.receive(&mut [0; 3]) == 0
+}
+
+/// So it is after a connection in place of another, whose session has nothing open. After a hang-up nothing can be sent.
+fn begins_anew(peer: &mut MemoryPeer) -> bool {
+    let mut room = [0; 24];
+    let anew = opens(peer) && peer.connect() && lies(peer);
+    let count = if anew && peer.send(b"R4\n") {
+        peer.receive(&mut room)
+    } else {
+        0
+    };
+    peer.hang_up();
+    count == 23 && room == *b"E9\nBad file descriptor\n\0" && !peer.send(b"C\n")
+}
+
 /// This client writes its one volume.
 fn is_dumped(alloc: Global, client: &mut PayloadDumper, peer: &mut MemoryPeer) -> bool {
     let mut operator: &[u8] = b"";
@@ -43,7 +73,8 @@ fn takes_a_dump(alloc: Global, peer: &mut MemoryPeer) -> bool {
 
 /// All this goes so with a peer whose reel is empty. Its drives have the reel in their bin then.
 fn goes_on(alloc: Global, mut peer: MemoryPeer) -> bool {
-    let dumped = takes_pieces(&mut peer) && takes_a_dump(alloc, &mut peer);
+    let ended = takes_pieces(&mut peer) && closes(&mut peer) && begins_anew(&mut peer);
+    let dumped = ended && takes_a_dump(alloc, &mut peer);
     let good = dumped && peer.stacks().bin().len() == 1;
     peer.into_drives().stacks.bin().len() == 1 && good
 }

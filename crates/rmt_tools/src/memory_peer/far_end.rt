@@ -1,11 +1,11 @@
 //! The server's side of a connection in memory.
-ghost use Rattle.std.specs.Prelude.{◌≤◌, IfSome, IsTrue, length};
+ghost use Rattle.std.specs.Prelude.{◌≡◌, ◌≤◌, None, IfSome, IsTrue, length};
 ghost use Rattle.rmt_wire.specs.Lent.{plain_request};
 ghost use Rattle.rmt_server.specs.Memory.{in_memory};
 ghost use Rattle.rmt_server.specs.Opening.{IsClosed};
 ghost use Rattle.rmt_server.specs.State.{state, IsAt};
 ghost use Rattle.rmt_server.specs.Replies.{IsSayable};
-ghost use Rattle.rmt_tools.specs.Telling.{IsAfterEnd, IsMadeWith};
+ghost use Rattle.rmt_tools.specs.Telling.{IsAfterEnd, IsCleared, IsMadeWith};
 
 use drives::{DriveTable, ListStacks, LocalHolds};
 use rmt_server::{Session, more_seats};
@@ -44,7 +44,10 @@ impl FarEnd {
     }
 
     /// Ends the session, and makes another, with an empty reader. None as `new` has it.
-    pub(super) fn renew(&mut self) -> Option<()> {
+    pub(super) fn renew(&mut self) -> Option<()>
+        ensures fresh { self.new.session.opened ≡ None }
+        ensures cleared { IsCleared self.old.drives self.old.session self.new.drives }
+    {
         more_seats::<ListStacks>();
         self.end();
         self.wire = RequestReader::new(self.alloc).ok()?;

@@ -10,7 +10,7 @@ returns-then-count-eq0-clause-told c =
     let seen = ap (λ (p : MemoryPeerHeld). p.log) c.self.view_is in
     let old = c.args.self.now.log in
     let new = c.cut.new.self.log in
-    end_given old new c.take_front-count.new.into some (from_seen old c.self.inside.log new (Ended ∷ []) seen c.cut.ensures)
+    end_given old new c.take_front-count.new.into some (from_seen old c.self.inside.log new (Ended ∷ []) seen c.cut.ensures.told)
 
 pub returns-then-not-give-clause-told : goal.returns-then-not-give-clause-told
 returns-then-not-give-clause-told c =
@@ -20,7 +20,7 @@ returns-then-not-give-clause-told c =
     let new = c.cut-then-not-give.new.self.log in
     let piece = map Given (take c.take_front-count.result c.take_front-count.new.into) in
     let none = from_seen old c.self.inside.log c.give.new.self [] seen (none_where c.self.inside.log c.give.new.self c.give.result piece c.if-not-give.true c.give.ensures) in
-    end_given old new c.take_front-count.new.into some (after_none old c.give.new.self new (Ended ∷ []) none c.cut-then-not-give.ensures)
+    end_given old new c.take_front-count.new.into some (after_none old c.give.new.self new (Ended ∷ []) none c.cut-then-not-give.ensures.told)
 
 pub returns-clause-told : goal.returns-clause-told
 returns-clause-told c =
