@@ -1,5 +1,6 @@
 -- What a tape that keeps nothing answers, and what serving it does to both streams. Public contracts cite it.
 use Rattle.std.specs.Prelude.{◌≡◌, ℕ, List, [], length, codes, Option, Result, Ok, Err}
+use Rattle.rmt_wire.specs.declared.errno.TheConstants.{EINVAL}
 use Rattle.rmt_wire.specs.Request.{PlainRequest}
 use Rattle.rmt_wire.specs.Request.PlainRequest.{Open, Close, Write, WriteDropped, Read, Op}
 use Rattle.rmt_wire.specs.Reply.{PlainReply, reply_text}
@@ -10,18 +11,18 @@ use Rattle.rmt_wire.specs.Counted.{HasRisen}
 use Rattle.example_server.specs.declared.stream.Stop.{Stop}
 use Rattle.example_server.specs.declared.stream.Stop.TheVariants.{Requests, Replies}
 
--- the text of the error 22
+-- the text of the error EINVAL
 abbrev pub invalid_text : List ℕ
 invalid_text = codes "Invalid argument"
 
--- what the tape answers: it takes what is written, and has nothing to read
+-- what the tape answers: it takes what is written, has nothing to read, and says the count of an operation (rmt(8))
 abbrev pub answer_to : PlainRequest → PlainReply
 answer_to (Open device mode) = Done 0
 answer_to Close = Done 0
 answer_to (Write bytes) = Done (length bytes)
-answer_to (WriteDropped count) = Error 22 invalid_text
+answer_to (WriteDropped count) = Error EINVAL invalid_text
 answer_to (Read count) = Data []
-answer_to (Op op count) = Done 0
+answer_to (Op op count) = Done count
 
 -- that answer as it is spelled
 abbrev pub answer_text : PlainRequest → List ℕ

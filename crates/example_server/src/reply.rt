@@ -5,25 +5,24 @@ ghost use Rattle.rmt_wire.specs.Request.{SpellsRequest};
 ghost use Rattle.rmt_wire.specs.Reply.{ReplyHasSpelling};
 ghost use Rattle.example_server.specs.Serving.{answer_to};
 
+use rmt_wire::errno::EINVAL;
 use rmt_wire::{Reply, Request};
 
-/// The number of an invalid argument (EINVAL).
-const INVALID: u32 = 22;
-
-/// The reply to a request that was read. Each is done at once, a write takes all its bytes, and a read finds none. A
-/// write whose bytes were dropped is an error.
+/// The reply to a request that was read. Each is done at once: a write takes all its bytes, a read finds none, and an
+/// operation is answered with its count. A write whose bytes were dropped is an error.
 pub fn answer(request: &Request<'_>) -> Reply<'static>
     requires { (text : List ℕ) × SpellsRequest text (plain_request request.now) }
     ensures value { plain_reply result ≡ answer_to (plain_request request.now) }
     ensures spelling { ReplyHasSpelling (plain_reply result) }
 {
     match *request {
-        Request::Open { .. } | Request::Close | Request::Op { .. } => Reply::Done { number: 0 },
+        Request::Open { .. } | Request::Close => Reply::Done { number: 0 },
+        Request::Op { count, .. } => Reply::Done { number: count },
         Request::Write { bytes } => Reply::Done {
             number: bytes.len() as u32,
         },
         Request::WriteDropped { .. } => Reply::Error {
-            number: INVALID,
+            number: EINVAL,
             text: b"Invalid argument",
         },
         Request::Read { .. } => Reply::Data { bytes: b"" },

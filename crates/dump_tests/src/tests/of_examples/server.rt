@@ -7,12 +7,17 @@ use std::alloc::Global;
 /// What is served, how the server ends at it, and what it writes.
 type Row = (&'static [u8], Result<(), Stop>, &'static [u8]);
 
-/// One of each request, a stream that ends inside a request, and one with bytes that are no request.
-static ROWS: [Row; 3] = [
+/// One of each request, operations of more counts, a stream that ends inside a request, and one with bytes that are no request.
+static ROWS: [Row; 4] = [
     (
         b"O/dev/st0\n2\nW5\nhelloR5\nI5\n1\nC\n",
         Ok(()),
-        b"A0\nA5\nA0\nA0\nA0\n",
+        b"A0\nA5\nA0\nA1\nA0\n",
+    ),
+    (
+        b"I0\n0\nI6\n7\nI1\n2147483647\n",
+        Ok(()),
+        b"A0\nA7\nA2147483647\n",
     ),
     (
         b"C\nW5\nhel",

@@ -2,7 +2,7 @@
 
 use std::io::{self, ErrorKind, Read, Write};
 
-/// It gives bytes, at most `most` a call. After them it ends, or fails.
+/// It gives bytes, at most `most` a call. After them it ends, or fails. Where it is read again after its end it fails too.
 #[derive(Drop)]
 pub(crate) struct Pieces<'a> {
     pub(crate) bytes: &'a [u8],
@@ -15,6 +15,7 @@ impl Read for Pieces<'_> {
         if self.bytes.is_empty() && self.fails {
             return Err(ErrorKind::ConnectionReset.into());
         }
+        self.fails |= self.bytes.is_empty();
         let count = buf.len().min(self.bytes.len()).min(self.most);
         buf[..count].copy_from_slice(&self.bytes[..count]);
         self.bytes = &self.bytes[count..];
