@@ -32,7 +32,7 @@ pub trait Holds {
     /// The drive is held by the seat of this number, or by none at 0. Holds that tell nothing say it of no number.
     ghost tells: { Self → ℕ → ℕ → Type 0 };
 
-    /// Takes the drive, counted from 0, if no seat holds it. The seat is one of these holds. Answers `Held`, or `Busy` with the
+    /// Takes the drive, counted from 0, if no seat holds it. It is one of the drives of these holds, and the seat one of their seats. Answers `Held`, or `Busy` with the
     /// number of the seat that holds it, which was given.
     fn take(&mut self, seat: &mut Self::Seat, drive: usize) -> Taken
         requires seat { belongs self.old seat.old }
@@ -47,7 +47,7 @@ pub trait Holds {
         ensures same_drives { drives self.new ≡ drives self.old }
         ensures same_seats { seated self.new ≡ seated self.old };
 
-    /// Gives back a drive, counted from 0, that the seat holds. The seat is one of these holds.
+    /// Gives back a drive, counted from 0, that the seat holds. The seat is one of these holds, and so is the drive.
     fn give(&mut self, seat: &mut Self::Seat, drive: usize)
         requires seat { belongs self.old seat.old }
         requires drive { drive < drives self.old }
@@ -59,7 +59,8 @@ pub trait Holds {
         ensures same_drives { drives self.new ≡ drives self.old }
         ensures same_seats { seated self.new ≡ seated self.old };
 
-    /// The number of the seat that holds the drive, counted from 0; or 0 where none does. The number was given.
+    /// The number of the seat that holds the drive, counted from 0; or 0 where none does. The number was given. The drive and the
+    /// seat are of these holds.
     fn holder(&self, seat: &mut Self::Seat, drive: usize) -> u64
         requires seat { belongs self.now seat.old }
         requires drive { drive < drives self.now }

@@ -73,7 +73,7 @@ impl ListStacks {
     }
 
     /// Adds an empty reel of this name and of this capacity, in bytes, at the end of the stack of the drive of that number,
-    /// and reserves room in the bin for it.
+    /// which `add_drive` gave, and reserves room in the bin for it.
     ///
     /// Answers `NameTaken` where a reel on a stack, latched or in the bin has that name, and `OutOfMemory`. Nothing
     /// has changed then.
@@ -89,7 +89,8 @@ impl ListStacks {
         self.put_reel(drive, name, capacity)
     }
 
-    /// The reels of the drive's stack in order, first the one that is latched or would be latched next.
+    /// The reels of the drive's stack in order, first the one that is latched or would be latched next. The drive's number is
+    /// one that `add_drive` gave.
     pub fn stack(&self, drive: usize) -> &[ListedReel]
         requires { drive < length self.now.shop.racks }
         ensures lying { result.now ≡ (rack_at self.now.shop drive).stack }
@@ -119,7 +120,7 @@ impl ListStacks {
     }
 
     /// Whether `arrange` can be asked for these names: no reel of the drive is latched, no name stands twice, and each
-    /// is the name of a reel of its stack or of the bin.
+    /// is the name of a reel of its stack or of the bin. The drive's number is one that `add_drive` gave.
     pub fn can_arrange(&self, drive: usize, names: &[&[u8]]) -> bool
         requires { drive < length self.now.shop.racks }
         ensures may { result ≡ may_arrange self.now.shop drive (map (λ n. n.now) names.now) }
@@ -129,7 +130,8 @@ impl ListStacks {
     }
 
     /// An operator's act: the drive's stack becomes the reels of these names, in that order. Reels of the bin leave it,
-    /// and the stack's others go to the bin's end, in their order. Each reel stays as it is.
+    /// and the stack's others go to the bin's end, in their order. Each reel stays as it is. It is asked for only where
+    /// `can_arrange` says yes.
     ///
     /// Answers `OutOfMemory`. Nothing has changed then.
     pub fn arrange(&mut self, drive: usize, names: &[&[u8]]) -> Result<(), DriveFault>

@@ -21,7 +21,9 @@ pub use text::push_checkpoint;
 /// A run, and the volumes that are counted of it, in order.
 #[derive(Drop)]
 pub struct Checkpoint {
+    /// What is dumped, and when.
     pub run: Run,
+    /// The volumes that are counted, from the first on.
     pub counts: Vec<VolumeCount>,
 }
 

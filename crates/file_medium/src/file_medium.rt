@@ -86,7 +86,7 @@ impl FileMedium {
         self.file.sync_all()
     }
 
-    /// Why the last call of it as a medium failed that the system refused. None where none was.
+    /// Why the last call failed that the system refused. None where none has.
     pub fn last_error(&self) -> Option<io::Error>
         ensures { result ≡ None ↔ self.now.failures ≡ 0 }
     {

@@ -114,7 +114,8 @@ impl HoldTable {
         }
     }
 
-    /// Gives back a drive, counted from 0, that the seat holds, by one atomic step: the word becomes 0. It does not wait.
+    /// Gives back a drive, counted from 0, that the seat holds, by one atomic step: the word becomes 0. The seat is one of this
+    /// table. It does not wait.
     pub fn give(&self, seat: &mut HoldSeat, drive: usize)
         requires seat { IsSeatAt self.now seat.old }
         requires drive { drive < self.now.words }
@@ -125,7 +126,8 @@ impl HoldTable {
         self.clear(seat, drive);
     }
 
-    /// The number of the seat that holds the drive, or 0, by one atomic step that reads the word. It does not wait.
+    /// The number of the seat that holds the drive, counted from 0, or 0, by one atomic step that reads the word. The seat is one
+    /// of this table. It does not wait.
     pub fn holder(&self, seat: &mut HoldSeat, drive: usize) -> u64
         requires seat { IsSeatAt self.now seat.old }
         requires drive { drive < self.now.words }

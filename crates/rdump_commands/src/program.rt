@@ -15,8 +15,8 @@ use std::io::{self, Write};
 /// a terminal: it shows the progress of a dump.
 ///
 /// The status is 0 where all was done, 1 where it could not begin, as where the words are wrong or a file can't be read, and 3
-/// where it ended before it was done. Help and the version end with 0. What is at fault is told on standard error, and refused
-/// memory on standard output.
+/// where it ended before it was done. Help and the version end with 0. What is at fault is told on standard error. Memory that is
+/// refused before anything was sent, and that of `rdump ls`, is told on standard output.
 ///
 /// No file that it opens gets the place of a standard stream that the process was started without.
 pub fn rdump<R: System, T: Write + Copy + Drop>(rt: &R, terminal: Option<T>) -> u8

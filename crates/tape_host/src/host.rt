@@ -50,7 +50,8 @@ impl Model for Host {
 }
 
 impl Host {
-    /// A server with these drives, from 1 to `drives::DRIVE_LIMIT`, and no connection. No trouble is set in them, and no reel is latched.
+    /// A server with these drives and no connection. `drives` is how many there are, from 1 to `drives::DRIVE_LIMIT`: as many as the
+    /// stacks have. No trouble is set in them, and no reel is latched.
     ///
     /// It fails only where memory is refused.
     pub fn new(alloc: Global, drives: usize, stacks: ListStacks) -> Result<Host, AllocError>
@@ -227,7 +228,7 @@ impl Host {
         Some(&live.session)
     }
 
-    /// The reels of the drive's stack in order, first the one that is latched or would be latched next.
+    /// The reels of the stack of one of the drives, counted from 0, in order: first the one that is latched or would be latched next.
     pub fn stack(&self, drive: usize) -> &[ListedReel]
         requires { drive < length self.now.hall.shop.racks }
         ensures { map rest_slot result.now ≡ (rack_at self.now.hall.shop drive).stack }
@@ -250,7 +251,7 @@ impl Host {
     }
 
     /// Whether `arrange` can be asked for these names: no reel of the drive is latched, no name stands twice, and each is the
-    /// name of a reel of its stack or of the bin. No reel is latched at a drive that has no holder.
+    /// name of a reel of its stack or of the bin. No reel is latched at a drive that has no holder. Drives are counted from 0.
     pub fn can_arrange(&self, drive: usize, names: &[&[u8]]) -> bool
         requires { drive < length self.now.hall.shop.racks }
         ensures may { result ≡ may_arrange self.now.hall.shop drive (map (λ n. n.now) names.now) }
@@ -260,7 +261,8 @@ impl Host {
     }
 
     /// An operator's act at a drive that has no holder: its stack becomes the reels of these names, in that order. Reels of the
-    /// bin leave it, and the stack's others go to the bin's end, in their order. Each reel stays as it is.
+    /// bin leave it, and the stack's others go to the bin's end, in their order. Each reel stays as it is. It is asked for only
+    /// where `can_arrange` says yes.
     ///
     /// Answers `OutOfMemory`. Nothing has changed then.
     pub fn arrange(&mut self, drive: usize, names: &[&[u8]]) -> Result<(), DriveFault>

@@ -8,11 +8,14 @@ ghost use Rattle.tape_world.specs.Making.{plain_drive_spec, reels_of, reel_again
 
 use drives::DRIVE_LIMIT;
 
-/// A drive of a new world: its name, how many bytes each of its reels takes, and the names of those, which are empty.
+/// A drive of a new world.
 #[derive(Clone, Copy)]
 pub struct DriveSpec<'a> {
+    /// The name that clients open.
     pub name: &'a [u8],
+    /// How many bytes each of its reels takes, counted as its record file has them.
     pub capacity: u64,
+    /// The names of its reels, which are empty, in the order of its stack.
     pub reels: &'a [&'a [u8]],
 }
 

@@ -3,11 +3,13 @@
 use dump_client::{Answer, Run};
 use tape::Trouble;
 
-/// What can happen between a client and a server. A connection is told by its number, which is counted from 1 in the order in
-/// which connections were made.
+/// What can happen between a client and a server. `World::run` answers `NotPossible` where one can't happen.
+///
+/// A connection is told by its number, which is counted from 1 in the order in which connections were made.
 #[derive(Clone, Copy)]
 pub enum Event<'a> {
-    /// A run of this payload is begun, and a client for it.
+    /// A run of this payload is begun, and a client for it. There is no client, or its run is finished or abandoned, and the
+    /// payload has the bytes of the run's blocks.
     StartRun {
         run: &'a Run,
         payload: &'a [u8],
@@ -19,7 +21,7 @@ pub enum Event<'a> {
     Send {
         fails: bool,
     },
-    /// So many of the bytes on the way reach the server.
+    /// So many of the bytes on the way reach the server: at least 1, and no more than its reader has room for.
     ToServer {
         connection: usize,
         count: usize,
@@ -30,7 +32,7 @@ pub enum Event<'a> {
         connection: usize,
         trouble: Trouble,
     },
-    /// So many of the bytes on the way reach the other side.
+    /// So many of the bytes on the way reach the other side: at least 1.
     ToClient {
         connection: usize,
         count: usize,
