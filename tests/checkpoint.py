@@ -419,7 +419,7 @@ def startup(p: Programs) -> None:
     fails("the word twice", p.dump(NOWHERE, *KEPT, *KEPT), "--checkpoint")
     fails("the word without a file", p.dump(NOWHERE, "--checkpoint"), "--checkpoint")
     p.folder.joinpath(FILE).mkdir()
-    fails("a file that is a folder", p.dump(NOWHERE, *KEPT), FILE)
+    fails("a file that is a folder", p.dump(NOWHERE, *KEPT), f"rdump: {FILE}: it is no plain file\n")
     check("a file that is a folder: it stays", p.folder.joinpath(FILE).is_dir() and lying(p) == [FILE], lying(p))
     p.folder.joinpath(FILE).rmdir()
     got = p.run("dump", "--help")
@@ -429,10 +429,14 @@ def startup(p: Programs) -> None:
 # What cannot be written.
 
 
-def not_written(p: Programs, title: str, got: Ended, printed: str, before: bytes | None) -> None:
-    """The dump ended where it was to keep something, and the file is as it was."""
-    ends(title, got, printed + NOT_WRITTEN, ABNORMAL, FILE)
+def not_written(p: Programs, title: str, got: Ended, printed: str, before: bytes | None, why: str = FILE) -> None:
+    """The dump ended where it was to keep something, which is told, and the file is as it was."""
+    ends(title, got, printed + NOT_WRITTEN, ABNORMAL, why)
     check(f"{title}: the file is as it was", kept(p) == before, kept(p), before)
+
+
+NO_PLAIN_NEW = f"rdump: {FILE}: its .new is no plain file\n"
+LOCKED_NEW = f"rdump: {FILE}: its .new was locked for ten seconds\n"
 
 
 def unwritten(p: Programs) -> None:
@@ -444,18 +448,21 @@ def unwritten(p: Programs) -> None:
         ("a link to nothing at the new file", lambda: new.symlink_to("nowhere"), new.unlink),
     ):
         make()
-        not_written(p, title, p.dump(NOWHERE, *KEPT), "", None)
+        not_written(p, title, p.dump(NOWHERE, *KEPT), "", None, NO_PLAIN_NEW)
         p.file(FILE, text_of(RUN, ONE))
         got = p.dump(NOWHERE, *KEPT)
-        not_written(p, f"{title}, of a dump that goes on", got, "", text_of(RUN, ONE))
+        not_written(p, f"{title}, of a dump that goes on", got, "", text_of(RUN, ONE), NO_PLAIN_NEW)
         check(f"{title}, of a dump that goes on: that is told", going_on(ONE) in got.told, got)
         os.remove(p.folder / FILE)
         unmake()
         got = acted_on(p, 3, lambda _, make=make: make(), False)
-        not_written(p, f"{title}, after a count", got, LINES[0], text_of(RUN))
+        not_written(p, f"{title}, after a count", got, LINES[0], text_of(RUN), NO_PLAIN_NEW)
         unmake()
         check(f"{title}: nothing is left", lying(p) == [FILE] and p.text("nowhere") is None and kept(p, "payload") == PAYLOAD, lying(p))
         goes_on(p, f"{title}, taken away", NONE)
+    with new.open("wb") as other:
+        fcntl.flock(other, fcntl.LOCK_EX)
+        not_written(p, "a new file that is locked", p.dump(NOWHERE, *KEPT), "", None, LOCKED_NEW)
     new.write_bytes(b"what a killed dump left, and longer than what is to stand there" * 99)
     model = Model(*two())
     ends("a new file that was left", p.dump(model.address, *KEPT), TWO_VOLUMES, DONE)
@@ -550,7 +557,7 @@ def is_kept_out(p: Programs, title: str) -> None:
     """A second dump is refused where the file is looked at, and changes nothing."""
     before, began = kept(p), time.monotonic()
     for name in (FILE, f"./{FILE}", str(p.folder / FILE)):
-        fails(f"{title}: a second one, with {name}", p.dump(NOWHERE, "--checkpoint", name), FILE)
+        fails(f"{title}: a second one, with {name}", p.dump(NOWHERE, "--checkpoint", name), f"rdump: {name}: another run has it\n")
     check(f"{title}: it does not wait", time.monotonic() - began < AT_ONCE_SECONDS, time.monotonic() - began)
     ends(f"{title}: a bad dumpdates file comes first", p.dump(NOWHERE, *KEPT, dumpdates="bad"), "line 1: bad line\n", FAILED, "bad")
     check(f"{title}: the file is as it was", kept(p) == before and lying(p) == [FILE], kept(p), lying(p))
@@ -572,6 +579,18 @@ def held(p: Programs) -> None:
         fcntl.flock(locked, fcntl.LOCK_EX)
         is_kept_out(p, "a process that has locked it")
     goes_on(p, "a process that had locked it", ONE)
+
+
+def exchanged(p: Programs) -> None:
+    """A file that is exchanged while its first volume is dumped is not written over: that another run has it is told once that is to be kept."""
+
+    def exchange(run: subprocess.Popen[bytes]) -> None:
+        p.file("other", text_of(RUN, ONE))
+        p.folder.joinpath("other").replace(p.folder / FILE)
+
+    got = acted_on(p, 3, exchange, False)
+    not_written(p, "a file that is exchanged", got, LINES[0], text_of(RUN, ONE), f"rdump: {FILE}: another run has it\n")
+    os.remove(p.folder / FILE)
 
 
 def together(p: Programs) -> None:
@@ -648,7 +667,7 @@ def order(p: Programs) -> None:
     in_order(made_in(p.folder), wanted)
 
 
-PARTS = (whole, stopped, asked, dates, other_dumps, finished, texts, many, startup, unwritten, full, links, held, together, progress, order)
+PARTS = (whole, stopped, asked, dates, other_dumps, finished, texts, many, startup, unwritten, full, links, held, exchanged, together, progress, order)
 
 
 def main() -> int:

@@ -41,6 +41,9 @@ OLD_RECORD = 65_536
 # A program that does not end is killed after this time, so that the checks end.
 GUARD_SECONDS = 60
 
+# The state of a socket that listens, in /proc/net/tcp.
+LISTENS = 10
+
 
 class Ended(NamedTuple):
     """What a program wrote to standard output and standard error, and its exit status (below 0: a signal)."""
@@ -662,16 +665,62 @@ def servers(p: Programs) -> None:
     ):
         fails(f"rmtd {' '.join(words)}", p.run(*words, program=p.rmtd), fault)
     fails("no address", p.run("--listen", "nowhere", program=p.rmtd), "nowhere")
+    with open("/dev/full", "wb") as full:
+        got = p.run("--listen", "127.0.0.1:0", program=p.rmtd, stdout=full)
+        fails("standard output takes no line", got, "rmtd: 127.0.0.1:0: No space left on device")
     ends("no connections", p.run("--listen", "127.0.0.1:0", "--connections", "0", program=p.rmtd)._replace(output=""), "", DONE, "in memory")
     with p.listening("--connections", "2") as (address, server):
         for name in ("the first connection", "the second connection"):
             ends(name, p.run("mt", "--to", address, "--device", DEVICE, "nop", "1"), "A1\n", DONE)
         check("it ends after two", server.wait(GUARD_SECONDS) == DONE)
-    for program in (p.rmtd, p.rdump):
-        for word in ("--help", "--version"):
-            got = p.run(word, program=program)
-            check(f"{Path(program).name} {word}", got.status == DONE and bool(got.output) and not got.told, got)
+    helps(p)
+    where_it_listens(p)
     cut_connections(p)
+
+
+# The version of the programs is that of the newest section.
+VERSION = re.search(r"^## (\d+\.\d+\.\d+)", CRATES.parent.joinpath("CHANGELOG.md").read_text(), re.M)[1]
+# The words that the help of each program names.
+HELPS = {
+    "rmtd": ("Usage: rmtd [OPTIONS] [DEVICE=DIR]...", "--stdio", "--listen <ADDRESS>", "--capacity <BYTES>", "--connections <N>", "--bin <DIR>"),
+    "rdump": ("Usage: rdump <COMMAND>", "dump", "read", "ls", "mt", "dates"),
+}
+
+
+def helps(p: Programs) -> None:
+    """The help has the words, and the version the version. Both go to standard output alone."""
+    for name, program in (("rmtd", p.rmtd), ("rdump", p.rdump)):
+        for word in ("--version", "-V"):
+            ends(f"{name} {word}", p.run(word, program=program), f"{name} {VERSION}\n", DONE)
+        for word in ("--help", "-h"):
+            got = p.run(word, program=program)
+            named = all(re.search(rf"(^|\s){re.escape(it)}($|\s)", got.output) for it in HELPS[name])
+            check(f"{name} {word}", got.status == DONE and named and VERSION not in got.output and not got.told, got)
+
+
+def where_it_listens(p: Programs) -> None:
+    """A server has one socket, and that listens at the address of its words, which it prints, and at no other of the machine."""
+    for folder in ("st0", "bin"):
+        p.folder.joinpath(folder).mkdir()
+    in_folder = ("--bin", str(p.folder / "bin"), f"{DEVICE}={p.folder / 'st0'}")
+    for title, words in (("in memory", ()), ("in a folder", in_folder)):
+        for host in ("127.0.0.1", "127.0.0.2", "0.0.0.0"):
+            with p.listening(*words, at=f"{host}:0") as (address, server):
+                check(f"at a drive {title}, at {host}: what is printed", address.rsplit(":", 1)[0] == host, address)
+                found = listeners(server.pid)
+                check(f"at a drive {title}, at {host}: where it listens", found == [address], found, address)
+
+
+def listeners(process: int) -> list[str]:
+    """Where the sockets of a process listen, as the system tells it; of those that do not, `nowhere`."""
+    rows = {}
+    for line in Path(f"/proc/{process}/net/tcp").read_text().splitlines()[1:]:
+        _, local, _, state, *more = line.split()
+        host, port = local.split(":")
+        at = f"{socket.inet_ntoa(int(host, 16).to_bytes(4, sys.byteorder))}:{int(port, 16)}"
+        rows[f"socket:[{more[5]}]"] = at if int(state, 16) == LISTENS else "nowhere"
+    files = [os.readlink(it) for it in Path(f"/proc/{process}/fd").iterdir()]
+    return [rows.get(it, "nowhere") for it in files if it.startswith("socket:")]
 
 
 def cut_connections(p: Programs) -> None:

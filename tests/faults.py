@@ -20,6 +20,7 @@ import socket
 import struct
 import subprocess
 import sys
+import tempfile
 import threading
 import time
 from collections import Counter
@@ -265,7 +266,7 @@ def clocks(p: Programs) -> None:
     """A clock before 1970, and one that goes back meanwhile."""
     got = dumped(p, THREE_BLOCKS, b"", "clock_gettime:1+:t-5", date=())
     untouched = Left({}, OLD_DATES, ["dates"])
-    check("a clock before 1970", got.seen() == (FAILED, b"", untouched) and b"the clock" in got.told, got.shown())
+    check("a clock before 1970", (got.told, got.seen()) == (b"rdump: the clock: it tells no date\n", (FAILED, b"", untouched)), got.shown())
     well = dumped(p, THREE_BLOCKS, b"", "")
     got = dumped(p, THREE_BLOCKS, b"", f"clock_gettime:1:t{DAY},clock_gettime:2+:t1", date=())
     check("a dump whose clock goes back", got.seen() == well.seen(), got.shown())
@@ -302,7 +303,8 @@ class Listener:
     def __init__(self, p: Programs, rules: str, *words: str) -> None:
         p.shim.forget()
         self.shim = p.shim
-        streams = {"stdout": subprocess.PIPE, "stderr": subprocess.DEVNULL, "env": p.shim.environment(rules)}
+        self.log = tempfile.TemporaryFile()
+        streams = {"stdout": subprocess.PIPE, "stderr": self.log, "env": p.shim.environment(rules)}
         self.process = subprocess.Popen((p.rmtd, *LISTEN, *words), **streams)
         host, port = re.fullmatch(r"listening on (.+):(\d+)\n", self.process.stdout.readline().decode()).groups()
         self.address = (host, int(port))
@@ -329,6 +331,11 @@ class Listener:
     def limit_files(self, count: int) -> None:
         resource.prlimit(self.process.pid, resource.RLIMIT_NOFILE, (count, 1024))
 
+    def failed_accepts(self) -> list[str]:
+        """Its lines that say why an accept failed."""
+        lines = os.pread(self.log.fileno(), 1 << 20, 0).decode().splitlines()
+        return [it for it in lines if it.startswith("rmtd: accept failed: ")]
+
     def ended(self) -> int | None:
         """Its status, and none where it does not end."""
         with suppress(subprocess.TimeoutExpired):
@@ -340,7 +347,7 @@ class Listener:
 def listening(p: Programs, rules: str, *words: str) -> Iterator[Listener]:
     """A server that listens, and is killed at the end."""
     it = Listener(p, rules, *words)
-    with guarded(it.process):
+    with it.log, guarded(it.process):
         yield it
 
 
@@ -417,19 +424,55 @@ def tries(it: Listener, title: str) -> None:
     check(f"{title}: it tries {TRIES_IN_A_SECOND} times a second at most", made <= TRIES_IN_A_SECOND and it.process.poll() is None, made)
 
 
+# The errors of an accept by their texts: those after which it is tried again, and those by which a listener is broken for good.
+PASSING = {5: "Input/output error", 103: "Software caused connection abort", 24: "Too many open files", 105: "No buffer space available"}
+LASTING = {
+    9: "Bad file descriptor",
+    14: "Bad address",
+    22: "Invalid argument",
+    88: "Socket operation on non-socket",
+    95: "Operation not supported",
+}
+
+
 def accepts(p: Programs) -> None:
-    """Accepts that fail do not count as connections, and a listener that is broken for good ends the server."""
+    """Accepts that fail do not count as connections, and a listener that is broken for good ends the server. Each of them has one line."""
     for drive in ("in memory", "in a folder"):
         with folders(r1=b"") as folder:
             words = ("--connections", "2", *(drive_words(folder) if drive == "in a folder" else ()))
-            for name, error in (("EIO", 5), ("ECONNABORTED", 103), ("EMFILE", 24), ("ENOBUFS", 105)):
+            for error, text in PASSING.items():
+                title = f"two accepts fail by `{text}`, at a drive {drive}"
                 with listening(p, f"accept4:1-2:E{error}", *words) as it:
                     answers = [it.asked(NOTHING) for _ in range(2)]
                     served = answers == [BAD_DESCRIPTOR] * 2 and it.ended() == DONE
-                    check(f"two accepts fail by {name}, at a drive {drive}: two connections are served", served, answers, it.process.poll())
-            for name, error in (("EBADF", 9), ("EINVAL", 22), ("ENOTSOCK", 88)):
+                    check(f"{title}: two connections are served", served, answers, it.process.poll())
+                    check(f"{title}: the first has a line", it.failed_accepts() == [failed_accept(error, text)], it.failed_accepts())
+            for error, text in LASTING.items():
+                title = f"a listener that is broken by `{text}`, at a drive {drive}"
                 with listening(p, f"accept4:1+:E{error}", *words) as it:
-                    check(f"a listener that is broken by {name}, at a drive {drive}, ends the server", it.ended() == FAILED, it.process.poll())
+                    check(f"{title}, ends the server", it.ended() == FAILED, it.process.poll())
+                    check(f"{title}: that is told", it.failed_accepts() == [failed_accept(error, text)], it.failed_accepts())
+    broken_later(p)
+
+
+def failed_accept(error: int, text: str) -> str:
+    """The line of an accept that failed."""
+    return f"rmtd: accept failed: {text} (os error {error})"
+
+
+def broken_later(p: Programs) -> None:
+    """A listener that is broken while a session is served, and after an accept that failed otherwise: both are told, and the session comes to its end
+    before the server does."""
+    rules = "accept4:2:E24,accept4:3+:E9"
+    with folders(r1=b"") as folder, listening(p, rules, *drive_words(folder)) as it:
+        with it.connect() as stream:
+            answers = [ask(stream, opened())]
+            wanted = [failed_accept(error, text) for error, text in ((24, PASSING[24]), (9, LASTING[9]))]
+            check("a listener that is broken later: that is told", comes_true(lambda: it.failed_accepts() == wanted), it.failed_accepts())
+            answers += [ask(stream, write(b"x")), ask(stream, CLOSE)]
+            check("a listener that is broken later: a session is served on", answers == [TAKEN, DONE_ONE, TAKEN], answers)
+            check("a listener that is broken later: the server waits for it", it.process.poll() is None)
+        check("a listener that is broken later ends the server", it.ended() == FAILED, it.process.poll())
 
 
 def unstarted(p: Programs) -> None:
@@ -495,11 +538,15 @@ def dump(p: Programs) -> None:
     check("a dump in which nothing fails", (well.status, well.output) == (DONE, THREE_BLOCKS.printed()) and is_dump_right(well, 0), well.shown())
     check(f"at least {LEAST_DUMP_CALLS} calls of a dump are seen", sum(calls.values()) >= LEAST_DUMP_CALLS, calls)
     ends: Counter[int] = Counter()
+    tells: set[bytes] = set()
     for call, count in calls.items():
         for rule in Target(call, WRITTEN.get(call, ""), count, False).rules():
             got = dumped(p, THREE_BLOCKS, b"", rule.text, WRITTEN.get(call, ""))
             check(f"a dump: {rule.title}", is_dump_right(got, 0, call in STAYS), got.shown())
             ends[got.status] += 1
+            tells.add(got.told)
+    unread = re.compile(rb"rdump: \S+/payload: its length could not be read\n")
+    check("a dump: a payload whose length cannot be read is told", any(map(unread.fullmatch, tells)), sorted(tells))
     print(f"a dump: {sum(ends.values())} runs, by their status {dict(ends)}; calls: {calls}", flush=True)
     for call in ("recv", "send", "sendmsg", "pread", "read", "write"):
         got = dumped(p, THREE_BLOCKS, b"", f"{call}:1+:s1")

@@ -6,6 +6,8 @@
 It passes on what `rt ci` prints, and ends with its status. `rt ci` tells no times, so every five seconds it is looked up which
 checks run, by the command lines of the processes below this one: a check of a crate (which `rt ci` builds in the same run), of its tests, or of an
 edit that must fail. The minutes are those in which at least one such check of the crate ran, written as a table to FILE, or else printed.
+
+One check runs a processor, where memory holds as many. RT_JOBS=N has N run.
 """
 
 from __future__ import annotations
@@ -20,6 +22,29 @@ from collections import defaultdict
 from pathlib import Path
 
 KINDS = ("proof", "tests", "edits")
+
+# How many bytes of memory are wanted for a check: the largest took 2.8 GB. `rt ci` by itself reckons with up to 7.7, and leaves processors idle.
+CHECK = 4_000_000_000
+
+# Where the system tells the memory that is free, and a group's limit and what of that is used.
+MEMORY = Path("/proc/meminfo")
+LIMIT, USED = Path("/sys/fs/cgroup/memory.max"), Path("/sys/fs/cgroup/memory.current")
+
+
+def free_memory() -> int:
+    """How many bytes of memory are free, also under the limit of this group of processes, where there is one."""
+    told = dict(line.split(":") for line in MEMORY.read_text().splitlines())
+    free = 1024 * int(told["MemAvailable"].split()[0])
+    try:
+        return min(free, int(LIMIT.read_text()) - int(USED.read_text()))
+    except (OSError, ValueError):
+        # There is no such group, or it has no limit.
+        return free
+
+
+def checks_at_once() -> int:
+    """How many checks run side by side."""
+    return max(1, min(len(os.sched_getaffinity(0)), free_memory() // CHECK))
 
 
 def words_of(process: Path) -> list[str]:
@@ -96,7 +121,7 @@ def main() -> int:
     watch = Watch()
     watch.start()
     began = time.monotonic()
-    status = subprocess.run(["rt", "ci"]).returncode
+    status = subprocess.run(["rt", "ci"], env={"RT_JOBS": str(checks_at_once()), **os.environ}).returncode
     whole = time.monotonic() - began
     watch.done.set()
     watch.join()

@@ -13,6 +13,7 @@ import fcntl
 import os
 import re
 import resource
+import shutil
 import socket
 import subprocess
 import sys
@@ -20,9 +21,10 @@ import tempfile
 import threading
 from contextlib import contextmanager
 from pathlib import Path
-from typing import Iterator
+from typing import IO, Iterator
 
 from checks import check, ended
+from clients import access, as_nobody, site
 from model_rmtd import images
 from threads import (
     CLOSE,
@@ -33,6 +35,8 @@ from threads import (
     NOTHING,
     NOTHING_OPEN,
     OFFLINE,
+    READ,
+    REWIND,
     SPARE_MEMORY,
     Server,
     Talk,
@@ -135,6 +139,23 @@ def reels(rmtd: str) -> None:
         )
         good = len(mine) == len(wanted) and all(re.fullmatch(form, it) for form, it in zip(wanted, mine))
         check("reels: the lines of its seat", good, mine, wanted)
+
+
+def read_only(rmtd: str) -> None:
+    """A reel whose file may only be read is told as such. One that may be written is not, whatever mode it is opened in."""
+    with site(rmtd) as shop, tempfile.TemporaryFile() as log:
+        reel = shop.reel("r1", b"x")
+        how = as_nobody(shop)
+        with listening([shop.words[0], "--listen", "127.0.0.1:0", *shop.words[2:]], stderr=log, **how) as (_, address):
+            for title, mode, asked in (("read", 0o400, opened()), ("written", 0o600, opened(mode=0))):
+                with access(reel, mode):
+                    talk = Talk(address)
+                    talk.asks(f"a reel that may be {title}", (asked, DONE), (READ, b"A1\nx"), (CLOSE, DONE))
+                    talk.end()
+            lines = lambda: told(log).splitlines()
+            check("a reel that may be read alone: it ends", soon(lambda: sum(it.endswith("ended: end") for it in lines()) == 2), lines())
+            mine = [it.partition("/dev/st0: ")[2] for it in lines() if "/dev/st0: " in it]
+        check("a reel that may be read alone: the lines", mine == ["r1 opened, to read only", "r1 closed", "r1 opened", "r1 closed"], mine)
 
 
 def far_away(rmtd: str) -> None:
@@ -380,14 +401,52 @@ def unread(rmtd: str) -> None:
 def in_memory(rmtd: str) -> None:
     """A reel in memory is told of once at the start, also that it never comes to the bin, and connections have their lines."""
     for more, before in (([], ""), (["--bin", "/"], "--bin is given and no drive: ")):
-        with tempfile.TemporaryFile() as log, listening([rmtd, "--listen", "127.0.0.1:0", "--connections", "2", *more], stderr=log) as (process, address):
+        with tempfile.TemporaryFile() as log, listening([rmtd, "--listen", "127.0.0.1:0", "--connections", "3", *more], stderr=log) as (process, address):
             check("in memory: it is served", converses(address) and converses(address))
+            talk = Talk(address)
+            check("in memory: what is no request is not answered", talk.ask(b"?") == b"")
+            talk.end()
             check("in memory: it ends", process.wait(60) == 0)
-            log.seek(0)
-            lines = log.read().decode().splitlines()
-        ways = [rf"connection {number}: {what}" for number in (1, 2) for what in (f"accepted from {ADDRESS}", "ended: end")]
+            lines = told(log).splitlines()
+        ways = [
+            rf"connection {number}: {what}"
+            for number, end in ((1, "end"), (2, "end"), (3, "UnknownCommand"))
+            for what in (f"accepted from {ADDRESS}", f"ended: {end}")
+        ]
         wanted = [f"rmtd: {it}" for it in (f"{before}the reel of /dev/st0 is in memory, and is gone when the server ends", *ways)]
-        check("in memory: the lines", len(lines) == 5 and all(map(re.fullmatch, wanted, lines)), lines)
+        check("in memory: the lines", len(lines) == 7 and all(map(re.fullmatch, wanted, lines)), lines)
+
+
+def told(log: IO[bytes]) -> str:
+    """What a file has that somebody writes to."""
+    return os.pread(log.fileno(), 1 << 20, 0).decode()
+
+
+SMALL_FILE, REEL = 65_536, 1_048_576
+BY_ITS_SIGNAL = "a longer one ends the server by SIGXFSZ, and is E5 where it is started with that ignored (trap '' XFSZ)"
+# How a server is started, how many bytes its reels may have, and whether it is told that its files may not.
+LIMITS = (
+    ("a limit far below a reel", f"ulimit -f {SMALL_FILE // 512};", REEL, True),
+    ("a limit of a byte less than a reel", f"ulimit -f {SMALL_FILE // 512};", SMALL_FILE + 1, True),
+    ("a limit of a reel", f"ulimit -f {SMALL_FILE // 512};", SMALL_FILE, False),
+    ("a limit whose signal is ignored", f"trap '' XFSZ; ulimit -f {SMALL_FILE // 512};", REEL, False),
+    ("no limit", "", REEL, False),
+)
+
+
+def limits(rmtd: str) -> None:
+    """A limit on the size of files that a reel can come to is told before the server listens, where that would end it. With `--stdio` nothing is."""
+    for title, before, capacity, is_told in LIMITS:
+        line = f"rmtd: a file may have {SMALL_FILE} bytes here and a reel {capacity}: {BY_ITS_SIGNAL}\n"
+        limited = ["/bin/sh", "-c", f'{before} exec "$@"', "sh"]
+        with tempfile.TemporaryDirectory() as folder, tempfile.TemporaryFile() as log:
+            words = [*limited, *folder_words(rmtd, Path(folder)), "--capacity", str(capacity)]
+            with listening(words, stderr=log):
+                check(f"{title}: what is told once it listens", told(log) == (line if is_told else ""), told(log))
+        with tempfile.TemporaryDirectory() as folder:
+            words = [*limited, *stdio_words(rmtd, Path(folder)), "--capacity", str(capacity)]
+            got = subprocess.run(words, input=opened(), capture_output=True, check=False)
+            check(f"{title}, stdio: nothing is told", (got.returncode, got.stdout, got.stderr) == (0, DONE, b""), got)
 
 
 def with_stdio(rmtd: str) -> None:
@@ -401,12 +460,16 @@ def with_stdio(rmtd: str) -> None:
 
 
 UNSYNCED = r"r1 closed, sync failed: .+ \(os error 5\)"
+UNMOVED = r"move refused: .+/r1: sync: .+ \(os error 5\)"
 SYNCS = "fsync,fdatasync:error=EIO"
 FULL = "writev:error=ENOSPC:when=1"
 # What went wrong at a drive: what is done before to the folders, what the system refuses, by strace(1), what is asked, and the lines.
 WRONG = (
     ("the sync at a close", "", f"{SYNCS}:when=1", CLOSE, (UNSYNCED,)),
-    ("the sync at a move", "", f"{SYNCS}:when=1", OFFLINE, (r"move refused: .+/r1: sync: .+ \(os error 5\)", UNSYNCED)),
+    ("the sync at a move", "", f"{SYNCS}:when=1", OFFLINE, (UNMOVED, UNSYNCED)),
+    ("the sync at a move that is asked for three times", "", f"{SYNCS}:when=1", OFFLINE * 3, (UNMOVED, UNMOVED, UNMOVED, UNSYNCED)),
+    ("the sync at a move, after which the reel is written anew,", "", f"{SYNCS}:when=1", OFFLINE + REWIND + write(b"y") + OFFLINE, (UNMOVED,)),
+    ("the sync at a move, after which the reel is closed,", "", f"{SYNCS}:when=1", OFFLINE + CLOSE + opened() + OFFLINE, (UNMOVED, UNSYNCED)),
     ("the sync of a folder", "", f"{SYNCS}:when=2", OFFLINE, (r"r1 moved to the bin, folder sync failed: .+ \(os error 5\)",)),
     ("a write", "", FULL, CLOSE, (r"r1 closed, a read or write failed: .+ \(os error 28\)",)),
     ("a write before a move", "", FULL, OFFLINE, (r"r1 moved to the bin, a read or write failed: .+ \(os error 28\)",)),
@@ -456,6 +519,26 @@ def one_stream(rmtd: str) -> None:
                 check(f"one socket, {title}: the answers alone", (process.wait(60), came) == (0, answered), came)
 
 
+# With nothing at /proc, in a view of the mounts of its own that ends with it.
+NO_PROC = ("unshare", "--mount", "/bin/sh", "-c", 'mount -t tmpfs none /proc || exit 77; exec "$@"', "sh")
+NOT_MOUNTED = 77
+
+
+def without_proc(rmtd: str) -> None:
+    """On standard input and output nothing is told where the system does not say what standard error is."""
+    with tempfile.TemporaryDirectory() as folder:
+        words = stdio_words(rmtd, Path(folder))
+        for title, given, answered in (("folders", words, IO_ERROR), ("memory", [rmtd, "--stdio", "--bin", folder], DONE)):
+            with Path(folder, "st0/r1").open("rb") as held:
+                fcntl.flock(held, fcntl.LOCK_EX)
+                how = {"input": opened(), "capture_output": True, "check": False}
+                got = subprocess.run([*NO_PROC, *given], **how) if shutil.which("unshare") else None
+            if got is None or got.returncode == NOT_MOUNTED or got.stderr.startswith(b"unshare:"):
+                print(f"skipped: stdio without /proc, {title}: mount(8) may not be used")
+            else:
+                check(f"stdio without /proc, {title}: nothing is told", (got.returncode, got.stdout, got.stderr) == (0, answered, b""), got)
+
+
 def bin_alone(rmtd: str) -> None:
     """On standard input and output a bin without a drive is told."""
     got = subprocess.run([rmtd, "--stdio", "--bin", "/"], input=opened(), capture_output=True, check=False)
@@ -479,8 +562,9 @@ def main() -> int:
     parser = argparse.ArgumentParser(description="Checks what the built server writes on standard error.")
     parser.add_argument("rmtd", nargs="?", default=str(CRATES / "rmtd/out/rmtd"))
     rmtd = os.path.abspath(parser.parse_args().rmtd)
-    listeners = (endings, reels, far_away, unsynced, refused_calls, too_many, failed_accepts, at_once, unwritable, unread, in_memory)
-    for part in (*listeners, with_stdio, wrong_with_stdio, one_stream, bin_alone, without_streams):
+    reels_of = (reels, read_only, far_away, unsynced, refused_calls)
+    listeners = (endings, *reels_of, too_many, failed_accepts, at_once, unwritable, unread, in_memory, limits)
+    for part in (*listeners, with_stdio, wrong_with_stdio, one_stream, without_proc, bin_alone, without_streams):
         part(rmtd)
     return ended()
 

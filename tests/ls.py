@@ -25,6 +25,7 @@ from pathlib import Path
 from typing import IO, Iterator, NamedTuple
 
 from checks import check, ended
+from shim import Shim, compiled
 
 CRATES = Path(__file__).resolve().parent.parent / "crates"
 DEVICE = "/dev/st0"
@@ -425,6 +426,38 @@ def long_reel_holds(program: str) -> None:
         check("a long reel", got == Ended([line], "", ALL_WHOLE), got, line)
 
 
+# Reels with records of more bytes than are read at once.
+LONG_RECORDS = {
+    "record": images(bytes(GREATEST_RECORD), None),
+    "block": images(USR.record(), bytes(GREATEST_RECORD), None),
+    "two blocks": images(USR.record(), *[bytes(GREATEST_RECORD - 1)] * 2, None),
+}
+
+
+def disk_fails(program: str) -> None:
+    """A disk that gives some bytes of a long record, and not all, is told, whichever they are: each read of the file fails in turn."""
+    good = {"good": VOLUME + image(None)}
+    with compiled() as shim, rdump_in(program) as rdump:
+        rdump.put(good | LONG_RECORDS)
+        for name, data in LONG_RECORDS.items():
+            both = good | {name: data}
+            got, sizes = ls_under(shim, rdump, "", name)
+            check(f"a long {name} is read", got == Ended(lines_of(both), "", status_of(both)), got)
+            check(f"a long {name}: each of its bytes is asked for", sum(sizes) >= len(data), sizes, len(data))
+            told = Ended(lines_of(good), f"rdump: {name}: it could not be read\n", FAILED)
+            for number in range(1, len(sizes) + 1):
+                got, _ = ls_under(shim, rdump, f"pread:{number}:E5", name)
+                check(f"a long {name}: that read {number} of {len(sizes)} fails is told", got == told, got)
+
+
+def ls_under(shim: Shim, rdump: Rdump, rules: str, name: str) -> tuple[Ended, list[int]]:
+    """What is said of a good reel and of this one, whose reads meet these rules, and how many bytes each of these asked for."""
+    shim.forget()
+    got = rdump.ls("good", name, env=shim.environment(rules, f"/{name}"))
+    calls = [line.split() for line in shim.log.read_text().splitlines()]
+    return got, [int(size) for call, _, size in calls if call == "pread"]
+
+
 def output_fails(program: str) -> None:
     """Where standard output takes nothing, that is told."""
     with rdump_in(program) as rdump, open("/dev/full", "wb") as full:
@@ -720,7 +753,7 @@ def main() -> int:
         holds(rdump)
     for seed in range(SEED, SEED + 10):
         random_files_hold(rdump, seed)
-    for holds in (dumps_hold, entries_hold, output_fails, many_reels_hold, long_reel_holds):
+    for holds in (dumps_hold, entries_hold, disk_fails, output_fails, many_reels_hold, long_reel_holds):
         holds(rdump)
     for holds in (wire_holds, wire_fails, relays_hold):
         holds(rmtd, rdump)

@@ -114,10 +114,10 @@ $ tar --version | head -n 1 | grep -qv ' 1.34$' || echo 1 | cmp - calls
 
 # The messages of the tables that no recipe shows, each with the reason.
 UNSHOWN = {
-    "OutOfMemory": "memory is refused in a dump, and not before it, only by chance",
-    "rmtd: it did not start: out of memory": "memory is refused between the words and the first request only by chance",
-    "its length could not be read": "it takes a disk that fails between two calls",
-    "rdump: the clock: it tells no date": "it takes a clock before 1970, and all processes of a machine have one clock",
+    "OutOfMemory": "tests/refused.py shows it: memory is refused in a dump, and not before it, only by chance",
+    "rmtd: it did not start: out of memory": "tests/refused.py shows it: memory is refused between the words and the first request only by chance",
+    "its length could not be read": "tests/faults.py shows it: it takes a disk that fails between two calls",
+    "rdump: the clock: it tells no date": "tests/faults.py shows it: it takes a clock before 1970, and all processes of a machine have one clock",
     "rdump: FILE: its .new was locked for ten seconds": "tests/updates.py shows it, and waits for it beside other checks",
     "rdump: FILE: its .new is no plain file": "tests/updates.py shows it, and a recipe of its own would take a dump more",
     "rdump: FILE: it is no dumpdates file, status 3": "tests/updates.py shows it: the file has to change while a dump runs",
@@ -128,9 +128,11 @@ UNSHOWN = {
     "rdump: FILE: 1536 bytes, fewer than 2500": "tests/restore.py shows it, with other numbers",
     "rdump: ADDRESS: a block of 300 bytes after one of 512": "tests/restore.py shows it: it takes a reel that no dump makes",
     "rdump: FILE: it is no plain file": "tests/restore.py shows it",
+    "rdump: FILE: line N: bad line": "tests/ls.py shows it",
+    "rdump: FILE: line N: bad date": "tests/ls.py shows it",
     "rdump: no reel was found": "tests/ls.py shows it",
     "rdump: FOLDER: a name in it is not UTF-8": "tests/ls.py shows it",
-    "rdump: FILE: it could not be read": "it takes a disk that fails while the file is read",
+    "rdump: FILE: it could not be read": "tests/ls.py shows it: it takes a disk that fails while the file is read",
 }
 
 

@@ -41,6 +41,8 @@ NO_MARK = b"A0\nA5\nE12\nCannot allocate memory\nA1\nA5\nhelloA0\nA0\n"
 RESERVED = [262_144, 262_156]
 
 NAMED = b"out of memory\n"
+# What the server says on standard error that was refused memory at its start: the part of the start, or the folder or address that it was at.
+TOLD = rb"rmtd: (it did not start|the words|the words could not be read|/\S+/(bin|st0)|127\.0\.0\.1:0): out of memory\n"
 FAILED_START = f"volume 1 failed: OutOfMemory\n{ASKED}\n"
 
 
@@ -80,6 +82,11 @@ def is_silent(got: Ended) -> bool:
     return (got.status, got.output) == (FAILED, b"")
 
 
+def is_told(got: Ended) -> bool:
+    """The server did not start, printed nothing, and told why."""
+    return is_silent(got) and re.fullmatch(TOLD, got.told) is not None
+
+
 def is_named(got: Ended) -> bool:
     """It did not start, and printed why."""
     return (got.status, got.output) == (FAILED, NAMED)
@@ -110,7 +117,7 @@ def in_memory(p: Programs) -> None:
 
         go = lambda rules, row=row: p.run((p.rmtd, "--stdio"), rules, row)
         check(f"{title}: what is answered with all memory", go("").output == history.wanted())
-        came = Sweep(title, least, "read", go, is_silent, after).run()
+        came = Sweep(title, least, "read", go, is_told, after).run()
         if row == ROW:
             alone = {it.output for it in came[::2] if it.status == DONE}
             check(f"{title}: the write alone is refused, and the mark alone where that grows", {NO_WRITE} <= alone <= {NO_WRITE, NO_MARK}, alone)
@@ -134,7 +141,7 @@ def over_a_folder(p: Programs) -> None:
                 return got._replace(left=held(folder))
 
         def before(got: Ended) -> bool:
-            return is_silent(got) and got.left == ({"r1": b""}, {})
+            return is_told(got) and got.left == ({"r1": b""}, {})
 
         def after(got: Ended, more: bool, history: History = history) -> bool:
             left = tuple(dict(reels_of(it)) for it in got.left)
@@ -158,11 +165,10 @@ def conversed(address: str) -> bytes | None:
 
 
 def listened(p: Programs, rules: str, folder: Path | None) -> Ended:
-    """Two connections, one after the other. What is left is what each was answered."""
+    """Two connections, one after the other. What is left is what each was answered, and what is told is the log."""
     words = (p.rmtd, *LISTEN, "--connections", "2", *(drive_words(folder) if folder else ()))
     p.shim.forget()
-    streams = {"stdout": subprocess.PIPE, "stderr": subprocess.DEVNULL, "env": p.shim.environment(rules)}
-    with subprocess.Popen(words, **streams) as server:
+    with tempfile.TemporaryFile() as log, subprocess.Popen(words, stdout=subprocess.PIPE, stderr=log, env=p.shim.environment(rules)) as server:
         guard = threading.Timer(GUARD_SECONDS, server.kill)
         guard.start()
         line = server.stdout.readline().decode()
@@ -171,7 +177,24 @@ def listened(p: Programs, rules: str, folder: Path | None) -> Ended:
         rest = server.stdout.read()
         server.wait()
         guard.cancel()
-    return Ended(server.returncode, b"" if found else line.encode() + rest, b"", answers, tuple(p.shim.calls()))
+        told = os.pread(log.fileno(), 1 << 20, 0)
+    return Ended(server.returncode, b"" if found else line.encode() + rest, told, answers, tuple(p.shim.calls()))
+
+
+# What the log says last of a connection: after its answers, and where it is answered nothing.
+SERVED, UNSERVED = "ended: end", ("ended: out of memory", "closed: no thread", "closed: no seat is free")
+
+
+def lasts(got: Ended) -> list[str]:
+    """What the log says last of each of two connections."""
+    lines = got.told.decode().splitlines()
+    told = [[it.partition(f"connection {number}: ")[2] for it in lines if f"connection {number}: " in it] for number in (1, 2)]
+    return [it[-1] if it else "" for it in told]
+
+
+def is_logged(got: Ended) -> bool:
+    """The log says of each connection whether it was served."""
+    return all(last in UNSERVED if answer is None else last == SERVED for answer, last in zip(got.left, lasts(got)))
 
 
 def listener(p: Programs) -> None:
@@ -189,10 +212,15 @@ def listener(p: Programs) -> None:
 
         def after(got: Ended, more: bool, whole: bytes = whole, is_lawful: Callable[[bytes | None], bool] = is_lawful) -> bool:
             met = [answer for answer in got.left if answer != whole]
-            return got.status == DONE and len(got.left) == 2 and all(map(is_lawful, met)) and len(met) in ((1, 2) if more else (1,))
+            right = got.status == DONE and len(got.left) == 2 and all(map(is_lawful, met)) and len(met) in ((1, 2) if more else (1,))
+            return right and is_logged(got)
 
         check(f"{title}: with all memory", go("").left == [whole] * 2)
-        Sweep(title, least, "accept4", go, lambda got: is_silent(got) and not got.left, after).run()
+        # What is told before that is not of the refusal: that the reel is in memory, or how many files may be open.
+        before = lambda got: is_silent(got) and re.search(rb"^" + TOLD + rb"\Z", got.told, re.M) is not None and not got.left
+        came = Sweep(title, least, "accept4", go, before, after).run()
+        met = {last for it in came for last in lasts(it)} - {SERVED, ""}
+        check(f"{title}: what the log says of those that are not served", met == {*(UNSERVED if in_folder else UNSERVED[:1])}, met)
 
 
 # The client.
@@ -369,6 +397,29 @@ def other_commands(p: Programs) -> None:
         Sweep(title, least, "connect", lambda rules, words=words: over_a_volume(p, words, rules), before, after).run()
 
 
+def over_a_stack(p: Programs, rules: str) -> Ended:
+    """The volumes of a stack of one reel are read. What is left are the reels of the stack and of the bin, and the file that is written, if any."""
+    with folders(r1=REEL) as folder, serving(p.rmtd, folder) as address:
+        out = folder / "out"
+        got = p.run((p.rdump, "read", "--all", "--out", str(out), "--to", address, "--device", DEVICE), rules)
+        return got._replace(left=({**held(folder)[0], **held(folder)[1]}, out.read_bytes() if out.exists() else None))
+
+
+def stack_is_right(got: Ended, more: bool) -> bool:
+    """It failed, which is told, or named after the volume. What was read is a beginning of that, and the reel is as it was, here or there."""
+    reels, out = got.left
+    is_told = got.output == LABEL + NAMED or (got.told != b"" and LABEL.startswith(got.output))
+    return got.status == ABNORMAL and is_told and VOLUME.data().startswith(out or b"") and reels == {"r1": REEL}
+
+
+def stack(p: Programs) -> None:
+    """A stack that is read: memory that is refused between two volumes is named, and the status says that something is missing."""
+    before = lambda got: is_named(got) and got.left == ({"r1": REEL}, None) or stack_is_right(got, False)
+    came = Sweep("a stack that is read", 95, "connect", lambda rules: over_a_stack(p, rules), before, stack_is_right).run()
+    between = [it for it in came if (it.status, it.output) == (ABNORMAL, LABEL + NAMED)]
+    check("a stack that is read: memory is refused between two volumes", bool(between), [it.shown() for it in came[-4:]])
+
+
 # The simulator.
 
 # The reply to the move of a reel is lost, and the volume is written once more.
@@ -432,7 +483,7 @@ def simulator(p: Programs) -> None:
         check("a schedule: nothing else is told", not [it for it in came if b"Error" in it.told], [it for it in came if b"Error" in it.told][:3])
 
 
-PARTS = (in_memory, reserved, over_a_folder, listener, dump, kept_dump, dates, other_commands, simulator)
+PARTS = (in_memory, reserved, over_a_folder, listener, dump, kept_dump, dates, other_commands, stack, simulator)
 
 
 def main() -> int:

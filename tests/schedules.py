@@ -23,6 +23,7 @@ from typing import Callable, NamedTuple
 
 from broken_rules import LENGTH, RULES, broken_by, first_break, searched, shortened, shown, told_of
 from checks import check, ended
+from dump import VERSION
 from headline import SENTENCES, broken
 from model_world import DONE, FAILED, NO_MEMORY, Outcome, at_the_end, lines_of, outcome
 from random_schedules import LONG_WRITES, MANY_DRIVES, PROFILES, Profile, Walk, candidates, is_possible
@@ -127,7 +128,7 @@ def lines_by_hand(rsim: Rsim) -> None:
 
 
 def words(rsim: Rsim) -> None:
-    """Words that are refused, files that cannot be read, and the word that asks for help."""
+    """Words that are refused, files that cannot be read, and words that ask for the help or the version."""
     good = VECTORS[0][1]
     rsim.file.write_bytes(good)
     file = str(rsim.file)
@@ -138,8 +139,11 @@ def words(rsim: Rsim) -> None:
     for asked in ("", absent, str(rsim.folder), file + "/"):
         got = rsim.run(asked)
         check(f"the file {asked!r}: the status, nothing printed, and one line told", refused(got) and got.told.count(b"\n") == 1, got)
-    got = rsim.run("--help")
-    check("the word --help", got.status == DONE and b"FILE" in got.output + got.told, got)
+    for word in ("--help", "-h"):
+        got = rsim.run(word)
+        check(f"the word {word}", (got.status, got.told) == (DONE, b"") and b"\nUsage: rsim <FILE>\n" in got.output, got)
+    for word in ("--version", "-V"):
+        same(f"the word {word}", rsim.run(word), printed(f"rsim {VERSION}\n".encode(), DONE))
     same("the word of a file in this folder", rsim.run(rsim.file.name), outcome(good))
 
 

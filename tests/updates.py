@@ -235,7 +235,7 @@ def locked(p: Programs) -> None:
             run = p.start("/late")
             if seconds > WAITS_SECONDS:
                 got, took = end_of(run), time.monotonic() - began
-                not_entered(f"a lock that is held {title}", got, "dumpdates", "locked")
+                not_entered(f"a lock that is held {title}", got, "rdump: dumpdates: its .new was locked for ten seconds\n")
                 check(f"a lock that is held {title}: how long it waits", WAITS_SECONDS <= took < HELD_SECONDS, took)
                 check(f"a lock that is held {title}: nothing changed", p.text() == OLD and p.text("dumpdates.new") == "")
                 continue
@@ -243,6 +243,9 @@ def locked(p: Programs) -> None:
             fcntl.flock(other, fcntl.LOCK_UN)
             entered(f"a lock that is held {title}", end_of(run))
         check(f"a lock that is held {title}: the texts", p.text() == OLD + entry("/late") and not p.left(), p.text(), p.left())
+
+
+NO_PLAIN_FILE = "rdump: dumpdates: its .new is no plain file\n"
 
 
 def new_files(p: Programs) -> None:
@@ -256,7 +259,7 @@ def new_files(p: Programs) -> None:
     for title, target in (("a file", "victim"), ("nothing", "nowhere")):
         p.put(OLD)
         new.symlink_to(target)
-        not_entered(f"a new file that is a link to {title}", p.dump("/linked"), "dumpdates", ".new")
+        not_entered(f"a new file that is a link to {title}", p.dump("/linked"), NO_PLAIN_FILE)
         check(f"a new file that is a link to {title}: nothing is changed", p.text() == OLD and new.is_symlink(), p.text())
         check(f"a new file that is a link to {title}: not followed", victim.read_text() == "not ours" and p.text("nowhere") is None)
         new.unlink(missing_ok=True)
@@ -268,7 +271,7 @@ def new_files(p: Programs) -> None:
     check("a dump that is abandoned: what lies there stays", kept.is_file() and kept.read_text() == "an operator's own")
     kept.unlink(missing_ok=True)
     new.mkdir()
-    not_entered("a new file that is a folder", p.dump("/folder"), "dumpdates", ".new")
+    not_entered("a new file that is a folder", p.dump("/folder"), NO_PLAIN_FILE)
     new.rmdir()
     check("no new file: nothing is changed", p.text() == OLD)
 
