@@ -23,7 +23,7 @@ from pathlib import Path
 
 KINDS = ("proof", "tests", "edits")
 
-# How many bytes of memory are wanted for a check: the largest took 2.8 GB. `rt ci` by itself reckons with up to 7.7, and leaves processors idle.
+# How many bytes of memory are wanted for a check: the largest took 3.4 GB. `rt ci` by itself reckons with up to 7.7, and leaves processors idle.
 CHECK = 4_000_000_000
 
 # Where the system tells the memory that is free, and a group's limit and what of that is used.
