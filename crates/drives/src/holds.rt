@@ -32,8 +32,8 @@ pub trait Holds {
     /// The drive is held by the seat of this number, or by none at 0. Holds that tell nothing say it of no number.
     ghost tells: { Self → ℕ → ℕ → Type 0 };
 
-    /// Takes the drive, counted from 0, if no seat holds it. It is one of the drives of these holds, and the seat one of their seats. Answers `Held`, or `Busy` with the
-    /// number of the seat that holds it, which was given.
+    /// Takes the drive, counted from 0, if no seat holds it. It is one of the drives of these holds, and the seat one of their
+    /// seats. Answers `Held`, or `Busy` with the number of the seat that holds it, which was given.
     fn take(&mut self, seat: &mut Self::Seat, drive: usize) -> Taken
         requires seat { belongs self.old seat.old }
         requires drive { drive < drives self.old }

@@ -41,7 +41,8 @@ impl TextLines {
     // Adds these bytes.
     pub(crate) fn push(&mut self, text: &[u8])
         requires { length self.old + length text.now ≤ label_bytes }
-        ensures { self.new ≡ self.old ++ text.now }
+        ensures text { self.new ≡ self.old ++ text.now }
+        ensures size { length self.new ≡ length self.old + length text.now }
     {
         let end = self.end + text.len();
         self.bytes[self.end..end].copy_from_slice(text);

@@ -19,7 +19,8 @@ AreUntouched old new = (new.input ≡ old.input) × (new.output ≡ old.output)
 
 -- What a line asked was done, with this status: the streams were served, with a drive in memory or with drives in folders, and
 -- the requests of the bytes read were answered up to that end; as many connections as were to come were served one after the
--- other; or it could not start, or the listener is broken for good.
+-- other; or it could not start, or the listener is broken for good. Folders tell nothing of their reels, so which replies the requests
+-- have there is not said.
 pub data EndsLine {In Out : Type 0} (kind : StreamsKind In Out) (line : ServerLine) (old new : Streams In Out) (status : ℕ) : Type 0 where
   in_memory : line.listen ≡ None → line.drives.items ≡ []
       → IsStdio kind line.capacity old new status
@@ -40,6 +41,12 @@ pub record IsSiteOf (line : ServerLine) (left drives : ℕ) (stacks : List Folde
   pub same_left : left ≡ unwrap_or line.connections 18446744073709551615
   pub same_drives : drives ≡ length line.drives.items
   pub same_stacks : All (λ s. s ≡ stacks_of line.drives.items bin line.capacity) stacks
+
+-- of a line that asks to listen, at drives in folders: it could not, or what is left is to serve as it says
+abbrev pub IsReady : {R Dir : Type 0} {reads : ReadPromise Dir} {clones : ClonePromise R} → ServerLine → Begun R Dir reads clones
+    → Type 0
+IsReady line (End status) = status ≡ 1
+IsReady line (Serve listener site) = IsSiteOf line site.left site.table.words site.stacks.items
 
 -- what was done of a line, and what is left
 abbrev pub IsDone : {In Out R Dir : Type 0} {reads : ReadPromise Dir} {clones : ClonePromise R} → StreamsKind In Out

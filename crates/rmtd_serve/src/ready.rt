@@ -1,5 +1,6 @@
 //! Making ready for connections that are served at once.
 ghost use Rattle.std.specs.Prelude.{◌≡◌, ◌≤◌, Some, IfOk, length, map, option_map};
+ghost use Rattle.drives.specs.declared.holds.TheConstants.{DRIVE_LIMIT};
 ghost use Rattle.rmtd_words.specs.Drive.{KeepsDriveRules, plain_drive};
 ghost use Rattle.rmtd_serve.specs.Startup.{IsSiteOf};
 
@@ -17,6 +18,7 @@ pub(crate) fn site_of<R: FolderSystem + Eprint>(
     bin: &str,
 ) -> io::Result<Site<R>>
     requires some { 1 ≤ length line.now.drives.items }
+    requires few { length line.now.drives.items ≤ DRIVE_LIMIT }
     requires same { option_map (λ s. s.now) line.now.bin ≡ Some bin.now }
     requires rules { KeepsDriveRules (Some bin.now) (map plain_drive line.now.drives.items) }
     ensures { IfOk result (λ site. IsSiteOf line.now site.left site.table.words site.stacks.items) }

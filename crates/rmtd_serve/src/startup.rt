@@ -1,10 +1,11 @@
 //! The start of `rmtd`: its words are read, and what they ask is done, until connections are served at once.
-ghost use Rattle.std.specs.Prelude.{◌≡◌, ◌⊎◌, ◌≤◌, Some, IfOk, OnErr, length, map, option_map};
+ghost use Rattle.std.specs.Prelude.{◌≡◌, ◌⊎◌, ◌≤◌, Some, None, IfOk, OnErr, length, map, option_map};
 ghost use Rattle.clap.specs.Words.{kind_of};
+ghost use Rattle.drives.specs.declared.holds.TheConstants.{DRIVE_LIMIT};
 ghost use Rattle.rmtd_words.specs.Drive.{KeepsDriveRules, plain_drive};
 ghost use Rattle.rmtd_words.specs.Rmtd.{IsShown};
 ghost use Rattle.rmt_server.specs.Stream.{streams, streams_kind};
-ghost use Rattle.rmtd_serve.specs.Startup.{AreUntouched, IsDone, IsBegun, IsStarted};
+ghost use Rattle.rmtd_serve.specs.Startup.{AreUntouched, IsDone, IsReady, IsBegun, IsStarted};
 
 use crate::connections::Connections;
 use crate::error_log::ErrorLog;
@@ -16,8 +17,9 @@ use crate::warnings::Warnings;
 use crate::{MemoryServer, TapeServer, exit_status, run_stdio, serve_connections};
 use clap::Error;
 use clap::error::ErrorKind;
+use drives::Stacks;
 use file_medium::take_places;
-use reel_files::{FolderSystem, Log};
+use reel_files::{FolderStacks, FolderSystem, Log};
 use rmt_wire::Counted;
 use rmtd_words::{ServerLine, server_line};
 use std::alloc::{AllocError, Global};
@@ -195,20 +197,68 @@ fn follow_in_folders<R: System, I: Read, O: Write>(
         (streams input.old output.old) (streams input.new output.new)) }
     ensures failed { OnErr result (AreUntouched (streams input.old output.old) (streams input.new output.new)) }
 {
-    let drives = line.drives.as_slice();
-    let log = Warnings::new(rt.clone()?)?;
-    let stacks = logged_stacks(rt.clone()?, drives, bin, line.capacity, log)?;
+    let stacks = stacks_with_warnings(rt, line, bin)?;
     if let Some(fault) = stacks.find_fault() {
         return tell(rt, fault.folder, fault.reason);
     }
-    let Some(address) = line.listen else {
-        let Some(mut server) = TapeServer::new(rt.alloc(), drives.len(), stacks) else {
-            return Err(io::ErrorKind::OutOfMemory.into());
-        };
-        let status = exit_status(server.serve(input, output));
-        return Ok(end(rt, status, input, output));
+    match line.listen {
+        Some(address) => listen_in_folders(rt, address, line, bin),
+        None => serve_in_folders(rt, line, stacks, input, output),
+    }
+}
+
+/// The stacks of the line's drives, which tell on standard error what goes wrong.
+fn stacks_with_warnings<R: System>(
+    rt: &R,
+    line: &ServerLine<'_>,
+    bin: &str,
+) -> io::Result<FolderStacks<R, Warnings<R>>>
+    requires some { 1 ≤ length line.now.drives.items }
+    requires few { length line.now.drives.items ≤ DRIVE_LIMIT }
+    ensures { IfOk result (λ s. length s.rows ≡ length line.now.drives.items) }
+{
+    let log = Warnings::new(rt.clone()?)?;
+    let drives = line.drives.as_slice();
+    Ok(logged_stacks(rt.clone()?, drives, bin, line.capacity, log)?)
+}
+
+/// Serves the streams at these stacks; what is left is to end.
+fn serve_in_folders<R: System, S: Stacks + Drop, I: Read, O: Write>(
+    rt: &R,
+    line: &ServerLine<'_>,
+    stacks: S,
+    input: &mut Counted<I>,
+    output: &mut Counted<O>,
+) -> io::Result<Begun<R>>
+    requires streams { line.now.listen ≡ None }
+    requires some { 1 ≤ length line.now.drives.items }
+    requires few { length line.now.drives.items ≤ DRIVE_LIMIT }
+    requires enough { S.drives stacks ≤ length line.now.drives.items }
+    ensures done { IfOk result (IsDone (streams_kind I.remaining O.contents) line.now
+        (streams input.old output.old) (streams input.new output.new)) }
+    ensures failed { OnErr result (AreUntouched (streams input.old output.old) (streams input.new output.new)) }
+{
+    let Some(mut server) = TapeServer::new(rt.alloc(), line.drives.len(), stacks) else {
+        return Err(io::ErrorKind::OutOfMemory.into());
     };
-    // Who is told that it listens is served: all memory of the start is had before.
+    let status = exit_status(server.serve(input, output));
+    Ok(end(rt, status, input, output))
+}
+
+/// Makes ready for connections at this address, at drives whose reels are files in folders. All memory of the start is had before
+/// it is told that it listens: who is told that is served.
+fn listen_in_folders<R: System>(
+    rt: &R,
+    address: &str,
+    line: &ServerLine<'_>,
+    bin: &str,
+) -> io::Result<Begun<R>>
+    requires some { 1 ≤ length line.now.drives.items }
+    requires few { length line.now.drives.items ≤ DRIVE_LIMIT }
+    requires same { option_map (λ s. s.now) line.now.bin ≡ Some bin.now }
+    requires rules { KeepsDriveRules (Some bin.now) (map plain_drive line.now.drives.items) }
+    ensures { IfOk result (IsReady line.now) }
+{
     tell_limit(rt, line.capacity)?;
     let site = site_of(rt, line, bin)?;
     match bind(rt, address) {

@@ -1,6 +1,7 @@
 //! Drives of any kind that serve one stream after the other.
 ghost use Rattle.std.specs.Prelude.{◌≡◌, ◌≤◌, IfSome, length};
 ghost use Rattle.drives.specs.contracts.local.LocalHoldsHolds.TheImpl.{ghosts as of_holds};
+ghost use Rattle.drives.specs.declared.holds.TheConstants.{DRIVE_LIMIT};
 ghost use Rattle.drives.specs.Opening.{kinds};
 ghost use Rattle.rmt_server.specs.Stream.{streams, streams_kind};
 ghost use Rattle.rmtd_serve.specs.Generic.{IsServedAt};
@@ -36,10 +37,10 @@ impl<S: Stacks + Drop> Model for TapeServer<S> {
 }
 
 impl<S: Stacks + Drop> TapeServer<S> {
-    /// These stacks, of which there are so many drives, from 1 to 64. None where memory was refused.
+    /// These stacks, of which there are so many drives, from 1 to `DRIVE_LIMIT` of `drives`. None where memory was refused.
     pub fn new(alloc: Global, drives: usize, stacks: S) -> Option<TapeServer<S>>
         requires some { 1 ≤ drives }
-        requires few { drives ≤ 64 }
+        requires few { drives ≤ DRIVE_LIMIT }
         requires enough { S.drives stacks ≤ drives }
         ensures { IfSome result (λ s. s ≡ stacks) }
     {
