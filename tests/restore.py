@@ -113,7 +113,13 @@ class Site(NamedTuple):
     address: str
 
     def read(self, *more: str, out: str = "out", **streams: int) -> Ended:
-        return read(self.p, self.address, *more, out=out, **streams)
+        """Reads, once nobody has the drive: a run that stopped at a foreign reel has it until the server has seen its end."""
+        until = time.monotonic() + GUARD_SECONDS
+        while (got := read(self.p, self.address, *more, out=out, **streams)).told == f"rdump: {self.address}: open refused with E16\n":
+            if time.monotonic() > until:
+                break
+            time.sleep(0.01)
+        return got
 
     def reels(self, name: str, stack: dict[str, bytes], taken: dict[str, bytes]) -> None:
         """The stack and the bin have these reels."""
