@@ -518,9 +518,27 @@ def dates(p: Programs) -> None:
     model = Model(Reel("r1", 4096))
     got = p.dump(model.address, "--update", stdout=full, date=str(DAY_BEFORE))
     check("nothing can be printed", got.status == ABNORMAL and p.text("dumpdates") == ENTRY, got)
+    model.stop()
+    p.file("payload", PAYLOAD)
+    model = Model(Reel("r1", 3100), Reel("r2", 3100))
+    got = p.dump(model.address, stdout=full)
+    check("a line that can't be printed: no volume after it", got.status == ABNORMAL and model.logs == [requests_of(1, 0, BLOCKS)], got, model.logs)
     os.close(full)
     model.stop()
     os.remove(p.folder / "dumpdates")
+
+
+def told_at_once(p: Programs) -> None:
+    """The line of a volume is there before the next one is begun: its first request is answered once the line was read."""
+    p.file("payload", PAYLOAD)
+    read, late = threading.Event(), []
+    model = Model(Reel("r1", 3100), Reel("r2", 3100), acts={len(requests_of(1, 0, BLOCKS)) + 1: lambda: late.append(not read.wait(GUARD_SECONDS / 4))})
+    with subprocess.Popen([p.rdump, *p.dump_words(model.address)], cwd=p.folder, stdin=subprocess.DEVNULL, stdout=subprocess.PIPE) as client:
+        first = client.stdout.readline().decode()
+        read.set()
+        rest, _ = client.communicate(timeout=GUARD_SECONDS)
+    check("a line at once", (first + rest.decode(), client.returncode, late) == (TWO_VOLUMES, DONE, [False]), first, rest, late)
+    model.stop()
 
 
 def retries(p: Programs) -> None:
@@ -662,8 +680,11 @@ def servers(p: Programs) -> None:
         (("--listen", "127.0.0.1:0", "--connections", "x"), "--connections"),
         (("--listen", "127.0.0.1:0", "--capacity", "9223372036854775808"), "--capacity"),
         (("--stdio", "/dev/st0=folder"), "/dev/st0=folder"),
+        (("--stdio", "--bin", "bin", *(f"/dev/st{n}=st{n}" for n in range(65))), "'/dev/st64=st64'"),
+        (("--stdio", "--bin", "bin", "/dev/st0=st0", "st1"), "'st1'"),
+        (("--stdio", "--bin", "bin", "/dev/st0=st0", "/dev/st1=st1", "/dev/st0=other"), "'/dev/st0=other'"),
     ):
-        fails(f"rmtd {' '.join(words)}", p.run(*words, program=p.rmtd), fault)
+        fails(f"rmtd {' '.join(words)[:80]}", p.run(*words, program=p.rmtd), fault)
     fails("no address", p.run("--listen", "nowhere", program=p.rmtd), "nowhere")
     with open("/dev/full", "wb") as full:
         got = p.run("--listen", "127.0.0.1:0", program=p.rmtd, stdout=full)
@@ -801,7 +822,7 @@ def main() -> int:
     parser.add_argument("rmtd", nargs="?", default=str(CRATES / "rmtd/out/rmtd"))
     parser.add_argument("rdump", nargs="?", default=str(CRATES / "rdump/out/rdump"))
     asked = parser.parse_args()
-    for part in (dumps, greatest, payloads, memory, progress, dates, retries, startup, servers, operations, reads):
+    for part in (dumps, greatest, payloads, memory, progress, dates, told_at_once, retries, startup, servers, operations, reads):
         with tempfile.TemporaryDirectory() as folder:
             part(Programs(os.path.abspath(asked.rmtd), os.path.abspath(asked.rdump), Path(folder)))
     return ended()

@@ -145,6 +145,7 @@ def words(rsim: Rsim) -> None:
     for word in ("--version", "-V"):
         same(f"the word {word}", rsim.run(word), printed(f"rsim {VERSION}\n".encode(), DONE))
     same("the word of a file in this folder", rsim.run(rsim.file.name), outcome(good))
+    check("the file stays as it is", rsim.file.read_bytes() == good)
 
 
 def refused(got: Ended) -> bool:

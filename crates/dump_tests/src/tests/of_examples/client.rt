@@ -1,7 +1,7 @@
 //! The client of a dump, over a tape in memory.
 
-use dump_client::{Client, ListBlocks, Run, State};
-use example_client::{Server, dump};
+use dump_client::{AttemptFault, Client, ListBlocks, Run, State};
+use example_client::{Server, Stopped, dump};
 use std::alloc::{AllocError, Global};
 
 /// How the requests of a volume end: with both blocks and all after them.
@@ -28,6 +28,16 @@ impl Server for Tape {
     fn answer(&mut self, request: &[u8], reply: &mut Vec<u8>) -> Result<(), AllocError> {
         self.heard.extend_from_slice(request)?;
         reply.extend_from_slice(reply_to(request))
+    }
+}
+
+/// A server that refuses each request.
+#[derive(Drop)]
+struct Refusing;
+
+impl Server for Refusing {
+    fn answer(&mut self, _: &[u8], reply: &mut Vec<u8>) -> Result<(), AllocError> {
+        reply.extend_from_slice(b"E5\nInput/output error\n")
     }
 }
 
@@ -58,4 +68,18 @@ fn dump_is_met(alloc: Global, client: &mut Client<ListBlocks>) -> bool {
 fn a_dump_is_written_and_counted(rt: HostRuntime) {
     let mut client = client_of(rt.alloc()).expect(&rt, "a client");
     assert!(rt; dump_is_met(rt.alloc(), &mut client));
+}
+
+/// Whether a dump that is refused stops with the cause, and leaves it to the operator whether it goes on: so does the next one.
+fn refusal_is_met(alloc: Global, client: &mut Client<ListBlocks>) -> bool {
+    dump(alloc, client, &mut Refusing) == Err(Stopped::Failed(AttemptFault::Refused(5)))
+        && client.state() == State::Asking
+        && dump(alloc, client, &mut Refusing) == Err(Stopped::NotUnderWay)
+        && client.state() == State::Asking
+}
+
+#[test]
+fn a_dump_that_is_refused_stops(rt: HostRuntime) {
+    let mut client = client_of(rt.alloc()).expect(&rt, "a client");
+    assert!(rt; refusal_is_met(rt.alloc(), &mut client));
 }

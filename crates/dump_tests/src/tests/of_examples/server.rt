@@ -1,8 +1,11 @@
 //! The server of a tape that keeps nothing.
+ghost use Rattle.std.specs.Prelude.{[]};
+ghost use Rattle.rmt_wire.specs.RequestReader.{Unread};
 
 use example_server::{Stop, serve};
-use rmt_wire::{Counted, RequestReader, StreamFault, WireFault};
+use rmt_wire::{Counted, OutputFault, RequestReader, StreamFault, WireFault};
 use std::alloc::Global;
+use std::io::{self, ErrorKind, Read, Write};
 
 /// What is served, how the server ends at it, and what it writes.
 type Row = (&'static [u8], Result<(), Stop>, &'static [u8]);
@@ -48,4 +51,76 @@ fn each_request_has_one_reply(rt: HostRuntime) {
     for row in &ROWS {
         assert!(rt; row_is_met(rt.alloc(), row));
     }
+}
+
+/// A stream that ends, and goes on after that: a request, the end, and requests again.
+#[derive(Drop)]
+struct Resumed {
+    reads: u8,
+}
+
+impl Read for Resumed {
+    fn read(&mut self, buf: &mut [u8]) -> io::Result<usize> {
+        self.reads = self.reads.saturating_add(1);
+        if self.reads == 2 || buf.len() < 2 {
+            return Ok(0);
+        }
+        buf[..2].copy_from_slice(b"C\n");
+        Ok(2)
+    }
+}
+
+/// A stream that fails its first write, and takes each after it.
+#[derive(Drop)]
+struct Recovered {
+    writes: u8,
+}
+
+impl Write for Recovered {
+    fn write(&mut self, buf: &[u8]) -> io::Result<usize> {
+        self.writes = self.writes.saturating_add(1);
+        if self.writes == 1 {
+            return Err(ErrorKind::BrokenPipe.into());
+        }
+        Ok(buf.len())
+    }
+
+    fn flush(&mut self) -> io::Result<()> {
+        Ok(())
+    }
+}
+
+/// Whether the server ends at the end of its stream, and reads no more.
+fn end_is_met(alloc: Global, requests: &mut RequestReader) -> bool
+    requires { Unread requests.old [] }
+{
+    let mut input = Counted::new(Resumed { reads: 0 });
+    let mut output = Counted::new(Vec::new(alloc));
+    let ended = serve(requests, &mut input, &mut output);
+    ended == Ok(())
+        && input.into_inner().reads == 2
+        && output.into_inner().as_slice() == b"A0\n".as_slice()
+}
+
+/// Whether the server stops at a write that failed, and writes no more.
+fn failure_is_met(requests: &mut RequestReader) -> bool
+    requires { Unread requests.old [] }
+{
+    let bytes: &[u8] = b"C\nC\n";
+    let mut input = Counted::new(bytes);
+    let mut output = Counted::new(Recovered { writes: 0 });
+    let ended = serve(requests, &mut input, &mut output);
+    ended == Err(Stop::Replies(OutputFault)) && output.into_inner().writes == 1
+}
+
+#[test]
+fn reads_no_more_after_the_end(rt: HostRuntime) {
+    let mut requests = RequestReader::new(rt.alloc()).expect(&rt, "a reader");
+    assert!(rt; end_is_met(rt.alloc(), &mut requests));
+}
+
+#[test]
+fn writes_no_more_after_a_failed_write(rt: HostRuntime) {
+    let mut requests = RequestReader::new(rt.alloc()).expect(&rt, "a reader");
+    assert!(rt; failure_is_met(&mut requests));
 }
