@@ -15,7 +15,7 @@ SBIN = $(DESTDIR)$(PREFIX)/sbin
 BIN = $(DESTDIR)$(PREFIX)/bin
 MAN = $(DESTDIR)$(PREFIX)/share/man
 
-.PHONY: help build run try test bench install uninstall clean kit
+.PHONY: help build run try test edits bench install uninstall clean kit
 .NOTPARALLEL:
 
 help: ## list these words
@@ -41,6 +41,9 @@ test: kit ## the gate: each proof from nothing, then the built programs from out
 	test -x $(SERVER) -a -x $(CLIENT) -a -x $(SIMULATOR) || $(MAKE) build
 	python3 tests/outside.py --minutes $(MINUTES) $(SERVER) $(CLIENT) $(SIMULATOR)
 	@cat $(MINUTES)
+
+edits: kit ## try the further edits, wrong bodies that the gate does not try: make edits, or make edits CRATE=tape
+	@python3 tests/further.py $(CRATE)
 
 bench: build ## long streams, reels in folders, dumps beside a floor, a long dumpdates file, long schedules, and bytes in pieces; it ends with a table of ratios
 	@python3 tests/build.py feed

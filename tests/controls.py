@@ -1,17 +1,17 @@
 #!/usr/bin/env python3
-"""Tells which must-fail edits show the contract: those that have a control.
+"""Tells which edits show the contract: those that have a control.
 
     controls.py [CRATE..]
 
 That an edit is refused shows a contract only if a right body in the same place is proved with the same proof files. Such a body is the edit's
-control: crates/CRATE/must-fail/NAME.control.md beside NAME.edit, with the same lines `file:` and `old:`, and another line `new:`. This
-applies each control to a copy of its crate and checks that it is proved. It prints for each edit
+control: NAME.control.md beside NAME.edit, in crates/CRATE/must-fail/ or crates/CRATE/further/, with the same lines `file:` and `old:`, and another
+line `new:`. This applies each control to a copy of its crate and checks that it is proved. It prints for each edit
 
     with control        the control is proved, so what refuses the edit is what the edit does
     refuses the text    there is no control: the edit may be refused for its words alone
 
-It fails where a control is not proved, or stands at another place than its edit. The gate tries the edits themselves (`rt must-fail`), and not
-the controls. The check of the copy begins with what the last check of the crate kept. A crate's controls are tried all at once, since functions
+It fails where a control is not proved, or stands at another place than its edit. The gate tries the edits of must-fail/ themselves, and further.py
+those of further/. The check of the copy begins with what the last check of the crate kept. A crate's controls are tried all at once, since functions
 are proved one by one. Where that is refused, the log names the functions that are proved and those that are not: a control whose functions are all
 proved there is proved, and each of the others is tried alone. So it takes a minute for a crate whose controls are all proved, and a check more for
 each one that may not be.
@@ -28,6 +28,8 @@ from pathlib import Path
 from typing import Collection, NamedTuple
 
 TOP = Path(__file__).resolve().parent.parent
+# Where the edits of a crate stand: those that the gate tries, and those that further.py tries.
+FOLDERS = ("must-fail", "further")
 # What a log says of a function.
 PROVED, REFUSED, WAITS = "proved", "refused", "waits"
 
@@ -82,8 +84,21 @@ def copy_of(crate: str, room: Path) -> Path:
     (room / "crates.txt").write_text("\n".join(lines) + "\n", encoding="utf-8")
     shutil.copy(TOP / "HANDLES", room / "HANDLES")
     for other in kept:
-        shutil.copytree(TOP / "crates" / other, room / "crates" / other, ignore=shutil.ignore_patterns("incremental", "must-fail"))
+        shutil.copytree(TOP / "crates" / other, room / "crates" / other, ignore=shutil.ignore_patterns("incremental", *FOLDERS))
     return Path(shutil.copytree(TOP / "crates" / crate, room / "crates" / crate))
+
+
+def applied(folder: Path, changes: list[Pair], texts: dict[str, str] | None = None) -> dict[str, str]:
+    """The files of a crate that changes leave otherwise, each change made to what those before it left; on top of these texts, if any. ValueError says
+    why one can't be made."""
+    found = dict(texts or {})
+    for it in changes:
+        path = folder / it.file
+        text = found.get(it.file) or (path.read_text(encoding="utf-8") if path.is_file() else "")
+        if text.count(it.old) != 1:
+            raise ValueError(f"`{it.old}` is in {it.file} {text.count(it.old)} times")
+        found[it.file] = text.replace(it.old, it.new)
+    return found
 
 
 class Checked(NamedTuple):
@@ -95,13 +110,14 @@ class Checked(NamedTuple):
 
 def checked(folder: Path, changes: list[Pair]) -> Checked:
     """Checks the crate with these changes. The files are as they were afterwards."""
-    before = {it.file: (folder / it.file).read_text(encoding="utf-8") for it in changes}
     try:
-        for it in changes:
-            text = (folder / it.file).read_text(encoding="utf-8")
-            if text.count(it.old) != 1:
-                return Checked(f"`{it.old}` is in {it.file} {text.count(it.old)} times", "")
-            (folder / it.file).write_text(text.replace(it.old, it.new), encoding="utf-8")
+        texts = applied(folder, changes)
+    except ValueError as why:
+        return Checked(str(why), "")
+    before = {name: (folder / name).read_text(encoding="utf-8") for name in texts}
+    try:
+        for name, text in texts.items():
+            (folder / name).write_text(text, encoding="utf-8")
         ran = subprocess.run(["rt", "check"], cwd=folder, capture_output=True, text=True, check=False)
     finally:
         for name, text in before.items():
@@ -142,19 +158,29 @@ def function_at(text: str, old: str) -> str:
     return heads[-1][1] if is_inside else ""
 
 
+def is_of(name: str, function: str) -> bool:
+    """Whether a log's name is that of a function, or of a closure in it: that one has the function's name after the part `fn`."""
+    parts = name.split("::")
+    return parts[-1] == function or f"fn::{function}::" in name
+
+
 def names_of(found: Collection[str], module: str, function: str) -> set[str]:
     """Those of a log's names that are a function's, or of closures in it. A method is named by its type, which may lie in another module than it:
     where the module has none of that name, all of the crate count."""
-    here = {it for it in found if function in it.split("::")[1:]}
+    here = {it for it in found if is_of(it, function)}
     return {it for it in here if it.startswith(f"{module}::")} or here
 
 
 def places_of(crate: str, folder: Path, changes: list[Pair]) -> list[tuple[str, str]]:
-    """The module and the function of each change, and of each function that it adds. A pair that puts back the same text changes nothing."""
+    """The module and the function of each change, and of each function that it adds, in the text that the changes before it left. A pair that puts
+    back the same text changes nothing."""
     found: list[tuple[str, str]] = []
-    for it in (it for it in changes if it.old != it.new):
-        named = [function_at((folder / it.file).read_text(encoding="utf-8"), it.old), *re.findall(r"\bfn (\w+)", it.new)]
+    texts: dict[str, str] = {}
+    for it in changes:
+        text = texts.get(it.file) or (folder / it.file).read_text(encoding="utf-8")
+        named = [function_at(text, it.old), *re.findall(r"\bfn (\w+)", it.new)] if it.old != it.new else []
         found += [(module_of(crate, it.file), name) for name in dict.fromkeys(named)]
+        texts[it.file] = text.replace(it.old, it.new)
     return found
 
 
@@ -202,9 +228,10 @@ def why_not_each(crate: str, controls: dict[str, list[Pair]]) -> dict[str, str]:
 
 def try_crate(crate: str) -> int:
     """Tries the controls of a crate, tells of each edit, and returns how many controls failed."""
-    folder = TOP / "crates" / crate / "must-fail"
-    edits = {it.stem: pairs(it.read_text(encoding="utf-8")) for it in sorted(folder.glob("*.edit"))}
-    controls = {it.name.removesuffix(".control.md"): pairs(it.read_text(encoding="utf-8")) for it in sorted(folder.glob("*.control.md"))}
+    folders = [TOP / "crates" / crate / it for it in FOLDERS]
+    edits = {it.stem: pairs(it.read_text(encoding="utf-8")) for folder in folders for it in sorted(folder.glob("*.edit"))}
+    files = [it for folder in folders for it in sorted(folder.glob("*.control.md"))]
+    controls = {it.name.removesuffix(".control.md"): pairs(it.read_text(encoding="utf-8")) for it in files}
     beside = {name: it for name, it in controls.items() if is_beside(it, edits.get(name, []))}
     why = {name: "it stands at another place than its edit" for name in controls} | why_not_each(crate, beside)
     for name in sorted(edits | controls):
@@ -215,7 +242,7 @@ def try_crate(crate: str) -> int:
 
 def main() -> int:
     """Tries the controls of the crates that are named, or of all, and fails where one does not stand."""
-    known = sorted(it.parent.name for it in (TOP / "crates").glob("*/must-fail"))
+    known = sorted({it.parent.name for name in FOLDERS for it in (TOP / "crates").glob(f"*/{name}")})
     wrong = [it for it in sys.argv[1:] if it not in known]
     if wrong:
         print(f"no edits: {' '.join(wrong)}")

@@ -1,5 +1,5 @@
 #!/usr/bin/env python3
-"""Runs the gate, `rt ci`, and writes how long each crate's proof, tests and edits took.
+"""Runs the gate, `rt ci`, and writes how long each crate's proof, tests and edits (those of must-fail/) took.
 
     gate.py [--minutes FILE]
 

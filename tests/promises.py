@@ -1,8 +1,9 @@
 #!/usr/bin/env python3
 """Checks docs/PROMISES.md against the crates. Each line with a name in bold tells of a call or a law of the crate of its section, it or a line
 below it of clauses of its contract, and each `refused` of an edit that is there. Each public call with a contract, each of its clauses, and each
-edit is named. The section "Edits without a control" names just the edits beside which no NAME.control.md stands. No line has more
-than 120 characters.
+edit is named, whether the gate tries it (must-fail/) or further.py (further/). The section "Edits without a control" names just the edits beside
+which no NAME.control.md stands. Each edit and control can be applied: what it takes away stands in its file once. No line has more than 120
+characters.
 
     promises.py
     promises.py --without-controls
@@ -19,6 +20,8 @@ from functools import lru_cache
 from itertools import groupby
 from pathlib import Path
 from typing import Iterator, NamedTuple
+
+from controls import FOLDERS, applied, pairs
 
 TOP = Path(__file__).resolve().parent.parent
 PROMISES = TOP / "docs" / "PROMISES.md"
@@ -49,13 +52,31 @@ def libraries() -> list[str]:
     return [it for it in names if not it.endswith("_tests") and (TOP / "crates" / it / "src" / "lib.rt").exists()]
 
 
-def edits() -> set[str]:
-    return {f"{it.parent.parent.name}/{it.stem}" for it in TOP.glob("crates/*/must-fail/*.edit")}
+def files(ending: str) -> list[Path]:
+    """The edits or the controls of all crates, by the end of their names."""
+    return [it for folder in FOLDERS for it in sorted(TOP.glob(f"crates/*/{folder}/*{ending}"))]
+
+
+def edits() -> dict[str, Path]:
+    """The file of each edit, by the name that the document has for it."""
+    return {f"{it.parent.parent.name}/{it.stem}": it for it in files(".edit")}
+
+
+def faults_of_edits() -> list[str]:
+    """What is wrong with edits and controls: two edits of a crate have one name, or one can't be applied to its file."""
+    known = edits()
+    wrong = [f"{it.parent.parent.name} has two edits {it.stem}" for it in files(".edit") if it not in known.values()]
+    for it in files(".edit") + files(".control.md"):
+        try:
+            applied(it.parent.parent, pairs(it.read_text()))
+        except ValueError as why:
+            wrong.append(f"{it.relative_to(TOP)} can't be applied: {why}")
+    return wrong
 
 
 def without_controls() -> set[str]:
     """The edits beside which no control stands."""
-    return {it for it in edits() if not (TOP / "crates" / it.replace("/", "/must-fail/")).with_suffix(".control.md").exists()}
+    return {name for name, it in edits().items() if not it.with_suffix(".control.md").exists()}
 
 
 def told_without_controls(lines: list[str]) -> set[str]:
@@ -210,7 +231,7 @@ def main() -> int:
     if sys.argv[1:] == ["--without-controls"]:
         print(section_of(without_controls()))
         return 0
-    there, told, wrong = edits(), set[str](), []
+    there, told, wrong = set(edits()), set[str](), faults_of_edits()
     sections: dict[str, Section] = {}
     section: Section | None = None
     for number, line in enumerate(PROMISES.read_text().split("\n"), 1):
