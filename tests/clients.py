@@ -42,7 +42,7 @@ GUARD_SECONDS = 60
 LOCK_GUARD_SECONDS = 15
 
 # For so long a call of the system is held up.
-DELAY_SECONDS = 3
+DELAY_SECONDS = 6
 
 # A folder on another file system than that of the others.
 MEMORY = "/dev/shm"
@@ -206,7 +206,8 @@ def volumes(program: str) -> None:
                 shop.reel(name)
             top = grow(shop.folder)
             change = shop.folder / "change"
-            shop.script(change, rf"printf 'O{DEVICE}\n0\nI6\n1\nC\n' | {shop.shell} > {shop.folder}/changed")
+            # Where a reel has ended tar sends no close, and its server has the file's lock until it has seen the end.
+            shop.script(change, rf"flock {shop.stack}/r1 true; printf 'O{DEVICE}\n0\nI6\n1\nC\n' | {shop.shell} > {shop.folder}/changed")
             words = lambda *more: tar_words(shop, "-M", "-F", str(change), *more)
             one_after_the_other(f"tar over two reels, {title}", shop, words, top, length)
 
@@ -484,6 +485,11 @@ def has_open(process: int | None, path: Path) -> bool:
         return False
     handles = Path(f"/proc/{process}/fd")
     return any(os.readlink(it) == str(path) for it in handles.iterdir())
+
+
+def sleeps(pid: int) -> bool:
+    """Whether the first thread of a process waits for something in the system."""
+    return Path(f"/proc/{pid}/stat").read_text().rpartition(") ")[2][0] == "S"
 
 
 def comes_true(holds: Callable[[], bool]) -> bool:

@@ -428,8 +428,10 @@ def peak(p: Programs, size: int) -> int:
     p.file("payload", bytes(size))
     blocks = -(-size // 65536)
     seen: list[int] = []
+    there = threading.Event()
 
     def look() -> None:
+        there.wait(GUARD_SECONDS)
         text = Path(f"/proc/{client.pid}/status").read_text()
         seen.append(int(re.search(r"VmHWM:\s+(\d+) kB", text)[1]))
 
@@ -437,6 +439,7 @@ def peak(p: Programs, size: int) -> int:
     model = Model(Reel("r1", size + 8 * blocks + 65536), acts={blocks + 8: look})
     words = ["--to", model.address, "--device", DEVICE, "--fs", "/usr", "--level", "0", "--payload", "payload", "--block", "65536"]
     with subprocess.Popen((p.rdump, "dump", *words, "--dumpdates", "none"), cwd=p.folder, stdin=subprocess.DEVNULL, stdout=subprocess.PIPE) as client:
+        there.set()
         printed = client.communicate(timeout=GUARD_SECONDS)[0].decode()
     wanted = f"volume 1: {blocks} blocks from 0\ndump complete: 1 volumes, {blocks} blocks\n"
     check(f"a payload of {size} bytes in large blocks", (printed, client.returncode) == (wanted, DONE), printed, client.returncode)
@@ -532,7 +535,7 @@ def told_at_once(p: Programs) -> None:
     """The line of a volume is there before the next one is begun: its first request is answered once the line was read."""
     p.file("payload", PAYLOAD)
     read, late = threading.Event(), []
-    model = Model(Reel("r1", 3100), Reel("r2", 3100), acts={len(requests_of(1, 0, BLOCKS)) + 1: lambda: late.append(not read.wait(GUARD_SECONDS / 4))})
+    model = Model(Reel("r1", 3100), Reel("r2", 3100), acts={len(requests_of(1, 0, BLOCKS)) + 1: lambda: late.append(not read.wait(GUARD_SECONDS / 2))})
     with subprocess.Popen([p.rdump, *p.dump_words(model.address)], cwd=p.folder, stdin=subprocess.DEVNULL, stdout=subprocess.PIPE) as client:
         first = client.stdout.readline().decode()
         read.set()

@@ -29,7 +29,7 @@ from pathlib import Path
 from typing import Callable, Iterator, NamedTuple
 
 from checks import check, ended
-from clients import BAD_DESCRIPTOR, CLOSE, DONE_ONE, IO_ERROR, NO_REEL, NOTHING, OFFLINE, REWIND, away, comes_true, opened, site, talking, write
+from clients import BAD_DESCRIPTOR, CLOSE, DONE_ONE, IO_ERROR, NO_REEL, NOTHING, OFFLINE, REWIND, away, comes_true, opened, site, sleeps, talking, write
 from clients import DONE as TAKEN
 from dump import Model, Reel
 from lawful import DEVICE_FAULT, History, empty, reels_of
@@ -39,7 +39,7 @@ from sites import ABNORMAL, BLOCK, CRATES, DATED, DAY, DEVICE, DONE, FAILED, GUA
 from sites import KEPT, Ended, Left, Programs, course, drive_words, dump_site, dumped, folders, held, kept_words, left
 
 # A server that is to end is waited for so long.
-ENDS_SECONDS = 10
+ENDS_SECONDS = GUARD_SECONDS
 
 ERRORS = {"EIO": 5, "ENOSPC": 28, "EDQUOT": 122, "EROFS": 30, "EMFILE": 24, "EINTR": 4}
 # Errors that one call alone has: another file system, and a lock that another process has.
@@ -369,8 +369,6 @@ def no_threads(p: Programs) -> None:
             check(f"{title}: it ends after so many connections", it.ended() == DONE)
 
 
-# So long after it has asked for a connection a server waits for one in the system.
-WAITS_SECONDS = 0.2
 # A server that has no descriptor for a connection waits a tenth of a second before it tries again. So often at most it tries in a second.
 TRIES_IN_A_SECOND = 50
 # So many descriptors has a server whose table is small.
@@ -387,14 +385,15 @@ def full_table(p: Programs) -> None:
             stream.sendall(NOTHING)
         check(f"{title}: it is full", comes_true(lambda: len(it.files()) == SMALL_TABLE), it.files())
         tries(it, title)
+        # A session that ends gives its two files back one after the other: a connection that is accepted between them would be closed.
+        it.limit_files(1024)
         answers = [answered(stream) for stream in streams]
         check(f"{title}: each is served once there is a place", answers == [BAD_DESCRIPTOR] * SMALL_TABLE, answers)
         check(f"{title}: it ends after so many connections", it.ended() == DONE)
     title = "a full table of files, at the drive in memory"
     with listening(p, "", "--connections", "3") as it:
         # The accept that waits has its descriptor already.
-        check(f"{title}: it waits for a connection", comes_true(lambda: it.accepts() == 1))
-        time.sleep(WAITS_SECONDS)
+        check(f"{title}: it waits for a connection", comes_true(lambda: it.accepts() == 1 and sleeps(it.process.pid)))
         it.limit_files(max(it.files()) + 1)
         check(f"{title}: the first is served", it.asked(NOTHING) == BAD_DESCRIPTOR)
         streams = [it.connect() for _ in range(2)]
@@ -418,10 +417,10 @@ def tries(it: Listener, title: str) -> None:
     """It runs, tries again, and not without a pause."""
     before = it.accepts()
     check(f"{title}: it tries again", comes_true(lambda: it.accepts() > before + 1))
-    before = it.accepts()
+    before, began = it.accepts(), time.monotonic()
     time.sleep(1)
-    made = it.accepts() - before
-    check(f"{title}: it tries {TRIES_IN_A_SECOND} times a second at most", made <= TRIES_IN_A_SECOND and it.process.poll() is None, made)
+    made, seconds = it.accepts() - before, time.monotonic() - began
+    check(f"{title}: it tries {TRIES_IN_A_SECOND} times a second at most", made <= TRIES_IN_A_SECOND * seconds and it.process.poll() is None, made, seconds)
 
 
 # The errors of an accept by their texts: those after which it is tried again, and those by which a listener is broken for good.
@@ -695,7 +694,7 @@ def unremoved(p: Programs, last: int) -> None:
 NOWHERE = "127.0.0.1:1"
 # Calls before which one of two dumps with one file is stopped while the other one begins.
 MEETING = ("open", "statx", "flock", "write", "fsync", "rename")
-# So long the other one may take to begin, or to be refused.
+# So long the other one may take to begin or to be refused, where it does not wait for the stopped one.
 MEETS_SECONDS = 1.5
 
 
@@ -731,9 +730,9 @@ def meeting(p: Programs, rule: str) -> str:
         with guarded(subprocess.Popen(words, env=p.shim.environment(rule), **streams)) as stopped:
             os.waitid(os.P_PID, stopped.pid, os.WSTOPPED | os.WEXITED | os.WNOWAIT)
             with guarded(subprocess.Popen(words, **streams)) as other:
-                waits(lambda: began.is_set() or other.poll() is not None)
+                waits(lambda: began.is_set() or other.poll() is not None, MEETS_SECONDS)
                 os.kill(stopped.pid, signal.SIGCONT)
-                waits(lambda: stopped.poll() is not None)
+                waits(lambda: stopped.poll() is not None or other.poll() is not None, GUARD_SECONDS / 2)
                 leaves.set()
                 ends = [(it.stdout.read(), it.stderr.read(), it.wait()) for it in (stopped, other)]
         model.stop()
@@ -745,9 +744,9 @@ def meeting(p: Programs, rule: str) -> str:
         return dumped[0] if len(dumped) == 1 else "neither" if not dumped else "both"
 
 
-def waits(comes: Callable[[], bool]) -> None:
-    """Waits until this is so, or for a while."""
-    deadline = time.monotonic() + MEETS_SECONDS
+def waits(comes: Callable[[], bool], seconds: float) -> None:
+    """Waits until this is so, or for so long."""
+    deadline = time.monotonic() + seconds
     while not comes() and time.monotonic() < deadline:
         time.sleep(0.005)
 

@@ -12,7 +12,7 @@ from typing import IO, Any, Iterator, NamedTuple, Sequence
 from conversations import Conversation
 
 # A program that neither ends nor answers is killed after this time, so that the checks end.
-GUARD_SECONDS = 30
+GUARD_SECONDS = 180
 
 
 class Ended(NamedTuple):

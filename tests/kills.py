@@ -35,6 +35,8 @@ from sites import files_of
 
 CRATES = Path(__file__).resolve().parent.parent / "crates"
 DEVICE = "/dev/st0"
+# Where no server listens.
+NOWHERE = ("127.0.0.1", 1)
 GUARD_SECONDS = 60
 
 BLOCK = 64
@@ -107,7 +109,7 @@ class Served:
             self.stack.joinpath(name).touch()
         self.words = (program, "--listen", "127.0.0.1:0", "--capacity", str(CAPACITY), "--bin", str(self.bin), f"{DEVICE}={self.stack}")
         self.process: subprocess.Popen[bytes] | None = None
-        self.address = ("127.0.0.1", 0)
+        self.address = NOWHERE
 
     def start(self) -> None:
         """Starts it where it does not run."""
@@ -123,7 +125,8 @@ class Served:
         return files_of(self.stack, self.bin)
 
     def kill(self) -> None:
-        """Kills it, and returns once it is gone."""
+        """Kills it, and returns once it is gone. Its port may be another's then."""
+        self.address = NOWHERE
         if self.process:
             self.process.kill()
             self.process.wait()

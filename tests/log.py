@@ -24,7 +24,7 @@ from pathlib import Path
 from typing import IO, Iterator
 
 from checks import check, ended
-from clients import access, as_nobody, site
+from clients import access, as_nobody, site, sleeps
 from model_rmtd import images
 from threads import (
     CLOSE,
@@ -267,6 +267,7 @@ def failed_accepts(rmtd: str) -> None:
         files = len(os.listdir(f"/proc/{server.process.pid}/fd"))
         _, most = resource.prlimit(server.process.pid, resource.RLIMIT_NOFILE)
         for title in ("once", "and once again"):
+            check(f"accept failed, {title}: it waits for a connection", soon(lambda: sleeps(server.process.pid)))
             resource.prlimit(server.process.pid, resource.RLIMIT_NOFILE, (files, most))
             talk = Talk(server.address)
             wanted = 1 if title == "once" else 2

@@ -646,7 +646,9 @@ def wire_fails(rmtd: str, program: str) -> None:
         for device, number in ((DEVICE, 6), ("/dev/st9", 2)):
             got = rdump.ls("--to", address, "--device", device)
             check(f"{device} is refused", got == Ended([], f"rdump: {address}: open refused with E{number}\n", FAILED), got)
-    with rdump_in(program) as rdump:
+    with rdump_in(program) as rdump, socket.socket() as unheard:
+        unheard.bind(("127.0.0.1", 0))
+        address = "127.0.0.1:%d" % unheard.getsockname()[1]
         got = rdump.ls("--to", address, "--device", DEVICE)
         check("no server", got.lines == [] and got.status == FAILED and f"rdump: {address}: " in got.told, got)
 

@@ -63,7 +63,8 @@ ENVIRONMENT = {"PATH": f"/usr/local/sbin:/usr/local/bin:{SYSTEM_PATH}", "HOME": 
 USED = "A server that is killed"
 USER = "ann"
 USER_ENVIRONMENT = {"PATH": "/usr/local/bin:/usr/bin:/bin", "HOME": f"/home/{USER}", "USER": USER, "LANG": "C.UTF-8"}
-PAUSE = "sleep 1\n"
+# A second, and until a server listens at port 4711.
+PAUSE = "sleep 1\nuntil grep -q ':1267 00000000:0000 0A' /proc/net/tcp; do sleep 0.1; done\n"
 
 # Recipes that stand in no document: what is installed, and what OPERATING.md says of tar 1.34.
 UNWRITTEN = """\

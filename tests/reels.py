@@ -36,7 +36,7 @@ NAME = "r1"
 PIECES = 10_000
 
 # A server that answers nothing for so long has failed.
-GUARD_SECONDS = 20
+GUARD_SECONDS = 60
 SEED = 14
 
 

@@ -280,14 +280,14 @@ def pauses(p: Programs) -> None:
     for title, address in (("no server", NOWHERE), ("a server that says nothing", silent.address)):
         began = time.monotonic()
         got = p.dump(address, said="yes\n" * 3)
-        check(f"{title}: three seconds for four attempts", 3 <= time.monotonic() - began < 20, time.monotonic() - began)
+        check(f"{title}: three seconds for four attempts", 3 <= time.monotonic() - began < GUARD_SECONDS, time.monotonic() - began)
         check(f"{title}: four attempts", got.output.count("failed: ConnectionEnded") == 4, got)
     silent.stop()
     for failures, least in ((1, 0), (4, 3)):
         model = Model(Reel("r1", 3100), Reel("r2", 3100), said={it: b"E5\nbroken\n" for it in range(1, failures + 1)})
         began = time.monotonic()
         check(f"{failures} failures that are answered", p.dump(model.address, said="yes\n" * failures).output.endswith(TWO_VOLUMES))
-        check(f"{failures} failures that are answered: {least} seconds", least <= time.monotonic() - began < 20, time.monotonic() - began)
+        check(f"{failures} failures that are answered: {least} seconds", least <= time.monotonic() - began < GUARD_SECONDS, time.monotonic() - began)
         model.stop()
 
 
@@ -443,7 +443,7 @@ def hangs_up(p: Programs) -> None:
     with subprocess.Popen((p.rdump, "dump", *listed), cwd=p.folder, **pipes) as client:
         lines = [client.stdout.readline().decode() for _ in range(2)]
         check("asked", lines == ["volume 1 failed: Refused 5\n", "retry?\n"], lines)
-        check("the server sees the end", server.left.wait(10) and client.poll() is None)
+        check("the server sees the end", server.left.wait(GUARD_SECONDS) and client.poll() is None)
         rest, _ = client.communicate(b"no\n", timeout=GUARD_SECONDS)
         check("abandoned", (rest, client.returncode) == (b"dump abandoned\n", ABNORMAL), rest, client.returncode)
     server.stop()
