@@ -3,10 +3,11 @@
 use super::check_row;
 use super::fake::{FakePeer, Replies};
 use super::fixture::DEVICE;
-use rdump_talk::{AfterVolume, ReadFault, VolumeRequest, copy_volume, read_volume};
+use rdump_talk::{AfterVolume, CallFault, ReadFault, VolumeRequest, copy_volume, read_volume};
 use rmt_wire::Counted;
 use std::alloc::Global;
 use std::io::Write;
+use std::test::Fail;
 
 const ALL_SENT: &[u8] = b"O/dev/st0\n0\nI5\n1\nR262144\nR262144\nR262144\nR262144\nC\n";
 
@@ -206,4 +207,19 @@ fn a_fault_is_told(rt: HostRuntime) {
     let mut room = [0; 22];
     let told = write!(room.as_mut_slice(), "{refused}").is_ok();
     assert!(rt; told && room == *b"rewind refused with E5");
+}
+
+/// Why a request has no reply, and what is printed of it.
+static CALL_FAULTS: [(CallFault, &str); 3] = [
+    (CallFault::ConnectionEnded, "the connection ended"),
+    (CallFault::Botched, "no reply by the protocol"),
+    (CallFault::OutOfMemory, "out of memory"),
+];
+
+#[test]
+fn a_fault_of_a_call_is_told(rt: HostRuntime) -> Result<(), Fail> {
+    for (fault, text) in &CALL_FAULTS {
+        assert!(rt; fault.to_string(rt.alloc())?.as_str() == *text);
+    }
+    Ok(())
 }

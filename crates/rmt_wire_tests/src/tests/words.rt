@@ -29,6 +29,8 @@ fn faults_print_their_names(rt: HostRuntime) -> Result<(), Fail> {
     assert!(rt; prints(rt.alloc(), &OutputFault, "Output")?);
     let broken = StreamFault::Broken(WireFault::BadNumber);
     assert!(rt; prints(rt.alloc(), &broken, "Broken: BadNumber")?);
+    assert!(rt; prints(rt.alloc(), &StreamFault::Truncated, "Truncated")?);
+    assert!(rt; prints(rt.alloc(), &StreamFault::Input, "Input")?);
     Ok(())
 }
 

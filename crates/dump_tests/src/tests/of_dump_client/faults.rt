@@ -1,7 +1,9 @@
 //! The names of faults, as they are printed.
 
-use dump_client::AttemptFault;
+use dump_client::{AttemptFault, StartFault};
+use dump_run::SourceFailed;
 use std::alloc::Global;
+use std::fmt::Display;
 use std::test::Fail;
 
 static NAMES: [(AttemptFault, &str); 8] = [
@@ -16,7 +18,7 @@ static NAMES: [(AttemptFault, &str); 8] = [
 ];
 
 /// Whether the fault is printed as this name.
-fn is_named(alloc: Global, fault: AttemptFault, name: &str) -> Result<bool, Fail> {
+fn is_named<F: Display>(alloc: Global, fault: &F, name: &str) -> Result<bool, Fail> {
     let printed = fault.to_string(alloc)?;
     Ok(printed.as_str() == name)
 }
@@ -25,7 +27,15 @@ fn is_named(alloc: Global, fault: AttemptFault, name: &str) -> Result<bool, Fail
 #[test]
 fn names_of_attempt_faults(rt: HostRuntime) -> Result<(), Fail> {
     for (fault, name) in &NAMES {
-        assert!(rt; is_named(rt.alloc(), *fault, name)?, "{name}");
+        assert!(rt; is_named(rt.alloc(), fault, name)?, "{name}");
     }
+    Ok(())
+}
+
+#[test]
+fn names_of_other_faults(rt: HostRuntime) -> Result<(), Fail> {
+    assert!(rt; is_named(rt.alloc(), &StartFault::WrongState, "WrongState")?);
+    assert!(rt; is_named(rt.alloc(), &StartFault::OutOfMemory, "OutOfMemory")?);
+    assert!(rt; is_named(rt.alloc(), &SourceFailed, "SourceFailed")?);
     Ok(())
 }

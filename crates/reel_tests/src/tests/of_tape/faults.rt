@@ -1,6 +1,7 @@
 //! What faults print, and which fault a failure below a reel is.
 
 use std::alloc::{AllocError, Global};
+use std::fmt::Display;
 use std::test::Fail;
 use tape::{MediumFailed, TapeFault};
 
@@ -14,15 +15,16 @@ static NAMES: [(TapeFault, &str); 5] = [
 ];
 
 /// Whether the fault prints that name.
-fn prints(alloc: Global, fault: TapeFault, name: &str) -> Result<bool, AllocError> {
+fn prints<F: Display>(alloc: Global, fault: &F, name: &str) -> Result<bool, AllocError> {
     Ok(fault.to_string(alloc)?.as_str() == name)
 }
 
 #[test]
 fn faults_print_their_names(rt: HostRuntime) -> Result<(), Fail> {
     for (fault, name) in &NAMES {
-        assert!(&rt; prints(rt.alloc(), *fault, name)?);
+        assert!(&rt; prints(rt.alloc(), fault, name)?);
     }
+    assert!(&rt; prints(rt.alloc(), &MediumFailed, "MediumFailed")?);
     Ok(())
 }
 
