@@ -1,9 +1,10 @@
 #!/usr/bin/env python3
 """Checks docs/PROMISES.md against the crates. Each line with a name in bold tells of a call or a law of the crate of its section, it or a line
 below it of clauses of its contract, and each `refused` of an edit that is there. Each public call with a contract, each of its clauses, and each
-edit is named, whether the gate tries it (must-fail/) or further.py (further/). The section "Edits without a control" names just the edits beside
-which no NAME.control.md stands. Each edit and control can be applied: what it takes away stands in its file once. No line has more than 120
-characters.
+edit is named, whether the gate tries it (must-fail/) or further.py (further/). Each call that answers or changes something has an edit, or its line
+says that no other body has its type. The section "Edits without a control" names just the edits beside
+which no NAME.control.md stands. Each edit and control can be applied: what it takes away stands in its file once; and a control changes the same
+places as its edit. No line has more than 120 characters.
 
     promises.py
     promises.py --without-controls
@@ -21,7 +22,7 @@ from itertools import groupby
 from pathlib import Path
 from typing import Iterator, NamedTuple
 
-from controls import FOLDERS, applied, pairs
+from controls import FOLDERS, applied, is_beside, pairs
 
 TOP = Path(__file__).resolve().parent.parent
 PROMISES = TOP / "docs" / "PROMISES.md"
@@ -34,16 +35,19 @@ CALL = re.compile(r"- \*\*(.+?)\*\*(?: \((.+?)\))?(?::|$)")
 CLAUSES = re.compile(r"  - ((?:`\w+`, )*`\w+`):")
 REFUSED = re.compile(r" +- refused: ")
 UNCONTROLLED = "## Edits without a control"
+NO_OTHER = "No other body has its type."
 
 
 class Call(NamedTuple):
-    """A call of a crate, or the trait's part of a type: how it is named, and the names of its clauses."""
+    """A call of a crate, or the trait's part of a type: how it is named, and the names of its clauses. One acts where it has a body, and answers
+    something or changes what it is given: a law does neither."""
 
     heading: str
     method: str
     clauses: frozenset[str]
     public: bool
     has_contract: bool
+    acts: bool
 
 
 @lru_cache
@@ -63,7 +67,7 @@ def edits() -> dict[str, Path]:
 
 
 def faults_of_edits() -> list[str]:
-    """What is wrong with edits and controls: two edits of a crate have one name, or one can't be applied to its file."""
+    """What is wrong with edits and controls: two edits of a crate have one name, one can't be applied to its file, or a control stands elsewhere than its edit."""
     known = edits()
     wrong = [f"{it.parent.parent.name} has two edits {it.stem}" for it in files(".edit") if it not in known.values()]
     for it in files(".edit") + files(".control.md"):
@@ -71,6 +75,10 @@ def faults_of_edits() -> list[str]:
             applied(it.parent.parent, pairs(it.read_text()))
         except ValueError as why:
             wrong.append(f"{it.relative_to(TOP)} can't be applied: {why}")
+    for name, edit in known.items():
+        control = edit.with_suffix(".control.md")
+        if control.exists() and not is_beside(pairs(control.read_text()), pairs(edit.read_text())):
+            wrong.append(f"the control of {name} is no other text at the places of its edit")
     return wrong
 
 
@@ -138,6 +146,23 @@ def contract(lines: list[str]) -> list[str]:
     return names
 
 
+def can_act(text: str) -> bool:
+    """Whether the function whose declaration this text begins with has a body, and answers something or changes what it is given."""
+    head = re.split(r"\b(?:ensures|requires)\b|[{;]", text, maxsplit=1)[0]
+    return ("->" in head or "&mut " in head) and has_body(text)
+
+
+def has_body(text: str) -> bool:
+    """Whether a body follows the clauses of the declaration that this text begins with, and not a semicolon."""
+    depth, within_clause = 0, False
+    for word in re.findall(r"\bensures\b|\brequires\b|[{}();]", text):
+        if depth == 0 and word in "{;" and not within_clause:
+            return word == "{"
+        depth += (word in "({") - (word in ")}")
+        within_clause = word in ("ensures", "requires") or (within_clause and not (word == "}" and depth == 0))
+    return False
+
+
 @lru_cache
 def calls_of(crate: str) -> list[Call]:
     return list(read_calls(crate))
@@ -151,13 +176,13 @@ def read_calls(crate: str) -> Iterator[Call]:
         for i, line in enumerate(lines):
             owner, of_trait = owner_of(line) or (owner, of_trait)
             if found := re.match(r"    ghost (\w+):?", line):
-                yield Call(owner, found[1], frozenset([found[1]]), False, False)
+                yield Call(owner, found[1], frozenset([found[1]]), False, False, False)
             if not (found := re.match(r"(?: {4})?(pub(?:\([^)]*\))? )?(?:const |unsafe )*fn (\w+)", line)):
                 continue
             names = contract(lines[i + 1 :])
             head = owner if " as " in owner else f"{owner}::{found[2]}" if owner else found[2]
             public = (of_trait or found[1] == "pub ") and (owner.split(" ")[0] or found[2]) in shown
-            yield Call(head, found[2], frozenset(names) - {""}, public, bool(names))
+            yield Call(head, found[2], frozenset(names) - {""}, public, bool(names), can_act("\n".join(lines[i:])))
 
 
 @lru_cache
@@ -175,6 +200,8 @@ class Section:
         self.calls = list(calls_of(crate)) if crate in libraries() else []
         self.heading = ""
         self.named: dict[str, set[str]] = {}
+        # The calls that have an edit, or are said to need none.
+        self.shown: set[str] = set()
 
     def traits(self, name: str) -> set[str]:
         """The clauses that a trait's methods have, where a heading is that of the trait or of a type with it."""
@@ -222,6 +249,8 @@ class Section:
             if it.heading not in self.named:
                 wrong.append(f"docs/PROMISES.md does not name {it.heading} of {self.crate}")
                 continue
+            if it.acts and it.heading not in self.shown:
+                wrong.append(f"{it.heading} of {self.crate} has no edit")
             unsaid = it.clauses - self.named[it.heading]
             wrong += [f"docs/PROMISES.md does not name {one} of {it.heading} of {self.crate}" for one in sorted(unsaid)]
         return wrong
@@ -247,6 +276,8 @@ def main() -> int:
             names = QUOTED.findall(line)
             told |= set(names)
             faults += [f"there is no edit {it}" for it in names if it not in there]
+        if section and (REFUSED.match(line) or NO_OTHER in line):
+            section.shown.add(section.heading)
         wrong += [f"line {number}: {it}" for it in faults]
     for crate in libraries():
         wrong += sections[crate].missing() if crate in sections else Section(crate).missing()
