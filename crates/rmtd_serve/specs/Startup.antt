@@ -43,10 +43,10 @@ pub record IsSiteOf (line : ServerLine) (left drives : ℕ) (stacks : List Folde
   pub same_stacks : All (λ s. s ≡ stacks_of line.drives.items bin line.capacity) stacks
 
 -- of a line that asks to listen, at drives in folders: it could not, or what is left is to serve as it says
-abbrev pub IsReady : {R Dir : Type 0} {reads : ReadPromise Dir} {clones : ClonePromise R} → ServerLine → Begun R Dir reads clones
+abbrev pub ListensOrEnds : {R Dir : Type 0} {reads : ReadPromise Dir} {clones : ClonePromise R} → ServerLine → Begun R Dir reads clones
     → Type 0
-IsReady line (End status) = status ≡ 1
-IsReady line (Serve listener site) = IsSiteOf line site.left site.table.words site.stacks.items
+ListensOrEnds line (End status) = status ≡ 1
+ListensOrEnds line (Serve listener site) = IsSiteOf line site.left site.table.words site.stacks.items
 
 -- what was done of a line, and what is left
 abbrev pub IsDone : {In Out R Dir : Type 0} {reads : ReadPromise Dir} {clones : ClonePromise R} → StreamsKind In Out

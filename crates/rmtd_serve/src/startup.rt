@@ -5,7 +5,7 @@ ghost use Rattle.drives.specs.declared.holds.TheConstants.{DRIVE_LIMIT};
 ghost use Rattle.rmtd_words.specs.Drive.{KeepsDriveRules, plain_drive};
 ghost use Rattle.rmtd_words.specs.Rmtd.{IsShown};
 ghost use Rattle.rmt_server.specs.Stream.{streams, streams_kind};
-ghost use Rattle.rmtd_serve.specs.Startup.{AreUntouched, IsDone, IsReady, IsBegun, IsStarted};
+ghost use Rattle.rmtd_serve.specs.Startup.{AreUntouched, IsDone, IsBegun, IsStarted, ListensOrEnds};
 
 use crate::connections::Connections;
 use crate::error_log::ErrorLog;
@@ -207,7 +207,7 @@ fn follow_in_folders<R: System, I: Read, O: Write>(
     }
 }
 
-/// The stacks of the line's drives, which tell on standard error what goes wrong.
+/// The stacks of the line's drives, which tell on standard error what goes wrong. It fails only where memory is refused.
 fn stacks_with_warnings<R: System>(
     rt: &R,
     line: &ServerLine<'_>,
@@ -246,7 +246,7 @@ fn serve_in_folders<R: System, S: Stacks + Drop, I: Read, O: Write>(
 }
 
 /// Makes ready for connections at this address, at drives whose reels are files in folders. All memory of the start is had before
-/// it is told that it listens: who is told that is served.
+/// the line that says that it listens, so whoever reads that line can be served.
 fn listen_in_folders<R: System>(
     rt: &R,
     address: &str,
@@ -257,7 +257,7 @@ fn listen_in_folders<R: System>(
     requires few { length line.now.drives.items ≤ DRIVE_LIMIT }
     requires same { option_map (λ s. s.now) line.now.bin ≡ Some bin.now }
     requires rules { KeepsDriveRules (Some bin.now) (map plain_drive line.now.drives.items) }
-    ensures { IfOk result (IsReady line.now) }
+    ensures { IfOk result (ListensOrEnds line.now) }
 {
     tell_limit(rt, line.capacity)?;
     let site = site_of(rt, line, bin)?;

@@ -70,7 +70,8 @@ fn a_dump_is_written_and_counted(rt: HostRuntime) {
     assert!(rt; dump_is_met(rt.alloc(), &mut client));
 }
 
-/// Whether a dump that is refused stops with the cause, and leaves it to the operator whether it goes on: so does the next one.
+/// Whether a dump that is refused stops with the cause, and leaves it to the operator whether it goes on. The next one says that no run is
+/// under way, and leaves it so.
 fn refusal_is_met(alloc: Global, client: &mut Client<ListBlocks>) -> bool {
     dump(alloc, client, &mut Refusing) == Err(Stopped::Failed(AttemptFault::Refused(5)))
         && client.state() == State::Asking
