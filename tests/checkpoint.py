@@ -676,6 +676,8 @@ def main() -> int:
     parser.add_argument("rdump", nargs="?", default=str(CRATES / "rdump/out/rdump"))
     parser.add_argument("--only", choices=[it.__name__ for it in PARTS], help="the name of one part")
     given = parser.parse_args()
+    # Where this runs in the background SIGINT is ignored, and so it would be by the dumps that it is to end.
+    signal.signal(signal.SIGINT, signal.default_int_handler)
     check_examples()
     for part in PARTS:
         if given.only in (None, part.__name__):

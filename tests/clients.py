@@ -207,7 +207,7 @@ def volumes(program: str) -> None:
             top = grow(shop.folder)
             change = shop.folder / "change"
             # Where a reel has ended tar sends no close, and its server has the file's lock until it has seen the end.
-            shop.script(change, rf"flock {shop.stack}/r1 true; printf 'O{DEVICE}\n0\nI6\n1\nC\n' | {shop.shell} > {shop.folder}/changed")
+            shop.script(change, rf"flock -w {GUARD_SECONDS} {shop.stack}/r1 true; printf 'O{DEVICE}\n0\nI6\n1\nC\n' | {shop.shell} > {shop.folder}/changed")
             words = lambda *more: tar_words(shop, "-M", "-F", str(change), *more)
             one_after_the_other(f"tar over two reels, {title}", shop, words, top, length)
 

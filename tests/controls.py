@@ -221,7 +221,8 @@ def why_not_each(crate: str, controls: dict[str, list[Pair]]) -> dict[str, str]:
             if lot.why and len(names) == 1:
                 found[names[0]] = lot.why
             elif lot.why:
-                alone = suspects({name: places_of(crate, copy, controls[name]) for name in names}, lot.log)
+                # Where one can't be applied there is no log.
+                alone = suspects({name: places_of(crate, copy, controls[name]) for name in names}, lot.log) if lot.log else names
                 found |= {name: checked(copy, controls[name]).why for name in alone}
     return found
 

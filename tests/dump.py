@@ -532,9 +532,10 @@ def dates(p: Programs) -> None:
 
 
 def told_at_once(p: Programs) -> None:
-    """The line of a volume is there before the next one is begun: its first request is answered once the line was read."""
+    """The line of a volume is there before the next one's first request is answered: that waits until the line was read."""
     p.file("payload", PAYLOAD)
-    read, late = threading.Event(), []
+    read = threading.Event()
+    late: list[bool] = []
     model = Model(Reel("r1", 3100), Reel("r2", 3100), acts={len(requests_of(1, 0, BLOCKS)) + 1: lambda: late.append(not read.wait(GUARD_SECONDS / 2))})
     with subprocess.Popen([p.rdump, *p.dump_words(model.address)], cwd=p.folder, stdin=subprocess.DEVNULL, stdout=subprocess.PIPE) as client:
         first = client.stdout.readline().decode()

@@ -6,8 +6,8 @@
 A crate's edits that the gate tries are crates/CRATE/must-fail/NAME.edit, and each costs it a check. The others are
 crates/CRATE/further/NAME.edit, written alike, with controls beside them too. This tries many at once, since functions are proved one by one: those
 of a crate in as few lots as there is need for, where no two of a lot change functions of one name. The log of a lot names each function that is
-refused. An edit none of whose functions is refused there, as where each calls one that is, is tried once more, and at last alone; and so is one that
-changes what many functions are proved by, as a constant. So a crate takes a check as it stands, and one for each lot, over what its last check kept: a
+refused. An edit none of whose functions is refused there, as where each calls one that is, is tried once more, and at last alone. One that changes
+what many functions are proved by, as a constant, is tried alone at once. So a crate takes a check as it stands, and one for each lot, over what its last check kept: a
 minute or two. As many crates are tried at once as there are processors and memory for. It prints for each edit
 
     refused         and why: the goals of a function that it changes which are not proved, or what is wrong with its proof

@@ -1,8 +1,8 @@
 #!/usr/bin/env python3
 """Checks docs/PROMISES.md against the crates. Each line with a name in bold tells of a call or a law of the crate of its section, it or a line
 below it of clauses of its contract, and each `refused` of an edit that is there. Each public call with a contract, each of its clauses, and each
-edit is named, whether the gate tries it (must-fail/) or further.py (further/). Each call that answers or changes something has an edit, or its line
-says that no other body has its type. The section "Edits without a control" names just the edits beside
+edit is named, whether the gate tries it (must-fail/) or further.py (further/). Each call with a contract of its own that answers or changes something
+has an edit below its name, which the calls of a trait have in common, or its line says that no other body has its type. The section "Edits without a control" names just the edits beside
 which no NAME.control.md stands. Each edit and control can be applied: what it takes away stands in its file once; and a control changes the same
 places as its edit. No line has more than 120 characters.
 
@@ -36,6 +36,8 @@ CLAUSES = re.compile(r"  - ((?:`\w+`, )*`\w+`):")
 REFUSED = re.compile(r" +- refused: ")
 UNCONTROLLED = "## Edits without a control"
 NO_OTHER = "No other body has its type."
+# A contract, with the head of its function, has fewer characters.
+MOST_OF_A_CONTRACT = 20_000
 
 
 class Call(NamedTuple):
@@ -67,9 +69,12 @@ def edits() -> dict[str, Path]:
 
 
 def faults_of_edits() -> list[str]:
-    """What is wrong with edits and controls: two edits of a crate have one name, one can't be applied to its file, or a control stands elsewhere than its edit."""
+    """What is wrong with edits and controls: a file is neither, two edits of a crate have one name, one can't be applied to its file, or a control
+    stands elsewhere than its edit."""
     known = edits()
-    wrong = [f"{it.parent.parent.name} has two edits {it.stem}" for it in files(".edit") if it not in known.values()]
+    others = {*files("")} - {*files(".edit"), *(it.with_suffix(".control.md") for it in files(".edit"))}
+    wrong = [f"{it.relative_to(TOP)} is no edit, and no control beside one" for it in sorted(others)]
+    wrong += [f"{it.parent.parent.name} has two edits {it.stem}" for it in files(".edit") if it not in known.values()]
     for it in files(".edit") + files(".control.md"):
         try:
             applied(it.parent.parent, pairs(it.read_text()))
@@ -148,8 +153,9 @@ def contract(lines: list[str]) -> list[str]:
 
 def can_act(text: str) -> bool:
     """Whether the function whose declaration this text begins with has a body, and answers something or changes what it is given."""
+    text = re.sub(r"\[[^][]*\]", "", text[:MOST_OF_A_CONTRACT])
     head = re.split(r"\b(?:ensures|requires)\b|[{;]", text, maxsplit=1)[0]
-    return ("->" in head or "&mut " in head) and has_body(text)
+    return bool(re.search(r"->|&(?:'\w+ )?mut ", head)) and has_body(text)
 
 
 def has_body(text: str) -> bool:
@@ -276,7 +282,7 @@ def main() -> int:
             names = QUOTED.findall(line)
             told |= set(names)
             faults += [f"there is no edit {it}" for it in names if it not in there]
-        if section and (REFUSED.match(line) or NO_OTHER in line):
+        if section and (REFUSED.match(line) and QUOTED.search(line) or NO_OTHER in line):
             section.shown.add(section.heading)
         wrong += [f"line {number}: {it}" for it in faults]
     for crate in libraries():

@@ -31,6 +31,8 @@ from dump import ABNORMAL, BLOCKS, DAY, DEVICE, DONE, FAILED, GUARD_SECONDS, PAY
 from dump import Ended, Model, Programs, Received, Reel, label, write_volume
 
 NOWHERE = "127.0.0.1:1"
+# So long at most may attempts take that wait for three seconds in all, on a busy machine.
+MOST_SECONDS = 30
 REFUSED = f"rdump: {NOWHERE}: Connection refused (os error 111)\n"
 ENDED = "the connection ended"
 ASKED = "retry?\ndump abandoned\n"
@@ -280,14 +282,14 @@ def pauses(p: Programs) -> None:
     for title, address in (("no server", NOWHERE), ("a server that says nothing", silent.address)):
         began = time.monotonic()
         got = p.dump(address, said="yes\n" * 3)
-        check(f"{title}: three seconds for four attempts", 3 <= time.monotonic() - began < GUARD_SECONDS, time.monotonic() - began)
+        check(f"{title}: three seconds for four attempts", 3 <= time.monotonic() - began < MOST_SECONDS, time.monotonic() - began)
         check(f"{title}: four attempts", got.output.count("failed: ConnectionEnded") == 4, got)
     silent.stop()
     for failures, least in ((1, 0), (4, 3)):
         model = Model(Reel("r1", 3100), Reel("r2", 3100), said={it: b"E5\nbroken\n" for it in range(1, failures + 1)})
         began = time.monotonic()
         check(f"{failures} failures that are answered", p.dump(model.address, said="yes\n" * failures).output.endswith(TWO_VOLUMES))
-        check(f"{failures} failures that are answered: {least} seconds", least <= time.monotonic() - began < GUARD_SECONDS, time.monotonic() - began)
+        check(f"{failures} failures that are answered: {least} seconds", least <= time.monotonic() - began < MOST_SECONDS, time.monotonic() - began)
         model.stop()
 
 
