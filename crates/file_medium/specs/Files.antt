@@ -1,11 +1,13 @@
 -- A file of the system as a medium. Public contracts cite it.
-use Rattle.std.specs.Prelude.{ℕ}
+use Rattle.std.specs.Prelude.{ℕ, Bool}
 use Rattle.tape.specs.Medium.{MediumKind, medium_kind}
 
--- what is told of a file: how many calls have failed, how often it was cut to nothing, and nothing of its bytes
+-- what is told of a file: how many calls have failed, how often it was cut to nothing, whether a call was asked for that changes it,
+-- also one that failed, and nothing of its bytes
 pub record FileCount : Type 0 where
   pub failures : ℕ
   pub beginnings : ℕ
+  pub written : Bool
 
 -- any call of a file can fail
 abbrev pub file_kind : MediumKind FileCount

@@ -1,6 +1,6 @@
 //! A medium that is a file of the system.
 
-ghost use Rattle.std.specs.Prelude.{◌≡◌, ◌≢◌, ◌++◌, ◌≤◌, ◌↔◌, IfOk, None, Ok, OnErr, OnOk, length};
+ghost use Rattle.std.specs.Prelude.{◌≡◌, ◌≢◌, ◌++◌, ◌≤◌, ◌↔◌, false, true, IfOk, None, Ok, OnErr, OnOk, length};
 ghost use Rattle.tape.specs.Failures.{raised};
 ghost use Rattle.tape.specs.Medium.{IsMediumCall};
 ghost use Rattle.tape.specs.Medium.MediumCall.{Len, ReadAt, Append, Cut};
@@ -27,6 +27,8 @@ pub struct FileMedium {
     window: Option<Window>,
     failed: Option<FailedCall>,
     beginnings: u64,
+    is_read_only: bool,
+    is_written: bool,
 }
 
 /// A call that failed.
@@ -46,7 +48,7 @@ impl Model for FileMedium {
 
     ghost Value = { FileCount };
 
-    ghost view = { λ m. record { failures = unwrap_or (option_map (λ f. raised f.before) m.failed) 0; beginnings = m.beginnings } };
+    ghost view = { λ m. record { failures = unwrap_or (option_map (λ f. raised f.before) m.failed) 0; beginnings = m.beginnings; written = m.is_written } };
 }
 
 impl FileMedium {
@@ -56,6 +58,7 @@ impl FileMedium {
     pub fn new(file: File) -> FileMedium
         ensures count { result.failures ≡ 0 }
         ensures begun { result.beginnings ≡ 0 }
+        ensures unwritten { result.written ≡ false }
     {
         FileMedium {
             file,
@@ -63,7 +66,21 @@ impl FileMedium {
             window: None,
             failed: None,
             beginnings: 0,
+            is_read_only: false,
+            is_written: false,
         }
+    }
+
+    /// The medium that is this file, which may only be read. It makes no call of the system, and a write or a cut fails without one,
+    /// for the reason that the reel may only be read.
+    pub fn read_only(file: File) -> FileMedium
+        ensures count { result.failures ≡ 0 }
+        ensures begun { result.beginnings ≡ 0 }
+        ensures unwritten { result.written ≡ false }
+    {
+        let mut medium = FileMedium::new(file);
+        medium.is_read_only = true;
+        medium
     }
 
     /// The file, for what a medium has no call for: its metadata, and a lock on it.
@@ -76,6 +93,13 @@ impl FileMedium {
         ensures { result ≡ self.now.beginnings }
     {
         self.beginnings
+    }
+
+    /// Whether it was written to or cut, or was to be: an append or a cut was asked for, also one that failed.
+    pub fn is_written(&self) -> bool
+        ensures { result ≡ self.now.written }
+    {
+        self.is_written
     }
 
     /// Writes to the device what the system keeps of the file. A failure is not counted here.
@@ -120,6 +144,15 @@ impl FileMedium {
         self.beginnings = self.beginnings.saturating_add(1);
     }
 
+    /// Fails where the file may only be read.
+    fn may_write(&self) -> io::Result<()> {
+        if self.is_read_only {
+            let words = "the reel may only be read";
+            return Err(io::Error::new(ErrorKind::PermissionDenied, words));
+        }
+        Ok(())
+    }
+
     /// Forgets what the system was asked for, before a call changes it.
     fn forget(&mut self)
         ensures { self.new ≡ self.old }
@@ -134,7 +167,9 @@ impl FileMedium {
         ensures failed { OnErr result (self.new ≡ record self.old { failures = raised self.old.failures }) }
     {
         self.forget();
-        let written = write_framed(&self.file, frame, bytes);
+        let written = self
+            .may_write()
+            .and_then(|()| write_framed(&self.file, frame, bytes));
         self.count(written)?;
         self.len = offset_behind(end, frame, bytes);
         Ok(())
@@ -176,7 +211,7 @@ impl FileMedium {
         ensures failed { OnErr result (self.new ≡ record self.old { failures = raised self.old.failures }) }
     {
         self.forget();
-        let cut = self.file.set_len(len);
+        let cut = self.may_write().and_then(|()| self.file.set_len(len));
         self.count(cut)?;
         self.len = Some(len);
         Ok(())
@@ -224,9 +259,10 @@ impl Medium for FileMedium {
 
     fn append(&mut self, bytes: &[u8]) -> Result<(), MediumFailed>
         ensures call { IsMediumCall file_kind self.old (Append bytes.now result) self.new }
-        ensures same { OnOk result (self.new ≡ self.old) }
-        ensures failed { OnErr result (self.new ≡ record self.old { failures = raised self.old.failures }) }
+        ensures same { OnOk result (self.new ≡ record self.old { written = true }) }
+        ensures failed { OnErr result (self.new ≡ record self.old { failures = raised self.old.failures; written = true }) }
     {
+        self.is_written = true;
         let end = self.len()?;
         self.write_at_end(end, &[], bytes)
     }
@@ -234,19 +270,21 @@ impl Medium for FileMedium {
     /// It is one call of the system, where the system takes all of it at once.
     fn append_framed(&mut self, frame: &[u8], bytes: &[u8]) -> Result<(), MediumFailed>
         ensures call { IsMediumCall file_kind self.old (Append (frame.now ++ (bytes.now ++ frame.now)) result) self.new }
-        ensures same { OnOk result (self.new ≡ self.old) }
-        ensures failed { OnErr result (self.new ≡ record self.old { failures = raised self.old.failures }) }
+        ensures same { OnOk result (self.new ≡ record self.old { written = true }) }
+        ensures failed { OnErr result (self.new ≡ record self.old { failures = raised self.old.failures; written = true }) }
     {
+        self.is_written = true;
         let end = self.len()?;
         self.write_at_end(end, frame, bytes)
     }
 
     fn cut(&mut self, len: u64) -> Result<(), MediumFailed>
         ensures call { IsMediumCall file_kind self.old (Cut len result) self.new }
-        ensures begun { OnOk result (len ≡ 0 → self.new ≡ record self.old { beginnings = raised self.old.beginnings }) }
-        ensures same { OnOk result (len ≢ 0 → self.new ≡ self.old) }
-        ensures failed { OnErr result (self.new ≡ record self.old { failures = raised self.old.failures }) }
+        ensures begun { OnOk result (len ≡ 0 → self.new ≡ record self.old { beginnings = raised self.old.beginnings; written = true }) }
+        ensures same { OnOk result (len ≢ 0 → self.new ≡ record self.old { written = true }) }
+        ensures failed { OnErr result (self.new ≡ record self.old { failures = raised self.old.failures; written = true }) }
     {
+        self.is_written = true;
         if self.len()? > len {
             self.shorten(len)?;
         }

@@ -66,9 +66,9 @@ IsFolderRefused old Device new = new ≡ after_fault old
 IsFolderRefused old OutOfMemory new = new ≡ old
 IsFolderRefused old _ new = ⊥
 
--- no call of the file has failed, and it was not cut to nothing
+-- no call of the file has failed, and it was not cut to nothing, nor written to, nor to be
 abbrev pub IsUntouched : FileCount → Type 0
-IsUntouched file = (file.failures ≡ 0) × (file.beginnings ≡ 0)
+IsUntouched file = (file.failures ≡ 0) × (file.beginnings ≡ 0) × (file.written ≡ false)
 
 -- A reel was latched where none was, at its beginning and with the capacity, on a file that is untouched. It is not only where one
 -- is latched or none was found, for want of memory, which change nothing, and where the device failed, which is counted.

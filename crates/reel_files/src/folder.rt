@@ -5,7 +5,7 @@ ghost use Rattle.std.specs.IoError.{error_kind, raw_os_error};
 ghost use Rattle.drives.specs.declared.fault.DriveFault.TheVariants.{Device, OutOfMemory};
 ghost use Rattle.drives.specs.Shop.{Shop, IsDriveNamed};
 ghost use Rattle.drives.specs.declared.holds.TheConstants.{DRIVE_LIMIT};
-ghost use Rattle.reel_files.specs.Folders.{folder_shop, folder_row, after_fault, row_at, IsFolderOf, IsRowNamed, IsFolderRefused, IsFolderMove};
+ghost use Rattle.reel_files.specs.Folders.{folder_shop, folder_row, after_fault, row_at, IsFolderOf, IsRowNamed, IsFolderRefused, IsFolderMove, IsUntouched};
 
 mod known;
 mod line;
@@ -25,6 +25,7 @@ use moving::Moved;
 use rack::{FolderRack, Found};
 use refusal::Refusal;
 use std::alloc::{AllocError, Global};
+use std::fs::File;
 use std::io::{self, ErrorKind};
 use std::marker::Model;
 use tape::FileReel;
@@ -51,7 +52,8 @@ pub struct FolderFault<'a> {
 ///
 /// A stack is the plain files of its folder in the order of the bytes of their names; folders and links in it are no reels.
 /// The folder is listed anew at each latch. The file of a latched reel has the system's advisory lock. All folders have to
-/// lie on one file system, since a move is one rename. They tell nothing of what lies in the folders.
+/// lie on one file system, since a move copies nothing: it is a hard link and the removal of the old name. They tell nothing of what
+/// lies in the folders.
 #[derive(Drop)]
 pub struct FolderStacks<R: FolderSystem, L: Log + Drop> {
     rt: R,
@@ -168,7 +170,7 @@ impl<R: FolderSystem, L: Log + Drop> FolderStacks<R, L> {
         ensures free { MatchResult result (λ found. IsSome found → (row_at self.now drive).latched ≡ false) (λ _. (row_at self.now drive).latched ≡ false) }
     {
         let rack = &self.racks[drive];
-        match rack.find(&self.rt, self.bin.as_str()) {
+        match rack.find(&self.rt, self.bin.as_str(), &self.log) {
             Ok(Some(found)) => {
                 rack.opened(&found).tell(&self.log);
                 Ok(Some(found))
@@ -244,24 +246,26 @@ impl<R: FolderSystem, L: Log + Drop> Stacks for FolderStacks<R, L> {
         self.racks.iter().position(|rack| rack.is_named(name))
     }
 
-    /// Lists the folder of the stack, and opens and locks its first plain file, to read and to append; where it may only be read,
-    /// to read alone. Names that begin with a dot are no reels.
+    /// Lists the folder of the stack, and opens and locks its first plain file, to read and to append; where it may only be read, or the
+    /// bin has another file of its name, to read alone. Names that begin with a dot are no reels. Where the bin has the very file, a stop
+    /// cut its move short: its name in the stack is removed, and the next file is latched.
     ///
-    /// Answers `Device` also where another name in the folder is not UTF-8, where another handle has the file's lock, and where
+    /// Answers `Device` also where such a move cannot be finished, where another name in the folder is not UTF-8, where another handle has the file's lock, and where
     /// at each of 100 listings a name was gone, or the path led to another file than was listed.
     fn latch(&mut self, drive: usize) -> Result<FileReel<FileMedium>, DriveFault> {
         match self.find(drive) {
             Ok(Some(found)) => {
                 let rack = &mut self.racks[drive];
                 rack.note(Some(found.latched));
-                Ok(FileReel::open(FileMedium::new(found.file), self.capacity))
+                let medium = medium_of(found.file, found.reads_only);
+                Ok(FileReel::open(medium, self.capacity))
             }
             Ok(None) => Err(DriveFault::NoReel),
             Err(error) => Err(self.refuse(error)),
         }
     }
 
-    /// Syncs the file where it was written to since the latch, and lets it go, with its lock. A sync that fails, or has failed since
+    /// Syncs the file where it was written to since the latch, or was to be, and lets it go, with its lock. A sync that fails, or has failed since
     /// the file was last cut to nothing, is noted, and counted nowhere. Where none is latched it does nothing else.
     fn unlatch(&mut self, drive: usize, reel: FileReel<FileMedium>) {
         let rack = &mut self.racks[drive];
@@ -272,8 +276,10 @@ impl<R: FolderSystem, L: Log + Drop> Stacks for FolderStacks<R, L> {
         }
     }
 
-    /// Syncs the file, renames it under the lock of the bin's folder, and syncs the bin's folder and then the stack's: only then is
-    /// it done. What fails after the rename changes nothing of that. It takes no memory, and never answers `OutOfMemory`.
+    /// Syncs the file, and moves it under the lock of the bin's folder: a hard link gives it its name in the bin, and replaces nothing
+    /// there. The bin's folder is synced, the name in the stack removed, and the stack's folder synced: only then is it done. A folder that
+    /// cannot be synced changes nothing of that. A file system without hard links renames it. It takes no memory, and never answers
+    /// `OutOfMemory`.
     ///
     /// Answers `Device` also where none is latched, where others have the lock of the bin's folder for about a second, where
     /// another file than was latched has its name, and where a sync of the file has failed since it was last cut to nothing.
@@ -301,6 +307,17 @@ impl<R: FolderSystem, L: Log + Drop> Stacks for FolderStacks<R, L> {
     ghost once = { λ _ _ told. absurd told };
 
     ghost sized = { λ _ _ told. absurd told };
+}
+
+/// The medium of a file that was opened, and may be written to or only read.
+fn medium_of(file: File, is_read_only: bool) -> FileMedium
+    ensures { IsUntouched result }
+{
+    if is_read_only {
+        FileMedium::read_only(file)
+    } else {
+        FileMedium::new(file)
+    }
 }
 
 /// The drives with no reel latched.

@@ -12,5 +12,5 @@ mod system;
 pub use file_medium::FileMedium;
 pub use folder::{FolderDrive, FolderFault, FolderStacks};
 pub use log::{Log, NoLog};
-pub use syncs::{MovableFile, Syncs, take_offline};
+pub use syncs::{MovableFile, Syncs, sync_at_close, take_offline};
 pub use system::FolderSystem;

@@ -1,6 +1,6 @@
 //! The syncs of a file that is open, and how it is taken offline.
 
-ghost use Rattle.std.specs.Prelude.{◌≡◌, ◌⊎◌, ℕ, List, [], ◌∷◌, true, Some, None, is_ok, IfOk, IsErr, OnErr, MatchResult};
+ghost use Rattle.std.specs.Prelude.{◌≡◌, ◌⊎◌, ℕ, Bool, List, [], ◌∷◌, false, true, Some, None, Ok, is_ok, IfOk, IsErr, OnErr, MatchResult};
 ghost use Rattle.tape.specs.Failures.{Steps};
 ghost use Rattle.reel_files.specs.Syncs.{FileStep, Makes, IsUnsynced, IsLeft};
 ghost use Rattle.reel_files.specs.Syncs.FileStep.{Sync, Move};
@@ -23,9 +23,16 @@ pub trait MovableFile {
     /// How often it was cut to nothing.
     ghost beginnings: { Self → ℕ };
 
+    /// Whether it was written to or cut since it was opened, or was to be.
+    ghost written: { Self → Bool };
+
     /// How often it was cut to nothing.
     fn beginnings(&self) -> u64
         ensures { result ≡ beginnings self.now };
+
+    /// Whether it was written to or cut since it was opened, or was to be: a write that failed counts.
+    fn is_written(&self) -> bool
+        ensures { result ≡ written self.now };
 
     /// Writes to the device what the system keeps of it.
     fn sync(&mut self) -> Result<(), Self::Refusal>
@@ -112,4 +119,25 @@ pub fn take_offline<F: MovableFile>(
 {
     syncs.sync(file)?;
     file.rename()
+}
+
+/// Syncs a file that is to be closed, as `Syncs::sync` does, where it was written to since it was opened, or was to be. Answers
+/// whether it was synced.
+///
+/// Answers why it could not be synced.
+pub fn sync_at_close<F: MovableFile>(
+    file: &mut F,
+    syncs: &mut Syncs<F::Refusal>,
+) -> Result<bool, F::Refusal>
+    ensures written { F.written file.old ≡ true → MatchResult result
+        (λ synced. (synced ≡ true) × Makes F.told file.old file.new (Sync true ∷ []))
+        (λ _. Steps F.told file.old file.new (IsUnsynced (F.beginnings file.old) syncs.old syncs.new)) }
+    ensures unwritten { F.written file.old ≡ false → (result ≡ Ok false) × (file.new ≡ file.old) × (syncs.new ≡ syncs.old) }
+    ensures again { F.written file.old ≡ true → syncs.old ≡ Some (F.beginnings file.old) → IsErr result }
+    ensures noted { MatchResult result (λ _. syncs.new ≡ syncs.old) (λ _. syncs.new ≡ Some (F.beginnings file.old)) }
+{
+    if !file.is_written() {
+        return Ok(false);
+    }
+    syncs.sync(file).and(Ok(true))
 }

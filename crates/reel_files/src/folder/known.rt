@@ -1,6 +1,8 @@
 //! What the system knows of a file or folder.
 
-use std::fs::Metadata;
+use crate::FolderSystem;
+use std::fs::{self, Metadata};
+use std::io::{self, ErrorKind};
 use std::os::unix::fs::MetadataExt;
 
 /// Which file or folder of the system one is, whatever its name.
@@ -30,21 +32,31 @@ impl FileId {
     }
 }
 
-/// How long a file is, and when it was written to.
-#[derive(Clone, Copy, PartialEq, Eq)]
-pub(super) struct Written {
-    length: u64,
-    seconds: i64,
-    nanoseconds: i64,
+/// What the system knows of the path, and none where nothing has it. No link is followed.
+pub(super) fn known_at<R: FolderSystem>(rt: &R, path: &str) -> io::Result<Option<Metadata>> {
+    match fs::symlink_metadata(rt, path) {
+        Ok(known) => Ok(Some(known)),
+        Err(error) if error.kind() == ErrorKind::NotFound => Ok(None),
+        Err(error) => Err(error),
+    }
 }
 
-impl Written {
-    /// What is known of the file now.
-    pub(super) fn of(known: &Metadata) -> Written {
-        Written {
-            length: known.len(),
-            seconds: known.mtime(),
-            nanoseconds: known.mtime_nsec(),
-        }
-    }
+/// What the bin has under a reel's name.
+#[derive(Clone, Copy, PartialEq, Eq)]
+pub(super) enum InBin {
+    /// Nothing.
+    Nothing,
+    /// The reel's own file, as a stop between the two steps of a move leaves it.
+    SameFile,
+    /// Another file, or a folder or a link.
+    Another,
+}
+
+/// What the bin has at this path, which is that of the file there.
+pub(super) fn look_in_bin<R: FolderSystem>(rt: &R, path: &str, id: FileId) -> io::Result<InBin> {
+    Ok(match known_at(rt, path)? {
+        None => InBin::Nothing,
+        Some(known) if id.is_plain(&known) => InBin::SameFile,
+        Some(_) => InBin::Another,
+    })
 }

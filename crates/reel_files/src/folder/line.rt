@@ -1,10 +1,11 @@
 //! A line of a log, made without memory.
 
 use arrayvec::ArrayString;
+use printable::plain_char;
 use std::fmt::{self, Write};
 
-/// A line has so many bytes at most.
-const LINE_ROOM: usize = 1_000;
+/// A line has so many bytes at most: with the time, the name of the program and a seat before it, it is one write.
+const LINE_ROOM: usize = 980;
 
 /// A text of one line. Control characters stand in it as question marks, and what has no room is left out.
 #[derive(Clone, Copy)]
@@ -23,8 +24,7 @@ impl Line {
     /// Adds a text, until the line has that many bytes, or with its last letter some more. It fails where a part is left out.
     pub(super) fn add(&mut self, text: &str, room: usize) -> fmt::Result {
         for letter in text.chars() {
-            let shown = if letter.is_control() { '?' } else { letter };
-            if self.text.len() >= room || self.text.try_push(shown).is_err() {
+            if self.text.len() >= room || self.text.try_push(plain_char(letter)).is_err() {
                 return Err(fmt::Error);
             }
         }

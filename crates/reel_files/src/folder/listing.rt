@@ -1,11 +1,11 @@
 //! The first reel of a folder.
 
-use super::known::{FileId, Written};
+use super::known::{FileId, InBin, known_at, look_in_bin};
 use super::lock::take_lock;
 use super::refusal::{Refusal, at};
 use crate::FolderSystem;
 use std::alloc::Global;
-use std::fs::{self, File, Metadata, OpenOptions};
+use std::fs::{File, OpenOptions};
 use std::io::{self, BufRead, BufReader, ErrorKind, Split};
 
 /// How often a folder is listed for one latch, where a name or the first reel went away each time before it was opened.
@@ -41,10 +41,12 @@ pub(super) struct Opened {
     pub(super) name: String,
     /// Its path in the folder.
     pub(super) path: String,
+    /// The path that it would have in the bin.
+    pub(super) bin_path: String,
     /// Which file it is.
     pub(super) id: FileId,
-    /// What it was when it was locked.
-    pub(super) written: Written,
+    /// What the bin has at that path. Where it is another file, the reel is open to read alone.
+    pub(super) in_bin: InBin,
 }
 
 /// The names in the folder, as bytes.
@@ -70,19 +72,10 @@ fn is_before(name: &str, first: &Seen) -> bool {
     }
 }
 
-/// What is known of the path, and none where nothing has it.
-fn known_of<R: FolderSystem>(rt: &R, path: &str) -> io::Result<Option<Metadata>> {
-    match fs::symlink_metadata(rt, path) {
-        Ok(known) => Ok(Some(known)),
-        Err(error) if error.kind() == ErrorKind::NotFound => Ok(None),
-        Err(error) => Err(error),
-    }
-}
-
 /// What the name leads to. No link is followed.
 fn look_up<R: FolderSystem>(rt: &R, folder: &str, name: String) -> Result<Seen, Refusal> {
     let path = format!(in rt.alloc(); "{folder}/{name}")?;
-    match at(path.as_str(), "stat", known_of(rt, path.as_str()))? {
+    match at(path.as_str(), "stat", known_at(rt, path.as_str()))? {
         Some(known) if known.is_file() => {
             let id = FileId::of(&known);
             Ok(Seen::File(Listed { name, path, id }))
@@ -130,59 +123,92 @@ fn open_file<R: FolderSystem>(rt: &R, path: &str) -> io::Result<(File, bool)> {
     }
 }
 
-/// The handle as `open_file` answers it, and none where nothing has the path now.
-fn open_there<R: FolderSystem>(rt: &R, path: &str) -> io::Result<Option<(File, bool)>> {
-    match open_file(rt, path) {
+/// The handle as `open_file` answers it, or one to read where the bin has another file of that name. None where nothing has the path now.
+fn open_there<R: FolderSystem>(
+    rt: &R,
+    path: &str,
+    in_bin: InBin,
+) -> io::Result<Option<(File, bool)>> {
+    let opened = match in_bin {
+        InBin::Another => File::open(rt, path).map(|file| (file, true)),
+        InBin::Nothing | InBin::SameFile => open_file(rt, path),
+    };
+    match opened {
         Ok(opened) => Ok(Some(opened)),
         Err(error) if error.kind() == ErrorKind::NotFound => Ok(None),
         Err(error) => Err(error),
     }
 }
 
-/// Opens the file that was listed and takes its advisory lock, which goes with the handle. None where the path does not lead to the
-/// file that was listed: when it was opened, or now that it is locked.
-///
-/// It is refused also where another handle has the lock.
-fn open_listed<R: FolderSystem>(rt: &R, listed: Listed) -> Result<Option<Opened>, Refusal> {
-    let Listed { name, path, id } = listed;
-    let place = path.as_str();
-    let Some((file, reads_only)) = at(place, "open", open_there(rt, place))? else {
+/// The handle as `open_there` answers it, with the file's advisory lock, which goes with the handle. None where the path does not lead to
+/// that file: when it was opened, or now that it is locked.
+fn open_locked<R: FolderSystem>(
+    rt: &R,
+    path: &str,
+    id: FileId,
+    in_bin: InBin,
+) -> Result<Option<(File, bool)>, Refusal> {
+    let Some((file, reads_only)) = at(path, "open", open_there(rt, path, in_bin))? else {
         return Ok(None);
     };
-    let opened = at(place, "stat", file.metadata())?;
+    let opened = at(path, "stat", file.metadata())?;
     if !id.is_plain(&opened) {
         return Ok(None);
     }
-    at(place, "lock", take_lock(&file))?;
-    match at(place, "stat", known_of(rt, place))? {
-        Some(locked) if id.is_plain(&locked) => {
-            let written = Written::of(&locked);
-            Ok(Some(Opened {
-                file,
-                reads_only,
-                name,
-                path,
-                id,
-                written,
-            }))
-        }
+    at(path, "lock", take_lock(&file))?;
+    match at(path, "stat", known_at(rt, path))? {
+        Some(locked) if id.is_plain(&locked) => Ok(Some((file, reads_only))),
         _ => Ok(None),
     }
 }
 
-/// Opens and locks the first reel of the folder: to read and to append, or to read alone where it may only be read. None where it has
-/// none.
+/// Opens the file that was listed and takes its advisory lock. None where the path does not lead to the file that was listed, or
+/// where the bin's name of it changed meanwhile.
+///
+/// It is refused also where another handle has the lock.
+fn open_listed<R: FolderSystem>(
+    rt: &R,
+    listed: Listed,
+    bin: &str,
+) -> Result<Option<Opened>, Refusal> {
+    let Listed { name, path, id } = listed;
+    let bin_path = format!(in rt.alloc(); "{bin}/{name}")?;
+    let there = bin_path.as_str();
+    let in_bin = at(there, "stat", look_in_bin(rt, there, id))?;
+    let Some((file, reads_only)) = open_locked(rt, path.as_str(), id, in_bin)? else {
+        return Ok(None);
+    };
+    if at(there, "stat", look_in_bin(rt, there, id))? != in_bin {
+        return Ok(None);
+    }
+    Ok(Some(Opened {
+        file,
+        reads_only,
+        name,
+        path,
+        bin_path,
+        id,
+        in_bin,
+    }))
+}
+
+/// Opens and locks the first reel of the folder: to read and to append, or to read alone where it may only be read, or where the bin has
+/// another file of its name. None where it has none.
 ///
 /// Where a name that was listed is gone, or the file that was listed first has another name now, or is another, the folder is listed
 /// again: 100 times at most.
-pub(super) fn open_first<R: FolderSystem>(rt: &R, folder: &str) -> Result<Option<Opened>, Refusal> {
+pub(super) fn open_first<R: FolderSystem>(
+    rt: &R,
+    folder: &str,
+    bin: &str,
+) -> Result<Option<Opened>, Refusal> {
     for _ in 0..LIST_TURNS {
         let listed = match first_file(rt, folder)? {
             Seen::File(listed) => listed,
             Seen::NoFile => return Ok(None),
             Seen::Gone => continue,
         };
-        if let Some(opened) = open_listed(rt, listed)? {
+        if let Some(opened) = open_listed(rt, listed, bin)? {
             return Ok(Some(opened));
         }
     }

@@ -4,16 +4,19 @@ ghost use Rattle.std.specs.Prelude.{◌≡◌, ◌≢◌, ◌⊎◌, false, true
 ghost use Rattle.reel_files.specs.Folders.{folder_row};
 
 use super::FolderDrive;
-use super::known::Written;
+use super::known::InBin;
 use super::listing::{Opened, open_first};
-use super::moving::{Latched, Moved, ReelFile};
+use super::moving::{Latched, MoveFlaw, Moved, ReelFile, finish_move};
 use super::refusal::Refusal;
 use super::report::Report;
-use crate::{FileMedium, FolderSystem, Syncs, take_offline};
+use crate::{FileMedium, FolderSystem, Log, Syncs, sync_at_close, take_offline};
 use std::alloc::{AllocError, Global};
 use std::fs::File;
 use std::io::{self, ErrorKind};
 use std::marker::Model;
+
+/// So many moves that were cut short are finished at most for one latch.
+const FINISH_TURNS: u32 = 100;
 
 /// A drive of a `FolderStacks`: its name, the folder of its stack, the file of the reel that is latched, and what is known of its
 /// syncs.
@@ -70,17 +73,52 @@ impl FolderRack {
     }
 
     /// Opens and locks the file of the reel that a latch takes. None where one is latched already, and where no plain file
-    /// lies in the folder.
-    pub(super) fn find<R: FolderSystem>(&self, rt: &R, bin: &str) -> Result<Option<Found>, Refusal>
+    /// lies in the folder. The move of a reel that a stop cut short is finished before, which is noted in the log.
+    pub(super) fn find<R: FolderSystem, L: Log>(
+        &self,
+        rt: &R,
+        bin: &str,
+        log: &L,
+    ) -> Result<Option<Found>, Refusal>
         ensures free { MatchResult result (λ found. IsSome found → self.now.latched ≡ false) (λ _. self.now.latched ≡ false) }
     {
         if self.latched.is_some() {
             return Ok(None);
         }
-        let Some(opened) = open_first(rt, self.folder.as_str())? else {
-            return Ok(None);
-        };
-        Ok(Some(found_of(rt.alloc(), opened, bin)?))
+        self.find_first(rt, bin, log)
+    }
+
+    /// Opens and locks the file of the first reel that the bin does not have, as `find` does. None where there is none.
+    fn find_first<R: FolderSystem, L: Log>(
+        &self,
+        rt: &R,
+        bin: &str,
+        log: &L,
+    ) -> Result<Option<Found>, Refusal> {
+        let folder = self.folder.as_str();
+        for _ in 0..FINISH_TURNS {
+            let Some(opened) = open_first(rt, folder, bin)? else {
+                return Ok(None);
+            };
+            let found = found_of(opened);
+            if found.in_bin != InBin::SameFile {
+                return Ok(Some(found));
+            }
+            let flaw = finish_move(rt, &found.latched, folder, bin)?;
+            self.finished(&found, flaw).tell(log);
+        }
+        let changed = io::Error::from(ErrorKind::StaleNetworkFileHandle);
+        Err(Refusal::new(folder, "list", changed))
+    }
+
+    /// The report of a move that was finished.
+    fn finished(&self, found: &Found, flaw: Option<MoveFlaw>) -> Report {
+        let (drive, reel) = (self.name.as_str(), found.latched.name.as_str());
+        let mut report = Report::warning(format_args!(
+            "{drive}: {reel} moved to the bin: a stop had cut the move short"
+        ));
+        add_flaw(&mut report, flaw);
+        report
     }
 
     /// The report of a latch that was refused.
@@ -91,16 +129,18 @@ impl FolderRack {
 
     /// The report of a latch.
     pub(super) fn opened(&self, found: &Found) -> Report {
-        let access = if found.reads_only {
-            ", to read only"
-        } else {
-            ""
-        };
-        Report::new(format_args!("{}: {} opened{access}", self.name, found.latched.name))
+        let (drive, reel) = (self.name.as_str(), found.latched.name.as_str());
+        let mut report = Report::new(format_args!("{drive}: {reel} opened"));
+        if found.in_bin == InBin::Another {
+            report.add_warning(", to read only: the bin has the name");
+        } else if found.reads_only {
+            report.add(", to read only");
+        }
+        report
     }
 
-    /// Syncs the file of the latched reel, which is this medium, where it was written to since the latch, and notes that none is
-    /// latched. Answers the report of the close, none where none was latched. It takes no memory.
+    /// Syncs the file of the latched reel, which is this medium, where it was written to since the latch, or was to be, and notes that
+    /// none is latched. Answers the report of the close, none where none was latched. It takes no memory.
     pub(super) fn close<R: FolderSystem>(
         &mut self,
         rt: &R,
@@ -109,18 +149,13 @@ impl FolderRack {
     ) -> Option<Report>
         ensures { self.new ≡ folder_row self.old.name self.old.folder false }
     {
-        let report = self.sync_at_close(rt, bin, medium);
+        let report = self.sync(rt, bin, medium);
         self.note(None);
         report
     }
 
     /// Syncs the file as `close` does, and answers its report.
-    fn sync_at_close<R: FolderSystem>(
-        &mut self,
-        rt: &R,
-        bin: &str,
-        medium: &FileMedium,
-    ) -> Option<Report>
+    fn sync<R: FolderSystem>(&mut self, rt: &R, bin: &str, medium: &FileMedium) -> Option<Report>
         ensures name { self.new.name ≡ self.old.name }
         ensures folder { self.new.folder ≡ self.old.folder }
     {
@@ -128,20 +163,18 @@ impl FolderRack {
             return None;
         };
         let mut report = Report::new(format_args!("{}: {} closed", self.name, file.name));
-        if was_written(file, medium) {
-            let stack = self.folder.as_str();
-            let synced = self.syncs.sync(&mut Latched {
-                rt,
-                file,
-                medium,
-                stack,
-                bin,
-            });
-            match synced {
-                Ok(()) => report.add(", synced"),
-                Err(refusal) => {
-                    report.add_warning(format_args!(", sync failed: {}", refusal.reason));
-                }
+        let mut latched = Latched {
+            rt,
+            file,
+            medium,
+            stack: self.folder.as_str(),
+            bin,
+        };
+        match sync_at_close(&mut latched, &mut self.syncs) {
+            Ok(true) => report.add(", synced"),
+            Ok(false) => {}
+            Err(refusal) => {
+                report.add_warning(format_args!(", sync failed: {}", refusal.reason));
             }
         }
         add_last_error(&mut report, medium);
@@ -181,11 +214,9 @@ impl FolderRack {
     pub(super) fn moved(&self, moved: &Result<Moved, Refusal>, medium: &FileMedium) -> Report {
         let (drive, reel) = (self.name.as_str(), self.latched_name());
         match moved {
-            Ok(Moved::Done(unsynced)) => {
+            Ok(Moved::Done(flaw)) => {
                 let mut report = Report::new(format_args!("{drive}: {reel} moved to the bin"));
-                if let Some(reason) = unsynced {
-                    report.add_warning(format_args!(", folder sync failed: {reason}"));
-                }
+                add_flaw(&mut report, *flaw);
                 add_last_error(&mut report, medium);
                 report
             }
@@ -214,47 +245,56 @@ pub(super) struct Found {
     /// The handle.
     pub(super) file: File,
     /// It may only be read.
-    reads_only: bool,
+    pub(super) reads_only: bool,
+    /// What the bin has under its name.
+    in_bin: InBin,
     /// What the drive keeps.
     pub(super) latched: ReelFile,
 }
 
-/// The reel with its path in the bin.
-fn found_of(alloc: Global, opened: Opened, bin: &str) -> Result<Found, AllocError> {
+/// What the drive keeps of a reel that was opened, beside its handle.
+fn found_of(opened: Opened) -> Found {
     let Opened {
         file,
         reads_only,
         name,
         path,
+        bin_path,
         id,
-        written,
+        in_bin,
     } = opened;
-    let to = format!(in alloc; "{bin}/{name}")?;
     let latched = ReelFile {
         name,
         from: path,
-        to,
+        to: bin_path,
         id,
-        written,
     };
-    Ok(Found {
+    Found {
         file,
         reads_only,
+        in_bin,
         latched,
-    })
+    }
+}
+
+/// Adds what a move that was done left as it should not be.
+fn add_flaw(report: &mut Report, flaw: Option<MoveFlaw>) {
+    match flaw {
+        None => {}
+        Some(MoveFlaw::Unsynced(reason)) => {
+            report.add_warning(format_args!(", folder sync failed: {reason}"));
+        }
+        Some(MoveFlaw::NameLeft(reason)) => {
+            report.add_warning(format_args!(
+                ", its name in the stack could not be removed: {reason}"
+            ));
+        }
+    }
 }
 
 /// Adds why the last read or write of the file that failed did, where one has since the latch.
 fn add_last_error(report: &mut Report, medium: &FileMedium) {
     if let Some(reason) = medium.last_error() {
         report.add_warning(format_args!(", a read or write failed: {reason}"));
-    }
-}
-
-/// Whether the file was written to since the latch, as far as its length and time show. Where they cannot be told it may have been.
-fn was_written(file: &ReelFile, medium: &FileMedium) -> bool {
-    match medium.file().metadata() {
-        Ok(known) => Written::of(&known) != file.written,
-        Err(_) => true,
     }
 }

@@ -1,6 +1,7 @@
 //! Why the system refused a call.
 
 use super::line::Line;
+use printable::PlainBytes;
 use std::alloc::AllocError;
 use std::fmt::Write;
 use std::io::{self, ErrorKind};
@@ -33,11 +34,8 @@ impl Refusal {
     /// The refusal of a name in this folder that is not UTF-8. What is no text in it stands as a question mark.
     pub(super) fn of_name(folder: &str, name: &[u8]) -> Refusal {
         let mut path = Line::new();
-        let _ = write!(path, "{folder}/");
-        for chunk in name.utf8_chunks() {
-            let mark = if chunk.invalid().is_empty() { "" } else { "?" };
-            let _ = write!(path, "{}{mark}", chunk.valid());
-        }
+        let name = PlainBytes(name);
+        let _ = write!(path, "{folder}/{name}");
         let reason = io::Error::from(ErrorKind::InvalidFilename);
         Refusal::new(path.as_str(), "list", reason)
     }

@@ -29,13 +29,14 @@ impl Log for Compared<'_> {
 
 type Logged<'a> = FolderStacks<HostRuntime, Compared<'a>>;
 
-static WANTED: [&str; 9] = [
+static WANTED: [&str; 10] = [
     "/dev/st0: r1 opened",
     "/dev/st1: open refused: logged/st0/r1: lock: another has the lock",
     "/dev/st0: r1 closed, synced",
-    "/dev/st0: r1 opened",
+    "/dev/st0: r1 opened, to read only: the bin has the name",
     "/dev/st0: move refused: r1: the bin has the name",
-    "/dev/st0: r1 closed",
+    "/dev/st0: r1 closed, synced, a read or write failed: the reel may only be read",
+    "/dev/st1: r0 moved to the bin: a stop had cut the move short",
     "/dev/st1: r1 opened",
     "/dev/st1: r1 moved to the bin",
     "a line of another",
@@ -55,13 +56,18 @@ static DRIVES: [FolderDrive; 2] = [
     },
 ];
 
-/// Makes the folders and the reel, and something in the bin that has its name.
+/// Makes the folders and the reel.
 fn make_all(rt: &HostRuntime) -> io::Result<()> {
     for path in &FOLDERS {
         fs::create_dir(rt, *path)?;
     }
-    fs::write(rt, "logged/st0/r1", "")?;
-    fs::write(rt, "logged/bin/r1", "")
+    fs::write(rt, "logged/st0/r1", "")
+}
+
+/// Makes a reel with a name in the stack and one in the bin, as a stop leaves it in a move.
+fn make_both_names(rt: &HostRuntime) -> io::Result<()> {
+    fs::write(rt, "logged/st0/r0", "")?;
+    fs::hard_link(rt, "logged/st0/r0", "logged/bin/r0")
 }
 
 /// Whether the first drive's reel takes a record, while the second cannot open it.
@@ -78,19 +84,20 @@ fn is_written(stacks: &mut Logged<'_>) -> bool
     other && written
 }
 
-/// Whether the first drive's reel is not moved, since the bin has its name.
+/// Whether the first drive's reel takes no record and is not moved, since the bin has its name.
 fn is_refused(stacks: &mut Logged<'_>) -> bool
     requires { length stacks.old.rows ≡ 2 }
     ensures { length stacks.new.rows ≡ 2 }
 {
-    let Ok(reel) = stacks.latch(0) else {
+    let Ok(mut reel) = stacks.latch(0) else {
         return false;
     };
+    let unwritten = reel.write(b"hello").is_err();
     match stacks.offline(0, reel) {
         Ok(()) => false,
         Err((reel, fault)) => {
             stacks.unlatch(0, reel);
-            fault == DriveFault::NameTaken
+            unwritten && fault == DriveFault::NameTaken
         }
     }
 }
@@ -105,15 +112,19 @@ fn is_moved(stacks: &mut Logged<'_>) -> bool
     stacks.offline(1, reel).is_ok()
 }
 
-/// Whether the reel is written to, is not moved while the bin has its name, and is moved then.
+/// Whether the reel is written to, is neither written nor moved while the bin has its name, and is moved then, after one whose move
+/// was cut short.
 fn go_round(rt: &HostRuntime, stacks: &mut Logged<'_>) -> io::Result<bool>
     requires { length stacks.old.rows ≡ 2 }
 {
-    let refused = is_written(stacks) && is_refused(stacks);
+    let written = is_written(stacks);
+    fs::write(rt, "logged/bin/r1", "")?;
+    let refused = is_refused(stacks);
     fs::remove_file(rt, "logged/bin/r1")?;
+    make_both_names(rt)?;
     let moved = is_moved(stacks);
     stacks.note("a line of another");
-    Ok(refused && moved)
+    Ok(written && refused && moved)
 }
 
 /// The same of new folders, which are removed then.

@@ -30,8 +30,14 @@ impl MovableFile for Failing {
 
     ghost beginnings = { λ f. f.reel.medium.beginnings };
 
+    ghost written = { λ f. f.reel.medium.written };
+
     fn beginnings(&self) -> u64 {
         self.reel.medium().beginnings()
+    }
+
+    fn is_written(&self) -> bool {
+        self.reel.medium().is_written()
     }
 
     fn sync(&mut self) -> Result<(), NotSynced> {
