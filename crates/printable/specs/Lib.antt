@@ -1,0 +1,2 @@
+-- Printing: text of others as it may be printed.
+pub mod Printing

@@ -1,0 +1,59 @@
+//! Bytes of others as they may be printed.
+ghost use Rattle.std.specs.Prelude.{◌≡◌, length, Some};
+ghost use Rattle.std.specs.Fmt.{WritesOnOk};
+ghost use Rattle.printable.specs.Printing.{mark_of, plain_text, printable};
+
+use crate::letter::plain_char;
+use std::fmt::{self, Display, Formatter, Write};
+
+/// Bytes of others, to print: each control character stands as `?`, a line feed among them, and so does each sequence of bytes that is no
+/// UTF-8, as long as `utf8_chunks` has it. All else stands as it is. Printing takes no memory.
+#[derive(Clone, Copy)]
+pub struct PlainBytes<'a>(pub &'a [u8]);
+
+/// A text of others, to print.
+pub fn plain(text: &str) -> PlainBytes<'_>
+    ensures { result.0.now ≡ text.now }
+{
+    PlainBytes(text.as_bytes())
+}
+
+impl Display for PlainBytes<'_> {
+    ghost output = { λ p. Some (printable p.0.now) };
+
+    fn fmt<W: Write>(&self, f: &mut Formatter<W>) -> fmt::Result {
+        write_bytes(self.0, f)
+    }
+}
+
+/// Writes bytes as they may be printed.
+fn write_bytes<W: Write>(bytes: &[u8], f: &mut Formatter<W>) -> fmt::Result
+    ensures { WritesOnOk W.write_str_gives f.old result (printable bytes.now) f.new }
+{
+    let mut chunks = bytes.utf8_chunks();
+    'chunks: while let Some(chunk) = chunks.next() {
+        write_text(chunk.valid(), f)?;
+        write_mark(chunk.invalid(), f)?;
+    }
+    Ok(())
+}
+
+/// Writes a text as it may be printed.
+fn write_text<W: Write>(text: &str, f: &mut Formatter<W>) -> fmt::Result
+    ensures { WritesOnOk W.write_str_gives f.old result (plain_text text.now) f.new }
+{
+    for letter in text.chars() {
+        f.write_char(plain_char(letter))?;
+    }
+    Ok(())
+}
+
+/// Writes what stands for bytes that are no text, if there are any.
+fn write_mark<W: Write>(bytes: &[u8], f: &mut Formatter<W>) -> fmt::Result
+    ensures { WritesOnOk W.write_str_gives f.old result (mark_of (length bytes.now)) f.new }
+{
+    if bytes.is_empty() {
+        return Ok(());
+    }
+    f.write_char('?')
+}
