@@ -1,5 +1,6 @@
 //! The file that a path names.
 
+use crate::files::no_plain_file;
 use std::alloc::Global;
 use std::fs::{self, File};
 use std::io::{self, ErrorKind};
@@ -19,15 +20,20 @@ pub fn named_file<R: Files<File = File>>(rt: &R, alloc: Global, path: &str) -> i
         match fs::symlink_metadata(rt, &named) {
             Ok(found) if found.is_symlink() => named = led_to(rt, alloc, named.as_path())?,
             Ok(found) if found.is_file() => return Ok(named),
-            Ok(_) => {
-                let error = "it is no plain file";
-                return Err(io::Error::new(ErrorKind::InvalidInput, error));
-            }
+            Ok(_) => return Err(no_plain_file()),
             Err(error) if error.kind() == ErrorKind::NotFound => return Ok(named),
             Err(error) => return Err(error),
         }
     }
     Err(io::Error::from(ErrorKind::FilesystemLoop))
+}
+
+/// The folder of the file at this path.
+pub(crate) fn folder_of(path: Path<'_>) -> Path<'_> {
+    match path.parent() {
+        Some(folder) if !folder.as_str().is_empty() => folder,
+        _ => Path::new("."),
+    }
 }
 
 /// Where a link leads, from the folder that has it.

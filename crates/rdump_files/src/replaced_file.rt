@@ -1,23 +1,14 @@
 //! A file of the system's that is replaced whole.
 
 use crate::files::read_if_there;
-use crate::new_file::NewFile;
+use crate::new_file::{Form, NewFile, find_stranger};
 use crate::{FileFailed, WholeFile};
 use rdump_talk::Keeper;
 use std::alloc::Global;
 use std::fs::File;
-use std::io;
+use std::io::{self, ErrorKind};
 use std::rt::Files;
-use std::time::Clock;
-
-/// For how long a run has the lock of a file that it replaces.
-#[derive(Clone, Copy, PartialEq, Eq)]
-enum LockTime {
-    /// From the read to the text that is put in place: the lock is that of the new file.
-    OneStep,
-    /// From the read on, as long as the run lives: the lock is that of the file which is in place.
-    WholeRun,
-}
+use std::time::{Clock, SystemTime};
 
 /// A file by its path. It tells nothing: what a file holds, no clause says.
 ///
@@ -25,40 +16,44 @@ enum LockTime {
 /// renamed. The new file is made first, and its advisory lock is taken: a run waits ten seconds for another's. Where the path is
 /// a link, the file that it leads to is read and replaced.
 ///
-/// A file of `new` is locked by one step: who reads it makes the new file before, and has that one's lock until the text is in
+/// A new file that another run left is taken away, where it holds a beginning of what is written there: dumpdates or a checkpoint. Any other
+/// file that has the name stays, and nothing is put in place then.
+///
+/// A file of `new` is dumpdates, and is locked by one step: who reads it makes the new file before, and has that one's lock until the text is in
 /// place or this is dropped. So what is read and what is put in place of it is one step between any number of runs.
 ///
-/// A file of `held` is one run's alone: the file that is in place is locked from the read on, and each new one before it has the
+/// A file of `held` is a checkpoint, and one run's alone: the file that is in place is locked from the read on, and each new one before it has the
 /// name. Another run's is not read, and nothing is put in place of it.
 #[derive(Drop)]
 pub struct ReplacedFile<'a, R: Files<File = File> + Clock> {
     rt: &'a R,
     alloc: Global,
     path: &'a str,
-    lock_time: LockTime,
+    form: Form,
     new: Option<NewFile<'a, R>>,
     placed: Option<NewFile<'a, R>>,
     failure: Option<io::Error>,
 }
 
 impl<'a, R: Files<File = File> + Clock> ReplacedFile<'a, R> {
-    /// The file at this path, which need not be there. It is locked from a read to the text that is put in place then.
+    /// The dumpdates file at this path, which need not be there. It is locked from a read to the text that is put in place then.
     pub fn new(rt: &'a R, alloc: Global, path: &'a str) -> Self {
-        ReplacedFile::with_lock(rt, alloc, path, LockTime::OneStep)
+        ReplacedFile::with_form(rt, alloc, path, Form::Dates)
     }
 
-    /// The file at this path, which need not be there. It is locked from the read on, for as long as this lives.
+    /// The checkpoint file at this path, which need not be there. It is locked from the read on, for as long as this lives. Each that is put
+    /// in place has the mode 0600.
     pub fn held(rt: &'a R, alloc: Global, path: &'a str) -> Self {
-        ReplacedFile::with_lock(rt, alloc, path, LockTime::WholeRun)
+        ReplacedFile::with_form(rt, alloc, path, Form::Checkpoint)
     }
 
-    /// The file at this path, locked for so long.
-    fn with_lock(rt: &'a R, alloc: Global, path: &'a str, lock_time: LockTime) -> Self {
+    /// The file at this path, to which this is written.
+    fn with_form(rt: &'a R, alloc: Global, path: &'a str, form: Form) -> Self {
         ReplacedFile {
             rt,
             alloc,
             path,
-            lock_time,
+            form,
             new: None,
             placed: None,
             failure: None,
@@ -73,10 +68,26 @@ impl<'a, R: Files<File = File> + Clock> ReplacedFile<'a, R> {
     /// Why no text could be put in place now, as far as that shows without one: the new file can't be made. What it makes it takes away,
     /// and what lies there it leaves.
     pub fn find_fault(&self) -> Option<io::Error> {
-        match NewFile::try_make(self.rt, self.alloc, self.path) {
+        match NewFile::try_make(self.rt, self.alloc, self.path, self.form) {
             Ok(_) => None,
             Err(error) => Some(error),
         }
+    }
+
+    /// The path of the new file, where a plain file lies there that no run left, so that none can be made. What another run has locked is
+    /// not looked at. None too where the system does not tell: it is found out when the new file is made.
+    ///
+    /// It fails only where memory is refused.
+    pub fn find_stranger(&self) -> io::Result<Option<String>> {
+        match find_stranger(self.rt, self.alloc, self.path, self.form) {
+            Err(error) if error.kind() != ErrorKind::OutOfMemory => Ok(None),
+            found => found,
+        }
+    }
+
+    /// When a file that is held was last written to. None where none is held, that was before 1970, or the system does not tell.
+    pub fn modified(&self) -> Option<SystemTime> {
+        self.placed.as_ref()?.modified()
     }
 
     /// Removes a file that is held, and gives its lock back. Where none is held, or it is gone, there is nothing to do.
@@ -102,15 +113,15 @@ impl<'a, R: Files<File = File> + Clock> ReplacedFile<'a, R> {
     fn take_new(&mut self) -> io::Result<NewFile<'a, R>> {
         match self.new.take() {
             Some(new) => Ok(new),
-            None => NewFile::make(self.rt, self.alloc, self.path),
+            None => NewFile::make(self.rt, self.alloc, self.path, self.form),
         }
     }
 
     /// Reads the file with its lock, and keeps that.
     fn read_locked(&mut self, alloc: Global) -> io::Result<Option<Vec<u8>>> {
-        match self.lock_time {
-            LockTime::OneStep => self.read_beside_new(alloc),
-            LockTime::WholeRun => self.read_placed(alloc),
+        match self.form {
+            Form::Dates => self.read_beside_new(alloc),
+            Form::Checkpoint => self.read_placed(alloc),
         }
     }
 
@@ -124,7 +135,7 @@ impl<'a, R: Files<File = File> + Clock> ReplacedFile<'a, R> {
 
     /// Reads the file that is in place, and keeps its lock.
     fn read_placed(&mut self, alloc: Global) -> io::Result<Option<Vec<u8>>> {
-        let Some(mut placed) = NewFile::find(self.rt, self.alloc, self.path)? else {
+        let Some(mut placed) = NewFile::find(self.rt, self.alloc, self.path, self.form)? else {
             return Ok(None);
         };
         let bytes = placed.read(alloc)?;
@@ -135,9 +146,9 @@ impl<'a, R: Files<File = File> + Clock> ReplacedFile<'a, R> {
     /// Puts the new file in place, with this text.
     fn put(&mut self, text: &[u8]) -> io::Result<()> {
         let mut new = self.take_new()?;
-        match self.lock_time {
-            LockTime::OneStep => put_unlocked(new, text),
-            LockTime::WholeRun => {
+        match self.form {
+            Form::Dates => put_unlocked(new, text),
+            Form::Checkpoint => {
                 new.check_place(self.placed.as_ref())?;
                 new.put(text)?;
                 new.settle();

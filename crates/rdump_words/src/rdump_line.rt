@@ -42,7 +42,7 @@ pub enum RdumpLine<'a> {
 /// commands:
 ///
 /// `dump --to ADDRESS --device D --fs NAME --level L --payload FILE --block BYTES --dumpdates FILE [--date SECONDS]
-/// [--checkpoint FILE] [--update]`, `read --to ADDRESS --device D --out FILE [--place] [--all] [--length BYTES]`,
+/// [--checkpoint FILE] [--update] [--protect]`, `read --to ADDRESS --device D --out FILE [--place] [--all] [--length BYTES]`,
 /// `ls FILE|FOLDER... [--dumpdates FILE [--blocks N]]`, `ls --to ADDRESS --device D [--dumpdates FILE [--blocks N]]`,
 /// `mt --to ADDRESS --device D OP COUNT`, and `dates --file FILE [--name NAME --level LEVEL]`.
 ///

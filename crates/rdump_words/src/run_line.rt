@@ -34,6 +34,8 @@ pub struct DumpLine<'a> {
     pub checkpoint: Option<&'a str>,
     /// Whether the dump is entered in the dumpdates file once it is complete.
     pub update: bool,
+    /// Whether each attempt looks at the reel first, and writes on no reel of another dump.
+    pub protect: bool,
 }
 
 /// What is said of a level that is no number.
@@ -68,6 +70,7 @@ pub(crate) fn dump_in<'a>(matches: &ArgMatches<'a>) -> Result<DumpLine<'a>, Word
             date,
             checkpoint: matches.get_str("checkpoint"),
             update: is_given(matches, "update"),
+            protect: is_given(matches, "protect"),
         }),
         Err(fault) => Err(fault),
     }
@@ -105,7 +108,7 @@ fn date_in(text: Option<&str>) -> Option<Option<u64>>
 }
 
 /// The words of `rdump dump`.
-pub(crate) static DUMP_WORDS: [Word; 10] = [
+pub(crate) static DUMP_WORDS: [Word; 11] = [
     Word::TO,
     Word::DEVICE,
     Word {
@@ -161,6 +164,13 @@ pub(crate) static DUMP_WORDS: [Word; 10] = [
         name: "update",
         value: "",
         help: "Enter the dump in the dumpdates file once it is complete",
+        form: Form::Flag,
+        missing: "",
+    },
+    Word {
+        name: "protect",
+        value: "",
+        help: "Write on no reel that another dump, or anyone else, has written",
         form: Form::Flag,
         missing: "",
     },

@@ -1,0 +1,226 @@
+//! What a run that was stopped leaves of a new file: a beginning of the text that it writes there.
+ghost use Rattle.std.specs.Prelude.{◌≡◌, ◌++◌, ◌≤◌, IfOk, IsTrue, List, length, true};
+ghost use Rattle.std.specs.List.{list_all};
+ghost use Rattle.dumpdates.specs.Entry.{DatesEntry};
+ghost use Rattle.dumpdates.specs.Text.{written};
+ghost use Rattle.dump_run.specs.Checkpoint.{SpellsCheckpoint};
+ghost use Rattle.dump_run.specs.Run.{PlainRun};
+ghost use Rattle.dump_run.specs.declared.count.VolumeCount.{VolumeCount};
+ghost use Rattle.rdump_files.specs.Left.{BeginsCheckpoint, IsLeftDates};
+ghost use Rattle.rdump_files.specs.Left as spec;
+
+use dump_client::{ResumeFault, VolumeCount};
+use dump_run::Checkpoint;
+use dumpdates::{Dates, DatesFault};
+use std::alloc::{AllocError, Global};
+
+/// The most bytes of a name in dumpdates, and the fewest places that it takes there.
+const NAME_LIMIT: usize = 255;
+
+const NAME_PLACES: usize = 32;
+
+/// What follows the name in a line of dumpdates. A digit stands for any digit, a letter for any letter, and a space for itself.
+const AFTER_NAME: &[u8] = b" 0 Www Mmm 00 00:00:00 0000";
+
+/// Where the weekday, the month and the day of the month begin there. The first place of the day may be a space.
+const WEEKDAY_AT: usize = 3;
+
+const MONTH_AT: usize = 7;
+
+const DAY_AT: usize = 11;
+
+/// How many letters a weekday and a month have, and their names.
+const NAME_LETTERS: usize = 3;
+
+const WEEKDAYS: &[u8] = b"MonTueWedThuFriSatSun";
+
+const MONTHS: &[u8] = b"JanFebMarAprMayJunJulAugSepOctNovDec";
+
+/// The text of a least checkpoint: what ends a line of a run, and all lines after it.
+const LEAST_RUN: &[u8] = b"rdump 1\ndevice d\nfs f\nlevel 0\ndate 0\nsince 0\nblock 1\nblocks 0\n";
+
+/// The eight lines of a run have fewer bytes.
+const RUN_ROOM: usize = 1024;
+
+/// Whether a run that was stopped may have left these bytes of a dumpdates file: none, or whole lines as they are written
+/// (`Dates::text`), and perhaps a beginning of one more.
+///
+/// It fails only where memory is refused.
+pub fn is_left_dates(alloc: Global, bytes: &[u8]) -> Result<bool, AllocError>
+    ensures { IfOk result (λ is_left. IsTrue is_left → IsLeftDates bytes.now) }
+{
+    let (lines, rest) = bytes.split_at(lines_len(bytes));
+    if !begins_line(rest) {
+        return Ok(false);
+    }
+    are_written(alloc, lines)
+}
+
+/// Whether a run that was stopped may have left these bytes of a checkpoint: none, or a beginning of the text of one
+/// (`push_checkpoint`), cut off anywhere.
+///
+/// It fails only where memory is refused.
+pub fn is_left_checkpoint(alloc: Global, bytes: &[u8]) -> Result<bool, AllocError>
+    ensures { IfOk result (λ is_left. IsTrue is_left → BeginsCheckpoint bytes.now) }
+{
+    if begins_run(alloc, bytes)? {
+        return Ok(true);
+    }
+    begins_counts(alloc, bytes)
+}
+
+/// How many bytes whole lines have.
+fn lines_len(bytes: &[u8]) -> usize
+    ensures { result ≤ length bytes.now }
+{
+    match bytes.iter().rposition(|b| *b == b'\n') {
+        Some(at) => at + 1,
+        None => 0,
+    }
+}
+
+/// Whether these bytes begin a line of dumpdates, without its line feed.
+fn begins_line(rest: &[u8]) -> bool
+    ensures { IsTrue result → list_all spec.is_line_byte rest.now ≡ true }
+{
+    are_line_bytes(rest) && has_shape(rest)
+}
+
+/// Whether these bytes are spaces and printed ASCII.
+fn are_line_bytes(bytes: &[u8]) -> bool
+    ensures { result ≡ list_all spec.is_line_byte bytes.now }
+{
+    bytes.iter().all(|b| is_line_byte(*b))
+}
+
+/// Whether a byte is a space or printed ASCII.
+fn is_line_byte(byte: u8) -> bool
+    ensures { result ≡ spec.is_line_byte byte }
+{
+    byte >= b' ' && byte <= b'~'
+}
+
+/// Whether these bytes are a name, spaces up to its places, and a beginning of what follows it; or a beginning of a name.
+fn has_shape(rest: &[u8]) -> bool {
+    let name = rest.iter().take_while(|b| **b != b' ').count();
+    if name > NAME_LIMIT || (name == 0 && !rest.is_empty()) {
+        return false;
+    }
+    let places = name.max(NAME_PLACES);
+    for (at, byte) in rest.iter().enumerate() {
+        if at >= name && !fits(*byte, at, places) {
+            return false;
+        }
+    }
+    let after = rest.get(places..).unwrap_or(b"");
+    begins_one(WEEKDAYS, after, WEEKDAY_AT) && begins_one(MONTHS, after, MONTH_AT)
+}
+
+/// Whether what stands at this place begins one of these names, or nothing stands there.
+fn begins_one(names: &[u8], text: &[u8], at: usize) -> bool {
+    let rest = text.get(at..).unwrap_or(b"");
+    let word = rest.get(..NAME_LETTERS).unwrap_or(rest);
+    names
+        .chunks(NAME_LETTERS)
+        .any(|name| name.starts_with(word))
+}
+
+/// Whether a byte may stand at this place of a line, whose name takes so many places and ended before it.
+fn fits(byte: u8, at: usize, places: usize) -> bool {
+    if at < places {
+        return byte == b' ';
+    }
+    match AFTER_NAME.get(at - places) {
+        Some(b'0') => byte.is_ascii_digit() || (byte == b' ' && at - places == DAY_AT),
+        Some(wanted) if wanted.is_ascii_alphabetic() => byte.is_ascii_alphabetic(),
+        Some(wanted) => byte == *wanted,
+        None => false,
+    }
+}
+
+/// Whether these lines are just as dumpdates writes their entries.
+fn are_written(alloc: Global, lines: &[u8]) -> Result<bool, AllocError>
+    ensures { IfOk result (λ are. IsTrue are → (entries : List DatesEntry) × (lines.now ≡ written entries)) }
+{
+    let dates = match Dates::read(alloc, lines) {
+        Ok(dates) => dates,
+        Err(DatesFault::OutOfMemory) => return Err(AllocError),
+        Err(_) => return Ok(false),
+    };
+    match dates.text() {
+        Ok(text) => Ok(text.as_slice() == lines),
+        Err(_) => Err(AllocError),
+    }
+}
+
+/// Whether these bytes are a checkpoint that is cut off in the lines of its run.
+fn begins_run(alloc: Global, bytes: &[u8]) -> Result<bool, AllocError>
+    ensures { IfOk result (λ begins. IsTrue begins → BeginsCheckpoint bytes.now) }
+{
+    if bytes.len() > RUN_ROOM {
+        return Ok(false);
+    }
+    for at in 0..LEAST_RUN.len() {
+        if is_completed(alloc, bytes, &LEAST_RUN[at..])? {
+            return Ok(true);
+        }
+    }
+    Ok(false)
+}
+
+/// Whether these bytes are a checkpoint that is whole, or is cut off in the line of a count.
+fn begins_counts(alloc: Global, bytes: &[u8]) -> Result<bool, AllocError>
+    ensures { IfOk result (λ begins. IsTrue begins → BeginsCheckpoint bytes.now) }
+{
+    let (lines, rest) = bytes.split_at(lines_len(bytes));
+    if rest.is_empty() {
+        return is_completed(alloc, bytes, b"");
+    }
+    let Some(line) = next_line(alloc, lines)? else {
+        return Ok(false);
+    };
+    is_completed(alloc, bytes, ending(line.as_bytes(), rest))
+}
+
+/// The least line that goes on with the counts of a checkpoint. None where these lines are none.
+fn next_line(alloc: Global, lines: &[u8]) -> Result<Option<String>, AllocError> {
+    let found = match Checkpoint::read(alloc, lines) {
+        Ok(found) => found,
+        Err(ResumeFault::OutOfMemory) => return Err(AllocError),
+        Err(_) => return Ok(None),
+    };
+    let (volume, first) = match found.counts.last() {
+        Some(last) => after(*last),
+        None => (1, 0),
+    };
+    let least = found.run.blocks().min(1);
+    Ok(Some(format!(in alloc; "counted {volume} {first} {least}\n")?))
+}
+
+/// The number of the volume after this one, and its first block.
+fn after(last: VolumeCount) -> (u32, u32) {
+    let first = last.first.saturating_add(last.count);
+    (last.volume.saturating_add(1), first)
+}
+
+/// What a piece of a line lacks: the rest of this line where it begins so, and else a line feed.
+fn ending<'a>(line: &'a [u8], piece: &[u8]) -> &'a [u8] {
+    if line.starts_with(piece) {
+        return &line[piece.len()..];
+    }
+    b"\n"
+}
+
+/// Whether these bytes with more after them are the text of a checkpoint.
+fn is_completed(alloc: Global, bytes: &[u8], more: &[u8]) -> Result<bool, AllocError>
+    ensures { IfOk result (λ is. IsTrue is →
+        (run : PlainRun) × (counts : List VolumeCount) × SpellsCheckpoint (bytes.now ++ more.now) run counts) }
+{
+    let mut text = Vec::from_slice(alloc, bytes)?;
+    text.extend_from_slice(more)?;
+    match Checkpoint::read(alloc, &text) {
+        Ok(_) => Ok(true),
+        Err(ResumeFault::OutOfMemory) => Err(AllocError),
+        Err(_) => Ok(false),
+    }
+}
