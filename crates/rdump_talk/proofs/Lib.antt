@@ -5,4 +5,6 @@ pub mod Heard
 pub mod Calls
 pub mod Operating
 pub mod Reading
+pub mod Marks
 pub mod Keeping
+pub mod Looking

@@ -13,10 +13,10 @@ use Rattle.dump_client.specs.declared.stage.Stage.TheVariants.{Ready, ToSend, Wa
 use Rattle.dump_client.specs.declared.stage.State.{State}
 use Rattle.dump_client.specs.declared.stage.State.TheVariants as told
 use Rattle.rmt_wire.specs.Print.{IsPrinted}
-use Rattle.rdump_talk.specs.Lines.{DumpLines, HasGrown, IsConcluded, IsConclusion, IsDumped, IsFinish, IsLast, IsRound, abandoned_line, complete_line, conclusion_status, count_lines, failure_lines}
+use Rattle.rdump_talk.specs.Lines.{DumpLines, HasGrown, IsConcluded, IsConclusion, IsDumped, IsFinish, IsLast, IsRound, abandoned_line, complete_line, conclusion_status, count_lines, failure_lines, question_line}
 use Rattle.rdump_talk.specs.declared.conclusion.Conclusion.{Conclusion}
 use Rattle.rdump_talk.specs.declared.conclusion.Conclusion.TheVariants as ends
-use Rattle.rdump_talk.specs.Lines.DumpLines.{none, counted, failed}
+use Rattle.rdump_talk.specs.Lines.DumpLines.{none, counted, failed, asked}
 
 module _ {W : Type 0} (contents : W → Option (List ℕ)) where
   pub nothing_printed : (out : Counting W) → IsPrinted contents [] out out true
@@ -51,6 +51,7 @@ lines_both a b one h c two (counted {counts = counts} {text = text} more k) =
     subst (DumpLines a (counts ++ more)) (append_assoc one text (count_lines more)) (counted more (lines_both a b one h counts text k))
 lines_both a b one h c two (failed {text = text} fault k) =
     subst (DumpLines a c) (append_assoc one text (failure_lines (checkpoint_of c).0 fault)) (failed fault (lines_both a b one h c text k))
+lines_both a b one h c two (asked {text = text} k) = subst (DumpLines a c) (append_assoc one text question_line) (asked (lines_both a b one h c text k))
 
 -- the lines of what was counted since
 pub lines_since : (old new : List VolumeCount) (n : ℕ) → n ≡ length old → HasGrown old new → DumpLines old new (count_lines (drop n new))
@@ -61,6 +62,9 @@ lines_since old new n e (more, is) =
 
 pub lines_failed : (counts : List VolumeCount) (fault : AttemptFault) → DumpLines counts counts (failure_lines (checkpoint_of counts).0 fault)
 lines_failed counts fault = failed fault none
+
+pub lines_asked : (counts : List VolumeCount) → DumpLines counts counts question_line
+lines_asked counts = asked none
 
 pub lines_same : (old new : List VolumeCount) → new ≡ old → DumpLines old new []
 lines_same old new e = subst (λ n. DumpLines old n []) (sym e) none

@@ -1,22 +1,22 @@
 -- A volume that is read over a peer, put together.
-use Rattle.std.proofs.Common.{◌≡◌, ◌≢◌, inl, inr, ℕ, ◌+◌, ◌-◌, ◌^◌, ◌≤◌, List, [], ◌∷◌, ◌++◌, length, Bool, true, false, Option, Some, None, Result, Ok, Err, Vec, Global, refl, sym, ap, subst, ◌∙◌, if◌then◌else◌, append-nil, append_assoc, length-append, nat_eq, arith}
+use Rattle.std.proofs.Common.{◌≡◌, ◌≢◌, inl, inr, ℕ, ◌+◌, ◌-◌, ◌^◌, ◌≤◌, List, [], ◌∷◌, ◌++◌, length, Bool, true, false, Option, Some, None, Result, Ok, Err, Vec, Global, refl, sym, ap, subst, ◌∙◌, if◌then◌else◌, append-nil, append_assoc, nat_eq, arith}
 use Rattle.std.proofs.lemmas.Bool.Decides.{nat_tests}
 use Rattle.std.specs.List.{concat}
 use Rattle.std.proofs.lemmas.List.Folds.{concat-append}
 use Rattle.rmt_wire.specs.Counted.{Counting}
-use Rattle.rmt_wire.specs.declared.mtio.TheConstants.{MTREW, MTOFFL}
+use Rattle.rmt_wire.specs.declared.mtio.TheConstants.{MTREW}
 use Rattle.rmt_wire.specs.declared.limits.TheConstants.{RECORD_LIMIT}
 use Rattle.rmt_wire.specs.Reply.{PlainReply}
 use Rattle.rmt_wire.specs.Reply.PlainReply.{Done, Data, Error}
 use Rattle.rmt_wire.specs.Reply.Wanted.{Number}
 use Rattle.rmt_wire.specs.Request.{PlainRequest}
-use Rattle.rmt_wire.specs.Request.PlainRequest.{Close, Read, Op}
+use Rattle.rmt_wire.specs.Request.PlainRequest.{Read, Op}
 use Rattle.rdump_talk.specs.KeptReply.{told_reply}
 use Rattle.rdump_talk.specs.Call.{wanted_by, IsPeerCall, IsCalled, Brings}
 use Rattle.rdump_talk.specs.Calls.{is_done, CallsFollow, Stops, Extends}
 use Rattle.rmt_wire.specs.Print.{IsPrinted}
 use Rattle.rdump_talk.specs.Ends.{copy_ends, copy_kind, stream_ends, stream_kind}
-use Rattle.rdump_talk.specs.Reading.{next_of, next_label, next_read, next_end, records_of, text_of, label_text, file_bytes, IsNamed, ReadFails, is_whole, is_copied, read_fault, AreRecords, IsAtLabel, IsVolumeReading, IsVolumeRead, IsAtMark, IsTakenAway, Breaks, CallSteps, IsBegun, IsDone, IsDoneNext, IsDoneBy, IsRecordRead, Reads, ReadsVolume, AreRecordsWritten, IsCopied, IsThrough}
+use Rattle.rdump_talk.specs.Reading.{next_of, next_read, next_mark, goes_of, goes_with, records_of, text_of, label_text, file_bytes, IsNamed, ReadFails, ReadEnds, is_whole, is_copied, read_fault, AreRecords, IsAtLabel, IsVolumeReading, IsVolumeRead, EndsAtRefusal, GoesOnBy, Breaks, CallSteps, IsBegun, IsDone, IsDoneBy, IsRecordRead, Reads, ReadsVolume, AreRecordsWritten, Concludes, IsCopied, IsThrough}
 use Rattle.rdump_talk.specs.declared.kept_reply.KeptReply.{KeptReply}
 use Rattle.rdump_talk.specs.declared.kept_reply.KeptReply.TheVariants as kept
 use Rattle.rdump_talk.specs.declared.fault.VolumeRequest.{VolumeRequest}
@@ -26,7 +26,7 @@ use Rattle.rdump_talk.specs.declared.fault.ReadFault.{ReadFault}
 use Rattle.rdump_talk.specs.declared.fault.ReadFault.TheVariants.{Refused, Botched, OutputFailed}
 use Rattle.rdump_talk.specs.declared.peer.Passed.{Passed}
 use Rattle.rdump_talk.specs.declared.volume.AfterVolume.{AfterVolume}
-use Rattle.rdump_talk.specs.declared.volume.AfterVolume.TheVariants.{Stay, Offline}
+use Rattle.rdump_talk.specs.declared.volume.AfterVolume.TheVariants.{Stay}
 use Rattle.rdump_talk.proofs.Calls.{logs_both, call_extends, call_finishes, extends_both}
 use Rattle.rdump_talk.proofs.Printed.{nothing_printed, printed_both}
 use Rattle.rdump_talk.proofs.Talking.{alone}
@@ -38,59 +38,108 @@ records_more (Data bytes ∷ a) b = ap (λ l. bytes ∷ l) (records_more a b)
 records_more (Done n ∷ a) b = records_more a b
 records_more (Error n text ∷ a) b = records_more a b
 
-records_same : (a b : List PlainReply) → records_of b ≡ [] → records_of (a ++ b) ≡ records_of a
+pub records_same : (a b : List PlainReply) → records_of b ≡ [] → records_of (a ++ b) ≡ records_of a
 records_same a b none = records_more a b ∙ ap (λ l. records_of a ++ l) none ∙ append-nil (records_of a)
 
 -- what is asked after records
-read_again : (after : AfterVolume) (reads : List PlainReply) → AreRecords reads → next_read after reads ≡ Some (Read RECORD_LIMIT)
-read_again after [] h = refl
-read_again after (Data [] ∷ reads) h = absurd h
-read_again after (Data (b ∷ bytes) ∷ reads) h = read_again after reads h
-read_again after (Done n ∷ reads) h = absurd h
-read_again after (Error n text ∷ reads) h = absurd h
+read_again : (after : AfterVolume) (m n : ℕ) (reads : List PlainReply) → AreRecords m n reads → next_read after m reads ≡ Some (Read RECORD_LIMIT)
+read_again after m n [] h = refl
+read_again after m n (Data [] ∷ reads) h = absurd h
+read_again after m n (Data (b ∷ bytes) ∷ reads) h = read_again after (m + 1) n reads h
+read_again after m n (Done k ∷ reads) h = absurd h
+read_again after m n (Error k text ∷ reads) h = absurd h
 
-end_after : (after : AfterVolume) (reads ends : List PlainReply) → AreRecords reads → next_read after ((reads ++ Data [] ∷ []) ++ ends) ≡ next_end after ends
-end_after after [] ends h = refl
-end_after after (Data [] ∷ reads) ends h = absurd h
-end_after after (Data (b ∷ bytes) ∷ reads) ends h = end_after after reads ends h
-end_after after (Done n ∷ reads) ends h = absurd h
-end_after after (Error n text ∷ reads) ends h = absurd h
+read_stops : (after : AfterVolume) (m n number : ℕ) (text : List ℕ) (reads : List PlainReply) → AreRecords m n reads → next_read after m (reads ++ Error number text ∷ []) ≡ None
+read_stops after m n number text [] h = refl
+read_stops after m n number text (Data [] ∷ reads) h = absurd h
+read_stops after m n number text (Data (b ∷ bytes) ∷ reads) h = read_stops after (m + 1) n number text reads h
+read_stops after m n number text (Done k ∷ reads) h = absurd h
+read_stops after m n number text (Error k words ∷ reads) h = absurd h
 
-one_record : (bytes : List ℕ) → bytes ≢ [] → AreRecords (Data bytes ∷ [])
-one_record [] some = absurd (some refl)
-one_record (b ∷ bytes) some = tt
+end_after : (after : AfterVolume) (m n : ℕ) (reads ends : List PlainReply) → AreRecords m n reads → next_read after m ((reads ++ Data [] ∷ []) ++ ends) ≡ next_mark (goes_of after n) n ends
+end_after after m n [] ends h = ap (λ k. next_mark (goes_of after k) k ends) (sym h)
+end_after after m n (Data [] ∷ reads) ends h = absurd h
+end_after after m n (Data (b ∷ bytes) ∷ reads) ends h = end_after after (m + 1) n reads ends h
+end_after after m n (Done k ∷ reads) ends h = absurd h
+end_after after m n (Error k text ∷ reads) ends h = absurd h
 
-record_after : (reads : List PlainReply) (bytes : List ℕ) → AreRecords reads → bytes ≢ [] → AreRecords (reads ++ Data bytes ∷ [])
-record_after [] bytes h some = one_record bytes some
-record_after (Data [] ∷ reads) bytes h some = absurd h
-record_after (Data (b ∷ more) ∷ reads) bytes h some = record_after reads bytes h some
-record_after (Done n ∷ reads) bytes h some = absurd h
-record_after (Error n text ∷ reads) bytes h some = absurd h
+-- how many there are
+records_least : (m n : ℕ) (reads : List PlainReply) → AreRecords m n reads → m ≤ n
+records_least m n [] h = omega (arith, h)
+records_least m n (Data [] ∷ reads) h = absurd h
+records_least m n (Data (b ∷ bytes) ∷ reads) h = let k = records_least (m + 1) n reads h in omega (arith, k)
+records_least m n (Done k ∷ reads) h = absurd h
+records_least m n (Error k text ∷ reads) h = absurd h
 
-pub reading_next : (device : List ℕ) (after : AfterVolume) (replies : List PlainReply) → IsVolumeReading replies → next_of device after replies ≡ Some (Read RECORD_LIMIT)
-reading_next device after replies (opened, rewound, b, bytes, reads, e, met, h) =
-    ap (next_of device after) e ∙ ap (λ t. if t then next_read after reads else None) met ∙ read_again after reads h
+records_long : (m n : ℕ) (reads : List PlainReply) → AreRecords m n reads → n ≤ m + length reads
+records_long m n [] h = omega (arith, h)
+records_long m n (Data [] ∷ reads) h = absurd h
+records_long m n (Data (b ∷ bytes) ∷ reads) h = let k = records_long (m + 1) n reads h in omega (arith, k)
+records_long m n (Done k ∷ reads) h = absurd h
+records_long m n (Error k text ∷ reads) h = absurd h
 
-pub reading_mark : (device : List ℕ) (after : AfterVolume) (replies : List PlainReply) → IsVolumeRead replies → IsAtMark (next_of device after) after replies
-reading_mark device after replies (before, (opened, rewound, b, bytes, reads, e, met, h), same) = λ ends.
+one_record : (m n : ℕ) (bytes : List ℕ) → n ≡ m → bytes ≢ [] → AreRecords m (n + 1) (Data bytes ∷ [])
+one_record m n [] h some = absurd (some refl)
+one_record m n (b ∷ bytes) h some = ap (λ k. k + 1) h
+
+record_after : (m n : ℕ) (reads : List PlainReply) (bytes : List ℕ) → AreRecords m n reads → bytes ≢ [] → AreRecords m (n + 1) (reads ++ Data bytes ∷ [])
+record_after m n [] bytes h some = one_record m n bytes h some
+record_after m n (Data [] ∷ reads) bytes h some = absurd h
+record_after m n (Data (b ∷ more) ∷ reads) bytes h some = record_after (m + 1) n reads bytes h some
+record_after m n (Done k ∷ reads) bytes h some = absurd h
+record_after m n (Error k text ∷ reads) bytes h some = absurd h
+
+pub reading_next : (device : List ℕ) (after : AfterVolume) (n : ℕ) (replies : List PlainReply) → IsVolumeReading n replies → next_of device after replies ≡ Some (Read RECORD_LIMIT)
+reading_next device after n replies (opened, rewound, b, bytes, reads, e, met, h) =
+    ap (next_of device after) e ∙ ap (λ t. if t then next_read after 1 reads else None) met ∙ read_again after 1 n reads h
+
+pub reading_stops : (device : List ℕ) (after : AfterVolume) (n : ℕ) (replies : List PlainReply) → IsVolumeReading n replies → EndsAtRefusal (next_of device after) replies
+reading_stops device after n replies (opened, rewound, b, bytes, reads, e, met, h) = λ number text.
+    ap (λ l. next_of device after (l ++ Error number text ∷ [])) e ∙ ap (λ t. if t then next_read after 1 (reads ++ Error number text ∷ []) else None) met
+    ∙ read_stops after 1 n number text reads h
+
+pub reading_mark : (device : List ℕ) (after : AfterVolume) (n : ℕ) (replies : List PlainReply) → IsVolumeRead n replies → GoesOnBy (next_of device after) (next_mark (goes_of after n) n) replies
+reading_mark device after n replies (before, (opened, rewound, b, bytes, reads, e, met, h), same) = λ ends.
     ap (λ l. next_of device after (l ++ ends)) same ∙ ap (λ l. next_of device after ((l ++ Data [] ∷ []) ++ ends)) e
-    ∙ ap (λ t. if t then next_read after ((reads ++ Data [] ∷ []) ++ ends) else None) met ∙ end_after after reads ends h
+    ∙ ap (λ t. if t then next_read after 1 ((reads ++ Data [] ∷ []) ++ ends) else None) met ∙ end_after after 1 n reads ends h
 
-pub reading_more : (replies : List PlainReply) (bytes : List ℕ) → IsVolumeReading replies → bytes ≢ [] → IsVolumeReading (replies ++ Data bytes ∷ [])
-reading_more replies bytes (opened, rewound, b, label, reads, e, met, h) some =
-    (opened, rewound, b, label, reads ++ Data bytes ∷ [], ap (λ l. l ++ Data bytes ∷ []) e, met, record_after reads bytes h some)
+pub reading_more : (n : ℕ) (replies : List PlainReply) (bytes : List ℕ) → IsVolumeReading n replies → bytes ≢ [] → IsVolumeReading (n + 1) (replies ++ Data bytes ∷ [])
+reading_more n replies bytes (opened, rewound, b, label, reads, e, met, h) some =
+    (opened, rewound, b, label, reads ++ Data bytes ∷ [], ap (λ l. l ++ Data bytes ∷ []) e, met, record_after 1 n reads bytes h some)
+
+reading_long : (n : ℕ) (replies : List PlainReply) → IsVolumeReading n replies → n ≤ length replies
+reading_long n replies (opened, rewound, b, bytes, reads, e, met, h) =
+    subst (λ l. n ≤ length l) (sym e) (let k = records_long 1 n reads h in omega (arith, k))
+
+read_some : (n : ℕ) (replies : List PlainReply) → IsVolumeRead n replies → 1 ≤ n
+read_some n replies (before, (opened, rewound, b, bytes, reads, e, met, h), same) = records_least 1 n reads h
+
+-- what becomes of the reel
+goes_label : (after : AfterVolume) (bytes : List ℕ) (more : List (List ℕ)) → bytes ≢ [] → goes_with after (bytes ∷ more) ≡ after
+goes_label after [] more some = absurd (some refl)
+goes_label after (b ∷ bytes) more some = refl
+
+not_zero : (n : ℕ) → 1 ≤ n → nat_eq n 0 ≡ false
+not_zero n h = grind (arith, nat_tests)
+
+goes_some : (after : AfterVolume) (n : ℕ) → 1 ≤ n → goes_of after n ≡ after
+goes_some after n h = ap (λ t. if t then Stay else after) (not_zero n h)
 
 -- what is asked where the label comes, and after it
 pub label_next : (device : List ℕ) (after : AfterVolume) (replies : List PlainReply) → IsAtLabel replies → next_of device after replies ≡ Some (Read RECORD_LIMIT)
 label_next device after replies (opened, rewound, e, met, none) = ap (next_of device after) e ∙ ap (λ t. if t then Some (Read RECORD_LIMIT) else None) met
 
-label_mark : (device : List ℕ) (after : AfterVolume) (replies : List PlainReply) → IsAtLabel replies → IsAtMark (next_of device after) Stay (replies ++ Data [] ∷ [])
-label_mark device after replies (opened, rewound, e, met, none) = λ ends.
-    ap (λ l. next_of device after ((l ++ Data [] ∷ []) ++ ends)) e ∙ ap (λ t. if t then next_label after (Data [] ∷ ends) else None) met
+pub label_stops : (device : List ℕ) (after : AfterVolume) (replies : List PlainReply) → IsAtLabel replies → EndsAtRefusal (next_of device after) replies
+label_stops device after replies (opened, rewound, e, met, none) = λ number text.
+    ap (λ l. next_of device after (l ++ Error number text ∷ [])) e ∙ ap (λ t. if t then next_read after 0 (Error number text ∷ []) else None) met
 
-pub label_read : (replies : List PlainReply) (bytes : List ℕ) → IsAtLabel replies → bytes ≢ [] → IsVolumeReading (replies ++ Data bytes ∷ [])
+label_mark : (device : List ℕ) (after : AfterVolume) (replies : List PlainReply) → IsAtLabel replies → GoesOnBy (next_of device after) (next_mark (goes_of after 0) 0) (replies ++ Data [] ∷ [])
+label_mark device after replies (opened, rewound, e, met, none) = λ ends.
+    ap (λ l. next_of device after ((l ++ Data [] ∷ []) ++ ends)) e ∙ ap (λ t. if t then next_read after 0 (Data [] ∷ ends) else None) met
+
+pub label_read : (replies : List PlainReply) (bytes : List ℕ) → IsAtLabel replies → bytes ≢ [] → IsVolumeReading 1 (replies ++ Data bytes ∷ [])
 label_read replies [] at some = absurd (some refl)
-label_read replies (b ∷ bytes) (opened, rewound, e, met, none) some = (opened, rewound, b, bytes, [], ap (λ l. l ++ Data (b ∷ bytes) ∷ []) e, met, tt)
+label_read replies (b ∷ bytes) (opened, rewound, e, met, none) some = (opened, rewound, b, bytes, [], ap (λ l. l ++ Data (b ∷ bytes) ∷ []) e, met, refl)
 
 -- no reply is of the wrong kind
 data_answers_no_number : (request : PlainRequest) (bytes : List ℕ) (passed : List Passed) → wanted_by request ≡ Number → IsPeerCall request (Ok (Data bytes)) passed → ⊥
@@ -134,11 +183,11 @@ module _ {P : Type 0} (next : List PlainReply → Option PlainRequest) (tells : 
 
   -- it is refused
   pub step_refused : (p q : P) (replies : List PlainReply) (request : PlainRequest) (result : Result KeptReply CallFault) (asked : VolumeRequest) (n : ℕ) (text : Vec ℕ Global) → next replies ≡ Some request
-      → result ≡ Ok (kept.Error n text) → IsNamed asked request → IsCalled tells request (told_reply result) p q → CallSteps next tells p q replies (Err (Refused asked n))
-  step_refused p q replies request result asked n text e is named h =
+      → result ≡ Ok (kept.Error n text) → IsNamed asked request → EndsAtRefusal next replies → IsCalled tells request (told_reply result) p q → CallSteps next tells p q replies (Err (Refused asked n))
+  step_refused p q replies request result asked n text e is named stops h =
       let x = call_extends next tells p q replies request result (kept.Error n text) e is h in (
         replies ++ Error n text.items ∷ [],
-        record { more = x.more; logs = x.logs; fails = λ passed f. (x.follows passed f, (replies, text.items, request, refl, e, named)) },
+        record { more = x.more; logs = x.logs; fails = λ passed f. (x.follows passed f, (replies, text.items, request, refl, e, named, stops n text.items)) },
         records_same replies (Error n text.items ∷ []) refl,
         refl,
       )
@@ -170,24 +219,22 @@ pub record WrittenTo {P F : Type 0} (tells : P → List Passed → Type 0) (file
     (p q : P) (file file' : Counting F) (turn : ℕ) : Type 0 where
   pub later : List PlainReply
   pub more : List (List ℕ)
-  pub reading : IsVolumeReading later
+  pub reading : IsVolumeReading turn later
   pub extends : Extends (next_of device after) tells p q replies later
   pub adds : records_of later ≡ records_of replies ++ more
-  pub turns : turn ≤ length later
   pub written : IsPrinted filed (concat more) file file' true
 
 concat_one : (more : List (List ℕ)) (bytes : List ℕ) → concat (more ++ bytes ∷ []) ≡ concat more ++ bytes
 concat_one more bytes = concat-append more (bytes ∷ []) ∙ ap (λ l. concat more ++ l) (append-nil bytes)
 
 module _ {P F : Type 0} (tells : P → List Passed → Type 0) (filed : F → Option (List ℕ)) (device : List ℕ) (after : AfterVolume) (replies : List PlainReply) where
-  pub written_none : (p : P) (file : Counting F) → IsVolumeReading replies → WrittenTo tells filed device after replies p p file file 0
+  pub written_none : (p : P) (file : Counting F) → IsVolumeReading 1 replies → WrittenTo tells filed device after replies p p file file 1
   written_none p file reading = record {
     later = replies;
     more = [];
     reading = reading;
     extends = extends_none (next_of device after) tells p replies;
     adds = sym (append-nil (records_of replies));
-    turns = omega arith;
     written = nothing_printed filed file;
   }
 
@@ -200,16 +247,15 @@ module _ {P F : Type 0} (tells : P → List Passed → Type 0) (filed : F → Op
   written_one p q r f g h turn bytes text w x some same printed = record {
     later = w.later ++ Data bytes ∷ [];
     more = w.more ++ bytes ∷ [];
-    reading = reading_more w.later bytes w.reading some;
+    reading = reading_more turn w.later bytes w.reading some;
     extends = extends_both (next_of device after) tells p q r replies w.later (w.later ++ Data bytes ∷ []) w.extends x;
     adds = adds_one w.later w.more bytes w.adds;
-    turns = let long = length-append w.later (Data bytes ∷ []) in omega (arith, w.turns, long);
     written = subst (λ t. IsPrinted filed t f h true) (ap (λ t. concat w.more ++ t) same ∙ sym (concat_one w.more bytes)) (printed_both filed (concat w.more) text f g h true w.written printed);
   }
 
   -- the mark
   pub written_all : (p q r : P) (f g : Counting F) (turn : ℕ) (bytes : List ℕ) (w : WrittenTo tells filed device after replies p q f g turn) → Extends (next_of device after) tells q r w.later (w.later ++ Data bytes ∷ [])
-      → bytes ≡ [] → AreRecordsWritten (next_of device after) (stream_kind tells filed) replies (stream_ends p f) (stream_ends r g) (Ok tt)
+      → bytes ≡ [] → AreRecordsWritten (next_of device after) (stream_kind tells filed) replies (stream_ends p f) (stream_ends r g) (Ok turn)
   written_all p q r f g turn bytes w x none =
       let y : Extends (next_of device after) tells q r w.later (w.later ++ Data [] ∷ []) = subst (λ b. Extends (next_of device after) tells q r w.later (w.later ++ Data b ∷ [])) none x in
       record {
@@ -233,7 +279,7 @@ module _ {P F : Type 0} (tells : P → List Passed → Type 0) (filed : F → Op
         reads = record {
           more = all.more;
           logs = all.logs;
-          fails = λ passed k. (all.follows passed k, reading_next device after (w.later ++ Data bytes ∷ []) (reading_more w.later bytes w.reading some));
+          fails = λ passed k. (all.follows passed k, reading_next device after (turn + 1) (w.later ++ Data bytes ∷ []) (reading_more turn w.later bytes w.reading some));
         };
       }
 
@@ -255,13 +301,13 @@ module _ {P F : Type 0} (tells : P → List Passed → Type 0) (filed : F → Op
     more = w.more;
     adds = w.adds;
     written = w.written;
-    reads = record { more = w.extends.more; logs = w.extends.logs; fails = λ passed k. inr (w.extends.follows passed k, omega (arith, w.turns, many)) };
+    reads = record { more = w.extends.more; logs = w.extends.logs; fails = λ passed k. inr (w.extends.follows passed k, (let long = reading_long turn w.later w.reading in omega (arith, long, many))) };
   }
 
 module _ {P F W : Type 0} (tells : P → List Passed → Type 0) (filed : F → Option (List ℕ)) (contents : W → Option (List ℕ)) (device : List ℕ) (after : AfterVolume) (replies : List PlainReply) where
   -- the label does not come
   pub copied_none : (p q : P) (f : Counting F) (o : Counting W) (fault : ReadFault) → IsAtLabel replies → CallSteps (next_of device after) tells p q replies (Err fault)
-      → IsCopied (next_of device after) (copy_kind tells filed contents) replies (copy_ends p f o) (copy_ends q f o) (Err fault)
+      → IsCopied (next_of device after) after (copy_kind tells filed contents) replies (copy_ends p f o) (copy_ends q f o) (Err fault)
   copied_none p q f o fault at x = record {
     later = x.0;
     named = true;
@@ -278,7 +324,7 @@ module _ {P F W : Type 0} (tells : P → List Passed → Type 0) (filed : F → 
 
   -- a mark comes in its place
   pub copied_mark : (p q : P) (f : Counting F) (o : Counting W) (bytes : List ℕ) → IsAtLabel replies → Extends (next_of device after) tells p q replies (replies ++ Data bytes ∷ []) → bytes ≡ []
-      → IsCopied (next_of device after) (copy_kind tells filed contents) replies (copy_ends p f o) (copy_ends q f o) (Ok Stay)
+      → IsCopied (next_of device after) after (copy_kind tells filed contents) replies (copy_ends p f o) (copy_ends q f o) (Ok 0)
   copied_mark p q f o bytes at x e =
       let y : Extends (next_of device after) tells p q replies (replies ++ Data [] ∷ []) = subst (λ b. Extends (next_of device after) tells p q replies (replies ++ Data b ∷ [])) e x in
       record {
@@ -288,12 +334,12 @@ module _ {P F W : Type 0} (tells : P → List Passed → Type 0) (filed : F → 
         label = subst (λ l. IsPrinted contents (label_text l) o o true) (sym (first_record [] at.4)) (nothing_printed contents o);
         records = subst (λ l. IsPrinted filed (file_bytes l) f f true) (sym (first_record [] at.4)) (nothing_printed filed f);
         whole = refl;
-        reads = (y, label_mark device after replies at);
+        reads = (y, label_mark device after replies at, ap (goes_with after) (first_record [] at.4));
       }
 
   -- the label is not printed
   pub copied_unnamed : (p q : P) (f : Counting F) (o o' : Counting W) (bytes text : List ℕ) → IsAtLabel replies → Extends (next_of device after) tells p q replies (replies ++ Data bytes ∷ [])
-      → bytes ≢ [] → text ≡ text_of bytes → IsPrinted contents text o o' false → IsCopied (next_of device after) (copy_kind tells filed contents) replies (copy_ends p f o) (copy_ends q f o') (Err OutputFailed)
+      → bytes ≢ [] → text ≡ text_of bytes → IsPrinted contents text o o' false → IsCopied (next_of device after) after (copy_kind tells filed contents) replies (copy_ends p f o) (copy_ends q f o') (Err OutputFailed)
   copied_unnamed p q f o o' bytes text at x some same printed = record {
     later = replies ++ Data bytes ∷ [];
     named = false;
@@ -304,53 +350,34 @@ module _ {P F W : Type 0} (tells : P → List Passed → Type 0) (filed : F → 
     reads = record {
       more = x.more;
       logs = x.logs;
-      fails = λ passed k. (x.follows passed k, reading_next device after (replies ++ Data bytes ∷ []) (label_read replies bytes at some));
+      fails = λ passed k. (x.follows passed k, reading_next device after 1 (replies ++ Data bytes ∷ []) (label_read replies bytes at some));
     };
   }
 
-  -- the reel of a volume that was read goes as it is to
-  abbrev goes_as : Result Unit ReadFault → Result AfterVolume ReadFault
-  goes_as (Ok u) = Ok after
-  goes_as (Err fault) = Err fault
+  after_label : (result : Result ℕ ReadFault) (p q r : P) (bytes : List ℕ) (more : List (List ℕ)) (later : List PlainReply) → Extends (next_of device after) tells p q replies (replies ++ Data bytes ∷ [])
+      → bytes ≢ [] → records_of later ≡ bytes ∷ more → Reads (next_of device after) tells q r (replies ++ Data bytes ∷ []) result later → ReadsVolume (next_of device after) after tells p r replies result later
+  after_label (Ok n) p q r bytes more later x some all y = (
+    extends_both (next_of device after) tells p q r replies (replies ++ Data bytes ∷ []) later x y.0,
+    reading_mark device after n later y.1,
+    ap (goes_with after) all ∙ goes_label after bytes more some ∙ sym (goes_some after n (read_some n later y.1)),
+  )
+  after_label (Err fault) p q r bytes more later x some all y = breaks_after (next_of device after) tells p q r replies (replies ++ Data bytes ∷ []) later fault x y
 
-  whole_as : (result : Result Unit ReadFault) → is_whole result ≡ is_copied (goes_as result)
-  whole_as (Ok u) = refl
-  whole_as (Err fault) = refl
-
-  after_label : (result : Result Unit ReadFault) (p q r : P) (bytes : List ℕ) (later : List PlainReply) → Extends (next_of device after) tells p q replies (replies ++ Data bytes ∷ [])
-      → Reads (next_of device after) tells q r (replies ++ Data bytes ∷ []) result later → ReadsVolume (next_of device after) tells p r replies (goes_as result) later
-  after_label (Ok u) p q r bytes later x y = (extends_both (next_of device after) tells p q r replies (replies ++ Data bytes ∷ []) later x y.0, reading_mark device after later y.1)
-  after_label (Err fault) p q r bytes later x y = breaks_after (next_of device after) tells p q r replies (replies ++ Data bytes ∷ []) later fault x y
-
-  -- it is, and the records are written
-  copied_so : (p q r : P) (f f' : Counting F) (o o' : Counting W) (bytes text : List ℕ) (result : Result Unit ReadFault) → IsAtLabel replies → Extends (next_of device after) tells p q replies (replies ++ Data bytes ∷ [])
-      → text ≡ text_of bytes → IsPrinted contents text o o' true → AreRecordsWritten (next_of device after) (stream_kind tells filed) (replies ++ Data bytes ∷ []) (stream_ends q f) (stream_ends r f') result
-      → IsCopied (next_of device after) (copy_kind tells filed contents) replies (copy_ends p f o) (copy_ends r f' o') (goes_as result)
-  copied_so p q r f f' o o' bytes text result at x same printed w =
+  -- it is, and the records are written, or a part of them
+  pub copied_so : (p q r : P) (f f' : Counting F) (o o' : Counting W) (bytes text : List ℕ) (result : Result ℕ ReadFault) → IsAtLabel replies → Extends (next_of device after) tells p q replies (replies ++ Data bytes ∷ [])
+      → bytes ≢ [] → text ≡ text_of bytes → IsPrinted contents text o o' true → AreRecordsWritten (next_of device after) (stream_kind tells filed) (replies ++ Data bytes ∷ []) (stream_ends q f) (stream_ends r f') result
+      → IsCopied (next_of device after) after (copy_kind tells filed contents) replies (copy_ends p f o) (copy_ends r f' o') result
+  copied_so p q r f f' o o' bytes text result at x some same printed w =
       let all : records_of w.later ≡ bytes ∷ w.more = w.adds ∙ ap (λ l. l ++ w.more) (first_record bytes at.4) in
       record {
         later = w.later;
         named = true;
-        filled = is_whole result;
+        filled = is_copied result;
         label = subst (λ l. IsPrinted contents (label_text l) o o' true) (sym all) (subst (λ t. IsPrinted contents t o o' true) same printed);
-        records = subst (λ l. IsPrinted filed (file_bytes l) f f' (is_whole result)) (sym all) w.written;
-        whole = whole_as result;
-        reads = after_label result p q r bytes w.later x w.reads;
+        records = subst (λ l. IsPrinted filed (file_bytes l) f f' (is_copied result)) (sym all) w.written;
+        whole = refl;
+        reads = after_label result p q r bytes w.more w.later x some all w.reads;
       }
-
-  pub copied_all : (p q r : P) (f f' : Counting F) (o o' : Counting W) (bytes text : List ℕ) (result : Result Unit ReadFault) (u : Unit) → result ≡ Ok u → IsAtLabel replies → Extends (next_of device after) tells p q replies (replies ++ Data bytes ∷ [])
-      → text ≡ text_of bytes → IsPrinted contents text o o' true → AreRecordsWritten (next_of device after) (stream_kind tells filed) (replies ++ Data bytes ∷ []) (stream_ends q f) (stream_ends r f') result
-      → IsCopied (next_of device after) (copy_kind tells filed contents) replies (copy_ends p f o) (copy_ends r f' o') (Ok after)
-  copied_all p q r f f' o o' bytes text result u is at x same printed w =
-      subst (λ k. IsCopied (next_of device after) (copy_kind tells filed contents) replies (copy_ends p f o) (copy_ends r f' o') (goes_as k)) is (copied_so p q r f f' o o' bytes text result at x same printed w)
-
-  -- they are in part
-  pub copied_part : (p q r : P) (f f' : Counting F) (o o' : Counting W) (bytes text : List ℕ) (result : Result Unit ReadFault) (fault : ReadFault) → result ≡ Err fault → IsAtLabel replies
-      → Extends (next_of device after) tells p q replies (replies ++ Data bytes ∷ []) → text ≡ text_of bytes → IsPrinted contents text o o' true
-      → AreRecordsWritten (next_of device after) (stream_kind tells filed) (replies ++ Data bytes ∷ []) (stream_ends q f) (stream_ends r f') result
-      → IsCopied (next_of device after) (copy_kind tells filed contents) replies (copy_ends p f o) (copy_ends r f' o') (Err fault)
-  copied_part p q r f f' o o' bytes text result fault is at x same printed w =
-      subst (λ k. IsCopied (next_of device after) (copy_kind tells filed contents) replies (copy_ends p f o) (copy_ends r f' o') (goes_as k)) is (copied_so p q r f f' o o' bytes text result at x same printed w)
 
 module _ {P F W : Type 0} (tells : P → List Passed → Type 0) (filed : F → Option (List ℕ)) (contents : W → Option (List ℕ)) (device : List ℕ) (after : AfterVolume) where
   -- a call before the records fails
@@ -372,7 +399,7 @@ module _ {P F W : Type 0} (tells : P → List Passed → Type 0) (filed : F → 
 
   -- the records fail
   pub through_part : (p q r : P) (f f' : Counting F) (o o' : Counting W) (replies : List PlainReply) (fault : ReadFault) → Extends (next_of device after) tells p q [] replies
-      → IsCopied (next_of device after) (copy_kind tells filed contents) replies (copy_ends q f o) (copy_ends r f' o') (Err fault) → IsThrough (copy_kind tells filed contents) device after (copy_ends p f o) (copy_ends r f' o') (Err fault)
+      → IsCopied (next_of device after) after (copy_kind tells filed contents) replies (copy_ends q f o) (copy_ends r f' o') (Err fault) → IsThrough (copy_kind tells filed contents) device after (copy_ends p f o) (copy_ends r f' o') (Err fault)
   through_part p q r f f' o o' replies fault x y =
       let all = breaks_after (next_of device after) tells p q r [] replies y.later fault x y.reads in
       record {
@@ -387,46 +414,26 @@ module _ {P F W : Type 0} (tells : P → List Passed → Type 0) (filed : F → 
         ends = all.fails;
       }
 
-  -- what comes after the records fails
-  pub through_kept : (p q r s : P) (f f' : Counting F) (o o' : Counting W) (replies : List PlainReply) (goes : AfterVolume) (fault : ReadFault) → Extends (next_of device after) tells p q [] replies
-      → (y : IsCopied (next_of device after) (copy_kind tells filed contents) replies (copy_ends q f o) (copy_ends r f' o') (Ok goes)) → CallSteps (next_of device after) tells r s y.later (Err fault)
-      → IsThrough (copy_kind tells filed contents) device after (copy_ends p f o) (copy_ends s f' o') (Err fault)
-  through_kept p q r s f f' o o' replies goes fault x y z =
-      let all = breaks_after (next_of device after) tells p q s [] replies z.0 fault x (breaks_after (next_of device after) tells q r s replies y.later z.0 fault y.reads.0 z.1) in
-      record {
-        replies = z.0;
-        more = all.more;
-        named = y.named;
-        filled = y.filled;
-        logs = all.logs;
-        label = subst (λ l. IsPrinted contents (label_text l) o o' y.named) (sym z.2) y.label;
-        records = subst (λ l. IsPrinted filed (file_bytes l) f f' y.filled) (sym z.2) y.records;
-        whole = y.whole ∙ sym z.3;
-        ends = all.fails;
-      }
-
-  -- the close
-  pub through_all : (p q r s t : P) (f f' : Counting F) (o o' : Counting W) (replies : List PlainReply) (goes : AfterVolume) (result : Result Unit ReadFault) → Extends (next_of device after) tells p q [] replies
-      → (y : IsCopied (next_of device after) (copy_kind tells filed contents) replies (copy_ends q f o) (copy_ends r f' o') (Ok goes)) → (w : IsTakenAway (next_of device after) tells r s y.later (Ok tt))
-      → IsDone (next_of device after) tells s t w.0 result → IsThrough (copy_kind tells filed contents) device after (copy_ends p f o) (copy_ends t f' o') result
-  through_all p q r s t f f' o o' replies goes (Ok u) x y w z =
+  -- what comes after the records
+  pub through_end : (p q r s : P) (f f' : Counting F) (o o' : Counting W) (replies : List PlainReply) (n : ℕ) (goes : AfterVolume) (result : Result Unit ReadFault) → Extends (next_of device after) tells p q [] replies
+      → (y : IsCopied (next_of device after) after (copy_kind tells filed contents) replies (copy_ends q f o) (copy_ends r f' o') (Ok n)) → goes ≡ goes_of after n
+      → Concludes (next_of device after) goes tells r s y.later result → IsThrough (copy_kind tells filed contents) device after (copy_ends p f o) (copy_ends s f' o') result
+  through_end p q r s f f' o o' replies n goes result x y e z =
       let next = next_of device after in
-      let all = extends_both next tells p q t [] replies (w.0 ++ z.0 ∷ []) x
-      (extends_both next tells q r t replies y.later (w.0 ++ z.0 ∷ []) y.reads.0 (extends_both next tells r s t y.later w.0 (w.0 ++ z.0 ∷ []) w.1 z.3)) in
-      let same = sym (records_same w.0 (z.0 ∷ []) z.2 ∙ w.2) in
+      let a = extends_both next tells p q r [] replies y.later x y.reads.0 in
+      let goes_so : goes ≡ goes_with after (records_of z.later) = e ∙ sym y.reads.2 ∙ ap (goes_with after) (sym z.same) in
       record {
-        replies = w.0 ++ z.0 ∷ [];
-        more = all.more;
+        replies = z.later;
+        more = a.more ++ z.more;
         named = y.named;
         filled = y.filled;
-        logs = all.logs;
-        label = subst (λ l. IsPrinted contents (label_text l) o o' y.named) same y.label;
-        records = subst (λ l. IsPrinted filed (file_bytes l) f f' y.filled) same y.records;
-        whole = y.whole;
-        ends = λ passed k. (all.follows passed k, (w.0, z.0, refl, w.3, z.1));
+        logs = logs_both tells p r s a.more z.more a.logs z.logs;
+        label = subst (λ l. IsPrinted contents (label_text l) o o' y.named) (sym z.same) y.label;
+        records = subst (λ l. IsPrinted filed (file_bytes l) f f' y.filled) (sym z.same) y.records;
+        whole = y.whole ∙ sym z.whole;
+        ends = λ passed k. subst (λ g. ReadEnds next g z.later (passed ++ (a.more ++ z.more)) result) goes_so
+            (subst (λ l. ReadEnds next goes z.later l result) (append_assoc passed a.more z.more) (z.ends (passed ++ a.more) (a.follows passed k)));
       }
-  through_all p q r s t f f' o o' replies goes (Err fault) x y w z =
-      through_kept p q r t f f' o o' replies goes fault x y (z.0, breaks_after (next_of device after) tells r s t y.later w.0 z.0 fault w.1 z.1, z.2 ∙ w.2, z.3)
 
 -- what is known of a record that came, or did not
 pub record_came : {P : Type 0} (next : List PlainReply → Option PlainRequest) (tells : P → List Passed → Type 0) (p q : P) (replies : List PlainReply) (result : Result (Vec ℕ Global) ReadFault) (bytes : Vec ℕ Global)
@@ -445,33 +452,6 @@ write_made contents text o o' result u is h = subst (λ r. IsPrinted contents te
 pub write_failed : {W : Type 0} (contents : W → Option (List ℕ)) (text : List ℕ) (o o' : Counting W) (result : Result Unit ReadFault) (fault : ReadFault) → result ≡ Err fault → fault ≡ OutputFailed
     → IsPrinted contents text o o' (is_whole result) → IsPrinted contents text o o' false
 write_failed contents text o o' result fault is cause h = subst (λ r. IsPrinted contents text o o' (is_whole r)) (is ∙ ap Err cause) h
-
--- the reel is to stay
-pub reel_stays : {P : Type 0} (next : List PlainReply → Option PlainRequest) (tells : P → List Passed → Type 0) (p : P) (after : AfterVolume) (replies : List PlainReply) → after ≡ Stay → IsAtMark next after replies
-    → IsTakenAway next tells p p replies (Ok tt)
-reel_stays next tells p after replies is at =
-    (replies, extends_none next tells p replies, refl, ap next (sym (append-nil replies)) ∙ at [] ∙ ap (λ a. next_end a []) is)
-
--- it is to go
-offline_next : (next : List PlainReply → Option PlainRequest) (after : AfterVolume) (replies : List PlainReply) → after ≡ Offline → IsAtMark next after replies → next replies ≡ Some (Op MTOFFL 1)
-offline_next next after replies is at = ap next (sym (append-nil replies)) ∙ at [] ∙ ap (λ a. next_end a []) is
-
-close_next : (next : List PlainReply → Option PlainRequest) (after : AfterVolume) (replies : List PlainReply) (taken : PlainReply) → after ≡ Offline → IsAtMark next after replies → is_done taken ≡ true
-    → next (replies ++ taken ∷ []) ≡ Some Close
-close_next next after replies taken is at met = at (taken ∷ []) ∙ ap (λ a. next_end a (taken ∷ [])) is ∙ ap (λ b. if b then Some Close else None) met
-
-taken_so : {P : Type 0} (next : List PlainReply → Option PlainRequest) (tells : P → List Passed → Type 0) (p q : P) (after : AfterVolume) (replies : List PlainReply) (result : Result Unit ReadFault) → after ≡ Offline
-    → IsAtMark next after replies → IsDone next tells p q replies result → IsTakenAway next tells p q replies result
-taken_so next tells p q after replies (Ok u) is at x = (replies ++ x.0 ∷ [], x.3, records_same replies (x.0 ∷ []) x.2, close_next next after replies x.0 is at x.1)
-taken_so next tells p q after replies (Err fault) is at x = x
-
-pub reel_goes : {P : Type 0} (next : List PlainReply → Option PlainRequest) (tells : P → List Passed → Type 0) (p q : P) (after : AfterVolume) (replies : List PlainReply) (result : Result Unit ReadFault) → after ≡ Offline
-    → IsAtMark next after replies → IsDoneNext tells (Op MTOFFL 1) p q result → IsTakenAway next tells p q replies result
-reel_goes next tells p q after replies result is at x = taken_so next tells p q after replies result is at (x next replies (offline_next next after replies is at))
-
-pub taken_as : {P : Type 0} (next : List PlainReply → Option PlainRequest) (tells : P → List Passed → Type 0) (p q : P) (replies : List PlainReply) (result is : Result Unit ReadFault) → result ≡ is
-    → IsTakenAway next tells p q replies result → IsTakenAway next tells p q replies is
-taken_as next tells p q replies result is e h = subst (IsTakenAway next tells p q replies) e h
 
 pub begun_as : {P : Type 0} (tells : P → List Passed → Type 0) (device : List ℕ) (after : AfterVolume) (p q : P) (result is : Result Unit ReadFault) → result ≡ is → IsBegun tells device after p q result
     → IsBegun tells device after p q is
@@ -504,9 +484,9 @@ pub some_there : (items : List ℕ) (len : ℕ) (test : Bool) → len ≡ length
 some_there [] len test e h k = λ same. grind (arith, nat_tests)
 some_there (b ∷ items) len test e h k = λ same. cc
 
-pub copied_as : {P F W : Type 0} (next : List PlainReply → Option PlainRequest) (tells : P → List Passed → Type 0) (filed : F → Option (List ℕ)) (contents : W → Option (List ℕ)) (replies : List PlainReply) (p q : P)
-    (f f' : Counting F) (o o' : Counting W) (result is : Result AfterVolume ReadFault) → result ≡ is → IsCopied next (copy_kind tells filed contents) replies (copy_ends p f o) (copy_ends q f' o') result → IsCopied next (copy_kind tells filed contents) replies (copy_ends p f o) (copy_ends q f' o') is
-copied_as next tells filed contents replies p q f f' o o' result is e h = subst (IsCopied next (copy_kind tells filed contents) replies (copy_ends p f o) (copy_ends q f' o')) e h
+pub copied_as : {P F W : Type 0} (next : List PlainReply → Option PlainRequest) (after : AfterVolume) (tells : P → List Passed → Type 0) (filed : F → Option (List ℕ)) (contents : W → Option (List ℕ)) (replies : List PlainReply) (p q : P)
+    (f f' : Counting F) (o o' : Counting W) (result is : Result ℕ ReadFault) → result ≡ is → IsCopied next after (copy_kind tells filed contents) replies (copy_ends p f o) (copy_ends q f' o') result → IsCopied next after (copy_kind tells filed contents) replies (copy_ends p f o) (copy_ends q f' o') is
+copied_as next after tells filed contents replies p q f f' o o' result is e h = subst (IsCopied next after (copy_kind tells filed contents) replies (copy_ends p f o) (copy_ends q f' o')) e h
 
 -- after the open the rewind, or why it was not done
 pub begun_both : {P : Type 0} (tells : P → List Passed → Type 0) (device : List ℕ) (after : AfterVolume) (p q r : P) (opened : PlainReply) (result : Result Unit ReadFault) → records_of (opened ∷ []) ≡ []
@@ -517,9 +497,9 @@ begun_both tells device after p q r opened (Err fault) none x y =
     (y.0, breaks_after (next_of device after) tells p q r [] (opened ∷ []) y.0 fault x y.1, y.2 ∙ none, y.3)
 
 pub step_answered : {P : Type 0} (next : List PlainReply → Option PlainRequest) (tells : P → List Passed → Type 0) (p q : P) (replies : List PlainReply) (request : PlainRequest) (called : Result KeptReply CallFault)
-    (answer : KeptReply) (named : VolumeRequest) (result : Result Unit ReadFault) → next replies ≡ Some request → called ≡ Ok answer → wanted_by request ≡ Number → IsNamed named request → IsCalled tells request (told_reply called) p q
+    (answer : KeptReply) (named : VolumeRequest) (result : Result Unit ReadFault) → next replies ≡ Some request → EndsAtRefusal next replies → called ≡ Ok answer → wanted_by request ≡ Number → IsNamed named request → IsCalled tells request (told_reply called) p q
     → IsDoneBy answer named result → IsDone next tells p q replies result
-step_answered next tells p q replies request called answer named (Ok u) e is w n h d = step_done next tells p q replies request called d.0 e (is ∙ ap Ok d.1) h
-step_answered next tells p q replies request called answer named (Err fault) e is w n h (inl d) =
-    subst (λ f. CallSteps next tells p q replies (Err f)) (sym d.3) (step_refused next tells p q replies request called named d.0 d.1 e (is ∙ ap Ok d.2) n h)
-step_answered next tells p q replies request called answer named (Err fault) e is w n h (inr d) = absurd (no_data tells p q request called d.0 w (is ∙ ap Ok d.1) h)
+step_answered next tells p q replies request called answer named (Ok u) e stops is w n h d = step_done next tells p q replies request called d.0 e (is ∙ ap Ok d.1) h
+step_answered next tells p q replies request called answer named (Err fault) e stops is w n h (inl d) =
+    subst (λ f. CallSteps next tells p q replies (Err f)) (sym d.3) (step_refused next tells p q replies request called named d.0 d.1 e (is ∙ ap Ok d.2) n stops h)
+step_answered next tells p q replies request called answer named (Err fault) e stops is w n h (inr d) = absurd (no_data tells p q request called d.0 w (is ∙ ap Ok d.1) h)

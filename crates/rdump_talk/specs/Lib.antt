@@ -1,4 +1,4 @@
--- In reading order: Peer, Talk, Lines (a dump), Keeping (one whose checkpoint is kept); KeptReply, Call, Calls (requests); Ends; Operation (mtio); Reading (a volume).
+-- In reading order: Peer, Talk, Lines (a dump), Keeping (one whose checkpoint is kept); KeptReply, Call, Calls (requests); Ends; Operation (mtio); Reading (a volume); Look, Protection (a reel before it is written).
 pub mod Peer
 pub mod Talk
 pub mod Lines
@@ -9,3 +9,5 @@ pub mod Calls
 pub mod Ends
 pub mod Operation
 pub mod Reading
+pub mod Look
+pub mod Protection

@@ -34,9 +34,13 @@ fault_text (CountedReel volume) = codes "CountedReel " ++ decimal volume
 abbrev pub failure_line : ℕ → AttemptFault → List ℕ
 failure_line volume fault = codes "volume " ++ decimal volume ++ codes " failed: " ++ fault_text fault ++ codes "\n"
 
--- what failed, and the question to the operator
+-- the question to the operator
+abbrev pub question_line : List ℕ
+question_line = codes "retry?\n"
+
+-- what failed, and the question
 abbrev pub failure_lines : ℕ → AttemptFault → List ℕ
-failure_lines volume fault = failure_line volume fault ++ codes "retry?\n"
+failure_lines volume fault = failure_line volume fault ++ question_line
 
 abbrev pub complete_text : ℕ → ℕ → List ℕ
 complete_text volumes blocks = codes "dump complete: " ++ decimal volumes ++ codes " volumes, " ++ decimal blocks ++ codes " blocks\n"
@@ -52,14 +56,15 @@ abbrev pub HasGrown : List VolumeCount → List VolumeCount → Type 0
 HasGrown old new = (more : List VolumeCount) × (new ≡ old ++ more)
 
 -- The lines of a dump from these counts on, up to those that the client has: after each attempt one line for each further volume that
--- it counted, in order, and after each that failed that failure, with the volume that is next. So each count after the first ones has
--- its line, once.
+-- it counted, in order, and after each that failed that failure, with the volume that is next; where an attempt was not to begin, the
+-- question alone. So each count after the first ones has its line, once.
 pub data DumpLines (first : List VolumeCount) : List VolumeCount → List ℕ → Type 0 where
   none : DumpLines first first []
   counted : {counts : List VolumeCount} {text : List ℕ} (more : List VolumeCount)
       → DumpLines first counts text → DumpLines first (counts ++ more) (text ++ count_lines more)
   failed : {counts : List VolumeCount} {text : List ℕ} (fault : AttemptFault)
       → DumpLines first counts text → DumpLines first counts (text ++ failure_lines (checkpoint_of counts).0 fault)
+  asked : {counts : List VolumeCount} {text : List ℕ} → DumpLines first counts text → DumpLines first counts (text ++ question_line)
 
 -- The last line, and the status: the dump is complete, with 0, where the run is finished, and abandoned, with 3, where it is not. Where
 -- printing failed it is 3.

@@ -53,4 +53,10 @@ pub enum ReadFault {
     /// The label could not be printed, or a record not written.
     #[error("a write failed")]
     OutputFailed,
+    /// No mark ends the volume: the records go up to the end of the reel.
+    #[error("no mark")]
+    NoMark,
+    /// Whether a mark ends the volume could not be found out.
+    #[error("cannot be told")]
+    Undetermined,
 }

@@ -12,6 +12,9 @@ use std::io::Write;
 /// A line of a dump fits into so many bytes.
 pub const LINE_ROOM: usize = 128;
 
+/// The question to the operator.
+pub(crate) const QUESTION: &str = "retry?\n";
+
 /// Prints a line for each of these volumes. Answers whether all were printed.
 pub(crate) fn print_counts<W: Write>(counts: &[VolumeCount], out: &mut Counted<W>) -> bool
     ensures { IsPrinted W.contents (count_lines counts.now) out.old out.new result }
@@ -60,7 +63,7 @@ pub(crate) fn failure_text(volume: u32, fault: AttemptFault) -> ArrayString<LINE
     ensures { result.bytes ≡ failure_lines volume fault }
 {
     let mut lines = failure_line(volume, fault);
-    lines.push_str("retry?\n");
+    lines.push_str(QUESTION);
     lines
 }
 

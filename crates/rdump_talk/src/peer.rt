@@ -49,6 +49,14 @@ pub trait Peer {
     fn hang_up(&mut self)
         ensures { Logs tells self.old self.new [] };
 
+    /// Is asked before each attempt whether it may begin. No connection is open then, and nothing passes: who looks at the reel for
+    /// it does so over a connection of its own. If not, the operator is asked in place of the attempt, and a peer may show why.
+    fn may_begin(&mut self) -> bool
+        ensures { Logs tells self.old self.new [] }
+    {
+        true
+    }
+
     /// Is told that an attempt over this peer failed, and why. The connection is ended then, and nothing passes. A peer may
     /// show it.
     fn attempt_failed(&mut self, fault: AttemptFault)

@@ -1,14 +1,14 @@
 //! A whole dump: attempt after attempt, the lines that tell of them, and what an operator answers.
-ghost use Rattle.std.specs.Prelude.{◌≡◌, ◌≢◌, Some, length, drop, if◌then◌else◌};
+ghost use Rattle.std.specs.Prelude.{◌≡◌, ◌≢◌, false, Some, length, drop, if◌then◌else◌};
 ghost use Rattle.dump_client.specs.Standing.{checkpoint_of};
-ghost use Rattle.rdump_talk.specs.Lines.{IsDumped, IsFinish, IsRound, complete_line, count_lines, failure_lines};
+ghost use Rattle.rdump_talk.specs.Lines.{DumpLines, IsDumped, IsFinish, IsRound, complete_line, count_lines, failure_lines};
 ghost use Rattle.rdump_talk.specs.declared.attempt.Attempted.TheVariants.{NotStarted};
 ghost use Rattle.rdump_talk.specs.declared.conclusion.Conclusion.TheVariants as ends;
 ghost use Rattle.rmt_wire.specs.Print.{IsPrinted};
 ghost use Rattle.rdump_talk.specs.Talk.{Anywhere, Just, TalksAlone, TalksOver};
 
 use crate::attempt::{Attempted, attempt};
-use crate::lines::{LINE_ROOM, complete_text, failure_text, print_counts};
+use crate::lines::{LINE_ROOM, QUESTION, complete_text, failure_text, print_counts};
 use crate::operator::says_yes;
 use crate::{Conclusion, Peer};
 use arrayvec::ArrayString;
@@ -21,7 +21,8 @@ use std::io::{Read, Write};
 ///
 /// It prints `volume 1: 2 blocks from 0` for each volume that is counted, and `dump complete: 2 volumes, 3 blocks` at
 /// the end. Where an attempt fails it prints `volume 1 failed: Refused 16`, with the fault's name, and `retry?`, and takes
-/// one line from the operator: after `yes` the volume is tried again, and after all else it prints `dump abandoned`.
+/// one line from the operator: after `yes` the volume is tried again, and after all else it prints `dump abandoned`. If the peer
+/// answers that an attempt may not begin, it prints `retry?` alone, and takes a line too: after `yes` the peer is asked again.
 ///
 /// Answers the exit status of `rdump dump`: 0 where the run is finished and all was printed, and else 3. After a write that
 /// failed it does nothing more.
@@ -58,15 +59,37 @@ pub(crate) fn round<B: Blocks, P: Peer, R: Read, W: Write>(
     ensures still { result ≡ Some ends.Complete → client.new.at ≡ client.old.at }
 {
     match client.state() {
-        State::Ready | State::ToSend | State::Waiting => {
-            try_volume(client, peer, operator, out, text)
+        State::Ready => {
+            let may = peer.may_begin();
+            begin_volume(client, peer, may, operator, out, text)
         }
+        State::ToSend | State::Waiting => try_volume(client, peer, operator, out, text),
         State::Asking => {
             ask(client, operator);
             None
         }
         State::Finished | State::Abandoned => Some(finish(client, out)),
     }
+}
+
+/// Has the client try its next volume, if an attempt may begin, and else asks the operator. Answers how the dump ended, at its end.
+fn begin_volume<B: Blocks, P: Peer, R: Read, W: Write>(
+    client: &mut Client<B>,
+    peer: &mut P,
+    may: bool,
+    operator: &mut R,
+    out: &mut Counted<W>,
+    text: &mut Vec<u8>,
+) -> Option<Conclusion>
+    ensures talks { TalksOver B.holds (Just client.old.at) P.tells client.old client.new peer.old peer.new }
+    ensures printed { IsRound W.contents client.old.at.counts client.new.at out.old out.new result }
+    ensures still { result ≡ Some ends.Complete → client.new.at ≡ client.old.at }
+    ensures held { may ≡ false → (client.new ≡ client.old) × (peer.new ≡ peer.old) }
+{
+    if may {
+        return try_volume(client, peer, operator, out, text);
+    }
+    ask_here(client, QUESTION.as_bytes(), operator, out)
 }
 
 /// Has the client try its next volume, and prints what came of it. Answers how the dump ended, at its end.
@@ -103,7 +126,10 @@ fn report<B: Blocks, R: Read, W: Write>(
     match attempted {
         Attempted::Over => None,
         Attempted::Failed(fault) => tell(client, fault, out),
-        Attempted::NotStarted => ask_here(client, operator, out),
+        Attempted::NotStarted => {
+            let lines = failure_of(client, AttemptFault::OutOfMemory);
+            ask_here(client, lines.as_bytes(), operator, out)
+        }
     }
 }
 
@@ -123,15 +149,18 @@ fn tell<B: Blocks, W: Write>(
     }
 }
 
-/// Prints that an attempt could not start, and asks the operator. Answers how the dump ended, at its end.
+/// Prints lines that end with the question, of an attempt that did not start, and takes the operator's answer. Answers how the dump
+/// ended, at its end.
 fn ask_here<B: Blocks, R: Read, W: Write>(
     client: &Client<B>,
+    lines: &[u8],
     operator: &mut R,
     out: &mut Counted<W>,
 ) -> Option<Conclusion>
+    requires { DumpLines client.now.at.counts client.now.at.counts lines.now }
     ensures { IsRound W.contents client.now.at.counts client.now.at out.old out.new result }
 {
-    if !print_failure(client, AttemptFault::OutOfMemory, out) {
+    if !print_text(out, lines) {
         return Some(Conclusion::Untold);
     }
     if says_yes(operator) {
@@ -171,8 +200,15 @@ fn print_failure<B: Blocks, W: Write>(
 ) -> bool
     ensures { IsPrinted W.contents (failure_lines (checkpoint_of client.now.at.counts).0 fault) out.old out.new result }
 {
+    print_text(out, failure_of(client, fault).as_bytes())
+}
+
+/// The lines of the next volume that failed, with the question to the operator.
+fn failure_of<B: Blocks>(client: &Client<B>, fault: AttemptFault) -> ArrayString<LINE_ROOM>
+    ensures { result.bytes ≡ failure_lines (checkpoint_of client.now.at.counts).0 fault }
+{
     let (volume, _) = client.checkpoint();
-    print_text(out, failure_text(volume, fault).as_bytes())
+    failure_text(volume, fault)
 }
 
 /// Takes the operator's answer, and gives it to the client.

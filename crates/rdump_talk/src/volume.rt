@@ -1,7 +1,8 @@
 //! A volume that is read back over a peer.
 ghost use Rattle.std.specs.Prelude.{◌≡◌, ◌≤◌, IfSome, IfErr, length, nat_eq, position};
 ghost use Rattle.rmt_wire.specs.Lent.{plain_request};
-ghost use Rattle.rmt_wire.specs.declared.limits.TheConstants.{RECORD_LIMIT};
+ghost use Rattle.rmt_wire.specs.declared.limits.TheConstants.{NUMBER_LIMIT, RECORD_LIMIT};
+ghost use Rattle.rmt_wire.specs.declared.mtio.TheConstants.{MTNOP};
 ghost use Rattle.rmt_wire.specs.Number.{IsLine};
 ghost use Rattle.rmt_wire.specs.Reply.Wanted.{Number};
 ghost use Rattle.rmt_wire.specs.Request as requests;
@@ -10,16 +11,17 @@ ghost use Rattle.rdump_talk.specs.Ends.{copy_ends, copy_kind, stream_ends, strea
 ghost use Rattle.rmt_wire.specs.Print.{IsPrinted};
 ghost use Rattle.rdump_talk.specs.Reading as spec;
 ghost use Rattle.rdump_talk.specs.declared.fault.ReadFault.TheVariants as faults;
-ghost use Rattle.rdump_talk.specs.Reading.{AreFurtherRecordsWritten, IsBegun, IsCopiedAtLabel, IsDoneBy, IsDoneNext, IsNamed, IsRead, IsReadStatus, IsRecordNext, IsTakenAwayAtMark, IsThrough, is_whole};
+ghost use Rattle.rdump_talk.specs.Reading.{AreFurtherRecordsWritten, IsAnsweredNext, IsBegun, IsClosedUnmarked, IsConcludedAtEnd, IsConcludedAtMark, IsCopiedAtLabel, IsDoneBy, IsDoneNext, IsLookedAtEnd, IsLookedBy, IsNamed, IsRead, IsReadStatus, IsRecordNext, IsTakenAwayAtMark, IsThrough, is_whole};
 ghost use Rattle.rdump_talk.specs.declared.volume.AfterVolume.{AfterVolume};
 
 use crate::Peer;
 use crate::caller::PeerCaller;
 use crate::fault::{CallFault, ReadFault, VolumeRequest};
 use crate::kept_reply::KeptReply;
+use rmt_wire::errno::EIO;
 use rmt_wire::fcntl::O_RDONLY;
-use rmt_wire::mtio::{MTOFFL, MTREW};
-use rmt_wire::{Counted, RECORD_LIMIT, Request, print_text};
+use rmt_wire::mtio::{MTBSR, MTFSF, MTFSR, MTOFFL, MTREW};
+use rmt_wire::{Counted, NUMBER_LIMIT, RECORD_LIMIT, Request, print_text};
 use std::alloc::Global;
 use std::io::Write;
 
@@ -32,9 +34,11 @@ const FAILED: u8 = 3;
 /// What becomes of a reel, once its volume was read whole.
 #[derive(Clone, Copy, Debug, PartialEq, Eq)]
 pub enum AfterVolume {
-    /// The reel stays.
+    /// The reel stays. Whether a mark ends the volume is not found out.
     Stay,
-    /// The reel goes to the bin (`MTOFFL`), where a label was read. One without a label stays.
+    /// The reel stays. It is found out whether a mark ends the volume, where a label was read.
+    Check,
+    /// The same, and where a mark ends the volume the reel goes to the bin (`MTOFFL`). One without a label stays.
     Offline,
 }
 
@@ -63,9 +67,14 @@ pub fn read_volume<P: Peer, F: Write, W: Write>(
 /// It opens the device for reading, rewinds, reads record after record, and closes the device. After a reply that is an
 /// error, after one that is none, and after a write that failed, it does nothing more.
 ///
-/// With `AfterVolume::Offline` it takes the reel away before the close, once the mark has come and all was written. A reel
-/// that begins with a mark, or has nothing, has no label: it stays, nothing is printed or written, and the close follows.
-/// Where the connection ends before the reply to MTOFFL comes, the reel may be in the bin.
+/// A read gives nothing at a mark, and at the end of a reel too. With `AfterVolume::Check` and `Offline` it finds out which it was,
+/// after the last record: it goes back over a record (MTBSR). Where that is done there is no mark, and the result is `NoMark`. Where it
+/// is refused with EIO it rewinds, goes forward over as many records as were read (MTFSR), and over a mark (MTFSF). Any other refusal,
+/// or more than `NUMBER_LIMIT` records, give `Undetermined`. After either fault the device is closed, and the reel stays.
+///
+/// With `Offline` it takes the reel away before the close, once a mark was found and all was written. A reel that begins with a mark, or
+/// has nothing, has no label: it stays, nothing is printed or written, and the close follows. Where the connection ends before the
+/// reply to MTOFFL comes, the reel may be in the bin.
 ///
 /// The device is one line of at most `LINE_LIMIT` bytes. It takes memory for one record at a time.
 pub fn copy_volume<P: Peer, F: Write, W: Write>(
@@ -105,9 +114,8 @@ fn go_through<P: Peer, F: Write, W: Write>(
         (copy_ends peer.old file.old out.old) (copy_ends peer.new file.new out.new) result }
 {
     begin(caller, peer, device)?;
-    let goes = copy_records(caller, peer, after, file, out)?;
-    take_away(caller, peer, goes)?;
-    ask(caller, peer, VolumeRequest::Close, &Request::Close)
+    let records = copy_records(caller, peer, file, out)?;
+    conclude(caller, peer, goes_of(after, records), records)
 }
 
 /// Opens the device, and rewinds it.
@@ -127,16 +135,171 @@ fn begin<P: Peer>(caller: &mut PeerCaller, peer: &mut P, device: &[u8]) -> Resul
     ask(caller, peer, VolumeRequest::Rewind, &rewind)
 }
 
+/// What becomes of a reel of which so many records were read: one without a label stays, and no mark is looked for.
+fn goes_of(after: AfterVolume, records: u64) -> AfterVolume
+    ensures { result ≡ spec.goes_of after records }
+{
+    if records == 0 {
+        AfterVolume::Stay
+    } else {
+        after
+    }
+}
+
+/// Looks for the mark where the records ended, of which there are so many, takes the reel away where it is to go, and closes the device.
+fn conclude<P: Peer>(
+    caller: &mut PeerCaller,
+    peer: &mut P,
+    goes: AfterVolume,
+    records: u64,
+) -> Result<(), ReadFault>
+    ensures { IsConcludedAtEnd P.tells goes records peer.old peer.new result }
+{
+    match look(caller, peer, goes, records) {
+        Ok(None) => conclude_at_mark(caller, peer, goes),
+        Ok(Some(fault)) => close_unmarked(caller, peer, fault),
+        Err(fault) => Err(fault),
+    }
+}
+
+/// Takes the reel away, where it is to go, and closes the device.
+fn conclude_at_mark<P: Peer>(
+    caller: &mut PeerCaller,
+    peer: &mut P,
+    goes: AfterVolume,
+) -> Result<(), ReadFault>
+    ensures { IsConcludedAtMark P.tells goes peer.old peer.new result }
+{
+    take_away(caller, peer, goes)?;
+    ask(caller, peer, VolumeRequest::Close, &Request::Close)
+}
+
+/// Closes the device, where no mark is known to have stood. What that is answered changes nothing.
+fn close_unmarked<P: Peer>(
+    caller: &mut PeerCaller,
+    peer: &mut P,
+    fault: ReadFault,
+) -> Result<(), ReadFault>
+    ensures { IsClosedUnmarked P.tells fault peer.old peer.new result }
+{
+    let _ = caller.call(peer, &Request::Close);
+    Err(fault)
+}
+
+/// Looks for the mark where the records ended, of which there are so many, unless the reel stays in any case. None where it stood, or
+/// was not looked for; else why it is not known to have stood.
+fn look<P: Peer>(
+    caller: &mut PeerCaller,
+    peer: &mut P,
+    goes: AfterVolume,
+    records: u64,
+) -> Result<Option<ReadFault>, ReadFault>
+    ensures { IsLookedAtEnd P.tells goes records peer.old peer.new result }
+{
+    match goes {
+        AfterVolume::Stay => Ok(None),
+        AfterVolume::Check | AfterVolume::Offline => look_back(caller, peer, records),
+    }
+}
+
+/// Goes back over a record. Only where the last read met the end of the reel a record stands right before the place.
+fn look_back<P: Peer>(
+    caller: &mut PeerCaller,
+    peer: &mut P,
+    records: u64,
+) -> Result<Option<ReadFault>, ReadFault>
+    ensures { IsLookedBy (λ goes. spec.next_back goes records) P.tells peer.old peer.new result }
+{
+    match operate(caller, peer, MTBSR, 1) {
+        Ok(None) => Ok(Some(ReadFault::NoMark)),
+        Ok(Some(number)) => {
+            if number == EIO {
+                look_again(caller, peer, records)
+            } else {
+                Ok(Some(ReadFault::Undetermined))
+            }
+        }
+        Err(fault) => Err(fault),
+    }
+}
+
+/// A mark stopped that, or the device failed: goes to the mark from the beginning, where one request can name as many records.
+fn look_again<P: Peer>(
+    caller: &mut PeerCaller,
+    peer: &mut P,
+    records: u64,
+) -> Result<Option<ReadFault>, ReadFault>
+    ensures { IsLookedBy (λ goes. spec.next_again goes records) P.tells peer.old peer.new result }
+{
+    match operate(caller, peer, MTREW, 1) {
+        Ok(None) => {
+            if u64::from(NUMBER_LIMIT) < records {
+                Ok(Some(ReadFault::Undetermined))
+            } else {
+                look_forward(caller, peer, records as u32)
+            }
+        }
+        Ok(Some(_)) => Ok(Some(ReadFault::Undetermined)),
+        Err(fault) => Err(fault),
+    }
+}
+
+/// Goes over so many records from the beginning, and over the mark behind them.
+fn look_forward<P: Peer>(
+    caller: &mut PeerCaller,
+    peer: &mut P,
+    records: u32,
+) -> Result<Option<ReadFault>, ReadFault>
+    requires { records ≤ NUMBER_LIMIT }
+    ensures { IsLookedBy (λ goes. spec.next_forward goes records) P.tells peer.old peer.new result }
+{
+    match operate(caller, peer, MTFSR, records) {
+        Ok(None) => look_over(caller, peer),
+        Ok(Some(_)) => Ok(Some(ReadFault::Undetermined)),
+        Err(fault) => Err(fault),
+    }
+}
+
+/// Goes over a mark, right behind the last record.
+fn look_over<P: Peer>(caller: &mut PeerCaller, peer: &mut P) -> Result<Option<ReadFault>, ReadFault>
+    ensures { IsLookedBy spec.next_over P.tells peer.old peer.new result }
+{
+    match operate(caller, peer, MTFSF, 1) {
+        Ok(None) => Ok(None),
+        Ok(Some(_)) => Ok(Some(ReadFault::Undetermined)),
+        Err(fault) => Err(fault),
+    }
+}
+
+/// Does an operation of mtio. None where it was done, and else the number of the error that it was refused with.
+fn operate<P: Peer>(
+    caller: &mut PeerCaller,
+    peer: &mut P,
+    op: u32,
+    count: u32,
+) -> Result<Option<u32>, ReadFault>
+    requires op { op ≤ MTNOP }
+    requires count { count ≤ NUMBER_LIMIT }
+    ensures { IsAnsweredNext P.tells op count peer.old peer.new result }
+{
+    match caller.call(peer, &Request::Op { op, count }) {
+        Ok(KeptReply::Done { .. }) => Ok(None),
+        Ok(KeptReply::Error { number, .. }) => Ok(Some(number)),
+        Ok(KeptReply::Data { .. }) => Err(ReadFault::Botched),
+        Err(fault) => Err(read_fault(fault)),
+    }
+}
+
 /// Takes the reel away, where it is to go.
 fn take_away<P: Peer>(
     caller: &mut PeerCaller,
     peer: &mut P,
-    after: AfterVolume,
+    goes: AfterVolume,
 ) -> Result<(), ReadFault>
-    ensures { IsTakenAwayAtMark P.tells after peer.old peer.new result }
+    ensures { IsTakenAwayAtMark P.tells goes peer.old peer.new result }
 {
-    match after {
-        AfterVolume::Stay => Ok(()),
+    match goes {
+        AfterVolume::Stay | AfterVolume::Check => Ok(()),
         AfterVolume::Offline => {
             let offline = Request::Op {
                 op: MTOFFL,
@@ -179,7 +342,7 @@ fn done(answer: &KeptReply, asked: VolumeRequest) -> Result<(), ReadFault>
     }
 }
 
-/// The next record; nothing at a mark.
+/// The next record; nothing at a mark, or at the end of the reel.
 fn next_record<P: Peer>(caller: &mut PeerCaller, peer: &mut P) -> Result<Vec<u8>, ReadFault>
     ensures { IsRecordNext P.tells (requests.PlainRequest.Read RECORD_LIMIT) peer.old peer.new result }
 {
@@ -208,40 +371,38 @@ fn read_fault(fault: CallFault) -> ReadFault
     }
 }
 
-/// Prints the label, and writes the records after it, up to the first mark. Answers what becomes of the reel: one without a
-/// label stays.
+/// Prints the label, and writes the records after it, up to where a read gives nothing. Answers how many records there are with the
+/// label, 0 where there is none.
 fn copy_records<P: Peer, F: Write, W: Write>(
     caller: &mut PeerCaller,
     peer: &mut P,
-    after: AfterVolume,
     file: &mut Counted<F>,
     out: &mut Counted<W>,
-) -> Result<AfterVolume, ReadFault>
-    ensures { IsCopiedAtLabel (copy_kind P.tells F.contents W.contents) after
+) -> Result<u64, ReadFault>
+    ensures { IsCopiedAtLabel (copy_kind P.tells F.contents W.contents)
         (copy_ends peer.old file.old out.old) (copy_ends peer.new file.new out.new) result }
 {
     let label = next_record(caller, peer)?;
     if label.is_empty() {
-        return Ok(AfterVolume::Stay);
+        return Ok(0);
     }
     write_whole(out, label_text(&label))?;
-    write_records(caller, peer, file)?;
-    Ok(after)
+    write_records(caller, peer, file)
 }
 
-/// Writes record after record, up to the first mark.
+/// Writes record after record, up to where a read gives nothing. Answers how many records were read, the label with them.
 fn write_records<P: Peer, F: Write>(
     caller: &mut PeerCaller,
     peer: &mut P,
     file: &mut Counted<F>,
-) -> Result<(), ReadFault>
+) -> Result<u64, ReadFault>
     ensures { AreFurtherRecordsWritten (stream_kind P.tells F.contents)
         (stream_ends peer.old file.old) (stream_ends peer.new file.new) result }
 {
-    for turn in 0..u64::MAX {
+    for records in 1..u64::MAX {
         let bytes = next_record(caller, peer)?;
         if bytes.is_empty() {
-            return Ok(());
+            return Ok(records);
         }
         write_whole(file, &bytes)?;
     }

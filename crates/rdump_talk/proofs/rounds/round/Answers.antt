@@ -1,6 +1,6 @@
 use Rattle.std.proofs.Common.{[]}
 use Rattle.rdump_talk.specs.Talk.{Just}
-use Rattle.rdump_talk.proofs.Talking.{by_itself, nothing_said}
+use Rattle.rdump_talk.proofs.Talking.{by_itself, followed, hung_up, nothing_said}
 use Rattle.rdump_talk.proofs.Printed.{last_alone, lines_same, nothing_printed}
 use Rattle.rdump_talk.proofs.rounds.round.Goals as goal
 
@@ -16,3 +16,8 @@ returns-in-Finished-clause-talks g c = nothing_said g.B.Blocks.holds (Just c.arg
 
 pub returns-in-Finished-clause-printed : goal.returns-in-Finished-clause-printed
 returns-in-Finished-clause-printed g c = last_alone g.W.Write.contents c.args.client.now.at c.args.out.now c.finish.new.out c.finish.result c.finish.ensures
+
+pub returns-in-Ready-clause-talks : goal.returns-in-Ready-clause-talks
+returns-in-Ready-clause-talks g c =
+    followed g.B.Blocks.holds (Just c.args.client.now.at) g.P.Peer.tells c.args.client.now c.args.client.now c.begin_volume.new.client c.args.peer.now c.may_begin-may.new.self c.begin_volume.new.peer
+    (hung_up g.B.Blocks.holds (Just c.args.client.now.at) g.P.Peer.tells c.args.client.now c.args.peer.now c.may_begin-may.new.self c.may_begin-may.ensures) c.begin_volume.ensures.talks

@@ -1,8 +1,8 @@
-use Rattle.std.proofs.Common.{[], ◌∷◌, Ok, Err, refl}
+use Rattle.std.proofs.Common.{[], ◌∷◌, Ok, Err, refl, sym, subst}
 use Rattle.rdump_talk.specs.Ends.{copy_ends, copy_kind}
-use Rattle.rdump_talk.specs.Reading.{IsThrough, next_of}
+use Rattle.rdump_talk.specs.Reading.{GoesOnBy, IsThrough, next_mark, next_of}
 use Rattle.rdump_talk.proofs.Calls.{err_from}
-use Rattle.rdump_talk.proofs.Reading.{extends_none, reading_begins, begun_as, copied_as, taken_as, through_none, through_part, through_kept, through_all}
+use Rattle.rdump_talk.proofs.Reading.{extends_none, reading_begins, begun_as, copied_as, through_none, through_part, through_end}
 use Rattle.rdump_talk.proofs.volume.go_through.Goals as goal
 
 pub returns-in_err-begin : goal.returns-in_err-begin
@@ -12,31 +12,20 @@ returns-in_err-begin g c =
     (through_none g.P.Peer.tells g.F.Write.contents g.W.Write.contents c.args.device.now c.args.after c.args.peer.now c.args.peer.now c.begin.new.peer c.args.file.now c.args.out.now [] c.in_err-begin.field-0.0 refl
     (extends_none (next_of c.args.device.now c.args.after) g.P.Peer.tells c.args.peer.now []) b)
 
-pub returns-in_err-goes : goal.returns-in_err-goes
-returns-in_err-goes g c =
+pub returns-in_err-records : goal.returns-in_err-records
+returns-in_err-records g c =
     let next = next_of c.args.device.now c.args.after in
     let b = begun_as g.P.Peer.tells c.args.device.now c.args.after c.args.peer.now c.begin.new.peer c.begin.result (Ok c.in_ok-begin.field-0) c.in_ok-begin.was (c.begin.ensures c.args.after) in
-    err_from (λ r. IsThrough (copy_kind g.P.Peer.tells g.F.Write.contents g.W.Write.contents) c.args.device.now c.args.after (copy_ends c.args.peer.now c.args.file.now c.args.out.now) (copy_ends c.copy_records.new.peer c.copy_records.new.file c.copy_records.new.out) r) c.from_residual-in_err-goes.result c.in_err-goes.field-0.0 c.from_residual-in_err-goes.ensures.1
-    (through_part g.P.Peer.tells g.F.Write.contents g.W.Write.contents c.args.device.now c.args.after c.args.peer.now c.begin.new.peer c.copy_records.new.peer c.args.file.now c.copy_records.new.file c.args.out.now c.copy_records.new.out (b.0 ∷ b.1 ∷ []) c.in_err-goes.field-0.0 b.4
-    (copied_as next g.P.Peer.tells g.F.Write.contents g.W.Write.contents (b.0 ∷ b.1 ∷ []) c.begin.new.peer c.copy_records.new.peer c.args.file.now c.copy_records.new.file c.args.out.now c.copy_records.new.out c.copy_records.result (Err c.in_err-goes.field-0.0) c.in_err-goes.was
-    (c.copy_records.ensures c.args.device.now (b.0 ∷ b.1 ∷ []) (reading_begins b.0 b.1 b.2 b.3))))
-
-pub returns-in_err-take_away : goal.returns-in_err-take_away
-returns-in_err-take_away g c =
-    let next = next_of c.args.device.now c.args.after in
-    let b = begun_as g.P.Peer.tells c.args.device.now c.args.after c.args.peer.now c.begin.new.peer c.begin.result (Ok c.in_ok-begin.field-0) c.in_ok-begin.was (c.begin.ensures c.args.after) in
-    let y = copied_as next g.P.Peer.tells g.F.Write.contents g.W.Write.contents (b.0 ∷ b.1 ∷ []) c.begin.new.peer c.copy_records.new.peer c.args.file.now c.copy_records.new.file c.args.out.now c.copy_records.new.out c.copy_records.result (Ok c.in_ok-goes.goes) c.in_ok-goes.was
-    (c.copy_records.ensures c.args.device.now (b.0 ∷ b.1 ∷ []) (reading_begins b.0 b.1 b.2 b.3)) in
-    err_from (λ r. IsThrough (copy_kind g.P.Peer.tells g.F.Write.contents g.W.Write.contents) c.args.device.now c.args.after (copy_ends c.args.peer.now c.args.file.now c.args.out.now) (copy_ends c.take_away.new.peer c.copy_records.new.file c.copy_records.new.out) r) c.from_residual-in_err-take_away.result c.in_err-take_away.field-0.0 c.from_residual-in_err-take_away.ensures.1
-    (through_kept g.P.Peer.tells g.F.Write.contents g.W.Write.contents c.args.device.now c.args.after c.args.peer.now c.begin.new.peer c.copy_records.new.peer c.take_away.new.peer c.args.file.now c.copy_records.new.file c.args.out.now c.copy_records.new.out (b.0 ∷ b.1 ∷ []) c.in_ok-goes.goes c.in_err-take_away.field-0.0 b.4 y
-    (taken_as next g.P.Peer.tells c.copy_records.new.peer c.take_away.new.peer y.later c.take_away.result (Err c.in_err-take_away.field-0.0) c.in_err-take_away.was (c.take_away.ensures next y.later y.reads.1)))
+    err_from (λ r. IsThrough (copy_kind g.P.Peer.tells g.F.Write.contents g.W.Write.contents) c.args.device.now c.args.after (copy_ends c.args.peer.now c.args.file.now c.args.out.now) (copy_ends c.copy_records.new.peer c.copy_records.new.file c.copy_records.new.out) r) c.from_residual-in_err-records.result c.in_err-records.field-0.0 c.from_residual-in_err-records.ensures.1
+    (through_part g.P.Peer.tells g.F.Write.contents g.W.Write.contents c.args.device.now c.args.after c.args.peer.now c.begin.new.peer c.copy_records.new.peer c.args.file.now c.copy_records.new.file c.args.out.now c.copy_records.new.out (b.0 ∷ b.1 ∷ []) c.in_err-records.field-0.0 b.4
+    (copied_as next c.args.after g.P.Peer.tells g.F.Write.contents g.W.Write.contents (b.0 ∷ b.1 ∷ []) c.begin.new.peer c.copy_records.new.peer c.args.file.now c.copy_records.new.file c.args.out.now c.copy_records.new.out c.copy_records.result (Err c.in_err-records.field-0.0) c.in_err-records.was
+    (c.copy_records.ensures c.args.device.now c.args.after (b.0 ∷ b.1 ∷ []) (reading_begins b.0 b.1 b.2 b.3))))
 
 pub returns : goal.returns
 returns g c =
     let next = next_of c.args.device.now c.args.after in
     let b = begun_as g.P.Peer.tells c.args.device.now c.args.after c.args.peer.now c.begin.new.peer c.begin.result (Ok c.in_ok-begin.field-0) c.in_ok-begin.was (c.begin.ensures c.args.after) in
-    let y = copied_as next g.P.Peer.tells g.F.Write.contents g.W.Write.contents (b.0 ∷ b.1 ∷ []) c.begin.new.peer c.copy_records.new.peer c.args.file.now c.copy_records.new.file c.args.out.now c.copy_records.new.out c.copy_records.result (Ok c.in_ok-goes.goes) c.in_ok-goes.was
-    (c.copy_records.ensures c.args.device.now (b.0 ∷ b.1 ∷ []) (reading_begins b.0 b.1 b.2 b.3)) in
-    let w = taken_as next g.P.Peer.tells c.copy_records.new.peer c.take_away.new.peer y.later c.take_away.result (Ok c.in_ok-take_away.field-0) c.in_ok-take_away.was (c.take_away.ensures next y.later y.reads.1) in
-    through_all g.P.Peer.tells g.F.Write.contents g.W.Write.contents c.args.device.now c.args.after c.args.peer.now c.begin.new.peer c.copy_records.new.peer c.take_away.new.peer c.ask.new.peer c.args.file.now c.copy_records.new.file c.args.out.now c.copy_records.new.out (b.0 ∷ b.1 ∷ []) c.in_ok-goes.goes c.ask.result b.4 y w
-    (c.ask.ensures next w.0 w.3)
+    let y = copied_as next c.args.after g.P.Peer.tells g.F.Write.contents g.W.Write.contents (b.0 ∷ b.1 ∷ []) c.begin.new.peer c.copy_records.new.peer c.args.file.now c.copy_records.new.file c.args.out.now c.copy_records.new.out c.copy_records.result (Ok c.in_ok-records.records) c.in_ok-records.was
+    (c.copy_records.ensures c.args.device.now c.args.after (b.0 ∷ b.1 ∷ []) (reading_begins b.0 b.1 b.2 b.3)) in
+    through_end g.P.Peer.tells g.F.Write.contents g.W.Write.contents c.args.device.now c.args.after c.args.peer.now c.begin.new.peer c.copy_records.new.peer c.conclude.new.peer c.args.file.now c.copy_records.new.file c.args.out.now c.copy_records.new.out (b.0 ∷ b.1 ∷ []) c.in_ok-records.records c.goes_of.result c.conclude.result b.4 y c.goes_of.ensures
+    (c.conclude.ensures next y.later (subst (λ h. GoesOnBy next (next_mark h c.in_ok-records.records) y.later) (sym c.goes_of.ensures) y.reads.1))

@@ -5,7 +5,7 @@ use Rattle.rdump_talk.specs.declared.volume.AfterVolume.{AfterVolume}
 use Rattle.rdump_talk.proofs.Reading.{WrittenTo}
 use Rattle.rdump_talk.proofs.volume.write_records.Given as goal
 
-abbrev pub invariant-loop-turn : goal.invariant-loop-turn
-invariant-loop-turn g l =
-    (device : List ℕ) (after : AfterVolume) (replies : List PlainReply) → IsVolumeReading replies
-    → WrittenTo g.P.Peer.tells g.F.Write.contents device after replies l.fn.peer l.peer l.fn.file l.file l.turn
+abbrev pub invariant-loop-records : goal.invariant-loop-records
+invariant-loop-records g l =
+    (device : List ℕ) (after : AfterVolume) (replies : List PlainReply) → IsVolumeReading 1 replies
+    → WrittenTo g.P.Peer.tells g.F.Write.contents device after replies l.fn.peer l.peer l.fn.file l.file l.records
