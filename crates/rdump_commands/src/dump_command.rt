@@ -1,21 +1,25 @@
 //! `rdump dump`, up to the client of the dump.
-ghost use Rattle.std.specs.Prelude.{◌≡◌};
+ghost use Rattle.std.specs.Prelude.{◌≡◌, IfErr, IfSome};
 ghost use Rattle.rdump_commands.specs.Status.{IsStatus};
 
+use crate::System;
+use crate::dump_end::tell_end;
+use crate::dump_start::{DumpStart, refuse_files, refuse_stranger};
+use crate::dumping::run_printed;
 use crate::fault::{FAILED, NO_DUMPDATES, refuse_run, say, tell, tell_no_memory};
 use crate::going_on::dump_from;
-use crate::{System, run_client};
+use dump_client::{Blocks, Client};
 use dumpdates::DatesFault;
 use file_medium::FileMedium;
+use printable::plain;
 use rdump_files::{
     DumperFault, PayloadFile, ProgressLine, ReplacedFile, base_date, date_text, dumper,
     read_or_empty, read_steady, seconds_now,
 };
 use rdump_words::DumpLine;
 use rmt_wire::Counted;
-use std::fs::{File, Metadata};
+use std::fs::File;
 use std::io::{self, ErrorKind, Write};
-use std::os::unix::fs::FileTypeExt;
 use tape::{Medium, MediumFailed, MemoryMedium};
 
 /// Dumps a payload, as `rdump dump` does, and enters the dump in the dumpdates file where the words ask for it. `terminal` is
@@ -37,27 +41,32 @@ pub fn run_dump<R: System, T: Write + Copy + Drop>(
 ) -> u8
     ensures { IsStatus result }
 {
-    let file = match File::open(rt, line.payload) {
-        Ok(file) => file,
-        Err(error) => return tell(rt, line.payload, error),
-    };
-    let found = match file.metadata() {
-        Ok(found) => found,
-        Err(error) => return tell(rt, line.payload, error),
-    };
-    if is_lasting(&found) {
-        return dump_medium(rt, line, FileMedium::new(file), terminal);
-    }
-    match read_steady(rt.alloc(), file) {
-        Ok(Some(bytes)) => dump_medium(rt, line, MemoryMedium::from_bytes(bytes), terminal),
-        Ok(None) => say(rt, line.payload, "its length changed while it was read"),
+    match DumpStart::open(rt, line.payload) {
+        Ok((file, mut start)) => dump_opened(rt, line, file, &mut start, terminal),
         Err(error) => tell(rt, line.payload, error),
     }
 }
 
-/// Whether a file has a length, and stays there to be read at any place.
-fn is_lasting(found: &Metadata) -> bool {
-    found.file_type().is_block_device() || (found.is_file() && found.len() > 0)
+/// Dumps a payload that is open, and answers the status.
+fn dump_opened<R: System, T: Write + Copy + Drop>(
+    rt: &R,
+    line: &DumpLine<'_>,
+    file: File,
+    start: &mut DumpStart,
+    terminal: Option<T>,
+) -> u8
+    ensures { IsStatus result }
+{
+    if start.is_lasting {
+        return dump_medium(rt, line, FileMedium::new(file), start, terminal);
+    }
+    match read_steady(rt.alloc(), file) {
+        Ok(Some(bytes)) => {
+            dump_medium(rt, line, MemoryMedium::from_bytes(bytes), start, terminal)
+        }
+        Ok(None) => say(rt, line.payload, "its length changed while it was read"),
+        Err(error) => tell(rt, line.payload, error),
+    }
 }
 
 /// Reads the dumpdates file, dumps the payload that lies on this medium, and answers the status.
@@ -65,6 +74,7 @@ fn dump_medium<R: System, M: Medium + Drop, T: Write + Copy + Drop>(
     rt: &R,
     line: &DumpLine<'_>,
     medium: M,
+    start: &mut DumpStart,
     terminal: Option<T>,
 ) -> u8
     ensures { IsStatus result }
@@ -73,18 +83,69 @@ fn dump_medium<R: System, M: Medium + Drop, T: Write + Copy + Drop>(
         Ok(payload) => payload,
         Err(MediumFailed) => return say(rt, line.payload, "its length could not be read"),
     };
-    let file = match read_or_empty(rt, rt.alloc(), line.dumpdates) {
-        Ok(file) => file,
-        Err(error) => return tell(rt, line.dumpdates, error),
-    };
+    start.bytes = payload.len();
+    match since_of(rt, line, start) {
+        Ok(since) => dump_since(rt, line, payload, start, since, terminal),
+        Err(status) => status,
+    }
+}
+
+/// The date on which the dump builds, by the dumpdates file. Answers the status where that file is at fault, which is told.
+fn since_of<R: System>(rt: &R, line: &DumpLine<'_>, start: &mut DumpStart) -> Result<u64, u8>
+    ensures { IfErr result (λ status. status ≡ 1) }
+{
+    let path = line.dumpdates;
+    let added = start.files.add_dates(rt, rt.alloc(), path, line.update);
+    if let Some(status) = refuse_files(rt, line, path, added) {
+        return Err(status);
+    }
+    match read_or_empty(rt, rt.alloc(), path) {
+        Ok(file) => since_in(rt, line, start, &file),
+        Err(error) => Err(tell(rt, path, error)),
+    }
+}
+
+/// The date on which the dump builds, by the dumpdates file, whose bytes are given. Answers the status where that file is at fault, or
+/// could not be replaced, which is told.
+fn since_in<R: System>(
+    rt: &R,
+    line: &DumpLine<'_>,
+    start: &mut DumpStart,
+    file: &[u8],
+) -> Result<u64, u8>
+    ensures { IfErr result (λ status. status ≡ 1) }
+{
     let level = u8::try_from(line.level).unwrap_or(u8::MAX);
     let mut out = Counted::new(io::writer(rt));
-    match base_date(rt.alloc(), &file, line.fs, level, &mut out) {
-        Ok(since) => dump_since(rt, line, payload, since, terminal),
+    match base_date(rt.alloc(), file, line.fs, level, &mut out) {
+        Ok(since) => match look_at_update(rt, line, start, file) {
+            None => Ok(since),
+            Some(status) => Err(status),
+        },
         // That memory was refused is printed by then.
-        Err(DatesFault::OutOfMemory) => FAILED,
-        Err(_) => say(rt, line.dumpdates, NO_DUMPDATES),
+        Err(DatesFault::OutOfMemory) => Err(FAILED),
+        Err(_) => Err(say(rt, line.dumpdates, NO_DUMPDATES)),
     }
+}
+
+/// Notes what an update of the dumpdates file, whose bytes are given, is to replace, where the words ask for one. Answers the status where
+/// a file lies in its way that is not to be touched, which is told.
+fn look_at_update<R: System>(
+    rt: &R,
+    line: &DumpLine<'_>,
+    start: &mut DumpStart,
+    file: &[u8],
+) -> Option<u8>
+    ensures { IfSome result (λ status. status ≡ 1) }
+{
+    if !line.update {
+        return None;
+    }
+    if let Some(status) = start.note_replaced(rt, line, file) {
+        return Some(status);
+    }
+    let dates = ReplacedFile::new(rt, rt.alloc(), line.dumpdates);
+    refuse_stranger(rt, line.dumpdates, &dates)
 }
 
 /// Dumps a payload that builds on a dump of the date `since`, and answers the status.
@@ -92,6 +153,7 @@ fn dump_since<R: System, M: Medium + Drop, T: Write + Copy + Drop>(
     rt: &R,
     line: &DumpLine<'_>,
     payload: PayloadFile<M>,
+    start: &mut DumpStart,
     since: u64,
     terminal: Option<T>,
 ) -> u8
@@ -99,7 +161,7 @@ fn dump_since<R: System, M: Medium + Drop, T: Write + Copy + Drop>(
     ensures { IsStatus result }
 {
     match line.date.or(seconds_now(rt)) {
-        Some(date) => dump_at(rt, line, payload, since, date, terminal),
+        Some(date) => dump_at(rt, line, payload, start, RunDates { date, since }, terminal),
         None => say(rt, "the clock", "it tells no date"),
     }
 }
@@ -109,26 +171,51 @@ fn dump_at<R: System, M: Medium + Drop, T: Write + Copy + Drop>(
     rt: &R,
     line: &DumpLine<'_>,
     payload: PayloadFile<M>,
-    since: u64,
-    date: u64,
+    start: &mut DumpStart,
+    dates: RunDates,
     terminal: Option<T>,
 ) -> u8
     requires { payload.size ≡ line.now.block }
     ensures { IsStatus result }
 {
     if let Some(path) = line.checkpoint {
-        return dump_from(rt, line, path, payload, since, date, terminal);
+        return dump_from(rt, line, path, payload, start, dates, terminal);
     }
-    let dates = RunDates { date, since };
     let gauge = terminal.map(|it| ProgressLine::new(rt, it));
-    match dumper(rt.alloc(), line, date, since, payload, gauge) {
-        Ok(mut client) => match tell_first(rt, line, dates, terminal.is_some()) {
-            Ok(()) => run_client(rt, line, &mut client, terminal),
-            Err(error) => tell(rt, line.dumpdates, error),
-        },
-        Err(DumperFault::Run(fault)) => refuse_run(rt, line, date, fault),
+    match dumper(rt.alloc(), line, dates.date, dates.since, payload, gauge) {
+        Ok(mut client) => dump_alone(rt, line, start, dates, &mut client, terminal),
+        Err(DumperFault::Run(fault)) => refuse_run(rt, line, dates.date, fault),
         Err(DumperFault::OutOfMemory) => tell_no_memory(rt),
     }
+}
+
+/// A line with this date.
+pub(crate) fn dated<'a>(line: &DumpLine<'a>, date: u64) -> DumpLine<'a> {
+    DumpLine {
+        date: Some(date),
+        ..*line
+    }
+}
+
+/// Has a client dump that keeps no checkpoint, after what is told before the first attempt, and answers the status.
+fn dump_alone<R: System, B: Blocks, T: Write + Copy + Drop>(
+    rt: &R,
+    line: &DumpLine<'_>,
+    start: &DumpStart,
+    dates: RunDates,
+    client: &mut Client<B>,
+    terminal: Option<T>,
+) -> u8
+    ensures { IsStatus result }
+{
+    if let Err(error) = tell_first(rt, line, start, dates, terminal.is_some()) {
+        return tell(rt, line.dumpdates, error);
+    }
+    let dumped = run_printed(rt, &dated(line, dates.date), client, terminal);
+    if dumped.is_printed && client.finished().is_some() {
+        tell_end(rt, line, start, client);
+    }
+    dumped.status
 }
 
 /// The dates of a dump, in seconds since 1970 began.
@@ -140,13 +227,14 @@ pub(crate) struct RunDates {
     pub since: u64,
 }
 
-/// Tells what is known before the first attempt: at a terminal the base date, that it is after the dump's own, and where the dump could
-/// not be entered now, why.
+/// Tells what is known before the first attempt: at a terminal the base date, that it is after the dump's own, that an entry of a later
+/// date is to be replaced, and where the dump could not be entered now, why.
 ///
 /// It fails only where memory is refused.
 pub(crate) fn tell_first<R: System>(
     rt: &R,
     line: &DumpLine<'_>,
+    start: &DumpStart,
     dates: RunDates,
     is_at_terminal: bool,
 ) -> io::Result<()> {
@@ -157,8 +245,21 @@ pub(crate) fn tell_first<R: System>(
         tell_late(rt, dates.since)?;
     }
     if line.update {
+        if start.replaced > dates.date {
+            tell_replaced(rt, line, start.replaced)?;
+        }
         warn(rt, line.dumpdates)?;
     }
+    Ok(())
+}
+
+/// Tells that the dump is to replace an entry of this date, which is after its own. It fails only where memory is refused.
+fn tell_replaced<R: System>(rt: &R, line: &DumpLine<'_>, replaced: u64) -> io::Result<()> {
+    let date = text_of(rt, replaced)?;
+    let (path, name, level) = (plain(line.dumpdates), plain(line.fs), line.level);
+    let _ = eprintln!(rt;
+        "rdump: {path}: the entry of {name} level {level} that this dump is to replace has a later date, {date}"
+    );
     Ok(())
 }
 
@@ -194,6 +295,7 @@ fn warn<R: System>(rt: &R, dumpdates: &str) -> io::Result<()> {
         None => Ok(()),
         Some(error) if error.kind() == ErrorKind::OutOfMemory => Err(error),
         Some(error) => {
+            let dumpdates = plain(dumpdates);
             let _ = eprintln!(rt; "rdump: {dumpdates}: {error}: the dump can't be entered");
             Ok(())
         }

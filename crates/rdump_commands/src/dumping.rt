@@ -6,10 +6,13 @@ ghost use Rattle.rdump_commands.specs.Status.{IsDumpStatus, IsEndStatus};
 
 use crate::System;
 use crate::asking::Asking;
+use crate::dump_end::tell_end;
+use crate::dump_start::DumpStart;
 use crate::fault::{ABNORMAL, NO_DUMPDATES, ended, tell_failed};
 use crate::told_peer::ToldPeer;
 use dump_client::{Blocks, Client};
 use dumpdates::DatesFault;
+use printable::plain;
 use rdump_files::{Clearing, FileFailed, ReplacedFile, UpdateFault, dump_and_update, enter_dump};
 use rdump_talk::{Conclusion, Peer, dump, dump_kept};
 use rdump_words::DumpLine;
@@ -21,7 +24,7 @@ const COMPLETE: u8 = 0;
 
 /// Has a client dump to the server of the line, as `rdump dump` does, with its lines to standard output. `terminal` is standard
 /// error, where that is a terminal: its line of progress is cleared before each of them, and what may be said is told there
-/// after each question. Standard error tells why attempts failed.
+/// after each question. Standard error tells why attempts failed. If the line asks for `protect`, its date is that of the dump.
 ///
 /// Answers the exit status: 0 where the run is finished, all was printed, and it is entered in the dumpdates file if the line
 /// asks for that; and else 3.
@@ -33,6 +36,27 @@ pub fn run_client<R: System, B: Blocks, T: Write + Copy + Drop>(
 ) -> u8
     ensures { IsDumpStatus client.new.at result }
 {
+    run_printed(rt, line, client, terminal).status
+}
+
+/// How a dump ended.
+#[derive(Clone, Copy)]
+pub(crate) struct Dumped {
+    /// The exit status.
+    pub status: u8,
+    /// Whether all that was to be printed was.
+    pub is_printed: bool,
+}
+
+/// Has a client dump as `run_client` does.
+pub(crate) fn run_printed<R: System, B: Blocks, T: Write + Copy + Drop>(
+    rt: &R,
+    line: &DumpLine<'_>,
+    client: &mut Client<B>,
+    terminal: Option<T>,
+) -> Dumped
+    ensures { IsDumpStatus client.new.at result.status }
+{
     let mut peer = ToldPeer::new(rt, line, terminal);
     let mut operator = Asking::new(rt.reader(), terminal);
     let mut out = Counted::new(Clearing {
@@ -40,7 +64,11 @@ pub fn run_client<R: System, B: Blocks, T: Write + Copy + Drop>(
         terminal,
     });
     let status = dump_over(rt, line, client, &mut peer, &mut operator, &mut out);
-    ended(rt, out.failures(), status)
+    let failures = out.failures();
+    Dumped {
+        status: ended(rt, failures, status),
+        is_printed: failures == 0,
+    }
 }
 
 /// Has a client dump over a peer, with its lines to `out`, and answers the status.
@@ -83,13 +111,14 @@ fn dump_entered<R: System, B: Blocks, P: Peer, I: Read, W: Write>(
 
 /// Has a client dump as `run_client` does, and keeps its checkpoint in this file, which is removed where the dump is complete, and
 /// entered if it was to be, and where it is abandoned. Where a checkpoint could not be written standard error tells why, and where
-/// the file can't be removed.
+/// the file can't be removed; and of a dump that is complete what a restore needs.
 ///
 /// Answers the exit status: 0 where the run is finished, all was printed, it is entered in the dumpdates file if the line asks
 /// for that, and the file is removed; and else 3.
 pub(crate) fn run_kept<R: System, B: Blocks, T: Write + Copy + Drop>(
     rt: &R,
     line: &DumpLine<'_>,
+    start: &DumpStart,
     client: &mut Client<B>,
     file: &mut ReplacedFile<'_, R>,
     terminal: Option<T>,
@@ -104,6 +133,9 @@ pub(crate) fn run_kept<R: System, B: Blocks, T: Write + Copy + Drop>(
     });
     let end = dump_kept(rt.alloc(), client, &mut peer, &mut operator, &mut out, file);
     let status = end_kept(rt, line, client, end, &mut out, file);
+    if end == Conclusion::Complete {
+        tell_end(rt, line, start, client);
+    }
     let failures = out.failures();
     ended(rt, failures, status)
 }
@@ -151,6 +183,7 @@ fn checkpoint_of<'a>(line: &DumpLine<'a>) -> &'a str {
 fn tell_left<R: Eprint>(rt: &R, path: &str, failure: Option<&io::Error>) -> u8
     ensures { result ≡ 3 }
 {
+    let path = plain(path);
     match failure {
         Some(error) => {
             let _ = eprintln!(rt; "rdump: {path}: it could not be removed: {error}");
@@ -170,6 +203,7 @@ fn tell_unkept<R: Eprint>(rt: &R, line: &DumpLine<'_>, failure: Option<&io::Erro
     match failure {
         Some(error) => tell_failed(rt, path, error, ABNORMAL),
         None => {
+            let path = plain(path);
             let _ = eprintln!(rt; "rdump: {path}: out of memory");
             ABNORMAL
         }
@@ -203,6 +237,7 @@ fn tell_unentered<R: Eprint>(
     fault: UpdateFault,
     failure: Option<&io::Error>,
 ) {
+    let dumpdates = plain(dumpdates);
     let _ = match (fault, failure) {
         (UpdateFault::Dates(DatesFault::OutOfMemory), _) => {
             eprintln!(rt; "rdump: {dumpdates}: out of memory")

@@ -3,6 +3,7 @@ ghost use Rattle.std.specs.Prelude.{◌≡◌};
 
 use crate::System;
 use dump_client::RunFault;
+use printable::plain;
 use rdump_words::{DumpLine, dump_error};
 use std::alloc::{AllocError, Global};
 use std::io;
@@ -20,6 +21,7 @@ pub(crate) const NO_DUMPDATES: &str = "it is no dumpdates file";
 pub(crate) fn say<R: Eprint>(rt: &R, what: &str, why: &str) -> u8
     ensures { result ≡ 1 }
 {
+    let what = plain(what);
     let _ = eprintln!(rt; "rdump: {what}: {why}");
     FAILED
 }
@@ -31,6 +33,7 @@ pub(crate) fn tell<R: Eprint + Print>(rt: &R, what: &str, error: io::Error) -> u
     if error.kind() == io::ErrorKind::OutOfMemory {
         let _ = println!(rt; "out of memory");
     } else {
+        let what = plain(what);
         let _ = eprintln!(rt; "rdump: {what}: {error}");
     }
     FAILED
@@ -65,6 +68,7 @@ pub(crate) fn ended<R: Eprint>(rt: &R, failures: u64, status: u8) -> u8
 pub(crate) fn tell_failed<R: Eprint>(rt: &R, what: &str, error: &io::Error, status: u8) -> u8
     ensures { result ≡ status }
 {
+    let what = plain(what);
     let _ = eprintln!(rt; "rdump: {what}: {error}");
     status
 }

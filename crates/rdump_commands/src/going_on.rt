@@ -4,7 +4,9 @@ ghost use Rattle.rdump_commands.specs.Status.{IsStatus};
 ghost use Rattle.rdump_files.specs.Payload.{IsRunsPayload};
 
 use crate::System;
-use crate::dump_command::{RunDates, tell_first};
+use crate::dump_command::{RunDates, dated, tell_first};
+use crate::dump_end::tell_younger;
+use crate::dump_start::{DumpStart, refuse_files, refuse_stranger};
 use crate::dumping::run_kept;
 use crate::fault::{FAILED, refuse_run, say, tell, tell_failed, tell_no_memory};
 use dump_client::{Blocks, Client, ResumeFault, Run};
@@ -22,21 +24,41 @@ pub(crate) fn dump_from<R: System, M: Medium + Drop, T: Write + Copy + Drop>(
     line: &DumpLine<'_>,
     path: &str,
     payload: PayloadFile<M>,
-    since: u64,
-    date: u64,
+    start: &mut DumpStart,
+    dates: RunDates,
     terminal: Option<T>,
 ) -> u8
     requires { payload.size ≡ line.now.block }
     ensures { IsStatus result }
 {
-    let run = match run_of(line, date, since, &payload) {
+    let run = match run_of(line, dates.date, dates.since, &payload) {
         Ok(run) => run,
-        Err(fault) => return refuse_run(rt, line, date, fault),
+        Err(fault) => return refuse_run(rt, line, dates.date, fault),
     };
+    let added = start.files.add_checkpoint(rt, rt.alloc(), path);
+    match refuse_files(rt, line, path, added) {
+        None => dump_kept(rt, line, path, run, payload, start, terminal),
+        Some(status) => status,
+    }
+}
+
+/// Dumps a run, from the checkpoint at this path on if there is one, and answers the status.
+fn dump_kept<R: System, M: Medium + Drop, T: Write + Copy + Drop>(
+    rt: &R,
+    line: &DumpLine<'_>,
+    path: &str,
+    run: Run,
+    payload: PayloadFile<M>,
+    start: &DumpStart,
+    terminal: Option<T>,
+) -> u8
+    requires { IsRunsPayload run payload }
+    ensures { IsStatus result }
+{
     let mut file = ReplacedFile::held(rt, rt.alloc(), path);
     match file.read(rt.alloc()) {
-        Ok(None) => dump_anew(rt, line, run, payload, &mut file, terminal),
-        Ok(Some(bytes)) => dump_on(rt, line, &run, &bytes, payload, &mut file, terminal),
+        Ok(None) => dump_anew(rt, line, run, payload, start, &mut file, terminal),
+        Ok(Some(bytes)) => dump_on(rt, line, &run, &bytes, payload, start, &mut file, terminal),
         Err(FileFailed) => tell_unread(rt, path, file.failure()),
     }
 }
@@ -47,6 +69,7 @@ fn dump_anew<R: System, M: Medium + Drop, T: Write + Copy + Drop>(
     line: &DumpLine<'_>,
     run: Run,
     payload: PayloadFile<M>,
+    start: &DumpStart,
     file: &mut ReplacedFile<'_, R>,
     terminal: Option<T>,
 ) -> u8
@@ -56,7 +79,7 @@ fn dump_anew<R: System, M: Medium + Drop, T: Write + Copy + Drop>(
     let dates = dates_of(&run);
     let gauge = terminal.map(|it| ProgressLine::new(rt, it));
     match dumper_of(rt.alloc(), run, payload, gauge) {
-        Ok(mut client) => dump_told(rt, line, dates, &mut client, file, terminal),
+        Ok(mut client) => dump_told(rt, line, start, dates, None, &mut client, file, terminal),
         Err(_) => tell_no_memory(rt),
     }
 }
@@ -68,6 +91,7 @@ fn dump_on<R: System, M: Medium + Drop, T: Write + Copy + Drop>(
     run: &Run,
     bytes: &[u8],
     payload: PayloadFile<M>,
+    start: &DumpStart,
     file: &mut ReplacedFile<'_, R>,
     terminal: Option<T>,
 ) -> u8
@@ -82,8 +106,8 @@ fn dump_on<R: System, M: Medium + Drop, T: Write + Copy + Drop>(
     let gauge = terminal.map(|it| ProgressLine::new(rt, it));
     match come_back(rt.alloc(), run, bytes, payload, gauge) {
         Ok(mut client) => {
-            tell_going_on(rt, &client, run.blocks());
-            dump_told(rt, line, dates, &mut client, file, terminal)
+            let blocks = Some(run.blocks());
+            dump_told(rt, line, start, dates, blocks, &mut client, file, terminal)
         }
         Err(fault) => refuse_checkpoint(rt, path, fault),
     }
@@ -97,28 +121,49 @@ fn dates_of(run: &Run) -> RunDates {
     }
 }
 
-/// Has a client dump that keeps its checkpoint in this file, after what is told before the first attempt, and answers the status.
+/// Has a client dump that keeps its checkpoint in this file, after what is told before the first attempt, and answers the status. One that
+/// goes on has so many blocks.
 fn dump_told<R: System, B: Blocks, T: Write + Copy + Drop>(
     rt: &R,
     line: &DumpLine<'_>,
+    start: &DumpStart,
     dates: RunDates,
+    goes_on: Option<u32>,
     client: &mut Client<B>,
     file: &mut ReplacedFile<'_, R>,
     terminal: Option<T>,
 ) -> u8
     ensures { IsStatus result }
 {
-    match tell_first(rt, line, dates, terminal.is_some()) {
-        Ok(()) => run_kept(rt, line, client, file, terminal),
+    let path = line.checkpoint.unwrap_or("");
+    if let Some(status) = refuse_stranger(rt, path, file) {
+        return status;
+    }
+    let told = match goes_on {
+        Some(blocks) => tell_going_on(rt, line, start, client, blocks, file),
+        None => Ok(()),
+    };
+    match told.and_then(|()| tell_first(rt, line, start, dates, terminal.is_some())) {
+        Ok(()) => run_kept(rt, &dated(line, dates.date), start, client, file, terminal),
         Err(error) => tell(rt, line.dumpdates, error),
     }
 }
 
-/// Tells what a dump goes on with, among so many blocks.
-fn tell_going_on<R: Eprint, B: Blocks>(rt: &R, client: &Client<B>, blocks: u32) {
+/// Tells what a dump goes on with, among so many blocks, and that its payload is younger than the checkpoint, if it is. It fails only where
+/// memory is refused.
+fn tell_going_on<R: System, B: Blocks>(
+    rt: &R,
+    line: &DumpLine<'_>,
+    start: &DumpStart,
+    client: &Client<B>,
+    blocks: u32,
+    file: &ReplacedFile<'_, R>,
+) -> io::Result<()> {
     let volumes = client.counted().len();
     let (_, counted) = client.checkpoint();
     let _ = eprintln!(rt; "going on: {volumes} volumes, {counted} blocks of {blocks} counted");
+    let path = line.checkpoint.unwrap_or("");
+    tell_younger(rt, line, start, path, file.modified())
 }
 
 /// Tells why no dump goes on from the checkpoint at this path, and answers the status.

@@ -1,5 +1,6 @@
 //! The text of the label of a volume that is read back.
 use dump_run::{LABEL_BYTES, VolumeLabel};
+use printable::PlainBytes;
 use std::cell::Cell;
 use std::io::{self, ErrorKind, Write};
 
@@ -28,20 +29,27 @@ pub(crate) enum Wanted<'a> {
 }
 
 /// Where the text of a label goes, by one write, where it is a wanted one. What it is, is kept, and the volume's first block is told,
-/// once a label was printed.
+/// once a label was printed. The text of no label of `rdump` goes to a terminal as it may be printed.
 #[derive(Drop)]
 pub(crate) struct LabelText<'a, W> {
     out: W,
+    is_shown: bool,
     wanted: Wanted<'a>,
     first: &'a Cell<Option<u32>>,
     found: Found,
 }
 
 impl<'a, W: Write + Drop> LabelText<'a, W> {
-    /// Where no text went so far.
-    pub(crate) fn new(out: W, wanted: Wanted<'a>, first: &'a Cell<Option<u32>>) -> Self {
+    /// Where no text went so far. `is_shown` says whether that may be a terminal.
+    pub(crate) fn new(
+        out: W,
+        is_shown: bool,
+        wanted: Wanted<'a>,
+        first: &'a Cell<Option<u32>>,
+    ) -> Self {
         LabelText {
             out,
+            is_shown,
             wanted,
             first,
             found: Found::Nothing,
@@ -61,9 +69,13 @@ impl<'a, W: Write> Write for LabelText<'a, W> {
         if !is_wanted(&self.found, self.wanted) {
             return Err(ErrorKind::InvalidData.into());
         }
-        self.out.write_all(buf)?;
-        if let Found::Label(label) = &self.found {
-            self.first.set(Some(label.first()));
+        match &self.found {
+            Found::Label(label) => {
+                self.out.write_all(buf)?;
+                self.first.set(Some(label.first()));
+            }
+            _ if self.is_shown => write!(self.out, "{}", PlainBytes(buf))?,
+            _ => self.out.write_all(buf)?,
         }
         Ok(buf.len())
     }

@@ -4,12 +4,15 @@ ghost use Rattle.rdump_words.specs.Rdump.{IsMtLine};
 
 use crate::System;
 use crate::fault::{ABNORMAL, tell_failed, unwritten};
+use crate::shown::may_be_shown;
+use printable::{PlainBytes, plain};
 use rdump_talk::{SocketPeer, mt};
 use rdump_words::MtLine;
 use rmt_wire::Counted;
 use std::io::{self, Write};
 
-/// Does one operation at a drive, as `rdump mt` does, and prints what the server answers.
+/// Does one operation at a drive, as `rdump mt` does, and prints what the server answers. At a terminal its text stands as it may be
+/// printed.
 ///
 /// Answers the exit status: 0 where the operation was done and that was printed, and else 3.
 pub fn run_mt<R: System>(rt: &R, line: MtLine<'_>) -> u8
@@ -22,10 +25,18 @@ pub fn run_mt<R: System>(rt: &R, line: MtLine<'_>) -> u8
     if answer.is_empty() {
         return tell_unanswered(rt, line.to, peer.failure());
     }
-    if io::writer(rt).write_all(&answer).is_err() {
+    if print_answer(rt, &answer).is_err() {
         return unwritten(rt, ABNORMAL);
     }
     status
+}
+
+/// Prints an answer of one line.
+fn print_answer<R: System>(rt: &R, answer: &[u8]) -> io::Result<()> {
+    match answer.strip_suffix(b"\n") {
+        Some(line) if may_be_shown(rt) => rt.println(PlainBytes(line)),
+        _ => io::writer(rt).write_all(answer),
+    }
 }
 
 /// Does one operation at a drive of this server, appends the answer, and answers the status.
@@ -50,6 +61,7 @@ fn tell_unanswered<R: System>(rt: &R, to: &str, failure: Option<&io::Error>) -> 
     match failure {
         Some(error) => tell_failed(rt, to, error, ABNORMAL),
         None => {
+            let to = plain(to);
             let _ = eprintln!(rt; "rdump: {to}: the connection ended before the answer");
             ABNORMAL
         }

@@ -122,6 +122,11 @@ impl OutFile {
         self.fault.set(Some(fault));
     }
 
+    /// How many bytes each block has, where one was written at its place.
+    pub(crate) fn block(&self) -> Option<usize> {
+        self.block.get()
+    }
+
     /// Whether a volume has begun.
     pub(crate) fn has_begun(&self) -> bool {
         self.has_begun.get()

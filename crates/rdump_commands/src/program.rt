@@ -1,10 +1,12 @@
 //! The program: its words, and the command that they name.
+ghost use Rattle.std.specs.Prelude.{◌≡◌};
 ghost use Rattle.rdump_commands.specs.Status.{IsHelpStatus, IsStatus};
 
 use crate::fault::{FAILED, tell, tell_no_memory, unwritten};
 use crate::{System, run_dates, run_dump, run_mt, run_read};
 use clap::error::ErrorKind;
 use file_medium::take_places;
+use printable::PlainLines;
 use rdump_list::run_ls;
 use rdump_words::{RdumpLine, rdump_words};
 use std::convert::AsStr;
@@ -64,8 +66,24 @@ fn refuse<R: System>(rt: &R, error: clap::Error) -> u8
     if error.kind() == ErrorKind::OutOfMemory {
         return tell_no_memory(rt);
     }
+    if error.use_stderr() {
+        return print_error(rt, &error);
+    }
     if error.print(rt).is_err() {
         return unwritten(rt, FAILED);
     }
-    if error.use_stderr() { FAILED } else { 0 }
+    0
+}
+
+/// Prints an error of words on standard error, in which words may stand as they were given, and answers the status.
+pub(crate) fn print_error<R: System>(rt: &R, error: &clap::Error) -> u8
+    ensures { result ≡ 1 }
+{
+    match format!(in rt.alloc(); "{error}") {
+        Ok(text) => {
+            let _ = rt.eprint(PlainLines(text.as_str()));
+            FAILED
+        }
+        Err(_) => tell_no_memory(rt),
+    }
 }

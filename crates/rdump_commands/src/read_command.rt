@@ -20,9 +20,11 @@ pub(crate) const WHOLE: u8 = 0;
 ///
 /// With `place` each block goes to the place in the file that it has in the dump, and the file is not emptied: the first record has
 /// to be a label, and the blocks have to be of one length. With `all` it is so with each volume of the stack. A reel goes to the bin
-/// once its volume was read, and what was written is on the disk. The reading ends well where the stack has no reel any more, and no block is missing between those that
-/// came. A volume of another dump than the first one stays. With a length the file is cut to it in the end, where it is longer; with `all`
-/// it is told where it is shorter. In the end a plain file or a block device is synced, and the folder of a file that is made here.
+/// once its volume was read, a mark was found where its records ended, and what was written is on the disk. The reading ends well where the stack has no reel any more, and
+/// no block is missing between those that came. A volume of another dump than the first one stays, and so does a reel without a record: with a length the reading ends well
+/// there too, where no block below it is missing. With `place` alone the mark is looked for as well. With a length the file is cut to it in the end, where it is longer; with
+/// `all` it is told where it is shorter, and without one that the end of the dump is not known. In the end a plain file or a block device is synced, and the folder of a file
+/// that is made here.
 ///
 /// Answers the exit status: 0 where all was read whole and synced, and nothing is known to be missing, 1 where the file could not be opened, or has to be a plain
 /// one, for places or a length, and is none, and else 3.

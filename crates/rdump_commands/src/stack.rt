@@ -9,6 +9,7 @@ use crate::out_file::OutFile;
 use crate::read_command::finish_file;
 use crate::volume::{VolumeEnd, VolumeRead, read_volume};
 use dump_run::VolumeLabel;
+use printable::plain;
 use rdump_words::ReadLine;
 
 /// Reads the volumes of a stack into a file, each to its place, as `rdump read --all` does, and answers the status.
@@ -18,10 +19,19 @@ pub(crate) fn read_stack<R: System>(rt: &R, line: &ReadLine<'_>, file: &OutFile)
 {
     let mut came = CameBlocks::new(rt.alloc());
     let end = read_volumes(rt, line, file, &mut came);
-    let has_gap = tell_came(rt, came.sorted(), file.was_empty());
-    if end != VolumeEnd::NoReel {
-        return ABNORMAL;
+    let below = end_of_length(line.length, file.block());
+    let has_gap = tell_came(rt, came.sorted(), file.was_empty(), below);
+    match end {
+        VolumeEnd::Whole | VolumeEnd::Failed => ABNORMAL,
+        VolumeEnd::NoReel => end_stack(rt, line, file, has_gap),
+        VolumeEnd::NoRecord | VolumeEnd::OtherDump => end_dump(rt, line, file, has_gap),
     }
+}
+
+/// The stack is empty: cuts and syncs the file, and answers the status.
+fn end_stack<R: System>(rt: &R, line: &ReadLine<'_>, file: &OutFile, has_gap: bool) -> u8
+    ensures { IsReadStatus result }
+{
     let status = finish_file(rt, line, file);
     let is_short = tell_short(rt, line, file);
     if has_gap || is_short {
@@ -31,11 +41,41 @@ pub(crate) fn read_stack<R: System>(rt: &R, line: &ReadLine<'_>, file: &OutFile)
     }
 }
 
-/// Tells where the file has fewer bytes than the line asks for: the last volumes did not come. Answers whether it has.
+/// The next reel is not one of the dump: where nothing is missing below the length that the line asks for, the file is cut and synced.
+/// Without a length the dump may go on with further reels. Answers the status.
+fn end_dump<R: System>(rt: &R, line: &ReadLine<'_>, file: &OutFile, has_gap: bool) -> u8
+    ensures { IsReadStatus result }
+{
+    let is_short = tell_short(rt, line, file);
+    if line.length.is_none() || has_gap || is_short {
+        ABNORMAL
+    } else {
+        finish_file(rt, line, file)
+    }
+}
+
+/// The block after the last one that has bytes below a length, where the blocks have so many bytes each. Without a length, or a block,
+/// there is no last one.
+fn end_of_length(length: Option<u64>, block: Option<usize>) -> u64 {
+    match (length, block) {
+        (Some(0), _) => 0,
+        (Some(length), Some(block)) if block > 0 => length.div_ceil(block as u64),
+        _ => u64::MAX,
+    }
+}
+
+/// Tells where the file has fewer bytes than the line asks for: the last volumes did not come. Answers whether it has. Without a length
+/// it tells that this cannot be known.
 fn tell_short<R: System>(rt: &R, line: &ReadLine<'_>, file: &OutFile) -> bool {
-    match (line.length, file.len()) {
-        (Some(length), Ok(bytes)) if bytes < length => {
-            let out = line.out;
+    let Some(length) = line.length else {
+        let _ = eprintln!(rt;
+            "the end of the dump is not known: without --length the last volumes may be missing"
+        );
+        return false;
+    };
+    match file.len() {
+        Ok(bytes) if bytes < length => {
+            let out = plain(line.out);
             let _ = eprintln!(rt; "rdump: {out}: {bytes} bytes, fewer than {length}");
             true
         }
@@ -86,14 +126,14 @@ fn count<R: System>(rt: &R, read: &VolumeRead, came: &mut CameBlocks) -> bool {
     true
 }
 
-/// Tells of the blocks that came, which are in order: which are missing between them, and of those before the first one. Where the file was empty
-/// these are missing too, and else another run may have read them. Answers whether any are missing.
-fn tell_came<R: System>(rt: &R, came: &[BlockRange], was_empty: bool) -> bool {
+/// Tells of the blocks that came, which are in order: which are missing between them, and of those before the first one, up to the block
+/// `below`. Where the file was empty these are missing too, and else another run may have read them. Answers whether any are missing.
+fn tell_came<R: System>(rt: &R, came: &[BlockRange], was_empty: bool, below: u64) -> bool {
     match came.first() {
-        Some(_) if was_empty => tell_gaps(rt, came, 0),
+        Some(_) if was_empty => tell_gaps(rt, came, 0, below),
         Some(range) => {
             tell_first(rt, range.first);
-            tell_gaps(rt, came, range.first)
+            tell_gaps(rt, came, range.first, below)
         }
         None => false,
     }
@@ -106,13 +146,15 @@ fn tell_first<R: System>(rt: &R, first: u64) {
     }
 }
 
-/// Tells which blocks are missing from this one on between those that came, which are in order. Answers whether any are.
-fn tell_gaps<R: System>(rt: &R, came: &[BlockRange], from: u64) -> bool {
+/// Tells which blocks are missing from this one on, and below another one, between those that came, which are in order. Answers whether
+/// any are.
+fn tell_gaps<R: System>(rt: &R, came: &[BlockRange], from: u64, below: u64) -> bool {
     let mut end = from;
     let mut has_gap = false;
     for range in came {
-        if range.first > end {
-            tell_gap(rt, end, range.first - 1);
+        let next = range.first.min(below);
+        if next > end {
+            tell_gap(rt, end, next - 1);
             has_gap = true;
         }
         end = end.max(range.end);

@@ -3,38 +3,41 @@ ghost use Rattle.std.specs.Prelude.{◌≤◌, length};
 
 use crate::System;
 use crate::last_reply::LastReply;
+use crate::protecting::{find_hold, refusal, tell_held};
 use dump_client::AttemptFault;
 use dump_run::VolumeLabel;
 use jiff::Timestamp;
 use jiff::civil::Date;
 use jiff::tz::TimeZone;
+use printable::plain;
 use rdump_files::CLEAR;
 use rdump_talk::{Peer, ReadFault, SocketPeer};
 use rdump_words::DumpLine;
+use rmt_wire::errno::EIO;
 use std::io::{self, Write};
 
-/// The server of a dump. It tells nothing to clauses; on standard error it tells why an attempt failed, and at a terminal which
-/// label is written over, after the line of progress there was cleared.
+/// The server of a dump. It tells nothing to clauses; on standard error it tells why an attempt failed or is not to begin, and which
+/// label is written over. At a terminal the line of progress is cleared before.
+///
+/// If the line asks for it, it looks at the reel before each attempt, over a connection of its own.
 #[derive(Drop)]
 pub(crate) struct ToldPeer<'a, R: System, T> {
     rt: &'a R,
-    address: &'a str,
-    device: &'a str,
-    payload: &'a str,
+    line: DumpLine<'a>,
     socket: SocketPeer<'a, R>,
+    looks: SocketPeer<'a, R>,
     reply: LastReply,
     terminal: Option<T>,
 }
 
 impl<'a, R: System, T: Write> ToldPeer<'a, R, T> {
-    /// The server that this line names, with no connection.
+    /// The server that this line names, with no connection. If reels are to be protected, the line has the date of the dump.
     pub(crate) fn new(rt: &'a R, line: &DumpLine<'a>, terminal: Option<T>) -> Self {
         ToldPeer {
             rt,
-            address: line.to,
-            device: line.device,
-            payload: line.payload,
+            line: *line,
             socket: SocketPeer::new(rt, line.to),
+            looks: SocketPeer::new(rt, line.to),
             reply: LastReply::new(),
             terminal,
         }
@@ -47,15 +50,29 @@ impl<'a, R: System, T: Write> ToldPeer<'a, R, T> {
         }
     }
 
-    /// Tells at a terminal which label is written over, where the last reply has one: the dump goes on after it.
+    /// Tells which label is written over, where the last reply has one: the dump goes on after it.
     fn tell_label(&mut self) {
-        let (Some(terminal), Some(record)) = (&mut self.terminal, self.reply.record()) else {
-            return;
-        };
-        if let Some(label) = VolumeLabel::read(record) {
-            clear(terminal);
+        if let Some(label) = self.label() {
+            self.clear();
             tell_reel(self.rt, &label);
         }
+    }
+
+    /// The label that the last reply has.
+    fn label(&self) -> Option<VolumeLabel> {
+        VolumeLabel::read(self.reply.record()?)
+    }
+
+    /// Looks at the reel. Answers whether the dump may write on it, and tells why if not.
+    fn look(&mut self) -> bool {
+        let Some(held) = find_hold(self.rt, &self.line, &mut self.looks) else {
+            return true;
+        };
+        self.clear();
+        tell_held(self.rt, &self.line, &held, self.looks.failure());
+        // From the second look in a row on that holds an attempt back, the next one waits.
+        self.looks.attempt_failed(AttemptFault::ConnectionEnded);
+        false
     }
 }
 
@@ -83,28 +100,32 @@ impl<'a, R: System, T: Write> Peer for ToldPeer<'a, R, T> {
         self.socket.hang_up();
     }
 
+    fn may_begin(&mut self) -> bool {
+        !self.line.protect || self.look()
+    }
+
     fn attempt_failed(&mut self, fault: AttemptFault) {
         self.socket.attempt_failed(fault);
         match fault {
             AttemptFault::ConnectionEnded => {
                 self.clear();
-                tell_ended(self.rt, self.address, self.socket.failure());
+                tell_ended(self.rt, self.line.to, self.socket.failure());
             }
             AttemptFault::Refused(number) => {
                 self.clear();
-                tell_refused(self.rt, self.address, number);
+                tell_refused(self.rt, self.line.to, number);
             }
             AttemptFault::CountedReel(volume) => {
                 self.clear();
-                tell_counted(self.rt, self.address, self.device, volume);
+                tell_counted(self.rt, self.line.to, self.line.device, volume);
             }
             AttemptFault::Botched => {
                 self.clear();
-                tell_botched(self.rt, self.address);
+                tell_botched(self.rt, self.line.to);
             }
             AttemptFault::SourceFault => {
                 self.clear();
-                tell_unread(self.rt, self.payload);
+                tell_unread(self.rt, self.line.payload);
             }
             _ => {}
         }
@@ -118,22 +139,29 @@ fn clear<T: Write>(terminal: &mut T) {
 
 /// Tells why the connection to an address could not be made or failed, or that it ended.
 fn tell_ended<R: Eprint>(rt: &R, address: &str, failure: Option<&io::Error>) {
+    let address = plain(address);
     let _ = match failure {
         Some(error) => eprintln!(rt; "rdump: {address}: {error}"),
         None => eprintln!(rt; "rdump: {address}: the connection ended"),
     };
 }
 
-/// Tells what the system calls the error that an address answered.
+/// Tells what the system calls the error that an address answered, and after `EIO` where more is to be found.
 fn tell_refused<R: Eprint>(rt: &R, address: &str, number: u32) {
-    if let Ok(code) = i32::try_from(number) {
-        let error = io::Error::from_raw_os_error(code);
-        let _ = eprintln!(rt; "rdump: {address}: Refused {number}: {error}");
+    let address = plain(address);
+    let error = refusal(number);
+    let _ = eprintln!(rt; "rdump: {address}: Refused {number}: {error}");
+    if number == EIO {
+        let _ = eprintln!(rt;
+            "rdump: {address}: look in the server's log, and in the bin for a file of this reel's name"
+        );
     }
 }
 
 /// Tells what to do with a reel that begins with the label of a counted volume.
 fn tell_counted<R: Eprint>(rt: &R, address: &str, device: &str, volume: u32) {
+    let address = plain(address);
+    let device = plain(device);
     let _ = eprintln!(rt;
         "rdump: {address}: CountedReel {volume}: the first reel of the stack of {device} begins \
          with the label of volume {volume}, which this dump has counted; take it away \
@@ -144,12 +172,14 @@ fn tell_counted<R: Eprint>(rt: &R, address: &str, device: &str, volume: u32) {
 
 /// Tells that what came from an address is no reply.
 fn tell_botched<R: Eprint>(rt: &R, address: &str) {
+    let address = plain(address);
     let fault = ReadFault::Botched;
     let _ = eprintln!(rt; "rdump: {address}: {fault}");
 }
 
 /// Tells that a block of a payload could not be read.
 fn tell_unread<R: Eprint>(rt: &R, payload: &str) {
+    let payload = plain(payload);
     let _ = eprintln!(rt;
         "rdump: {payload}: a block could not be read: the file became shorter, or its disk failed"
     );

@@ -7,9 +7,13 @@ use crate::fault::{ABNORMAL, tell_failed, unwritten};
 use crate::label_text::{Found, LabelText, Wanted};
 use crate::out_file::{BlockFault, OutFile};
 use crate::reel_peer::{ReelPeer, ReelState};
+use crate::shown::may_be_shown;
 use crate::volume_blocks::{BlockSizes, VolumeBlocks};
 use dump_run::VolumeLabel;
-use rdump_talk::{AfterVolume, ReadFault, VolumeRequest, copy_volume};
+use printable::plain;
+use rdump_talk::{
+    AfterVolume, ReadFault, ReelFront, SocketPeer, VolumeRequest, copy_volume, look_at_reel,
+};
 use rdump_words::ReadLine;
 use rmt_wire::Counted;
 use rmt_wire::errno::ENXIO;
@@ -23,6 +27,10 @@ pub(crate) enum VolumeEnd {
     Whole,
     /// The drive has no reel any more, after a volume was read.
     NoReel,
+    /// The next reel has nothing, after a volume was read.
+    NoRecord,
+    /// The next reel has a volume of another dump.
+    OtherDump,
     /// It was not read whole.
     Failed,
 }
@@ -60,7 +68,8 @@ pub(crate) fn read_volume<R: System>(
     let first = Cell::new(None);
     let mut peer = ReelPeer::new(rt, line.to, file, &first);
     let mut blocks = Counted::new(VolumeBlocks::new(file, &first));
-    let mut out = Counted::new(LabelText::new(io::writer(rt), wanted_of(line, dump), &first));
+    let (is_shown, wanted) = (may_be_shown(rt), wanted_of(line, dump));
+    let mut out = Counted::new(LabelText::new(io::writer(rt), is_shown, wanted, &first));
     let device = line.device.as_bytes();
     let after = after_of(line);
     let read = copy_volume(rt.alloc(), &mut peer, device, after, &mut blocks, &mut out);
@@ -70,10 +79,9 @@ pub(crate) fn read_volume<R: System>(
         sizes: blocks.into_inner().sizes(),
         reel: peer.reel(),
     };
-    let end = if dump.is_some() && has_no_reel(read) {
-        VolumeEnd::NoReel
-    } else {
-        tell_volume(rt, line, &came, file, peer.failure())
+    let end = match end_behind(rt, line, dump, &came) {
+        Some(end) => end,
+        None => tell_volume(rt, line, &came, file, peer.failure()),
     };
     VolumeRead {
         count: came.sizes.count,
@@ -95,8 +103,52 @@ fn wanted_of<'a>(line: &ReadLine<'_>, dump: Option<&'a VolumeLabel>) -> Wanted<'
 fn after_of(line: &ReadLine<'_>) -> AfterVolume {
     if line.all {
         AfterVolume::Offline
+    } else if line.place {
+        AfterVolume::Check
     } else {
         AfterVolume::Stay
+    }
+}
+
+/// How the stack ended behind a volume that was read, if it did: the drive has no reel any more, or the next one has nothing, which is
+/// told.
+fn end_behind<R: System>(
+    rt: &R,
+    line: &ReadLine<'_>,
+    dump: Option<&VolumeLabel>,
+    came: &Came,
+) -> Option<VolumeEnd>
+    requires { IsReadLine line.now }
+{
+    if dump.is_none() {
+        return None;
+    }
+    if has_no_reel(came.read) {
+        return Some(VolumeEnd::NoReel);
+    }
+    if has_no_record(came) && is_blank(rt, line) {
+        let _ = eprintln!(rt; "the next reel gives no record");
+        return Some(VolumeEnd::NoRecord);
+    }
+    None
+}
+
+/// Whether the first read gave nothing. Where a record came whose text is empty, the reel was to be taken away, and was kept.
+fn has_no_record(came: &Came) -> bool {
+    match (&came.found, came.read) {
+        (Found::Nothing, Ok(())) => true,
+        _ => false,
+    }
+}
+
+/// Whether the first reel of the stack has nothing. False if the look does not find that out.
+fn is_blank<R: System>(rt: &R, line: &ReadLine<'_>) -> bool
+    requires { IsReadLine line.now }
+{
+    let mut peer = SocketPeer::new(rt, line.to);
+    match look_at_reel(rt.alloc(), &mut peer, line.device.as_bytes()) {
+        Ok(ReelFront::Empty) => true,
+        _ => false,
     }
 }
 
@@ -164,11 +216,12 @@ fn has_come(line: &ReadLine<'_>, found: &Found) -> bool {
     }
 }
 
-/// Whether a reel was read as far as its first record, which is no label of `rdump`.
+/// Whether a reel was read as far as its first record, which is no label of `rdump`. A mark is looked for only behind a record.
 fn is_foreign(came: &Came, has_begun: bool) -> bool {
     match (&came.found, came.read) {
         (Found::Label(_) | Found::OtherDump(_), _) => false,
-        (Found::Foreign, _) | (_, Ok(()) | Err(ReadFault::OutputFailed)) => true,
+        (Found::Foreign, _) | (_, Ok(())) => true,
+        (_, Err(ReadFault::OutputFailed | ReadFault::NoMark | ReadFault::Undetermined)) => true,
         _ => has_begun || came.reel == ReelState::Kept,
     }
 }
@@ -191,11 +244,12 @@ fn tell_sizes<R: System>(rt: &R, sizes: BlockSizes) {
 
 /// Tells whose volume a reel has, which is of another dump than the ones before.
 fn tell_other<R: System>(rt: &R, to: &str, label: &VolumeLabel) -> VolumeEnd {
+    let to = plain(to);
     let (name, level, volume) = (label.name(), label.level(), label.volume());
     let _ = eprintln!(rt;
         "rdump: {to}: the reel has volume {volume} of {name} level {level}, another dump"
     );
-    VolumeEnd::Failed
+    VolumeEnd::OtherDump
 }
 
 /// Tells why a volume was not read whole, if it was not, and answers how it ended.
@@ -221,7 +275,7 @@ fn tell_unwritten<R: System>(rt: &R, line: &ReadLine<'_>, fault: &BlockFault) {
             tell_failed(rt, line.out, error, ABNORMAL);
         }
         BlockFault::OtherLength { bytes, before } => {
-            let to = line.to;
+            let to = plain(line.to);
             let _ = eprintln!(rt; "rdump: {to}: a block of {bytes} bytes after one of {before}");
         }
         BlockFault::NoPlace => {}
@@ -238,6 +292,7 @@ fn tell_read<R: System>(rt: &R, to: &str, fault: ReadFault, failure: Option<&io:
             tell_failed(rt, to, error, ABNORMAL);
         }
         _ => {
+            let to = plain(to);
             let _ = eprintln!(rt; "rdump: {to}: {fault}");
         }
     }

@@ -4,6 +4,7 @@ ghost use Rattle.dump_run.specs.Run.{IsDevice};
 use crate::ListSystem;
 use crate::drive_reel::read_drive;
 use crate::reel::{ListedReel, Source};
+use printable::plain;
 use rdump_talk::{ReadFault, SocketPeer};
 use reel_check::{ReelContents, ReelTally};
 use std::alloc::AllocError;
@@ -52,6 +53,7 @@ fn reel_of<R: ListSystem>(
 
 /// Tells why no session can be had, by the system's reason where there is one.
 fn tell_fault<R: ListSystem>(rt: &R, to: &str, fault: ReadFault, peer: &SocketPeer<'_, R>) {
+    let to = plain(to);
     let _ = match (fault, peer.failure()) {
         (ReadFault::ConnectionEnded, Some(error)) => eprintln!(rt; "rdump: {to}: {error}"),
         _ => eprintln!(rt; "rdump: {to}: {fault}"),

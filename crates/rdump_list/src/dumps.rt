@@ -6,6 +6,7 @@ use crate::printer::Printer;
 use crate::reel::ListedReel;
 use crate::words::push_count;
 use dumpdates::{Dates, DatesFault, Entry};
+use printable::plain;
 use std::alloc::{AllocError, Global};
 use std::fs;
 use std::io::Write;
@@ -23,6 +24,7 @@ pub(crate) fn read_dates<R: ListSystem>(rt: &R, path: &str) -> Result<Option<Dat
         Ok(dates) => Ok(Some(dates)),
         Err(DatesFault::OutOfMemory) => Err(AllocError),
         Err(fault) => {
+            let path = plain(path);
             let _ = eprintln!(rt; "rdump: {path}: {fault}");
             Ok(None)
         }

@@ -1,6 +1,7 @@
 //! The line of a reel.
 use crate::reel::{ListedReel, Source};
 use crate::words::{push_count, push_words};
+use printable::plain_char;
 use reel_check::{Holding, ReelContents, Volume};
 use std::alloc::AllocError;
 
@@ -25,12 +26,12 @@ pub(crate) fn push_line(text: &mut Vec<u8>, reel: &ListedReel) -> Result<(), All
     text.extend_from_slice(b"\n")
 }
 
-/// Appends a path. A byte of it that ends a line, or controls a terminal, stands as `?`.
+/// Appends a path. A character of it that ends a line, or controls a terminal, stands as `?`.
 fn push_path(text: &mut Vec<u8>, path: &str) -> Result<(), AllocError> {
-    text.reserve(path.len())?;
-    for byte in path.as_bytes() {
-        let shown = if byte.is_ascii_control() { b'?' } else { *byte };
-        text.push(shown)?;
+    for letter in path.chars() {
+        let mut room = [0; 4];
+        let shown = plain_char(letter).encode_utf8(&mut room);
+        text.extend_from_slice(shown.as_bytes())?;
     }
     Ok(())
 }

@@ -35,6 +35,7 @@ pub(super) fn line(block: u64) -> DumpLine<'static>
         date: None,
         checkpoint: None,
         update: true,
+        protect: false,
     }
 }
 

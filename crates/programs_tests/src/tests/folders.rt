@@ -1,7 +1,7 @@
 //! Stacks of drives in folders.
 
 use drives::Stacks;
-use rmtd_serve::{folder_stacks, seat_stacks};
+use rmtd_serve::{LineStart, folder_stacks, seat_stacks};
 use rmtd_words::DriveWord;
 use std::alloc::AllocError;
 
@@ -26,7 +26,7 @@ fn stacks_have_the_drives_of_the_words(rt: HostRuntime) -> Result<(), AllocError
 
 #[test]
 fn there_are_stacks_for_each_seat(rt: HostRuntime) -> Result<(), AllocError> {
-    let all = seat_stacks(rt, &WORDS, "none/bin", 100)?;
+    let all = seat_stacks(rt, &WORDS, "none/bin", 100, LineStart::Time)?;
     assert!(rt; all.len() == 32);
     Ok(())
 }

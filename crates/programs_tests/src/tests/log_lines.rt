@@ -1,21 +1,47 @@
 //! Lines of the server's log.
 
 use reel_files::Log;
-use rmtd_serve::ErrorLog;
+use rmtd_serve::{ErrorLog, LineStart};
 use std::alloc::Global;
 use std::cell::Cell;
 use std::fmt::Display;
 use std::io::{self, ErrorKind};
+use std::rt::Clock;
+use std::time::Duration;
 
 /// The lines that are wanted, in order.
-static WANTED: [&str; 2] = ["rmtd: seat 3: connection 7: served", "rmtd: accept failed"];
+static WANTED: [&str; 5] = [
+    "rmtd: seat 3: connection 7: served",
+    "rmtd: accept failed",
+    "2004-02-29T23:59:59Z rmtd: seat 32: /dev/st0: r1 opened",
+    "2004-02-29T23:59:59Z rmtd: accept failed",
+    "rmtd: no time",
+];
+
+/// What the clock tells, in milliseconds since 1970 began: 2004-02-29 23:59:59.7, UTC.
+const NOW_MILLIS: u64 = 1_078_099_199_700;
 
 /// Standard error that compares each line with the next one that is wanted, or refuses all.
 #[derive(Drop)]
 struct Compared {
     alloc: Global,
     takes: bool,
+    tells_time: Cell<bool>,
     right: Cell<usize>,
+}
+
+impl Clock for Compared {
+    fn monotonic(&self) -> io::Result<Duration> {
+        self.since_1970()
+    }
+
+    fn since_1970(&self) -> io::Result<Duration> {
+        if self.tells_time.get() {
+            Ok(Duration::from_millis(NOW_MILLIS))
+        } else {
+            Err(ErrorKind::InvalidInput.into())
+        }
+    }
 }
 
 impl Eprint for Compared {
@@ -36,27 +62,36 @@ impl Eprint for Compared {
     }
 }
 
-/// How many lines of two logs, one of a seat and one of none, are as is wanted.
+/// Notes a line in a log of this seat, or of none.
+fn note(told: &Compared, seat: Option<usize>, start: LineStart, line: &str) {
+    ErrorLog {
+        rt: told,
+        seat,
+        start,
+    }
+    .note(line);
+}
+
+/// How many lines of logs, of seats and of none, with the time and without, are as is wanted.
 fn right_lines(alloc: Global, takes: bool) -> usize {
     let told = Compared {
         alloc,
         takes,
+        tells_time: Cell::new(true),
         right: Cell::new(0),
     };
-    ErrorLog {
-        rt: &told,
-        seat: Some(3),
-    }
-    .note("connection 7: served");
-    ErrorLog {
-        rt: &told,
-        seat: None,
-    }
-    .note("accept failed");
+    note(&told, Some(3), LineStart::Name, "connection 7: served");
+    note(&told, None, LineStart::Name, "accept failed");
+    note(&told, Some(32), LineStart::Time, "/dev/st0: r1 opened");
+    note(&told, None, LineStart::Time, "accept failed");
+    told.tells_time.set(false);
+    note(&told, None, LineStart::Time, "no time");
     told.right.get()
 }
 
 #[test]
-fn lines_have_their_seat_and_are_dropped_where_they_are_refused(rt: HostRuntime) {
-    assert!(rt; right_lines(rt.alloc(), true) == 2 && right_lines(rt.alloc(), false) == 0);
+fn lines_have_their_start_and_are_dropped_where_they_are_refused(rt: HostRuntime) {
+    assert!(rt;
+        right_lines(rt.alloc(), true) == WANTED.len() && right_lines(rt.alloc(), false) == 0
+    );
 }

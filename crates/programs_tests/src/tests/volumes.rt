@@ -84,14 +84,45 @@ static COPIES: [Row; 7] = [
 /// The same of a reel that is to go, with what is sent.
 type OfflineRow = (&'static [Replies], &'static [u8], Result<(), ReadFault>);
 
-/// A label with a record, a mark alone, whose reel stays, what the reel's end is answered, and faults before it.
-static OFFLINES: [OfflineRow; 9] = [
+/// A label with a record, one without a mark, one whose mark cannot be told, a mark alone, whose reel stays, what the reel's end is answered, and faults
+/// before it.
+static OFFLINES: [OfflineRow; 11] = [
     (
         &[&[
-            b"A0\n", b"A1\n", b"A1\na", b"A2\nbc", b"A0\n", b"A1\n", b"A0\n",
+            b"A0\n",
+            b"A1\n",
+            b"A1\na",
+            b"A2\nbc",
+            b"A0\n",
+            b"E5\nInput/output error\n",
+            b"A1\n",
+            b"A2\n",
+            b"A1\n",
+            b"A1\n",
+            b"A0\n",
         ]],
-        b"O/dev/st0\n0\nI5\n1\nR262144\nR262144\nR262144\nI6\n1\nC\n",
+        b"O/dev/st0\n0\nI5\n1\nR262144\nR262144\nR262144\nI4\n1\nI5\n1\nI3\n2\nI1\n1\nI6\n1\nC\n",
         Ok(()),
+    ),
+    (
+        &[&[b"A0\n", b"A1\n", b"A1\na", b"A0\n", b"A1\n", b"A0\n"]],
+        b"O/dev/st0\n0\nI5\n1\nR262144\nR262144\nI4\n1\nC\n",
+        Err(ReadFault::NoMark),
+    ),
+    (
+        &[&[
+            b"A0\n",
+            b"A1\n",
+            b"A1\na",
+            b"A0\n",
+            b"E5\nInput/output error\n",
+            b"A1\n",
+            b"A1\n",
+            b"E5\nInput/output error\n",
+            b"E9\nBad file descriptor\n",
+        ]],
+        b"O/dev/st0\n0\nI5\n1\nR262144\nR262144\nI4\n1\nI5\n1\nI3\n1\nI1\n1\nC\n",
+        Err(ReadFault::Undetermined),
     ),
     (
         &[&[b"A0\n", b"A1\n", b"A0\n", b"A0\n"]],
@@ -105,8 +136,12 @@ static OFFLINES: [OfflineRow; 9] = [
             b"A1\na",
             b"A0\n",
             b"E5\nInput/output error\n",
+            b"A1\n",
+            b"A1\n",
+            b"A1\n",
+            b"E5\nInput/output error\n",
         ]],
-        b"O/dev/st0\n0\nI5\n1\nR262144\nR262144\nI6\n1\n",
+        b"O/dev/st0\n0\nI5\n1\nR262144\nR262144\nI4\n1\nI5\n1\nI3\n1\nI1\n1\nI6\n1\n",
         Err(ReadFault::Refused {
             asked: VolumeRequest::Offline,
             number: 5,
@@ -118,18 +153,31 @@ static OFFLINES: [OfflineRow; 9] = [
             b"A1\n",
             b"A1\na",
             b"A0\n",
+            b"E5\nInput/output error\n",
+            b"A1\n",
+            b"A1\n",
+            b"A1\n",
             b"A1\n",
             b"E9\nBad file descriptor\n",
         ]],
-        b"O/dev/st0\n0\nI5\n1\nR262144\nR262144\nI6\n1\nC\n",
+        b"O/dev/st0\n0\nI5\n1\nR262144\nR262144\nI4\n1\nI5\n1\nI3\n1\nI1\n1\nI6\n1\nC\n",
         Err(ReadFault::Refused {
             asked: VolumeRequest::Close,
             number: 9,
         }),
     ),
     (
-        &[&[b"A0\n", b"A1\n", b"A1\na", b"A0\n"]],
-        b"O/dev/st0\n0\nI5\n1\nR262144\nR262144\nI6\n1\n",
+        &[&[
+            b"A0\n",
+            b"A1\n",
+            b"A1\na",
+            b"A0\n",
+            b"E5\nInput/output error\n",
+            b"A1\n",
+            b"A1\n",
+            b"A1\n",
+        ]],
+        b"O/dev/st0\n0\nI5\n1\nR262144\nR262144\nI4\n1\nI5\n1\nI3\n1\nI1\n1\nI6\n1\n",
         Err(ReadFault::ConnectionEnded),
     ),
     (

@@ -45,8 +45,9 @@ static ROWS: [Row; 9] = [
             "--date=9223372036854775807",
             "--checkpoint=c",
             "--update",
+            "--protect",
         ],
-        "Ok(Dump(DumpLine { to: \"h:1\", device: \"d\", fs: \"/usr\", level: 1, payload: \"p\", block: 1024, dumpdates: \"f\", date: Some(9223372036854775807), checkpoint: Some(\"c\"), update: true }))",
+        "Ok(Dump(DumpLine { to: \"h:1\", device: \"d\", fs: \"/usr\", level: 1, payload: \"p\", block: 1024, dumpdates: \"f\", date: Some(9223372036854775807), checkpoint: Some(\"c\"), update: true, protect: true }))",
     ),
     (
         &[

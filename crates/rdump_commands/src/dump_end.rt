@@ -1,0 +1,93 @@
+//! What is told of a dump beside its lines: what a restore needs, and what became of the payload.
+
+use crate::System;
+use crate::dump_start::DumpStart;
+use crate::shell_word::ShellWord;
+use dump_client::{Blocks, Client};
+use dumpdates::LAST_SECOND;
+use printable::plain;
+use rdump_files::{PayloadChange, PayloadLook, date_text};
+use rdump_words::DumpLine;
+use std::io::{self, ErrorKind};
+use std::time::{SystemTime, UNIX_EPOCH};
+
+/// Tells of a dump that is complete what a restore needs, and whether its payload changed.
+pub(crate) fn tell_end<R: System, B: Blocks>(
+    rt: &R,
+    line: &DumpLine<'_>,
+    start: &DumpStart,
+    client: &Client<B>,
+) {
+    let (_, blocks) = client.checkpoint();
+    let bytes = start.bytes;
+    let (to, device) = (ShellWord(line.to), ShellWord(line.device));
+    let _ = eprintln!(rt;
+        "to restore: {blocks} blocks, {bytes} bytes: rdump read --to {to} --device {device} --out FILE --all --place --length {bytes}"
+    );
+    if let Some(look) = &start.look {
+        tell_change(rt, line.payload, look);
+    }
+}
+
+/// Tells what changed of a payload since its dump began, if anything did.
+fn tell_change<R: Eprint>(rt: &R, path: &str, look: &PayloadLook) {
+    let path = plain(path);
+    let _ = match look.change() {
+        Ok(None) => Ok(()),
+        Ok(Some(PayloadChange::Length(was, is))) => {
+            eprintln!(rt;
+                "rdump: {path}: it changed while it was dumped: it had {was} bytes, and has {is}"
+            )
+        }
+        Ok(Some(PayloadChange::Time)) => {
+            eprintln!(rt; "rdump: {path}: it changed while it was dumped: it was written to")
+        }
+        Err(error) => {
+            eprintln!(rt;
+                "rdump: {path}: whether it changed while it was dumped cannot be told: {error}"
+            )
+        }
+    };
+}
+
+/// Tells that a payload was written to after the checkpoint at this path, if it was. It fails only where memory is refused.
+pub(crate) fn tell_younger<R: System>(
+    rt: &R,
+    line: &DumpLine<'_>,
+    start: &DumpStart,
+    path: &str,
+    kept: Option<SystemTime>,
+) -> io::Result<()> {
+    let (Some(look), Some(kept)) = (&start.look, kept) else {
+        return Ok(());
+    };
+    match look.modified() {
+        Some(written) if written > kept => tell_times(rt, line.payload, written, path, kept),
+        _ => Ok(()),
+    }
+}
+
+/// Tells when the payload at this path was written to, and when the checkpoint was. It fails only where memory is refused.
+fn tell_times<R: System>(
+    rt: &R,
+    payload: &str,
+    written: SystemTime,
+    path: &str,
+    kept: SystemTime,
+) -> io::Result<()> {
+    let (written, kept) = (time_text(rt, written)?, time_text(rt, kept)?);
+    let (payload, path) = (plain(payload), plain(path));
+    let _ = eprintln!(rt;
+        "rdump: {payload}: it is younger than the checkpoint: it was written to at {written}, and {path} at {kept}"
+    );
+    Ok(())
+}
+
+/// A time as text, in UTC; of one after the year 9999 the last second of that. It fails only where memory is refused.
+fn time_text<R: System>(rt: &R, time: SystemTime) -> io::Result<String> {
+    let seconds = time.duration_since(UNIX_EPOCH).map_or(0, |it| it.as_secs());
+    match date_text(rt.alloc(), seconds.min(LAST_SECOND)) {
+        Some(text) => Ok(text),
+        None => Err(io::Error::from(ErrorKind::OutOfMemory)),
+    }
+}

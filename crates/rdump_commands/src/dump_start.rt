@@ -1,0 +1,140 @@
+//! What a dump is started with beside its words.
+ghost use Rattle.std.specs.Prelude.{◌≡◌, IfSome};
+
+use crate::System;
+use crate::fault::{FAILED, say, tell, tell_no_memory};
+use dumpdates::{Dates, DatesFault};
+use printable::plain;
+use rdump_files::{DumpFile, DumpFiles, OneFile, PayloadLook, ReplacedFile, open_payload};
+use rdump_words::DumpLine;
+use std::alloc::Global;
+use std::fs::{File, Metadata};
+use std::io;
+use std::os::unix::fs::FileTypeExt;
+
+/// What is known of a dump before its first attempt.
+#[derive(Drop)]
+pub(crate) struct DumpStart {
+    /// Whether the payload has a length, and stays there to be read at any place.
+    pub is_lasting: bool,
+    /// How many bytes the payload has.
+    pub bytes: u64,
+    /// The payload's file as it was when the dump began, where it is a plain one.
+    pub look: Option<PayloadLook>,
+    /// The files of the dump that were looked at.
+    pub files: DumpFiles,
+    /// The latest date of the entries that the dump is to replace, in seconds since 1970 began; 0 for none.
+    pub replaced: u64,
+}
+
+impl DumpStart {
+    /// Opens the payload at this path.
+    ///
+    /// It fails with the system's reason, where the payload was exchanged while it was opened, and where memory is refused.
+    pub(crate) fn open<R: System>(rt: &R, path: &str) -> io::Result<(File, DumpStart)> {
+        let (file, found) = open_payload(rt, path)?;
+        let look = PayloadLook::new(&file, &found)?;
+        let start = DumpStart {
+            is_lasting: is_lasting(&found),
+            bytes: 0,
+            look,
+            files: DumpFiles::new(rt.alloc(), &found)?,
+            replaced: 0,
+        };
+        Ok((file, start))
+    }
+
+    /// Notes which entries of the dumpdates file, whose bytes are given, the dump is to replace. Answers the status where memory is
+    /// refused, which is told.
+    pub(crate) fn note_replaced<R: System>(
+        &mut self,
+        rt: &R,
+        line: &DumpLine<'_>,
+        file: &[u8],
+    ) -> Option<u8>
+        ensures { IfSome result (λ status. status ≡ 1) }
+    {
+        match latest_date(rt.alloc(), file, line.fs, line.level) {
+            Ok(date) => {
+                self.replaced = date;
+                None
+            }
+            Err(_) => Some(tell_no_memory(rt)),
+        }
+    }
+}
+
+/// Whether a file has a length, and stays there to be read at any place.
+fn is_lasting(found: &Metadata) -> bool {
+    found.file_type().is_block_device() || (found.is_file() && found.len() > 0)
+}
+
+/// The latest date of the entries of this name and level in a dumpdates file, whose bytes are given, in seconds since 1970 began; 0 for
+/// none.
+fn latest_date(alloc: Global, file: &[u8], name: &str, level: u64) -> Result<u64, DatesFault> {
+    let dates = Dates::read(alloc, file)?;
+    let mut latest = 0;
+    for at in 0..dates.len() {
+        if let Some(entry) = dates.get(at) {
+            if entry.name == name && u64::from(entry.level) == level {
+                latest = latest.max(entry.date);
+            }
+        }
+    }
+    Ok(latest)
+}
+
+/// Tells why files were not added to those of a dump, and answers the status: one at this path is one of the others too, or the system does
+/// not tell. None where they were added.
+pub(crate) fn refuse_files<R: System>(
+    rt: &R,
+    line: &DumpLine<'_>,
+    path: &str,
+    added: io::Result<Option<OneFile>>,
+) -> Option<u8>
+    ensures { IfSome result (λ status. status ≡ 1) }
+{
+    match added {
+        Ok(None) => None,
+        Ok(Some(one)) => Some(refuse_one(rt, line, path, one)),
+        Err(error) => Some(tell(rt, path, error)),
+    }
+}
+
+/// Tells that the file at this path is another one of the dump too, and answers the status.
+fn refuse_one<R: System>(rt: &R, line: &DumpLine<'_>, path: &str, one: OneFile) -> u8
+    ensures { result ≡ 1 }
+{
+    let which = match one.file {
+        DumpFile::NewDates | DumpFile::NewCheckpoint => "its .new",
+        _ => "it",
+    };
+    let (other, other_path) = match one.other {
+        DumpFile::Payload => ("the payload", line.payload),
+        DumpFile::Dates => ("the dumpdates file", line.dumpdates),
+        DumpFile::NewDates => ("the .new of the dumpdates file", line.dumpdates),
+        _ => ("the checkpoint file", path),
+    };
+    let (path, other_path) = (plain(path), plain(other_path));
+    let _ = eprintln!(rt; "rdump: {path}: {which} is {other} too: {other_path}");
+    FAILED
+}
+
+/// Tells that a file lies where the new file of this one is to be made that no run left, and answers the status. None where there is none.
+pub(crate) fn refuse_stranger<R: System>(
+    rt: &R,
+    path: &str,
+    file: &ReplacedFile<'_, R>,
+) -> Option<u8>
+    ensures { IfSome result (λ status. status ≡ 1) }
+{
+    match file.find_stranger() {
+        Ok(None) => None,
+        Ok(Some(new)) => Some(say(
+            rt,
+            new.as_str(),
+            "it is not one that rdump left: it is not touched",
+        )),
+        Err(error) => Some(tell(rt, path, error)),
+    }
+}

@@ -1,0 +1,129 @@
+//! The look at a reel before each attempt of `rdump dump --protect`.
+
+use crate::System;
+use dump_run::VolumeLabel;
+use printable::plain;
+use rdump_talk::{
+    CallFault, LookFault, Peer, Protection, ReelFront, SocketPeer, find_protection, look_at_reel,
+};
+use rdump_words::DumpLine;
+use rmt_wire::argument::is_device;
+use std::io;
+
+/// Why an attempt is not to begin.
+#[derive(Drop)]
+pub(crate) enum Held {
+    /// The reel begins so, which is not this dump's.
+    Protected(ReelFront, Protection),
+    /// The look found nothing out.
+    Failed(LookFault),
+}
+
+/// Looks at the first reel of the drive that a line names, over a connection of its own, and finds why the dump of this line is not to
+/// write on it. None if it may: the reel is empty, or begins with a label of the line's name, level and date.
+pub(crate) fn find_hold<R: System>(
+    rt: &R,
+    line: &DumpLine<'_>,
+    peer: &mut SocketPeer<'_, R>,
+) -> Option<Held> {
+    let device = line.device.as_bytes();
+    if !is_device(device) {
+        // No run has such a device, so this is never the case. No attempt is made where nothing was looked at.
+        return Some(Held::Failed(LookFault::NoReply(CallFault::Botched)));
+    }
+    match look_at_reel(rt.alloc(), peer, device) {
+        Ok(front) => protection_of(line, front),
+        Err(fault) => Some(Held::Failed(fault)),
+    }
+}
+
+/// Why the dump of a line is not to write on a reel that begins so.
+fn protection_of(line: &DumpLine<'_>, front: ReelFront) -> Option<Held> {
+    // No label has the date of a line without one.
+    let date = line.date.unwrap_or(u64::MAX);
+    let protection = find_protection(&front, line.fs, line.level, date)?;
+    Some(Held::Protected(front, protection))
+}
+
+/// Prints why an attempt is not to begin. `failure` is the system's reason, if the connection of the look failed by one.
+pub(crate) fn tell_held<R: Eprint>(
+    rt: &R,
+    line: &DumpLine<'_>,
+    held: &Held,
+    failure: Option<&io::Error>,
+) {
+    match held {
+        Held::Protected(front, protection) => tell_protected(rt, line, front, *protection),
+        Held::Failed(fault) => tell_unfound(rt, line.to, *fault, failure),
+    }
+}
+
+/// Prints what a reel begins with that is not to be written on.
+fn tell_protected<R: Eprint>(
+    rt: &R,
+    line: &DumpLine<'_>,
+    front: &ReelFront,
+    protection: Protection,
+) {
+    match protection {
+        Protection::OtherDump => tell_other(rt, line, front),
+        Protection::NoLabel => tell_front(rt, line, "begins with a record that is no label"),
+        Protection::Mark => tell_front(rt, line, "begins with a mark"),
+    }
+}
+
+/// Prints which volume a reel has that begins so.
+fn tell_other<R: Eprint>(rt: &R, line: &DumpLine<'_>, front: &ReelFront) {
+    let (to, device) = (plain(line.to), plain(line.device));
+    if let Some(label) = label_of(front) {
+        let (name, level, date, volume) = (
+            label.name(),
+            label.level(),
+            label.date(),
+            label.volume(),
+        );
+        let _ = eprintln!(rt;
+            "rdump: {to}: protected: the first reel of {device} has a volume of another dump: \
+             {name} level {level} date {date}, volume {volume}; lay another reel first, then answer yes"
+        );
+    }
+}
+
+/// Prints this of the first reel of a drive.
+fn tell_front<R: Eprint>(rt: &R, line: &DumpLine<'_>, what: &str) {
+    let (to, device) = (plain(line.to), plain(line.device));
+    let _ = eprintln!(rt;
+        "rdump: {to}: protected: the first reel of {device} {what}; lay another reel first, \
+         then answer yes"
+    );
+}
+
+/// The label that a reel begins with.
+fn label_of(front: &ReelFront) -> Option<VolumeLabel> {
+    match front {
+        ReelFront::Record(bytes) => VolumeLabel::read(bytes),
+        _ => None,
+    }
+}
+
+/// Prints why a look at the reel of an address found nothing out.
+fn tell_unfound<R: Eprint>(rt: &R, address: &str, fault: LookFault, failure: Option<&io::Error>) {
+    let address = plain(address);
+    let _ = match (fault, failure) {
+        (LookFault::Refused { asked, number }, _) => {
+            let error = refusal(number);
+            eprintln!(rt; "rdump: {address}: the look failed: {asked}: Refused {number}: {error}")
+        }
+        (LookFault::NoReply(CallFault::ConnectionEnded), Some(error)) => {
+            eprintln!(rt; "rdump: {address}: the look failed: {error}")
+        }
+        (LookFault::NoReply(fault), _) => {
+            eprintln!(rt; "rdump: {address}: the look failed: {fault}")
+        }
+    };
+}
+
+/// What the system calls an error of this number.
+pub(crate) fn refusal(number: u32) -> io::Error {
+    io::Error::from_raw_os_error(i32::try_from(number).unwrap_or(i32::MAX))
+}
