@@ -21,10 +21,12 @@ fn main(rt: HostRuntime) -> io::Result<ExitCode> {
         table,
         seats,
         stacks,
+        start,
     } = site;
     let log = ErrorLog {
         rt: &rt,
         seat: None,
+        start,
     };
     let connections = Connections::new(&rt, &listener, left, log);
     let connections = serve_many(&rt, rt.alloc(), connections, &table, seats, stacks);

@@ -1,31 +1,36 @@
 //! Lines on standard error that say what the server does.
 
+use crate::line_start::{LineHead, LineStart};
 use arrayvec::ArrayString;
 use reel_files::Log;
 use std::fmt::{Display, Write};
+use std::rt::Clock;
 
 /// How many bytes a text has at most that is made here for a log.
 const TEXT_ROOM: usize = 255;
 
 /// A log on standard error, of a seat, or of what belongs to none.
 ///
-/// A line has `rmtd: ` before it, or of a seat `rmtd: seat 3: `. With up to 1,000 bytes of its own it is one write. A line that cannot
-/// be written is dropped.
+/// A line has the time before it, if it begins with it, and `rmtd: `, or of a seat `rmtd: seat 3: `. With up to 980 bytes of its own it
+/// is one write. A line that cannot be written is dropped.
 #[derive(Drop)]
 pub struct ErrorLog<R> {
-    /// What prints.
+    /// What prints, and what tells the time.
     pub rt: R,
     /// The number of the seat.
     pub seat: Option<usize>,
+    /// Whether a line begins with the time.
+    pub start: LineStart,
 }
 
-impl<R: Eprint> Log for ErrorLog<R> {
+impl<R: Eprint + Clock> Log for ErrorLog<R> {
     fn note(&self, line: &str) {
         let rt = &self.rt;
-        let _ = match self.seat {
-            Some(seat) => eprintln!(rt; "rmtd: seat {seat}: {line}"),
-            None => eprintln!(rt; "rmtd: {line}"),
+        let head = LineHead {
+            time: self.start.time(rt),
+            seat: self.seat,
         };
+        let _ = eprintln!(rt; "{head}{line}");
     }
 }
 

@@ -1,7 +1,9 @@
 //! The system's limit on the size of a file, at which it ends a server that does not ignore its signal.
 ghost use Rattle.std.specs.Prelude.{◌≤◌, IfOk, length};
 
-use reel_files::FolderSystem;
+use crate::error_log::text_of;
+use reel_files::{FolderSystem, Log};
+use std::fmt::{self, Display, Formatter, Write};
 use std::io::{self, ErrorKind, Read};
 use std::{fs, str};
 
@@ -17,19 +19,42 @@ const XFSZ: u64 = 1 << 24;
 /// How many bytes of these files are read at most.
 const ROOM: usize = 4096;
 
-/// Says on standard error where a reel of this capacity can come to the limit and the signal is not ignored.
+/// Says in the log where a reel of this capacity can come to the limit and the signal is not ignored.
 ///
 /// It fails only where memory is refused. Where the system tells no limits it says nothing.
-pub(crate) fn tell_limit<R: FolderSystem + Eprint>(rt: &R, capacity: u64) -> io::Result<()> {
+pub(crate) fn tell_limit<R: FolderSystem, L: Log>(
+    rt: &R,
+    log: &L,
+    capacity: u64,
+) -> io::Result<()> {
     let Some(limit) = limit_of(rt)? else {
         return Ok(());
     };
     if limit < capacity && is_fatal(rt)? {
-        let _ = eprintln!(rt;
-            "rmtd: a file may have {limit} bytes here and a reel {capacity}: a longer one ends the server by SIGXFSZ, and is E5 where it is started with that ignored (trap '' XFSZ)"
-        );
+        log.note(text_of(LimitTold { limit, capacity }).as_str());
     }
     Ok(())
+}
+
+/// That a reel can come to the limit.
+#[derive(Clone, Copy)]
+struct LimitTold {
+    /// How many bytes a file may have.
+    limit: u64,
+    /// How many bytes a reel takes.
+    capacity: u64,
+}
+
+impl Display for LimitTold {
+    fn fmt<W: Write>(&self, f: &mut Formatter<W>) -> fmt::Result {
+        let LimitTold { limit, capacity } = self;
+        write!(
+            f,
+            "a file may have {limit} bytes here and a reel {capacity}: "
+        )?;
+        f.write_str("a longer one ends the server by SIGXFSZ, ")?;
+        f.write_str("and is E5 where it is started with that ignored (trap '' XFSZ)")
+    }
 }
 
 /// How many bytes a file may have, where that is limited.

@@ -6,6 +6,7 @@ ghost use Rattle.rmtd_words.specs.Drive.{plain_drive};
 ghost use Rattle.rmtd_serve.specs.Folders.{stacks_of};
 
 use crate::error_log::ErrorLog;
+use crate::line_start::LineStart;
 use hold_table::SEAT_LIMIT;
 use reel_files::{FolderDrive, FolderStacks, FolderSystem, Log, NoLog};
 use rmtd_words::DriveWord;
@@ -66,7 +67,8 @@ fn folder_drives<'a>(
 }
 
 /// Stacks of these drives for each of the seats of a table, in the order of their numbers: each looks at the same folders, by itself,
-/// and says on standard error what it does, with the seat's number. It reads no folder, and fails only where memory is refused.
+/// and says on standard error what it does, with the seat's number, in lines that begin so. It reads no folder, and fails only where
+/// memory is refused.
 ///
 /// There are from 1 to `DRIVE_LIMIT` drives.
 pub fn seat_stacks<R: FolderSystem + Eprint>(
@@ -74,6 +76,7 @@ pub fn seat_stacks<R: FolderSystem + Eprint>(
     words: &[DriveWord<'_>],
     bin: &str,
     capacity: u64,
+    start: LineStart,
 ) -> Result<Vec<FolderStacks<R, ErrorLog<R>>>, AllocError>
     requires some { 1 ≤ length words.now }
     requires few { length words.now ≤ DRIVE_LIMIT }
@@ -82,9 +85,9 @@ pub fn seat_stacks<R: FolderSystem + Eprint>(
     ensures named { IfOk result (λ all. All (λ s. s ≡ stacks_of words.now bin.now capacity) all.items) }
 {
     let mut all = Vec::with_capacity(rt.alloc(), SEAT_LIMIT)?;
-    while all.len() < SEAT_LIMIT {
+    'seats: while all.len() < SEAT_LIMIT {
         let seat = all.len() + 1;
-        all.push(stacks_at(&rt, words, bin, capacity, seat)?)?;
+        all.push(stacks_at(&rt, words, bin, capacity, seat, start)?)?;
     }
     Ok(all)
 }
@@ -96,6 +99,7 @@ fn stacks_at<R: FolderSystem + Eprint>(
     bin: &str,
     capacity: u64,
     seat: usize,
+    start: LineStart,
 ) -> Result<FolderStacks<R, ErrorLog<R>>, AllocError>
     requires some { 1 ≤ length words.now }
     requires few { length words.now ≤ DRIVE_LIMIT }
@@ -105,6 +109,7 @@ fn stacks_at<R: FolderSystem + Eprint>(
     let log = ErrorLog {
         rt: rt.clone()?,
         seat: Some(seat),
+        start,
     };
     logged_stacks(rt.clone()?, words, bin, capacity, log)
 }

@@ -5,17 +5,19 @@ ghost use Rattle.rmtd_words.specs.Drive.{KeepsDriveRules, plain_drive};
 ghost use Rattle.rmtd_serve.specs.Startup.{IsSiteOf};
 
 use crate::folders::seat_stacks;
+use crate::line_start::LineStart;
 use crate::site::Site;
 use hold_table::HoldTable;
 use reel_files::FolderSystem;
 use rmtd_words::ServerLine;
 use std::io;
 
-/// What the line has connections served at. It fails only where memory is refused.
+/// What the line has connections served at, with a log whose lines begin so. It fails only where memory is refused.
 pub(crate) fn site_of<R: FolderSystem + Eprint>(
     rt: &R,
     line: &ServerLine<'_>,
     bin: &str,
+    start: LineStart,
 ) -> io::Result<Site<R>>
     requires some { 1 ≤ length line.now.drives.items }
     requires few { length line.now.drives.items ≤ DRIVE_LIMIT }
@@ -25,11 +27,12 @@ pub(crate) fn site_of<R: FolderSystem + Eprint>(
 {
     let drives = line.drives.as_slice();
     let (table, seats) = HoldTable::new(rt.alloc(), drives.len())?;
-    let stacks = seat_stacks(rt.clone()?, drives, bin, line.capacity)?;
+    let stacks = seat_stacks(rt.clone()?, drives, bin, line.capacity, start)?;
     Ok(Site {
         left: line.connections.unwrap_or(u64::MAX),
         table,
         seats,
         stacks,
+        start,
     })
 }

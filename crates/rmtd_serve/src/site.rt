@@ -6,6 +6,7 @@ ghost use Rattle.hold_table.specs.Seats.{IsSeatAt};
 ghost use Rattle.hold_table.specs.declared.table.TheConstants.{SEAT_LIMIT};
 
 use crate::error_log::ErrorLog;
+use crate::line_start::LineStart;
 use hold_table::{HoldSeat, HoldTable};
 use reel_files::{FolderStacks, FolderSystem};
 
@@ -20,6 +21,8 @@ pub struct Site<R: FolderSystem + Eprint> {
     pub seats: Vec<HoldSeat>,
     /// Each with the drives of the table.
     pub stacks: Vec<FolderStacks<R, ErrorLog<R>>>,
+    /// What lines of the log begin with.
+    pub start: LineStart,
     ghost seated: { (length seats.items ≡ SEAT_LIMIT) × All (λ s. IsSeatAt table s × HoldsJust s.view None) seats.items } by { Prim.hlevel props },
     ghost stacked: { (length stacks.items ≡ SEAT_LIMIT) × All (λ s. length s.rows ≤ table.words) stacks.items } by { Prim.hlevel props },
 }

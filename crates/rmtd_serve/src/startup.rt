@@ -11,6 +11,7 @@ use crate::connections::Connections;
 use crate::error_log::ErrorLog;
 use crate::file_limit::tell_limit;
 use crate::folders::logged_stacks;
+use crate::line_start::LineStart;
 use crate::ready::site_of;
 use crate::site::Site;
 use crate::warnings::Warnings;
@@ -19,6 +20,7 @@ use clap::Error;
 use clap::error::ErrorKind;
 use drives::Stacks;
 use file_medium::take_places;
+use printable::{PlainLines, plain};
 use reel_files::{FolderStacks, FolderSystem, Log};
 use rmt_wire::Counted;
 use rmtd_words::{ServerLine, server_line};
@@ -34,12 +36,16 @@ const FAILED: u8 = 1;
 /// What is told where memory was refused at the start.
 const NOT_STARTED: &str = "it did not start";
 
-/// What `rmtd` asks of the system beside its words, its standard streams and its threads.
-pub trait System: FolderSystem + Net<Listener = TcpListener, Stream = TcpStream> + Print + Eprint {}
+/// What `rmtd` asks of the system beside its standard streams and its threads.
+pub trait System: FolderSystem
+    + Net<Listener = TcpListener, Stream = TcpStream>
+    + Print
+    + Eprint
+    + Env {}
 
 impl<R> System for R
 where
-    R: FolderSystem + Net<Listener = TcpListener, Stream = TcpStream> + Print + Eprint,
+    R: FolderSystem + Net<Listener = TcpListener, Stream = TcpStream> + Print + Eprint + Env,
 {}
 
 /// What is left to do once the words were followed.
@@ -56,7 +62,7 @@ pub enum Begun<R: FolderSystem + Eprint> {
 /// Where the words could not be read, or memory was refused at the start, that is told on standard error, and the status is 1.
 /// With `--stdio` the start lasts until the first request is read.
 /// It fails only where standard error could not be written.
-pub fn start<R: System + Env, I: Read, O: Write>(
+pub fn start<R: System, I: Read, O: Write>(
     rt: &R,
     input: &mut Counted<I>,
     output: &mut Counted<O>,
@@ -72,7 +78,7 @@ pub fn start<R: System + Env, I: Read, O: Write>(
 }
 
 /// Reads the words of the program, and does what they ask until connections are served at once.
-fn begin_by_args<R: System + Env, I: Read, O: Write>(
+fn begin_by_args<R: System, I: Read, O: Write>(
     rt: &R,
     input: &mut Counted<I>,
     output: &mut Counted<O>,
@@ -164,17 +170,18 @@ fn follow<R: System, I: Read, O: Write>(
         (streams input.old output.old) (streams input.new output.new)) }
     ensures failed { OnErr result (AreUntouched (streams input.old output.old) (streams input.new output.new)) }
 {
+    let start = LineStart::of(rt)?;
     if let Some(bin) = line.bin
         && !line.drives.is_empty()
     {
-        return follow_in_folders(rt, line, bin, input, output);
+        return follow_in_folders(rt, line, bin, start, input, output);
     }
     let Some(address) = line.listen else {
-        warn_of_bin(rt, line)?;
+        warn_of_bin(rt, line, start)?;
         let status = run_stdio(rt.alloc(), input, output, line.capacity);
         return Ok(end(rt, status, input, output));
     };
-    match listen(rt, address, line) {
+    match listen(rt, address, line, start) {
         Ok(status) => Ok(Begun::End(status)),
         Err(error) => tell(rt, address, error),
     }
@@ -187,6 +194,7 @@ fn follow_in_folders<R: System, I: Read, O: Write>(
     rt: &R,
     line: &ServerLine<'_>,
     bin: &str,
+    start: LineStart,
     input: &mut Counted<I>,
     output: &mut Counted<O>,
 ) -> io::Result<Begun<R>>
@@ -197,12 +205,12 @@ fn follow_in_folders<R: System, I: Read, O: Write>(
         (streams input.old output.old) (streams input.new output.new)) }
     ensures failed { OnErr result (AreUntouched (streams input.old output.old) (streams input.new output.new)) }
 {
-    let stacks = stacks_with_warnings(rt, line, bin)?;
+    let stacks = stacks_with_warnings(rt, line, bin, start)?;
     if let Some(fault) = stacks.find_fault() {
         return tell(rt, fault.folder, fault.reason);
     }
     match line.listen {
-        Some(address) => listen_in_folders(rt, address, line, bin),
+        Some(address) => listen_in_folders(rt, address, line, bin, start),
         None => serve_in_folders(rt, line, stacks, input, output),
     }
 }
@@ -212,12 +220,13 @@ fn stacks_with_warnings<R: System>(
     rt: &R,
     line: &ServerLine<'_>,
     bin: &str,
+    start: LineStart,
 ) -> io::Result<FolderStacks<R, Warnings<R>>>
     requires some { 1 ≤ length line.now.drives.items }
     requires few { length line.now.drives.items ≤ DRIVE_LIMIT }
     ensures { IfOk result (λ s. length s.rows ≡ length line.now.drives.items) }
 {
-    let log = Warnings::new(rt.clone()?)?;
+    let log = Warnings::new(rt.clone()?, start)?;
     let drives = line.drives.as_slice();
     Ok(logged_stacks(rt.clone()?, drives, bin, line.capacity, log)?)
 }
@@ -252,6 +261,7 @@ fn listen_in_folders<R: System>(
     address: &str,
     line: &ServerLine<'_>,
     bin: &str,
+    start: LineStart,
 ) -> io::Result<Begun<R>>
     requires some { 1 ≤ length line.now.drives.items }
     requires few { length line.now.drives.items ≤ DRIVE_LIMIT }
@@ -259,9 +269,10 @@ fn listen_in_folders<R: System>(
     requires rules { KeepsDriveRules (Some bin.now) (map plain_drive line.now.drives.items) }
     ensures { IfOk result (ListensOrEnds line.now) }
 {
-    tell_limit(rt, line.capacity)?;
-    let site = site_of(rt, line, bin)?;
-    match bind(rt, address) {
+    let log = log_of(rt, start);
+    tell_limit(rt, &log, line.capacity)?;
+    let site = site_of(rt, line, bin, start)?;
+    match bind(rt, address, &log) {
         Ok(listener) => Ok(Begun::Serve(listener, site)),
         Err(error) => tell(rt, address, error),
     }
@@ -287,6 +298,7 @@ fn end<R: System, I: Read, O: Write>(
 fn tell<R: System>(rt: &R, what: &str, why: io::Error) -> io::Result<Begun<R>>
     ensures { IfOk result (λ begun. begun ≡ Begun.End 1) }
 {
+    let what = plain(what);
     eprintln!(rt; "rmtd: {what}: {why}")?;
     Ok(Begun::End(FAILED))
 }
@@ -299,23 +311,28 @@ const BIN_ALONE: &str =
     "--bin is given and no drive: the reel of /dev/st0 is in memory, and is gone when the server ends";
 
 /// Warns that the reel is in memory, where a bin is given that it never comes to. It fails only where memory is refused.
-fn warn_of_bin<R: System>(rt: &R, line: &ServerLine<'_>) -> io::Result<()> {
+fn warn_of_bin<R: System>(rt: &R, line: &ServerLine<'_>, start: LineStart) -> io::Result<()> {
     if line.bin.is_some() {
-        Warnings::new(rt)?.warn(BIN_ALONE);
+        Warnings::new(rt, start)?.warn(BIN_ALONE);
     }
     Ok(())
 }
 
 /// Listens at this address, and serves as many connections as the line says with a drive in memory, which is told on standard error.
 /// Answers the status: 0 where as many came, and 1 where the listener is broken for good.
-fn listen<R: System>(rt: &R, address: &str, line: &ServerLine<'_>) -> io::Result<u8>
+fn listen<R: System>(
+    rt: &R,
+    address: &str,
+    line: &ServerLine<'_>,
+    start: LineStart,
+) -> io::Result<u8>
     ensures { IfOk result (λ status. (status ≡ 0) ⊎ (status ≡ 1)) }
 {
     let Some(mut server) = MemoryServer::new(rt.alloc(), line.capacity) else {
         return Err(io::ErrorKind::OutOfMemory.into());
     };
-    let listener = bind(rt, address)?;
-    let log = ErrorLog { rt, seat: None };
+    let log = log_of(rt, start);
+    let listener = bind(rt, address, &log)?;
     log.note(if line.bin.is_some() {
         BIN_ALONE
     } else {
@@ -326,10 +343,27 @@ fn listen<R: System>(rt: &R, address: &str, line: &ServerLine<'_>) -> io::Result
     Ok(serve_connections(&mut server, connections).status())
 }
 
-/// A listener at this address, which is told on standard output.
-fn bind<R: System>(rt: &R, address: &str) -> io::Result<TcpListener> {
+/// The log of what belongs to no seat, whose lines begin so.
+fn log_of<R>(rt: &R, start: LineStart) -> ErrorLog<&R> {
+    ErrorLog {
+        rt,
+        seat: None,
+        start,
+    }
+}
+
+/// What is told where it listens at each address of the machine.
+const ANYWHERE: &str =
+    "it listens at each address of this machine: whoever reaches one of them can read and write all reels";
+
+/// A listener at this address, which is told on standard output. Where that is each address of the machine the log says what that
+/// means.
+fn bind<R: System, L: Log>(rt: &R, address: &str, log: &L) -> io::Result<TcpListener> {
     let listener = TcpListener::bind(rt, address)?;
     let place = listener.local_addr()?;
+    if place.ip().to_canonical().is_unspecified() {
+        log.warn(ANYWHERE);
+    }
     println!(rt; "listening on {place}")?;
     Ok(listener)
 }
@@ -341,8 +375,19 @@ fn refuse<R: System>(rt: &R, error: Error) -> io::Result<Begun<R>>
     if error.kind() == ErrorKind::OutOfMemory {
         return tell(rt, "the words", io::ErrorKind::OutOfMemory.into());
     }
-    if let Err(why) = error.print(rt) {
+    let printed = if error.use_stderr() {
+        print_error(rt, &error)
+    } else {
+        error.print(rt)
+    };
+    if let Err(why) = printed {
         return tell(rt, "standard output", why);
     }
     Ok(Begun::End(if error.use_stderr() { FAILED } else { 0 }))
+}
+
+/// Prints an error of words on standard error, in which words may stand as they were given.
+fn print_error<R: System>(rt: &R, error: &Error) -> io::Result<()> {
+    let text = format!(in rt.alloc(); "{error}")?;
+    rt.eprint(PlainLines(text.as_str()))
 }

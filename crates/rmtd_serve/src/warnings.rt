@@ -1,10 +1,12 @@
 //! Lines on standard error that say what went wrong, where standard output has the answers.
 
 use crate::error_log::ErrorLog;
+use crate::line_start::LineStart;
 use reel_files::{FolderSystem, Log};
 use std::fs;
 use std::io::{self, ErrorKind};
 use std::path::PathBuf;
+use std::rt::Clock;
 
 /// Where the system tells what standard output leads to.
 const OUTPUT: &str = "/proc/self/fd/1";
@@ -22,18 +24,22 @@ pub(crate) struct Warnings<R> {
 }
 
 impl<R: FolderSystem> Warnings<R> {
-    /// A log on the standard error of this runtime. It fails only where memory is refused.
-    pub(crate) fn new(rt: R) -> io::Result<Warnings<R>> {
+    /// A log on the standard error of this runtime, whose lines begin so. It fails only where memory is refused.
+    pub(crate) fn new(rt: R, start: LineStart) -> io::Result<Warnings<R>> {
         if !is_apart(&rt)? {
             return Ok(Warnings { log: None });
         }
         Ok(Warnings {
-            log: Some(ErrorLog { rt, seat: None }),
+            log: Some(ErrorLog {
+                rt,
+                seat: None,
+                start,
+            }),
         })
     }
 }
 
-impl<R: Eprint> Log for Warnings<R> {
+impl<R: Eprint + Clock> Log for Warnings<R> {
     fn note(&self, _line: &str) {}
 
     fn warn(&self, line: &str) {

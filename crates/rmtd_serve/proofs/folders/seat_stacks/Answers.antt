@@ -4,12 +4,12 @@ use Rattle.hold_table.specs.declared.table.TheConstants.{SEAT_LIMIT}
 use Rattle.rmtd_serve.specs.Folders.{stacks_of}
 use Rattle.rmtd_serve.proofs.folders.seat_stacks.Goals as goal
 
-pub loop-all-preserved : goal.loop-all-preserved
-loop-all-preserved g c =
+pub seats-preserved : goal.seats-preserved
+seats-preserved g c =
     let made = c.in_ok-stacks_at.field-0 in
-    let before = c.loop-all.all.items in
-    let counted = All-push (λ s. length s.rows ≡ length c.args.words.now) before made c.loop-all.invariant.1 c.in_ok-stacks_at.ensures.count in
-    let named = All-push (λ s. s ≡ stacks_of c.args.words.now c.args.bin.now c.args.capacity) before made c.loop-all.invariant.2
+    let before = c.seats.all.items in
+    let counted = All-push (λ s. length s.rows ≡ length c.args.words.now) before made c.seats.invariant.1 c.in_ok-stacks_at.ensures.count in
+    let named = All-push (λ s. s ≡ stacks_of c.args.words.now c.args.bin.now c.args.capacity) before made c.seats.invariant.2
     c.in_ok-stacks_at.ensures.named in
     let few : length c.push.new.self.items ≤ SEAT_LIMIT = search rules in (
       few,

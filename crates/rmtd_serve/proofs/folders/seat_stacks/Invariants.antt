@@ -4,10 +4,10 @@ use Rattle.rmtd_serve.specs.Folders.{stacks_of}
 use Rattle.rmtd_serve.proofs.folders.seat_stacks.Given as goal
 
 -- the stacks made so far
-abbrev pub invariant-loop-all : goal.invariant-loop-all
-invariant-loop-all g l = (length l.all.items ≤ SEAT_LIMIT)
+abbrev pub invariant-seats : goal.invariant-seats
+invariant-seats g l = (length l.all.items ≤ SEAT_LIMIT)
     × All (λ s. length s.rows ≡ length l.words) l.all.items
     × All (λ s. s ≡ stacks_of l.words l.bin l.capacity) l.all.items
 
-abbrev pub decreases-loop-all : goal.decreases-loop-all
-decreases-loop-all g l = SEAT_LIMIT - length l.all.items
+abbrev pub decreases-seats : goal.decreases-seats
+decreases-seats g l = SEAT_LIMIT - length l.all.items

@@ -1,7 +1,7 @@
 //! Accepts that fail: after a wait the next is made, and a listener that is broken for good ends what serves it.
 
 use super::table::serve_pairs;
-use rmtd_serve::{Connections, ErrorLog, Incoming, MemoryServer, serve_connections};
+use rmtd_serve::{Connections, ErrorLog, Incoming, LineStart, MemoryServer, serve_connections};
 use std::alloc::Global;
 use std::cell::Cell;
 use std::fmt::Display;
@@ -13,7 +13,7 @@ use std::rt::Clock;
 use std::test::Fail;
 use std::time::Duration;
 
-/// Standard error that counts its lines.
+/// Standard error that counts its lines, beside a clock that tells no time.
 #[derive(Drop)]
 struct Lines {
     count: Cell<u64>,
@@ -27,6 +27,16 @@ impl Eprint for Lines {
     fn eprintln<D: Display + Drop>(&self, _value: D) -> io::Result<()> {
         self.count.set(self.count.get().saturating_add(1));
         Ok(())
+    }
+}
+
+impl Clock for Lines {
+    fn monotonic(&self) -> io::Result<Duration> {
+        Err(ErrorKind::Unsupported.into())
+    }
+
+    fn since_1970(&self) -> io::Result<Duration> {
+        Err(ErrorKind::Unsupported.into())
     }
 }
 
@@ -82,6 +92,7 @@ fn two_come(clock: &Waits<'_>, listener: &TcpListener) -> bool {
     let log = ErrorLog {
         rt: &lines,
         seat: None,
+        start: LineStart::Time,
     };
     let mut connections = Connections::new(clock, listener, 2, log);
     let first = connections.next().is_some() && connections.left == 1 && clock.time.get() == 300;
@@ -112,6 +123,7 @@ fn none_come(clock: &Waits<'_>, listener: &TcpListener) -> bool {
     let log = ErrorLog {
         rt: &lines,
         seat: None,
+        start: LineStart::Time,
     };
     let mut connections = Connections::new(clock, listener, 2, log);
     let none = connections.next().is_none() && connections.left == 2;
@@ -136,6 +148,7 @@ fn status_in_memory(alloc: Global, clock: &Waits<'_>, listener: &TcpListener) ->
     let log = ErrorLog {
         rt: &lines,
         seat: None,
+        start: LineStart::Time,
     };
     let connections = Connections::new(clock, listener, 2, log);
     Some(serve_connections(&mut server, connections).status())
@@ -159,6 +172,7 @@ fn a_server_of_threads_ends_with_its_listener(rt: HostRuntime) -> Result<(), Fai
     let log = ErrorLog {
         rt: &lines,
         seat: None,
+        start: LineStart::Time,
     };
     let connections = Connections::new(&clock, &listener, 2, log);
     let connections = serve_pairs(&rt, rt.alloc(), connections)?;
