@@ -25,6 +25,7 @@ from pathlib import Path
 from typing import Callable, Iterator, NamedTuple
 
 from checks import check, ended
+from dump import RESTORE
 from dump import ABNORMAL, BLOCKS, CRATES, DAY, DEVICE, DONE, GUARD_SECONDS, PAYLOAD, Programs, all_of, label
 from model_rmtd import Entry, images
 from sites import files_of
@@ -363,40 +364,41 @@ def each_of_three(p: Programs) -> None:
 # Other reels.
 
 
-def other_reels() -> Iterator[tuple[str, bytes]]:
-    """What a reel may hold that is written over in a dump that has counted its first volume."""
+def other_reels() -> Iterator[tuple[str, bytes, str]]:
+    """What a reel may hold that is written over in a dump that has counted its first volume, and whose label is told: none of what is no label."""
     text = label(1, 0)
-    of_others: tuple[tuple[str, list[Entry]], ...] = (
-        ("of another name", [text.replace(b"/usr", b"/opt"), BLOCKS[0], None]),
-        ("of another date", [label(1, 0, date=DAY - 1), BLOCKS[0], None]),
-        ("of another base date", [label(1, 0, since=1), BLOCKS[0], None]),
-        ("of another level", [text.replace(b"level 0", b"level 1"), BLOCKS[0], None]),
-        ("of a volume that was not counted", [label(2, 2), BLOCKS[2]]),
-        ("of a volume from another block on", [label(1, 1), *BLOCKS[1:], None]),
-        ("of which the last byte differs", [text[:-1] + b"x", None]),
-        ("without its last byte", [text[:-1], None]),
-        ("without its zero bytes", [text.rstrip(b"\0"), None]),
+    of_others: tuple[tuple[str, list[Entry], str], ...] = (
+        ("of another name", [text.replace(b"/usr", b"/opt"), BLOCKS[0], None], "/opt level 0 2000-02-29, volume 1"),
+        ("of another date", [label(1, 0, date=DAY - 1), BLOCKS[0], None], "/usr level 0 2000-02-28, volume 1"),
+        ("of another base date", [label(1, 0, since=1), BLOCKS[0], None], "/usr level 0 2000-02-29, volume 1"),
+        ("of another level", [text.replace(b"level 0", b"level 1"), BLOCKS[0], None], "/usr level 1 2000-02-29, volume 1"),
+        ("of a volume that was not counted", [label(2, 2), BLOCKS[2]], "/usr level 0 2000-02-29, volume 2"),
+        ("of a volume from another block on", [label(1, 1), *BLOCKS[1:], None], "/usr level 0 2000-02-29, volume 1"),
+        ("of which the last byte differs", [text[:-1] + b"x", None], ""),
+        ("without its last byte", [text[:-1], None], ""),
+        ("without its zero bytes", [text.rstrip(b"\0"), None], ""),
     )
-    for title, entries in of_others:
-        yield f"a label {title}", images(entries)
-    yield "a foreign tape", images([b"hello", None])
-    yield "a foreign tape of long records", images([b"t" * 2_560, None])
-    yield "a mark before a counted volume", images([None, text, *BLOCKS[:2]])
-    yield "marks alone", images([None, None, None])
-    yield "a blank reel", b""
-    yield "a blank reel with a torn record", images([text])[:-1]
+    for title, entries, whose in of_others:
+        yield f"a label {title}", images(entries), whose
+    yield "a foreign tape", images([b"hello", None]), ""
+    yield "a foreign tape of long records", images([b"t" * 2_560, None]), ""
+    yield "a mark before a counted volume", images([None, text, *BLOCKS[:2]]), ""
+    yield "marks alone", images([None, None, None]), ""
+    yield "a blank reel", b"", ""
+    yield "a blank reel with a torn record", images([text])[:-1], ""
 
 
 def others(p: Programs) -> None:
-    """A reel that has anything else than a counted volume is written over, and nothing is asked."""
-    for title, held in other_reels():
+    """A reel that has anything else than a counted volume is written over, and nothing is asked. Whose label it was is told."""
+    for title, held, whose in other_reels():
         with site(p, "r1") as it:
             it.put("r2", held)
             with it.dump() as run:
                 lines = run.said()
                 check(f"{title}: the dump is complete", (lines, run.status()) == ([*COUNTED, COMPLETE], DONE), lines, it.told())
             check(f"{title}: the bin", it.reels() == ({}, BOTH), {name: len(data) for name, data in it.reels()[1].items()})
-            check(f"{title}: nothing is told", it.told() == "", it.told())
+            told = RESTORE.sub("", it.told())
+            check(f"{title}: what is told", told == (f"this reel has: {whose}\n" if whose else ""), it.told())
     for title, entries in (
         ("a copy of a counted volume", [label(1, 0), *BLOCKS[:2], None]),
         ("a label and a byte more", [label(1, 0) + b"\0", None]),

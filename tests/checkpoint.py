@@ -28,7 +28,7 @@ from typing import Callable, Iterator, NamedTuple
 
 from checks import check, ended
 from dump import ABNORMAL, BLOCKS, CRATES, DAY, DAY_BEFORE, DEVICE, DONE, ENTRY, FAILED, GUARD_SECONDS, PAYLOAD, TWO_VOLUMES
-from dump import Ended, Model, Programs, Reel, all_of, ends, fails, requests_of
+from dump import Ended, Model, Programs, Reel, all_of, ends, fails, requests_of, without_restore
 from model_checkpoint import Checkpoint, Fault, check_examples, decoded, is_same_dump, text_of
 from model_world import Run, Volume
 from traced import in_order, made_in, traced
@@ -89,7 +89,7 @@ def started(p: Programs, address: str, *more: str, **changed: str | None) -> sub
 def end_of(run: subprocess.Popen[bytes], said: bytes = b"") -> Ended:
     with run:
         output, told = run.communicate(said, timeout=GUARD_SECONDS)
-    return Ended(output.decode(), told.decode(errors="replace"), run.returncode)
+    return Ended(output.decode(), without_restore(output.decode(), told.decode(errors="replace"), run.returncode), run.returncode)
 
 
 def acted_on(p: Programs, number: int, act: Callable[[subprocess.Popen[bytes]], object], lost: bool, *more: str, **changed: str | None) -> Ended:
@@ -463,7 +463,7 @@ def unwritten(p: Programs) -> None:
     with new.open("wb") as other:
         fcntl.flock(other, fcntl.LOCK_EX)
         not_written(p, "a new file that is locked", p.dump(NOWHERE, *KEPT), "", None, LOCKED_NEW)
-    new.write_bytes(b"what a killed dump left, and longer than what is to stand there" * 99)
+    new.write_bytes(text_of(RUN._replace(blocks=MANY), tuple(Volume(number, number - 1, 1) for number in range(1, MANY)))[:-3])
     model = Model(*two())
     ends("a new file that was left", p.dump(model.address, *KEPT), TWO_VOLUMES, DONE)
     check("a new file that was left is gone", lying(p) == [], lying(p))

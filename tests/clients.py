@@ -581,7 +581,7 @@ def data_of(path: Path) -> bytes | None:
 # What the system is asked for.
 
 SYNCS = "fsync,fdatasync"
-MOVES = "rename,renameat,renameat2"
+LINKS, UNLINKS = "link,linkat", "unlink,unlinkat"
 
 
 @cache
@@ -605,11 +605,11 @@ def on_the_disk(program: str) -> None:
     with site(program) as shop:
         shop.reel("r1")
         log = shop.folder / "calls"
-        with talking(shop, ("strace", "-f", "-y", "-o", str(log), "-e", f"trace={SYNCS},{MOVES},write")) as talk:
+        with talking(shop, ("strace", "-f", "-y", "-o", str(log), "-e", f"trace={SYNCS},{LINKS},{UNLINKS},write")) as talk:
             talk.asks("a move that is traced", (opened(), DONE), (write(b"data"), b"A4\n"), (b"I6\n3\n", b"A3\n"))
             talk.end()
         calls = list(steps(log.read_text(errors="replace")))
-        wanted = ["sync r1", "move", "sync bin", "sync st0", "reply"]
+        wanted = ["sync r1", "link", "sync bin", "unlink", "sync st0", "reply"]
         check("a move that is traced: the order", calls == wanted, calls, wanted)
     synced_at_a_close(program)
     for title, fault, fails in (
@@ -617,8 +617,8 @@ def on_the_disk(program: str) -> None:
         ("the sync of one folder", f"{SYNCS}:error=EIO:when=2", False),
         ("the sync of the other folder", f"{SYNCS}:error=EIO:when=3", False),
         ("the syncs of both folders", f"{SYNCS}:error=EIO:when=2+", False),
-        # The first rename is that of the look at the start.
-        ("the move", f"{MOVES}:error=EIO:when=2", True),
+        ("the move", f"{LINKS}:error=EIO:when=1", True),
+        ("the removal of the old name", f"{UNLINKS}:error=EIO:when=1", True),
     ):
         with site(program) as shop:
             reel = shop.reel("r1")
@@ -649,11 +649,12 @@ def synced_at_a_close(program: str) -> None:
     ):
         with site(program) as shop:
             reel, log = shop.reel("r1", b"data"), shop.folder / "calls"
-            with talking(shop, ("strace", "-f", "-y", "-o", str(log), "-e", f"trace={SYNCS},{MOVES}")) as talk:
+            with talking(shop, ("strace", "-f", "-y", "-o", str(log), "-e", f"trace={SYNCS},{LINKS},{UNLINKS}")) as talk:
                 talk.asks(f"a close where {title}", (opened(), DONE), *exchanges)
                 check(f"a close where {title}: it ends well", talk.end() == 0)
             calls = [*steps(log.read_text(errors="replace"))]
             check(f"a close where {title}: the syncs", calls == wanted, calls, wanted)
+    synced_by_no_time(program)
     with site(program) as shop:
         reel = shop.reel("r1")
         with talking(shop, ("strace", "-f", "-o", os.devnull, "-e", f"inject={SYNCS}:error=EIO:when=1+")) as talk:
@@ -661,13 +662,34 @@ def synced_at_a_close(program: str) -> None:
             check("a close whose sync fails: it ends well", talk.end() == 0)
 
 
+def synced_by_no_time(program: str) -> None:
+    """A close syncs what was written, or was to be, where the file's length and time are those of the open."""
+    for title, fails, exchanges in (
+        ("a record is written anew", "", ((write(b"DATA"), b"A4\n"),)),
+        ("a cut fails", ":error=EIO:when=1", ((write(b"DATA"), IO_ERROR), (b"R4\n", b"A4\ndata"))),
+    ):
+        title = f"a close after which the file's time is that of the open, where {title}"
+        with site(program) as shop:
+            reel, log = shop.reel("r1", b"data"), shop.folder / "calls"
+            before = reel.stat()
+            inject = ("-e", f"inject=ftruncate{fails}") if fails else ()
+            with talking(shop, ("strace", "-f", "-y", "-o", str(log), "-e", f"trace={SYNCS},ftruncate", *inject)) as talk:
+                talk.asks(title, (opened(), DONE), *exchanges)
+                os.utime(reel, ns=(before.st_atime_ns, before.st_mtime_ns))
+                check(f"{title}: its length too", reel.stat().st_size == before.st_size)
+                talk.asks(title, (CLOSE, DONE))
+                check(f"{title}: it ends well", talk.end() == 0)
+            calls = [*steps(log.read_text(errors="replace"))]
+            check(f"{title}: the syncs", calls == ["sync r1"], calls)
+
+
 def steps(log: str) -> Iterator[str]:
-    """What of a move the calls of the system were: each sync with its file, the rename, the reply."""
+    """What of a move the calls of the system were: each sync with its file, the names that came and went, the reply."""
     for line in log.splitlines():
         if found := re.search(r"f(?:data)?sync\(\d+<([^>]*)>\) += 0", line):
             yield f"sync {Path(found[1]).name}"
-        elif re.search(r"\brename(?:at2?)?\(.*\) += 0", line):
-            yield "move"
+        elif found := re.search(r"\b((?:un)?link)(?:at)?\(.*\) += 0", line):
+            yield found[1]
         elif 'write(1<' in line and '"A3\\n"' in line:
             yield "reply"
 

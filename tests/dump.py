@@ -45,6 +45,10 @@ GUARD_SECONDS = 60
 LISTENS = 10
 
 
+# What a dump says last, once it is complete.
+RESTORE = re.compile(r"^to restore: .*\n", re.M)
+
+
 class Ended(NamedTuple):
     """What a program wrote to standard output and standard error, and its exit status (below 0: a signal)."""
 
@@ -201,12 +205,32 @@ class Model:
         if op == 0:
             self.open.entries[self.place :] = [None] * count
             self.place += count
+        elif op in (1, 3, 4):
+            return self.space(op, count)
         elif op in (5, 6):
             self.place = 0
         if op == 6:
             self.bin.append(self.stack.pop(0))
             self.open = None
         return b"A%d\n" % count
+
+    def space(self, op: int, count: int) -> bytes:
+        """Goes over marks (1), or over records, forward (3) or back (4). A mark ends the way over records, behind it."""
+        for _ in range(count):
+            is_mark = self.step(-1 if op == 4 else 1)
+            while op == 1 and is_mark is False:
+                is_mark = self.step(1)
+            if is_mark is None or is_mark != (op == 1):
+                return b"E5\nInput/output error\n"
+        return b"A%d\n" % count
+
+    def step(self, way: int) -> bool | None:
+        """Goes over an entry, forward (1) or back (-1), and answers whether that is a mark. None at either end."""
+        at = self.place if way > 0 else self.place - 1
+        if not 0 <= at < len(self.open.entries):
+            return None
+        self.place += way
+        return self.open.entries[at] is None
 
     def stop(self) -> None:
         """Ends the worker before its listener is closed, since another one may get the same descriptor."""
@@ -226,6 +250,15 @@ class OldModel(Model):
 
 
 # The programs.
+
+
+def without_restore(output: str, told: str, status: int) -> str:
+    """What is told, without the line that says what a restore needs: a dump that printed its end has one, where nothing killed it, and nothing
+    else has."""
+    found = len(RESTORE.findall(told))
+    right = found == output.count("dump complete: ") if status >= 0 else found <= 1
+    check("what a restore needs is told once where a dump is complete", right, output, told, status)
+    return RESTORE.sub("", told)
 
 
 class Programs:
@@ -249,7 +282,9 @@ class Programs:
             timeout=GUARD_SECONDS,
             check=False,
         )
-        return Ended((ended.stdout or b"").decode(), (ended.stderr or b"").decode(errors="replace"), ended.returncode)
+        output, told = (ended.stdout or b"").decode(), (ended.stderr or b"").decode(errors="replace")
+        is_seen = stdout == stderr == subprocess.PIPE
+        return Ended(output, without_restore(output, told, ended.returncode) if is_seen else RESTORE.sub("", told), ended.returncode)
 
     def file(self, name: str, text: bytes) -> str:
         """Makes a file of these bytes."""
@@ -383,7 +418,7 @@ def greatest(p: Programs) -> None:
         check(f"a block of {block} bytes to an older server: what is sent", model.logs[-1][:-1] == requests_of(1, 0, [])[:5])
     p.file("payload", data[:GREATEST_RECORD])
     want = "volume 1: 4 blocks from 0\ndump complete: 1 volumes, 4 blocks\n"
-    ends("lesser blocks to an older server", p.dump(model.address, block=str(OLD_RECORD)), want, DONE)
+    ends("lesser blocks to an older server", p.dump(model.address, block=str(OLD_RECORD)), want, DONE, "this reel has: /usr level 0")
     model.stack.append(model.bin.pop())
     ends("lesser blocks at an older server, read", p.run(*read, "--to", model.address), text, DONE, f"4 blocks of {OLD_RECORD} bytes")
     check("lesser blocks at an older server, read: the bytes", p.folder.joinpath("read").read_bytes() == data[:GREATEST_RECORD])
@@ -396,6 +431,7 @@ def payloads(p: Programs) -> None:
     payload = p.folder / "payload"
     failed = "volume 1 failed: SourceFault\nretry?\n"
     unread = ("rdump: payload: a block could not be read: ",)
+    grew = (f"rdump: payload: it changed while it was dumped: it had {len(PAYLOAD)} bytes, and has 9999",)
     whole = "volume 1: 3 blocks from 0\ndump complete: 1 volumes, 3 blocks\n"
     for title, act, output, status in (
         ("a payload cut short", lambda: os.truncate(payload, 2047), failed + "dump abandoned\n", ABNORMAL),
@@ -405,7 +441,7 @@ def payloads(p: Programs) -> None:
         p.file("payload", PAYLOAD)
         # The sixth request is the first block.
         model = Model(Reel("r1", 4200), acts={6: act})
-        ends(title, p.dump(model.address), output, status, *unread[: status == ABNORMAL])
+        ends(title, p.dump(model.address), output, status, *(unread if status == ABNORMAL else grew))
         sent = [it for it in model.logs[0] if it.startswith(b"W")][1:]
         blocks = BLOCKS if status == DONE else BLOCKS[:1]
         check(f"{title}: the blocks", sent == [b"W1024\n" + it for it in blocks], sent)
@@ -483,7 +519,9 @@ def progress(p: Programs) -> None:
         lines = [CLEAR + it if both else CLEAR for it in TWO_VOLUMES.replace("\n", "\r\n").splitlines(keepends=True)]
         later = r"(\rvolume [12], block [123] of 3, \d+ [KM]iB/s\x1b\[K)*"
         since = "since the epoch: every block counts as new\r\n"
+        restore = f"rdump read --to {model.address} --device {DEVICE} --out FILE --all --place --length {len(PAYLOAD)}"
         wanted = re.escape(f"{since}\rvolume 1, block 1 of 3, 0 KiB/s\x1b[K") + later + later.join(re.escape(it) for it in lines)
+        wanted += re.escape(f"to restore: 3 blocks, {len(PAYLOAD)} bytes: {restore}\r\n")
         check(f"{title}: what it shows", re.fullmatch(wanted, shown) is not None, shown, wanted)
     model = Model(Reel("r1", 3100), Reel("r2", 3100))
     ends("no terminal, nothing shown", p.dump(model.address), TWO_VOLUMES, DONE)
@@ -563,11 +601,11 @@ def retries(p: Programs) -> None:
     check("no dump is entered", p.text("dumpdates") == OLDER)
     for title, model, fault, *faults in (
         ("a lost reply to the move", Model(Reel("r1", 3100), Reel("r2", 3100), Reel("r3", 3100), lost=(10,)), "ConnectionEnded", "ended"),
-        ("a wrong number", Model(Reel("r1", 3100), Reel("r2", 3100), said={5: b"A1023\n"}), "ShortWrite"),
+        ("a wrong number", Model(Reel("r1", 3100), Reel("r2", 3100), said={5: b"A1023\n"}), "ShortWrite", "this reel has: /usr level 0"),
         ("no reply by the grammar", Model(Reel("r1", 3100), Reel("r2", 3100), said={2: b"X\n"}), "Botched", "no reply by the protocol"),
         ("more than a label", Model(Reel("r1", 3100), Reel("r2", 3100), said={3: b"A1025\n" + bytes(1025)}), "Botched", "no reply by the protocol"),
         ("an error to the look", Model(Reel("r1", 3100), Reel("r2", 3100), said={3: b"E12\nmemory\n"}), "Refused 12", "Refused 12"),
-        ("an error", Model(Reel("r1", 3100), Reel("r2", 3100), said={2: b"E5\nbroken\n"}), "Refused 5", "Refused 5"),
+        ("an error", Model(Reel("r1", 3100), Reel("r2", 3100), said={2: b"E5\nbroken\n"}), "Refused 5", "Refused 5", "in the bin"),
     ):
         want = f"volume 1 failed: {fault}\nretry?\n" + TWO_VOLUMES
         ends(title, p.dump(model.address, said="yes\n"), want, DONE, *faults)

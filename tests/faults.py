@@ -36,14 +36,14 @@ from lawful import DEVICE_FAULT, History, empty, reels_of
 from model_rmtd import images
 from shim import compiled
 from sites import ABNORMAL, BLOCK, CRATES, DATED, DAY, DEVICE, DONE, FAILED, GUARD_SECONDS, LISTEN, NEW_DATES, OLD_DATES, THREE_BLOCKS
-from sites import KEPT, Ended, Left, Programs, course, drive_words, dump_site, dumped, folders, held, kept_words, left
+from sites import KEPT, Ended, Left, Programs, course, drive_words, dump_site, dumped, folders, held, kept_words, left, moved_once
 
 # A server that is to end is waited for so long.
 ENDS_SECONDS = GUARD_SECONDS
 
 ERRORS = {"EIO": 5, "ENOSPC": 28, "EDQUOT": 122, "EROFS": 30, "EMFILE": 24, "EINTR": 4}
 # Errors that one call alone has: another file system, and a lock that another process has.
-OWN_ERRORS = {"rename": {"EXDEV": 18}, "flock": {"EWOULDBLOCK": 11}}
+OWN_ERRORS = {"rename": {"EXDEV": 18}, "link": {"EXDEV": 18, "EPERM": 1, "EEXIST": 17}, "flock": {"EWOULDBLOCK": 11}}
 # What is interrupted for ever is tried for ever, and a lock that another process keeps is waited for.
 ONCE = ("EINTR", "EWOULDBLOCK")
 # Requests for memory are those of refused.py. A clock, pages and rights are looked at by themselves.
@@ -80,7 +80,7 @@ def talked(p: Programs, rules: str, path: str = "") -> Ended:
     """The conversation, with a server that meets these rules."""
     with folders(r1=b"", r2=b"") as folder:
         got = p.run((p.rmtd, "--stdio", *drive_words(folder)), rules, TALK, path)
-        return got._replace(left=held(folder))
+        return got._replace(left=moved_once(folder / "st0", folder / "bin"))
 
 
 def is_history(got: Ended) -> bool:
@@ -151,7 +151,7 @@ def server(p: Programs) -> None:
             runs += 1
             changed += got.seen() != well.seen()
     print(f"a server: {seen} calls, {runs} runs, {changed} of them answered or left otherwise", flush=True)
-    lies = ("writev:1:L", "writev:4:L", "ftruncate:1:L", "rename:2:L")
+    lies = ("writev:1:L", "writev:4:L", "ftruncate:1:L")
     noticed = [rule for rule in lies if not is_history(talked(p, rule))]
     check("a system that says it did what it did not is noticed", noticed == [*lies], noticed)
 
@@ -169,7 +169,7 @@ def killed_and_stopped(p: Programs) -> None:
         for rule in target.each("s0") if target.call in ("write", "writev") else ():
             got = talked(p, rule.text, target.path)
             check(rule.title, is_cut_short(got) if target.is_stream else is_right(got), got.shown())
-    for call in ("read", "writev", "pread", "rename", "write"):
+    for call in ("read", "writev", "pread", "link", "unlink", "write"):
         got = stopped(p, f"{call}:1+:S")
         check(f"stopped before each {call}, and continued", got.seen() == well.seen(), got.shown())
 
@@ -186,7 +186,7 @@ def stopped(p: Programs, rules: str) -> Ended:
             continued(process.pid)
             output = process.stdout.read()
             process.wait()
-        return Ended(process.returncode, output, b"", held(folder), tuple(p.shim.calls()))
+        return Ended(process.returncode, output, b"", moved_once(folder / "st0", folder / "bin"), tuple(p.shim.calls()))
 
 
 def continued(process: int) -> None:
@@ -332,8 +332,9 @@ class Listener:
         resource.prlimit(self.process.pid, resource.RLIMIT_NOFILE, (count, 1024))
 
     def failed_accepts(self) -> list[str]:
-        """Its lines that say why an accept failed."""
+        """Its lines that say why an accept failed, without their time."""
         lines = os.pread(self.log.fileno(), 1 << 20, 0).decode().splitlines()
+        lines = [re.sub(r"^\d{4}-\d\d-\d\dT\d\d:\d\d:\d\dZ (?=rmtd: )", "", it) for it in lines]
         return [it for it in lines if it.startswith("rmtd: accept failed: ")]
 
     def ended(self) -> int | None:

@@ -36,12 +36,12 @@
 #include <unistd.h>
 
 enum call {
-    ALLOC, MALLOC, CALLOC, REALLOC, MEMALIGN, READ, PREAD, RECV, WRITE, WRITEV, SEND, SENDMSG, FTRUNCATE, FSYNC, FDATASYNC, RENAME, UNLINK,
+    ALLOC, MALLOC, CALLOC, REALLOC, MEMALIGN, READ, PREAD, RECV, WRITE, WRITEV, SEND, SENDMSG, FTRUNCATE, FSYNC, FDATASYNC, RENAME, LINK, UNLINK,
     OPEN, OPENAT, STATX, GETDENTS, FLOCK, ACCEPT, BIND, LISTEN, SOCKET, CONNECT, MMAP, FCHMOD, FCHOWN, THREAD, CLOCK, CALLS
 };
 static const char *const names[CALLS] = {
     "alloc", "malloc", "calloc", "realloc", "memalign", "read", "pread", "recv", "write", "writev", "send", "sendmsg", "ftruncate", "fsync",
-    "fdatasync", "rename", "unlink", "open", "openat", "statx", "getdents64", "flock", "accept4", "bind", "listen", "socket", "connect",
+    "fdatasync", "rename", "link", "unlink", "open", "openat", "statx", "getdents64", "flock", "accept4", "bind", "listen", "socket", "connect",
     "mmap", "fchmod", "fchown", "pthread_create", "clock_gettime"
 };
 static atomic_long counts[CALLS];
@@ -300,7 +300,16 @@ int fchmod(int file, mode_t mode) { return fails(MET_AT(FCHMOD, file, mode)) ? -
 int fchown(int file, uid_t user, gid_t group) { return fails(MET_AT(FCHOWN, file, user)) ? -1 : REAL(fchown)(file, user, group); }
 int flock(int file, int how) { return fails(MET_AT(FLOCK, file, how)) ? -1 : REAL(flock)(file, how); }
 ssize_t getdents64(int file, void *into, size_t size) { return fails(MET_AT(GETDENTS, file, size)) ? -1 : REAL(getdents64)(file, into, size); }
-int unlink(const char *path) { return fails(MET(UNLINK, 0)) ? -1 : REAL(unlink)(path); }
+
+int unlink(const char *path) {
+    const struct rule *rule = MET(UNLINK, 0);
+    return lies(rule) ? 0 : fails(rule) ? -1 : REAL(unlink)(path);
+}
+
+int link(const char *from, const char *to) {
+    const struct rule *rule = MET(LINK, 0);
+    return lies(rule) ? 0 : fails(rule) ? -1 : (int)moved(rule, REAL(link)(from, to));
+}
 
 int rename(const char *from, const char *to) {
     const struct rule *rule = MET(RENAME, 0);

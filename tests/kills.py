@@ -31,7 +31,7 @@ from checks import COUNT, check, ended
 from model_checkpoint import Checkpoint, decoded
 from model_rmtd import Entry, images
 from model_world import Run
-from sites import files_of
+from sites import moved_once
 
 CRATES = Path(__file__).resolve().parent.parent / "crates"
 DEVICE = "/dev/st0"
@@ -122,7 +122,7 @@ class Served:
 
     def looked_at(self) -> tuple[dict[str, bytes], dict[str, bytes]]:
         """What the reels of the stack and of the bin hold, by name."""
-        return files_of(self.stack, self.bin)
+        return moved_once(self.stack, self.bin)
 
     def kill(self) -> None:
         """Kills it, and returns once it is gone. Its port may be another's then."""

@@ -9,6 +9,7 @@ docs/OPERATING.md has the lines in a table. A listener tells what it does; a ser
 from __future__ import annotations
 
 import argparse
+import calendar
 import fcntl
 import os
 import re
@@ -19,6 +20,7 @@ import subprocess
 import sys
 import tempfile
 import threading
+import time
 from contextlib import contextmanager
 from pathlib import Path
 from typing import IO, Iterator
@@ -54,7 +56,9 @@ from threads import (
 
 CRATES = Path(__file__).resolve().parent.parent / "crates"
 ADDRESS = r"127\.0\.0\.1:\d+"
-# What a line is, without `rmtd: ` before it.
+# What a line begins with: the time in UTC, as RFC 3339 has it, in whole seconds, and the program's name.
+HEAD = re.compile(r"(\d{4}-\d\d-\d\dT\d\d:\d\d:\d\dZ) rmtd: ")
+# What a line is, without that.
 FORMS = (
     rf"connection (?P<came>\d+): accepted from {ADDRESS}",
     r"connection \d+: closed: .+",
@@ -67,10 +71,15 @@ SMALLEST_PIPE = 4096
 
 
 def lines_of(server: Server) -> list[str]:
-    """The whole lines of the log so far, without `rmtd: `, which each begins with."""
+    """The whole lines of the log so far, without the time and `rmtd: `, which each begins with."""
     *lines, rest = server.log.read_text().split("\n")
-    check("the log: each line begins with the program's name", all(it.startswith("rmtd: ") for it in lines), lines)
-    return [it.removeprefix("rmtd: ") for it in lines]
+    return bare("the log", lines)
+
+
+def bare(title: str, lines: list[str]) -> list[str]:
+    """Lines without the time and the program's name, which each begins with."""
+    check(f"{title}: each line begins with the time and the program's name", all(map(HEAD.match, lines)), lines)
+    return [HEAD.sub("", it, count=1) for it in lines]
 
 
 def has(server: Server, pattern: str) -> bool:
@@ -133,7 +142,7 @@ def reels(rmtd: str) -> None:
             rf"open refused: {re.escape(str(reel))}: lock: another has the lock",
             "r1 opened",
             "r1 moved to the bin",
-            "r2 opened",
+            "r2 opened, to read only: the bin has the name",
             "move refused: .*r2.*",
             "r2 closed.*",
         )
@@ -150,12 +159,14 @@ def read_only(rmtd: str) -> None:
             for title, mode, asked in (("read", 0o400, opened()), ("written", 0o600, opened(mode=0))):
                 with access(reel, mode):
                     talk = Talk(address)
-                    talk.asks(f"a reel that may be {title}", (asked, DONE), (READ, b"A1\nx"), (CLOSE, DONE))
+                    refused = ((write(b"y"), IO_ERROR),) if mode == 0o400 else ()
+                    talk.asks(f"a reel that may be {title}", (asked, DONE), (READ, b"A1\nx"), *refused, (CLOSE, DONE))
                     talk.end()
             lines = lambda: told(log).splitlines()
             check("a reel that may be read alone: it ends", soon(lambda: sum(it.endswith("ended: end") for it in lines()) == 2), lines())
             mine = [it.partition("/dev/st0: ")[2] for it in lines() if "/dev/st0: " in it]
-        check("a reel that may be read alone: the lines", mine == ["r1 opened, to read only", "r1 closed", "r1 opened", "r1 closed"], mine)
+        refused = "r1 closed, synced, a read or write failed: the reel may only be read"
+        check("a reel that may be read alone: the lines", mine == ["r1 opened, to read only", refused, "r1 opened", "r1 closed"], mine)
 
 
 def far_away(rmtd: str) -> None:
@@ -396,7 +407,7 @@ def unread(rmtd: str) -> None:
         thread.join()
         os.close(reader)
         lines = got[filled:].decode().splitlines()
-        check("a full pipe: no line is lost", [it for it in lines if "accepted" in it] and all(it.startswith("rmtd: ") for it in lines), lines)
+        check("a full pipe: no line is lost", [it for it in lines if "accepted" in it] and all(map(HEAD.match, lines)), lines)
 
 
 def in_memory(rmtd: str) -> None:
@@ -408,13 +419,13 @@ def in_memory(rmtd: str) -> None:
             check("in memory: what is no request is not answered", talk.ask(b"?") == b"")
             talk.end()
             check("in memory: it ends", process.wait(60) == 0)
-            lines = told(log).splitlines()
+            lines = bare("in memory", told(log).splitlines())
         ways = [
             rf"connection {number}: {what}"
             for number, end in ((1, "end"), (2, "end"), (3, "UnknownCommand"))
             for what in (f"accepted from {ADDRESS}", f"ended: {end}")
         ]
-        wanted = [f"rmtd: {it}" for it in (f"{before}the reel of /dev/st0 is in memory, and is gone when the server ends", *ways)]
+        wanted = [f"{before}the reel of /dev/st0 is in memory, and is gone when the server ends", *ways]
         check("in memory: the lines", len(lines) == 7 and all(map(re.fullmatch, wanted, lines)), lines)
 
 
@@ -438,12 +449,12 @@ LIMITS = (
 def limits(rmtd: str) -> None:
     """A limit on the size of files that a reel can come to is told before the server listens, where that would end it. With `--stdio` nothing is."""
     for title, before, capacity, is_told in LIMITS:
-        line = f"rmtd: a file may have {SMALL_FILE} bytes here and a reel {capacity}: {BY_ITS_SIGNAL}\n"
+        lines = [f"a file may have {SMALL_FILE} bytes here and a reel {capacity}: {BY_ITS_SIGNAL}"] if is_told else []
         limited = ["/bin/sh", "-c", f'{before} exec "$@"', "sh"]
         with tempfile.TemporaryDirectory() as folder, tempfile.TemporaryFile() as log:
             words = [*limited, *folder_words(rmtd, Path(folder)), "--capacity", str(capacity)]
             with listening(words, stderr=log):
-                check(f"{title}: what is told once it listens", told(log) == (line if is_told else ""), told(log))
+                check(f"{title}: what is told once it listens", bare(title, told(log).splitlines()) == lines, told(log))
         with tempfile.TemporaryDirectory() as folder:
             words = [*limited, *stdio_words(rmtd, Path(folder)), "--capacity", str(capacity)]
             got = subprocess.run(words, input=opened(), capture_output=True, check=False)
@@ -462,6 +473,7 @@ def with_stdio(rmtd: str) -> None:
 
 UNSYNCED = r"r1 closed, sync failed: .+ \(os error 5\)"
 UNMOVED = r"move refused: .+/r1: sync: .+ \(os error 5\)"
+UNWRITTEN = "r1 closed, synced, a read or write failed: the reel may only be read"
 SYNCS = "fsync,fdatasync:error=EIO"
 FULL = "writev:error=ENOSPC:when=1"
 # What went wrong at a drive: what is done before to the folders, what the system refuses, by strace(1), what is asked, and the lines.
@@ -472,10 +484,10 @@ WRONG = (
     ("the sync at a move, after which the reel is written anew,", "", f"{SYNCS}:when=1", OFFLINE + REWIND + write(b"y") + OFFLINE, (UNMOVED,)),
     ("the sync at a move, after which the reel is closed,", "", f"{SYNCS}:when=1", OFFLINE + CLOSE + opened() + OFFLINE, (UNMOVED, UNSYNCED)),
     ("the sync of a folder", "", f"{SYNCS}:when=2", OFFLINE, (r"r1 moved to the bin, folder sync failed: .+ \(os error 5\)",)),
-    ("a write", "", FULL, CLOSE, (r"r1 closed, a read or write failed: .+ \(os error 28\)",)),
+    ("a write", "", FULL, CLOSE, (r"r1 closed, synced, a read or write failed: .+ \(os error 28\)",)),
     ("a write before a move", "", FULL, OFFLINE, (r"r1 moved to the bin, a read or write failed: .+ \(os error 28\)",)),
     ("the open", "locked", "", CLOSE, (r"open refused: .+/r1: lock: another has the lock",)),
-    ("the move", "taken", "", OFFLINE, ("move refused: r1: the bin has the name",)),
+    ("the move", "taken", "", OFFLINE, ("r1 opened, to read only: the bin has the name", "move refused: r1: the bin has the name", UNWRITTEN)),
 )
 
 
@@ -494,7 +506,7 @@ def wrong_with_stdio(rmtd: str) -> None:
                     fcntl.flock(held, fcntl.LOCK_EX)
                 traced = ("strace", "-f", "-o", "/dev/null", "-e", f"inject={refused}") if refused else ()
                 got = subprocess.run([*traced, *words], input=opened() + write(b"x") + asked, capture_output=True, check=False)
-            form = "".join(f"rmtd: /dev/st0: {it}\n" for it in told)
+            form = "".join(f"{HEAD.pattern}/dev/st0: {it}\n" for it in told)
             check(f"stdio, {title} fails: it is told", got.returncode == 0 and re.fullmatch(form, got.stderr.decode()) is not None, got, told)
 
 
@@ -543,8 +555,75 @@ def without_proc(rmtd: str) -> None:
 def bin_alone(rmtd: str) -> None:
     """On standard input and output a bin without a drive is told."""
     got = subprocess.run([rmtd, "--stdio", "--bin", "/"], input=opened(), capture_output=True, check=False)
-    told = b"rmtd: --bin is given and no drive: the reel of /dev/st0 is in memory, and is gone when the server ends\n"
-    check("a bin and no drive: it is told", (got.returncode, got.stdout, got.stderr) == (0, DONE, told), got)
+    told = ["--bin is given and no drive: the reel of /dev/st0 is in memory, and is gone when the server ends"]
+    lines = bare("a bin and no drive", got.stderr.decode().splitlines())
+    check("a bin and no drive: it is told", (got.returncode, got.stdout, lines) == (0, DONE, told), got)
+
+
+def stream_of(file: IO[bytes]) -> str:
+    """A stream as the environment of systemd names it: `DEVICE:INODE` in decimal."""
+    found = os.fstat(file.fileno())
+    return f"{found.st_dev}:{found.st_ino}"
+
+
+def heads(rmtd: str, environment: dict[str, str], log: IO[bytes]) -> list[str]:
+    """The times of the lines of a server that is started with these variables, each the empty text where a line has none."""
+    with listening([rmtd, "--listen", "127.0.0.1:0", "--connections", "1"], stderr=log, env=os.environ | environment) as (process, address):
+        check("the time: it is served", converses(address))
+        check("the time: it ends", process.wait(60) == 0)
+    lines = told(log).splitlines()
+    found = [re.fullmatch(r"(?:(\S+) )?rmtd: (?:connection 1: (?:accepted from|ended)|the reel of /dev/st0).*", it) for it in lines]
+    check("the time: three lines of a known form", len(lines) == 3 and all(found), lines)
+    return [it[1] or "" for it in found if it]
+
+
+def times(rmtd: str) -> None:
+    """Each line begins with the time, unless the environment says that standard error leads to systemd's journal."""
+    with tempfile.TemporaryFile() as other:
+        for title, name, is_timed in (
+            ("no JOURNAL_STREAM", None, True),
+            ("JOURNAL_STREAM of standard error", "{}", False),
+            ("JOURNAL_STREAM of another file", stream_of(other), True),
+            ("JOURNAL_STREAM with more after it", "{}0", True),
+            ("JOURNAL_STREAM with a zero before it", "0{}", True),
+            ("JOURNAL_STREAM of one number", "7", True),
+            ("an empty JOURNAL_STREAM", "", True),
+            ("a long JOURNAL_STREAM", "1" * 100, True),
+        ):
+            with tempfile.TemporaryFile() as log:
+                environment = {} if name is None else {"JOURNAL_STREAM": name.format(stream_of(log))}
+                before = int(time.time())
+                found = heads(rmtd, environment, log)
+                after = int(time.time())
+            if not is_timed:
+                check(f"{title}: no time", found == [""] * 3, found)
+                continue
+            moments = [calendar.timegm(time.strptime(it, "%Y-%m-%dT%H:%M:%SZ")) if it else 0 for it in found]
+            check(f"{title}: the time", all(before <= it <= after for it in moments) and moments == sorted(moments), before, found, after)
+    with tempfile.TemporaryDirectory() as folder:
+        missing = [rmtd, "--stdio", "--bin", f"{folder}/none", f"d={folder}/none"]
+        got = subprocess.run(missing, input=b"", capture_output=True, check=False)
+        wanted = f"rmtd: {folder}/none: No such file or directory (os error 2)\n"
+        check("an error at the start: no time", (got.returncode, got.stderr.decode()) == (1, wanted), got)
+
+
+ANYWHERE = "it listens at each address of this machine: whoever reaches one of them can read and write all reels"
+
+
+def anywhere(rmtd: str) -> None:
+    """That a server listens at each address of its machine is told, before it says that it listens; that it listens at one is not."""
+    for address, is_told in (("0.0.0.0:0", True), ("[::]:0", True), ("[::ffff:0.0.0.0]:0", True), ("127.0.0.1:0", False)):
+        if address.startswith("[") and not socket.has_dualstack_ipv6():
+            print(f"skipped: a server at {address}: this machine has no IPv6")
+            continue
+        for kind in ("memory", "folders"):
+            with tempfile.TemporaryDirectory() as folder, tempfile.TemporaryFile() as log:
+                words = [rmtd] if kind == "memory" else folder_words(rmtd, Path(folder))
+                words = [it for it in words if not it.startswith("--listen") and it != "127.0.0.1:0"]
+                with listening([words[0], "--listen", address, *words[1:]], stderr=log) as (process, _):
+                    lines = bare(f"at {address}", told(log).splitlines())
+                    check(f"at {address}, {kind}: it is told", lines.count(ANYWHERE) == is_told, lines)
+                    check(f"at {address}, {kind}: it goes on", process.poll() is None)
 
 
 def without_streams(rmtd: str) -> None:
@@ -565,7 +644,7 @@ def main() -> int:
     rmtd = os.path.abspath(parser.parse_args().rmtd)
     reels_of = (reels, read_only, far_away, unsynced, refused_calls)
     listeners = (endings, *reels_of, too_many, failed_accepts, at_once, unwritable, unread, in_memory, limits)
-    for part in (*listeners, with_stdio, wrong_with_stdio, one_stream, without_proc, bin_alone, without_streams):
+    for part in (*listeners, with_stdio, wrong_with_stdio, one_stream, without_proc, bin_alone, without_streams, times, anywhere):
         part(rmtd)
     return ended()
 

@@ -9,7 +9,7 @@ after `$ ` is a command, and the lines below it are all that it prints. The line
 `Needs` names programs. A recipe whose programs are not on this machine is named as skipped.
 
 A section of README.md is a recipe too. A user who is not root runs *A server that is killed*, in a home of their own, with a pause of a second
-after each block, as a person takes it.
+after each block, as a person takes it; and pastes it whole into a shell, 20 times in a row.
 
 Each recipe has a machine of its own: its /usr/local is what `make install` leaves, other folders that it may change are empty or copies, a
 copy of the repository's etc/ lies where it runs, the loopback is its own, and its processes end with it. That takes root, unshare(1) and
@@ -49,6 +49,8 @@ PROGRAMS = {"rmtd": "SERVER", "rdump": "CLIENT", "rsim": "SIMULATOR"}
 
 # A recipe that takes longer is killed, so that the checks end.
 GUARD_SECONDS = 300
+# The same of a recipe that is pasted many times.
+PASTED_GUARD_SECONDS = 2400
 # So many recipes run at once.
 AT_ONCE = 4
 # What no command prints stands before each command, with the number of its line.
@@ -63,8 +65,11 @@ ENVIRONMENT = {"PATH": f"/usr/local/sbin:/usr/local/bin:{SYSTEM_PATH}", "HOME": 
 USED = "A server that is killed"
 USER = "ann"
 USER_ENVIRONMENT = {"PATH": "/usr/local/bin:/usr/bin:/bin", "HOME": f"/home/{USER}", "USER": USER, "LANG": "C.UTF-8"}
-# A second, and until a server listens at port 4711.
-PAUSE = "sleep 1\nuntil grep -q ':1267 00000000:0000 0A' /proc/net/tcp; do sleep 0.1; done\n"
+# As a person takes it.
+PAUSE = "sleep 1\n"
+# The shells that it is pasted into, and how often.
+SHELLS = ("sh", "bash")
+PASTED = 20
 
 # Recipes that stand in no document: what is installed, and what OPERATING.md says of tar 1.34.
 UNWRITTEN = """\
@@ -121,8 +126,22 @@ UNSHOWN = {
     "rdump: the clock: it tells no date": "tests/faults.py shows it: it takes a clock before 1970, and all processes of a machine have one clock",
     "rdump: FILE: its .new was locked for ten seconds": "tests/updates.py shows it, and waits for it beside other checks",
     "rdump: FILE: its .new is no plain file": "tests/updates.py shows it, and a recipe of its own would take a dump more",
+    "rdump: FILE.new: it is not one that rdump left: it is not touched": "tests/new_files.py shows it",
+    "rdump: FILE: its .new is not one that rdump left: it is not touched": "tests/new_files.py shows it: the file has to come while a dump runs",
+    "rdump: FILE: it is the payload too: ..": "tests/new_files.py shows it",
+    "its .new is the dumpdates file too: ..": "tests/new_files.py shows it",
+    "rdump: FILE: another file took its place while it was opened": "it takes an exchange between two calls of the system",
+    "rdump: FILE: it changed while it was dumped: ..": "tests/new_files.py shows it: the payload has to change while a dump runs",
+    "rdump: FILE: whether it changed while it was dumped cannot be told: ..": "tests/faults.py meets it: it takes a call that fails",
+    "rdump: FILE: it is younger than the checkpoint: ..": "tests/new_files.py shows it",
+    "rdump: FILE: the entry of /usr level 0 that this dump is to replace has a later date, ..": "tests/new_files.py shows it",
     "rdump: FILE: it is no dumpdates file, status 3": "tests/updates.py shows it: the file has to change while a dump runs",
     "rdump: FILE: another run writes it": "tests/told.py shows it: it takes a server that does not answer",
+    "rdump: ADDRESS: no mark": "tests/restore.py shows it: it takes a reel whose mark is lost",
+    "rdump: ADDRESS: cannot be told": "tests/restore.py shows it: it takes a server that answers in another way",
+    "the next reel gives no record": "tests/restore.py shows it",
+    "the end of the dump is not known: without --length the last volumes may be missing, status 0": "tests/restore.py shows it",
+    "rdump: ADDRESS: the reel has volume 1 of /home level 0, another dump, status 0": "tests/restore.py shows it: with --length the reel behind a whole dump is no failure",
     "the reel may be in the bin": "tests/restore.py shows it: it takes a server that ends the connection at that request",
     "block 97 is the first one that came": "tests/restore.py shows it, with other numbers",
     "rdump: FILE: its folder could not be synced": "tests/restore.py shows it: it takes a sync that fails",
@@ -310,13 +329,24 @@ def script_of(recipes: list[Recipe], pause: str) -> str:
     return "".join(parts) + "exit 0\n"
 
 
+def paste(recipe: Recipe, shell: str, how: dict[str, object]) -> int:
+    """Gives a shell all commands of a recipe at once, as often as they are pasted, and prints how often it printed what it should."""
+    text = "".join(f"{it.text}\n" for it in recipe.commands())
+    wanted = "".join(it.wanted or "" for it in recipe.commands())
+    with tempfile.TemporaryFile() as told:
+        ran = subprocess.run((shell,), input=text * PASTED, stdout=subprocess.PIPE, stderr=told, text=True, check=False, **how)
+    print(ran.stdout.count(wanted) if ran.stdout == wanted * PASTED else ran.stdout, end="")
+    left = [*Path("/tmp").iterdir(), *(it for it in Path(USER_ENVIRONMENT["HOME"]).iterdir() if not it.name.startswith("."))]
+    return ran.returncode or len(left)
+
+
 def add_user() -> None:
     """Adds the user who runs the README's commands, with a home."""
     subprocess.run(("useradd", "--create-home", "--shell", "/bin/sh", USER), check=True, stdout=subprocess.DEVNULL)
 
 
-def run_inside(titles: list[str], programs: list[str]) -> int:
-    """Runs recipes on the machine that this process has for itself, and answers the status of the shell."""
+def run_inside(titles: list[str], programs: list[str], shell: str | None) -> int:
+    """Runs recipes on the machine that this process has for itself, or pastes one, and answers the status of the shell."""
     recipes = all_recipes()
     wanted = [recipes[it] for it in titles]
     loopback()
@@ -328,6 +358,9 @@ def run_inside(titles: list[str], programs: list[str]) -> int:
         add_user()
         pause, environment = PAUSE, USER_ENVIRONMENT
         how = {"user": USER, "group": pwd.getpwnam(USER).pw_gid, "extra_groups": ()}
+    if shell:
+        os.chdir(environment["HOME"])
+        return paste(wanted[0], shell, {"env": environment, **how})
     script = Path("/mnt/script")
     script.write_text(script_of(wanted, pause))
     script.chmod(0o644)
@@ -354,13 +387,13 @@ class Ran(NamedTuple):
     printed: dict[int, str]
 
 
-def ran(recipe: Recipe, before: list[Recipe], programs: list[str]) -> Ran:
+def ran(recipe: Recipe, before: list[Recipe], programs: list[str], *more: str) -> Ran:
     """Runs a recipe after those before it, on a machine of its own."""
-    inside = [it for one in (*before, recipe) for it in ("--inside", one.title)]
+    inside = [*(it for one in (*before, recipe) for it in ("--inside", one.title)), *more]
     words = (*UNSHARE, sys.executable, str(Path(__file__).resolve()), *programs, *inside)
     with tempfile.TemporaryFile() as output:
         try:
-            how = {"stdout": output, "stderr": subprocess.STDOUT, "timeout": GUARD_SECONDS}
+            how = {"stdout": output, "stderr": subprocess.STDOUT, "timeout": PASTED_GUARD_SECONDS if "--paste" in more else GUARD_SECONDS}
             status = subprocess.run(words, check=False, **how).returncode
         except subprocess.TimeoutExpired:
             status = None
@@ -377,6 +410,19 @@ def compare(recipe: Recipe, got: Ran) -> None:
         if it.wanted is not None:
             printed = got.printed.get(it.line)
             check(f"{recipe.title}, line {it.line}: {it.text.splitlines()[0]}", printed == it.wanted, printed, it.wanted)
+
+
+def check_pasted(recipe: Recipe, shell: str, got: Ran) -> None:
+    """The recipe of the README does the same each time where it is pasted whole, and leaves nothing."""
+    check(f"{recipe.title}, pasted {PASTED} times into {shell}", got == Ran(0, {0: f"{PASTED}"}), got)
+
+
+def pasteable(recipe: Recipe) -> list[str]:
+    """The shells of this machine that a recipe is pasted into. The others are named as skipped."""
+    missing = [it for it in SHELLS if not is_there(it)]
+    for it in missing:
+        print(f"skipped: {recipe.title}, pasted into {it}: {it} cannot be used on this machine")
+    return [it for it in SHELLS if it not in missing]
 
 
 def runnable(recipes: dict[str, Recipe], only: str | None) -> list[tuple[Recipe, list[Recipe]]]:
@@ -414,7 +460,7 @@ class Message(NamedTuple):
 
 
 # What stands in a message for what it names.
-NAMED = (("FOLDER", r"/\S+"), ("ADDRESS", r"[\w.-]+:\d+"), ("FILE", r"\S+"), (r"\bN\b", r"\d+"), (r"\\\.\\\.", ".*"))
+NAMED = (("TIME ", r"(?:\S+Z )?"), ("FOLDER", r"/\S+"), ("ADDRESS", r"[\w.-]+:\d+"), ("FILE", r"\S+"), (r"\bN\b", r"\d+"), (r"\\\.\\\.", ".*"))
 
 
 def rows_of(program: str, lines: list[str]) -> Iterator[Row]:
@@ -506,20 +552,25 @@ def main() -> int:
         parser.add_argument(name, nargs="?", default=str(CRATES / name / "out" / name))
     parser.add_argument("--only", help="the title of one recipe")
     parser.add_argument("--inside", action="append", help=argparse.SUPPRESS)
+    parser.add_argument("--paste", help=argparse.SUPPRESS)
     words = parser.parse_args()
     programs = [os.path.abspath(getattr(words, name)) for name in PROGRAMS]
     for it in programs:
         if not os.path.isfile(it):
             parser.error(f"there is no program {it}: make build builds it")
     if words.inside:
-        return run_inside(words.inside, programs)
+        return run_inside(words.inside, programs, words.paste)
     recipes = all_recipes()
     check_messages(DOCUMENT.read_text(), [it for recipe in recipes.values() for it in recipe.commands()])
     check_uninstall(programs)
     found = runnable(recipes, words.only)
     with ThreadPoolExecutor(AT_ONCE) as pool:
+        used = [(recipe, it) for recipe, _ in found if recipe.title == USED for it in pasteable(recipe)]
+        pastes = [(*it, pool.submit(ran, it[0], [], programs, "--paste", it[1])) for it in used]
         for (recipe, _), got in zip(found, pool.map(lambda it: ran(*it, programs), found)):
             compare(recipe, got)
+        for recipe, shell, it in pastes:
+            check_pasted(recipe, shell, it.result())
     return ended()
 
 

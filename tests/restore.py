@@ -29,7 +29,7 @@ from typing import Iterator, NamedTuple
 from checks import check, ended
 from dump import ABNORMAL, CRATES, DAY, DEVICE, DONE, FAILED, GUARD_SECONDS, Ended, Model, Programs, Reel
 from model_rmtd import Entry, images
-from sites import folders, held
+from sites import folders, held, moved_once
 from traced import in_order, made_in, traced
 
 BLOCK = 1024
@@ -40,6 +40,8 @@ PADDED = PAYLOAD + bytes(300)
 VOLUMES = ((0, 2), (2, 5), (5, 6))
 FOREIGN = "not a volume of rdump\n"
 BINNED = "the reel is in the bin\n"
+UNKNOWN = "the end of the dump is not known: without --length the last volumes may be missing\n"
+NO_RECORD = "the next reel gives no record\n"
 NO_PLAIN_FILE = "rdump: {}: it is no plain file\n"
 SEED = 7
 
@@ -180,7 +182,7 @@ def stacks(p: Programs) -> None:
             files = named(*map(reel, order))
             with stacked(p, *files.values()) as site:
                 short = f"rdump: out: {len(PADDED)} bytes, fewer than 100000\n" if "100000" in more else ""
-                tells = "".join(counted(it) + BINNED for it in order) + short
+                tells = "".join(counted(it) + BINNED for it in order) + (short if "--length" in more else UNKNOWN)
                 told(name, site.read("--all", *more), texts(*order), ABNORMAL if short else DONE, tells)
                 site.reels(name, {}, files)
             holds(name, out, want)
@@ -199,7 +201,7 @@ def many(p: Programs) -> None:
     holds("many volumes", p.folder / "out", b"".join(data)[:3950])
     far = (2**31 - 2, 5_000_000, 3)
     with stacked(p, *(images([USR.label(1, it), b"0123456789", None]) for it in far)) as site:
-        lines = "blocks 0 to 2 are missing\nblocks 4 to 4999999 are missing\nblocks 5000001 to 2147483645 are missing\n"
+        lines = "blocks 0 to 2 are missing\nblocks 4 to 4999999 are missing\nblocks 5000001 to 2147483645 are missing\n" + UNKNOWN
         tells = 3 * (sizes(1, 10) + BINNED) + lines
         told("far out", site.read("--all", out="far"), "".join(USR.text(1, it) for it in far), ABNORMAL, tells)
     with open(p.folder / "far", "rb") as file:
@@ -221,7 +223,7 @@ def plain(p: Programs) -> None:
                 told(f"a length of {length}", site.read("--length", str(length)), texts(2), DONE, counted(2))
             holds(f"a length of {length}", out, want)
     with stacked(p, images([USR.label(1, 0), None])) as site:
-        told("no blocks", site.read("--all", out="none"), USR.text(1, 0), DONE, sizes(0) + BINNED)
+        told("no blocks", site.read("--all", out="none"), USR.text(1, 0), DONE, sizes(0) + BINNED + UNKNOWN)
     holds("no blocks", p.folder / "none", b"")
     with stacked(p, images([b"hello", b"wor", b"ld", None])) as site:
         told("a reel of another", site.read("--length", "4"), "hello", DONE, "2 blocks of 2 to 3 bytes, 5 bytes in all\n" + FOREIGN)
@@ -269,12 +271,12 @@ def gaps(p: Programs) -> None:
             out.write_bytes(before)
             with stacked(p, images([USR.label(2, first), None])) as site:
                 tells, status = (line, DONE) if before else (blank, ABNORMAL)
-                told(f"no block from {first}, {before}", site.read("--all"), USR.text(2, first), status, sizes(0) + BINNED + tells)
+                told(f"no block from {first}, {before}", site.read("--all"), USR.text(2, first), status, sizes(0) + BINNED + tells + UNKNOWN)
             holds(f"no block from {first}, {before}", out, before)
     some = [images([USR.label(it, first), *blocks(first, end), None]) for it, first, end in ((1, 0, 2), (3, 3, 4), (4, 5, 6))]
     with stacked(p, *some) as site:
         got = site.read("--all", out="two")
-        check("two gaps", got.status == ABNORMAL and got.told.endswith(f"{BINNED}block 2 is missing\nblock 4 is missing\n"), got)
+        check("two gaps", got.status == ABNORMAL and got.told.endswith(f"{BINNED}block 2 is missing\nblock 4 is missing\n{UNKNOWN}"), got)
 
 
 def others(p: Programs) -> None:
@@ -285,7 +287,7 @@ def others(p: Programs) -> None:
         files = named(reel(1), reel(2, other), reel(3))
         line = "rdump: {}: the reel has volume 2 of {} level {}, another dump\n"
         with stacked(p, *files.values()) as site:
-            tells = counted(1) + BINNED + line.format(site.address, other.name, other.level)
+            tells = counted(1) + BINNED + line.format(site.address, other.name, other.level) + UNKNOWN
             told(f"{other}", site.read("--all"), texts(1), ABNORMAL, tells)
             site.reels(f"{other}", {name: files[name] for name in ("r001", "r002")}, {"r000": files["r000"]})
             holds(f"{other}", out, PADDED[:2048])
@@ -321,7 +323,8 @@ def foreign(p: Programs) -> None:
                 told(f"{name}, a length alone", site.read("--length", "1", out="old"), "", DONE, FOREIGN)
             holds(f"{name}, a length alone", p.folder / "old", b"old")
         with stacked(p, reel(1), data, reel(2)) as site:
-            told(f"{name} in a stack", site.read("--all"), texts(1), ABNORMAL, counted(1) + BINNED + FOREIGN)
+            tells = NO_RECORD + UNKNOWN if name in ("an empty reel", "a tail that is no record") else FOREIGN
+            told(f"{name} in a stack", site.read("--all"), texts(1), ABNORMAL, counted(1) + BINNED + tells)
             site.reels(f"{name} in a stack", {"r001": data, "r002": reel(2)}, {"r000": reel(1)})
 
 
@@ -362,7 +365,7 @@ def special(p: Programs) -> None:
     model.stop()
     p.folder.joinpath("other").symlink_to("made")
     with stacked(p, reel(1), reel(2)) as site:
-        told("a link to nothing", site.read("--all", out="other"), texts(1, 2), DONE, counted(1) + BINNED + counted(2) + BINNED)
+        told("a link to nothing", site.read("--all", out="other"), texts(1, 2), DONE, counted(1) + BINNED + counted(2) + BINNED + UNKNOWN)
     holds("a link to nothing", p.folder / "made", PADDED[:5120])
 
 
@@ -382,7 +385,7 @@ def twice(p: Programs) -> None:
         unread.stop()
         going.set()
         output, words = first.communicate(timeout=GUARD_SECONDS)
-    told("the first", Ended(output.decode(), words.decode(), first.returncode), texts(1), DONE, counted(1) + BINNED)
+    told("the first", Ended(output.decode(), words.decode(), first.returncode), texts(1), DONE, counted(1) + BINNED + UNKNOWN)
     holds("the first", p.folder / "out", PADDED[:2048])
     model.stop()
 
@@ -417,6 +420,24 @@ def full(p: Programs) -> None:
 # Servers.
 
 OPEN, REWIND, READ, OFFLINE, CLOSE = b"O/dev/st0\n0\n", b"I5\n1\n", b"R262144\n", b"I6\n1\n", b"C\n"
+BACK, OVER = b"I4\n1\n", b"I1\n1\n"
+NO_WAY = b"E5\nInput/output error\n"
+
+
+def looked(records: int) -> list[bytes]:
+    """What is asked to find the mark behind so many records, the label with them."""
+    return [BACK, REWIND, b"I3\n%d\n" % records, OVER]
+
+
+def reads(volume: int) -> list[bytes]:
+    """What is asked up to the mark of a volume."""
+    first, end = VOLUMES[volume - 1]
+    return [OPEN, REWIND, *[READ] * (end - first + 2)]
+
+
+def looked_of(volume: int) -> list[bytes]:
+    first, end = VOLUMES[volume - 1]
+    return looked(end - first + 1)
 
 
 def loaded(*volumes: int, **how: object) -> Model:
@@ -428,15 +449,18 @@ def loaded(*volumes: int, **how: object) -> Model:
 
 
 def sent(p: Programs) -> None:
-    """What is sent: without the new words no request is other than before, and with them a reel goes in the session that read it."""
-    one, two, three = ([OPEN, REWIND, *[READ] * (end - first + 2)] for first, end in VOLUMES)
+    """What is sent: without places no mark is looked for. With them it is, and with `--all` a reel goes in the session that read it."""
     model = loaded(2, 3, 1)
-    for more in ((), ("--place",), ("--length", "7")):
+    for more in ((), ("--length", "7")):
         read(p, model.address, *more)
-    check("one volume: what is sent", model.logs == 3 * [[*two, CLOSE]], model.logs)
+    check("one volume: what is sent", model.logs == 2 * [[*reads(2), CLOSE]], model.logs)
+    del model.logs[:]
+    for more in (("--place",), ("--place", "--length", "7")):
+        read(p, model.address, *more)
+    check("one volume to its place: what is sent", model.logs == 2 * [[*reads(2), *looked_of(2), CLOSE]], model.logs)
     del model.logs[:]
     got = read(p, model.address, "--all")
-    want = [[*it, OFFLINE, CLOSE] for it in (two, three, one)]
+    want = [[*reads(it), *looked_of(it), OFFLINE, CLOSE] for it in (2, 3, 1)]
     check("a stack: what is sent", (got.status, model.logs) == (DONE, [*want, [OPEN]]), got, model.logs)
     check("a stack: each request after a reply", not model.ahead)
     told("a stack that is over", read(p, model.address, "--all", out="new"), "", ABNORMAL, f"rdump: {model.address}: open refused with E6\n")
@@ -482,7 +506,7 @@ def unsynced(p: Programs) -> None:
         print("skipped: a sync that fails: strace may not be used")
         return
     out = p.folder / "out"
-    read_of = [[OPEN, REWIND, *[READ] * (end - first + 2)] for first, end in VOLUMES]
+    read_of = [[*reads(it), *looked_of(it)] for it in (1, 2, 3)]
     gone = [[*it, OFFLINE, CLOSE] for it in read_of]
     binned = [counted(it) + BINNED for it in (1, 2, 3)]
     folder = "rdump: out: its folder could not be synced\n"
@@ -491,10 +515,10 @@ def unsynced(p: Programs) -> None:
         ("the first", None, "EIO:when=1", read_of[:1], counted(1) + NO_SYNC, ABNORMAL),
         ("the folder's", None, "EIO:when=2", read_of[:1], counted(1) + folder, ABNORMAL),
         ("the third", None, "EIO:when=3", [gone[0], read_of[1]], binned[0] + counted(2) + NO_SYNC, ABNORMAL),
-        ("the last", None, "EIO:when=7", [*gone, [OPEN]], "".join(binned) + NO_SYNC, ABNORMAL),
-        ("that of a folder which has none", None, "EINVAL:when=2", [*gone, [OPEN]], "".join(binned), DONE),
+        ("the last", None, "EIO:when=7", [*gone, [OPEN]], "".join(binned) + NO_SYNC + UNKNOWN, ABNORMAL),
+        ("that of a folder which has none", None, "EINVAL:when=2", [*gone, [OPEN]], "".join(binned) + UNKNOWN, DONE),
         ("the second of a file that was there", b"", "EIO:when=2", [gone[0], read_of[1]], binned[0] + counted(2) + NO_SYNC, ABNORMAL),
-        ("the last of a file that was there", b"o", "EDQUOT:when=4", [*gone, [OPEN]], "".join(binned) + NO_QUOTA, ABNORMAL),
+        ("the last of a file that was there", b"o", "EDQUOT:when=4", [*gone, [OPEN]], "".join(binned) + NO_QUOTA + UNKNOWN, ABNORMAL),
     ):
         out.unlink(missing_ok=True)
         if before is not None:
@@ -515,7 +539,8 @@ def unsynced(p: Programs) -> None:
         model = loaded(1)
         got = injected(p, model.address, "EIO:when=1", *more)
         told(f"a sync fails, one volume {more}", got, texts(1), ABNORMAL, counted(1) + NO_SYNC)
-        check(f"a sync fails, one volume {more}: the reel", len(model.stack) == 1 and model.logs == [[*read_of[0], CLOSE]], model.logs)
+        asked = read_of[0] if "--place" in more else reads(1)
+        check(f"a sync fails, one volume {more}: the reel", len(model.stack) == 1 and model.logs == [[*asked, CLOSE]], model.logs)
         model.stop()
     model = loaded(1)
     told("what has no disk", injected(p, model.address, "EIO:when=1+", out="/dev/null"), texts(1), DONE, counted(1))
@@ -530,14 +555,16 @@ def injected(p: Programs, address: str, fault: str, *more: str, out: str = "out"
 
 def refusals(p: Programs) -> None:
     """Each request of the second volume in turn is refused, botched, or its reply does not come; the next run reads the rest."""
-    # The first volume takes eight requests, and the second one nine.
-    kinds = ("open", "rewind", *["read"] * 5, "offline", "close")
+    # The first volume takes twelve requests, and the second one thirteen.
+    kinds = ("open", "rewind", *["read"] * 5, *["look"] * 4, "offline", "close")
     for number, kind in enumerate(kinds):
         for way in ("refused", "botched", "lost"):
+            if kind == "look" and way == "refused":
+                continue
             name, out = f"request {number} ({kind}) {way}", p.folder / "out"
             out.unlink(missing_ok=True)
-            replies = {9 + number: {"refused": b"E5\nno\n", "botched": b"x"}[way]} if way != "lost" else {}
-            model = loaded(1, 2, 3, said=replies, lost=(9 + number,) if way == "lost" else ())
+            replies = {13 + number: {"refused": b"E5\nno\n", "botched": b"x"}[way]} if way != "lost" else {}
+            model = loaded(1, 2, 3, said=replies, lost=(13 + number,) if way == "lost" else ())
             got = read(p, model.address, "--all")
             came = max(0, min(number - 3, 3))
             tells = {
@@ -557,6 +584,228 @@ def refusals(p: Programs) -> None:
             check(f"{name}: the rest", got.status == DONE and got.output == texts(*(int(it[1:]) for it in rest)), got, rest)
             holds(f"{name}: the rest", out, PAYLOAD)
             model.stop()
+
+
+# Marks.
+
+
+def markless(p: Programs) -> None:
+    """A volume whose mark is cut off, on a server: the file keeps its blocks, and its reel stays, whatever came before it. So it is where half a
+    record stands there. Read by itself without places it reads as a whole one does."""
+    for title, data in (
+        ("no mark", images(entries(2)[:-1])),
+        ("half a block", images(entries(2)[:-1]) + images(entries(3)[1:2])[:200]),
+        ("a label alone", images(entries(2)[:1])),
+    ):
+        count = 0 if title == "a label alone" else 3
+        with stacked(p, data, reel(3)) as site:
+            for more in (("--place",), ("--all",), ("--all", "--length", str(len(PAYLOAD)))):
+                name, out = f"{title}, {more}", p.folder / "out"
+                out.unlink(missing_ok=True)
+                lost = "blocks 0 to 1 are missing\n" if "--all" in more else ""
+                told(name, site.read(*more), texts(2), ABNORMAL, sizes(count) + f"rdump: {site.address}: no mark\n" + lost)
+                site.reels(name, named(data, reel(3)), {})
+                holds(name, out, bytes(2048) + PADDED[2048:5120] if count else b"")
+            told(f"{title}, without places", site.read(), texts(2), DONE, sizes(count))
+            check(f"{title}: the drive is free", p.run("mt", "--to", site.address, "--device", DEVICE, "nop", "1").status == DONE)
+        out.unlink()
+        with stacked(p, reel(1), data, reel(3)) as site:
+            tells = counted(1) + BINNED + sizes(count) + f"rdump: {site.address}: no mark\n"
+            told(f"{title}, the second", site.read("--all", "--length", str(len(PAYLOAD))), texts(1, 2), ABNORMAL, tells)
+            site.reels(f"{title}, the second", {"r001": data, "r002": reel(3)}, {"r000": reel(1)})
+            holds(f"{title}, the second", out, PADDED[: 2048 + count * BLOCK])
+
+
+def marked(p: Programs) -> None:
+    """A reel with more behind its mark is read up to there, and goes to the bin."""
+    for title, more in (("a second volume", entries(2)), ("a second mark", [None]), ("records", [b"x", b"y"])):
+        data = images([*entries(1), *more])
+        with stacked(p, data) as site:
+            told(f"{title}, --place", site.read("--place"), texts(1), DONE, counted(1))
+            site.reels(f"{title}, --place", named(data), {})
+            told(f"{title}, --all", site.read("--all"), texts(1), DONE, counted(1) + BINNED + UNKNOWN)
+            site.reels(f"{title}, --all", {}, named(data))
+        holds(title, p.folder / "out", PADDED[:2048])
+
+
+# What the look is answered, by the number of its request, what that comes to, and how many of its requests are sent.
+CANNOT = "cannot be told"
+NO_REPLY, CUT = "no reply by the protocol", "the connection ended"
+LOOKS = (
+    (1, b"A1\n", "no mark", True),
+    (1, b"A0\n", "no mark", True),
+    (1, b"A7\n", "no mark", True),
+    (1, b"E6\nDevice not configured\n", CANNOT, True),
+    (1, b"x", NO_REPLY, False),
+    (1, None, CUT, False),
+    *(
+        row
+        for number in (2, 3, 4)
+        for row in (
+            (number, NO_WAY, CANNOT, True),
+            (number, b"E6\nDevice not configured\n", CANNOT, True),
+            (number, b"x", NO_REPLY, False),
+            (number, b"A1\nA", NO_REPLY, False),
+            (number, None, CUT, False),
+            (number, b"A9\n", "", True),
+        )
+    ),
+)
+
+
+def looks(p: Programs) -> None:
+    """Each request of the look is answered in each way: only where a mark stood the reel goes. The close is sent where there was a reply, and
+    whatever that is answered changes nothing."""
+    for more in (("--place",), ("--all",)):
+        for number, reply, fault, is_closed in LOOKS:
+            for closing in (b"A0\n", NO_WAY, None):
+                name = f"{more}: {reply!r} to request {number} of the look, {closing!r} to the close"
+                p.folder.joinpath("out").unlink(missing_ok=True)
+                last = len(reads(1)) + number
+                model = loaded(1)
+                if reply is None:
+                    model.lost = (last,)
+                else:
+                    model.said = {last: reply}
+                if fault and closing is None:
+                    model.lost = (*model.lost, last + 1)
+                elif fault:
+                    model.said[last + 1] = closing
+                got = read(p, model.address, *more)
+                asked = [*reads(1), *looked(3)[:number]]
+                if fault:
+                    told(name, got, texts(1), ABNORMAL, counted(1) + f"rdump: {model.address}: {fault}\n")
+                    asked += [CLOSE] if is_closed else []
+                else:
+                    all_of = "--all" in more
+                    told(name, got, texts(1), DONE, counted(1) + (BINNED + UNKNOWN if all_of else ""))
+                    asked = [*reads(1), *looked(3), *([OFFLINE] if all_of else []), CLOSE]
+                check(f"{name}: what is sent", model.logs[0] == asked, model.logs[0], asked)
+                check(f"{name}: the reel", len(model.stack) == (not (more == ("--all",) and not fault)), model.stack)
+                holds(name, p.folder / "out", PADDED[:2048])
+                model.stop()
+
+
+# What ends a dump.
+
+
+def behind(p: Programs) -> None:
+    """What comes behind the last volume: nothing, an empty reel, a reel that begins with a mark, or another dump, with a length and without one."""
+    other = reel(1, Dump(name="/home"))
+    other_line = "rdump: {}: the reel has volume 1 of /home level 0, another dump\n"
+    for title, behind_it, line, is_end in (
+        ("nothing", (), "", True),
+        ("an empty reel", (b"", other), NO_RECORD, True),
+        ("half a record", (reel(1)[:500],), NO_RECORD, True),
+        ("another dump", (other, b""), other_line, True),
+        ("a mark", (images([None]),), FOREIGN, False),
+        ("a mark and a volume", (images([None, *entries(3)]),), FOREIGN, False),
+        ("text", (images([b"hello", None]),), FOREIGN, False),
+    ):
+        for order, length in (
+            ((1, 2, 3), len(PAYLOAD)),
+            ((1, 2, 3), len(PADDED)),
+            ((1, 2), 5 * BLOCK),
+            ((1, 2), 5 * BLOCK - 1),
+            ((1, 2), 5 * BLOCK + 1),
+            ((1, 2), len(PAYLOAD)),
+            ((1, 3), 2 * BLOCK),
+            ((1, 3), 2 * BLOCK + 1),
+            ((2, 3), len(PAYLOAD)),
+            ((1, 2, 3), 0),
+            ((1, 2, 3), 100_000),
+            ((1, 2, 3), None),
+            ((1, 3), None),
+        ):
+            name, out = f"{title} behind {order}, {length}", p.folder / "out"
+            out.unlink(missing_ok=True)
+            files = named(*map(reel, order), *behind_it)
+            came = {it for volume in order for it in range(*VOLUMES[volume - 1])}
+            last = max(came) + 1
+            wanted = range(last) if length is None else range(-(-length // BLOCK))
+            gaps = [it for it in wanted if it not in came and it < last]
+            is_short = length is not None and last * BLOCK < length
+            with stacked(p, *files.values()) as site:
+                got = site.read("--all", *(("--length", str(length)) if length is not None else ()))
+                tells = "".join(counted(it) + BINNED for it in order) + line.format(site.address)
+                if gaps:
+                    tells += f"block {gaps[0]} is missing\n" if len(gaps) == 1 else f"blocks {gaps[0]} to {gaps[-1]} are missing\n"
+                if is_end:
+                    tells += UNKNOWN if length is None else f"rdump: out: {last * BLOCK} bytes, fewer than {length}\n" if is_short else ""
+                is_whole = is_end and not gaps and not is_short and (length is not None or title == "nothing")
+                told(name, got, texts(*order), DONE if is_whole else ABNORMAL, tells)
+                count = len(order)
+                site.reels(name, dict(list(files.items())[count:]), dict(list(files.items())[:count]))
+                if behind_it:
+                    check(f"{name}: the drive is free", site.read("--place", out="other").told != f"rdump: {site.address}: open refused with E16\n")
+            want = bytearray(last * BLOCK)
+            for it in came:
+                want[it * BLOCK : (it + 1) * BLOCK] = PADDED[it * BLOCK : (it + 1) * BLOCK]
+            is_cut = length is not None and (is_whole or title == "nothing")
+            holds(name, out, bytes(want[:length] if is_cut else want))
+
+
+def again(p: Programs) -> None:
+    """A second run into the same file, with a length: where it held bytes, blocks before the first one that came are not missed, as another run
+    may have read them."""
+    length, out = str(len(PAYLOAD)), p.folder / "out"
+    with stacked(p, reel(1), b"") as site:
+        tells = counted(1) + BINNED + NO_RECORD + f"rdump: out: 2048 bytes, fewer than {length}\n"
+        told("the first run", site.read("--all", "--length", length), texts(1), ABNORMAL, tells)
+        site.reels("the first run", {"r001": b""}, {"r000": reel(1)})
+    holds("the first run", out, PADDED[:2048])
+    with stacked(p, reel(2), reel(3), b"") as site:
+        tells = counted(2) + BINNED + counted(3) + BINNED + NO_RECORD + START.format(2)
+        told("the second run", site.read("--all", "--length", length), texts(2, 3), DONE, tells)
+        site.reels("the second run", {"r002": b""}, {"r000": reel(2), "r001": reel(3)})
+    holds("the second run", out, PAYLOAD)
+    with stacked(p, reel(1), reel(3), b"") as site:
+        tells = counted(1) + BINNED + counted(3) + BINNED + NO_RECORD + "blocks 2 to 4 are missing\n"
+        told("a third run", site.read("--all", "--length", length), texts(1, 3), ABNORMAL, tells)
+
+
+def first(p: Programs) -> None:
+    """A reel without a record is no end of a dump where no volume was read before, and what is sent there is as ever."""
+    for entries_of in ([], [None]):
+        for more in (("--all",), ("--place",), ("--all", "--length", "0")):
+            model = Model(Reel("r1", 1 << 20))
+            model.stack[0].entries = list(entries_of)
+            told(f"{entries_of} first {more}", read(p, model.address, *more), "", ABNORMAL, FOREIGN)
+            check(f"{entries_of} first {more}: what is sent", model.logs == [[OPEN, REWIND, READ, CLOSE]], model.logs)
+            model.stop()
+
+
+def empty(p: Programs) -> None:
+    """What is asked of an empty reel behind a volume, and each reply: it is taken for empty only if MTFSF is refused with 5 and the close is done."""
+    asked = [OPEN, REWIND, b"R1024\n", REWIND, OVER, CLOSE]
+    volume = [*reads(1), *looked_of(1), OFFLINE, CLOSE]
+    begun = len(volume) + 4
+    for title, number, reply, is_empty in (
+        ("as it is", 5, NO_WAY, True),
+        ("the open is refused", 1, b"E16\nDevice or resource busy\n", False),
+        ("the rewind is refused", 2, NO_WAY, False),
+        ("the read is refused", 3, NO_WAY, False),
+        ("a record", 3, b"A1\nx", False),
+        ("the second rewind is refused", 4, NO_WAY, False),
+        ("a mark", 5, b"A1\n", False),
+        ("E6", 5, b"E6\nDevice not configured\n", False),
+        ("no reply", 5, b"x", False),
+        ("an end", 5, None, False),
+        ("the close is refused", 6, NO_WAY, False),
+    ):
+        p.folder.joinpath("out").unlink(missing_ok=True)
+        model = loaded(1)
+        model.stack.append(Reel("r2", 1 << 20))
+        if reply is None:
+            model.lost = (begun + number,)
+        else:
+            model.said = {begun + number: reply}
+        got = read(p, model.address, "--all", "--length", "2048")
+        told(title, got, texts(1), DONE if is_empty else ABNORMAL, counted(1) + BINNED + (NO_RECORD if is_empty else FOREIGN))
+        sent = [OPEN] if number == 1 else asked[:5] if reply in (None, b"x") else asked if number > 4 else [*asked[:number], CLOSE]
+        check(f"{title}: what is sent", model.logs == [volume, [OPEN, REWIND, READ, CLOSE], sent], model.logs)
+        check(f"{title}: the reel", [it.name for it in model.stack] == ["r2"], model.stack)
+        model.stop()
 
 
 class Killer(threading.Thread):
@@ -604,7 +853,7 @@ def killed(p: Programs) -> None:
                 killer = Killer(address, server, count)
                 got = read(p, killer.address, "--all")
             check(f"killed after {count} bytes", got.status == ABNORMAL and "rdump: " in got.told, got)
-            stack, taken = held(folder)
+            stack, taken = moved_once(folder / "st0", folder / "bin")
             check(f"killed after {count} bytes: the reels", stack | taken == files and not stack.keys() & taken.keys())
             with p.listening(*words) as (address, _):
                 again = read(p, address, "--all", "--length", str(len(PAYLOAD)))
@@ -616,7 +865,10 @@ def killed(p: Programs) -> None:
         holds(f"killed after {count} bytes", out, PAYLOAD)
 
 
-PARTS = (placed, stacks, many, plain, gaps, others, foreign, uneven, special, twice, full, sent, synced, unsynced, refusals, killed)
+PARTS = (
+    placed, stacks, many, plain, gaps, others, foreign, uneven, special, twice, full, sent, synced, unsynced, refusals, markless, marked, looks,
+    behind, again, first, empty, killed,
+)
 
 
 def main() -> int:

@@ -100,6 +100,18 @@ def held(folder: Path) -> tuple[dict[str, bytes], dict[str, bytes]]:
     return files_of(folder / "st0", folder / "bin")
 
 
+def moved_once(stack: Path, bin: Path) -> tuple[dict[str, bytes], dict[str, bytes]]:
+    """The files of the stack and of the bin, at one moment. A file that a stop left with its name in both is in the bin alone: the next open
+    removes the other name."""
+
+    def look() -> tuple[dict[str, bytes], dict[str, bytes]]:
+        there = {it.name for it in bin.iterdir()}
+        left = [it for it in stack.iterdir() if not (it.name in there and it.samefile(bin / it.name))]
+        return {it.name: it.read_bytes() for it in left}, {it.name: it.read_bytes() for it in bin.iterdir()}
+
+    return settled(look)
+
+
 def drive_words(folder: Path) -> tuple[str, ...]:
     return ("--bin", str(folder / "bin"), f"{DEVICE}={folder / 'st0'}")
 

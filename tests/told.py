@@ -229,9 +229,11 @@ def reasons(p: Programs) -> None:
     got = p.dump(resets.address)
     check("a connection that is reset", got.output == lost and "Connection reset by peer (os error 104)" in got.told, got)
     resets.stop()
-    for number, text in ((2, "No such file or directory"), (16, "Device or resource busy")):
+    where = "look in the server's log, and in the bin for a file of this reel's name"
+    for number, text in ((2, "No such file or directory"), (5, "Input/output error"), (16, "Device or resource busy")):
         server = Said(b"E%d\nno\n" % number)
         words = f"rdump: {server.address}: Refused {number}: {text} (os error {number})\n"
+        words += f"rdump: {server.address}: {where}\n" if number == 5 else ""
         told(f"a refusal with {number}", p.dump(server.address), f"volume 1 failed: Refused {number}\n{ASKED}", ABNORMAL, words)
         server.stop()
     for replies in ((b"X\n",), (b"A0\n", b"A2\n"), (b"A0\n", b"A1\n", b"A1025\n" + bytes(1025))):

@@ -26,12 +26,13 @@ from pathlib import Path
 from typing import Iterator, NamedTuple
 
 from checks import check, ended
+from dump import without_restore
 from traced import in_order, made_in, traced
 
 BUILT = Path(__file__).resolve().parent.parent / "crates/rdump/out/rdump"
 DATE = 951_782_400
 CTIME = "Tue Feb 29 00:00:00 2000"
-DONE, ABNORMAL = 0, 3
+DONE, FAILED, ABNORMAL = 0, 1, 3
 NOT_UPDATED = "dumpdates not updated\n"
 NOWHERE = "127.0.0.1:1"
 
@@ -147,7 +148,7 @@ class Programs:
 
 def end_of(run: subprocess.Popen[str]) -> Ended:
     output, told = run.communicate(timeout=GUARD_SECONDS)
-    return Ended(output, told, run.returncode)
+    return Ended(output, without_restore(output, told, run.returncode), run.returncode)
 
 
 def entry(fs: str) -> str:
@@ -258,7 +259,8 @@ NO_PLAIN_FILE = "rdump: dumpdates: its .new is no plain file\n"
 def new_files(p: Programs) -> None:
     """What lies where the new file is to be made."""
     p.put(OLD)
-    p.put("what a killed run left, and much longer than the text that is to stand there" * 9, "dumpdates.new").chmod(0o400)
+    longer = "".join(entry(f"/fs/{it}") for it in range(99))
+    p.put(longer[:-5], "dumpdates.new").chmod(0o400)
     entered("a new file that was left", p.dump("/left"))
     check("a new file that was left: the texts", p.text() == OLD + entry("/left") and not p.left(), p.text(), p.left())
     victim = p.put("not ours", "victim")
@@ -271,11 +273,15 @@ def new_files(p: Programs) -> None:
         check(f"a new file that is a link to {title}: not followed", victim.read_text() == "not ours" and p.text("nowhere") is None)
         new.unlink(missing_ok=True)
     kept = p.put("an operator's own", "dumpdates.new")
+    got = p.dump("/refused")
+    check("an operator's own file", got == Ended("", "rdump: dumpdates.new: it is not one that rdump left: it is not touched\n", FAILED), got)
+    check("an operator's own file: it stays", kept.is_file() and kept.read_text() == "an operator's own" and p.text() == OLD)
+    kept = p.put(longer[:-5], "dumpdates.new")
     p.address, listens = NOWHERE, p.address
     got = p.dump("/abandoned")
     p.address = listens
     check("a dump that is abandoned", got.status == ABNORMAL and got.output.endswith("dump abandoned\n"), got)
-    check("a dump that is abandoned: what lies there stays", kept.is_file() and kept.read_text() == "an operator's own")
+    check("a dump that is abandoned: what lies there stays", kept.is_file() and kept.read_text() == longer[:-5])
     kept.unlink(missing_ok=True)
     new.mkdir()
     not_entered("a new file that is a folder", p.dump("/folder"), NO_PLAIN_FILE)
