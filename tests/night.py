@@ -672,7 +672,6 @@ def run_inside(programs: list[str]) -> int:
     recipes.loopback()
     recipes.furnish(programs)
     recipes.open_for_ssh()
-    recipes.mount("-t", "tmpfs", "-o", "mode=755", "machine", "/var/lib")
     moved_clock(Path("/usr/local/sbin"), NOW, "2026-11-28 12:00")
     script = recipes.script_of(recipes.with_those_before(found["A night"], found), "")
     ran = run_recipe(script)

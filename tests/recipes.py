@@ -289,7 +289,7 @@ def furnish(programs: list[str]) -> None:
     make("install", programs, "/mnt/installed")
     mount("--bind", "/mnt/etc", "/etc")
     mount("--bind", "/mnt/installed/usr/local", "/usr/local")
-    for folder, mode in (("/srv", "755"), ("/home", "755"), ("/run", "755"), ("/tmp", "1777")):
+    for folder, mode in (("/srv", "755"), ("/home", "755"), ("/run", "755"), ("/var/lib", "755"), ("/tmp", "1777")):
         mount("-t", "tmpfs", "-o", f"mode={mode}", "machine", folder)
     os.mkdir(HOME, 0o700)
     shutil.copytree("/mnt/of_the_repository", f"{HOME}/etc")
